@@ -1,12 +1,9 @@
 -- The lists of the edges of each node: what a change of the edges asks of them.
-use Rattle.std.proofs.Common.{◌≡◌, ◌≢◌, ◌<◌, ◌≤◌, Some, None, Option, List, [], ◌∷◌, ◌++◌}
-use Rattle.std.proofs.Common.{refl, sym, ap, ◌∙◌, inl, inr, arith}
+use Rattle.std.proofs.Common.{◌≡◌, ◌≢◌, ◌<◌, ◌≤◌, ◌∷◌, ◌++◌, ◌∙◌}
+use Rattle.slotmap_graph.proofs.Common.{Some, None, Option, List, [], refl, sym, ap, inl, inr, arith, Key, get-insert_here, get-insert_other, same_or_other}
+use Rattle.slotmap_graph.proofs.Common.{keys, same, times, without, one_itself, one_other, times_pushed, times_first, times_gone, times_without, without_none}
+use Rattle.slotmap_graph.proofs.Common.{SeenEdge, Edges, ends_at, ListsEdges}
 use Rattle.std.specs.FinMap as map
-use Rattle.slotmap.specs.Words.{Key}
-use Rattle.slotmap.proofs.Callers.{get-insert_here, get-insert_other, same_or_other, keys}
-use Rattle.slotmap_keylist.specs.KeyLists.{same, times, without}
-use Rattle.slotmap_keylist.proofs.Counts.{one_itself, one_other, times_pushed, times_first, times_gone, times_without, without_none}
-use Rattle.slotmap_graph.specs.Parts.{SeenEdge, Edges, ends_at, ListsEdges}
 
 module _ {E : Type 0} (end : SeenEdge E → Key) (edges : Edges E) where
   -- a key is in a list at most once

@@ -1,8 +1,7 @@
 -- What callers of a graph cite: the nodes that a search didn't find.
-use Rattle.std.proofs.Common.{◌≡◌, ℕ, suc, ◌<◌, ◌≤◌, false, List, [], ◌∷◌, length, get_or, map, if◌then◌else◌, refl, ap, arith}
-use Rattle.slotmap.specs.Words.{Key}
-use Rattle.slotmap_keylist.specs.KeyLists.{is_key, same, times}
-use Rattle.slotmap_keylist.proofs.Counts.{times_first}
+use Rattle.std.proofs.Common.{◌≡◌, ◌<◌, ◌≤◌, ◌∷◌, if◌then◌else◌}
+use Rattle.slotmap_graph.proofs.Common.{ℕ, suc, false, List, [], length, get_or, refl, ap, arith, Key, is_key, same, times, times_first}
+use Rattle.std.proofs.Common.{map}
 
 module _ {K : Type 0} (data_of : K → Key) where
   none_is : (keys : List K) (x : Key) → ((i : ℕ) (other : K) → 0 ≤ i → i < length keys → is_key (data_of (get_or keys i other)) x ≡ false) → times x (map data_of keys) ≡ 0

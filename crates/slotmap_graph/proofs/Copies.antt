@@ -1,16 +1,10 @@
 -- A graph that was copied.
-use Rattle.std.proofs.Common.{◌≡◌, List, Option, Some, None, option_map, unwrap_or, refl, sym, ap, subst, ◌∙◌}
+use Rattle.std.proofs.Common.{◌≡◌, ◌∙◌}
+use Rattle.slotmap_graph.proofs.Common.{List, Option, Some, None, option_map, unwrap_or, refl, sym, ap, subst, Key, Content, IsCloneOf, IsCloneBy, ClonesEqual}
+use Rattle.slotmap_graph.proofs.Common.{clone_live, map_content, mapped-clones, Node, Edge, Direction, Out, Into, SeenEdge, EndsLive, ListsEdges, SameEdges}
+use Rattle.slotmap_graph.proofs.Common.{clones_edge, ends_at, from, to, copies_edge, copies_node, node_value, node_ends, ends_in, no_ends, seen_edge, edge_link}
+use Rattle.slotmap_graph.proofs.Common.{link_in, no_link, end, by_node, IsGraph}
 use Rattle.std.specs.FinMap as map
-use Rattle.slotmap.specs.Words.{Key, Content, IsCloneOf, IsCloneBy, ClonesEqual}
-use Rattle.slotmap.proofs.Callers.{clone_live}
-use Rattle.slotmap_keylist.specs.Mapped.{map_content}
-use Rattle.slotmap_keylist.proofs.Mapped.{mapped-clones}
-use Rattle.slotmap_graph.specs.declared.Node.{Node}
-use Rattle.slotmap_graph.specs.declared.Edge.{Edge}
-use Rattle.slotmap_graph.specs.declared.links.Direction.{Direction}
-use Rattle.slotmap_graph.specs.declared.links.Direction.TheVariants.{Out, Into}
-use Rattle.slotmap_graph.specs.Parts.{SeenEdge, EndsLive, ListsEdges, SameEdges, clones_edge, ends_at, from, to}
-use Rattle.slotmap_graph.specs.Threads.{copies_edge, copies_node, node_value, node_ends, ends_in, no_ends, seen_edge, edge_link, link_in, no_link, end, by_node, IsGraph}
 use Rattle.slotmap_graph.proofs.GraphSteps.{graph_along, seen_along}
 
 module _ {E : Type 0} (is_clone : E → E → Type 0) where

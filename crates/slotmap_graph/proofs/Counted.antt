@@ -1,12 +1,8 @@
 -- How many edges lead to each node: the nodes are counted one after the other.
-use Rattle.std.proofs.Common.{◌≡◌, ◌≢◌, ℕ, true, false, Some, List, [], ◌∷◌, ◌++◌, length, nat_eq, if◌then◌else◌, is_some, sym, ap, ◌∙◌, inl, inr, arith}
+use Rattle.std.proofs.Common.{◌≡◌, ◌≢◌, ◌∷◌, ◌++◌, if◌then◌else◌, ◌∙◌}
+use Rattle.slotmap_graph.proofs.Common.{ℕ, true, false, Some, List, [], length, nat_eq, is_some, sym, ap, inl, inr, arith, Key, IsLive, Pairs, get}
+use Rattle.slotmap_graph.proofs.Common.{same_or_other, beside_empty, same, times, one_itself, one_other, times_pushed, Seen, edges_at, Counting}
 use Rattle.std.specs.FinMap as map
-use Rattle.slotmap.specs.Words.{Key, IsLive, Pairs, get}
-use Rattle.slotmap.proofs.Callers.{same_or_other, beside_empty}
-use Rattle.slotmap_keylist.specs.KeyLists.{same, times}
-use Rattle.slotmap_keylist.proofs.Counts.{one_itself, one_other, times_pushed}
-use Rattle.slotmap_graph.specs.Parts.{Seen, edges_at}
-use Rattle.slotmap_graph.specs.TopologicalOrder.{Counting}
 
 -- one more node is counted
 module _ {N E : Type 0} (s : Seen N E) (counts counts' : Pairs ℕ) (found found' done : List Key) (counting : Counting s counts found done) (y : Key) (live : IsLive s.nodes y)

@@ -1,19 +1,10 @@
 -- The ends of the edges of a list, one after the other.
-use Rattle.std.proofs.Common.{◌≡◌, ℕ, ◌+◌, ◌<◌, ◌≤◌, true, false, cond, Option, Some, None, is_some, List, [], ◌∷◌, ◌++◌, length, get_or, take, option_map, refl, sym, ap, ◌∙◌, arith, append-nil, append_assoc}
-use Rattle.std.specs.Prelude.{nat_eq}
-use Rattle.std.specs.Option.{option_or}
-use Rattle.std.specs.List.{cons_option, find, fold}
+use Rattle.std.proofs.Common.{◌≡◌, ◌+◌, ◌<◌, ◌≤◌, ◌∷◌, ◌++◌, ◌∙◌}
+use Rattle.slotmap_graph.proofs.Common.{ℕ, true, false, cond, Option, Some, None, is_some, List, [], length, get_or, take, option_map, refl, sym, ap, arith}
+use Rattle.slotmap_graph.proofs.Common.{append-nil, append_assoc, nat_eq, option_or, cons_option, find, fold, same_Some, take_more, take_all, take-append-le}
+use Rattle.slotmap_graph.proofs.Common.{filter_map-append, find-append, fold-append, Key, is_key, times, one_itself, times_first, times_joined, SeenEdge, Edges}
+use Rattle.slotmap_graph.proofs.Common.{ListsEdges, from, to, GoesOn, HasEdge, IsBreadthFirst, arrives_at, ends_along, goes_to, marked}
 use Rattle.std.specs.FinMap as map
-use Rattle.std.proofs.lemmas.Option.{same_Some}
-use Rattle.std.proofs.lemmas.List.{take_more, take_all, take-append-le}
-use Rattle.std.proofs.lemmas.List.Elements.{filter_map-append}
-use Rattle.std.proofs.lemmas.List.Folds.{find-append}
-use Rattle.std.proofs.lemmas.List.Sums.{fold-append}
-use Rattle.slotmap.specs.Words.{Key}
-use Rattle.slotmap_keylist.specs.KeyLists.{is_key, times}
-use Rattle.slotmap_keylist.proofs.Counts.{one_itself, times_first, times_joined}
-use Rattle.slotmap_graph.specs.Parts.{SeenEdge, Edges, ListsEdges, from, to}
-use Rattle.slotmap_graph.specs.Search.{GoesOn, HasEdge, IsBreadthFirst, arrives_at, ends_along, goes_to, marked}
 use Rattle.slotmap_graph.proofs.Adjacent.{listed_edge}
 
 -- a walk along a list: what was passed, and what is ahead

@@ -1,24 +1,17 @@
 -- What a call makes of a graph, as a whole.
-use Rattle.std.proofs.Common.{◌≡◌, ◌≢◌, ◌<◌, Bool, true, false, cond, Option, Some, None, OnSome, IfSome, IfNone, MatchOption, Result, Ok, Err, IfOk, IsErr, List, [], ◌∷◌, ◌++◌}
-use Rattle.std.proofs.Common.{is_some, ◌||◌, option_map, unwrap_or, refl, sym, ap, subst, ◌∙◌, inl, inr, arith}
+use Rattle.std.proofs.Common.{◌≡◌, ◌≢◌, ◌<◌, ◌∷◌, ◌++◌, ◌||◌, ◌∙◌}
+use Rattle.slotmap_graph.proofs.Common.{Bool, true, false, cond, Option, Some, None, OnSome, IfSome, IfNone, MatchOption, Result, Ok, Err, IfOk, IsErr, List}
+use Rattle.slotmap_graph.proofs.Common.{[], is_some, option_map, unwrap_or, refl, sym, ap, subst, inl, inr, arith, same_Some, Key, key_cmp, Content, IsContent}
+use Rattle.slotmap_graph.proofs.Common.{IsLive, Inserts, Removes, Leaves, Keeps, Pairs, IsBeside, with_value, keys, same_or_other, get-insert_here}
+use Rattle.slotmap_graph.proofs.Common.{get-insert_other, get-put_live, get-put_other, leaves_none, leaves_by_removal, inserted_fresh, none_of}
+use Rattle.slotmap_graph.proofs.Common.{live-remove_other, live-insert_still, is_key, times, without, AreLinked, ends_of, followed, map_values, map_content}
+use Rattle.slotmap_graph.proofs.Common.{is_itself, is_other, times_first, times_gone, one_itself, followed_is, in_midst, get-mapped, contains-mapped}
+use Rattle.slotmap_graph.proofs.Common.{live-mapped, mapped-live, mapped-insert, mapped-remove, mapped-removes, mapped-written, content-mapped, linked_along}
+use Rattle.slotmap_graph.proofs.Common.{followed_along, linked_but, linked_self, Node, Edge, Direction, Out, Into, SeenEdge, Edges, ends, EndsLive, IsJoined}
+use Rattle.slotmap_graph.proofs.Common.{PutsBehind, ListsEdges, PutsAlone, SameEdges, edges_at, ends_at, from, to, touches, turned, node_value, node_ends}
+use Rattle.slotmap_graph.proofs.Common.{ends_in, no_ends, seen_edge, edge_link, link_in, no_link, end, listed, by_node, IsThreaded, Rethreads, IsGraph, IsSpent}
+use Rattle.slotmap_graph.proofs.Common.{KeepsSpent, removed_spent, spent_removes}
 use Rattle.std.specs.FinMap as map
-use Rattle.std.proofs.lemmas.Option.{same_Some}
-use Rattle.slotmap.specs.Words.{Key, key_cmp, Content, IsContent, IsLive, Inserts, Removes, Leaves, Keeps, Pairs, IsBeside, with_value}
-use Rattle.slotmap.proofs.Callers.{keys, same_or_other, get-insert_here, get-insert_other, get-put_live, get-put_other, leaves_none, leaves_by_removal, inserted_fresh, none_of}
-use Rattle.slotmap.proofs.Callers.{live-remove_other, live-insert_still}
-use Rattle.slotmap_keylist.specs.KeyLists.{is_key, times, without}
-use Rattle.slotmap_keylist.specs.Linked.{AreLinked, ends_of, followed}
-use Rattle.slotmap_keylist.specs.Mapped.{map_values, map_content}
-use Rattle.slotmap_keylist.proofs.Counts.{is_itself, is_other, times_first, times_gone, one_itself}
-use Rattle.slotmap_keylist.proofs.Linking.{followed_is, in_midst}
-use Rattle.slotmap_keylist.proofs.Mapped.{get-mapped, contains-mapped, live-mapped, mapped-live, mapped-insert, mapped-remove, mapped-removes, mapped-written, content-mapped}
-use Rattle.slotmap_keylist.proofs.Splicing.{linked_along, followed_along, linked_but, linked_self}
-use Rattle.slotmap_graph.specs.declared.Node.{Node}
-use Rattle.slotmap_graph.specs.declared.Edge.{Edge}
-use Rattle.slotmap_graph.specs.declared.links.Direction.{Direction}
-use Rattle.slotmap_graph.specs.declared.links.Direction.TheVariants.{Out, Into}
-use Rattle.slotmap_graph.specs.Parts.{SeenEdge, Edges, ends, EndsLive, IsJoined, PutsBehind, ListsEdges, PutsAlone, SameEdges, edges_at, ends_at, from, to, touches}
-use Rattle.slotmap_graph.specs.Threads.{turned, node_value, node_ends, ends_in, no_ends, seen_edge, edge_link, link_in, no_link, end, listed, by_node, IsThreaded, Rethreads, IsGraph}
 use Rattle.slotmap_graph.proofs.Adjacent.{lists_added, lists_removed, lists_written, listed_edge, none_listed, nothing_listed, unlisted, absent_unlisted}
 use Rattle.slotmap_graph.proofs.Threaded.{part_kept, part_new, part_removed, part_gone, at_node, threaded_along, threads}
 
@@ -210,10 +203,19 @@ module _ {N E : Type 0} (nodes n1 n2 : Content (Node N)) (edges mid e1 e2 : Cont
     | inr other ↦ rw (is_other x (end d (seen_edge e)) other) (added_others d x other)
   ] ∙ ap (λ l. cond (is_key x (end d (seen_edge e))) (l ++ k ∷ []) l) (sym (at_node d nodes.live edges.live x))
 
+-- the edge k is gone for good, and each list is without it
+pub record IsCut {N E : Type 0} (nodes : Content (Node N)) (edges : Content (Edge E)) (k : Key) (nodes' : Content (Node N)) (edges' : Content (Edge E)) : Type 0 where
+  pub graph : IsGraph nodes' edges'.live
+  pub removes : Removes (map_content seen_edge edges) k (map_content seen_edge edges')
+  pub for_good : IsSpent (map_content seen_edge edges') k
+  pub leaves : Leaves (map_content seen_edge edges) (map_content seen_edge edges')
+  pub keeps : KeepsSpent (map_content seen_edge edges) (map_content seen_edge edges')
+  pub lists : (d : Direction) (x : Key) → edges_at (by_node d nodes'.live edges'.live) x ≡ without k (edges_at (by_node d nodes.live edges.live) x)
+
 -- an edge was taken out of its two lists, and is gone
 module _ {N E : Type 0} (nodes n1 n2 : Content (Node N)) (edges e1 e2 e3 : Content (Edge E)) (graph : IsGraph nodes edges.live) (k : Key) (e : SeenEdge E) (there : map.get (map_values seen_edge edges.live) k ≡ Some e)
     (out : Rethreads Out nodes edges e.from (without k (listed Out nodes.live edges.live e.from)) n1 e1) (into : Rethreads Into n1 e1 e.to (without k (listed Into n1.live e1.live e.to)) n2 e2)
-    (is : e3.live ≡ map.remove e2.live k) where
+    (well_cut : IsContent true e2) (cuts : Removes e2 k e3) where
   taken : (d : Direction) (x : Key) → listed d n2.live e2.live x ≡ without k (listed d nodes.live edges.live x)
   taken Out x = out_is nodes n1 n2 edges e1 e2 e.from e.to _ _ out into x ∙ elim (same_or_other x e.from) [
     | inl at ↦ rw at out.list
@@ -226,7 +228,7 @@ module _ {N E : Type 0} (nodes n1 n2 : Content (Node N)) (edges e1 e2 e3 : Conte
 
   last_linked : (d : Direction) → AreLinked (ends_in d n2.live) (link_in d e3.live) (listed d n2.live e2.live)
   last_linked d = linked_but (both_linked nodes n1 n2 edges e1 e2 e.from e.to _ _ out into d) k (λ x. ap (times k) (taken d x) ∙ times_gone k (listed d nodes.live edges.live x))
-      (λ q other. ap (λ m. link_in d m q) is ∙ part_removed (edge_link d) no_link e2.live k q other)
+      (λ q other. ap (λ m. link_in d m q) cuts.live ∙ part_removed (edge_link d) no_link e2.live k q other)
 
   last_listed : (d : Direction) (x : Key) → listed d n2.live e3.live x ≡ without k (listed d nodes.live edges.live x)
   last_listed d x = followed_is (last_linked d) x ∙ taken d x
@@ -234,17 +236,11 @@ module _ {N E : Type 0} (nodes n1 n2 : Content (Node N)) (edges e1 e2 e3 : Conte
   same_edges : map_content seen_edge e2 ≡ map_content seen_edge edges
   same_edges = both_edges nodes n1 n2 edges e1 e2 e.from e.to _ _ out into
 
-  pub old_well : IsContent true e2 → IsContent true (map_content seen_edge edges)
-  old_well well = subst (IsContent true) same_edges (content-mapped seen_edge e2 true well)
+  removed_seen : map_values seen_edge e3.live ≡ map.remove (map_values seen_edge edges.live) k
+  removed_seen = ap (map_values seen_edge) cuts.live ∙ mapped-remove seen_edge e2.live k ∙ ap (λ c. map.remove c.live k) same_edges
 
-  pub all_removed : Removes e2 k e3 → Removes (map_content seen_edge edges) k (map_content seen_edge e3)
-  all_removed removes = subst (λ c. Removes c k (map_content seen_edge e3)) same_edges (mapped-removes seen_edge e2 e3 k removes)
-
-  pub removed_seen : map_values seen_edge e3.live ≡ map.remove (map_values seen_edge edges.live) k
-  removed_seen = ap (map_values seen_edge) is ∙ mapped-remove seen_edge e2.live k ∙ ap (λ c. map.remove c.live k) same_edges
-
-  pub edge_removed : IsGraph n2 e3.live
-  edge_removed =
+  graph_cut : IsGraph n2 e3.live
+  graph_cut =
       let same_nodes : map_values node_value n2.live ≡ map_values node_value nodes.live = ap (λ c. c.live) (both_nodes nodes n1 n2 edges e1 e2 e.from e.to _ _ out into) in
       record {
         ends = λ x y found. rw same_nodes (graph.ends x y (let f = rw removed_seen at found in grind (arith, keys)));
@@ -252,8 +248,18 @@ module _ {N E : Type 0} (nodes n1 n2 : Content (Node N)) (edges e1 e2 e3 : Conte
         lists = λ d x y. ap (times y) (last_listed d x) ∙ rw removed_seen (lists_removed (end d) (map_values seen_edge edges.live) k e there x (listed d nodes.live edges.live x) (graph.lists d x) y);
       }
 
-  pub taken_seen : (d : Direction) (x : Key) → edges_at (by_node d n2.live e3.live) x ≡ without k (edges_at (by_node d nodes.live edges.live) x)
-  taken_seen d x = at_node d n2.live e3.live x ∙ last_listed d x ∙ ap (without k) (sym (at_node d nodes.live edges.live x))
+  pub edge_cut : IsCut nodes edges k n2 e3
+  edge_cut =
+      let well = subst (IsContent true) same_edges (content-mapped seen_edge e2 true well_cut) in
+      let removes = subst (λ c. Removes c k (map_content seen_edge e3)) same_edges (mapped-removes seen_edge e2 e3 k cuts) in
+      let live = ap is_some there in record {
+        graph = graph_cut;
+        removes = removes;
+        for_good = removed_spent _ _ true well k live removes;
+        leaves = leaves_by_removal true _ well k live _ removes;
+        keeps = spent_removes _ _ true well k live removes;
+        lists = λ d x. at_node d n2.live e3.live x ∙ last_listed d x ∙ ap (without k) (sym (at_node d nodes.live edges.live x));
+      }
 
 -- an edge that isn't there is in no list
 module _ {N E : Type 0} (nodes : Content (Node N)) (edges : map.FinMap key_cmp (Edge E)) (graph : IsGraph nodes edges) where

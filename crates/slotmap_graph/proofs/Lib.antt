@@ -1,10 +1,10 @@
 pub mod Adjacent
 pub mod Callers
+pub mod Common
 pub mod Copies
 pub mod Counted
 pub mod Followed
 pub mod GraphSteps
-pub mod MapKeys
 pub mod Relinked
 pub mod Searches
 pub mod Thinned

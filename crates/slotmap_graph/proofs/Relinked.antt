@@ -1,19 +1,11 @@
 -- An edge that is put behind the others of a list, or taken out of it: what is written makes the new list.
-use Rattle.std.proofs.Common.{◌≡◌, ◌≢◌, ◌+◌, ◌-◌, ◌<◌, ◌≤◌, true, cond, Option, Some, None, IfSome, List, [], ◌∷◌, ◌++◌, refl, sym, ap, ◌∙◌, arith, append-nil}
+use Rattle.std.proofs.Common.{◌≡◌, ◌≢◌, ◌+◌, ◌-◌, ◌<◌, ◌≤◌, ◌∷◌, ◌++◌, ◌∙◌}
+use Rattle.slotmap_graph.proofs.Common.{true, cond, Option, Some, None, IfSome, List, [], refl, sym, ap, arith, append-nil, Key, Content, with_value, is_key}
+use Rattle.slotmap_graph.proofs.Common.{times, without, first_or, last_or, ends_of, link_between, AreLinked, IsListed, with_next, with_prev, own, Ends, Link}
+use Rattle.slotmap_graph.proofs.Common.{is_itself, is_other, times_joined, followed_is, split_at, without_split, in_midst, prev_in, next_in, last_in}
+use Rattle.slotmap_graph.proofs.Common.{linked_put, linked_taken, spliced, spliced_own, two_neighbours, ends_pushed, ends_taken, linked_self, Node, Edge}
+use Rattle.slotmap_graph.proofs.Common.{Direction, node_ends, with_ends, ends_in, edge_link, link_in, KeepsEdges, listed, IsThreaded, Rethreads}
 use Rattle.std.specs.FinMap as map
-use Rattle.slotmap.specs.Words.{Key, Content, with_value}
-use Rattle.slotmap_keylist.specs.KeyLists.{is_key, times, without}
-use Rattle.slotmap_keylist.specs.Linked.{first_or, last_or, ends_of, link_between, AreLinked, IsListed}
-use Rattle.slotmap_keylist.specs.Splice.{with_next, with_prev, own}
-use Rattle.slotmap_keylist.specs.declared.Ends.{Ends}
-use Rattle.slotmap_keylist.specs.declared.Link.{Link}
-use Rattle.slotmap_keylist.proofs.Counts.{is_itself, is_other, times_joined}
-use Rattle.slotmap_keylist.proofs.Linking.{followed_is, split_at, without_split, in_midst, prev_in, next_in, last_in, linked_put, linked_taken}
-use Rattle.slotmap_keylist.proofs.Splicing.{spliced, spliced_own, two_neighbours, ends_pushed, ends_taken, linked_self}
-use Rattle.slotmap_graph.specs.declared.Node.{Node}
-use Rattle.slotmap_graph.specs.declared.Edge.{Edge}
-use Rattle.slotmap_graph.specs.declared.links.Direction.{Direction}
-use Rattle.slotmap_graph.specs.Threads.{node_ends, with_ends, ends_in, edge_link, link_in, KeepsEdges, listed, IsThreaded, Rethreads}
 use Rattle.slotmap_graph.proofs.Threaded.{ends_there, ends_written, other_ends, nodes_kept, link_there, kept_live}
 
 -- what holds of each key that an option has

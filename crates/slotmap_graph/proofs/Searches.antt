@@ -1,15 +1,11 @@
 -- A search from a node, along the edges.
-use Rattle.std.proofs.Common.{◌≡◌, ◌≢◌, ℕ, zero, suc, ◌+◌, ◌<◌, ◌≤◌, ◌⊎◌, ⊎_elim, Bool, true, false, Some, None, List, [], ◌∷◌, ◌++◌, length, get_or}
-use Rattle.std.proofs.Common.{drop, append_assoc, if◌then◌else◌, is_some, option_map, refl, sym, ap, ◌∙◌, inl, inr, arith}
+use Rattle.std.proofs.Common.{◌≡◌, ◌≢◌, ◌+◌, ◌<◌, ◌≤◌, ◌⊎◌, ◌∷◌, ◌++◌, if◌then◌else◌, ◌∙◌}
+use Rattle.slotmap_graph.proofs.Common.{ℕ, zero, suc, ⊎_elim, Bool, true, false, Some, None, List, [], length, get_or, drop, append_assoc, is_some, option_map}
+use Rattle.slotmap_graph.proofs.Common.{refl, sym, ap, inl, inr, arith, Key, Content, IsLive, Pairs, IsBeside, get, contains_key, same_or_other, secondary}
+use Rattle.slotmap_graph.proofs.Common.{append-nil, drop-append-le, same_Some, same, times, one_itself, one_other, times_first, times_joined, times_there}
+use Rattle.slotmap_graph.proofs.Common.{here_or_behind, none_behind, no_more_than, SeenEdge, Edges, ListsEdges, ends_at, from, to, HasEdge, LeadsBy, Leads}
+use Rattle.slotmap_graph.proofs.Common.{AllLed, HasNext, AreSeen, GoesOn, Finds}
 use Rattle.std.specs.FinMap as map
-use Rattle.slotmap.specs.Words.{Key, Content, IsLive, Pairs, IsBeside, get, contains_key}
-use Rattle.slotmap.proofs.Callers.{same_or_other, secondary}
-use Rattle.std.proofs.lemmas.List.{append-nil, drop-append-le}
-use Rattle.std.proofs.lemmas.Option.{same_Some}
-use Rattle.slotmap_keylist.specs.KeyLists.{same, times}
-use Rattle.slotmap_keylist.proofs.Counts.{one_itself, one_other, times_first, times_joined, times_there, here_or_behind, none_behind, no_more_than}
-use Rattle.slotmap_graph.specs.Parts.{SeenEdge, Edges, ListsEdges, ends_at, from, to}
-use Rattle.slotmap_graph.specs.Search.{HasEdge, LeadsBy, Leads, AllLed, HasNext, AreSeen, GoesOn, Finds}
 
 module _ (seen : Pairs (Unit {0})) (found : List Key) (listed : AreSeen seen found) (x : Key) where
   seen_listed : contains_key seen x ≡ true → times x found ≡ 1

@@ -1,13 +1,9 @@
 -- Edges that are taken out one after the other, each of which touches a node.
-use Rattle.std.proofs.Common.{◌≡◌, ◌≢◌, ◌⊎◌, ⊎_elim, Bool, true, false, Option, Some, None, not, cond, List, is_some, refl, sym, ap, ◌∙◌, inl, inr, arith}
-use Rattle.std.specs.Option.{option_and_then}
-use Rattle.std.specs.List.{filter}
+use Rattle.std.proofs.Common.{◌≡◌, ◌≢◌, ◌⊎◌, ◌∙◌}
+use Rattle.slotmap_graph.proofs.Common.{⊎_elim, Bool, true, false, Option, Some, None, not, cond, List, is_some, refl, sym, ap, inl, inr, arith}
+use Rattle.slotmap_graph.proofs.Common.{option_and_then, filter, Key, Content, IsSpent, KeepsSpent, keys, same_or_other, is_key, without, is_other, filter_less}
+use Rattle.slotmap_graph.proofs.Common.{filter_all, SeenEdge, Edges, touches, avoids, ListsEdges}
 use Rattle.std.specs.FinMap as map
-use Rattle.slotmap.specs.Words.{Key, Content, IsSpent, KeepsSpent}
-use Rattle.slotmap.proofs.Callers.{keys, same_or_other}
-use Rattle.slotmap_keylist.specs.KeyLists.{is_key, without}
-use Rattle.slotmap_keylist.proofs.Counts.{is_other, filter_less, filter_all}
-use Rattle.slotmap_graph.specs.Parts.{SeenEdge, Edges, touches, avoids, ListsEdges}
 use Rattle.slotmap_graph.proofs.Adjacent.{listed_edge}
 
 -- this edge touched the node, and is gone for good

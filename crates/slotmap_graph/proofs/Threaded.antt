@@ -1,22 +1,12 @@
 -- The lists of the edges of each node: what a write to a link or to the ends of a list changes, and what stays.
-use Rattle.std.proofs.Common.{◌≡◌, ◌≢◌, ◌≤◌, true, cond, Option, Some, None, [], option_map, unwrap_or, is_some, length, refl, sym, ap, subst, ◌∙◌, inl, inr, arith}
+use Rattle.std.proofs.Common.{◌≡◌, ◌≢◌, ◌≤◌, ◌∙◌}
+use Rattle.slotmap_graph.proofs.Common.{true, cond, Option, Some, None, [], option_map, unwrap_or, is_some, length, refl, sym, ap, subst, inl, inr, arith, Key}
+use Rattle.slotmap_graph.proofs.Common.{key_cmp, Content, IsContent, with_value, most, get-insert_here, get-insert_other, same_or_other, keys, is_key, followed}
+use Rattle.slotmap_graph.proofs.Common.{AreApart, map_values, map_content, Ends, Link, is_itself, is_other, no_more_than, get-mapped, contains-mapped}
+use Rattle.slotmap_graph.proofs.Common.{mapped-written, followed_along, linked_along, Node, Edge, Direction, Out, Into, edges_at, turned, node_value, node_ends}
+use Rattle.slotmap_graph.proofs.Common.{with_ends, ends_in, no_ends, seen_edge, edge_link, with_link, link_in, no_link, KeepsEdges, listed, by_node, IsThreaded}
+use Rattle.slotmap_graph.proofs.Common.{IsGraph, end, lists_of}
 use Rattle.std.specs.FinMap as map
-use Rattle.slotmap.specs.Words.{Key, key_cmp, Content, IsContent, with_value, most}
-use Rattle.slotmap.proofs.Callers.{get-insert_here, get-insert_other, same_or_other, keys}
-use Rattle.slotmap_keylist.specs.KeyLists.{is_key}
-use Rattle.slotmap_keylist.specs.Linked.{followed, AreApart}
-use Rattle.slotmap_keylist.specs.Mapped.{map_values, map_content}
-use Rattle.slotmap_keylist.specs.declared.Ends.{Ends}
-use Rattle.slotmap_keylist.specs.declared.Link.{Link}
-use Rattle.slotmap_keylist.proofs.Counts.{is_itself, is_other, no_more_than}
-use Rattle.slotmap_keylist.proofs.Mapped.{get-mapped, contains-mapped, mapped-written}
-use Rattle.slotmap_keylist.proofs.Splicing.{followed_along, linked_along}
-use Rattle.slotmap_graph.specs.declared.Node.{Node}
-use Rattle.slotmap_graph.specs.declared.Edge.{Edge}
-use Rattle.slotmap_graph.specs.declared.links.Direction.{Direction}
-use Rattle.slotmap_graph.specs.declared.links.Direction.TheVariants.{Out, Into}
-use Rattle.slotmap_graph.specs.Parts.{edges_at}
-use Rattle.slotmap_graph.specs.Threads.{turned, node_value, node_ends, with_ends, ends_in, no_ends, seen_edge, edge_link, with_link, link_in, no_link, KeepsEdges, listed, by_node, IsThreaded, IsGraph, end, lists_of}
 use Rattle.slotmap_graph.proofs.Adjacent.{listed_once, listed_edge}
 
 -- a part of each value of a map, or something else where there is none

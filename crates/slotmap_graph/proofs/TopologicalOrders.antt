@@ -1,21 +1,14 @@
 -- An order of the nodes in which each edge goes forward: how it is found, and that there is a cycle where there is none.
-use Rattle.std.proofs.Common.{◌≡◌, ◌≢◌, ℕ, zero, suc, ◌+◌, ◌-◌, ◌<◌, ◌≤◌, ◌⊎◌, ⊎_elim, Bool, true, false, Some, List, [], ◌∷◌, ◌++◌, length, take, drop, get_or, nat_eq, if◌then◌else◌, option_map, refl, sym, ap, subst, ◌∙◌, append-nil, append_assoc, inl, inr, arith}
+use Rattle.std.proofs.Common.{◌≡◌, ◌≢◌, ◌+◌, ◌-◌, ◌<◌, ◌≤◌, ◌⊎◌, ◌∷◌, ◌++◌, if◌then◌else◌, ◌∙◌}
+use Rattle.slotmap_graph.proofs.Common.{ℕ, zero, suc, ⊎_elim, Bool, true, false, Some, List, [], length, take, drop, get_or, nat_eq, option_map, refl, sym, ap}
+use Rattle.slotmap_graph.proofs.Common.{subst, append-nil, append_assoc, inl, inr, arith, eq-zero-or-pos, take-append-le, take_all, sum_by-take-drop, nat_tests}
+use Rattle.slotmap_graph.proofs.Common.{Key, IsLive, Pairs, get, same_or_other, same, times, one_itself, one_other, times_first, times_there, times_pushed}
+use Rattle.slotmap_graph.proofs.Common.{times_joined, behind_split, no_more_than, cut_at, split_at, in_midst, cons_not_nil, Seen, SeenEdge, Edges, ByNode}
+use Rattle.slotmap_graph.proofs.Common.{IsJoined, edges_at, ends_at, from, to, GoesOn, HasEdge, Leads, LeadsBy, GoesForward, HasCycle, edges_out, passed_of}
+use Rattle.slotmap_graph.proofs.Common.{Sorting, Counting, all_there, covers, find_missing, key_live, key_there}
 use Rattle.std.specs.FinMap as map
-use Rattle.std.proofs.Math.Nat.{eq-zero-or-pos}
-use Rattle.std.proofs.lemmas.List.{take-append-le, take_all}
-use Rattle.std.proofs.lemmas.List.Sums.{sum_by-take-drop}
-use Rattle.std.proofs.lemmas.Bool.Decides.{nat_tests}
-use Rattle.slotmap.specs.Words.{Key, IsLive, Pairs, get}
-use Rattle.slotmap.proofs.Callers.{same_or_other}
-use Rattle.slotmap_keylist.specs.KeyLists.{same, times}
-use Rattle.slotmap_keylist.proofs.Counts.{one_itself, one_other, times_first, times_there, times_pushed, times_joined, behind_split, no_more_than}
-use Rattle.slotmap_keylist.proofs.Linking.{cut_at, split_at, in_midst, cons_not_nil}
-use Rattle.slotmap_graph.specs.Parts.{Seen, SeenEdge, Edges, ByNode, IsJoined, edges_at, ends_at, from, to}
-use Rattle.slotmap_graph.specs.Search.{GoesOn, HasEdge, Leads, LeadsBy}
-use Rattle.slotmap_graph.specs.TopologicalOrder.{GoesForward, HasCycle, edges_out, passed_of, Sorting, Counting}
 use Rattle.slotmap_graph.proofs.Adjacent.{listed_edge, edge_listed}
 use Rattle.slotmap_graph.proofs.Followed.{next_seen, taken}
-use Rattle.slotmap_graph.proofs.MapKeys.{all_there, covers, find_missing, key_live, key_there}
 
 same_turned : (a b : Key) → same a b ≡ same b a
 same_turned a b = elim (same_or_other a b) [
@@ -397,17 +390,22 @@ pass_end s old at a within is counts found yielded goes all sorting =
     ap (λ l. edges_out s.out (take at old) ++ l) all ∙ sym (edges_out_more s.out (take at old) a) ∙ ap (edges_out s.out) (sym front) in
     subst (Sorting s counts found) passed sorting
 
+-- the list has each node once, each edge goes forward in it, and there is no cycle
+pub record IsOrder {N E : Type 0} (s : Seen N E) (found : List Key) : Type 0 where
+  pub once : (x : Key) → times x found ≡ (if map.contains_key s.nodes.live x then 1 else 0)
+  pub forward : GoesForward s.edges.live found
+  pub acyclic : HasCycle s.edges.live → ⊥
+
 -- the end of the list was reached: it has all nodes, or there is a cycle
 module _ {N E : Type 0} (s : Seen N E) (joined : IsJoined s) (counts : Pairs ℕ) (found : List Key) (at : ℕ) (past : length found ≤ at) (sorting : Sorting s counts found (edges_out s.out (take at found))) where
   ended : Sorting s counts found (edges_out s.out found)
   ended = subst (λ l. Sorting s counts found (edges_out s.out l)) (take_all at found past) sorting
 
-  pub ordered : length found ≡ map.len s.nodes.live
-      → ((x : Key) → times x found ≡ (if map.contains_key s.nodes.live x then 1 else 0)) × GoesForward s.edges.live found × (HasCycle s.edges.live → ⊥)
+  pub ordered : length found ≡ map.len s.nodes.live → IsOrder s found
   ordered many =
       let once = found_once s counts found (edges_out s.out found) ended in
       let there : (a b : Key) → HasEdge s.edges.live a b → 0 < times b found = λ a b join. all_there s.nodes.live found once ended.live many b (subst (λ q. map.contains_key s.nodes.live q ≡ true) join.4 (joined.ends join.0 join.1 join.2).1) in
-      (each_once s joined counts found ended many, ended.forward, no_cycle s.edges.live found ended.forward once there)
+      record { once = each_once s joined counts found ended many; forward = ended.forward; acyclic = no_cycle s.edges.live found ended.forward once there }
 
   pub cyclic : (length found ≡ map.len s.nodes.live → ⊥) → HasCycle s.edges.live
   cyclic = some_cycle s joined counts found ended

@@ -2,6 +2,7 @@ pub mod Alone
 pub mod Changed
 pub mod Counts
 pub mod Linking
+pub mod MapKeys
 pub mod Mapped
 pub mod NotNull
 pub mod Searched

@@ -66,7 +66,7 @@ module _ {T : Type 0} (nodes : Nodes T) where
   world_child under k p node w there up world = record {
     own = node.value;
     above = world.own ∷ world.above;
-    path = path_step k node there (world.own ∷ world.above) (subst (λ q. IsPathFrom nodes q (world.own ∷ world.above)) (sym up) world.path);
+    path = child_path k p node there up (world.own ∷ world.above) world.path;
     made = ap (under node.value) world.made;
   }
 

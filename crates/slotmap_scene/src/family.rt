@@ -15,7 +15,7 @@ ghost use Rattle.slotmap_scene.specs.Node.{key_and_value};
 ghost use Rattle.slotmap_scene.specs.Refusals.{RefusesNode};
 
 use crate::children::ChildKeys;
-use crate::links::{LinkedNode, LinkedNodes, add, put_between, take_between};
+use crate::links::{LinkedNode, LinkedNodes, add, link_of, put_between, take_between};
 use slotmap::{DefaultKey, InsertError, Key, ReserveError, SlotMap, basic};
 use slotmap_keylist::{Ends, Link};
 use std::alloc::Global;
@@ -127,10 +127,7 @@ impl<T: Drop> Nodes<T> {
     pub fn link(&self, node: DefaultKey) -> Link<DefaultKey>
         ensures { (p : KeyOf) (before after : List KeyOf) → children_of self.now.live p ≡ before ++ node ∷ after → result ≡ link_between before after }
     {
-        match self.map.get(node) {
-            Some(node) => node.siblings,
-            None => Link::none(),
-        }
+        link_of(&self.map, node)
     }
 
     // The keys of the children of a node.

@@ -149,8 +149,9 @@ pub(crate) fn set_turn<T: Drop>(
     ensures indexed { IsIndexed jobs.new heap.new }
     ensures capacity { vec_capacity heap.new ≡ vec_capacity heap.old }
 {
-    let place = jobs[handle].place;
-    jobs[handle].turn = turn;
+    let job = &mut jobs[handle];
+    job.turn = turn;
+    let place = job.place;
     heap[place].turn = turn;
     settle(jobs, heap, place);
 }

@@ -1,15 +1,8 @@
-use Rattle.std.proofs.Common.{true, sym, ap, subst, ◌∙◌}
-use Rattle.slotmap.specs.Words.{Content, KeepsSpent}
-use Rattle.slotmap.proofs.Callers.{spent_insert}
-use Rattle.slotmap_keylist.specs.KeyLists.{times}
-use Rattle.slotmap_keylist.specs.Mapped.{map_content}
-use Rattle.slotmap_graph.specs.declared.links.Direction.TheVariants.{Out, Into}
-use Rattle.slotmap_graph.specs.Parts.{SeenEdge}
-use Rattle.slotmap_graph.specs.Threads.{seen_edge, no_link}
+use Rattle.std.proofs.Common.{◌∙◌}
+use Rattle.slotmap_graph.proofs.Common.{true, sym, ap, subst, Content, KeepsSpent, spent_insert, times, map_content, Out, Into, SeenEdge, seen_edge, no_link}
+use Rattle.slotmap_graph.proofs.Common.{arith, keys, mapped, Direction, PutsBehind, by_node, end}
 use Rattle.slotmap_graph.proofs.GraphSteps.{bare_edge, mid_threads, mid_unlisted, turned_threads, turned_listed, still_node, edge_added, put_behind}
-use Rattle.std.proofs.Common.{arith}
-use Rattle.slotmap.proofs.Callers.{keys}
-use Rattle.slotmap_keylist.proofs.Mapped.{mapped}
+use Rattle.slotmap_graph.proofs.Graph.add_edge.Goals.{After-link_last-2}
 use Rattle.slotmap_graph.proofs.Graph.add_edge.Goals as goal
 
 pub link_last-requires-clause-threaded : goal.link_last-requires-clause-threaded
@@ -44,23 +37,21 @@ invariant_of-self-2 g c =
     (record { from = from; to = to; value = c.args.edge; out = no_link; into = no_link }) c.in_ok-key.ensures.fresh unlinked (bare_edge from to c.args.edge) c.link_last.ensures c.link_last-2.ensures
     (sym c.contains_key.ensures.value ∙ c.if-not-contains_key.false) (sym c.contains_key-else-not-contains_key.ensures.value ∙ c.if-not-contains_key-2.false)
 
-pub returns-clause-out : goal.returns-clause-out
-returns-clause-out g c =
+put : (g : _) (c : After-link_last-2 g) (d : Direction)
+    → PutsBehind (by_node d c.self.inside.nodes.live c.self.inside.edges.live) (end d (record { from = g.K.Key.data_of c.args.from; to = g.K.Key.data_of c.args.to; value = c.args.edge })) c.in_ok-key.key
+        (by_node d c.link_last-2.new.nodes.live c.link_last-2.new.edges.live)
+put g c =
     let from = g.K.Key.data_of c.args.from in
     let to = g.K.Key.data_of c.args.to in
     let unlinked = rw (c.inner.ensures, c.inner-2.ensures) at c.in_ok-key.ensures.unlinked in
-    rw (← c.self.view_is)
-    (put_behind c.self.inside.nodes c.link_last.new.nodes c.link_last-2.new.nodes c.self.inside.edges c.insert_edge.new.edges c.link_last.new.edges c.link_last-2.new.edges c.self.invariant c.in_ok-key.key
-    (record { from = from; to = to; value = c.args.edge; out = no_link; into = no_link }) c.in_ok-key.ensures.fresh unlinked (bare_edge from to c.args.edge) c.link_last.ensures c.link_last-2.ensures Out)
+    put_behind c.self.inside.nodes c.link_last.new.nodes c.link_last-2.new.nodes c.self.inside.edges c.insert_edge.new.edges c.link_last.new.edges c.link_last-2.new.edges c.self.invariant c.in_ok-key.key
+    (record { from = from; to = to; value = c.args.edge; out = no_link; into = no_link }) c.in_ok-key.ensures.fresh unlinked (bare_edge from to c.args.edge) c.link_last.ensures c.link_last-2.ensures
+
+pub returns-clause-out : goal.returns-clause-out
+returns-clause-out g c = rw (← c.self.view_is) (put g (goal.at.returns-clause-out g c).After-link_last-2 Out)
 
 pub returns-clause-into : goal.returns-clause-into
-returns-clause-into g c =
-    let from = g.K.Key.data_of c.args.from in
-    let to = g.K.Key.data_of c.args.to in
-    let unlinked = rw (c.inner.ensures, c.inner-2.ensures) at c.in_ok-key.ensures.unlinked in
-    rw (← c.self.view_is)
-    (put_behind c.self.inside.nodes c.link_last.new.nodes c.link_last-2.new.nodes c.self.inside.edges c.insert_edge.new.edges c.link_last.new.edges c.link_last-2.new.edges c.self.invariant c.in_ok-key.key
-    (record { from = from; to = to; value = c.args.edge; out = no_link; into = no_link }) c.in_ok-key.ensures.fresh unlinked (bare_edge from to c.args.edge) c.link_last.ensures c.link_last-2.ensures Into)
+returns-clause-into g c = rw (← c.self.view_is) (put g (goal.at.returns-clause-into g c).After-link_last-2 Into)
 
 pub returns-clause-gone : goal.returns-clause-gone
 returns-clause-gone g c =

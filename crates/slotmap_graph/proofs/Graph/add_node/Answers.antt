@@ -1,7 +1,5 @@
-use Rattle.std.proofs.Common.{true, refl}
-use Rattle.slotmap.proofs.Callers.{insert_still, spent_insert}
+use Rattle.slotmap_graph.proofs.Common.{true, refl, insert_still, spent_insert, Out, Into}
 use Rattle.slotmap_graph.proofs.GraphSteps.{graph_beside, seen_along}
-use Rattle.slotmap_graph.specs.declared.links.Direction.TheVariants.{Out, Into}
 use Rattle.slotmap_graph.proofs.Graph.add_node.Goals as goal
 
 pub invariant_of-self : goal.invariant_of-self

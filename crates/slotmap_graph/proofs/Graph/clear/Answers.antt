@@ -1,12 +1,7 @@
-use Rattle.std.proofs.Common.{true, ap, ◌∙◌, is_some}
+use Rattle.std.proofs.Common.{◌∙◌}
+use Rattle.slotmap_graph.proofs.Common.{true, ap, is_some, key_cmp, left_spent, map_values, mapped-empty, mapped-leaves, mapped-live, spent-mapped, Node, Edge}
+use Rattle.slotmap_graph.proofs.Common.{node_value, seen_edge}
 use Rattle.std.specs.FinMap as map
-use Rattle.slotmap.specs.Words.{key_cmp}
-use Rattle.slotmap.proofs.Callers.{left_spent}
-use Rattle.slotmap_keylist.specs.Mapped.{map_values}
-use Rattle.slotmap_keylist.proofs.Mapped.{mapped-empty, mapped-leaves, mapped-live, spent-mapped}
-use Rattle.slotmap_graph.specs.declared.Node.{Node}
-use Rattle.slotmap_graph.specs.declared.Edge.{Edge}
-use Rattle.slotmap_graph.specs.Threads.{node_value, seen_edge}
 use Rattle.slotmap_graph.proofs.GraphSteps.{graph_empty}
 use Rattle.slotmap_graph.proofs.Graph.clear.Goals as goal
 

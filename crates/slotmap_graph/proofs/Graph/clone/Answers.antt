@@ -1,6 +1,4 @@
-use Rattle.slotmap.proofs.Callers.{clone_copies}
-use Rattle.slotmap_graph.specs.Parts.{clones_edge}
-use Rattle.slotmap_graph.specs.declared.links.Direction.TheVariants.{Out, Into}
+use Rattle.slotmap_graph.proofs.Common.{clone_copies, clones_edge, Out, Into}
 use Rattle.slotmap_graph.proofs.Copies.{graph_copied, copy_seen, nodes_cloned, edges_cloned, edges_equal}
 use Rattle.slotmap_graph.proofs.Graph.clone.Goals as goal
 

@@ -1,13 +1,9 @@
-use Rattle.std.proofs.Common.{◌≤◌, Some, ◌++◌, sym, ap, ◌∙◌, arith}
-use Rattle.std.proofs.Common.{map as list_map}
-use Rattle.std.proofs.lemmas.List.{map-append}
+use Rattle.std.proofs.Common.{◌≤◌, ◌++◌, ◌∙◌}
+use Rattle.slotmap_graph.proofs.Common.{Some, sym, ap, arith, list_map, map-append, times, in_midst, key_live, keys_once}
 use Rattle.std.specs.FinMap as map
-use Rattle.slotmap_keylist.specs.KeyLists.{times}
-use Rattle.slotmap_keylist.proofs.Linking.{in_midst}
 use Rattle.slotmap_graph.proofs.Followed.{walked_in, walked_on}
 use Rattle.slotmap_graph.proofs.GraphSteps.{puts_alone}
 use Rattle.slotmap_graph.proofs.Counted.{counting_none, counting_step}
-use Rattle.slotmap_graph.proofs.MapKeys.{key_live, keys_once}
 use Rattle.slotmap_graph.proofs.Graph.count_all.Goals as goal
 
 pub loop-node-init : goal.loop-node-init

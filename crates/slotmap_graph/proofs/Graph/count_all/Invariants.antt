@@ -1,6 +1,6 @@
-use Rattle.std.proofs.Common.{◌≡◌, ◌++◌, map as list_map}
+use Rattle.std.proofs.Common.{◌≡◌, ◌++◌}
+use Rattle.slotmap_graph.proofs.Common.{list_map, Counting}
 use Rattle.std.specs.FinMap as map
-use Rattle.slotmap_graph.specs.TopologicalOrder.{Counting}
 use Rattle.slotmap_graph.proofs.Graph.count_all.Given as goal
 
 abbrev pub invariant-loop-node : goal.invariant-loop-node

@@ -1,4 +1,4 @@
-use Rattle.slotmap_graph.specs.declared.links.Direction.TheVariants.{Out, Into}
+use Rattle.slotmap_graph.proofs.Common.{Out, Into}
 use Rattle.slotmap_graph.proofs.GraphSteps.{out_touches, first_there, into_found, into_none, is_lists}
 use Rattle.slotmap_graph.proofs.Graph.edge_at.Goals as goal
 

@@ -1,7 +1,5 @@
-use Rattle.std.proofs.Common.{sym, ap, ◌∙◌}
-use Rattle.std.specs.Option.{option_map}
-use Rattle.slotmap_keylist.proofs.Mapped.{get-mapped}
-use Rattle.slotmap_graph.specs.Threads.{seen_edge}
+use Rattle.std.proofs.Common.{◌∙◌}
+use Rattle.slotmap_graph.proofs.Common.{sym, ap, option_map, get-mapped, seen_edge}
 use Rattle.slotmap_graph.proofs.Graph.edge_ends.Goals as goal
 
 pub returns-clause-live : goal.returns-clause-live

@@ -1,12 +1,7 @@
-use Rattle.std.proofs.Common.{◌≡◌, Some, sym, ap, ◌∙◌}
-use Rattle.std.specs.Option.{option_map}
+use Rattle.std.proofs.Common.{◌≡◌, ◌∙◌}
+use Rattle.slotmap_graph.proofs.Common.{Some, sym, ap, option_map, same_lent, map_content, map_values, get-mapped, mapped-with, Out, Into, Seen, value}
+use Rattle.slotmap_graph.proofs.Common.{with_edge, with_edge_in, node_value, seen_edge}
 use Rattle.std.specs.FinMap as map
-use Rattle.slotmap.proofs.Callers.{same_lent}
-use Rattle.slotmap_keylist.specs.Mapped.{map_content, map_values}
-use Rattle.slotmap_keylist.proofs.Mapped.{get-mapped, mapped-with}
-use Rattle.slotmap_graph.specs.declared.links.Direction.TheVariants.{Out, Into}
-use Rattle.slotmap_graph.specs.Parts.{Seen, value, with_edge, with_edge_in}
-use Rattle.slotmap_graph.specs.Threads.{node_value, seen_edge}
 use Rattle.slotmap_graph.proofs.GraphSteps.{edge_written, linked_lists}
 use Rattle.slotmap_graph.proofs.Graph.edge_mut.Goals as goal
 

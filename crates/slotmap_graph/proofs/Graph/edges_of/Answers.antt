@@ -1,7 +1,5 @@
-use Rattle.std.proofs.Common.{ap, sym, ◌∙◌}
-use Rattle.slotmap_keylist.specs.Linked.{followed}
-use Rattle.slotmap_keylist.proofs.Segments.{segment_start}
-use Rattle.slotmap_graph.specs.Threads.{link_in}
+use Rattle.std.proofs.Common.{◌∙◌}
+use Rattle.slotmap_graph.proofs.Common.{ap, sym, followed, segment_start, link_in}
 use Rattle.slotmap_graph.proofs.Threaded.{at_lists}
 use Rattle.slotmap_graph.proofs.Graph.edges_of.Goals as goal
 

@@ -1,6 +1,5 @@
-use Rattle.std.proofs.Common.{refl, sym, ap, ◌∙◌}
-use Rattle.std.specs.List.{find}
-use Rattle.slotmap_graph.specs.Search.{goes_to}
+use Rattle.std.proofs.Common.{◌∙◌}
+use Rattle.slotmap_graph.proofs.Common.{refl, sym, ap, find, goes_to}
 use Rattle.slotmap_graph.proofs.Followed.{found_first, next_live, not_found, walked, walked_on}
 use Rattle.slotmap_graph.proofs.Graph.find_edge.Goals as goal
 

@@ -1,7 +1,5 @@
-use Rattle.std.proofs.Common.{◌≡◌, ◌++◌, None}
-use Rattle.std.specs.List.{find}
-use Rattle.slotmap_graph.specs.Parts.{edges_at}
-use Rattle.slotmap_graph.specs.Search.{goes_to}
+use Rattle.std.proofs.Common.{◌≡◌, ◌++◌}
+use Rattle.slotmap_graph.proofs.Common.{None, find, edges_at, goes_to}
 use Rattle.slotmap_graph.proofs.Graph.find_edge.Given as goal
 
 abbrev pub invariant-loop-edge : goal.invariant-loop-edge

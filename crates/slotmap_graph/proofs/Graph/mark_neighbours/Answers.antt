@@ -1,8 +1,5 @@
-use Rattle.std.proofs.Common.{refl, sym, ap, ◌∙◌}
-use Rattle.std.proofs.Common.{map as list_map}
-use Rattle.std.specs.List.{fold}
-use Rattle.slotmap_graph.specs.Parts.{to}
-use Rattle.slotmap_graph.specs.Search.{ends_along, marked}
+use Rattle.std.proofs.Common.{◌∙◌}
+use Rattle.slotmap_graph.proofs.Common.{refl, sym, ap, list_map, fold, to, ends_along, marked}
 use Rattle.slotmap_graph.proofs.GraphSteps.{puts_alone}
 use Rattle.slotmap_graph.proofs.Followed.{goes_on, marks_step, next_joins, next_live, one_more, walked, walked_on}
 use Rattle.slotmap_graph.proofs.Searches.{finds_start, finds_step, pending_start, pending_step, pending_end, marked_keeps}

@@ -1,7 +1,5 @@
-use Rattle.std.proofs.Common.{◌≡◌, ◌++◌, map as list_map}
-use Rattle.std.specs.List.{fold}
-use Rattle.slotmap_graph.specs.Parts.{edges_at, to}
-use Rattle.slotmap_graph.specs.Search.{Finds, ends_along, marked}
+use Rattle.std.proofs.Common.{◌≡◌, ◌++◌}
+use Rattle.slotmap_graph.proofs.Common.{list_map, fold, edges_at, to, Finds, ends_along, marked}
 use Rattle.slotmap_graph.proofs.Searches.{Pending}
 use Rattle.slotmap_graph.proofs.Graph.mark_neighbours.Given as goal
 

@@ -1,8 +1,5 @@
-use Rattle.std.proofs.Common.{◌∷◌, [], ◌++◌, sym, ap, ◌∙◌}
-use Rattle.std.proofs.Common.{map as list_map}
-use Rattle.std.proofs.lemmas.List.{map-append}
-use Rattle.slotmap_graph.specs.Parts.{to}
-use Rattle.slotmap_graph.specs.Search.{ends_along}
+use Rattle.std.proofs.Common.{◌∷◌, ◌++◌, ◌∙◌}
+use Rattle.slotmap_graph.proofs.Common.{[], sym, ap, list_map, map-append, to, ends_along}
 use Rattle.slotmap_graph.proofs.Followed.{next_live, one_more, walked, walked_on}
 use Rattle.slotmap_graph.proofs.Graph.neighbours.Goals as goal
 

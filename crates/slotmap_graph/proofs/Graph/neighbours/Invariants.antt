@@ -1,6 +1,5 @@
-use Rattle.std.proofs.Common.{◌≡◌, ◌++◌, map as list_map}
-use Rattle.slotmap_graph.specs.Parts.{edges_at, to}
-use Rattle.slotmap_graph.specs.Search.{ends_along}
+use Rattle.std.proofs.Common.{◌≡◌, ◌++◌}
+use Rattle.slotmap_graph.proofs.Common.{list_map, edges_at, to, ends_along}
 use Rattle.slotmap_graph.proofs.Graph.neighbours.Given as goal
 
 abbrev pub invariant-loop-edge : goal.invariant-loop-edge

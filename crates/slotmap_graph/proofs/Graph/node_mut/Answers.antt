@@ -1,12 +1,6 @@
-use Rattle.std.proofs.Common.{sym, ap, ◌∙◌}
-use Rattle.std.specs.Option.{option_map}
-use Rattle.slotmap.specs.Words.{with_value}
-use Rattle.slotmap.proofs.Callers.{same_lent}
-use Rattle.slotmap_keylist.specs.Mapped.{map_content}
-use Rattle.slotmap_keylist.proofs.Mapped.{get-mapped, mapped-with}
-use Rattle.slotmap_graph.specs.declared.links.Direction.TheVariants.{Out, Into}
-use Rattle.slotmap_graph.specs.Parts.{Seen}
-use Rattle.slotmap_graph.specs.Threads.{node_value, seen_edge}
+use Rattle.std.proofs.Common.{◌∙◌}
+use Rattle.slotmap_graph.proofs.Common.{sym, ap, option_map, with_value, same_lent, map_content, get-mapped, mapped-with, Out, Into, Seen, node_value}
+use Rattle.slotmap_graph.proofs.Common.{seen_edge}
 use Rattle.slotmap_graph.proofs.GraphSteps.{node_written, written_lists}
 use Rattle.slotmap_graph.proofs.Graph.node_mut.Goals as goal
 

@@ -1,7 +1,5 @@
-use Rattle.std.proofs.Common.{◌≡◌, ◌++◌, take, map as list_map}
-use Rattle.slotmap_graph.specs.TopologicalOrder.{Sorting, edges_out}
-use Rattle.slotmap_graph.specs.Parts.{edges_at}
-use Rattle.slotmap_graph.specs.Search.{GoesOn}
+use Rattle.std.proofs.Common.{◌≡◌, ◌++◌}
+use Rattle.slotmap_graph.proofs.Common.{take, list_map, Sorting, edges_out, edges_at, GoesOn}
 use Rattle.slotmap_graph.proofs.Graph.pass_edges.Given as goal
 
 abbrev pub invariant-loop-edge : goal.invariant-loop-edge

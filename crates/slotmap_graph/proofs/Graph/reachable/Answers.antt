@@ -1,12 +1,6 @@
-use Rattle.std.proofs.Common.{◌≡◌, ◌<◌, ◌≤◌, length, get_or, true, sym, ap, ◌∙◌, arith}
-use Rattle.std.proofs.Common.{map as list_map}
-use Rattle.std.proofs.lemmas.List.{get_or-map, length-map}
-use Rattle.slotmap.specs.Words.{IsLive}
-use Rattle.slotmap.proofs.Callers.{beside_empty}
-use Rattle.slotmap_keylist.proofs.Mapped.{content-mapped, live-mapped}
-use Rattle.slotmap_graph.specs.Parts.{edges_at, to}
-use Rattle.slotmap_graph.specs.Search.{ends_along, marked}
-use Rattle.slotmap_graph.specs.Threads.{node_value}
+use Rattle.std.proofs.Common.{◌≡◌, ◌<◌, ◌≤◌, ◌∙◌}
+use Rattle.slotmap_graph.proofs.Common.{length, get_or, true, sym, ap, arith, list_map, get_or-map, length-map, IsLive, beside_empty, content-mapped}
+use Rattle.slotmap_graph.proofs.Common.{live-mapped, edges_at, to, ends_along, marked, node_value}
 use Rattle.slotmap_graph.proofs.GraphSteps.{puts_alone}
 use Rattle.slotmap_graph.proofs.Followed.{order_step, order_end}
 use Rattle.slotmap_graph.proofs.Searches.{are_none, listed_once, searching_start, searching_step, searching_all, searching_found, searching_fits}

@@ -1,8 +1,6 @@
-use Rattle.std.proofs.Common.{◌≡◌, ◌-◌, ◌∷◌, [], take, map as list_map}
-use Rattle.std.specs.List.{fold}
+use Rattle.std.proofs.Common.{◌≡◌, ◌-◌, ◌∷◌}
+use Rattle.slotmap_graph.proofs.Common.{[], take, list_map, fold, edges_at, to, ends_along, marked}
 use Rattle.std.specs.FinMap as map
-use Rattle.slotmap_graph.specs.Parts.{edges_at, to}
-use Rattle.slotmap_graph.specs.Search.{ends_along, marked}
 use Rattle.slotmap_graph.proofs.Searches.{Searching}
 use Rattle.slotmap_graph.proofs.Graph.reachable.Given as goal
 

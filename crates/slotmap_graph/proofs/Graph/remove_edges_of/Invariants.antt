@@ -1,8 +1,6 @@
 use Rattle.std.proofs.Common.{◌≡◌}
-use Rattle.std.specs.List.{filter}
+use Rattle.slotmap_graph.proofs.Common.{filter, Key, Leaves, edges_at}
 use Rattle.std.specs.FinMap as map
-use Rattle.slotmap.specs.Words.{Key, Leaves}
-use Rattle.slotmap_graph.specs.Parts.{edges_at}
 use Rattle.slotmap_graph.proofs.Thinned.{Thinned}
 use Rattle.slotmap_graph.proofs.Graph.remove_edges_of.Given as goal
 

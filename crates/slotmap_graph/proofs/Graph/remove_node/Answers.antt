@@ -1,11 +1,6 @@
-use Rattle.std.proofs.Common.{true, refl, ap, ◌∙◌}
+use Rattle.std.proofs.Common.{◌∙◌}
+use Rattle.slotmap_graph.proofs.Common.{true, refl, ap, remove_spent, spent_remove, map_values, mapped-remove, Out, Into, edges_at, node_value, seen_edge}
 use Rattle.std.specs.FinMap as map
-use Rattle.slotmap.proofs.Callers.{remove_spent, spent_remove}
-use Rattle.slotmap_keylist.specs.Mapped.{map_values}
-use Rattle.slotmap_keylist.proofs.Mapped.{mapped-remove}
-use Rattle.slotmap_graph.specs.declared.links.Direction.TheVariants.{Out, Into}
-use Rattle.slotmap_graph.specs.Parts.{edges_at}
-use Rattle.slotmap_graph.specs.Threads.{node_value, seen_edge}
 use Rattle.slotmap_graph.proofs.GraphSteps.{node_removed, node_leaves, left_ends, seen_along}
 use Rattle.slotmap_graph.proofs.Thinned.{none_left}
 use Rattle.slotmap_graph.proofs.Graph.remove_node.Goals as goal

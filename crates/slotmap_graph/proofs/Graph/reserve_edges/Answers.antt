@@ -1,8 +1,5 @@
-use Rattle.std.proofs.Common.{refl, ap}
-use Rattle.slotmap_keylist.proofs.Mapped.{mapped-room}
-use Rattle.slotmap_graph.specs.Threads.{link_in, seen_edge}
+use Rattle.slotmap_graph.proofs.Common.{refl, ap, mapped-room, link_in, seen_edge, Out, Into}
 use Rattle.slotmap_graph.proofs.GraphSteps.{seen_along}
-use Rattle.slotmap_graph.specs.declared.links.Direction.TheVariants.{Out, Into}
 use Rattle.slotmap_graph.proofs.Graph.reserve_edges.Goals as goal
 
 pub invariant_of-self : goal.invariant_of-self

@@ -1,8 +1,5 @@
-use Rattle.std.proofs.Common.{refl, ap}
-use Rattle.slotmap_keylist.proofs.Mapped.{mapped-room}
-use Rattle.slotmap_graph.specs.Threads.{ends_in, node_value}
+use Rattle.slotmap_graph.proofs.Common.{refl, ap, mapped-room, ends_in, node_value, Out, Into}
 use Rattle.slotmap_graph.proofs.GraphSteps.{graph_beside, seen_along}
-use Rattle.slotmap_graph.specs.declared.links.Direction.TheVariants.{Out, Into}
 use Rattle.slotmap_graph.proofs.Graph.reserve_nodes.Goals as goal
 
 pub invariant_of-self : goal.invariant_of-self

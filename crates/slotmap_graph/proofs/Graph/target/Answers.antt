@@ -1,8 +1,5 @@
-use Rattle.std.proofs.Common.{sym, ap, ◌∙◌}
-use Rattle.std.specs.Option.{option_map}
-use Rattle.slotmap_keylist.proofs.Mapped.{contains-mapped, get-mapped}
-use Rattle.slotmap_graph.specs.Parts.{to}
-use Rattle.slotmap_graph.specs.Threads.{seen_edge}
+use Rattle.std.proofs.Common.{◌∙◌}
+use Rattle.slotmap_graph.proofs.Common.{sym, ap, option_map, contains-mapped, get-mapped, to, seen_edge}
 use Rattle.slotmap_graph.proofs.GraphSteps.{graph_joined}
 use Rattle.slotmap_graph.proofs.Graph.target.Goals as goal
 

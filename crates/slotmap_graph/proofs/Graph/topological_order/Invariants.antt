@@ -1,6 +1,6 @@
-use Rattle.std.proofs.Common.{◌-◌, take, map as list_map}
+use Rattle.std.proofs.Common.{◌-◌}
+use Rattle.slotmap_graph.proofs.Common.{take, list_map, Sorting, edges_out}
 use Rattle.std.specs.FinMap as map
-use Rattle.slotmap_graph.specs.TopologicalOrder.{Sorting, edges_out}
 use Rattle.slotmap_graph.proofs.Graph.topological_order.Given as goal
 
 abbrev pub invariant-loop-at : goal.invariant-loop-at

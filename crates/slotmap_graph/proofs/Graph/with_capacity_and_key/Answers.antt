@@ -1,5 +1,4 @@
-use Rattle.slotmap_keylist.proofs.Mapped.{mapped-new}
-use Rattle.slotmap_graph.specs.Threads.{node_value, seen_edge}
+use Rattle.slotmap_graph.proofs.Common.{mapped-new, node_value, seen_edge}
 use Rattle.slotmap_graph.proofs.GraphSteps.{graph_empty}
 use Rattle.slotmap_graph.proofs.Graph.with_capacity_and_key.Goals as goal
 

@@ -1,5 +1,4 @@
-use Rattle.slotmap_keylist.proofs.Mapped.{mapped-inserts, mapped-grow}
-use Rattle.slotmap_graph.specs.Threads.{seen_edge}
+use Rattle.slotmap_graph.proofs.Common.{mapped-inserts, mapped-grow, seen_edge}
 use Rattle.slotmap_graph.proofs.change.insert_edge.Goals as goal
 
 pub returns-in-Ok-clause-adds : goal.returns-in-Ok-clause-adds

@@ -1,5 +1,4 @@
-use Rattle.slotmap_keylist.proofs.Mapped.{mapped-inserts, mapped-grow}
-use Rattle.slotmap_graph.specs.Threads.{node_value}
+use Rattle.slotmap_graph.proofs.Common.{mapped-inserts, mapped-grow, node_value}
 use Rattle.slotmap_graph.proofs.GraphSteps.{inserted_ends}
 use Rattle.slotmap_graph.proofs.change.insert_node.Goals as goal
 

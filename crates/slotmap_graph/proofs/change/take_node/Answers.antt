@@ -1,5 +1,4 @@
-use Rattle.slotmap_keylist.proofs.Mapped.{mapped-removes, mapped-stays}
-use Rattle.slotmap_graph.specs.Threads.{node_value}
+use Rattle.slotmap_graph.proofs.Common.{mapped-removes, mapped-stays, node_value}
 use Rattle.slotmap_graph.proofs.change.take_node.Goals as goal
 
 pub returns-in_err-remove-clause-valid : goal.returns-in_err-remove-clause-valid

@@ -1,7 +1,5 @@
-use Rattle.std.proofs.Common.{◌≡◌, ◌≤◌, length, ap, arith}
-use Rattle.slotmap.specs.Words.{with_value, most}
-use Rattle.slotmap_keylist.specs.declared.Ends.{Ends}
-use Rattle.slotmap_graph.specs.Threads.{link_in, listed}
+use Rattle.std.proofs.Common.{◌≡◌, ◌≤◌}
+use Rattle.slotmap_graph.proofs.Common.{length, ap, arith, with_value, most, Ends, link_in, listed}
 use Rattle.slotmap_graph.proofs.Relinked.{ends_are, last_kept, put_last}
 use Rattle.slotmap_graph.proofs.Threaded.{keeps_on, list_fits}
 use Rattle.slotmap_graph.proofs.links.link_last.Goals as goal

@@ -1,5 +1,4 @@
-use Rattle.std.proofs.Common.{ap}
-use Rattle.slotmap.specs.Words.{with_value}
+use Rattle.slotmap_graph.proofs.Common.{ap, with_value}
 use Rattle.slotmap_graph.proofs.Threaded.{link_written, edges_kept}
 use Rattle.slotmap_graph.proofs.links.set_link.Goals as goal
 

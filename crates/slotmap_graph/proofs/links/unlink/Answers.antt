@@ -1,6 +1,4 @@
-use Rattle.std.proofs.Common.{ap}
-use Rattle.slotmap.specs.Words.{with_value}
-use Rattle.slotmap_graph.specs.Threads.{link_in}
+use Rattle.slotmap_graph.proofs.Common.{ap, with_value, link_in}
 use Rattle.slotmap_graph.proofs.Relinked.{prev_live, next_kept, taken}
 use Rattle.slotmap_graph.proofs.Threaded.{keeps_on}
 use Rattle.slotmap_graph.proofs.links.unlink.Goals as goal

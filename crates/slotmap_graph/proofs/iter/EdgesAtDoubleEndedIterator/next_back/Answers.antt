@@ -1,7 +1,5 @@
-use Rattle.std.proofs.Common.{◌≡◌, ◌-◌, [], ◌∷◌, length, length-append, sym, ap, ◌∙◌, arith}
-use Rattle.slotmap_keylist.specs.Linked.{follow}
-use Rattle.slotmap_keylist.proofs.Segments.{segment_back}
-use Rattle.slotmap_graph.specs.Threads.{link_in}
+use Rattle.std.proofs.Common.{◌≡◌, ◌-◌, ◌∷◌, ◌∙◌}
+use Rattle.slotmap_graph.proofs.Common.{[], length, length-append, sym, ap, arith, follow, segment_back, link_in}
 use Rattle.slotmap_graph.proofs.iter.EdgesAtDoubleEndedIterator.next_back.Goals as goal
 
 pub returns-in_err-key-clause-steps : goal.returns-in_err-key-clause-steps

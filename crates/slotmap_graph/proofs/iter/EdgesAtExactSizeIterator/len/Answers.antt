@@ -1,6 +1,5 @@
-use Rattle.std.proofs.Common.{length, ap, ◌∙◌}
-use Rattle.slotmap_keylist.proofs.Segments.{segment_long}
-use Rattle.slotmap_graph.specs.Threads.{link_in}
+use Rattle.std.proofs.Common.{◌∙◌}
+use Rattle.slotmap_graph.proofs.Common.{length, ap, segment_long, link_in}
 use Rattle.slotmap_graph.proofs.iter.EdgesAtExactSizeIterator.len.Goals as goal
 
 pub returns-clause-value : goal.returns-clause-value

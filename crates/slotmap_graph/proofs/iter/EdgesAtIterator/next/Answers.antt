@@ -1,6 +1,5 @@
-use Rattle.std.proofs.Common.{◌≡◌, sym, ◌∙◌, arith}
-use Rattle.slotmap_keylist.proofs.Segments.{segment_front}
-use Rattle.slotmap_graph.specs.Threads.{link_in}
+use Rattle.std.proofs.Common.{◌≡◌, ◌∙◌}
+use Rattle.slotmap_graph.proofs.Common.{sym, arith, segment_front, link_in}
 use Rattle.slotmap_graph.proofs.iter.EdgesAtIterator.next.Goals as goal
 
 pub returns-in_err-key-clause-steps : goal.returns-in_err-key-clause-steps

@@ -1,6 +1,5 @@
-use Rattle.std.proofs.Common.{◌≡◌, ℕ, length, Some, ap, ◌∙◌, arith}
-use Rattle.slotmap_keylist.proofs.Segments.{segment_long}
-use Rattle.slotmap_graph.specs.Threads.{link_in}
+use Rattle.std.proofs.Common.{◌≡◌, ◌∙◌}
+use Rattle.slotmap_graph.proofs.Common.{ℕ, length, Some, ap, arith, segment_long, link_in}
 use Rattle.slotmap_graph.proofs.iter.EdgesAtIterator.size_hint.Goals as goal
 
 pub returns-clause-lower : goal.returns-clause-lower
