@@ -22,10 +22,10 @@ pub use Rattle.slotmap_keylist.proofs.Counts.{behind_split, filter_all, filter_l
 pub use Rattle.slotmap_keylist.proofs.Counts.{one_other, times_first, times_gone, times_joined, times_pushed, times_there, times_without, without_none}
 pub use Rattle.slotmap_keylist.proofs.Linking.{cons_not_nil, cut_at, followed_is, in_midst, last_in, linked_put, linked_taken, next_in, prev_in, split_at}
 pub use Rattle.slotmap_keylist.proofs.Linking.{without_split}
-pub use Rattle.slotmap_keylist.proofs.MapKeys.{all_there, covers, find_missing, key_live, key_there, keys_once}
-pub use Rattle.slotmap_keylist.proofs.Mapped.{contains-mapped, content-mapped, get-mapped, len-mapped, live-mapped, mapped, mapped-clones, mapped-empty}
-pub use Rattle.slotmap_keylist.proofs.Mapped.{mapped-grow, mapped-insert, mapped-inserts, mapped-leaves, mapped-live, mapped-new, mapped-remove, mapped-removes}
-pub use Rattle.slotmap_keylist.proofs.Mapped.{mapped-room, mapped-stays, mapped-with, mapped-written, spent-mapped}
+pub use Rattle.slotmap_keylist.proofs.MapKeys.{key_live, key_there, keys_once}
+pub use Rattle.slotmap_keylist.proofs.Mapped.{contains-mapped, content-mapped, get-mapped, live-mapped, mapped, mapped-clones, mapped-empty, mapped-grow}
+pub use Rattle.slotmap_keylist.proofs.Mapped.{mapped-insert, mapped-inserts, mapped-leaves, mapped-live, mapped-new, mapped-remove, mapped-removes, mapped-room}
+pub use Rattle.slotmap_keylist.proofs.Mapped.{mapped-stays, mapped-with, mapped-written, spent-mapped}
 pub use Rattle.slotmap_keylist.proofs.Segments.{segment_back, segment_front, segment_long, segment_start}
 pub use Rattle.slotmap_keylist.proofs.Splicing.{ends_pushed, ends_taken, followed_along, linked_along, linked_but, linked_self, spliced, spliced_own}
 pub use Rattle.slotmap_keylist.proofs.Splicing.{two_neighbours}
@@ -41,7 +41,7 @@ pub use Rattle.slotmap_graph.specs.Search.{AllLed, AreSeen, arrives_at, ends_alo
 pub use Rattle.slotmap_graph.specs.Search.{marked}
 pub use Rattle.slotmap_graph.specs.Threads.{by_node, copies_edge, copies_node, edge_link, end, ends_in, IsGraph, IsThreaded, KeepsEdges, link_in, listed}
 pub use Rattle.slotmap_graph.specs.Threads.{lists_of, no_ends, no_link, node_ends, node_value, Rethreads, seen_edge, turned, with_ends, with_link}
-pub use Rattle.slotmap_graph.specs.TopologicalOrder.{Counting, edges_out, GoesForward, HasCycle, passed_of, Sorting}
+pub use Rattle.slotmap_graph.specs.TopologicalOrder.{ClosesCycle, ComesFromLeft, Counting, edges_out, GoesForward, HasCycle, IsLeft, passed_of, Sorting}
 pub use Rattle.slotmap_graph.specs.declared.Edge.{Edge}
 pub use Rattle.slotmap_graph.specs.declared.Node.{Node}
 pub use Rattle.slotmap_graph.specs.declared.links.Direction.{Direction}

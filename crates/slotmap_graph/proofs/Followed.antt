@@ -22,17 +22,21 @@ pub walked : (passed ahead all : List Key) → passed ++ ahead ≡ all → ahead
 walked passed ahead all so_far none = sym (append-nil passed) ∙ ap (λ l. passed ++ l) (sym none) ∙ so_far
 
 -- the next edge of a walk along the edges of a node
-module _ {E : Type 0} (edges : Edges E) (node : Key) (all : List Key) (lists : ListsEdges from edges node all) (passed ahead rest : List Key) (x : Key) (so_far : passed ++ ahead ≡ all) (next : ahead ≡ x ∷ rest) where
-  next_edge : (e : SeenEdge E) × (map.get edges x ≡ Some e) × (e.from ≡ node)
-  next_edge = listed_edge from edges node all lists x (walked_in passed ahead rest all x so_far next)
+module _ {E : Type 0} (end : SeenEdge E → Key) (edges : Edges E) (node : Key) (all : List Key) (lists : ListsEdges end edges node all) (passed ahead rest : List Key) (x : Key) (so_far : passed ++ ahead ≡ all) (next : ahead ≡ x ∷ rest) where
+  pub next_edge : (e : SeenEdge E) × (map.get edges x ≡ Some e) × (end e ≡ node)
+  next_edge = listed_edge end edges node all lists x (walked_in passed ahead rest all x so_far next)
 
   pub next_live : map.contains_key edges x ≡ true
   next_live = ap is_some next_edge.1
 
+module _ {E : Type 0} (edges : Edges E) (node : Key) (all : List Key) (lists : ListsEdges from edges node all) (passed ahead rest : List Key) (x : Key) (so_far : passed ++ ahead ≡ all) (next : ahead ≡ x ∷ rest) where
+  abbrev this : (e : SeenEdge E) × (map.get edges x ≡ Some e) × (e.from ≡ node)
+  this = next_edge from edges node all lists passed ahead rest x so_far next
+
   pub next_seen : (b : Key) → option_map to (map.get edges x) ≡ Some b → (v : E) × (map.get edges x ≡ Some (record { from = node; to = b; value = v }))
   next_seen b arrives =
-      let to_is = same_Some next_edge.0.to b (ap (option_map to) (sym next_edge.1) ∙ arrives) in
-      (next_edge.0.value, next_edge.1 ∙ (λ i. Some (record { from = next_edge.2 i; to = to_is i; value = next_edge.0.value })))
+      let to_is = same_Some this.0.to b (ap (option_map to) (sym this.1) ∙ arrives) in
+      (this.0.value, this.1 ∙ (λ i. Some (record { from = this.2 i; to = to_is i; value = this.0.value })))
 
   pub next_joins : (b : Key) → option_map to (map.get edges x) ≡ Some b → HasEdge edges node b
   next_joins b arrives = let seen = next_seen b arrives in (x, record { from = node; to = b; value = seen.0 }, seen.1, refl, refl)

@@ -3,6 +3,7 @@ pub mod Callers
 pub mod Common
 pub mod Copies
 pub mod Counted
+pub mod Cycles
 pub mod Followed
 pub mod GraphSteps
 pub mod Relinked

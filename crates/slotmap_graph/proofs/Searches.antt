@@ -11,10 +11,10 @@ module _ (seen : Pairs (Unit {0})) (found : List Key) (listed : AreSeen seen fou
   seen_listed : contains_key seen x ≡ true → times x found ≡ 1
   seen_listed there = listed x ∙ ap (λ b. if b then 1 else 0) there
 
-  unseen_unlisted : contains_key seen x ≡ false → times x found ≡ 0
+  pub unseen_unlisted : contains_key seen x ≡ false → times x found ≡ 0
   unseen_unlisted there = listed x ∙ ap (λ b. if b then 1 else 0) there
 
-  listed_seen : 0 < times x found → contains_key seen x ≡ true
+  pub listed_seen : 0 < times x found → contains_key seen x ≡ true
   listed_seen more = elim (contains_key seen x) as (λ b. contains_key seen x ≡ b → contains_key seen x ≡ true) [
     | true ↦ λ is. is
     | false ↦ λ is. absurd (let none = unseen_unlisted is in omega arith)

@@ -4,8 +4,8 @@ use Rattle.slotmap_graph.proofs.Common.{ℕ, zero, suc, ⊎_elim, Bool, true, fa
 use Rattle.slotmap_graph.proofs.Common.{subst, append-nil, append_assoc, inl, inr, arith, eq-zero-or-pos, take-append-le, take_all, sum_by-take-drop, nat_tests}
 use Rattle.slotmap_graph.proofs.Common.{Key, IsLive, Pairs, get, same_or_other, same, times, one_itself, one_other, times_first, times_there, times_pushed}
 use Rattle.slotmap_graph.proofs.Common.{times_joined, behind_split, no_more_than, cut_at, split_at, in_midst, cons_not_nil, Seen, SeenEdge, Edges, ByNode}
-use Rattle.slotmap_graph.proofs.Common.{IsJoined, edges_at, ends_at, from, to, GoesOn, HasEdge, Leads, LeadsBy, GoesForward, HasCycle, edges_out, passed_of}
-use Rattle.slotmap_graph.proofs.Common.{Sorting, Counting, all_there, covers, find_missing, key_live, key_there}
+use Rattle.slotmap_graph.proofs.Common.{IsJoined, edges_at, ends_at, from, to, GoesOn, LeadsBy, GoesForward, HasCycle, edges_out, passed_of, Sorting, Counting}
+use Rattle.slotmap_graph.proofs.Common.{ComesFromLeft, IsLeft, key_live, key_there, contains_key, is_some}
 use Rattle.std.specs.FinMap as map
 use Rattle.slotmap_graph.proofs.Adjacent.{listed_edge, edge_listed}
 use Rattle.slotmap_graph.proofs.Followed.{next_seen, taken}
@@ -262,54 +262,31 @@ some_unpassed passed (j ∷ js) less = elim (eq-zero-or-pos (times j passed)) [
   | inr there ↦ (let later = some_unpassed passed js (omega arith) in (later.0, (let first = times_first later.0 j js in let more = later.1 in omega arith), later.2))
 ]
 
-leads_from : {E : Type 0} (edges : Edges E) (y h x : Key) → HasEdge edges y h → (n : ℕ) → LeadsBy edges n h x → LeadsBy edges (suc n) y x
-leads_from edges y h x join zero is = (y, refl, rw (← is) join)
-leads_from edges y h x join (suc n) path = (path.0, leads_from edges y h path.0 join n path.1, path.2)
-
 -- all edges of the nodes that were found were passed
-module _ {N E : Type 0} (s : Seen N E) (joined : IsJoined s) (counts : Pairs ℕ) (found : List Key) (sorting : Sorting s counts found (edges_out s.out found)) where
-  -- a node that was not found has an edge from another one
-  before : (y : Key) → IsLive s.nodes y → times y found ≡ 0 → (p : Key) × HasEdge s.edges.live p y × IsLive s.nodes p × (times p found ≡ 0)
-  before y live missing =
-      let entry = sorting.table y live in
-      let left : 0 < entry.0 = none_left entry.0 (times y found) entry.3 missing in
-      let some = some_unpassed (edges_out s.out found) (edges_at s.into y) (omega (arith, entry.2, left)) in
+module _ {N E : Type 0} (s : Seen N E) (counts : Pairs ℕ) (found : List Key) (sorting : Sorting s counts found (edges_out s.out found)) where
+  pub each_counted : (y : Key) → IsLive s.nodes y → contains_key counts y ≡ true
+  each_counted y live = ap is_some (sorting.table y live).1
+
+  -- an edge leads to a node that wasn't found, from another one
+  pub left_before : IsJoined s → (y : Key) → IsLeft s counts y → (k : Key) × ComesFromLeft s counts y k
+  left_before joined y left =
+      let entry = sorting.table y left.0 in
+      let same_count : entry.0 ≡ left.1 = (let h = sym entry.1 ∙ left.2 in cc) in
+      let some = some_unpassed (edges_out s.out found) (edges_at s.into y) (omega (arith, entry.2, same_count, left.3)) in
       let e = listed_edge to s.edges.live y (edges_at s.into y) (joined.into y) some.0 some.1 in
-      (e.0.from, (some.0, e.0, e.1, refl, e.2), (joined.ends some.0 e.0 e.1).0, sym (out_times s joined found some.0 e.0 e.1) ∙ some.2)
+      let live = (joined.ends some.0 e.0 e.1).0 in
+      let from = sorting.table e.0.from live in
+      let missing : times e.0.from found ≡ 0 = sym (out_times s joined found some.0 e.0 e.1) ∙ some.2 in
+      (some.0, (e.0, e.1, e.2, (live, from.0, from.1, none_left from.0 (times e.0.from found) from.3 missing)))
 
-  -- back from node to node, until one comes again
-  climb : (fuel : ℕ) (ks : List Key) (head : Key) → IsLive s.nodes head → times head found ≡ 0 → ((x : Key) → times x ks ≤ 1) → ((x : Key) → 0 < times x ks → IsLive s.nodes x × Leads s.edges.live head x)
-      → map.len s.nodes.live < length ks + fuel → HasCycle s.edges.live
-  climb zero ks head live missing once led enough = absurd (let few = no_more_than ks s.nodes.live once (λ x more. (led x more).0) in omega arith)
-  climb (suc fuel) ks head live missing once led enough =
-      let p = before head live missing in
-      elim (eq-zero-or-pos (times p.0 ks)) [
-        | inr again ↦ (p.0, head, p.1, (led p.0 again).1)
-        | inl new ↦ climb fuel (p.0 ∷ ks) p.0 p.2 p.3
-            (λ x. (elim (same_or_other p.0 x) [
-              | inl is ↦ (let first = times_first x p.0 ks in let one = ap (λ q. same q x) is ∙ one_itself x in let none = ap (λ q. times q ks) (sym is) ∙ new in omega arith)
-              | inr other ↦ (let first = times_first x p.0 ks in let no = one_other p.0 x other in let few = once x in omega arith)
-            ]))
-            (λ x more. (elim (same_or_other p.0 x) [
-              | inl is ↦ rw (← is) (p.2, (zero, refl))
-              | inr other ↦ (let old = led x (let first = times_first x p.0 ks in let no = one_other p.0 x other in omega arith) in (old.0, (suc old.1.0, leads_from s.edges.live p.0 head x p.1 old.1.0 old.1.1)))
-            ]))
-            (omega arith)
-      ]
-
-  some_cycle : (length found ≡ map.len s.nodes.live → ⊥) → HasCycle s.edges.live
-  some_cycle differ = elim (find_missing (map.keys s.nodes.live) found) [
-    | inl some ↦ climb (map.len s.nodes.live + 1) [] some.0 (key_live s.nodes.live some.0 some.1) some.2 (λ x. omega arith) (λ x more. absurd (omega arith)) (omega arith)
-    | inr all ↦ absurd (differ (
-        let many = covers s.nodes.live found (λ x live. all x (key_there s.nodes.live x live)) in
-        let few = found_fits s counts found (edges_out s.out found) sorting in
-        omega arith))
-  ]
-
-  each_once : length found ≡ map.len s.nodes.live → (x : Key) → times x found ≡ (if map.contains_key s.nodes.live x then 1 else 0)
-  each_once many x = elim (map.contains_key s.nodes.live x) as (λ b. map.contains_key s.nodes.live x ≡ b → times x found ≡ (if b then 1 else 0)) [
-    | true ↦ λ live. (let more = all_there s.nodes.live found (found_once s counts found (edges_out s.out found) sorting) sorting.live many x live in let few = found_once s counts found (edges_out s.out found) sorting x in omega arith)
-    | false ↦ λ gone. (elim (eq-zero-or-pos (times x found)) [ inl none ↦ none | inr more ↦ absurd (let live = sorting.live x more in cc) ])
+  -- where none is left, each node is in the list once
+  each_once : ((y : Key) → IsLive s.nodes y → get counts y ≡ Some 0) → (x : Key) → times x found ≡ (if map.contains_key s.nodes.live x then 1 else 0)
+  each_once none x = elim (map.contains_key s.nodes.live x) as (λ b. map.contains_key s.nodes.live x ≡ b → times x found ≡ (if b then 1 else 0)) [
+    | true ↦ λ live. (
+        let entry = sorting.table x live in
+        let zero_count : entry.0 ≡ 0 = (let h = sym entry.1 ∙ none x live in cc) in
+        entry.3 ∙ ap (λ n. if nat_eq n 0 then 1 else 0) zero_count)
+    | false ↦ λ gone. (elim (eq-zero-or-pos (times x found)) [ inl never ↦ never | inr more ↦ absurd (let live = sorting.live x more in cc) ])
   ] refl
 
 -- what leads to a node of an order is before it
@@ -327,19 +304,20 @@ module _ {E : Type 0} (edges : Edges E) (ks : List Key) (forward : GoesForward e
       ]
 
   -- so there is no cycle of nodes that are in it, each once
-  no_cycle : ((x : Key) → times x ks ≤ 1) → ((a b : Key) → HasEdge edges a b → 0 < times b ks) → HasCycle edges → ⊥
+  no_cycle : ((x : Key) → times x ks ≤ 1) → ((k : Key) (e : SeenEdge E) → map.get edges k ≡ Some e → 0 < times e.to ks) → HasCycle edges → ⊥
   no_cycle once there cycle =
-      let a = cycle.0 in
-      let b = cycle.1 in
-      let e = cycle.2 in
-      let split = split_at b ks (there a b e) in
-      let first : 0 < times a split.0 = subst (λ q. 0 < times q split.0) e.3 (forward e.0 e.1 split.0 split.1 e.2 (split.2 ∙ ap (λ q. split.0 ++ q ∷ split.1) (sym e.4))) in
-      let inner = split_at a split.0 first in
-      let whole : ks ≡ inner.0 ++ a ∷ (inner.1 ++ b ∷ split.1) = split.2 ∙ ap (λ l. l ++ b ∷ split.1) inner.2 ∙ append_assoc inner.0 (a ∷ inner.1) (b ∷ split.1) in
-      let few = once b in
-      let sum = ap (times b) split.2 ∙ in_midst split.0 b split.1 in
-      let part = ap (times b) inner.2 ∙ times_joined b inner.0 (a ∷ inner.1) in
-      elim (led_before cycle.3.0 b a inner.0 (inner.1 ++ b ∷ split.1) whole cycle.3.1) [
+      let k = cycle.0 in
+      let e = cycle.1.0 in
+      let found = cycle.1.1 in
+      let path = cycle.1.2 in
+      let split = split_at e.to ks (there k e found) in
+      let first : 0 < times e.from split.0 = forward k e split.0 split.1 found split.2 in
+      let inner = split_at e.from split.0 first in
+      let whole : ks ≡ inner.0 ++ e.from ∷ (inner.1 ++ e.to ∷ split.1) = split.2 ∙ ap (λ l. l ++ e.to ∷ split.1) inner.2 ∙ append_assoc inner.0 (e.from ∷ inner.1) (e.to ∷ split.1) in
+      let few = once e.to in
+      let sum = ap (times e.to) split.2 ∙ in_midst split.0 e.to split.1 in
+      let part = ap (times e.to) inner.2 ∙ times_joined e.to inner.0 (e.from ∷ inner.1) in
+      elim (led_before path.0 e.to e.from inner.0 (inner.1 ++ e.to ∷ split.1) whole path.1) [
         | inl is ↦ (let back = ap (λ q. times q split.0) is in omega arith)
         | inr more ↦ omega arith
       ]
@@ -396,16 +374,14 @@ pub record IsOrder {N E : Type 0} (s : Seen N E) (found : List Key) : Type 0 whe
   pub forward : GoesForward s.edges.live found
   pub acyclic : HasCycle s.edges.live → ⊥
 
--- the end of the list was reached: it has all nodes, or there is a cycle
-module _ {N E : Type 0} (s : Seen N E) (joined : IsJoined s) (counts : Pairs ℕ) (found : List Key) (at : ℕ) (past : length found ≤ at) (sorting : Sorting s counts found (edges_out s.out (take at found))) where
-  ended : Sorting s counts found (edges_out s.out found)
-  ended = subst (λ l. Sorting s counts found (edges_out s.out l)) (take_all at found past) sorting
+-- the end of the list was reached: all edges of its nodes were passed
+pub ended : {N E : Type 0} (s : Seen N E) (counts : Pairs ℕ) (found : List Key) (at : ℕ) → length found ≤ at → Sorting s counts found (edges_out s.out (take at found)) → Sorting s counts found (edges_out s.out found)
+ended s counts found at past sorting = subst (λ l. Sorting s counts found (edges_out s.out l)) (take_all at found past) sorting
 
-  pub ordered : length found ≡ map.len s.nodes.live → IsOrder s found
-  ordered many =
-      let once = found_once s counts found (edges_out s.out found) ended in
-      let there : (a b : Key) → HasEdge s.edges.live a b → 0 < times b found = λ a b join. all_there s.nodes.live found once ended.live many b (subst (λ q. map.contains_key s.nodes.live q ≡ true) join.4 (joined.ends join.0 join.1 join.2).1) in
-      record { once = each_once s joined counts found ended many; forward = ended.forward; acyclic = no_cycle s.edges.live found ended.forward once there }
-
-  pub cyclic : (length found ≡ map.len s.nodes.live → ⊥) → HasCycle s.edges.live
-  cyclic = some_cycle s joined counts found ended
+-- where no node is left, the list is an order
+pub ordered : {N E : Type 0} (s : Seen N E) (joined : IsJoined s) (counts : Pairs ℕ) (found : List Key) → Sorting s counts found (edges_out s.out found) → ((y : Key) → IsLive s.nodes y → get counts y ≡ Some 0) → IsOrder s found
+ordered s joined counts found sorting none =
+    let once = each_once s counts found sorting none in
+    let few = found_once s counts found (edges_out s.out found) sorting in
+    let there : (k : Key) (e : SeenEdge _) → map.get s.edges.live k ≡ Some e → 0 < times e.to found = λ k e found_there. (let is = once e.to ∙ ap (λ b. if b then 1 else 0) (joined.ends k e found_there).1 in omega arith) in
+    record { once = once; forward = sorting.forward; acyclic = no_cycle s.edges.live found sorting.forward few there }

@@ -4,16 +4,26 @@ use Rattle.std.specs.FinMap as map
 use Rattle.slotmap.specs.Words.{Key, IsBeside, IsLive, Pairs, get}
 use Rattle.slotmap_keylist.specs.KeyLists.{times}
 use Rattle.slotmap_graph.specs.Parts.{Seen, SeenEdge, Edges, ByNode, edges_at}
-use Rattle.slotmap_graph.specs.Search.{HasEdge, Leads}
+use Rattle.slotmap_graph.specs.Search.{Leads}
+use Rattle.slotmap_graph.specs.declared.OrderError.{OrderError}
+use Rattle.slotmap_graph.specs.declared.OrderError.TheVariants.{Cycle, Memory}
 
 module _ {E : Type 0} (edges : Edges E) where
   -- each edge that ends at a node of the list begins at one before it
   abbrev pub GoesForward : List Key → Type 0
   GoesForward ks = (k : Key) (e : SeenEdge E) (before after : List Key) → map.get edges k ≡ Some e → ks ≡ before ++ e.to ∷ after → 0 < times e.from before
 
-  -- from the end of an edge a path leads back to its start
+  -- from the end of this edge a path leads back to its start
+  abbrev pub ClosesCycle : Key → Type 0
+  ClosesCycle k = (e : SeenEdge E) × (map.get edges k ≡ Some e) × Leads edges e.to e.from
+
   abbrev pub HasCycle : Type 0
-  HasCycle = (a b : Key) × HasEdge edges a b × Leads edges b a
+  HasCycle = (k : Key) × ClosesCycle k
+
+  -- no order was returned: the edge in the error closes a cycle, or memory ran out
+  abbrev pub RefusesOrder : OrderError → Type 0
+  RefusesOrder (Cycle k) = ClosesCycle k
+  RefusesOrder Memory = Unit {0}
 
 -- the edges that go out of these nodes
 abbrev pub edges_out : ByNode → List Key → List Key
@@ -39,3 +49,11 @@ pub record Counting {N E : Type 0} (s : Seen N E) (counts : Pairs ℕ) (found do
   pub beside : IsBeside s.nodes counts
   pub table : (y : Key) → 0 < times y done → (get counts y ≡ Some (length (edges_at s.into y))) × (times y found ≡ (if nat_eq (length (edges_at s.into y)) 0 then 1 else 0))
   pub others : (y : Key) → times y done ≡ 0 → times y found ≡ 0
+
+-- a node of which edges weren't passed: it wasn't found
+abbrev pub IsLeft : {N E : Type 0} → Seen N E → Pairs ℕ → Key → Type 0
+IsLeft s counts y = IsLive s.nodes y × (n : ℕ) × (get counts y ≡ Some n) × (0 < n)
+
+-- an edge into a node, from one that wasn't found
+abbrev pub ComesFromLeft : {N E : Type 0} → Seen N E → Pairs ℕ → Key → Key → Type 0
+ComesFromLeft {N} {E} s counts y k = (e : SeenEdge E) × (map.get s.edges.live k ≡ Some e) × (e.to ≡ y) × IsLeft s counts e.from

@@ -1,13 +1,14 @@
 //! An order of the nodes in which each edge goes forward.
 
-ghost use Rattle.std.specs.Prelude.{◌≡◌, ◌≢◌, ◌-◌, ◌+◌, ◌<◌, ◌≤◌, ◌++◌, [], ◌∷◌, ℕ, Some, OnOk, IfOk, IfSome, IfNone, true, nat_eq, if◌then◌else◌, length, slice_index_or, take, map as list_map};
+ghost use Rattle.std.specs.Prelude.{◌≡◌, ◌≢◌, ◌-◌, ◌+◌, ◌<◌, ◌≤◌, ◌++◌, [], ◌∷◌, ℕ, List, Some, OnOk, IfOk, IfErr, IfSome, IfNone, true, nat_eq, if◌then◌else◌, length, slice_index_or, take, map as list_map};
 ghost use Rattle.std.specs.FinMap as map;
-ghost use Rattle.slotmap.specs.Words.{Key as KeyOf, IsContent, get, contains_key};
+ghost use Rattle.slotmap.specs.Words.{Key as KeyOf, IsContent, IsLive, get, contains_key};
 ghost use Rattle.slotmap_keylist.specs.KeyLists.{times};
-ghost use Rattle.slotmap_graph.specs.TopologicalOrder.{Counting, GoesForward, HasCycle, Sorting, edges_out};
-ghost use Rattle.slotmap_graph.specs.Parts.{PutsAlone, edges_at};
+ghost use Rattle.slotmap_graph.specs.TopologicalOrder.{ClosesCycle, ComesFromLeft, Counting, GoesForward, HasCycle, IsLeft, RefusesOrder, Sorting, edges_out};
+ghost use Rattle.slotmap_graph.specs.Parts.{IsJoined, PutsAlone, edges_at};
 
-use crate::Graph;
+use crate::search::{mark, none_seen};
+use crate::{EdgeKey, Graph, OrderError};
 use slotmap::{Key, SecondaryMap};
 use slotmap_keylist::outer;
 use std::alloc::{AllocError, Global};
@@ -107,30 +108,84 @@ impl<K: Key, N: Drop, E: Drop> Graph<K, N, E> {
         Ok(())
     }
 
-    /// Returns the nodes in an order in which each edge goes forward, or `None` if there is a cycle.
+    // A node that wasn't found, if there is one.
+    fn first_left(&self, counts: &Counts<K>) -> Option<K>
+        requires { (found : List KeyOf) × Sorting self.now counts.now.pairs found (edges_out self.now.out found) }
+        ensures some { IfSome result (λ node. IsLeft self.now counts.now.pairs (K.data_of node)) }
+        ensures none { IfNone result ((x : KeyOf) → IsLive self.now.nodes x → get counts.now.pairs x ≡ Some 0) }
+    {
+        for node in self.nodes() {
+            if counts[node] > 0 {
+                return Some(node);
+            }
+        }
+        None
+    }
+
+    // The first edge into a node from one that wasn't found. There is one if the node wasn't found.
+    fn edge_from_left(&self, counts: &Counts<K>, node: K) -> Option<EdgeKey>
+        requires joined { IsJoined self.now }
+        requires sorting { (found : List KeyOf) × Sorting self.now counts.now.pairs found (edges_out self.now.out found) }
+        ensures some { IfSome result (λ edge. ComesFromLeft self.now counts.now.pairs (K.data_of node) edge) }
+        ensures none { IfNone result (IsLeft self.now counts.now.pairs (K.data_of node) → ⊥) }
+    {
+        for edge in self.edges_to(node) {
+            if counts[outer(self.source(edge))] > 0 {
+                return Some(edge);
+            }
+        }
+        None
+    }
+
+    // An edge that closes a cycle: back from a node that wasn't found, until one comes again.
+    fn closing_edge(
+        &self,
+        alloc: Global,
+        counts: &Counts<K>,
+        start: K,
+    ) -> Result<EdgeKey, AllocError>
+        requires valid { IsContent true self.now.nodes }
+        requires joined { IsJoined self.now }
+        requires sorting { (found : List KeyOf) × Sorting self.now counts.now.pairs found (edges_out self.now.out found) }
+        requires left { IsLeft self.now counts.now.pairs (K.data_of start) }
+        ensures { IfOk result (ClosesCycle self.now.edges.live) }
+    {
+        let mut seen = none_seen(alloc)?;
+        let mut passed = Vec::new(alloc);
+        let mut node = start;
+        loop {
+            mark(&mut passed, &mut seen, node)?;
+            let edge = self.edge_from_left(counts, node).unwrap();
+            node = outer(self.source(edge));
+            if seen.contains_key(node) {
+                return Ok(edge);
+            }
+        }
+    }
+
+    /// Returns the nodes in an order in which each edge goes forward.
     ///
-    /// It takes time linear in the number of slots of nodes and of edges. It fails only if memory runs
-    /// out.
+    /// It takes time linear in the number of slots of nodes and of edges. It fails with `Cycle` if
+    /// there is no such order. The error holds an edge from whose end a path leads back to its start.
+    /// It fails with `Memory` if memory runs out.
     ///
     /// ```
     /// let mut graph: Graph<NodeKey, &str, u64> = Graph::new(alloc)?;
     /// let a = graph.add_node("a")?;
     /// let b = graph.add_node("b")?;
-    /// let edge = graph.add_edge(b, a, 5)?;
-    /// if let Some(order) = graph.topological_order(alloc)? {
-    ///     assert_eq!(rt; order.as_slice(), [b, a].as_slice());
-    /// }
-    /// graph.add_edge(a, b, 6)?;
-    /// assert!(rt; graph.topological_order(alloc)?.is_none());
+    /// graph.add_edge(b, a, 5)?;
+    /// assert_eq!(rt; graph.topological_order(alloc)?.as_slice(), [b, a].as_slice());
+    ///
+    /// let own = graph.add_edge(a, a, 6)?;
+    /// assert_eq!(rt; graph.topological_order(alloc).err(), Some(OrderError::Cycle(own)));
     /// ```
-    pub fn topological_order(&self, alloc: Global) -> Result<Option<Vec<K>>, AllocError>
-        ensures once { IfOk result (λ answer. IfSome answer (λ found. (x : KeyOf) → times x (list_map K.data_of found.items) ≡ (if map.contains_key self.now.nodes.live x then 1 else 0))) }
-        ensures forward { IfOk result (λ answer. IfSome answer (λ found. GoesForward self.now.edges.live (list_map K.data_of found.items))) }
-        ensures acyclic { IfOk result (λ answer. IfSome answer (λ found. HasCycle self.now.edges.live → ⊥)) }
-        ensures cycle { IfOk result (λ answer. IfNone answer (HasCycle self.now.edges.live)) }
+    pub fn topological_order(&self, alloc: Global) -> Result<Vec<K>, OrderError>
+        ensures once { IfOk result (λ found. (x : KeyOf) → times x (list_map K.data_of found.items) ≡ (if map.contains_key self.now.nodes.live x then 1 else 0)) }
+        ensures forward { IfOk result (λ found. GoesForward self.now.edges.live (list_map K.data_of found.items)) }
+        ensures acyclic { IfOk result (λ found. HasCycle self.now.edges.live → ⊥) }
+        ensures err { IfErr result (RefusesOrder self.now.edges.live) }
     {
-        let many = self.nodes.len();
-        let mut found = Vec::new(alloc);
+        let mut found = Vec::with_capacity(alloc, self.nodes.len())?;
         let mut counts = no_counts(alloc)?;
         self.count_all(&mut found, &mut counts)?;
         let mut at = 0;
@@ -139,10 +194,9 @@ impl<K: Key, N: Drop, E: Drop> Graph<K, N, E> {
             self.pass_edges(&mut found, &mut counts, at, node)?;
             at += 1;
         }
-        if found.len() == many {
-            Ok(Some(found))
-        } else {
-            Ok(None)
+        match self.first_left(&counts) {
+            None => Ok(found),
+            Some(node) => Err(OrderError::Cycle(self.closing_edge(alloc, &counts, node)?)),
         }
     }
 }

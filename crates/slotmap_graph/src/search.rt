@@ -5,7 +5,7 @@ ghost use Rattle.std.specs.List.{find, fold};
 ghost use Rattle.std.specs.FinMap as map;
 ghost use Rattle.slotmap.specs.Words.{Key as KeyOf, IsBeside, IsContent, IsLive, get, contains_key};
 ghost use Rattle.slotmap_keylist.specs.KeyLists.{times};
-ghost use Rattle.slotmap_graph.specs.Parts.{IsJoined, PutsAlone, edges_at, to};
+ghost use Rattle.slotmap_graph.specs.Parts.{IsJoined, PutsAlone, edges_at, from, to};
 ghost use Rattle.slotmap_graph.specs.Search.{AreSeen, Finds, HasNext, IsBreadthFirst, Leads, ends_along, goes_to, marked};
 
 use crate::{EdgeKey, Graph};
@@ -14,10 +14,10 @@ use slotmap_keylist::{inner, outer};
 use std::alloc::{AllocError, Global};
 
 // The nodes that were found.
-type Seen<K> = SecondaryMap<K, ()>;
+pub(crate) type Seen<K> = SecondaryMap<K, ()>;
 
 // No node was found yet.
-fn none_seen<K: Key>(alloc: Global) -> Result<Seen<K>, AllocError>
+pub(crate) fn none_seen<K: Key>(alloc: Global) -> Result<Seen<K>, AllocError>
     ensures { IfOk result (λ seen. seen.pairs ≡ map.empty) }
 {
     match SecondaryMap::new(alloc) {
@@ -27,7 +27,11 @@ fn none_seen<K: Key>(alloc: Global) -> Result<Seen<K>, AllocError>
 }
 
 // Adds a node to those that were found, unless it is among them.
-fn mark<K: Key>(found: &mut Vec<K>, seen: &mut Seen<K>, node: K) -> Result<(), AllocError>
+pub(crate) fn mark<K: Key>(
+    found: &mut Vec<K>,
+    seen: &mut Seen<K>,
+    node: K,
+) -> Result<(), AllocError>
     requires alone { PutsAlone seen.old.pairs (K.data_of node) }
     requires listed { AreSeen seen.old.pairs (list_map K.data_of found.old.items) }
     ensures listed { OnOk result (AreSeen seen.new.pairs (list_map K.data_of found.new.items)) }
@@ -46,6 +50,15 @@ fn mark<K: Key>(found: &mut Vec<K>, seen: &mut Seen<K>, node: K) -> Result<(), A
 }
 
 impl<K: Key, N: Drop, E: Drop> Graph<K, N, E> {
+    // The node where an edge begins.
+    pub(crate) fn source(&self, edge: EdgeKey) -> DefaultKey
+        requires { IsLive self.now.edges edge }
+        ensures begins { option_map from (map.get self.now.edges.live edge) ≡ Some result }
+        ensures live { IsLive self.now.nodes result }
+    {
+        self.edges[edge].from
+    }
+
     // The node where an edge ends.
     pub(crate) fn target(&self, edge: EdgeKey) -> DefaultKey
         requires { IsLive self.now.edges edge }

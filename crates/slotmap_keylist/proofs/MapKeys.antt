@@ -1,4 +1,4 @@
--- The keys of a finite map, each once, and which lists have all of them.
+-- The keys of a finite map, each once.
 use Rattle.std.proofs.Common.{◌≡◌, ◌≢◌, ◌-◌, ◌<◌, ◌≤◌, ◌⊎◌, Bool, true, false, T, List, [], ◌∷◌, length, map as list_map, if◌then◌else◌, is_some, is_lt, ◌&&◌, ◌||◌, refl, sym, ap, ◌∙◌, inl, inr, arith}
 use Rattle.std.specs.FinMap as map
 use Rattle.std.specs.List.{list_any}
@@ -69,41 +69,3 @@ module _ {V : Type 0} (live : map.FinMap key_cmp V) where
 
   pub keys_once : (q : Key) → times q (map.keys live) ≤ 1
   keys_once = sorted_once (map.entries live) (T-true (is_sorted key_cmp (map.entries live)) (map.entries_sorted live))
-
--- as many keys as there are, each of them live, are all of them
-pub covers : {V : Type 0} (live : map.FinMap key_cmp V) (ks : List Key) → ((x : Key) → map.contains_key live x ≡ true → 0 < times x ks) → map.len live ≤ length ks
-covers {V} live [] all = let none = none_found live (λ k v there. absurd (let more = all k (ap is_some there) in omega arith)) in let zero_len = ap map.len none ∙ map.len-empty key_cmp V in omega arith
-covers live (k ∷ ks) all =
-    let rest = covers (map.remove live k) ks (λ x there. (elim (same_or_other x k) [
-      | inl is ↦ absurd (let gone : map.contains_key (map.remove live k) k ≡ false = grind (arith, keys) in let f = ap (map.contains_key (map.remove live k)) is in cc)
-      | inr other ↦ (let still : map.contains_key live x ≡ true = grind (arith, keys) in
-          let more = all x still in let first = times_first x k ks in let no = one_other k x (λ s. other (sym s)) in omega arith)
-    ])) in
-    elim (map.contains_key live k) as (λ b. map.contains_key live k ≡ b → map.len live ≤ length (k ∷ ks)) [
-      | true ↦ λ there. (let less = len_removed keys_total exact_keys live k there in omega arith)
-      | false ↦ λ gone. (let same_len : map.len (map.remove live k) ≡ map.len live = map.len-remove keys_total live k ∙ ap (λ b. if b then map.len live - 1 else map.len live) gone in omega arith)
-    ] refl
-
-pub all_there : {V : Type 0} (live : map.FinMap key_cmp V) (ks : List Key) → ((x : Key) → times x ks ≤ 1) → ((x : Key) → 0 < times x ks → map.contains_key live x ≡ true) → length ks ≡ map.len live
-    → (x : Key) → map.contains_key live x ≡ true → 0 < times x ks
-all_there live ks once there many x x_live = elim (eq-zero-or-pos (times x ks)) [
-  | inl none ↦ absurd (
-      let few = no_more_than ks (map.remove live x) once (λ q more. live-remove_other live x q (λ is. (let gone = ap (λ k. times k ks) is ∙ none in omega arith)) (there q more)) in
-      let less = len_removed keys_total exact_keys live x x_live in
-      omega arith)
-  | inr more ↦ more
-]
-
--- one of these keys isn't in a list, or all are
-pub find_missing : (ks found : List Key) → ((k : Key) × (0 < times k ks) × (times k found ≡ 0)) ⊎ ((k : Key) → 0 < times k ks → 0 < times k found)
-find_missing [] found = inr (λ k more. absurd (omega arith))
-find_missing (k ∷ ks) found = elim (eq-zero-or-pos (times k found)) [
-  | inl none ↦ inl (k, (let first = times_first k k ks in let one = one_itself k in omega arith), none)
-  | inr there ↦ elim (find_missing ks found) [
-    | inl some ↦ inl (some.0, (let first = times_first some.0 k ks in let more = some.1 in omega arith), some.2)
-    | inr all ↦ inr (λ q more. (elim (same_or_other k q) [
-      | inl is ↦ rw (← is) there
-      | inr other ↦ all q (let first = times_first q k ks in let no = one_other k q other in omega arith)
-    ]))
-  ]
-]

@@ -1,7 +1,7 @@
 //! Calls on their happy path, in short functions.
 
 use slotmap::NodeKey;
-use slotmap_graph::{EdgeKey, Graph};
+use slotmap_graph::{EdgeKey, Graph, OrderError};
 use std::alloc::Global;
 use std::test::Fail;
 
@@ -60,13 +60,25 @@ fn walks(rt: HostRuntime) -> Result<(), Fail> {
 #[test]
 fn orders(rt: HostRuntime) -> Result<(), Fail> {
     let alloc = rt.alloc();
-    let (mut graph, a, b, _) = pair(alloc)?;
-    assert!(rt; graph.topological_order(alloc)?.is_some());
-    if let Some(order) = graph.topological_order(alloc)? {
-        assert_eq!(rt; order.as_slice(), [a, b].as_slice());
-    }
-    graph.add_edge(b, a, 6)?;
-    assert!(rt; graph.topological_order(alloc)?.is_none());
+    let (mut graph, a, b, edge) = pair(alloc)?;
+    assert_eq!(rt; graph.topological_order(alloc)?.as_slice(), [a, b].as_slice());
+    let back = graph.add_edge(b, a, 6)?;
+    let closing = graph.topological_order(alloc).err();
+    assert!(rt; closing == Some(OrderError::Cycle(edge)) || closing == Some(OrderError::Cycle(back)));
+    Ok(())
+}
+
+#[test]
+fn a_node_behind_a_cycle(rt: HostRuntime) -> Result<(), Fail> {
+    let alloc = rt.alloc();
+    let mut graph: Graph<NodeKey, u64, u64> = Graph::new(alloc)?;
+    let behind = graph.add_node(1)?;
+    let a = graph.add_node(2)?;
+    let own = graph.add_edge(a, a, 3)?;
+    graph.add_edge(a, behind, 4)?;
+    assert_eq!(rt; graph.topological_order(alloc).err(), Some(OrderError::Cycle(own)));
+    graph.remove_edge(own);
+    assert_eq!(rt; graph.topological_order(alloc)?.as_slice(), [a, behind].as_slice());
     Ok(())
 }
 

@@ -1,5 +1,5 @@
 use Rattle.std.proofs.Common.{◌∙◌}
-use Rattle.slotmap_graph.proofs.Common.{refl, sym, ap, find, goes_to}
+use Rattle.slotmap_graph.proofs.Common.{refl, sym, ap, find, goes_to, from}
 use Rattle.slotmap_graph.proofs.Followed.{found_first, next_live, not_found, walked, walked_on}
 use Rattle.slotmap_graph.proofs.Graph.find_edge.Goals as goal
 
@@ -13,7 +13,7 @@ loop-edge-init g c = record {
 
 pub target-requires : goal.target-requires
 target-requires g c =
-    next_live c.args.self.now.edges.live (g.K.Key.data_of c.args.from) _ (rw c.edges_from-edge-items.ensures.in_order at c.edges_from-edge-items.ensures.listed)
+    next_live from c.args.self.now.edges.live (g.K.Key.data_of c.args.from) _ (rw c.edges_from-edge-items.ensures.in_order at c.edges_from-edge-items.ensures.listed)
     c.loop-edge.yielded c.loop-edge.edge-iterator c.next.new.self c.in-Some.edge c.loop-edge.invariant.walked c.in-Some.ensures.steps
 
 pub returns-then-eq : goal.returns-then-eq

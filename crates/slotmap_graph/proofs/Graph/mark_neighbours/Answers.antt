@@ -1,5 +1,5 @@
 use Rattle.std.proofs.Common.{◌∙◌}
-use Rattle.slotmap_graph.proofs.Common.{refl, sym, ap, list_map, fold, to, ends_along, marked}
+use Rattle.slotmap_graph.proofs.Common.{refl, sym, ap, list_map, fold, to, ends_along, marked, from}
 use Rattle.slotmap_graph.proofs.GraphSteps.{puts_alone}
 use Rattle.slotmap_graph.proofs.Followed.{goes_on, marks_step, next_joins, next_live, one_more, walked, walked_on}
 use Rattle.slotmap_graph.proofs.Searches.{finds_start, finds_step, pending_start, pending_step, pending_end, marked_keeps}
@@ -17,7 +17,7 @@ loop-edge-init g c = record {
 
 pub target-requires : goal.target-requires
 target-requires g c =
-    next_live c.args.self.now.edges.live (g.K.Key.data_of c.args.node) _ (rw c.edges_from-edge-items.ensures.in_order at c.edges_from-edge-items.ensures.listed)
+    next_live from c.args.self.now.edges.live (g.K.Key.data_of c.args.node) _ (rw c.edges_from-edge-items.ensures.in_order at c.edges_from-edge-items.ensures.listed)
     c.loop-edge.yielded c.loop-edge.edge-iterator c.next.new.self c.in-Some.edge c.loop-edge.invariant.walked c.in-Some.ensures.steps
 
 pub mark-requires-clause-alone : goal.mark-requires-clause-alone

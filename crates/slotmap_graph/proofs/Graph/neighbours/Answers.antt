@@ -1,5 +1,5 @@
 use Rattle.std.proofs.Common.{◌∷◌, ◌++◌, ◌∙◌}
-use Rattle.slotmap_graph.proofs.Common.{[], sym, ap, list_map, map-append, to, ends_along}
+use Rattle.slotmap_graph.proofs.Common.{[], sym, ap, list_map, map-append, to, ends_along, from}
 use Rattle.slotmap_graph.proofs.Followed.{next_live, one_more, walked, walked_on}
 use Rattle.slotmap_graph.proofs.Graph.neighbours.Goals as goal
 
@@ -13,7 +13,7 @@ loop-edge-init g c = record {
 
 pub target-requires : goal.target-requires
 target-requires g c =
-    next_live c.args.self.now.edges.live (g.K.Key.data_of c.args.node) _ (rw c.edges_from-edge-items.ensures.in_order at c.edges_from-edge-items.ensures.listed)
+    next_live from c.args.self.now.edges.live (g.K.Key.data_of c.args.node) _ (rw c.edges_from-edge-items.ensures.in_order at c.edges_from-edge-items.ensures.listed)
     c.loop-edge.yielded c.loop-edge.edge-iterator c.next.new.self c.in-Some.edge c.loop-edge.invariant.walked c.in-Some.ensures.steps
 
 pub loop-edge-preserved : goal.loop-edge-preserved

@@ -1,5 +1,5 @@
 use Rattle.std.proofs.Common.{◌∙◌}
-use Rattle.slotmap_graph.proofs.Common.{[], sym, append-nil, list_map}
+use Rattle.slotmap_graph.proofs.Common.{[], sym, append-nil, list_map, from}
 use Rattle.slotmap_graph.proofs.Followed.{next_live, walked, walked_on}
 use Rattle.slotmap_graph.proofs.TopologicalOrders.{found_once, next_can_pass, next_passed, pass_end}
 use Rattle.slotmap_graph.proofs.Graph.pass_edges.Goals as goal
@@ -15,7 +15,7 @@ loop-edge-init g c = record {
 
 pub target-requires : goal.target-requires
 target-requires g c =
-    next_live c.args.self.now.edges.live (g.K.Key.data_of c.args.node) _ (rw c.edges_from-edge-items.ensures.in_order at c.edges_from-edge-items.ensures.listed)
+    next_live from c.args.self.now.edges.live (g.K.Key.data_of c.args.node) _ (rw c.edges_from-edge-items.ensures.in_order at c.edges_from-edge-items.ensures.listed)
     c.loop-edge.yielded c.loop-edge.edge-iterator c.next.new.self c.in-Some.edge c.loop-edge.invariant.walked c.in-Some.ensures.steps
 
 pub pass-requires : goal.pass-requires

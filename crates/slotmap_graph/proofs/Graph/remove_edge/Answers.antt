@@ -1,5 +1,7 @@
 use Rattle.std.proofs.Common.{◌≡◌}
-use Rattle.slotmap_graph.proofs.Common.{refl, ap, arith, times, map_values, Out, Into, from, to, listed, seen_edge, keys, mapped}
+use Rattle.slotmap_graph.proofs.Common.{refl, ap, arith, times, map_values, Out, Into, listed, seen_edge, keys, mapped, Direction, end, Some}
+use Rattle.slotmap_graph.proofs.Common.{SeenEdge}
+use Rattle.std.specs.FinMap as map
 use Rattle.slotmap_graph.proofs.Adjacent.{edge_listed}
 use Rattle.slotmap_graph.proofs.GraphSteps.{IsCut, edge_cut, lacks, no_ends_found, ends_found, turned_threads, turned_listed}
 use Rattle.slotmap_graph.proofs.Threaded.{threads}
@@ -20,7 +22,9 @@ seen g c = ends_found _ (g.K.Key.data_of c.in_ok-from.from) (g.K.Key.data_of c.i
 -- it is in a list of each of its nodes
 at_end : (g : _) (c : In_ok-from g) (d : Direction)
     → times c.args.edge (listed d c.self.inside.nodes.live c.self.inside.edges.live (end d (record { from = g.K.Key.data_of c.in_ok-from.from; to = g.K.Key.data_of c.in_ok-from.to; value = (seen g c).0 }))) ≡ 1
-at_end g c d = edge_listed (end d) (map_values seen_edge c.self.inside.edges.live) _ _ (c.self.invariant.lists d _) c.args.edge _ (seen g c).1 refl
+at_end g c d =
+    let e : SeenEdge g.row.E.Denot = record { from = g.K.Key.data_of c.in_ok-from.from; to = g.K.Key.data_of c.in_ok-from.to; value = (seen g c).0 } in
+    edge_listed (end d) (map_values seen_edge c.self.inside.edges.live) (end d e) (listed d c.self.inside.nodes.live c.self.inside.edges.live (end d e)) (c.self.invariant.lists d (end d e)) c.args.edge e (seen g c).1 refl
 
 pub unlink-requires-clause-threaded : goal.unlink-requires-clause-threaded
 unlink-requires-clause-threaded g c = threads _ _ c.self.invariant Out
@@ -40,7 +44,9 @@ unlink-requires-2-clause-listed g c =
 
 -- it was taken out of both lists, and is gone
 cut : (g : _) (c : In_ok-remove g) → IsCut c.self.inside.nodes c.self.inside.edges c.args.edge c.unlink-2.new.nodes c.remove.new.self
-cut g c = edge_cut c.self.inside.nodes c.unlink.new.nodes c.unlink-2.new.nodes c.self.inside.edges c.unlink.new.edges c.unlink-2.new.edges c.remove.new.self c.self.invariant c.args.edge _ (seen g c.In_ok-from).1
+cut g c =
+    let found = ends_found _ (g.K.Key.data_of c.in_ok-from.from) (g.K.Key.data_of c.in_ok-from.to) (rw (← c.self.view_is) at c.in_ok-from.ensures.ends) in
+    edge_cut c.self.inside.nodes c.unlink.new.nodes c.unlink-2.new.nodes c.self.inside.edges c.unlink.new.edges c.unlink-2.new.edges c.remove.new.self c.self.invariant c.args.edge _ found.1
     c.unlink.ensures c.unlink-2.ensures c.remove.ensures.valid.before c.in_ok-remove.ensures.removes
 
 pub invariant_of-self-2 : goal.invariant_of-self-2

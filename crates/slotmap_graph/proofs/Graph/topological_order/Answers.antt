@@ -1,13 +1,13 @@
-use Rattle.std.proofs.Common.{◌≡◌, ◌<◌, ◌≤◌, ◌∙◌}
-use Rattle.slotmap_graph.proofs.Common.{length, true, sym, ap, arith, list_map, get_or-map, length-map, content-mapped, len-mapped, IsJoined, node_value}
-use Rattle.std.specs.FinMap as map
+use Rattle.std.proofs.Common.{◌≡◌, ◌<◌, ◌∙◌}
+use Rattle.slotmap_graph.proofs.Common.{length, true, sym, ap, arith, list_map, get_or-map, length-map, content-mapped, IsJoined, Sorting, edges_out}
+use Rattle.slotmap_graph.proofs.Common.{node_value}
 use Rattle.slotmap_graph.proofs.GraphSteps.{graph_joined}
-use Rattle.slotmap_graph.proofs.TopologicalOrders.{IsOrder, cyclic, found_fits, ordered, sorting_start}
-use Rattle.slotmap_graph.proofs.Graph.topological_order.Goals.{Then-len-many}
+use Rattle.slotmap_graph.proofs.TopologicalOrders.{IsOrder, ended, found_fits, ordered, sorting_start}
+use Rattle.slotmap_graph.proofs.Graph.topological_order.Goals.{After-loop-at, In-None}
 use Rattle.slotmap_graph.proofs.Graph.topological_order.Goals as goal
 
 pub count_all-requires-clause-valid : goal.count_all-requires-clause-valid
-count_all-requires-clause-valid g c = rw (← c.self.view_is) (content-mapped node_value c.self.inside.nodes true c.len-many.ensures.valid)
+count_all-requires-clause-valid g c = rw (← c.self.view_is) (content-mapped node_value c.self.inside.nodes true c.len.ensures.valid)
 
 pub loop-at-init : goal.loop-at-init
 loop-at-init g c =
@@ -31,31 +31,35 @@ loop-at-smaller g c =
     let long : length keys ≡ length c.loop-at.found.items = length-map c.loop-at.found.items g.K.Key.data_of in
     omega (arith, c.loop-at.found.ok.0, fits, long)
 
--- the list has all nodes
-order : (g : _) (c : Then-len-many g) → IsOrder c.args.self.now (list_map g.K.Key.data_of c.loop-at.found.items)
+-- all edges of the nodes in the list were passed
+sorted : (g : _) (c : After-loop-at g) → Sorting c.args.self.now c.loop-at.counts.pairs (list_map g.K.Key.data_of c.loop-at.found.items) (edges_out c.args.self.now.out (list_map g.K.Key.data_of c.loop-at.found.items))
+sorted g c =
+    let long = length-map c.loop-at.found.items g.K.Key.data_of in
+    ended c.args.self.now c.loop-at.counts.pairs _ c.loop-at.at (omega (arith, c.loop-at.found.ok.0, long)) c.loop-at.invariant
+
+pub first_left-requires : goal.first_left-requires
+first_left-requires g c = (list_map g.K.Key.data_of c.loop-at.found.items, sorted g (goal.at.first_left-requires g c).After-loop-at)
+
+order : (g : _) (c : In-None g) → IsOrder c.args.self.now (list_map g.K.Key.data_of c.loop-at.found.items)
 order g c =
     let joined : IsJoined c.args.self.now = rw (← c.self.view_is) (graph_joined _ _ c.self.invariant) in
-    let keys = list_map g.K.Key.data_of c.loop-at.found.items in
-    let long : length keys ≡ length c.loop-at.found.items = length-map c.loop-at.found.items g.K.Key.data_of in
-    let past : length keys ≤ c.loop-at.at = omega (arith, c.loop-at.found.ok.0, long) in
-    let count : c.len-many.result ≡ map.len c.args.self.now.nodes.live = c.len-many.ensures.value ∙ sym (len-mapped node_value c.self.inside.nodes.live) ∙ ap (λ s. map.len s.nodes.live) c.self.view_is in
-    let many : length keys ≡ map.len c.args.self.now.nodes.live = (let all = c.if-len-many.true in omega (arith, c.loop-at.found.ok.0, long, count)) in
-    ordered c.args.self.now joined c.loop-at.counts.pairs keys c.loop-at.at past c.loop-at.invariant many
+    let long = length-map c.loop-at.found.items g.K.Key.data_of in
+    ordered c.args.self.now joined c.loop-at.counts.pairs _ (ended c.args.self.now c.loop-at.counts.pairs _ c.loop-at.at (omega (arith, c.loop-at.found.ok.0, long)) c.loop-at.invariant) c.in-None.ensures.none
 
-pub returns-then-len-many-clause-once : goal.returns-then-len-many-clause-once
-returns-then-len-many-clause-once g c = (order g (goal.at.returns-then-len-many-clause-once g c).Then-len-many).once
+pub returns-in-None-clause-once : goal.returns-in-None-clause-once
+returns-in-None-clause-once g c = (order g (goal.at.returns-in-None-clause-once g c).In-None).once
 
-pub returns-then-len-many-clause-forward : goal.returns-then-len-many-clause-forward
-returns-then-len-many-clause-forward g c = (order g (goal.at.returns-then-len-many-clause-forward g c).Then-len-many).forward
+pub returns-in-None-clause-forward : goal.returns-in-None-clause-forward
+returns-in-None-clause-forward g c = (order g (goal.at.returns-in-None-clause-forward g c).In-None).forward
 
-pub returns-then-len-many-clause-acyclic : goal.returns-then-len-many-clause-acyclic
-returns-then-len-many-clause-acyclic g c = (order g (goal.at.returns-then-len-many-clause-acyclic g c).Then-len-many).acyclic
+pub returns-in-None-clause-acyclic : goal.returns-in-None-clause-acyclic
+returns-in-None-clause-acyclic g c = (order g (goal.at.returns-in-None-clause-acyclic g c).In-None).acyclic
 
-pub returns-else-len-many-clause-cycle : goal.returns-else-len-many-clause-cycle
-returns-else-len-many-clause-cycle g c =
-    let joined : IsJoined c.args.self.now = rw (← c.self.view_is) (graph_joined _ _ c.self.invariant) in
-    let keys = list_map g.K.Key.data_of c.loop-at.found.items in
-    let long : length keys ≡ length c.loop-at.found.items = length-map c.loop-at.found.items g.K.Key.data_of in
-    let past : length keys ≤ c.loop-at.at = omega (arith, c.loop-at.found.ok.0, long) in
-    let count : c.len-many.result ≡ map.len c.args.self.now.nodes.live = c.len-many.ensures.value ∙ sym (len-mapped node_value c.self.inside.nodes.live) ∙ ap (λ s. map.len s.nodes.live) c.self.view_is in
-    cyclic c.args.self.now joined c.loop-at.counts.pairs keys c.loop-at.at past c.loop-at.invariant (λ many. c.if-len-many.false (omega (arith, c.loop-at.found.ok.0, long, count, many)))
+pub closing_edge-requires-clause-valid : goal.closing_edge-requires-clause-valid
+closing_edge-requires-clause-valid g c = rw (← c.self.view_is) (content-mapped node_value c.self.inside.nodes true c.len.ensures.valid)
+
+pub closing_edge-requires-clause-sorting : goal.closing_edge-requires-clause-sorting
+closing_edge-requires-clause-sorting g c = (list_map g.K.Key.data_of c.loop-at.found.items, sorted g (goal.at.closing_edge-requires-clause-sorting g c).After-loop-at)
+
+pub closing_edge-requires-clause-joined : goal.closing_edge-requires-clause-joined
+closing_edge-requires-clause-joined g c = rw (← c.self.view_is) (graph_joined _ _ c.self.invariant)

@@ -4,8 +4,8 @@ use Rattle.slotmap_scheduler.proofs.HeapPlaces.{in_heap}
 use Rattle.slotmap_scheduler.proofs.Indexed.{indexed_settled, turned_placed, turned_but, turned_len, same_job}
 use Rattle.slotmap_scheduler.proofs.heap.set_turn.Goals as goal
 
-pub index_mut-requires-2 : goal.index_mut-requires-2
-index_mut-requires-2 g c = in_heap c.args.jobs.now c.args.heap.now c.requires.indexed.placed c.args.handle c.index_mut-job.result.now c.index_mut-job.ensures.value
+pub index_mut-requires : goal.index_mut-requires
+index_mut-requires g c = in_heap c.args.jobs.now c.args.heap.now c.requires.indexed.placed c.args.handle c.index_mut-job.result.now c.index_mut-job.ensures.value
 
 pub settle-requires : goal.settle-requires
 settle-requires g c =

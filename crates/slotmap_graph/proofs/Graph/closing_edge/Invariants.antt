@@ -1,0 +1,11 @@
+use Rattle.std.proofs.Common.{◌-◌}
+use Rattle.slotmap_graph.proofs.Common.{length, list_map}
+use Rattle.std.specs.FinMap as map
+use Rattle.slotmap_graph.proofs.Cycles.{GoesBack}
+use Rattle.slotmap_graph.proofs.Graph.closing_edge.Given as goal
+
+abbrev pub invariant-loop-passed : goal.invariant-loop-passed
+invariant-loop-passed g l = GoesBack l.self l.counts.pairs l.seen.pairs (list_map g.K.Key.data_of l.passed.items) (g.K.Key.data_of l.node)
+
+abbrev pub decreases-loop-passed : goal.decreases-loop-passed
+decreases-loop-passed g l = map.len l.self.nodes.live - length l.passed.items
