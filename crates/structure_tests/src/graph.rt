@@ -37,48 +37,88 @@ fn lists(rt: HostRuntime) -> Result<(), Fail> {
 fn searches(rt: HostRuntime) -> Result<(), Fail> {
     let alloc = rt.alloc();
     let (graph, a, b, _) = pair(alloc)?;
-    assert_eq!(rt; graph.neighbours(alloc, a)?.as_slice(), [b].as_slice());
     assert_eq!(rt; graph.reachable(alloc, a)?.as_slice(), [a, b].as_slice());
     Ok(())
 }
 
 #[test]
-fn walks(rt: HostRuntime) -> Result<(), Fail> {
-    let (mut graph, a, b, first) = pair(rt.alloc())?;
+fn lists_neighbours(rt: HostRuntime) -> Result<(), Fail> {
+    let alloc = rt.alloc();
+    let (graph, a, b, _) = pair(alloc)?;
+    assert_eq!(rt; graph.neighbours(alloc, a)?.as_slice(), [b].as_slice());
+    Ok(())
+}
+
+// The same nodes, with two other edges in place of the first one.
+fn replaced(alloc: Global) -> Result<(Graph<NodeKey, u64, u64>, NodeKey, EdgeKey, EdgeKey), Fail> {
+    let (mut graph, a, b, first) = pair(alloc)?;
     let second = graph.add_edge(a, b, 6)?;
     graph.remove_edge(first);
     let third = graph.add_edge(a, b, 7)?;
+    Ok((graph, b, second, third))
+}
+
+#[test]
+fn walks(rt: HostRuntime) -> Result<(), Fail> {
+    let (graph, b, second, third) = replaced(rt.alloc())?;
     let mut edges = graph.edges_to(b);
-    assert_eq!(rt; edges.len(), 2);
     assert_eq!(rt; edges.next_back(), Some(third));
-    assert_eq!(rt; edges.clone()?.next(), Some(second));
     assert_eq!(rt; edges.next(), Some(second));
     assert_eq!(rt; edges.next_back(), None);
     Ok(())
 }
 
 #[test]
-fn orders(rt: HostRuntime) -> Result<(), Fail> {
-    let alloc = rt.alloc();
-    let (mut graph, a, b, edge) = pair(alloc)?;
-    assert_eq!(rt; graph.topological_order(alloc)?.as_slice(), [a, b].as_slice());
-    let back = graph.add_edge(b, a, 6)?;
-    let closing = graph.topological_order(alloc).err();
-    assert!(rt; closing == Some(OrderError::Cycle(edge)) || closing == Some(OrderError::Cycle(back)));
+fn copies_a_walk(rt: HostRuntime) -> Result<(), Fail> {
+    let (graph, b, second, _) = replaced(rt.alloc())?;
+    let edges = graph.edges_to(b);
+    assert_eq!(rt; edges.len(), 2);
+    assert_eq!(rt; edges.clone()?.next(), Some(second));
     Ok(())
 }
 
 #[test]
-fn a_node_behind_a_cycle(rt: HostRuntime) -> Result<(), Fail> {
+fn orders(rt: HostRuntime) -> Result<(), Fail> {
     let alloc = rt.alloc();
-    let mut graph: Graph<NodeKey, u64, u64> = Graph::new(alloc)?;
+    let (graph, a, b, _) = pair(alloc)?;
+    assert_eq!(rt; graph.topological_order(alloc)?.as_slice(), [a, b].as_slice());
+    Ok(())
+}
+
+// A node with an edge to itself, and before it in the map a node to which an edge leads from it.
+fn looped(alloc: Global) -> Result<(Graph<NodeKey, u64, u64>, NodeKey, NodeKey, EdgeKey), Fail> {
+    let mut graph = Graph::with_capacity_and_key(alloc, 2, 2)?;
     let behind = graph.add_node(1)?;
     let a = graph.add_node(2)?;
     let own = graph.add_edge(a, a, 3)?;
     graph.add_edge(a, behind, 4)?;
+    Ok((graph, behind, a, own))
+}
+
+#[test]
+fn finds_the_cycle(rt: HostRuntime) -> Result<(), Fail> {
+    let alloc = rt.alloc();
+    let (graph, _, _, own) = looped(alloc)?;
     assert_eq!(rt; graph.topological_order(alloc).err(), Some(OrderError::Cycle(own)));
+    Ok(())
+}
+
+#[test]
+fn orders_without_the_cycle(rt: HostRuntime) -> Result<(), Fail> {
+    let alloc = rt.alloc();
+    let (mut graph, behind, a, own) = looped(alloc)?;
     graph.remove_edge(own);
     assert_eq!(rt; graph.topological_order(alloc)?.as_slice(), [a, behind].as_slice());
+    Ok(())
+}
+
+#[test]
+fn finds_a_longer_cycle(rt: HostRuntime) -> Result<(), Fail> {
+    let alloc = rt.alloc();
+    let (mut graph, a, b, edge) = pair(alloc)?;
+    let back = graph.add_edge(b, a, 6)?;
+    let closing = graph.topological_order(alloc).err();
+    assert!(rt; closing == Some(OrderError::Cycle(edge)) || closing == Some(OrderError::Cycle(back)));
     Ok(())
 }
 
