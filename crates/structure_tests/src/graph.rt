@@ -81,7 +81,10 @@ fn copies_a_walk(rt: HostRuntime) -> Result<(), Fail> {
 fn orders(rt: HostRuntime) -> Result<(), Fail> {
     let alloc = rt.alloc();
     let (graph, a, b, _) = pair(alloc)?;
-    assert_eq!(rt; graph.topological_order(alloc)?.as_slice(), [a, b].as_slice());
+    assert_eq!(rt;
+        graph.topological_order(alloc)?.as_slice(),
+        [a, b].as_slice()
+    );
     Ok(())
 }
 
@@ -99,7 +102,10 @@ fn looped(alloc: Global) -> Result<(Graph<NodeKey, u64, u64>, NodeKey, NodeKey, 
 fn finds_the_cycle(rt: HostRuntime) -> Result<(), Fail> {
     let alloc = rt.alloc();
     let (graph, _, _, own) = looped(alloc)?;
-    assert_eq!(rt; graph.topological_order(alloc).err(), Some(OrderError::Cycle(own)));
+    assert_eq!(rt;
+        graph.topological_order(alloc).err(),
+        Some(OrderError::Cycle(own))
+    );
     Ok(())
 }
 
@@ -108,7 +114,10 @@ fn orders_without_the_cycle(rt: HostRuntime) -> Result<(), Fail> {
     let alloc = rt.alloc();
     let (mut graph, behind, a, own) = looped(alloc)?;
     graph.remove_edge(own);
-    assert_eq!(rt; graph.topological_order(alloc)?.as_slice(), [a, behind].as_slice());
+    assert_eq!(rt;
+        graph.topological_order(alloc)?.as_slice(),
+        [a, behind].as_slice()
+    );
     Ok(())
 }
 
@@ -118,7 +127,9 @@ fn finds_a_longer_cycle(rt: HostRuntime) -> Result<(), Fail> {
     let (mut graph, a, b, edge) = pair(alloc)?;
     let back = graph.add_edge(b, a, 6)?;
     let closing = graph.topological_order(alloc).err();
-    assert!(rt; closing == Some(OrderError::Cycle(edge)) || closing == Some(OrderError::Cycle(back)));
+    assert!(rt;
+        closing == Some(OrderError::Cycle(edge)) || closing == Some(OrderError::Cycle(back))
+    );
     Ok(())
 }
 

@@ -39,7 +39,7 @@ invariant_of-self-2 g c =
 
 put : (g : _) (c : After-link_last-2 g) (d : Direction)
     → PutsBehind (by_node d c.self.inside.nodes.live c.self.inside.edges.live) (end d (record { from = g.K.Key.data_of c.args.from; to = g.K.Key.data_of c.args.to; value = c.args.edge })) c.in_ok-key.key
-        (by_node d c.link_last-2.new.nodes.live c.link_last-2.new.edges.live)
+    (by_node d c.link_last-2.new.nodes.live c.link_last-2.new.edges.live)
 put g c =
     let from = g.K.Key.data_of c.args.from in
     let to = g.K.Key.data_of c.args.to in

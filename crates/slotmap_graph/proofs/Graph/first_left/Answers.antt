@@ -32,5 +32,7 @@ pub returns-then-index-gt0-clause-some : goal.returns-then-index-gt0-clause-some
 returns-then-index-gt0-clause-some g c = (
   key_live c.args.self.now.nodes.live (g.K.Key.data_of c.in-Some.node)
       (walked_in (list_map g.K.Key.data_of c.loop-node.yielded) c.loop-node.node-iterator _ _ (g.K.Key.data_of c.in-Some.node) c.loop-node.invariant.walked c.in-Some.ensures.steps),
-  c.index.result.now, c.index.ensures, c.if-index-gt0.true,
+  c.index.result.now,
+  c.index.ensures,
+  c.if-index-gt0.true,
 )
