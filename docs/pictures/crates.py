@@ -44,7 +44,8 @@ HEIGHT = 56
 # The library of a program stands as the program, and the tests of a library as the library.
 LIBRARIES = {
     "slotmap_rows_primary": "primary_rows", "slotmap_rows_secondary": "secondary_rows", "json_tests": "slotmap_json",
-    "structure_tests": "structure_examples", "slotmap_script": "slotrun", "script_tests": "slotrun",
+    "slotmap_script": "slotrun", "script_tests": "slotrun",
+    **{f"{name}_tests": "structure_examples" for name in ("list", "graph", "entities", "scene", "scheduler")},
 }
 
 

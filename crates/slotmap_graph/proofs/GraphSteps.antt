@@ -120,7 +120,7 @@ module _ {N E : Type 0} (nodes : Content (Node N)) (edges mid : Content (Edge E)
   mid_links : (d : Direction) (q : Key) → link_in d mid.live q ≡ link_in d edges.live q
   mid_links d q = ap (λ m. link_in d m q) is ∙ part_new (edge_link d) no_link edges.live k e (bare d) fresh q
 
-  pub mid_listed : (d : Direction) (p : Key) → listed d nodes.live mid.live p ≡ listed d nodes.live edges.live p
+  mid_listed : (d : Direction) (p : Key) → listed d nodes.live mid.live p ≡ listed d nodes.live edges.live p
   mid_listed d p = followed_along {ends = ends_in d nodes.live} {ends' = ends_in d nodes.live} (λ q. refl) (mid_links d) p
 
   pub mid_threads : (d : Direction) → IsThreaded d nodes.live mid.live
@@ -149,10 +149,10 @@ module _ {N E : Type 0} (n0 n1 n2 : Content (Node N)) (e0 e1 e2 : Content (Edge 
   both_linked Out = linked_along into.same_ends into.same_links out.linked
   both_linked Into = into.linked
 
-  pub both_nodes : map_content node_value n2 ≡ map_content node_value n0
+  both_nodes : map_content node_value n2 ≡ map_content node_value n0
   both_nodes = into.seen_nodes ∙ out.seen_nodes
 
-  pub both_edges : map_content seen_edge e2 ≡ map_content seen_edge e0
+  both_edges : map_content seen_edge e2 ≡ map_content seen_edge e0
   both_edges = into.seen_edges ∙ out.seen_edges
 
   out_is : (x : Key) → listed Out n2.live e2.live x ≡ listed Out n1.live e1.live x
@@ -177,7 +177,7 @@ module _ {N E : Type 0} (nodes n1 n2 : Content (Node N)) (edges mid e1 e2 : Cont
   added_others Into x other = into.others x other ∙ into_is nodes n1 n2 mid e1 e2 e.from e.to _ _ out into x ∙ same_mid Into x
 
   -- the edges are those that the insert left
-  pub last_edges : map_content seen_edge e2 ≡ map_content seen_edge mid
+  last_edges : map_content seen_edge e2 ≡ map_content seen_edge mid
   last_edges = both_edges nodes n1 n2 mid e1 e2 e.from e.to _ _ out into
 
   added_seen : map_values seen_edge e2.live ≡ map.insert (map_values seen_edge edges.live) k (seen_edge e)
@@ -289,12 +289,12 @@ module _ {E : Type 0} (edges : Edges E) (k : Key) where
   out_touches ks lists x more = let found = listed_edge from edges k ks lists x more in
       (found.0, found.1, let here : is_key found.0.from k ≡ true = rw found.2 (is_itself k) in ap (λ b. b || is_key found.0.to k) here)
 
-  pub into_touches : (ks : List Key) → ListsEdges to edges k ks → (x : Key) → 0 < times x ks → (e : SeenEdge E) × (map.get edges x ≡ Some e) × (touches k e ≡ true)
+  into_touches : (ks : List Key) → ListsEdges to edges k ks → (x : Key) → 0 < times x ks → (e : SeenEdge E) × (map.get edges x ≡ Some e) × (touches k e ≡ true)
   into_touches ks lists x more = let found = listed_edge to edges k ks lists x more in
       (found.0, found.1, let here : is_key found.0.to k ≡ true = rw found.2 (is_itself k) in grind arith)
 
   -- if both lists are empty, no edge does
-  pub none_touches : (ks js : List Key) → ListsEdges from edges k ks → ks ≡ [] → ListsEdges to edges k js → js ≡ [] → (x : Key) (e : SeenEdge E) → map.get edges x ≡ Some e → touches k e ≡ false
+  none_touches : (ks js : List Key) → ListsEdges from edges k ks → ks ≡ [] → ListsEdges to edges k js → js ≡ [] → (x : Key) (e : SeenEdge E) → map.get edges x ≡ Some e → touches k e ≡ false
   none_touches ks js out no_out into no_into x e there =
       let apart_from = is_other e.from k (none_listed from edges k ks out no_out x e there) in
       let apart_to = is_other e.to k (none_listed to edges k js into no_into x e there) in

@@ -11,7 +11,7 @@ use Rattle.slotmap_graph.proofs.Adjacent.{listed_once, listed_edge}
 
 -- a part of each value of a map, or something else where there is none
 module _ {V C : Type 0} (part : V → C) (none : C) (m : map.FinMap key_cmp V) (k : Key) (v : V) where
-  pub part_written : (q : Key) → unwrap_or (option_map part (map.get (map.insert m k v) q)) none ≡ cond (is_key q k) (part v) (unwrap_or (option_map part (map.get m q)) none)
+  part_written : (q : Key) → unwrap_or (option_map part (map.get (map.insert m k v) q)) none ≡ cond (is_key q k) (part v) (unwrap_or (option_map part (map.get m q)) none)
   part_written q = elim (same_or_other q k) [
     | inl is ↦ rw (is, is_itself k, get-insert_here m k v)
     | inr other ↦ rw (is_other q k other, get-insert_other m k v q other)
@@ -41,7 +41,7 @@ module _ {V C : Type 0} (part : V → C) (none : C) (m : map.FinMap key_cmp V) (
   ]
 
 module _ {E : Type 0} where
-  pub link_with : (d : Direction) (link : Link Key) (e : Edge E) → edge_link d (with_link d link e) ≡ link
+  link_with : (d : Direction) (link : Link Key) (e : Edge E) → edge_link d (with_link d link e) ≡ link
   link_with Out link e = refl
   link_with Into link e = refl
 

@@ -229,7 +229,7 @@ module _ {N E : Type 0} (s : Seen N E) (counts : Pairs ℕ) (found passed : List
 
 -- the outgoing edges of some nodes
 module _ {N E : Type 0} (s : Seen N E) (joined : IsJoined s) where
-  pub out_times : (ks : List Key) (x : Key) (e : SeenEdge E) → map.get s.edges.live x ≡ Some e → times x (edges_out s.out ks) ≡ times e.from ks
+  out_times : (ks : List Key) (x : Key) (e : SeenEdge E) → map.get s.edges.live x ≡ Some e → times x (edges_out s.out ks) ≡ times e.from ks
   out_times [] x e there = refl
   out_times (k ∷ ks) x e there =
       let sum = times_joined x (edges_at s.out k) (edges_out s.out ks) in

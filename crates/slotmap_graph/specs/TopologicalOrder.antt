@@ -5,8 +5,8 @@ use Rattle.slotmap.specs.Words.{Key, IsBeside, IsLive, Pairs, get}
 use Rattle.slotmap_keylist.specs.KeyLists.{times}
 use Rattle.slotmap_graph.specs.Parts.{Seen, SeenEdge, Edges, ByNode, edges_at}
 use Rattle.slotmap_graph.specs.Search.{Leads}
-use Rattle.slotmap_graph.specs.declared.OrderError.{OrderError}
-use Rattle.slotmap_graph.specs.declared.OrderError.TheVariants.{Cycle, Memory}
+use Rattle.slotmap_graph.specs.declared.order.OrderError.{OrderError}
+use Rattle.slotmap_graph.specs.declared.order.OrderError.TheVariants.{Cycle, Memory}
 
 module _ {E : Type 0} (edges : Edges E) where
   -- each edge that ends at a node of the list begins at one before it
@@ -50,7 +50,11 @@ pub record Counting {N E : Type 0} (s : Seen N E) (counts : Pairs ℕ) (found do
   pub table : (y : Key) → 0 < times y done → (get counts y ≡ Some (length (edges_at s.into y))) × (times y found ≡ (if nat_eq (length (edges_at s.into y)) 0 then 1 else 0))
   pub others : (y : Key) → times y done ≡ 0 → times y found ≡ 0
 
--- a node of which edges weren't passed: it wasn't found
+-- all edges that go out of the nodes found were passed
+abbrev pub AllPassed : {N E : Type 0} → Seen N E → Pairs ℕ → Type 0
+AllPassed s counts = (found : List Key) × Sorting s counts found (edges_out s.out found)
+
+-- a node was not found, if some of its incoming edges were not passed
 abbrev pub IsLeft : {N E : Type 0} → Seen N E → Pairs ℕ → Key → Type 0
 IsLeft s counts y = IsLive s.nodes y × (n : ℕ) × (get counts y ≡ Some n) × (0 < n)
 

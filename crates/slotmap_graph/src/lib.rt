@@ -49,10 +49,11 @@ mod search;
 use crate::links::{Direction, Edges, Nodes, list_ends};
 pub use edge_key::EdgeKey;
 pub use iter::EdgesAt;
+pub use order::OrderError;
 use slotmap::basic::Keys;
 use slotmap::{DefaultKey, Key, NodeKey, ReserveError, SlotMap};
 use slotmap_keylist::{Ends, Link, outer};
-use std::alloc::{AllocError, Global};
+use std::alloc::Global;
 use std::fmt;
 use std::marker::{Model, PhantomData};
 use std::ops::Index;
@@ -121,31 +122,6 @@ pub enum EdgeError<E> {
     /// The allocation fails.
     #[error("out of memory")]
     Memory(E),
-}
-
-/// There is no order of the nodes in which each edge goes forward, or memory ran out.
-///
-/// ```
-/// assert_eq!(rt; format!(in alloc; "{}", OrderError::Memory)?.as_str(), "out of memory");
-/// ```
-#[derive(Clone, Copy, Debug, Drop, Eq, Error, PartialEq)]
-pub enum OrderError {
-    /// From the end of this edge a path leads back to its start.
-    #[error("the graph has a cycle")]
-    Cycle(EdgeKey),
-    /// The allocation fails.
-    #[error("out of memory")]
-    Memory,
-}
-
-impl From<AllocError> for OrderError {
-    ghost use Rattle.slotmap_graph.specs.declared.OrderError.TheVariants as order;
-
-    ghost from_gives = { λ _ error. error ≡ order.Memory };
-
-    fn from(_error: AllocError) -> OrderError {
-        OrderError::Memory
-    }
 }
 
 impl<N: Drop, E: Drop> Graph<NodeKey, N, E> {

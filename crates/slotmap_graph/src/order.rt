@@ -1,17 +1,43 @@
 //! An order of the nodes in which each edge goes forward.
 
-ghost use Rattle.std.specs.Prelude.{◌≡◌, ◌≢◌, ◌-◌, ◌+◌, ◌<◌, ◌≤◌, ◌++◌, [], ◌∷◌, ℕ, List, Some, OnOk, IfOk, IfErr, IfSome, IfNone, true, nat_eq, if◌then◌else◌, length, slice_index_or, take, map as list_map};
+ghost use Rattle.std.specs.Prelude.{◌≡◌, ◌≢◌, ◌-◌, ◌+◌, ◌<◌, ◌≤◌, ◌++◌, [], ◌∷◌, ℕ, Some, OnOk, IfOk, IfErr, IfSome, IfNone, true, nat_eq, if◌then◌else◌, length, slice_index_or, take, map as list_map};
 ghost use Rattle.std.specs.FinMap as map;
 ghost use Rattle.slotmap.specs.Words.{Key as KeyOf, IsContent, IsLive, get, contains_key};
 ghost use Rattle.slotmap_keylist.specs.KeyLists.{times};
-ghost use Rattle.slotmap_graph.specs.TopologicalOrder.{ClosesCycle, ComesFromLeft, Counting, GoesForward, HasCycle, IsLeft, RefusesOrder, Sorting, edges_out};
+ghost use Rattle.slotmap_graph.specs.TopologicalOrder.{AllPassed, ClosesCycle, ComesFromLeft, Counting, GoesForward, HasCycle, IsLeft, RefusesOrder, Sorting, edges_out};
 ghost use Rattle.slotmap_graph.specs.Parts.{IsJoined, PutsAlone, edges_at};
 
 use crate::search::{mark, none_seen};
-use crate::{EdgeKey, Graph, OrderError};
+use crate::{EdgeKey, Graph};
 use slotmap::{Key, SecondaryMap};
 use slotmap_keylist::outer;
 use std::alloc::{AllocError, Global};
+use thiserror::Error;
+
+/// There is no order of the nodes in which each edge goes forward, or memory ran out.
+///
+/// ```
+/// assert_eq!(rt; format!(in alloc; "{}", OrderError::Memory)?.as_str(), "out of memory");
+/// ```
+#[derive(Clone, Copy, Debug, Drop, Eq, Error, PartialEq)]
+pub enum OrderError {
+    /// From the end of this edge a path leads back to its start.
+    #[error("the graph has a cycle")]
+    Cycle(EdgeKey),
+    /// The allocation fails.
+    #[error("out of memory")]
+    Memory,
+}
+
+impl From<AllocError> for OrderError {
+    ghost use Rattle.slotmap_graph.specs.declared.order.OrderError.TheVariants as order;
+
+    ghost from_gives = { λ _ error. error ≡ order.Memory };
+
+    fn from(_error: AllocError) -> OrderError {
+        OrderError::Memory
+    }
+}
 
 // How many edges into each node weren't passed yet.
 type Counts<K> = SecondaryMap<K, usize>;
@@ -110,7 +136,7 @@ impl<K: Key, N: Drop, E: Drop> Graph<K, N, E> {
 
     // A node that wasn't found, if there is one.
     fn first_left(&self, counts: &Counts<K>) -> Option<K>
-        requires { (found : List KeyOf) × Sorting self.now counts.now.pairs found (edges_out self.now.out found) }
+        requires { AllPassed self.now counts.now.pairs }
         ensures some { IfSome result (λ node. IsLeft self.now counts.now.pairs (K.data_of node)) }
         ensures none { IfNone result ((x : KeyOf) → IsLive self.now.nodes x → get counts.now.pairs x ≡ Some 0) }
     {
@@ -125,7 +151,7 @@ impl<K: Key, N: Drop, E: Drop> Graph<K, N, E> {
     // The first edge into a node from one that wasn't found. There is one if the node wasn't found.
     fn edge_from_left(&self, counts: &Counts<K>, node: K) -> Option<EdgeKey>
         requires joined { IsJoined self.now }
-        requires sorting { (found : List KeyOf) × Sorting self.now counts.now.pairs found (edges_out self.now.out found) }
+        requires passed { AllPassed self.now counts.now.pairs }
         ensures some { IfSome result (λ edge. ComesFromLeft self.now counts.now.pairs (K.data_of node) edge) }
         ensures none { IfNone result (IsLeft self.now counts.now.pairs (K.data_of node) → ⊥) }
     {
@@ -146,7 +172,7 @@ impl<K: Key, N: Drop, E: Drop> Graph<K, N, E> {
     ) -> Result<EdgeKey, AllocError>
         requires valid { IsContent true self.now.nodes }
         requires joined { IsJoined self.now }
-        requires sorting { (found : List KeyOf) × Sorting self.now counts.now.pairs found (edges_out self.now.out found) }
+        requires passed { AllPassed self.now counts.now.pairs }
         requires left { IsLeft self.now counts.now.pairs (K.data_of start) }
         ensures { IfOk result (ClosesCycle self.now.edges.live) }
     {

@@ -80,16 +80,7 @@ split_at k (q ∷ ks) more = elim (same_or_other q k) [
       )
 ]
 
--- and between no others, where it is there once
-pub split_once : (k : Key) (before after b a : List Key) → before ++ k ∷ after ≡ b ++ k ∷ a → times k (before ++ k ∷ after) ≤ 1 → (before ≡ b) × (after ≡ a)
-split_once k before after b a is once = elim (cut_at before (k ∷ after) b k a is) [
-  | inl there ↦ absurd (let sum = in_midst before k after in let again = ap (times k) there.1 ∙ in_midst b k there.0 in omega arith)
-  | inr there ↦ at_once there.0 there.1 there.2
-] where
-  at_once : (m : List Key) → b ≡ before ++ m → k ∷ after ≡ m ++ k ∷ a → (before ≡ b) × (after ≡ a)
-  at_once [] b_is is = (sym (b_is ∙ append-nil before), (cc))
-  at_once (q ∷ m) b_is is = absurd (let h : after ≡ m ++ k ∷ a = (cc) in let again = ap (times k) h ∙ in_midst m k a in let sum = in_midst before k after in omega arith)
-
+-- without a key that is in it once, a list is these two parts
 pub without_split : (k : Key) (before after : List Key) → times k (before ++ k ∷ after) ≤ 1 → without k (before ++ k ∷ after) ≡ before ++ after
 without_split k before after once =
     let sum = in_midst before k after in

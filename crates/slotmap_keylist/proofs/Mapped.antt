@@ -6,10 +6,10 @@ use Rattle.std.specs.FinMap as map
 use Rattle.std.specs.FinSet as set
 use Rattle.std.specs.FinMap.Entries.{find, below_all, is_sorted}
 use Rattle.std.proofs.lemmas.List.{length-map}
-use Rattle.slotmap.specs.Words.{Key, key_cmp, is_last, Content, IsContent, IsRetired, Stands, IsLive, IsSpent, KeepsSpent, IsNew, Inserts, Removes, Keeps, Leaves, MakesRoom, MayGrow, StaysValid, IsCloneOf, IsCloneBy, with_value, LacksRoom, used, places}
+use Rattle.slotmap.specs.Words.{Key, key_cmp, is_last, Content, IsContent, IsRetired, Stands, IsLive, IsSpent, IsNew, Inserts, Removes, Keeps, Leaves, MakesRoom, MayGrow, StaysValid, IsCloneOf, IsCloneBy, with_value, LacksRoom, used, places}
 use Rattle.slotmap.proofs.Callers.{keys_total, exact_keys, same_or_other, get-insert_here, get-insert_other}
 use Rattle.slotmap_keylist.specs.Mapped.{map_values, map_content}
-use Rattle.slotmap_keylist.proofs.Shown.{shown_spent, spent_shown, shown_content, shown_keeps_spent, shown_inserts, shown_removes, shown_keeps, shown_leaves, shown_makes_room}
+use Rattle.slotmap_keylist.proofs.Shown.{shown_spent, spent_shown, shown_content, shown_inserts, shown_removes, shown_keeps, shown_leaves, shown_makes_room}
 
 module _ {V W : Type 0} (f : V → W) where
   abbrev changed : Key × V → Key × W
@@ -91,9 +91,6 @@ module _ {V W : Type 0} (f : V → W) where
     pub spent-mapped : (k : Key) → IsSpent c k → IsSpent (map_content f c) k
     spent-mapped = shown_spent c (map_values f c.live) (contains-mapped c.live) (len-mapped c.live)
 
-    pub mapped-spent : (k : Key) → IsSpent (map_content f c) k → IsSpent c k
-    mapped-spent = spent_shown c (map_values f c.live) (contains-mapped c.live) (len-mapped c.live)
-
     pub mapped-lacks : LacksRoom c → LacksRoom (map_content f c)
     mapped-lacks lacks = record { below_limit = (let same = used-mapped in let below = lacks.below_limit in omega arith); no_room = lacks.no_room }
 
@@ -105,9 +102,6 @@ module _ {V W : Type 0} (f : V → W) where
     content-mapped = shown_content c (map_values f c.live) (contains-mapped c.live) (len-mapped c.live)
 
   module _ (old new : Content V) where
-    pub keeps_spent-mapped : KeepsSpent old new → KeepsSpent (map_content f old) (map_content f new)
-    keeps_spent-mapped = shown_keeps_spent old new _ _ (contains-mapped old.live) (len-mapped old.live) (contains-mapped new.live) (len-mapped new.live)
-
     pub mapped-inserts : (k : Key) (v : V) → Inserts old k v new → Inserts (map_content f old) k (f v) (map_content f new)
     mapped-inserts k v inserts = shown_inserts old new _ _ (contains-mapped old.live) (len-mapped old.live) (contains-mapped new.live) (len-mapped new.live) k v (f v)
         (ap (map_values f) inserts.live ∙ mapped-insert old.live k v) inserts

@@ -21,10 +21,6 @@ module _ {X : Type 0} (p : X → Bool) where
     behind : count_by p (drop i xs) ≡ cond (p x) 1 0 + count_by p (drop (i + 1) xs)
     behind = ap (count_by p) split ∙ sum_by-cons (λ x. cond (p x) 1 0) x (drop (i + 1) xs)
 
-    -- none behind it does
-    still_none : p x ≡ false → count_by p (drop (i + 1) xs) ≡ 0 → count_by p (drop i xs) ≡ 0
-    still_none out none = let sum = behind in let no : cond {A = ℕ} (p x) 1 0 ≡ 0 = ap (λ b. cond b 1 0) out in omega arith
-
     pub found_last : count_by p xs ≤ 1 → p x ≡ true → count_by p (drop (i + 1) xs) ≡ 0 → remove xs i ≡ filter (λ x. not (p x)) xs
     found_last once is_it none =
         let all : count_by p (take i xs) + count_by p (drop i xs) ≡ count_by p xs = sum_by-take-drop (λ x. cond (p x) 1 0) xs i in

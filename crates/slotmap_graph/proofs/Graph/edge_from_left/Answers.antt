@@ -20,7 +20,7 @@ source-requires g c =
     c.loop-edge.yielded c.loop-edge.edge-iterator c.next.new.self c.in-Some.edge c.loop-edge.invariant.walked c.in-Some.ensures.steps
 
 pub index-requires : goal.index-requires
-index-requires g c = rw c.outer.ensures (each_counted c.args.self.now c.args.counts.now.pairs _ c.requires.sorting.1 c.source.result c.source.ensures.live)
+index-requires g c = rw c.outer.ensures (each_counted c.args.self.now c.args.counts.now.pairs _ c.requires.passed.1 c.source.result c.source.ensures.live)
 
 pub returns-then-index-gt0-clause-some : goal.returns-then-index-gt0-clause-some
 returns-then-index-gt0-clause-some g c =
@@ -39,7 +39,7 @@ loop-edge-preserved g c = record {
 
 pub returns-clause-none : goal.returns-clause-none
 returns-clause-none g c left =
-    let some = left_before c.args.self.now c.args.counts.now.pairs _ c.requires.sorting.1 c.requires.joined (g.K.Key.data_of c.args.node) left in
+    let some = left_before c.args.self.now c.args.counts.now.pairs _ c.requires.passed.1 c.requires.joined (g.K.Key.data_of c.args.node) left in
     let k = some.0 in
     let comes = some.1 in
     let all = walked c.loop-edge.yielded c.loop-edge.edge-iterator _ c.loop-edge.invariant.walked c.in-None.ensures.steps.0 in

@@ -58,8 +58,8 @@ returns-in-None-clause-acyclic g c = (order g (goal.at.returns-in-None-clause-ac
 pub closing_edge-requires-clause-valid : goal.closing_edge-requires-clause-valid
 closing_edge-requires-clause-valid g c = rw (← c.self.view_is) (content-mapped node_value c.self.inside.nodes true c.len.ensures.valid)
 
-pub closing_edge-requires-clause-sorting : goal.closing_edge-requires-clause-sorting
-closing_edge-requires-clause-sorting g c = (list_map g.K.Key.data_of c.loop-at.found.items, sorted g (goal.at.closing_edge-requires-clause-sorting g c).After-loop-at)
+pub closing_edge-requires-clause-passed : goal.closing_edge-requires-clause-passed
+closing_edge-requires-clause-passed g c = (list_map g.K.Key.data_of c.loop-at.found.items, sorted g (goal.at.closing_edge-requires-clause-passed g c).After-loop-at)
 
 pub closing_edge-requires-clause-joined : goal.closing_edge-requires-clause-joined
 closing_edge-requires-clause-joined g c = rw (← c.self.view_is) (graph_joined _ _ c.self.invariant)

@@ -47,12 +47,6 @@ fn retains(rt: HostRuntime) -> Result<(), Fail> {
         true
     });
     assert_eq!(rt; world.component::<Second>(a), Some(&6));
-    Ok(())
-}
-
-#[test]
-fn retains_none(rt: HostRuntime) -> Result<(), Fail> {
-    let (mut world, a) = one(rt.alloc())?;
     world.retain_components::<First, _>(|_, _| false);
     assert!(rt; !world.has::<First>(a));
     Ok(())
@@ -81,12 +75,6 @@ fn copies(rt: HostRuntime) -> Result<(), Fail> {
 fn joins(rt: HostRuntime) -> Result<(), Fail> {
     let (world, a) = one(rt.alloc())?;
     assert_eq!(rt; world.with::<Second>().next(), Some((a, &5)));
-    Ok(())
-}
-
-#[test]
-fn joins_two_kinds(rt: HostRuntime) -> Result<(), Fail> {
-    let (world, a) = one(rt.alloc())?;
     assert_eq!(rt;
         world.with_both::<First, Second>().next(),
         Some((a, &10, &5))

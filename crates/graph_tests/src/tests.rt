@@ -37,53 +37,38 @@ fn lists(rt: HostRuntime) -> Result<(), Fail> {
 fn searches(rt: HostRuntime) -> Result<(), Fail> {
     let alloc = rt.alloc();
     let (graph, a, b, _) = pair(alloc)?;
+    assert_eq!(rt; graph.neighbours(alloc, a)?.as_slice(), [b].as_slice());
     assert_eq!(rt; graph.reachable(alloc, a)?.as_slice(), [a, b].as_slice());
     Ok(())
 }
 
 #[test]
-fn lists_neighbours(rt: HostRuntime) -> Result<(), Fail> {
-    let alloc = rt.alloc();
-    let (graph, a, b, _) = pair(alloc)?;
-    assert_eq!(rt; graph.neighbours(alloc, a)?.as_slice(), [b].as_slice());
-    Ok(())
-}
-
-// The same nodes, with two other edges in place of the first one.
-fn replaced(alloc: Global) -> Result<(Graph<NodeKey, u64, u64>, NodeKey, EdgeKey, EdgeKey), Fail> {
-    let (mut graph, a, b, first) = pair(alloc)?;
+fn walks(rt: HostRuntime) -> Result<(), Fail> {
+    let (mut graph, a, b, first) = pair(rt.alloc())?;
     let second = graph.add_edge(a, b, 6)?;
     graph.remove_edge(first);
     let third = graph.add_edge(a, b, 7)?;
-    Ok((graph, b, second, third))
-}
-
-#[test]
-fn walks(rt: HostRuntime) -> Result<(), Fail> {
-    let (graph, b, second, third) = replaced(rt.alloc())?;
     let mut edges = graph.edges_to(b);
+    assert_eq!(rt; edges.len(), 2);
     assert_eq!(rt; edges.next_back(), Some(third));
+    assert_eq!(rt; edges.clone()?.next(), Some(second));
     assert_eq!(rt; edges.next(), Some(second));
     assert_eq!(rt; edges.next_back(), None);
     Ok(())
 }
 
 #[test]
-fn copies_a_walk(rt: HostRuntime) -> Result<(), Fail> {
-    let (graph, b, second, _) = replaced(rt.alloc())?;
-    let edges = graph.edges_to(b);
-    assert_eq!(rt; edges.len(), 2);
-    assert_eq!(rt; edges.clone()?.next(), Some(second));
-    Ok(())
-}
-
-#[test]
 fn orders(rt: HostRuntime) -> Result<(), Fail> {
     let alloc = rt.alloc();
-    let (graph, a, b, _) = pair(alloc)?;
+    let (mut graph, a, b, edge) = pair(alloc)?;
     assert_eq!(rt;
         graph.topological_order(alloc)?.as_slice(),
         [a, b].as_slice()
+    );
+    let back = graph.add_edge(b, a, 6)?;
+    let closing = graph.topological_order(alloc).err();
+    assert!(rt;
+        closing == Some(OrderError::Cycle(edge)) || closing == Some(OrderError::Cycle(back))
     );
     Ok(())
 }
@@ -117,18 +102,6 @@ fn orders_without_the_cycle(rt: HostRuntime) -> Result<(), Fail> {
     assert_eq!(rt;
         graph.topological_order(alloc)?.as_slice(),
         [a, behind].as_slice()
-    );
-    Ok(())
-}
-
-#[test]
-fn finds_a_longer_cycle(rt: HostRuntime) -> Result<(), Fail> {
-    let alloc = rt.alloc();
-    let (mut graph, a, b, edge) = pair(alloc)?;
-    let back = graph.add_edge(b, a, 6)?;
-    let closing = graph.topological_order(alloc).err();
-    assert!(rt;
-        closing == Some(OrderError::Cycle(edge)) || closing == Some(OrderError::Cycle(back))
     );
     Ok(())
 }

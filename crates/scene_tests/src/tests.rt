@@ -25,17 +25,11 @@ fn parents_and_children(rt: HostRuntime) -> Result<(), Fail> {
 
 #[test]
 fn all_nodes(rt: HostRuntime) -> Result<(), Fail> {
-    let (scene, top, first, _) = family(rt.alloc())?;
+    let (scene, top, first, second) = family(rt.alloc())?;
     let mut nodes = scene.iter();
     assert_eq!(rt; nodes.len(), 3);
     assert_eq!(rt; nodes.next(), Some((top, &1)));
     assert_eq!(rt; nodes.next(), Some((first, &2)));
-    Ok(())
-}
-
-#[test]
-fn all_keys(rt: HostRuntime) -> Result<(), Fail> {
-    let (scene, _, _, second) = family(rt.alloc())?;
     let mut keys = scene.keys();
     assert_eq!(rt; keys.size_hint(), (3, Some(3)));
     keys.next();
@@ -52,18 +46,12 @@ fn all_values(rt: HostRuntime) -> Result<(), Fail> {
     values.next();
     assert_eq!(rt; values.len(), 2);
     assert_eq!(rt; values.next(), Some(&2));
-    assert!(rt; scene.capacity() >= 3);
-    Ok(())
-}
-
-#[test]
-fn goes_over_the_nodes(rt: HostRuntime) -> Result<(), Fail> {
-    let (scene, _, _, _) = family(rt.alloc())?;
     let mut sum: u64 = 0;
     for (_, value) in &scene {
         sum = sum.wrapping_add(*value);
     }
     assert_eq!(rt; sum, 6);
+    assert!(rt; scene.capacity() >= 3);
     Ok(())
 }
 
@@ -72,16 +60,8 @@ fn moves(rt: HostRuntime) -> Result<(), Fail> {
     let (mut scene, top, first, second) = family(rt.alloc())?;
     assert!(rt; scene.reparent(second, first).is_ok());
     assert!(rt; scene.is_within(second, top));
-    assert_eq!(rt; scene.depth(second), Some(2));
-    Ok(())
-}
-
-#[test]
-fn makes_a_root(rt: HostRuntime) -> Result<(), Fail> {
-    let (mut scene, top, first, _) = family(rt.alloc())?;
     assert!(rt; scene.make_root(first));
-    assert_eq!(rt; scene.parent(first), None);
-    assert!(rt; !scene.is_within(first, top));
+    assert_eq!(rt; scene.depth(second), Some(1));
     Ok(())
 }
 
@@ -92,12 +72,6 @@ fn values(rt: HostRuntime) -> Result<(), Fail> {
         *value = 7;
     }
     assert_eq!(rt; scene.get(first), Some(&7));
-    Ok(())
-}
-
-#[test]
-fn clears(rt: HostRuntime) -> Result<(), Fail> {
-    let (mut scene, _, _, _) = family(rt.alloc())?;
     scene.clear();
     assert!(rt; scene.is_empty());
     Ok(())
@@ -115,18 +89,10 @@ fn removals(rt: HostRuntime) -> Result<(), Fail> {
 #[test]
 fn goes_up(rt: HostRuntime) -> Result<(), Fail> {
     let (scene, top, first, _) = family(rt.alloc())?;
+    assert_eq!(rt; scene.roots().next(), Some(top));
     let mut above = scene.ancestors(first);
     assert_eq!(rt; above.next(), Some(top));
     assert_eq!(rt; above.next(), None);
-    Ok(())
-}
-
-#[test]
-fn all_roots(rt: HostRuntime) -> Result<(), Fail> {
-    let (scene, top, _, _) = family(rt.alloc())?;
-    let mut roots = scene.roots();
-    assert_eq!(rt; roots.next(), Some(top));
-    assert_eq!(rt; roots.next(), None);
     Ok(())
 }
 
@@ -139,12 +105,6 @@ fn siblings(rt: HostRuntime) -> Result<(), Fail> {
         scene.descendants(top)?.as_slice(),
         [first, mid, second, last].as_slice()
     );
-    Ok(())
-}
-
-#[test]
-fn a_root_has_no_sibling(rt: HostRuntime) -> Result<(), Fail> {
-    let (mut scene, top, _, _) = family(rt.alloc())?;
     assert!(rt; scene.insert_after(top, 6).is_err());
     Ok(())
 }

@@ -1,0 +1,6 @@
+//! Tests of a linked list. They are a crate of their own, since a crate with tests is proved a second time for
+//! them.
+#![tactic(auto, using(slotmap::proofs::Callers::keys))]
+
+#[cfg(test)]
+mod tests;
