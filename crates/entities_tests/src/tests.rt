@@ -24,8 +24,10 @@ fn one(alloc: Global) -> Result<(Small, DefaultKey), Fail> {
 #[test]
 fn looks(rt: HostRuntime) -> Result<(), Fail> {
     let (world, a) = one(rt.alloc())?;
-    assert_eq!(rt; world.get(a), Some(&1));
-    assert_eq!(rt; world.component::<Second>(a), Some(&5));
+    assert_eq!(rt;
+        (world.get(a), world.component::<Second>(a)),
+        (Some(&1), Some(&5))
+    );
     Ok(())
 }
 
@@ -66,18 +68,22 @@ fn copies(rt: HostRuntime) -> Result<(), Fail> {
     let (mut world, a) = one(rt.alloc())?;
     let copy = world.clone()?;
     world.despawn(a);
-    assert_eq!(rt; copy.get(a), Some(&1));
-    assert_eq!(rt; copy.component::<Second>(a), Some(&5));
+    assert_eq!(rt;
+        (copy.get(a), copy.component::<Second>(a)),
+        (Some(&1), Some(&5))
+    );
     Ok(())
 }
 
 #[test]
 fn joins(rt: HostRuntime) -> Result<(), Fail> {
     let (world, a) = one(rt.alloc())?;
-    assert_eq!(rt; world.with::<Second>().next(), Some((a, &5)));
     assert_eq!(rt;
-        world.with_both::<First, Second>().next(),
-        Some((a, &10, &5))
+        (
+            world.with::<Second>().next(),
+            world.with_both::<First, Second>().next()
+        ),
+        (Some((a, &5)), Some((a, &10, &5)))
     );
     Ok(())
 }

@@ -5,8 +5,10 @@ use slotmap_graph::{EdgeKey, Graph, OrderError};
 use std::alloc::Global;
 use std::test::Fail;
 
+type Small = Graph<NodeKey, u64, u64>;
+
 // A graph of two nodes of the values 1 and 2, with an edge of value 5 from the first to the second.
-fn pair(alloc: Global) -> Result<(Graph<NodeKey, u64, u64>, NodeKey, NodeKey, EdgeKey), Fail> {
+fn pair(alloc: Global) -> Result<(Small, NodeKey, NodeKey, EdgeKey), Fail> {
     let mut graph = Graph::with_capacity_and_key(alloc, 2, 1)?;
     let a = graph.add_node(1)?;
     let b = graph.add_node(2)?;
@@ -17,19 +19,26 @@ fn pair(alloc: Global) -> Result<(Graph<NodeKey, u64, u64>, NodeKey, NodeKey, Ed
 #[test]
 fn values(rt: HostRuntime) -> Result<(), Fail> {
     let (graph, a, b, edge) = pair(rt.alloc())?;
-    assert_eq!(rt; graph.node(a), Some(&1));
-    assert_eq!(rt; graph.edge(edge), Some(&5));
-    assert_eq!(rt; graph.edge_ends(edge), Some((a, b)));
+    assert_eq!(rt;
+        (graph.node(a), graph.edge(edge), graph.edge_ends(edge)),
+        (Some(&1), Some(&5), Some((a, b)))
+    );
     Ok(())
+}
+
+// The first edge from a node, the first one to another node, and how many lead to that one.
+fn between(graph: &Small, a: NodeKey, b: NodeKey) -> (Option<EdgeKey>, Option<EdgeKey>, usize) {
+    (
+        graph.edges_from(a).next(),
+        graph.find_edge(a, b),
+        graph.in_degree(b),
+    )
 }
 
 #[test]
 fn lists(rt: HostRuntime) -> Result<(), Fail> {
     let (graph, a, b, edge) = pair(rt.alloc())?;
-    assert_eq!(rt; graph.edges_from(a).next(), Some(edge));
-    assert_eq!(rt; graph.edges_to(b).len(), 1);
-    assert_eq!(rt; graph.in_degree(b), 1);
-    assert_eq!(rt; graph.find_edge(a, b), Some(edge));
+    assert_eq!(rt; between(&graph, a, b), (Some(edge), Some(edge), 1));
     Ok(())
 }
 
@@ -42,18 +51,23 @@ fn searches(rt: HostRuntime) -> Result<(), Fail> {
     Ok(())
 }
 
+// The last edge into a node, the first one by a copy of the iterator and by itself, and its end.
+fn from_both_ends(graph: &Small, node: NodeKey) -> Result<[Option<EdgeKey>; 4], Fail> {
+    let mut edges = graph.edges_to(node);
+    let last = edges.next_back();
+    let copied = edges.clone()?.next();
+    Ok([last, copied, edges.next(), edges.next_back()])
+}
+
 #[test]
 fn walks(rt: HostRuntime) -> Result<(), Fail> {
     let (mut graph, a, b, first) = pair(rt.alloc())?;
     let second = graph.add_edge(a, b, 6)?;
     graph.remove_edge(first);
     let third = graph.add_edge(a, b, 7)?;
-    let mut edges = graph.edges_to(b);
-    assert_eq!(rt; edges.len(), 2);
-    assert_eq!(rt; edges.next_back(), Some(third));
-    assert_eq!(rt; edges.clone()?.next(), Some(second));
-    assert_eq!(rt; edges.next(), Some(second));
-    assert_eq!(rt; edges.next_back(), None);
+    assert_eq!(rt; graph.edges_to(b).len(), 2);
+    let found = from_both_ends(&graph, b)?;
+    assert_eq!(rt; found, [Some(third), Some(second), Some(second), None]);
     Ok(())
 }
 
@@ -74,7 +88,7 @@ fn orders(rt: HostRuntime) -> Result<(), Fail> {
 }
 
 // A node with an edge to itself, and before it in the map a node to which an edge leads from it.
-fn looped(alloc: Global) -> Result<(Graph<NodeKey, u64, u64>, NodeKey, NodeKey, EdgeKey), Fail> {
+fn looped(alloc: Global) -> Result<(Small, NodeKey, NodeKey, EdgeKey), Fail> {
     let mut graph = Graph::with_capacity_and_key(alloc, 2, 2)?;
     let behind = graph.add_node(1)?;
     let a = graph.add_node(2)?;
@@ -109,8 +123,8 @@ fn orders_without_the_cycle(rt: HostRuntime) -> Result<(), Fail> {
 #[test]
 fn removals(rt: HostRuntime) -> Result<(), Fail> {
     let (mut graph, _, b, edge) = pair(rt.alloc())?;
-    assert_eq!(rt; graph.remove_node(b), Some(2));
-    assert!(rt; !graph.contains_edge(edge));
+    let removed = graph.remove_node(b);
+    assert_eq!(rt; (removed, graph.contains_edge(edge)), (Some(2), false));
     Ok(())
 }
 
@@ -123,8 +137,7 @@ fn writes(rt: HostRuntime) -> Result<(), Fail> {
     if let Some(value) = graph.edge_mut(edge) {
         *value = 8;
     }
-    assert_eq!(rt; graph.node(a), Some(&7));
-    assert_eq!(rt; graph.edge(edge), Some(&8));
+    assert_eq!(rt; (graph.node(a), graph.edge(edge)), (Some(&7), Some(&8)));
     Ok(())
 }
 
@@ -133,18 +146,23 @@ fn copies(rt: HostRuntime) -> Result<(), Fail> {
     let (mut graph, a, b, edge) = pair(rt.alloc())?;
     let copy = graph.clone()?;
     graph.remove_node(b);
-    assert_eq!(rt; copy.node(b), Some(&2));
-    assert_eq!(rt; copy.edges_from(a).next(), Some(edge));
+    assert_eq!(rt;
+        (copy.node(b), copy.edges_from(a).next()),
+        (Some(&2), Some(edge))
+    );
     Ok(())
+}
+
+// The first two nodes and the first edge.
+fn first_keys(graph: &Small) -> (Option<NodeKey>, Option<NodeKey>, Option<EdgeKey>) {
+    let mut nodes = graph.nodes();
+    (nodes.next(), nodes.next(), graph.edges().next())
 }
 
 #[test]
 fn keys_of_all(rt: HostRuntime) -> Result<(), Fail> {
     let (graph, a, b, edge) = pair(rt.alloc())?;
-    let mut nodes = graph.nodes();
-    assert_eq!(rt; nodes.next(), Some(a));
-    assert_eq!(rt; nodes.next(), Some(b));
-    assert_eq!(rt; graph.edges().next(), Some(edge));
+    assert_eq!(rt; first_keys(&graph), (Some(a), Some(b), Some(edge)));
     Ok(())
 }
 
@@ -154,8 +172,7 @@ fn room_and_clear(rt: HostRuntime) -> Result<(), Fail> {
     graph.reserve_nodes(2)?;
     graph.reserve_edges(2)?;
     graph.clear();
-    assert!(rt; !graph.contains_node(a));
-    assert!(rt; !graph.contains_edge(edge));
+    assert!(rt; !graph.contains_node(a) && !graph.contains_edge(edge));
     assert_eq!(rt; graph.node_count(), 0);
     Ok(())
 }

@@ -19,16 +19,16 @@ fn adds(rt: HostRuntime) -> Result<(), Fail> {
     list.reserve(2)?;
     let mid = list.insert_after(one, 5)?;
     assert_eq!(rt; list.next(mid), Some(two));
-    assert!(rt; list.insert_before(one, 6).is_ok());
-    assert!(rt; list.push_front(7).is_ok());
+    let before = list.insert_before(one, 6).is_ok();
+    assert!(rt; before && list.push_front(7).is_ok());
     Ok(())
 }
 
 #[test]
 fn takes(rt: HostRuntime) -> Result<(), Fail> {
     let (mut list, one, two) = pair(rt.alloc())?;
-    assert_eq!(rt; list.pop_back(), Some((two, 2)));
-    assert_eq!(rt; list.remove(one), Some(1));
+    let taken = (list.pop_back(), list.remove(one));
+    assert_eq!(rt; taken, (Some((two, 2)), Some(1)));
     assert_eq!(rt; list.get(one), None);
     Ok(())
 }
@@ -39,8 +39,8 @@ fn goes_through(rt: HostRuntime) -> Result<(), Fail> {
     let (list, one, two) = pair(alloc)?;
     assert_eq!(rt; list.to_vec(alloc)?.as_slice(), [1, 2].as_slice());
     let mut elements = list.into_iter();
-    assert_eq!(rt; elements.next_back(), Some((two, 2)));
-    assert_eq!(rt; elements.next(), Some((one, 1)));
+    let ends = (elements.next_back(), elements.next());
+    assert_eq!(rt; ends, (Some((two, 2)), Some((one, 1))));
     Ok(())
 }
 
@@ -48,9 +48,8 @@ fn goes_through(rt: HostRuntime) -> Result<(), Fail> {
 fn drains(rt: HostRuntime) -> Result<(), Fail> {
     let (mut list, one, two) = pair(rt.alloc())?;
     let mut elements = list.drain();
-    assert_eq!(rt; elements.next(), Some((one, 1)));
-    assert_eq!(rt; elements.next(), Some((two, 2)));
-    assert!(rt; elements.next().is_none());
+    let drained = [elements.next(), elements.next(), elements.next()];
+    assert_eq!(rt; drained, [Some((one, 1)), Some((two, 2)), None]);
     Ok(())
 }
 

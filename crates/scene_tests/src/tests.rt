@@ -5,8 +5,10 @@ use slotmap_scene::Scene;
 use std::alloc::Global;
 use std::test::Fail;
 
+type Family = Scene<NodeKey, u64>;
+
 // A root of value 1 with two children, of the values 2 and 3.
-fn family(alloc: Global) -> Result<(Scene<NodeKey, u64>, NodeKey, NodeKey, NodeKey), Fail> {
+fn family(alloc: Global) -> Result<(Family, NodeKey, NodeKey, NodeKey), Fail> {
     let mut scene = Scene::with_capacity_and_key(alloc, 3)?;
     let top = scene.add_root(1)?;
     let first = scene.add_child(top, 2)?;
@@ -17,40 +19,62 @@ fn family(alloc: Global) -> Result<(Scene<NodeKey, u64>, NodeKey, NodeKey, NodeK
 #[test]
 fn parents_and_children(rt: HostRuntime) -> Result<(), Fail> {
     let (scene, top, first, second) = family(rt.alloc())?;
-    assert_eq!(rt; scene.parent(second), Some(top));
-    assert_eq!(rt; scene.children(top).next(), Some(first));
-    assert_eq!(rt; scene.depth(second), Some(1));
+    assert_eq!(rt;
+        (
+            scene.parent(second),
+            scene.children(top).next(),
+            scene.depth(second)
+        ),
+        (Some(top), Some(first), Some(1))
+    );
     Ok(())
 }
 
 #[test]
 fn all_nodes(rt: HostRuntime) -> Result<(), Fail> {
-    let (scene, top, first, second) = family(rt.alloc())?;
+    let (scene, top, first, _) = family(rt.alloc())?;
     let mut nodes = scene.iter();
-    assert_eq!(rt; nodes.len(), 3);
-    assert_eq!(rt; nodes.next(), Some((top, &1)));
-    assert_eq!(rt; nodes.next(), Some((first, &2)));
-    let mut keys = scene.keys();
-    assert_eq!(rt; keys.size_hint(), (3, Some(3)));
-    keys.next();
-    keys.next();
-    assert_eq!(rt; keys.next(), Some(second));
-    assert_eq!(rt; keys.next(), None);
+    let found = (nodes.len(), nodes.next(), nodes.next());
+    assert_eq!(rt; found, (3, Some((top, &1)), Some((first, &2))));
     Ok(())
+}
+
+fn four_keys(scene: &Family) -> [Option<NodeKey>; 4] {
+    let mut keys = scene.keys();
+    [keys.next(), keys.next(), keys.next(), keys.next()]
+}
+
+#[test]
+fn all_keys(rt: HostRuntime) -> Result<(), Fail> {
+    let (scene, top, first, second) = family(rt.alloc())?;
+    assert_eq!(rt; scene.keys().size_hint(), (3, Some(3)));
+    assert_eq!(rt;
+        four_keys(&scene),
+        [Some(top), Some(first), Some(second), None]
+    );
+    Ok(())
+}
+
+// The second value, and how many there are from it on.
+fn second_value(scene: &Family) -> (usize, Option<u64>) {
+    let mut values = scene.values();
+    values.next();
+    (values.len(), values.next().copied())
+}
+
+fn sum_of(scene: &Family) -> u64 {
+    let mut sum: u64 = 0;
+    for (_, value) in scene {
+        sum = sum.wrapping_add(*value);
+    }
+    sum
 }
 
 #[test]
 fn all_values(rt: HostRuntime) -> Result<(), Fail> {
     let (scene, _, _, _) = family(rt.alloc())?;
-    let mut values = scene.values();
-    values.next();
-    assert_eq!(rt; values.len(), 2);
-    assert_eq!(rt; values.next(), Some(&2));
-    let mut sum: u64 = 0;
-    for (_, value) in &scene {
-        sum = sum.wrapping_add(*value);
-    }
-    assert_eq!(rt; sum, 6);
+    assert_eq!(rt; second_value(&scene), (2, Some(2)));
+    assert_eq!(rt; sum_of(&scene), 6);
     assert!(rt; scene.capacity() >= 3);
     Ok(())
 }
@@ -58,10 +82,10 @@ fn all_values(rt: HostRuntime) -> Result<(), Fail> {
 #[test]
 fn moves(rt: HostRuntime) -> Result<(), Fail> {
     let (mut scene, top, first, second) = family(rt.alloc())?;
-    assert!(rt; scene.reparent(second, first).is_ok());
-    assert!(rt; scene.is_within(second, top));
-    assert!(rt; scene.make_root(first));
-    assert_eq!(rt; scene.depth(second), Some(1));
+    let moved = scene.reparent(second, first).is_ok();
+    assert!(rt; moved && scene.is_within(second, top));
+    let made = scene.make_root(first);
+    assert_eq!(rt; (made, scene.depth(second)), (true, Some(1)));
     Ok(())
 }
 
@@ -80,19 +104,27 @@ fn values(rt: HostRuntime) -> Result<(), Fail> {
 #[test]
 fn removals(rt: HostRuntime) -> Result<(), Fail> {
     let (mut scene, top, first, _) = family(rt.alloc())?;
-    assert_eq!(rt; scene.remove(top), Some(1));
-    assert!(rt; !scene.contains_key(first));
-    assert_eq!(rt; scene.len(), 0);
+    let removed = scene.remove(top);
+    assert_eq!(rt;
+        (removed, scene.contains_key(first), scene.len()),
+        (Some(1), false, 0)
+    );
     Ok(())
+}
+
+// The first root, and what is above a node.
+fn roots_and_above(scene: &Family, node: NodeKey) -> [Option<NodeKey>; 3] {
+    let mut above = scene.ancestors(node);
+    [scene.roots().next(), above.next(), above.next()]
 }
 
 #[test]
 fn goes_up(rt: HostRuntime) -> Result<(), Fail> {
     let (scene, top, first, _) = family(rt.alloc())?;
-    assert_eq!(rt; scene.roots().next(), Some(top));
-    let mut above = scene.ancestors(first);
-    assert_eq!(rt; above.next(), Some(top));
-    assert_eq!(rt; above.next(), None);
+    assert_eq!(rt;
+        roots_and_above(&scene, first),
+        [Some(top), Some(top), None]
+    );
     Ok(())
 }
 
@@ -109,14 +141,19 @@ fn siblings(rt: HostRuntime) -> Result<(), Fail> {
     Ok(())
 }
 
+fn from_both_ends(scene: &Family, node: NodeKey) -> [Option<NodeKey>; 3] {
+    let mut children = scene.children(node);
+    [children.next_back(), children.next(), children.next_back()]
+}
+
 #[test]
 fn children_from_both_ends(rt: HostRuntime) -> Result<(), Fail> {
     let (scene, top, first, second) = family(rt.alloc())?;
-    let mut children = scene.children(top);
-    assert_eq!(rt; children.len(), 2);
-    assert_eq!(rt; children.next_back(), Some(second));
-    assert_eq!(rt; children.next(), Some(first));
-    assert_eq!(rt; children.next_back(), None);
+    assert_eq!(rt; scene.children(top).len(), 2);
+    assert_eq!(rt;
+        from_both_ends(&scene, top),
+        [Some(second), Some(first), None]
+    );
     Ok(())
 }
 
@@ -125,7 +162,9 @@ fn copies(rt: HostRuntime) -> Result<(), Fail> {
     let (mut scene, top, first, _) = family(rt.alloc())?;
     let copy = scene.clone()?;
     scene.clear();
-    assert_eq!(rt; copy.parent(first), Some(top));
-    assert_eq!(rt; copy.get(first), Some(&2));
+    assert_eq!(rt;
+        (copy.parent(first), copy.get(first)),
+        (Some(top), Some(&2))
+    );
     Ok(())
 }

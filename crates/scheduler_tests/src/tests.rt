@@ -35,9 +35,14 @@ fn moves_a_job(rt: HostRuntime) -> Result<(), Fail> {
 #[test]
 fn lists_the_jobs(rt: HostRuntime) -> Result<(), Fail> {
     let (scheduler, tea, _) = pair(rt.alloc())?;
-    assert_eq!(rt; scheduler.iter().next(), Some((tea, 30, &1)));
-    assert_eq!(rt; scheduler.keys().next(), Some(tea));
-    assert_eq!(rt; scheduler.values().next(), Some(&1));
+    assert_eq!(rt;
+        (
+            scheduler.iter().next(),
+            scheduler.keys().next(),
+            scheduler.values().next()
+        ),
+        (Some((tea, 30, &1)), Some(tea), Some(&1))
+    );
     Ok(())
 }
 
@@ -57,7 +62,6 @@ fn copies(rt: HostRuntime) -> Result<(), Fail> {
     let (mut scheduler, tea, bell) = pair(rt.alloc())?;
     let copy = scheduler.clone()?;
     scheduler.clear();
-    assert_eq!(rt; copy.get(tea), Some(&1));
-    assert_eq!(rt; copy.peek(), Some((20, bell)));
+    assert_eq!(rt; (copy.get(tea), copy.peek()), (Some(&1), Some((20, bell))));
     Ok(())
 }
