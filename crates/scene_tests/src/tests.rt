@@ -34,8 +34,9 @@ fn parents_and_children(rt: HostRuntime) -> Result<(), Fail> {
 fn all_nodes(rt: HostRuntime) -> Result<(), Fail> {
     let (scene, top, first, _) = family(rt.alloc())?;
     let mut nodes = scene.iter();
-    let found = (nodes.len(), nodes.next(), nodes.next());
-    assert_eq!(rt; found, (3, Some((top, &1)), Some((first, &2))));
+    assert_eq!(rt; nodes.len(), 3);
+    assert_eq!(rt; nodes.next(), Some((top, &1)));
+    assert_eq!(rt; nodes.next(), Some((first, &2)));
     Ok(())
 }
 
