@@ -2,9 +2,13 @@
 # compare.sh RUSTRUN SLOTRUN FOLDER
 #
 # Runs both programs on each script FOLDER/NUMBER.KIND.txt, and says of each pair of outputs that differs which reply is
-# the first. The status is 0 where no output and no status differs.
+# the first. The status is 0 where no output and no status differs, and 2 where a program isn't there or ends with a status
+# that neither has.
 set -u
-[ $# -eq 3 ] || { sed -n '2,5s/^# \{0,1\}//p' "$0"; exit 2; }
+[ $# -eq 3 ] || { sed -n '2,6s/^# \{0,1\}//p' "$0"; exit 2; }
+for program in "$1" "$2"; do
+    [ -x "$program" ] || { echo "compare.sh: $program isn't there"; exit 2; }
+done
 scratch=$(mktemp -d)
 trap 'rm -rf "$scratch"' EXIT
 alike=0
@@ -23,6 +27,10 @@ for script in "$3"/*.txt; do
     fi
     "$2" "$kind" <"$script" >"$scratch/port"
     port_status=$?
+    if [ $rust_status -gt 3 ] || [ $port_status -gt 3 ]; then
+        echo "compare.sh: $script: status $rust_status of the Rust, $port_status of slotrun"
+        exit 2
+    fi
     if cmp -s "$scratch/rust" "$scratch/port" && [ $rust_status -eq $port_status ]; then
         alike=$((alike + 1))
         continue

@@ -6,6 +6,7 @@
 
 #[allow(deprecated)]
 use slotmap::{DefaultKey, DenseSlotMap, HopSlotMap, Key, KeyData, SlotMap};
+use std::fmt::Write as _;
 use std::io::{self, Read, Write};
 use std::panic::{self, AssertUnwindSafe};
 use std::process::{exit, ExitCode};
@@ -89,7 +90,11 @@ fn listed(keys: impl Iterator<Item = DefaultKey>, walked: bool) -> String {
     if !walked {
         keys.sort();
     }
-    keys.iter().fold("keys".to_string(), |text, key| format!("{text} {}", key.as_ffi()))
+    let mut text = "keys".to_string();
+    for key in keys {
+        write!(text, " {}", key.as_ffi()).expect("a string takes any text");
+    }
+    text
 }
 
 /// The list of slots that a text is, by the port's rules, or the word of its refusal.

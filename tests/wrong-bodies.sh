@@ -1,43 +1,15 @@
 #!/usr/bin/env bash
-# tests/wrong-bodies.sh [CRATE ..]
+# tests/wrong-bodies.sh [--gate] [CRATE ..]
 #
-# Tries the wrong bodies that the gate leaves out: crates/CRATE/more-wrong-bodies/*.edit, in the form of must-fail edits.
-# The prover has to refuse each. Where no CRATE is named, each crate that has such a folder is tried.
+# Tries each wrong body of these crates, or of all: the files of must-fail, which the gate tries too, and those of
+# more-wrong-bodies. With --gate, those of must-fail alone. The prover has to refuse each, and by a goal: a wrong body that is
+# refused since a proof cites a name that it took away shows nothing of the contract.
 #
-# Run it when a crate's contract changes, and before a release. A crate takes the time of one proof, and about half a
-# minute more for each wrong body. What is printed, and the status, are those of `rt must-fail`.
+# Run it when a crate's contract changes, and before a release. Each wrong body takes 10 to 60 seconds of processor time.
+# Libraries and proofs that `rt check` made of the same text anywhere on this machine are taken as they are. What `rt ci`
+# keeps can't be: a first run after a gate alone proves the crate and the libraries below it once.
 #
-# It works on a copy of the folder as it stands, committed or not, where these edits take the place of those in must-fail.
-# Libraries that are built already (crates/*/out/rlib) go along, so that they are not proved again.
+# The last line has the numbers and the processor time. The status is 0 if each wrong body was refused by a goal, those of
+# more-wrong-bodies perhaps by names.
 set -euo pipefail
-top=$(cd "$(dirname "$0")/.." && pwd)
-
-crates=("$@")
-if [ $# -eq 0 ]; then
-    for folder in "$top"/crates/*/more-wrong-bodies; do
-        crates+=("$(basename "$(dirname "$folder")")")
-    done
-fi
-for crate in "${crates[@]}"; do
-    if [ ! -d "$top/crates/$crate/more-wrong-bodies" ]; then
-        echo "wrong-bodies.sh: there is no folder crates/$crate/more-wrong-bodies" >&2
-        exit 2
-    fi
-done
-
-copy=$(mktemp -d)
-trap 'rm -rf "$copy"' EXIT
-tar -C "$top" --exclude='./.git' --exclude='./crates/*/out' -cf - . | tar -C "$copy" -xf -
-for library in "$top"/crates/*/out/rlib; do
-    [ -d "$library" ] || continue
-    out=$copy/crates/$(basename "$(dirname "$(dirname "$library")")")/out
-    mkdir -p "$out"
-    cp -r "$library" "$out/"
-done
-for crate in "${crates[@]}"; do
-    rm -rf "$copy/crates/$crate/must-fail"
-    mv "$copy/crates/$crate/more-wrong-bodies" "$copy/crates/$crate/must-fail"
-done
-git -C "$copy" init --quiet
-cd "$copy"
-rt must-fail "${crates[@]}"
+exec python3 "$(dirname "$0")/wrong_bodies.py" "$@"
