@@ -59,7 +59,7 @@ impl<K: Key, V: Clone> SlotMap<K, V> {
 }
 
 impl<K: Key, V: Clone> Clone for SlotMap<K, V> {
-    ghost is_clone = { λ m copy. IsCloneBy V.is_clone m copy };
+    ghost is_clone = { λ m copy. IsCloneBy V.is_clone m copy × IsContent true copy };
 
     fn clone(&self) -> Result<Self, AllocError> {
         SlotMap::clone(self)

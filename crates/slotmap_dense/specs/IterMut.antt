@@ -27,7 +27,7 @@ module _ {K V : Type 0} where
 
   -- a call of `next` at s yielded r, the first pair of s, and left t
   abbrev pub iter_mut_steps : (K → Key) → IterMut K V → Option (K × MutBor V) → IterMut K V → Type 0
-  iter_mut_steps data_of s r t = TakesFirst (λ (x : K × MutBor V). (data_of x.0, x.1.now)) (iter_mut_rest data_of s) r (iter_mut_rest data_of t)
+  iter_mut_steps data_of s r t = TakesFirst (λ (x : K × MutBor V). (data_of x.0, x.1.now)) (iter_mut_rest data_of s) r (iter_mut_rest data_of t) × IterMutCanStep t
 
   -- the values that a `ValuesMut` has yet to yield
   abbrev pub values_mut_rest : ValuesMut K V → List V

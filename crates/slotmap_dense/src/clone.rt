@@ -75,7 +75,7 @@ impl<K: Key, V: Clone> DenseSlotMap<K, V> {
 }
 
 impl<K: Key, V: Clone> Clone for DenseSlotMap<K, V> {
-    ghost is_clone = { λ m copy. IsCloneBy V.is_clone m.content copy.content × ClonesInOrder V.is_clone m copy };
+    ghost is_clone = { λ m copy. IsCloneBy V.is_clone m.content copy.content × ClonesInOrder V.is_clone m copy × IsDense copy };
 
     fn clone(&self) -> Result<Self, AllocError> {
         DenseSlotMap::clone(self)
