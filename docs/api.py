@@ -66,6 +66,10 @@ STRUCTURES = {
     "slotmap_scene": ("Scene", "trees of nodes, with children in order"),
     "slotmap_scheduler": ("Scheduler", "jobs ordered by time, each with a handle"),
 }
+# What they share, with a page of its own.
+SHARED = "slotmap_keylist"
+# What a caller's clauses import.
+CALLERS = "crates/slotmap/specs/Words.antt"
 WRITTEN = "Written by `docs/api.py` from the sources. Don't edit it by hand: `docs/api.py --check` fails if this page is out of date."
 
 
@@ -270,7 +274,7 @@ def new_page(name, title):
 
 def pages_of_structures():
     """A page for each structure."""
-    for crate in STRUCTURES:
+    for crate in [*STRUCTURES, SHARED]:
         head, items = module_items(crate, "")
         page = new_page(crate, crate)
         page.add(f"To use it, list `slotmap {crate}` in `crates.txt`.", "", *prose(head), "")
@@ -311,13 +315,26 @@ def first_page(all_items):
         "where they differ.", "")
     add_table(page, all_items)
     page.heading(2, "Structures")
-    page.add("Each is a crate of its own.", "")
+    page.add(f"Each is a crate of its own. What they share is the crate [`{SHARED}`](api/{SHARED}.md).", "")
     page.add("| Type | What it is | Calls |", "|---|---|---|")
     for crate, (name, what) in STRUCTURES.items():
         calls = calls_of(name, module_items(crate, "")[1])
-        cells = ", ".join(f"[`{it}`](api/{crate}.md#{anchor_of(f'{name}::{it}')})" for it in calls)
-        page.add(f"| [`{crate}::{name}`](api/{crate}.md) | {what} | {cells} |")
+        page.add(f"| [`{crate}::{name}`](api/{crate}.md) | {what} | [{len(calls)} calls](api/{crate}.md#{anchor_of(name)}) |")
+    page.heading(2, "Words that callers import")
+    page.add("A clause has the word of its crate. A caller imports it from `Rattle.slotmap.specs.Words`, where these have another name, since",
+        "another crate has a word of that name:", "")
+    page.add("| In the clauses of | The word there | The caller's word |", "|---|---|---|")
+    page.add(*renamed_words())
     return page
+
+
+def renamed_words():
+    """The rows of the words that callers import under another name."""
+    rows = []
+    for crate, module, names in re.findall(r"(?m)^pub use Rattle\.(\w+)\.specs\.([\w.]+)\.\{([^}]*)\}$", read(CALLERS)):
+        where = f"`{module.split('.')[-2] if '.' in module else module + '.antt'}` of `{crate}`"
+        rows += [f"| {where} | `{one}` | `{other}` |" for one, _, other in (it.partition(" as ") for it in names.split(", ")) if other]
+    return rows
 
 
 def all_pages():

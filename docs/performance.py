@@ -1,8 +1,10 @@
 #!/usr/bin/env python3
-"""Writes the tables of docs/PERFORMANCE.md from compare/bench/results.tsv. With --check nothing is written.
+"""Writes the tables of docs/PERFORMANCE.md, and that of the maps in README.md, from compare/bench/results.tsv. With --check
+nothing is written.
 
-It fails where a table is out of date, where an operation that is slower than 1.25 times the Rust crate's has no cause in the
-page, where a cause is given for one that isn't, and where README.md has other figures.
+It fails where a table is out of date, where an operation that is slower than 1.25 times the Rust crate's, in instructions or in
+time at any size, has no cause in the page, and where a cause is given for one that isn't. It also fails where the figures don't
+bear out what README.md says of the maps.
 """
 
 import math
@@ -24,18 +26,24 @@ FIGURES = os.path.join(TOP, "compare/bench/results.tsv")
 MAPS = {it.name: it for it in operations.MAPS}
 PRIMARY, SECONDARY = ["basic", "dense", "hop"], ["secondary", "sparse", "folded"]
 VALUED = [f"{it}-values" for it in PRIMARY]
-HEADS = {name: f"`{it.type}`" for name, it in MAPS.items()} | {"folded": "the same, a folding hasher in Rust too"}
+HEADS = {name: f"`{it.type}`" for name, it in MAPS.items()} | {"folded": "`SparseSecondaryMap`, both with a folding hasher"}
 SLOW = 1.25
+TIMES = (1_000, 100_000, 1_000_000)
+# Two figures of which one is this much larger aren't the same.
+APART = 1.05
 
-# What the lines of README's table on maps have to say, in figures of instructions at 1,000 slots. After these come the mean
-# of the times at 1,000 slots, and the memory for a key.
-README_FIGURES = {
-    "SlotMap": "look-up {get-live}, insert {insert-room} to {insert}",
-    "DenseSlotMap": "look-up {get-live}, a step of iteration {iter-full}",
-    "HopSlotMap": "removal and insert {churn}, a step of iteration {iter-full}",
-    "SecondaryMap": "look-up {get}",
-    "SparseSecondaryMap": "look-up {get}",
-}
+# The lines of the table of the maps: what, and the operation of the primary and of the secondary maps. README has those that
+# are marked.
+CHOICES = [
+    ("`insert`, from an empty map", "insert", "insert", True),
+    ("`get` of a live or present key", "get-live", "get", True),
+    ("`get` of a stale or absent key", "get-stale", "get-absent", True),
+    ("a removal and an insert", "churn", "churn", True),
+    ("a step of `iter`, all slots live", "iter-full", "iter", True),
+    ("a step of `iter`, a random half live", "iter-half", "", True),
+    ("a step of `iter`, a random 1 in 10 live", "iter-tenth", "", False),
+    ("a step of `iter`, 1 slot in 100 live", "iter-few", "", True),
+]
 
 
 def read(path):
@@ -77,32 +85,49 @@ def family(kinds):
     return operations.FAMILIES[MAPS[kinds[0]].family]
 
 
-def counts(figures, kinds, slots):
-    """What each operation costs in instructions, with the means of the ratios below."""
+def costs(figures, kinds):
+    """What each operation costs as a part of what it costs in Rust: instructions at 1,000 slots, in brackets at 100,000 where that
+    is another figure; and then the time at each number of slots. The means are below."""
+
+    def both(few, many):
+        is_apart = many and max(few, many) > APART * min(few, many)
+        return f"**{few:.2f}**" + (f" ({many:.2f})" if is_apart else "")
 
     def cell(kind, operation):
-        row = figures.row("instructions", kind, operation.name, slots)
-        return f"{row.port:.1f} / {row.rust:.1f} = **{row.ratio:.2f}**" if row else "-"
+        few, many = (figures.row("instructions", kind, operation.name, it) for it in (1_000, 100_000))
+        found = [figures.row("time", kind, operation.name, it) for it in TIMES]
+        spent = " · ".join(f"{it.ratio:.2f}" if it else "?" for it in found)
+        return f"{both(few.ratio, many.ratio if many else 0)} · {spent}" if few else "-"
 
     rows = [[it.title, *[cell(kind, it) for kind in kinds]] for it in family(kinds)]
-    means = [f"**{mean_text(figures.ratios('instructions', kind, slots))}**" for kind in kinds]
+    means = []
+    for kind in kinds:
+        few, many = (figures.ratios("instructions", kind, it) for it in (1_000, 100_000))
+        spent = " · ".join(mean_text(figures.ratios("time", kind, it)) for it in TIMES)
+        means.append(f"{both(mean(few), mean(many) if many else 0)} · {spent}" if few else "?")
     return table(["What", *[HEADS[it] for it in kinds]], [*rows, ["geometric mean", *means]])
 
 
-TIMES = (1_000, 100_000, 1_000_000)
-
-
-def times(figures, kinds):
-    """The ratios of processor time at each number of slots at which all operations were measured."""
-    sizes = [it for it in TIMES if all(figures.ratios("time", kind, it) for kind in kinds)]
+def choices(figures, is_short):
+    """What a chooser needs: nanoseconds at the smallest and at the largest size, and bytes for a key, of the five maps."""
+    kinds = [*PRIMARY, "secondary", "sparse"]
 
     def cell(kind, operation):
-        found = [figures.row("time", kind, operation.name, it) for it in sizes]
-        return " · ".join(f"{it.ratio:.2f}" if it else "?" for it in found) if any(found) else "-"
+        found = [figures.row("time", kind, operation, it) for it in (TIMES[0], TIMES[-1])]
+        return " · ".join(f"{it.port:.1f}" + ("" if is_short else f" / {it.rust:.1f}") for it in found) if operation and all(found) else "-"
 
-    rows = [[it.title, *[cell(kind, it) for kind in kinds]] for it in family(kinds)]
-    means = [" · ".join(mean_text(figures.ratios("time", kind, it)) for it in sizes) for kind in kinds]
-    return table(["What", *[HEADS[it] for it in kinds]], [*rows, ["geometric mean", *means]])
+    def size(kind, values):
+        row = figures.row("memory", f"{kind}-values", f"insert-{values}", 1_000_000) or (
+            figures.row("memory", kind, "insert", 1_000_000) if values == "u64" else None)
+        return f"{row.port:.0f}" if row else "-"
+
+    rows = [
+        [title, *[cell(kind, primary if kind in PRIMARY else secondary) for kind in kinds]]
+        for title, primary, secondary, in_readme in CHOICES
+        if in_readme or not is_short
+    ]
+    rows.append(["bytes for a key, at values of 8 · 32 bytes", *[f"{size(it, 'u64')} · {size(it, 'words4')}" for it in kinds]])
+    return table(["", *[HEADS[it] for it in kinds]], rows)
 
 
 def summary(figures):
@@ -119,17 +144,16 @@ def summary(figures):
 
 def values(figures):
     """Some operations with values of several sizes: the ratios of instructions and of time."""
-    sizes = list(operations.VALUES.values())
 
-    def cell(kind, operation):
-        found = [figures.row("instructions", kind, operation, 1_000), figures.row("time", kind, operation, 100_000)]
+    def cell(kind, operation, measure, slots):
+        found = [figures.row(measure, kind, f"{operation}-{it}", slots) for it in operations.VALUES]
         return " · ".join(f"{it.ratio:.2f}" if it else "?" for it in found)
 
     rows = []
     for one in operations.VALUED_ALONE:
-        for name, size in operations.VALUES.items():
-            rows.append([f"{one.title}, {size}", *[cell(kind, f"{one.name}-{name}") for kind in VALUED]])
-    return table([f"What, and the bytes of a value ({sizes[0]} to {sizes[-2]}, or a text)", *[HEADS[it] for it in PRIMARY]], rows)
+        for measure, slots in (("instructions", 1_000), ("time", 100_000)):
+            rows.append([f"{one.title}: {measure}", *[cell(kind, one.name, measure, slots) for kind in VALUED]])
+    return table(["What", *[HEADS[it] for it in PRIMARY]], rows)
 
 
 def stepped(figures):
@@ -225,13 +249,11 @@ def memory_values(figures):
 
 
 TABLES = {
+    "choices": lambda it: choices(it, False),
+    "maps": lambda it: choices(it, True),
     "summary": summary,
-    "primary": lambda it: counts(it, PRIMARY, 1_000),
-    "primary-large": lambda it: counts(it, PRIMARY, 100_000),
-    "primary-time": lambda it: times(it, PRIMARY),
-    "secondary": lambda it: counts(it, SECONDARY, 1_000),
-    "secondary-large": lambda it: counts(it, SECONDARY, 100_000),
-    "secondary-time": lambda it: times(it, SECONDARY),
+    "primary": lambda it: costs(it, PRIMARY),
+    "secondary": lambda it: costs(it, SECONDARY),
     "memory": memory,
     "memory-values": memory_values,
     "values": values,
@@ -249,7 +271,7 @@ def with_tables(page, figures):
     def fresh(match):
         name = match.group(1)
         if name not in TABLES:
-            sys.exit(f"docs/PERFORMANCE.md: no table {name}")
+            sys.exit(f"performance.py: no table {name}")
         text = TABLES[name](figures)
         is_empty = not re.search(r"\d\.\d", text)
         return f"<!-- table {name} -->\n{'Not measured.' if is_empty else text}\n<!-- end -->"
@@ -274,46 +296,61 @@ def causes(page):
     return found, wrong
 
 
-def faults_of_causes(page, figures):
-    given, wrong = causes(page)
-    slow = {
+def slow_operations(figures):
+    """The operations that take more than 1.25 times as long as the Rust crate's, or as many instructions, at any size."""
+    return {
         (kind, operation)
-        for (measure, kind, operation, slots), row in figures.rows.items()
-        if kind in PRIMARY + SECONDARY and measure == "instructions" and slots == 1_000 and round(row.ratio, 2) > SLOW
+        for (measure, kind, operation, _), row in figures.rows.items()
+        if kind in PRIMARY + SECONDARY and measure in ("instructions", "time") and round(row.ratio, 2) > SLOW
+        and operation in {it.name for it in operations.operations_of(MAPS[kind])} and row.slots in TIMES
     }
+
+
+def faults_of_causes(page, figures):
+    (given, wrong), slow = causes(page), slow_operations(figures)
     wrong += [f"docs/PERFORMANCE.md: no cause for {kind} {operation}" for kind, operation in sorted(slow - given)]
     wrong += [f"docs/PERFORMANCE.md: {kind} {operation} needs no cause" for kind, operation in sorted(given - slow, key=str)]
     return wrong
 
 
-def faults_of_readme(figures):
-    text, wrong = read(README), []
-    for name, form in README_FIGURES.items():
-        kind = next(it for it in PRIMARY + SECONDARY if MAPS[it].type == name)
-        ratios = {
-            op.name: f"{figures.row('instructions', kind, op.name, 1_000).ratio:.2f}"
-            for op in operations.operations_of(MAPS[kind])
-        }
-        wanted = re.sub(r"\{([\w-]+)\}", lambda it: ratios[it.group(1)], form)
-        memory = figures.row("memory", kind, "insert", 1_000_000)
-        means = f"| {mean_text(figures.ratios('time', kind, 1_000))} | {memory.ratio:.2f} |" if memory else "| ? | ? |"
-        line = next(it for it in text.split("\n") if it.startswith(f"| `{name}` |"))
-        if wanted not in line or not line.endswith(means):
-            wrong.append(f"README.md, line of {name}: {wanted} .. {means}")
-    return wrong
+def faults_of_claims(figures):
+    """What README.md says of the primary maps, and the figures don't bear out. It is about 100,000 slots and 1,000,000."""
+
+    def all_times(operation, chosen):
+        return all(chosen({it: figures.row("time", it, operation, size).port for it in PRIMARY}) for size in TIMES[1:])
+
+    def sizes(chosen):
+        return chosen({it: figures.row("memory", it, "insert", 1_000_000).port for it in PRIMARY})
+
+    claims = {
+        "`SlotMap` finds stale keys fastest": all_times("get-stale", lambda it: it["basic"] == min(it.values())),
+        "`SlotMap` iterates well with vacant slots": all(
+            all_times(name, lambda it: it["basic"] < it["hop"]) for name in ("iter-half", "iter-tenth")
+        ),
+        "`DenseSlotMap` iterates fastest": all(
+            all_times(name, lambda it: 2 * it["dense"] <= min(it["basic"], it["hop"])) for name in ("iter-full", "iter-half", "iter-few")
+        ),
+        "`DenseSlotMap` inserts three times slower": all_times("insert", lambda it: it["dense"] >= 3 * it["basic"]),
+        "`HopSlotMap` has the fastest inserts": all_times("insert", lambda it: it["hop"] == min(it.values())),
+        "`HopSlotMap` has the fastest look-ups of live keys": all_times("get-live", lambda it: it["hop"] == min(it.values())),
+        "`HopSlotMap` takes the least memory": sizes(lambda it: it["hop"] == min(it.values())),
+    }
+    return [f"README.md: the figures don't say that {it}" for it, is_so in claims.items() if not is_so]
 
 
 def main():
     if sys.argv[1:] not in ([], ["--check"]):
         sys.exit("usage: docs/performance.py [--check]")
-    figures, page = Figures(), read(PAGE)
-    fresh = with_tables(page, figures)
-    wrong = faults_of_causes(page, figures) + faults_of_readme(figures)
-    if fresh != page and sys.argv[1:] == ["--check"]:
-        wrong.append("docs/PERFORMANCE.md is out of date")
-    elif fresh != page:
-        with open(PAGE, "w", encoding="utf-8") as file:
-            file.write(fresh)
+    figures = Figures()
+    wrong = faults_of_causes(read(PAGE), figures) + faults_of_claims(figures)
+    for path in (PAGE, README):
+        page = read(path)
+        fresh = with_tables(page, figures)
+        if fresh != page and sys.argv[1:] == ["--check"]:
+            wrong.append(f"{os.path.relpath(path, TOP)} is out of date: run docs/performance.py")
+        elif fresh != page:
+            with open(path, "w", encoding="utf-8") as file:
+                file.write(fresh)
     print("\n".join(wrong), end="\n" if wrong else "")
     return 1 if wrong else 0
 

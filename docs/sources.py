@@ -199,7 +199,7 @@ def module_items(crate, module):
     children = re.findall(r"(?m)^(pub )?mod (\w+);", text)
     shown = set(re.findall(r"(?m)^pub use (?:\w+::)*(\w+);", text))
     for public, child in children:
-        child_path = f"crates/{crate}/src/{module}/{child}.rt"
+        child_path = os.path.join(f"crates/{crate}/src", module, f"{child}.rt")
         with open(os.path.join(TOP, child_path), encoding="utf-8") as file:
             lines = file.read().split("\n")
         items = read_items(child_path, lines, 0, len(lines), 0)

@@ -1,7 +1,8 @@
 #!/usr/bin/env python3
 """Lists the words of this repository's definitions that public clauses use, each with the file that defines it and how
-many clauses use it. Fails if docs/DEFINITIONS.md doesn't name one, or if README.md has other numbers of lines of the
-definitions. With --check only faults are printed."""
+many clauses use it. Fails if docs/DEFINITIONS.md doesn't name one, or if README.md has other numbers of definitions and of
+their lines. These are counted by definition: those that clauses name, with all that they cite. With --check only faults are
+printed."""
 
 import functools
 import glob
@@ -11,6 +12,7 @@ import sys
 
 sys.dont_write_bytecode = True
 
+from definitions import declared_at, files, reached_from
 from sources import CONTRACTS, TOP, facade, items_of
 
 
@@ -92,56 +94,67 @@ def clauses_of(item, in_trait=False, in_impl_of_trait=False):
     return []
 
 
-def words_of_clauses():
+def note_words(found, item, clauses, fields):
+    """Counts the words of these clauses of an item."""
+    words, modules = imports_of(item.path)
+    for clause in clauses:
+        used = set()
+        for before, name in re.findall(r"((?:\w+\.)*)([^\W\d]\w*)", clause):
+            first = before.split(".")[0] if before else name
+            if first in modules and before:
+                used.add((name, modules[first]))
+            elif not before and name in words:
+                used.add(words[name])
+            elif before and first in words:
+                used.add(words[first])
+        for name in re.findall(r"\.([a-z_]\w*)", clause):
+            if name in fields and not re.search(rf"\b(map|pair|set)\.{name}\b", clause):
+                used.add((name, fields[name]))
+        for word in used:
+            found[word] = found.get(word, 0) + 1
+
+
+def words_of_clauses(crates=()):
+    """The words of the public clauses of these crates, or of all crates of the facade: each with its file, and how many
+    clauses use it."""
     fields, found = fields_of_specs(), {}
-
-    def note(word, spec):
-        entry = found.setdefault((word, spec), 0)
-        found[(word, spec)] = entry + 1
-
-    for crate in sorted({crate for _, crate, _ in facade()}):
+    for crate in crates or sorted({crate for _, crate, _ in facade()}):
         for item in items_of(crate):
-            words, modules = imports_of(item.path)
-            for clause in clauses_of(item):
-                used = set()
-                for before, name in re.findall(r"((?:\w+\.)*)([^\W\d]\w*)", clause):
-                    first = before.split(".")[0] if before else name
-                    if first in modules and before:
-                        used.add((name, modules[first]))
-                    elif not before and name in words:
-                        used.add(words[name])
-                    elif before and first in words:
-                        used.add(words[first])
-                for name in re.findall(r"\.([a-z_]\w*)", clause):
-                    if name in fields and not re.search(rf"\b(map|pair|set)\.{name}\b", clause):
-                        used.add((name, fields[name]))
-                for word, spec in used:
-                    note(word, spec)
+            note_words(found, item, clauses_of(item), fields)
     return found
 
 
-def lines_of_definitions(found):
-    """How many lines all definitions have, and how many those files that public clauses of the maps rest on."""
-    every = {os.path.relpath(it, TOP) for it in glob.glob(os.path.join(TOP, "crates/*/specs/**/*.antt"), recursive=True)}
-    texts, reached, waiting = {}, set(), [spec for _, spec in found]
-    for path in every:
-        with open(os.path.join(TOP, path), encoding="utf-8") as file:
-            texts[path] = file.read()
-    while waiting:
-        path = waiting.pop()
-        if path in reached or path not in every:
-            continue
-        reached.add(path)
-        for crate, module, names in re.findall(r"Rattle\.(\w+)\.specs\.([\w.]+?)(?:\.\{([^}]*)\}| as |\.?\s)", texts[path]):
-            spec = f"crates/{crate}/specs/{module.replace('.', '/')}.antt"
-            waiting += [declared_in(name.strip().partition(" as ")[0], spec)[1] for name in names.split(",")] if names else [spec]
-    return sum(it.count("\n") for it in texts.values()), sum(texts[it].count("\n") for it in reached)
+def roots(found):
+    """The definitions of these words. That of a field is its record."""
+    kept = []
+    for word, spec in found:
+        definition = declared_at(word, spec)
+        for record in files()[spec].definitions.values() if not definition and spec in files() else ():
+            if any(re.match(rf" +pub {re.escape(word)} :", it) for it in record.lines):
+                definition = record
+        if definition and definition not in kept:
+            kept.append(definition)
+    return kept
+
+
+def roots_of_call(crate, name):
+    """The definitions that the clauses of a function name."""
+    found, item = {}, next(it for it in items_of(crate) if it.kind == "fn" and it.name == name)
+    note_words(found, item, clauses_of(item), {})
+    return roots(found)
+
+
+def size_of(first):
+    """How many definitions these ones rest on, themselves included, and how many lines these have without comments."""
+    reached = reached_from(first)
+    return len(reached), sum(len(it.code()) for it in reached)
 
 
 def fault_of_readme(found):
-    """What README.md should say of the lines of the definitions, if it says something else."""
-    wanted = "have some {:,} lines, and public clauses of the maps rest on about {:,} of them".format(
-        *(round(it, -2) for it in lines_of_definitions(found))
+    """What README.md should say of the definitions, if it says something else."""
+    every, alone, theorem = size_of(roots(found)), size_of(roots(words_of_clauses(["slotmap_basic"]))), size_of(roots_of_call("slotmap_run", "run_new"))
+    wanted = "on some {} definitions of {:,} lines in all, those of `SlotMap` on {} of {}, and the run theorem on {} of {}".format(
+        *(round(it, -1) for it in (*every, *alone)), *theorem
     )
     with open(os.path.join(TOP, "README.md"), encoding="utf-8") as file:
         return "" if wanted in " ".join(file.read().split()) else f"README.md, definitions: {wanted}"

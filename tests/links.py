@@ -5,9 +5,14 @@
   a line, as file.rt#L7, names one where an item begins, and the number in its text is the same.
 - Each path in a page's code, as `docs/api.py`, is that of a file or folder.
 - Each word of a contract in a table of docs/PROVED.md is one of the crate of that table: a call or type, one of its
-  clauses, or a word of the definitions. A clause in brackets after calls is one of these calls.
+  clauses, or a word of the definitions.
+- A part of a cell there such as "`insert`, `reattach`: `order` (`Appends`), `err`" names calls and their clauses. Each clause exists
+  in one of these calls, and each call has one of these clauses. A word in brackets is in the clauses of the part, or in a
+  definition that they rest on.
+- How long a proof takes is said once: of the gate, of a first check, and of a faulty body.
 """
 
+import functools
 import glob
 import os
 import re
@@ -18,6 +23,7 @@ TOP = os.path.dirname(os.path.dirname(os.path.abspath(__file__)))
 sys.dont_write_bytecode = True
 sys.path.insert(0, os.path.join(TOP, "docs"))
 
+import definitions
 from sources import items_of
 
 LINK = re.compile(r"!?\[((?:[^\[\]]|\[[^\]]*\])*)\]\(([^)\s]+)\)")
@@ -25,7 +31,7 @@ ITEM = re.compile(r"\b(pub|impl|fn|struct|enum|trait|ghost)\b")
 # Where a path in code may begin, besides the top and the page's own folder.
 ROOTS = ["crates", "crates/*", "crates/slotmap_core/src", "crates/slotmap_slots/src"]
 # Paths that a page names and that aren't of the repository: those of templates, of examples, and of other machines.
-OTHERS = ("proofs/echo", "src/clock.rt", "src/lib.rs", "proofs/MAP", "CRATE/", "OUT/", "/usr/", "crates/slotrun/out/", "proofs/find_key",
+OTHERS = ("crates/app", "proofs/echo", "src/clock.rt", "src/lib.rs", "proofs/MAP", "CRATE/", "OUT/", "/usr/", "crates/slotrun/out/", "proofs/find_key",
           "proofs/fill", "proofs/count_reads", "proofs/tour")
 
 
@@ -132,10 +138,70 @@ def functions_of(crate):
     return found
 
 
+def clauses_in(text):
+    """The clauses of a function, or of several: for each name the text of those that have it."""
+    found = {}
+    parts = re.split(r"\b(?:ensures\*?|requires) (\w+) \{", text)
+    for name, clause in zip(parts[1::2], parts[2::2]):
+        found[name] = found.get(name, "") + "\n" + clause
+    return found
+
+
+def words_below(text):
+    """The words of a text, and those of the definitions that it rests on."""
+    found, waiting = set(), set(re.findall(r"[^\W\d][\w-]*", text))
+    while waiting:
+        word = waiting.pop()
+        if word not in found:
+            found.add(word)
+            waiting |= cited_words().get(word, set())
+    return found
+
+
+@functools.cache
+def cited_words():
+    """For each name of a definition the words of all definitions of that name."""
+    found = {}
+    for file in definitions.files().values():
+        for definition in file.definitions.values():
+            found.setdefault(definition.name, set()).update(re.findall(r"[^\W\d][\w-]*", "\n".join(definition.code())))
+    return found
+
+
 def names_in(text):
     """The names in the code of a text, without paths of files."""
     text = re.sub(r"`[\w/]+\.antt`", "", text)
     return {name for code in re.findall(r"`([^`]+)`", text) for name in re.findall(r"[A-Za-z][\w-]*", code)}
+
+
+def check_part(part, functions, fault):
+    """A part of a cell: calls, a colon, and their clauses with words in brackets."""
+    head, colon, rest = part.partition(": ")
+    calls = [it for it in names_in(head) if it in functions]
+    if not colon or not calls:
+        return
+    clauses = {it: clauses_in(functions[it]) for it in calls}
+    named = names_in(re.sub(r"\([^()]*\)", "", rest))
+    for name in sorted(named):
+        if not any(name in clauses[it] for it in calls):
+            fault(f"`{name}`", f"no clause of {', '.join(sorted(calls))}")
+    for it in sorted(calls):
+        if named and not named & clauses[it].keys():
+            fault(f"`{it}`", "has none of the clauses that are named")
+    below = words_below("\n".join(text for it in calls for name, text in clauses[it].items() if name in named))
+    for name in sorted(names_in(" ".join(re.findall(r"\(([^()]*)\)", rest))) - below):
+        fault(f"`{name}`", f"in no clause that is named, nor below one, of {', '.join(sorted(calls))}")
+
+
+LIBRARY = ("slotmap_basic", "slotmap_dense", "slotmap_hop", "slotmap_secondary", "slotmap_sparse", "slotmap_run", "slotmap_core")
+
+
+def functions_of_all(crates):
+    found = {}
+    for crate in crates:
+        for name, text in functions_of(crate).items():
+            found[name] = found.get(name, "") + "\n" + text
+    return found
 
 
 def check_proved(fault):
@@ -145,23 +211,45 @@ def check_proved(fault):
         if line.startswith("## "):
             crate = heading.group(1) if heading and os.path.isdir(os.path.join(TOP, "crates", heading.group(1))) else ""
             functions = functions_of(crate) if crate else {}
+            if line == "## The promises":
+                crate, functions = "the library", functions_of_all(LIBRARY)
         cells = line.strip("|").split(" | ")
         if not crate or not line.startswith("| ") or len(cells) != 2 or cells[1].strip() == "Carried by":
             continue
         clauses = {it for text in functions.values() for it in re.findall(r"\b(?:ensures\*?|requires) (\w+) \{", text)}
         for name in sorted(names_in(cells[1]) - defined - clauses - functions.keys()):
             fault(f"{page}:{number}", f"`{name}`", f"no word of {crate} or of the definitions")
-        for calls, inside in re.findall(r"((?:`[\w-]+`(?:, | and )?)+) \(([^()]*)\)", cells[1]):
-            texts = [functions[it] for it in names_in(calls) if it in functions]
-            for name in sorted(names_in(inside)) if texts else []:
-                if not any(re.search(rf"(?<![\w-]){re.escape(name)}(?![\w-])", text) for text in texts):
-                    fault(f"{page}:{number}", f"`{name}`", f"in no clause of {calls}")
+        for part in re.split(r"; ", cells[1].strip(" |")):
+            check_part(part, functions, lambda what, why, at=number: fault(f"{page}:{at}", what, why))
+
+
+# What takes how long is said in one file each: sentences with a number of minutes, seconds or hours, about one of these.
+COSTS = {
+    "the gate": r"\bgate\b|`rt ci`|`bash \.ci/run`|proofs-and-tests",
+    "a first check": r"\bfirst (check|time)\b|proves? (the |its )?(ten |three )?librar",
+    "a faulty body": r"\b(wrong|faulty) bod(y|ies)\b",
+}
+TIME = r"\b[\d,.]+ (processor )?(minutes?|seconds?|hours?)\b|_MINUTES\b|_CLOCK\b"
+
+
+def check_costs(pages, fault):
+    for what, about in COSTS.items():
+        saying = set()
+        for page in sorted(it for it in pages if it.endswith((".md", ".sh"))):
+            text = re.sub(r"(?m)^# ?", "", read(page)) if page.endswith(".sh") else without_blocks(read(page))
+            for sentence in re.split(r"(?<=[.:!?|])\s+(?=[A-Z`*|-])", re.sub(r"\s*\n(?![\n|*#-])\s*", " ", text)):
+                if re.search(about, sentence) and re.search(TIME, sentence):
+                    saying.add(page)
+        # ARCHITECTURE has the parts of README's sum.
+        if len(saying - {"docs/ARCHITECTURE.md"}) > 1:
+            fault(", ".join(sorted(saying)), what, "its time is said more than once")
 
 
 def main():
     pages = Pages()
     pages.check()
     check_proved(pages.fault)
+    check_costs(pages.tracked, pages.fault)
     print("\n".join(pages.faults), end="\n" if pages.faults else "")
     print(f"{pages.count} links, {len(pages.faults)} faults")
     return 1 if pages.faults else 0

@@ -5,7 +5,7 @@
 # more-wrong-bodies. With --gate, those of must-fail alone. The prover has to refuse each, and by a goal: a wrong body that is
 # refused since a proof cites a name that it took away shows nothing of the contract.
 #
-# Run it when a crate's contract changes, and before a release. Each wrong body takes 10 to 60 seconds of processor time.
+# Run it when a crate's contract changes, and before a release. docs/ARCHITECTURE.md says what a wrong body costs.
 # Libraries and proofs that `rt check` made of the same text anywhere on this machine are taken as they are. What `rt ci`
 # keeps can't be: a first run after a gate alone proves the crate and the libraries below it once.
 #

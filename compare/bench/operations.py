@@ -114,8 +114,8 @@ STEPPED = [
 
 LIST = [
     Operation("push", "Push", "`push_back`, from an empty list", each),
-    Operation("walk", "Walk", "a step of `iter`, over elements that lie by chance", each),
-    Operation("touch", "Touch", "`move_to_front` of an element by chance", each),
+    Operation("walk", "Walk", "a step of `iter`, over elements in random order", each),
+    Operation("touch", "Touch", "`move_to_front` of a random element", each),
     Operation("churn", "Churn", "a removal by cursor, and `push_back`", each),
 ]
 
@@ -127,8 +127,8 @@ GRAPH = [
 ]
 
 SCENE = [
-    Operation("build", "Build", "`add_child` below a node by chance", each),
-    Operation("move", "Move", "`reparent` to a node by chance", each),
+    Operation("build", "Build", "`add_child` below a random node", each),
+    Operation("move", "Move", "`reparent` to a random node", each),
     Operation("climb", "Climb", "`fold_up` from a node to its root", each),
     Operation("children", "Children", "a node of `children`, and its value", each),
 ]

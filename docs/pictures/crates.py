@@ -6,10 +6,12 @@ import sys
 
 sys.dont_write_bytecode = True
 
-from svg import BLUE, FOLDER, GREEN, INK, ORANGE, RED, SOFT, Picture
+from svg import BLUE, FOLDER, GREEN, INK, ORANGE, RED, SOFT, Picture, fitted
 
 # The five structures stand as one: each uses slotmap alone.
 STRUCTURES = "five structures"
+# So do the crates of their tests.
+TESTS = "five crates of tests"
 MEMBERS = {"slotmap_list", "slotmap_keylist", "slotmap_graph", "slotmap_entities", "slotmap_scene", "slotmap_scheduler"}
 # Where each crate is: its column and row, and what it has.
 CRATES = {
@@ -30,22 +32,24 @@ CRATES = {
     "joined_rows": (3.85, 4, "checks runs on two maps"),
     STRUCTURES: (5.5, 4, "list, graph, entities, scene, scheduler"),
     "slotmap_examples": (2.2, 5, "callers of the maps"),
-    "structure_examples": (3.85, 5, "callers and tests of the structures"),
+    "structure_examples": (3.85, 5, "callers of the structures"),
+    TESTS: (0.55, 5, "list_tests .. scheduler_tests"),
     "slotdemo": (5.5, 5, "program: a demonstration"),
 }
 COLORS = {
     "slotmap": BLUE, "slotrun": ORANGE, "primary_rows": GREEN, "secondary_rows": RED, "joined_rows": SOFT, STRUCTURES: BLUE,
     "slotmap_examples": BLUE, "structure_examples": SOFT, "slotdemo": ORANGE,
+    TESTS: GREEN,
 }
 PITCH, LEFT, TOPS = 152, 22, [698, 598, 460, 316, 186, 66]
 HEIGHT = 56
 
 
-# The library of a program stands as the program, and the tests of a library as the library.
+# The library of a program stands as the program, and the tests of another library as that library.
 LIBRARIES = {
     "slotmap_rows_primary": "primary_rows", "slotmap_rows_secondary": "secondary_rows", "json_tests": "slotmap_json",
     "slotmap_script": "slotrun", "script_tests": "slotrun",
-    **{f"{name}_tests": "structure_examples" for name in ("list", "graph", "entities", "scene", "scheduler")},
+    **{f"{name}_tests": TESTS for name in ("list", "graph", "entities", "scene", "scheduler")},
 }
 
 
@@ -103,7 +107,7 @@ def drop(name, to, shift, bus, color):
 
 
 # Two crates that use the same ones have a level and a shift each, so that their lines keep apart.
-LEVELS = {"slotmap": (30, -12), "slotrun": (52, 12), "primary_rows": (28, -12), "secondary_rows": (48, 4), "joined_rows": (38, 20), STRUCTURES: (58, 36), "slotmap_examples": (18, -99), "structure_examples": (46, -30), "slotdemo": (32, 0)}
+LEVELS = {"slotmap": (30, -12), "slotrun": (52, 12), "primary_rows": (28, -12), "secondary_rows": (48, 4), "joined_rows": (38, 20), STRUCTURES: (58, 36), "slotmap_examples": (18, -99), "structure_examples": (46, -30), "slotdemo": (32, 0), TESTS: (8, 60)}
 for name in uses:
     for to in sorted(uses[name], key=lambda it: CRATES[it][0]):
         if to == "slotmap_core":
@@ -120,6 +124,6 @@ for name, (_, row, what) in CRATES.items():
     x, y, width = middle_of(name), TOPS[row], width_of(name)
     picture.rect(x - width / 2, y, width, HEIGHT, "#f6f8fa", COLORS.get(name, SOFT), 8, 2.5 if name in COLORS else 1.5)
     picture.text(x, y + 24, name, 15 if width > 146 else 12.5, INK, bold=True)
-    picture.text(x, y + 43, what, 14 if width > 146 else 12.5, SOFT)
+    picture.text(x, y + 43, what, fitted(what, 14 if width > 146 else 12.5, width), SOFT)
 
 picture.finish("crates.svg")

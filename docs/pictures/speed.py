@@ -8,6 +8,7 @@ import sys
 sys.dont_write_bytecode = True
 
 from svg import BLUE, FOLDER, GREEN, INK, ORANGE, SOFT, Picture
+from widths import width_of
 
 sys.path.insert(0, os.path.join(FOLDER, "../../compare/bench"))
 
@@ -19,7 +20,7 @@ COLORS = [BLUE, ORANGE, GREEN]
 # The picture is as wide as the text of a page, so that its letters are as large there as here.
 PAGE = 830
 BAR, GAP = 14, 14
-LABEL = 350
+LABEL = 384
 WIDTH = PAGE - LABEL - 70
 TOP = 112
 
@@ -82,7 +83,7 @@ def draw(name, title, names, shown):
     for head, color in zip(names, COLORS):
         picture.rect(x, 54, 14, 14, color, color, 2)
         picture.text(x + 21, 66, head, 14, INK, "start")
-        x += 44 + 8.4 * len(head)
+        x += 45 + width_of(head, 14)
     picture.text(24, 90, f"{SLOTS:,} slots; a bar to the left of 1 is fewer instructions; log scale", 14, SOFT, "start")
     scale = Scale([it for _, ratios in shown for it in ratios if it is not None], LABEL)
     draw_scale(picture, scale, bottom)
@@ -97,7 +98,7 @@ def main():
     secondary = ratios_of(rows, ["secondary", "sparse", "folded"])
     title = "Instructions of an operation, divided by those of the Rust crate"
     draw("speed.svg", title, ["SlotMap", "DenseSlotMap", "HopSlotMap"], primary)
-    names = ["SecondaryMap", "SparseSecondaryMap", "the same, a folding hasher in Rust too"]
+    names = ["SecondaryMap", "SparseSecondaryMap", "SparseSecondaryMap, both with a folding hasher"]
     draw("speed_secondary.svg", title, names, secondary)
 
 
