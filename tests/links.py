@@ -223,26 +223,35 @@ def check_proved(fault):
             check_part(part, functions, lambda what, why, at=number: fault(f"{page}:{at}", what, why))
 
 
-# What takes how long is said in one file each: sentences with a number of minutes, seconds or hours, about one of these.
+# What takes how long is said in one paragraph or table each: sentences with a number of minutes, seconds or hours, about one of
+# these.
 COSTS = {
     "the gate": r"\bgate\b|`rt ci`|`bash \.ci/run`|proofs-and-tests",
     "a first check": r"\bfirst (check|time)\b|proves? (the |its )?(ten |three )?librar",
     "a faulty body": r"\b(wrong|faulty) bod(y|ies)\b",
 }
-TIME = r"\b[\d,.]+ (processor )?(minutes?|seconds?|hours?)\b|_MINUTES\b|_CLOCK\b"
+TIME = r"\b[\d,.]+ (processor )?(minutes?|seconds?|hours?)\b|Processor minutes .*(\d|_)"
+
+
+def sentences_of(block):
+    """The sentences of a paragraph; a row of a table, with the table's head, is one."""
+    if block.startswith("|"):
+        return [block.split("\n")[0] + it for it in block.split("\n")]
+    return re.split(r"(?<=[.:!?])\s+(?=[A-Z`*-])", block)
 
 
 def check_costs(pages, fault):
+    # ARCHITECTURE has the parts of README's sum.
+    texts = {it: read(it) for it in sorted(pages) if it.endswith((".md", ".sh")) and it != "docs/ARCHITECTURE.md"}
     for what, about in COSTS.items():
-        saying = set()
-        for page in sorted(it for it in pages if it.endswith((".md", ".sh"))):
-            text = re.sub(r"(?m)^# ?", "", read(page)) if page.endswith(".sh") else without_blocks(read(page))
-            for sentence in re.split(r"(?<=[.:!?|])\s+(?=[A-Z`*|-])", re.sub(r"\s*\n(?![\n|*#-])\s*", " ", text)):
-                if re.search(about, sentence) and re.search(TIME, sentence):
-                    saying.add(page)
-        # ARCHITECTURE has the parts of README's sum.
-        if len(saying - {"docs/ARCHITECTURE.md"}) > 1:
-            fault(", ".join(sorted(saying)), what, "its time is said more than once")
+        saying = []
+        for page, text in texts.items():
+            text = re.sub(r"(?m)^# ?", "", text) if page.endswith(".sh") else without_blocks(text)
+            for block in re.split(r"\n\s*\n", text):
+                if any(re.search(about, it) and re.search(TIME, it) for it in sentences_of(block.strip())):
+                    saying.append(page)
+        if len(saying) > 1:
+            fault(", ".join(saying), what, "its time is said more than once")
 
 
 def main():
