@@ -89,16 +89,18 @@ def page():
     text = (
         f"The library's main theorem is the contract of `{CALL}`, which runs a list of commands on a new map. This page prints its clauses, "
         f"and each definition that they rest on: {len(found)}, of {sum(len(it.code()) for it in found)} lines without comments. "
-        "Whoever has read them knows what is proved. Behind them stand only the checker, the logic and std. Of std they use "
-        + ", ".join(f"`{it}`" for it in names_of_std(found))
-        + ", and finite maps and sets. The commands and replies are [enums of the library](api/runs.md)."
+        "Whoever has read them knows what is proved. Behind them stand only the checker, the logic and std. Of std they use finite maps and sets, "
+        "and the words below. The commands and replies are [enums of the library](api/runs.md)."
     )
+    of_std = ", ".join(f"`{it}`" for it in names_of_std(found))
     lines = [
         "# The run theorem, and all that it stands on",
         "",
         "Written by `docs/theorem.py` from the sources. Don't edit it by hand: `docs/theorem.py --check` fails if this page is out of date.",
         "",
         *textwrap.wrap(text, 150, break_long_words=False, break_on_hyphens=False),
+        "",
+        *textwrap.wrap("> " + of_std, 150, break_long_words=False, break_on_hyphens=False, subsequent_indent="> "),
         "",
         "## The theorem",
         "",
