@@ -66,7 +66,19 @@ STRUCTURES = {
     "slotmap_scene": ("Scene", "trees of nodes, with children in order"),
     "slotmap_scheduler": ("Scheduler", "jobs ordered by time, each with a handle"),
 }
-# What they share, with a page of its own.
+# What stands before the table of calls.
+SAME_CALLS = [
+    "Calls of one name have one meaning in the three primary maps, and one in the two secondary maps. Their clauses say where they differ.",
+    "Some clauses of one meaning have other names in another map:",
+    "",
+    "- What `replace_disjoint` returns and leaves is `taken` and `put` in a `SlotMap`, `value` and `ok` elsewhere.",
+    "- After an error of `reattach` a `SlotMap` is `unchanged`; a `DenseSlotMap` says so in `valid`.",
+    "- The order of `retain` is `order` in a `SlotMap`, `packed` in a `DenseSlotMap`, `by_index` in a `HopSlotMap`.",
+    "- That a map was well formed before a loan is `valid` in the primary maps and for `entry` of a `SecondaryMap`, else `was_valid`;",
+    "  `index_mut` of the secondary maps lacks it.",
+    "",
+]
+# What the structures share, with a page of its own.
 SHARED = "slotmap_keylist"
 # What a caller's clauses import.
 CALLERS = "crates/slotmap/specs/Words.antt"
@@ -311,16 +323,7 @@ def first_page(all_items):
         "- [Structures](#structures) on the maps.",
     )
     page.heading(2, "Which map has which call")
-    page.add(
-        "Calls of one name have one meaning in the three primary maps, and one in the two secondary maps. Their clauses say where they differ.",
-        "Some clauses of one meaning have other names in another map:",
-        "",
-        "- What `replace_disjoint` returns and leaves is `taken` and `put` in a `SlotMap`, `value` and `ok` elsewhere.",
-        "- After an error of `reattach` a `SlotMap` is `unchanged`; a `DenseSlotMap` says so in `valid`.",
-        "- The order of `retain` is `order` in a `SlotMap`, `packed` in a `DenseSlotMap`, `by_index` in a `HopSlotMap`.",
-        "- That a map was well formed before a loan is `valid` in the primary maps and `entry` of a `SecondaryMap`, else `was_valid`.",
-        "",
-    )
+    page.add(*SAME_CALLS)
     add_table(page, all_items)
     page.heading(2, "Structures")
     page.add(f"Each is a crate of its own. What they share is the crate [`{SHARED}`](api/{SHARED}.md).", "")

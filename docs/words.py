@@ -152,7 +152,8 @@ def size_of(first):
 
 def fault_of_readme(found):
     """What README.md should say of the definitions, if it says something else."""
-    every, alone, theorem = size_of(roots(found)), size_of(roots(words_of_clauses(["slotmap_basic"]))), size_of(roots_of_call("slotmap_run", "run_new"))
+    every, alone = size_of(roots(found)), size_of(roots(words_of_clauses(["slotmap_basic"])))
+    theorem = size_of(roots_of_call("slotmap_run", "run_new"))
     wanted = "on some {} definitions of {:,} lines in all, those of `SlotMap` on {} of {}, and the run theorem on {} of {}".format(
         *(round(it, -1) for it in (*every, *alone)), *theorem
     )
