@@ -126,20 +126,34 @@ def choices(figures, is_short):
         for title, primary, secondary, in_readme in CHOICES
         if in_readme or not is_short
     ]
+    if not is_short:
+        grown = [figures.row("time", it, "insert", 10_000_000) for it in kinds]
+        rows.insert(1, ["`insert`, from an empty map to 10,000,000 keys", *[f"{it.port:.1f} / {it.rust:.1f}" if it else "-" for it in grown]])
     rows.append(["bytes for a key, at values of 8 · 32 bytes", *[f"{size(it, 'u64')} · {size(it, 'words4')}" for it in kinds]])
     return table(["", *[HEADS[it] for it in kinds]], rows)
 
 
+def spread(rows):
+    """How far apart the quartiles of the ratios of times are, as a part of the median: in the middle row, and in the worst."""
+    wide = sorted((it.most - it.least) / it.ratio for it in rows)
+    return f" ({wide[len(wide) // 2]:.2f} to {wide[-1]:.2f})"
+
+
 def summary(figures):
-    """The means of all maps."""
+    """The means of all maps, the greatest ratios, and the spread of times."""
+
+    def cell(measure, kind, slots):
+        found = figures.ratios(measure, kind, slots)
+        if not found:
+            return "-"
+        rows = [figures.row(measure, kind, it.name, slots) for it in operations.operations_of(MAPS[kind])]
+        return f"**{mean(found):.2f}**, to {max(found):.2f}" + (spread(rows) if measure == "time" else "")
+
     rows, kinds = [], PRIMARY + SECONDARY
     for measure, sizes in (("instructions", (1_000, 100_000)), ("time", TIMES)):
         for slots in sizes:
-            found = [figures.ratios(measure, kind, slots) for kind in kinds]
-            if any(found):
-                cells = [f"**{mean(it):.2f}**, to {max(it):.2f}" if it else "-" for it in found]
-                rows.append([f"{measure}, {number(slots)} slots", *cells])
-    return table(["Geometric mean, and the greatest", *[HEADS[it] for it in kinds]], rows)
+            rows.append([f"{measure}, {number(slots)} slots", *[cell(measure, kind, slots) for kind in kinds]])
+    return table(["", *[HEADS[it] for it in kinds]], rows)
 
 
 def values(figures):
@@ -200,30 +214,6 @@ def memory_structures(figures):
     return table(["Bytes, after", "1,000,000 keys"], rows)
 
 
-def growth(figures):
-    """The time of an insert into a map that grows from nothing to so many keys."""
-
-    def cell(kind, slots):
-        row = figures.row("time", kind, "insert", slots)
-        return f"{row.port:.1f} / {row.rust:.1f} = **{row.ratio:.2f}**" if row else "?"
-
-    rows = [[number(slots), *[cell(kind, slots) for kind in PRIMARY]] for slots in (*TIMES, 10_000_000)]
-    return table(["Keys", *[HEADS[it] for it in PRIMARY]], rows)
-
-
-def spread(figures):
-    """How far apart the quartiles of the ratios of times are, as a part of the median: the median of this, and the greatest."""
-    rows = []
-    for slots in (it for it in TIMES if figures.ratios("time", "basic", it)):
-        cells = []
-        for kind in PRIMARY + SECONDARY:
-            found = [figures.row("time", kind, it.name, slots) for it in operations.operations_of(MAPS[kind])]
-            wide = sorted((it.most - it.least) / it.ratio for it in found if it)
-            cells.append(f"{wide[len(wide) // 2]:.2f}, to {wide[-1]:.2f}" if wide else "-")
-        rows.append([f"{number(slots)} slots", *cells])
-    return table(["Spread", *[HEADS[it] for it in PRIMARY + SECONDARY]], rows)
-
-
 def memory(figures):
     slots = 1_000_000
 
@@ -260,8 +250,6 @@ TABLES = {
     "stepped": stepped,
     "structures": structures,
     "memory-structures": memory_structures,
-    "growth": growth,
-    "spread": spread,
 }
 
 
