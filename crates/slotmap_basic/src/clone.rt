@@ -16,8 +16,8 @@ impl<K: Key, V: Clone> SlotMap<K, V> {
     /// Each value is a clone by the `is_clone` of its type. Where clones equal their values, the copy
     /// equals the map, except for its room and its capacity.
     ///
-    /// If memory runs out, the call fails, and what was copied is dropped. Linear in the number of
-    /// slots.
+    /// If memory runs out, or the clone of a value fails, the call fails, and what was copied is
+    /// dropped. Linear in the number of slots.
     ///
     /// ```
     /// let mut copy = map.clone()?;
@@ -35,9 +35,9 @@ impl<K: Key, V: Clone> SlotMap<K, V> {
 
     /// Makes this map a copy of another, as [`SlotMap::clone`] does, and drops what it had.
     ///
-    /// A key that this map returned earlier may then have another value. The copy is made before
-    /// the old content is dropped. So if memory runs out, the call fails and the map stays as it
-    /// was. Linear in the number of slots of the source.
+    /// A key that this map returned earlier may then have another value, or be returned again. The
+    /// copy is made before the old content is dropped. So if the call fails, as `clone` can, the
+    /// map stays as it was. Linear in the number of slots of the source.
     ///
     /// ```
     /// let mut copy: SlotMap<DefaultKey, u64> = SlotMap::new(alloc)?;

@@ -25,10 +25,11 @@ impl<K: Key, V: Drop> SlotMap<K, V> {
 
     /// Inserts a value and returns its new key.
     ///
-    /// The slot freed last is reused, without allocating. If no slot is vacant, one is added. It
-    /// fails with `Full` if 4294967294 keys are live, detached or retired, and with `Memory` if
-    /// memory runs out. The error holds the value, and the map holds what it held. In Rust a full
-    /// map panics, and running out of memory aborts. Constant time, unless the vectors grow.
+    /// The slot freed last is reused, and then the call can't fail. If no slot is vacant, one is
+    /// added. It fails with `Full` if 4294967294 keys are live, detached or retired, and with
+    /// `Memory` if memory runs out. The error holds the value, and the map holds what it held. In
+    /// Rust a full map panics, and running out of memory aborts. Constant time, unless the vectors
+    /// grow.
     ///
     /// ```
     /// map.remove(a);
@@ -41,7 +42,7 @@ impl<K: Key, V: Drop> SlotMap<K, V> {
         ensures ok { IfOk result (λ key. Inserts self.old (K.data_of key) value self.new) }
         ensures err { IfErr result (λ error. Refuses self.old value error) }
 
-        // If a slot is vacant, nothing is allocated.
+        // If a slot is vacant, the call can't fail.
         ensures reuses { 0 < map.len self.old.next → IsOk result }
 
         ensures valid { MayGrow true self.old (IsErr result) self.new }
@@ -73,7 +74,7 @@ impl<K: Key, V: Drop> SlotMap<K, V> {
             × Inserts self.old (K.data_of key) v self.new) }
         ensures err { IfErr result (RefusesInsert self.old) }
 
-        // If a slot is vacant, nothing is allocated.
+        // If a slot is vacant, the call can't fail.
         ensures reuses { 0 < map.len self.old.next → IsOk result }
 
         ensures valid { MayGrow true self.old (IsErr result) self.new }
@@ -104,7 +105,7 @@ impl<K: Key, V: Drop> SlotMap<K, V> {
             × Inserts self.old (K.data_of key) v self.new) }
         ensures err { IfErr result (λ error. RefusesWith K.data_of (F.post f) self.old error) }
 
-        // If a slot is vacant, nothing is allocated.
+        // If a slot is vacant, memory can't run out.
         ensures reuses { result ≡ Err TryInsertError.Memory → map.len self.old.next ≡ 0 }
 
         ensures valid { MayGrow true self.old (IsErr result) self.new }

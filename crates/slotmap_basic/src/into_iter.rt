@@ -14,8 +14,8 @@ use std::marker::{Model, PhantomData};
 /// An iterator over the live keys and their values, by value and by ascending index.
 ///
 /// A `for` over a map takes it. A contract sees it as the list of the pairs that it will still
-/// yield. After its end it yields nothing. All its steps together read each version once, up to the
-/// last live slot, and allocate nothing. Dropping it drops the values that are left.
+/// yield. After its end it yields nothing. All its steps together are linear in the number of
+/// slots, and allocate nothing. Dropping it drops the values that are left.
 ///
 /// ```
 /// let mut pairs = map.into_iter();
@@ -57,8 +57,8 @@ impl<K, V> IntoIter<K, V> {
 impl<K, V: Clone> IntoIter<K, V> {
     /// Returns a second iterator over the pairs that are left, with clones of the values.
     ///
-    /// If memory runs out, the call fails, and this iterator is unchanged. Linear in the number of
-    /// slots of the map.
+    /// If memory runs out, or the clone of a value fails, the call fails, and this iterator is
+    /// unchanged. Linear in the number of slots of the map.
     ///
     /// ```
     /// let pairs = map.into_iter();

@@ -273,9 +273,9 @@ impl<'a, K, V> fmt::Debug for Values<'a, K, V> {
 impl<K: Key, V> SlotMap<K, V> {
     /// Returns an iterator over the live keys and their values, by ascending index.
     ///
-    /// It is made in constant time. All its steps together read each version once, up to the last
-    /// live slot, and allocate nothing. No iterator yields mutable references: use `retain` with a
-    /// closure that writes and returns `true`.
+    /// It is made in constant time. All its steps together are linear in the number of slots, whose
+    /// versions they look at 64 at a time, and allocate nothing. No iterator yields mutable
+    /// references: use `retain` with a closure that writes and returns `true`.
     ///
     /// ```
     /// let mut pairs = map.iter();

@@ -51,7 +51,8 @@ use std::marker::{Model, PhantomData};
 /// `insert` returns a new key, and the key is live until it is removed. The slot of a removed key
 /// is reused under a newer key, and the slot freed last is reused first. So a removed key is never
 /// found again, and no key is returned twice. Once its last key, of version 4294967295, is removed,
-/// a slot is retired and never used again. In Rust its versions wrap around.
+/// a slot is retired and never used again. In Rust its versions wrap around. All this holds in any
+/// run of commands; `clone_from` and a map read from a list start anew.
 ///
 /// A live key can be detached: its value is taken out, and its slot is kept until `reattach` binds
 /// the key to a value again. At most 4294967294 keys can be live, detached or retired.
@@ -95,7 +96,8 @@ impl<K, V> SlotMap<K, V> {
 impl<V: Drop> SlotMap<DefaultKey, V> {
     /// Makes an empty map with the default key type.
     ///
-    /// It allocates the sentinel's slot, and fails with `Memory` if memory runs out.
+    /// It allocates the sentinel's slot, and fails with `Memory` if memory runs out. Constant time,
+    /// the allocations aside.
     ///
     /// ```
     /// let mut empty: SlotMap<DefaultKey, u64> = SlotMap::new(alloc)?;
@@ -114,7 +116,7 @@ impl<V: Drop> SlotMap<DefaultKey, V> {
     /// Makes an empty map with the default key type and with room for `capacity` keys.
     ///
     /// The next `capacity` inserts succeed. It fails with `TooGreat` if `capacity` is over
-    /// 4294967294, and with `Memory` if memory runs out.
+    /// 4294967294, and with `Memory` if memory runs out. Constant time, the allocations aside.
     ///
     /// ```
     /// let roomy: SlotMap<DefaultKey, u64> = SlotMap::with_capacity(alloc, 10)?;
@@ -136,7 +138,8 @@ impl<V: Drop> SlotMap<DefaultKey, V> {
 impl<K: Key, V: Drop> SlotMap<K, V> {
     /// Makes an empty map with any key type.
     ///
-    /// It allocates the sentinel's slot, and fails with `Memory` if memory runs out.
+    /// It allocates the sentinel's slot, and fails with `Memory` if memory runs out. Constant time,
+    /// the allocations aside.
     ///
     /// ```
     /// let mut nodes: SlotMap<NodeKey, u64> = SlotMap::with_key(alloc)?;
@@ -155,7 +158,7 @@ impl<K: Key, V: Drop> SlotMap<K, V> {
     /// Makes an empty map with any key type and with room for `capacity` keys.
     ///
     /// The next `capacity` inserts succeed. It fails with `TooGreat` if `capacity` is over
-    /// 4294967294, and with `Memory` if memory runs out.
+    /// 4294967294, and with `Memory` if memory runs out. Constant time, the allocations aside.
     ///
     /// ```
     /// let nodes: SlotMap<NodeKey, u64> = SlotMap::with_capacity_and_key(alloc, 10)?;
@@ -229,8 +232,8 @@ impl<K: Key, V: Drop> SlotMap<K, V> {
     ///   4294967294.
     /// - `Memory`: memory runs out.
     ///
-    /// If there is room already, nothing is allocated. Rust counts detached slots as free. Linear
-    /// in the number of slots if the vectors grow, else constant time.
+    /// If there is room already, the call succeeds and nothing changes. Rust counts detached slots
+    /// as free. Linear in the number of slots if the vectors grow, else constant time.
     ///
     /// ```
     /// map.reserve(10)?;
@@ -250,7 +253,8 @@ impl<K: Key, V: Drop> SlotMap<K, V> {
 
     /// Reserves room for `additional` more keys, as `reserve` does.
     ///
-    /// Here `reserve` returns a `Result` too; in Rust it aborts if memory runs out.
+    /// Here `reserve` returns a `Result` too; in Rust it aborts if memory runs out. Costs as
+    /// `reserve`.
     ///
     /// ```
     /// assert!(rt; map.try_reserve(10).is_ok());

@@ -18,10 +18,10 @@ impl<K: Key, V: Drop> SlotMap<K, V> {
     /// [`SlotRecord`] says what the record of each slot is. A detached key is forgotten: its slot
     /// is written as if the key were removed.
     ///
-    /// It fails with `OutOfMemory` if memory runs out for the list or for a clone. Room for the
-    /// whole list is allocated first, and each value is cloned once. Linear in the number of slots.
-    /// `from_slots` reads the list back, except that of a map with 4294967294 slots, which is too
-    /// long. In Rust `Serialize` writes the same records.
+    /// It fails with `OutOfMemory` if memory runs out for the list, or if the clone of a value
+    /// fails, for whatever reason. Room for the whole list is allocated first, and each value is
+    /// cloned once. Linear in the number of slots. `from_slots` reads the list back, except that of
+    /// a map with 4294967294 slots, which is too long. In Rust `Serialize` writes the same records.
     ///
     /// ```
     /// let list = map.to_slots()?;

@@ -5,7 +5,7 @@ use Rattle.slotmap_core.specs.Content.{Content, IsContent, used, most}
 use Rattle.slotmap_core.specs.Transition.{Keeps}
 
 module _ {V : Type 0} where
-  -- a call that allocates nothing: the map was and is well formed, and has room for as many slots
+  -- a call that needs no memory: the map was and is well formed, and its capacity stays
   pub record StaysValid (reuses : Bool) (old new : Content V) : Type 0 where
     pub before : IsContent reuses old
     pub after : IsContent reuses new
@@ -23,11 +23,11 @@ module _ {V : Type 0} where
   pub record MakesRoom (reuses : Bool) (old : Content V) (n : ℕ) (ok : Type 0) (new : Content V) : Type 0 where
     pub before : IsContent reuses old
     pub after : IsContent reuses new
-    -- n more keys fit then: within the limit, in the allocated memory, and without allocating
+    -- n more keys fit then, within the limit and in the memory that there is: none of their inserts can fail
     pub fits : ok → used old + n ≤ most
     pub room : ok → n ≤ new.room
     pub live_and_more : ok → map.len old.live + n ≤ new.capacity
-    -- if there is room for them already, the call succeeds
+    -- if there is room for them already, the call succeeds and changes nothing
     pub succeeds : n ≤ old.room → ok
     pub had_room : n ≤ old.room → new ≡ old
     -- the map holds what it held

@@ -6,8 +6,11 @@ use Rattle.std.specs.FinSet as set
 use Rattle.std.specs.Coded.{Coded, code_by, coded×, coded_ℕ, coded_option, coded_list}
 use Rattle.slotmap_core.specs.Key.{Key, IsKey, is_last, key_cmp, coded_key}
 
+-- what a primary map holds
 pub record Content (V : Type 0) : Type 0 where
+  -- the live keys, each with its value
   pub live : map.FinMap key_cmp V
+  -- the keys whose value was taken out, and whose place is kept
   pub detached : set.FinSet key_cmp
   -- the last key of each retired place
   pub retired : set.FinSet key_cmp
@@ -43,18 +46,23 @@ module _ {V : Type 0} where
   abbrev pub used : Content V → ℕ
   used c = map.len c.live + set.len c.detached + set.len c.retired
 
+  -- the number of places: those that no insert can use, and the vacant ones
   abbrev pub places : Content V → ℕ
   places c = used c + map.len c.next
 
+  -- k has a value
   abbrev pub IsLive : Content V → Key → Type 0
   IsLive c k = map.contains_key c.live k ≡ true
 
+  -- k's value was taken out, and its place is kept
   abbrev pub IsDetached : Content V → Key → Type 0
   IsDetached c k = set.contains c.detached k ≡ true
 
+  -- k is the last key of its place, and was removed
   abbrev pub IsRetired : Content V → Key → Type 0
   IsRetired c k = set.contains c.retired k ≡ true
 
+  -- no key has a place at index i, and a later insert may use it
   abbrev pub IsVacant : Content V → ℕ → Type 0
   IsVacant c i = map.contains_key c.next i ≡ true
 

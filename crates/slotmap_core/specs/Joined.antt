@@ -27,8 +27,8 @@ use Rattle.slotmap_core.specs.declared.joined.JoinedDetachCommand.TheVariants as
 use Rattle.slotmap_core.specs.declared.joined.JoinedReply.{JoinedReply}
 use Rattle.slotmap_core.specs.declared.joined.JoinedReply.TheVariants as reply
 
--- What a run is given: the data of a key, and what may be seen of a value of the secondary map. And whether the primary map
--- allocates nothing for an existing slot
+-- What a run is given: the data of a key, and what may be seen of a value of the secondary map. And whether memory
+-- can't run out for an existing slot of the primary map
 pub record Given (K W R : Type 0) : Type 1 where
   pub data_of : K → Key
   pub looks : W → R → Type 0

@@ -6,6 +6,7 @@ use Rattle.std.proofs.Common.{rules}
 use Rattle.std.specs.Hash as fed
 use Rattle.std.specs.Coded.{Coded, code_by, coded×, coded_ℕ}
 
+-- a key as clauses see it, whatever its Rust type
 pub record Key : Type 0 where
   pub index : ℕ
   pub version : ℕ
@@ -25,6 +26,7 @@ pub record IsKey (k : Key) : Type 0 where
   pub odd : k.version % 2 ≡ 1
   pub one_null : k.index ≡ 2 ^ 32 - 1 → k.version ≡ 1
 
+-- the one key of the largest index
 abbrev pub null_key : Key
 null_key = record { index = 2 ^ 32 - 1; version = 1 }
 
@@ -32,6 +34,7 @@ null_key = record { index = 2 ^ 32 - 1; version = 1 }
 abbrev pub last_version : ℕ
 last_version = 2 ^ 32 - 1
 
+-- k has the last version
 abbrev pub is_last : Key → Bool
 is_last k = nat_eq k.version last_version
 

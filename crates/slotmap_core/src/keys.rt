@@ -206,7 +206,8 @@ impl fmt::Debug for KeyData {
 /// A type of keys: a wrapper around `KeyData` and nothing more.
 ///
 /// If each map has a key type of its own, the compiler rejects a key of another map. `DefaultKey`
-/// is the key type of a map that names no other. To make a key type, copy the file of `NodeKey`.
+/// is the key type of a map that names no other. To make a key type, copy
+/// `crates/slotmap_list/src/cursor.rt`, whose imports are those of a crate above.
 ///
 /// Every key type proves that it behaves as its data do:
 ///

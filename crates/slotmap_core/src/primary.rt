@@ -32,7 +32,8 @@ use std::alloc::Global;
 /// assert_eq!(rt; Primary::remove(&mut map, key), Some(5));
 /// ```
 pub trait Primary<K: Key, V>: Sized {
-    /// Whether an insert into a vacant slot and a reattach of a detached key allocate nothing.
+    /// Whether memory can't run out for an insert into a vacant slot and a reattach of a detached
+    /// key.
     const REUSES: bool;
 
     ghost REUSES: { Bool };
@@ -150,7 +151,7 @@ pub trait Primary<K: Key, V>: Sized {
             Inserts (content self.old) (K.data_of key) value (content self.new)) }
         ensures err { IfErr result (λ error. Refuses (content self.old) value error) }
 
-        // If a slot is vacant, in a map that reuses it, nothing is allocated.
+        // If a slot is vacant, in a map with `REUSES`, the call can't fail.
         ensures reuses { REUSES ≡ true → 0 < map.len (content self.old).next → IsOk result }
 
         ensures valid { MayGrow REUSES (content self.old) (IsErr result) (content self.new) };
@@ -203,7 +204,7 @@ pub trait Primary<K: Key, V>: Sized {
         ensures err { IfErr result (λ error.
             RefusesWith K.data_of (F.post f) (content self.old) error) }
 
-        // If a slot is vacant, in a map that reuses it, nothing is allocated.
+        // If a slot is vacant, in a map with `REUSES`, memory can't run out.
         ensures reuses { REUSES ≡ true → 0 < map.len (content self.old).next → (result ≡ Err TryInsertError.Memory → ⊥) }
 
         ensures valid { MayGrow REUSES (content self.old) (IsErr result) (content self.new) };
@@ -228,7 +229,7 @@ pub trait Primary<K: Key, V>: Sized {
             × Inserts (content self.old) (K.data_of key) v (content self.new)) }
         ensures err { IfErr result (RefusesInsert (content self.old)) }
 
-        // If a slot is vacant, in a map that reuses it, nothing is allocated.
+        // If a slot is vacant, in a map with `REUSES`, the call can't fail.
         ensures reuses { REUSES ≡ true → 0 < map.len (content self.old).next → IsOk result }
 
         ensures valid { MayGrow REUSES (content self.old) (IsErr result) (content self.new) };
@@ -259,7 +260,7 @@ pub trait Primary<K: Key, V>: Sized {
     /// The next `additional` inserts and reattaches succeed. It fails with `TooGreat` if the live,
     /// detached and retired keys plus `additional` are more than 4294967294, and with `Memory` if
     /// memory runs out. Then nothing changes but, perhaps, the capacity. If there is room already,
-    /// nothing is allocated.
+    /// the call succeeds and nothing changes.
     ///
     /// ```
     /// let mut map: SlotMap<DefaultKey, u64> = SlotMap::new(alloc)?;
@@ -409,8 +410,7 @@ pub trait Detaching<K: Key, V>: Primary<K, V> {
     /// Binds a detached key to a value again.
     ///
     /// It fails with `NotDetached` if the key isn't detached, and with `Memory` if memory runs out.
-    /// A map that reuses its slots without allocating never fails with `Memory`. The error holds
-    /// the value.
+    /// A map with `REUSES` never fails with `Memory`. The error holds the value.
     ///
     /// ```
     /// let mut map: SlotMap<DefaultKey, u64> = SlotMap::new(alloc)?;

@@ -5,7 +5,7 @@ use Rattle.slotmap_core.specs.Words.{used, most, Keeps}
 use Rattle.slotmap_dense.specs.Dense.{Dense, IsDense, SameOrder}
 
 module _ {V : Type 0} where
-  -- a call that allocates nothing: the map was and is well formed, and its capacity stays
+  -- a call that needs no memory: the map was and is well formed, and its capacity stays
   pub record StaysDense (old new : Dense V) : Type 0 where
     pub before : IsDense old
     pub after : IsDense new
@@ -24,11 +24,11 @@ module _ {V : Type 0} where
   pub record MakesDenseRoom (old : Dense V) (n : ℕ) (ok : Type 0) (new : Dense V) : Type 0 where
     pub before : IsDense old
     pub after : IsDense new
-    -- n more keys then fit: within the limit, within the capacity, and without allocating
+    -- n more keys fit then, within the limit and in the memory that there is: none of their inserts can fail
     pub fits : ok → used old.content + n ≤ most
     pub room : ok → n ≤ new.content.room
     pub live_and_more : ok → map.len old.content.live + n ≤ new.content.capacity
-    -- if there is room for them already, it succeeds and allocates nothing
+    -- if there is room for them already, it succeeds and changes nothing
     pub succeeds : n ≤ old.content.room → ok
     pub had_room : n ≤ old.content.room → new ≡ old
     -- the map holds what it held, in the same order

@@ -64,8 +64,9 @@ impl<K: Key, V> IntoIter<K, V> {
 impl<K: Key, V: Clone> IntoIter<K, V> {
     /// Returns a second iterator over the pairs that are left, with clones of the values.
     ///
-    /// If memory runs out, the call fails, and this iterator is unchanged. It copies every key of
-    /// the map, and clones the values that are left.
+    /// If memory runs out, or the clone of a value fails, the call fails, and this iterator is
+    /// unchanged. It copies every key of the map, and clones the values that are left: linear in
+    /// the number of keys that the map had.
     ///
     /// ```
     /// let pairs = map.into_iter();

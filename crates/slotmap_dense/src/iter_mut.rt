@@ -145,7 +145,9 @@ impl<K: Key, V: Drop> DenseSlotMap<K, V> {
     /// order.
     ///
     /// Once the iterator ends, each key has the last value written through its reference. All else
-    /// is unchanged. It is made in constant time and allocates nothing.
+    /// is unchanged. The contract says that the map ends with the values that the loan ends with.
+    /// Which reference wrote which value is tested, and is in no contract. It is made in constant
+    /// time and allocates nothing.
     ///
     /// ```
     /// for (_, value) in map.iter_mut() {
@@ -167,8 +169,8 @@ impl<K: Key, V: Drop> DenseSlotMap<K, V> {
 
     /// Returns an iterator over mutable references to the values of the live keys, in packed order.
     ///
-    /// Once it ends, the values are written as by [`DenseSlotMap::iter_mut`], and it costs the
-    /// same.
+    /// Once it ends, the values are written as by [`DenseSlotMap::iter_mut`]. Here too, which
+    /// reference wrote which value is tested, and is in no contract. It costs the same.
     ///
     /// ```
     /// for value in map.values_mut() {

@@ -52,7 +52,8 @@ use std::marker::Model;
 /// `insert` returns a new key, and the key is live until it is removed. The slot of a removed key
 /// is reused under a newer key, and the slot freed last is reused first. So a removed key is never
 /// found again, and no key is returned twice. Once its last key, of version 4294967295, is removed,
-/// a slot is retired and never used again. In Rust its versions wrap around.
+/// a slot is retired and never used again. In Rust its versions wrap around. All this holds in any
+/// run of commands; `clone_from` and a map read from a list start anew.
 ///
 /// The live keys are in one list, and their values are at the same positions in another list. This
 /// is the packed order. An insert appends to both lists. A removal moves the last pair to the
@@ -123,7 +124,8 @@ fn make_room_in_slots(slots: &mut Slots<u32, Rows>, additional: usize) -> Result
 impl<V: Drop> DenseSlotMap<DefaultKey, V> {
     /// Makes an empty map with the default key type.
     ///
-    /// It allocates the sentinel's slot, and fails with `Memory` if memory runs out.
+    /// It allocates the sentinel's slot, and fails with `Memory` if memory runs out. Constant time,
+    /// the allocations aside.
     ///
     /// ```
     /// let mut empty: DenseSlotMap<DefaultKey, u64> = DenseSlotMap::new(alloc)?;
@@ -143,7 +145,7 @@ impl<V: Drop> DenseSlotMap<DefaultKey, V> {
     /// Makes an empty map with the default key type and with room for `capacity` keys.
     ///
     /// The next `capacity` inserts succeed. It fails with `TooGreat` if `capacity` is over
-    /// 4294967294, and with `Memory` if memory runs out.
+    /// 4294967294, and with `Memory` if memory runs out. Constant time, the allocations aside.
     ///
     /// ```
     /// let roomy: DenseSlotMap<DefaultKey, u64> = DenseSlotMap::with_capacity(alloc, 10)?;
@@ -166,7 +168,8 @@ impl<V: Drop> DenseSlotMap<DefaultKey, V> {
 impl<K: Key, V: Drop> DenseSlotMap<K, V> {
     /// Makes an empty map with any key type.
     ///
-    /// It allocates the sentinel's slot, and fails with `Memory` if memory runs out.
+    /// It allocates the sentinel's slot, and fails with `Memory` if memory runs out. Constant time,
+    /// the allocations aside.
     ///
     /// ```
     /// let mut nodes: DenseSlotMap<NodeKey, u64> = DenseSlotMap::with_key(alloc)?;
@@ -277,8 +280,8 @@ impl<K: Key, V: Drop> DenseSlotMap<K, V> {
     ///   4294967294.
     /// - `Memory`: memory runs out.
     ///
-    /// If there is room already, nothing is allocated. Rust counts detached slots as free. Linear
-    /// in the number of slots if the vectors grow, else constant time.
+    /// If there is room already, the call succeeds and nothing changes. Rust counts detached slots
+    /// as free. Linear in the number of slots if the vectors grow, else constant time.
     ///
     /// ```
     /// map.reserve(10)?;
@@ -301,7 +304,8 @@ impl<K: Key, V: Drop> DenseSlotMap<K, V> {
 
     /// Reserves room for `additional` more keys, as `reserve` does.
     ///
-    /// Here `reserve` returns a `Result` too; in Rust it aborts if memory runs out.
+    /// Here `reserve` returns a `Result` too; in Rust it aborts if memory runs out. Costs as
+    /// `reserve`.
     ///
     /// ```
     /// assert!(rt; map.try_reserve(10).is_ok());

@@ -81,7 +81,7 @@ fn insert_edge<E: Drop>(
 impl<K: Key, N: Drop, E: Drop> Graph<K, N, E> {
     /// Adds a node with no edge, and returns its key, which no node had before.
     ///
-    /// If a node was removed or room was reserved, nothing is allocated. If the call fails, the error
+    /// If a slot is vacant or room was reserved, the call can't fail. If the call fails, the error
     /// holds the value, and the graph is unchanged.
     ///
     /// ```
@@ -110,9 +110,9 @@ impl<K: Key, N: Drop, E: Drop> Graph<K, N, E> {
 
     /// Adds an edge from one node to another, and returns its key, which no edge had before.
     ///
-    /// It is the last of the outgoing edges of the one, and of the incoming edges of the other. If an
-    /// edge was removed or room was reserved, nothing is allocated. If the call fails, the error holds
-    /// the value, and the graph is unchanged.
+    /// It is the last of the outgoing edges of the one, and of the incoming edges of the other. If
+    /// a slot is vacant or room was reserved, memory can't run out. If the call fails, the error
+    /// holds the value, and the graph is unchanged.
     ///
     /// ```
     /// let mut graph: Graph<NodeKey, &str, u64> = Graph::new(alloc)?;

@@ -74,7 +74,7 @@ module _ {V : Type 0} where
   abbrev pub MayStand : Content V → ℕ → Type 0
   MayStand c i = (i ≡ 0) ⊎ (counts_vacant c (i - 1) ≡ false)
 
-  -- a call that allocates nothing: the map was and is well formed, and its capacity stays
+  -- a call that needs no memory: the map was and is well formed, and its capacity stays
   pub record StaysHop (old new : HopContent V) : Type 0 where
     pub before : IsHopContent old
     pub after : IsHopContent new

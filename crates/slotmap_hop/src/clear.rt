@@ -13,7 +13,7 @@ impl<K: Key, V: Drop> HopSlotMap<K, V> {
     /// Removes every live key and drops its value.
     ///
     /// The keys are removed as `remove` does, by ascending index, and the capacity stays. A block
-    /// of vacant slots is skipped in one step.
+    /// of vacant slots is skipped in one step. At most linear in the number of slots.
     ///
     /// ```
     /// map.clear();
@@ -41,7 +41,8 @@ impl<K: Key, V: Drop> HopSlotMap<K, V> {
     /// Appends every live key to `out`, by ascending index.
     ///
     /// Room for all keys is allocated first. If that fails, the list doesn't change. A block of
-    /// vacant slots is skipped in one step. Rust lacks this call.
+    /// vacant slots is skipped in one step. At most linear in the number of slots. Rust lacks this
+    /// call.
     ///
     /// ```
     /// let mut keys = Vec::new(alloc);
@@ -65,8 +66,8 @@ impl<K: Key, V: Drop> HopSlotMap<K, V> {
     /// Removes every live key, and appends the keys with their values to `out`, by ascending index.
     ///
     /// The keys are removed as `remove` does. Room for all pairs is allocated first. If that fails,
-    /// neither the map nor the list changes. A block of vacant slots is skipped in one step. Rust
-    /// lacks this call.
+    /// neither the map nor the list changes. A block of vacant slots is skipped in one step. At
+    /// most linear in the number of slots. Rust lacks this call.
     ///
     /// ```
     /// let mut pairs = Vec::new(alloc);

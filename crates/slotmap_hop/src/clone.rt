@@ -74,9 +74,9 @@ impl<K: Key, V: Clone> HopSlotMap<K, V> {
 
     /// Makes this map a copy of another, as [`HopSlotMap::clone`] does, and drops what it had.
     ///
-    /// A key that this map returned earlier may then have another value. The copy is made before
-    /// the old content is dropped. So if the call fails, the map is unchanged. Linear in the
-    /// number of slots of the source.
+    /// A key that this map returned earlier may then have another value, or be returned again. The
+    /// copy is made before the old content is dropped. So if the call fails, the map is unchanged.
+    /// Linear in the number of slots of the source.
     ///
     /// ```
     /// let mut copy: HopSlotMap<DefaultKey, u64> = HopSlotMap::new(alloc)?;

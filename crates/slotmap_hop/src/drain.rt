@@ -85,7 +85,8 @@ impl<K: Key, V: Drop> HopSlotMap<K, V> {
     /// ascending index.
     ///
     /// Each key is removed when it is yielded, as `remove` does. Dropping the iterator early
-    /// removes the remaining keys too. A block of vacant slots is skipped in one step.
+    /// removes the remaining keys too. A block of vacant slots is skipped in one step. All steps
+    /// and the drop together are at most linear in the number of slots.
     ///
     /// ```
     /// let mut sum = 0;

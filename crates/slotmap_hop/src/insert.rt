@@ -91,9 +91,9 @@ impl<K: Key, V: Drop> HopSlotMap<K, V> {
 
     /// Inserts a value and returns its new key.
     ///
-    /// If a slot is vacant, one is reused, without allocating: the last slot of the first block in
-    /// the list, or of the block of slot 0 if the list is empty. If no slot is vacant, one is
-    /// added.
+    /// If a slot is vacant, one is reused, and the call can't fail: the last slot of the first
+    /// block in the list, or of the block of slot 0 if the list is empty. If no slot is vacant, one
+    /// is added.
     ///
     /// It fails with `Full` if 4294967294 keys are live or retired, and with `Memory` if memory
     /// runs out. The error holds the value, and the map holds what it held. In Rust a full map
@@ -115,7 +115,7 @@ impl<K: Key, V: Drop> HopSlotMap<K, V> {
 
         ensures unchanged { OnErr result (Keeps self.old.content self.new.content) }
 
-        // If a slot is vacant, nothing is allocated.
+        // If a slot is vacant, the call can't fail.
         ensures reuses { 0 < map.len self.old.content.next → IsOk result }
 
         ensures valid { GrowsHop self.old self.new }
@@ -151,7 +151,7 @@ impl<K: Key, V: Drop> HopSlotMap<K, V> {
 
         ensures unchanged { OnErr result (Keeps self.old.content self.new.content) }
 
-        // If a slot is vacant, nothing is allocated.
+        // If a slot is vacant, the call can't fail.
         ensures reuses { 0 < map.len self.old.content.next → IsOk result }
 
         ensures valid { GrowsHop self.old self.new }
@@ -190,7 +190,7 @@ impl<K: Key, V: Drop> HopSlotMap<K, V> {
 
         ensures unchanged { OnErr result (Keeps self.old.content self.new.content) }
 
-        // If a slot is vacant, nothing is allocated.
+        // If a slot is vacant, memory can't run out.
         ensures reuses { result ≡ Err TryInsertError.Memory → map.len self.old.content.next ≡ 0 }
 
         ensures valid { GrowsHop self.old self.new }

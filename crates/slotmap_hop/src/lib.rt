@@ -57,7 +57,8 @@ use std::marker::{Model, PhantomData};
 /// `insert` returns a new key, and the key is live until it is removed. The slot of a removed key
 /// is reused under a newer key. So a removed key is never found again, and no key is returned
 /// twice. Once its last key, of version 4294967295, is removed, a slot is retired and never used
-/// again. In Rust its versions wrap around. At most 4294967294 keys can be live or retired.
+/// again. In Rust its versions wrap around. All this holds in any run of commands; `clone_from` and
+/// a map read from a list start anew. At most 4294967294 keys can be live or retired.
 ///
 /// Neighbouring vacant slots form a block, and the blocks form a list. An insert uses the last slot
 /// of the first block in the list. A removal adds its slot to the blocks beside it. If there is
@@ -105,7 +106,8 @@ impl<K, V> HopSlotMap<K, V> {
 impl<V: Drop> HopSlotMap<DefaultKey, V> {
     /// Makes an empty map with the default key type.
     ///
-    /// It allocates the sentinel's slot, and fails with `Memory` if memory runs out.
+    /// It allocates the sentinel's slot, and fails with `Memory` if memory runs out. Constant time,
+    /// the allocations aside.
     ///
     /// ```
     /// let mut empty: HopSlotMap<DefaultKey, u64> = HopSlotMap::new(alloc)?;
@@ -124,7 +126,7 @@ impl<V: Drop> HopSlotMap<DefaultKey, V> {
     /// Makes an empty map with the default key type and with room for `capacity` keys.
     ///
     /// The next `capacity` inserts succeed. It fails with `TooGreat` if `capacity` is over
-    /// 4294967294, and with `Memory` if memory runs out.
+    /// 4294967294, and with `Memory` if memory runs out. Constant time, the allocations aside.
     ///
     /// ```
     /// let roomy: HopSlotMap<DefaultKey, u64> = HopSlotMap::with_capacity(alloc, 10)?;
@@ -146,7 +148,8 @@ impl<V: Drop> HopSlotMap<DefaultKey, V> {
 impl<K: Key, V: Drop> HopSlotMap<K, V> {
     /// Makes an empty map with any key type.
     ///
-    /// It allocates the sentinel's slot, and fails with `Memory` if memory runs out.
+    /// It allocates the sentinel's slot, and fails with `Memory` if memory runs out. Constant time,
+    /// the allocations aside.
     ///
     /// ```
     /// let mut nodes: HopSlotMap<NodeKey, u64> = HopSlotMap::with_key(alloc)?;
@@ -261,8 +264,8 @@ impl<K: Key, V: Drop> HopSlotMap<K, V> {
     /// - `TooGreat`: the live and retired keys plus `additional` are more than 4294967294.
     /// - `Memory`: memory runs out.
     ///
-    /// If there is room already, nothing is allocated. Linear in the number of slots if the vector
-    /// grows, else constant time.
+    /// If there is room already, the call succeeds and nothing changes. Linear in the number of
+    /// slots if the vector grows, else constant time.
     ///
     /// ```
     /// map.reserve(10)?;
@@ -291,7 +294,8 @@ impl<K: Key, V: Drop> HopSlotMap<K, V> {
 
     /// Reserves room for `additional` more keys, as `reserve` does.
     ///
-    /// Here `reserve` returns a `Result` too; in Rust it aborts if memory runs out.
+    /// Here `reserve` returns a `Result` too; in Rust it aborts if memory runs out. Costs as
+    /// `reserve`.
     ///
     /// ```
     /// assert!(rt; map.try_reserve(10).is_ok());

@@ -81,7 +81,8 @@ impl<K: Key, V: Drop> HopSlotMap<K, V> {
     ///
     /// The closure gets the key and a mutable reference to its value. What it writes is kept. The
     /// keys are visited by ascending index, and are removed as `remove` does. A block of vacant
-    /// slots is skipped in one step; retired slots are skipped one by one.
+    /// slots is skipped in one step; retired slots are skipped one by one. At most linear in the
+    /// number of slots.
     ///
     /// ```
     /// map.retain(|_, value| *value % 2 == 0);

@@ -53,8 +53,8 @@ impl<K: Key, T: Drop> StableList<K, T> {
 
     /// Adds an element at the back, and returns its cursor.
     ///
-    /// If an element was removed or room was reserved, nothing is allocated. If the call fails, the
-    /// error holds the value, and the list has the same elements.
+    /// If a slot is vacant or room was reserved, memory can't run out. If the call fails, the error
+    /// holds the value, and the list has the same elements.
     pub fn push_back(&mut self, value: T) -> Result<K, PushError<T>>
         ensures ok { IfOk result (λ key. self.new.elements ≡ self.old.elements ++ (K.data_of key, value) ∷ []) }
         ensures fresh { IfOk result (λ key. value_of (K.data_of key) self.old.elements ≡ None) }
@@ -73,8 +73,8 @@ impl<K: Key, T: Drop> StableList<K, T> {
 
     /// Adds an element at the front, and returns its cursor.
     ///
-    /// If an element was removed or room was reserved, nothing is allocated. If the call fails, the
-    /// error holds the value, and the list has the same elements.
+    /// If a slot is vacant or room was reserved, memory can't run out. If the call fails, the error
+    /// holds the value, and the list has the same elements.
     pub fn push_front(&mut self, value: T) -> Result<K, PushError<T>>
         ensures ok { IfOk result (λ key. self.new.elements ≡ (K.data_of key, value) ∷ self.old.elements) }
         ensures fresh { IfOk result (λ key. value_of (K.data_of key) self.old.elements ≡ None) }
@@ -121,8 +121,8 @@ impl<K: Key, T: Drop> StableList<K, T> {
 
     /// Adds an element after that of a cursor, and returns its cursor.
     ///
-    /// If an element was removed or room was reserved, nothing is allocated. If the call fails, the
-    /// error holds the value, and the list has the same elements.
+    /// If a slot is vacant or room was reserved, memory can't run out. If the call fails, the error
+    /// holds the value, and the list has the same elements.
     pub fn insert_after(&mut self, cursor: K, value: T) -> Result<K, PlaceError<T>>
         ensures ok { IfOk result (λ key. self.new.elements ≡ put_after (K.data_of cursor) (K.data_of key, value) self.old.elements) }
         ensures fresh { IfOk result (λ key. value_of (K.data_of key) self.old.elements ≡ None) }
@@ -141,8 +141,8 @@ impl<K: Key, T: Drop> StableList<K, T> {
 
     /// Adds an element before that of a cursor, and returns its cursor.
     ///
-    /// If an element was removed or room was reserved, nothing is allocated. If the call fails, the
-    /// error holds the value, and the list has the same elements.
+    /// If a slot is vacant or room was reserved, memory can't run out. If the call fails, the error
+    /// holds the value, and the list has the same elements.
     pub fn insert_before(&mut self, cursor: K, value: T) -> Result<K, PlaceError<T>>
         ensures ok { IfOk result (λ key. self.new.elements ≡ put_before (K.data_of cursor) (K.data_of key, value) self.old.elements) }
         ensures fresh { IfOk result (λ key. value_of (K.data_of key) self.old.elements ≡ None) }

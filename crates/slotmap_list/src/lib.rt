@@ -135,8 +135,8 @@ impl<T: Drop> StableList<Cursor, T> {
 
     /// Makes an empty list with room for `capacity` elements, whose cursors are of type `Cursor`.
     ///
-    /// The next `capacity` elements are added without allocating. It fails with `TooGreat` if
-    /// `capacity` is over 4294967294, and with `Memory` if memory runs out.
+    /// To add the next `capacity` elements can't fail. The call fails with `TooGreat` if `capacity`
+    /// is over 4294967294, and with `Memory` if memory runs out.
     ///
     /// ```
     /// let mut list: StableList<Cursor, u64> = StableList::with_capacity(alloc, 2)?;
@@ -167,8 +167,8 @@ impl<K: Key, T: Drop> StableList<K, T> {
 
     /// Makes an empty list with room for `capacity` elements, with any type of cursors.
     ///
-    /// The next `capacity` elements are added without allocating. It fails with `TooGreat` if
-    /// `capacity` is over 4294967294, and with `Memory` if memory runs out.
+    /// To add the next `capacity` elements can't fail. The call fails with `TooGreat` if `capacity`
+    /// is over 4294967294, and with `Memory` if memory runs out.
     ///
     /// ```
     /// let list: StableList<NodeKey, u64> = StableList::with_capacity_and_key(alloc, 2)?;
@@ -190,8 +190,8 @@ impl<K: Key, T: Drop> StableList<K, T> {
 
     /// Reserves room for `additional` more elements.
     ///
-    /// The next `additional` elements are added without allocating. The errors are these; either
-    /// leaves the same elements:
+    /// To add the next `additional` elements can't fail. The errors are these; either leaves the
+    /// same elements:
     ///
     /// - `TooGreat`: more than 4294967294 elements would be there, counting those whose slots are
     ///   retired.
@@ -248,7 +248,7 @@ impl<K: Key, T: Drop> StableList<K, T> {
         self.nodes.contains_key(key)
     }
 
-    /// Returns the number of elements, in constant time. No cursor stands twice.
+    /// Returns the number of elements, in constant time. No cursor occurs twice.
     pub fn len(&self) -> usize
         ensures value { result ≡ length self.now.elements }
         ensures once { IsOnce self.now.elements }

@@ -46,9 +46,9 @@ impl<K: Key, T: Drop> Scene<K, T> {
     /// returns its key, which no node had before. It takes constant time, unless the map of the nodes
     /// grows.
     ///
-    /// It fails with `Gone` exactly if the sibling is a root or doesn't exist. If a node was removed or
-    /// room was reserved, nothing is allocated, and it fails for no other reason. If the call fails, the
-    /// error holds the value, and the scene is unchanged.
+    /// It fails with `Gone` exactly if the sibling is a root or doesn't exist. If a slot is vacant
+    /// or room was reserved, it fails for no other reason. If the call fails, the error holds the
+    /// value, and the scene is unchanged.
     ///
     /// ```
     /// let mut scene: Scene<DefaultKey, &str> = Scene::new(alloc)?;
@@ -81,9 +81,9 @@ impl<K: Key, T: Drop> Scene<K, T> {
     /// returns its key, which no node had before. It takes constant time, unless the map of the nodes
     /// grows.
     ///
-    /// It fails with `Gone` exactly if the sibling is a root or doesn't exist. If a node was removed or
-    /// room was reserved, nothing is allocated, and it fails for no other reason. If the call fails, the
-    /// error holds the value, and the scene is unchanged.
+    /// It fails with `Gone` exactly if the sibling is a root or doesn't exist. If a slot is vacant
+    /// or room was reserved, it fails for no other reason. If the call fails, the error holds the
+    /// value, and the scene is unchanged.
     ///
     /// ```
     /// let mut scene: Scene<DefaultKey, &str> = Scene::new(alloc)?;

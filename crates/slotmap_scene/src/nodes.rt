@@ -14,7 +14,7 @@ use slotmap_keylist::{inner, outer};
 impl<K: Key, T: Drop> Scene<K, T> {
     /// Adds a root with no children, and returns its key, which no node had before.
     ///
-    /// If a node was removed or room was reserved, nothing is allocated. If the call fails, the error
+    /// If a slot is vacant or room was reserved, the call can't fail. If the call fails, the error
     /// holds the value, and the scene is unchanged.
     pub fn add_root(&mut self, value: T) -> Result<K, InsertError<T>>
         ensures adds { IfOk result (λ key. Inserts self.old (K.data_of key) (child None value) self.new) }
@@ -33,8 +33,8 @@ impl<K: Key, T: Drop> Scene<K, T> {
     /// Adds a node with no children as the last child of another one, and returns its key, which no node
     /// had before.
     ///
-    /// If a node was removed or room was reserved, nothing is allocated, and it fails exactly if the
-    /// parent doesn't exist. If the call fails, the error holds the value, and the scene is unchanged.
+    /// If a slot is vacant or room was reserved, it fails exactly if the parent doesn't exist. If
+    /// the call fails, the error holds the value, and the scene is unchanged.
     pub fn add_child(&mut self, parent: K, value: T) -> Result<K, AddError<T>>
         // The parent has one more child, under a new key.
         ensures adds { IfOk result (λ key. Inserts (record self.old { live = with_child self.old.live (K.data_of parent) (K.data_of key) })

@@ -16,8 +16,8 @@ use std::alloc::AllocError;
 impl<K: Key, T: Drop> Scheduler<K, T> {
     /// Reserves room for `additional` more jobs.
     ///
-    /// The next `additional` schedules don't allocate. The errors are these; either leaves the same
-    /// jobs waiting:
+    /// The next `additional` schedules don't fail for memory. The errors are these; either leaves
+    /// the same jobs waiting:
     ///
     /// - `TooGreat`: more than 4294967294 jobs would be there, counting those whose slots are retired.
     /// - `Memory`: memory runs out.
@@ -87,7 +87,7 @@ impl<K: Key, T: Drop> Scheduler<K, T> {
         ensures handles { IfOk result (λ handle. Inserts self.old.handles (K.data_of handle) tt self.new.handles) }
         ensures turns { OnOk result (self.new.turns ≡ self.old.turns + 1) }
 
-        // Why the call failed, and what that leaves. If a slot is vacant, nothing is allocated.
+        // Why the call failed, and what that leaves. If a slot is vacant, memory can't run out.
         ensures err { IfErr result (RefusesJob self.old job) }
         ensures reuses { 0 < map.len self.old.handles.next → self.old.turns < last_turn → IsOk result }
         ensures unchanged { OnErr result (Keeps self.old.handles self.new.handles × (self.new.waiting ≡ self.old.waiting) × (self.new.turns ≡ self.old.turns)) }

@@ -122,8 +122,8 @@ impl<T: Drop> Scheduler<DefaultKey, T> {
     /// Makes a scheduler with no job and with room for `capacity` jobs, with the default type of
     /// handles.
     ///
-    /// The next `capacity` schedules don't allocate. It fails with `TooGreat` if `capacity` is over
-    /// 4294967294, and with `Memory` if memory runs out.
+    /// The next `capacity` schedules don't fail for memory. It fails with `TooGreat` if `capacity`
+    /// is over 4294967294, and with `Memory` if memory runs out.
     pub fn with_capacity(alloc: Global, capacity: usize) -> Result<Self, ReserveError>
         ensures waiting { IfOk result (λ made. made.waiting ≡ []) }
         ensures handles { IfOk result (λ made. IsNew made.handles) }
@@ -152,8 +152,8 @@ impl<K: Key, T: Drop> Scheduler<K, T> {
 
     /// Makes a scheduler with no job and with room for `capacity` jobs, with any type of handles.
     ///
-    /// The next `capacity` schedules don't allocate. It fails with `TooGreat` if `capacity` is over
-    /// 4294967294, and with `Memory` if memory runs out.
+    /// The next `capacity` schedules don't fail for memory. It fails with `TooGreat` if `capacity`
+    /// is over 4294967294, and with `Memory` if memory runs out.
     pub fn with_capacity_and_key(alloc: Global, capacity: usize) -> Result<Self, ReserveError>
         ensures waiting { IfOk result (λ made. made.waiting ≡ []) }
         ensures handles { IfOk result (λ made. IsNew made.handles) }

@@ -13,6 +13,9 @@ use std::marker::PhantomData;
 impl<K: Key, V: Clone, S: BuildHasher + Clone> SparseSecondaryMap<K, V, S> {
     /// Returns a copy of the map: the same keys, each with a clone of its value.
     ///
+    /// Each value is a clone by the `is_clone` of its type. Where clones equal their values, the
+    /// copy holds the same pairs.
+    ///
     /// If an allocation fails, or the clone of a value does, there is no copy, and what was copied
     /// by then is dropped. It also fails if the clone of the hasher hashes in another way. Takes
     /// time linear in the number of keys. The copy has memory for its keys, and maybe for no more.

@@ -17,7 +17,8 @@ impl<K: Key, V: Drop, S: BuildHasher + Drop> SparseSecondaryMap<K, V, S> {
     /// A pair whose key is null, or older than the key at its index, is dropped. If an allocation
     /// fails, the error holds the pair that it was for. The pairs before it are then in the map,
     /// and the rest of the iterator is dropped. It never fails while the map holds fewer keys than
-    /// `capacity()` was before. The iterator has to end. In Rust this is the trait `Extend`.
+    /// `capacity()` was before. The iterator has to end. Each pair costs what `insert` does. In
+    /// Rust this is the trait `Extend`.
     ///
     /// ```
     /// map.extend(primary)?;
@@ -49,7 +50,8 @@ impl<K: Key, V: Drop, S: BuildHasher + Drop> SparseSecondaryMap<K, V, S> {
 
     /// Inserts each pair of an iterator over references, with a copy of the value.
     ///
-    /// Apart from that it does the same as `extend`. In Rust this is a second impl of `Extend`.
+    /// Apart from that it does the same as `extend`, at the same cost. In Rust this is a second
+    /// impl of `Extend`.
     ///
     /// ```
     /// map.extend_refs(primary.iter())?;
@@ -88,7 +90,8 @@ impl<K: Key, V: Drop, S: BuildHasher + Drop> SparseSecondaryMap<K, V, S> {
     /// `extend`.
     ///
     /// If an allocation fails there is no map, and the error holds the pair that it was for. The
-    /// iterator has to end. In Rust this is `FromIterator`, for a hasher that has a default.
+    /// iterator has to end. Costs as `extend`. In Rust this is `FromIterator`, for a hasher that
+    /// has a default.
     ///
     /// If strangers choose the keys, use a `RandomState`.
     ///
@@ -126,9 +129,9 @@ impl<K: Key, V: Drop> SparseSecondaryMap<K, V> {
     /// `extend`.
     ///
     /// If an allocation fails there is no map, and the error holds the pair that it was for. The
-    /// iterator has to end. In Rust this is `FromIterator`. If strangers choose the keys, call
-    /// [`SparseSecondaryMap::from_iter_with_hasher`]: the default hasher's seed is fixed and
-    /// public.
+    /// iterator has to end. Costs as `extend`. In Rust this is `FromIterator`. If strangers choose
+    /// the keys, call [`SparseSecondaryMap::from_iter_with_hasher`]: the default hasher's seed is
+    /// fixed and public.
     ///
     /// ```
     /// let all: SparseSecondaryMap<DefaultKey, u64> =

@@ -23,10 +23,11 @@ impl<K: Key, V: Drop, S: BuildHasher + Drop> SparseSecondaryMap<K, V, S> {
     /// key. The slot of a key has the value and the odd version; every other slot has no value and
     /// version 0. The map that `from_slots` reads from the list holds the same keys with these clones.
     ///
-    /// It fails with `OutOfMemory` if memory runs out, for the list or for a clone. Memory for the
-    /// whole list is allocated first. Takes time linear in the largest index, and clones each value
-    /// once. A map that holds a key of index 0, or of an index from 4294967293 on, writes a list that
-    /// `from_slots` rejects. In Rust `Serialize` writes the same records.
+    /// It fails with `OutOfMemory` if memory runs out for the list, or if the clone of a value
+    /// fails, for whatever reason. Memory for the whole list is allocated first. Takes time linear
+    /// in the largest index, and clones each value once. A map that holds a key of index 0, or of
+    /// an index from 4294967293 on, writes a list that `from_slots` rejects. In Rust `Serialize`
+    /// writes the same records.
     ///
     /// ```
     /// let list = map.to_slots()?;
@@ -163,8 +164,8 @@ impl<K: Key, V: Drop, S: BuildHasher + Drop> SparseSecondaryMap<K, V, S> {
 impl<K: Key, V: Drop> SparseSecondaryMap<K, V> {
     /// Makes the map that a list of slots describes, with the default hasher.
     ///
-    /// It does the same as [`SparseSecondaryMap::from_slots_with_hasher`]. Call that one if a
-    /// stranger wrote the list: the default hasher's seed is fixed and public.
+    /// It does the same as [`SparseSecondaryMap::from_slots_with_hasher`], at the same cost. Call
+    /// that one if a stranger wrote the list: the default hasher's seed is fixed and public.
     ///
     /// ```
     /// let list = vec![in alloc; SlotRecord { value: None, version: 0 },

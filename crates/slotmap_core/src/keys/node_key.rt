@@ -1,6 +1,7 @@
-//! A second key type, in a file of its own: the pattern for further ones.
+//! A second key type, in a file of its own.
 //!
-//! To make a key type, copy this file and replace `NodeKey` by its name.
+//! To make a key type outside this crate, copy `crates/slotmap_list/src/cursor.rt`, whose imports are
+//! those of a crate above.
 
 ghost use Rattle.std.specs.Prelude.{◌≡◌, refl};
 ghost use Rattle.slotmap_core.specs.Words.{null_key};
