@@ -1,7 +1,7 @@
 #!/usr/bin/env bash
-# tests/wrong-bodies.sh [--gate] [CRATE ..]
+# tests/wrong-bodies.sh [--gate] [CRATE | CRATE/NAME ..]
 #
-# Tries each wrong body of these crates, or of all: the files of must-fail, which the gate tries too, and those of
+# Tries each wrong body of these crates, those of these names, or all: the files of must-fail, which the gate tries too, and those of
 # more-wrong-bodies. With --gate, those of must-fail alone. The prover has to refuse each, and by a goal: a wrong body that is
 # refused since a proof cites a name that it took away shows nothing of the contract.
 #

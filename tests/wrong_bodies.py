@@ -14,7 +14,7 @@ FOLDERS = ["must-fail", "more-wrong-bodies"]
 # What a check says where a proof cites a name that the function no longer has.
 LOST_NAME = re.compile(r"that can be named from here|has no field|\(nearest: ")
 # What it says of a goal that isn't proved, or of an answer that no longer fits its goal.
-GOAL = re.compile(r"^(note: )?(\./)?(src|proofs|specs)/\S+:\d+:\d+: ")
+GOAL = re.compile(r"^(note: )?(\./)?(src|proofs|specs)/\S+:\d+:\d+: (?!note: large|warning)")
 # The count at the end of a check of one module, and the end of a whole one.
 COUNT = re.compile(r"^only=(\d+) proved=(\d+)$", re.M)
 NOT_PROVED = re.compile(r"^logic=not-proved", re.M)
@@ -127,23 +127,23 @@ def copy_of_the_tree(copy):
     subprocess.run(["git", "-C", copy, "init", "--quiet"], check=True)
 
 
-def edits_of(crate, folders):
-    """Returns the wrong bodies of a crate, those that the gate tries first."""
+def edits_of(crate, folders, wanted=None):
+    """Returns the wrong bodies of a crate, those that the gate tries first, or the one of this name."""
     found = []
     for folder in folders:
         at = f"{TOP}/crates/{crate}/{folder}"
         names = sorted(os.listdir(at)) if os.path.isdir(at) else []
-        found += [f"{at}/{name}" for name in names if name.endswith(".edit")]
+        found += [f"{at}/{name}" for name in names if name.endswith(".edit") and wanted in (None, name[: -len(".edit")])]
     return found
 
 
-def try_all(copy, crates, folders):
-    """Tries the wrong bodies of these crates, prints what each came to, and returns how often each word came."""
+def try_all(copy, wanted):
+    """Tries these wrong bodies by their crates, prints what each came to, and returns how often each word came."""
     counts = {}
-    for name in crates:
-        crate = Crate(copy, name)
+    for crate_name, edits in wanted.items():
+        crate = Crate(copy, crate_name)
         crate.prove()
-        for edit in edits_of(name, folders):
+        for edit in edits:
             try:
                 word, line = verdict(*crate.try_edit(edit))
             except BadEdit as why:
@@ -158,14 +158,18 @@ def main():
     """Reads the arguments, tries, and prints the numbers."""
     words = sys.argv[1:]
     folders = FOLDERS[:1] if "--gate" in words else FOLDERS
-    crates = [word for word in words if word != "--gate"]
-    every = [crate for crate in sorted(os.listdir(f"{TOP}/crates")) if edits_of(crate, folders)]
-    unknown = [crate for crate in crates if crate not in every]
-    if unknown:
-        sys.exit(f"wrong-bodies.sh: {unknown[0]} has no wrong bodies")
+    named = [word for word in words if word != "--gate"]
+    wanted = {}
+    for name in named or sorted(os.listdir(f"{TOP}/crates")):
+        crate, _, edit = name.partition("/")
+        found = edits_of(crate, folders, edit or None)
+        if found:
+            wanted[crate] = wanted.get(crate, []) + found
+        elif named:
+            sys.exit(f"wrong-bodies.sh: {name} has no wrong bodies")
     with tempfile.TemporaryDirectory(prefix="wrong-bodies-") as room:
         copy_of_the_tree(f"{room}/copy")
-        counts = try_all(f"{room}/copy", crates or every, folders)
+        counts = try_all(f"{room}/copy", wanted)
     used = resource.getrusage(resource.RUSAGE_CHILDREN)
     minutes = (used.ru_utime + used.ru_stime) / 60
     told = ", ".join(f"{number} {'of the gate ' if in_gate else ''}{word}" for (word, in_gate), number in sorted(counts.items()))

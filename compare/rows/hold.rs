@@ -51,15 +51,31 @@ impl<'t> Row<'t> {
         Row { name, maps: begin(&counts), begin, counts, not_known: Vec::new() }
     }
 
-    /// Makes the call of a line, as often as it says.
-    fn make(&mut self, call: &str) -> Answer {
+    /// Makes the call of a line, as often as it says. `expected` has a `#` for the turn.
+    fn make(&mut self, call: &str, expected: &str) -> Answer {
+        let call = call.strip_prefix("surely ").unwrap_or(call);
         if let Some((times, call)) = made_often(call, "repeat ") {
+            return self.repeat(call, times, expected);
+        }
+        if let Some((times, call)) = made_often(call, "last ") {
             return (1..=times).map(|turn| self.make_once(call, turn)).last().unwrap_or(Answer::Lost);
         }
         match made_often(call, "sum ") {
             Some((times, call)) => self.sum(call, times),
             None => self.make_once(call, 1),
         }
+    }
+
+    /// Makes a call so many times, up to the first result that isn't the expected one. If there is none, the answer is what was
+    /// expected.
+    fn repeat(&mut self, call: &str, times: u64, expected: &str) -> Answer {
+        for turn in 1..=times {
+            match self.make_once(call, turn) {
+                Answer::Result(result) if result == expected.replacen('#', &turn.to_string(), 1) => {}
+                answer => return answer,
+            }
+        }
+        Answer::Result(expected.to_string())
     }
 
     /// The sum of the results of a call in so many turns.
@@ -225,7 +241,7 @@ impl<'t> Held<'t> {
             self.leave_out(call);
             return false;
         }
-        match row.make(call) {
+        match row.make(call, expected) {
             Answer::Result(seen) => {
                 self.calls += 1;
                 if seen != expected {
@@ -295,7 +311,7 @@ pub fn fill(text: &str, begin: impl Fn(&str) -> Option<Begin>) -> Result<String,
             Line::Maps(kinds) => kind = kinds.split(' ').find_map(&begin),
             Line::Row(name) => row = kind.map(|begin| Row::new(name, begin)),
             Line::Call(call, None) => {
-                let Some(Answer::Result(result)) = row.as_mut().map(|row| row.make(call)) else {
+                let Some(Answer::Result(result)) = row.as_mut().map(|row| row.make(call, "done")) else {
                     return Err(format!("line {}: the Rust crate can't be asked: {call}", position + 1));
                 };
                 if result != "done" {

@@ -47,7 +47,10 @@ where
         let look = |value: &u64| counts.look(*value);
         match run_joined(alloc, primary, secondary, list, look) {
             Ok(replies) => Some(replies),
-            Err(list) => run_joined(alloc, primary, secondary, list, look).ok(),
+            Err(list) => {
+                counts.count_made_twice();
+                run_joined(alloc, primary, secondary, list, look).ok()
+            }
         }
     }
 }
@@ -71,7 +74,10 @@ where
         let look = |value: &u64| counts.look(*value);
         match run_joined_detaching(alloc, primary, secondary, list, look) {
             Ok(replies) => Some(replies),
-            Err(list) => run_joined_detaching(alloc, primary, secondary, list, look).ok(),
+            Err(list) => {
+                counts.count_made_twice();
+                run_joined_detaching(alloc, primary, secondary, list, look).ok()
+            }
         }
     }
 }

@@ -4,7 +4,7 @@ use crate::joins::Joins;
 use crate::replies::write_reply;
 use crate::steps::{Step, inserted, read_step};
 use slotmap::{DefaultKey, Primary, ReserveError, SecondaryMap, SparseSecondaryMap};
-use slotmap_rows::{Call, Stop, Subject, Supply, Word, Words};
+use slotmap_rows::{Call, Stop, Subject, Supply, Word, Words, write_count};
 use std::alloc::Global;
 use std::marker::PhantomData;
 
@@ -100,12 +100,13 @@ where
                 commands.push(C::of_step(step).ok_or(Stop::Unknown)?)?;
             }
         }
+        let count = commands.len();
         let replies = C::run(alloc, counts, primary, secondary, commands).ok_or(Stop::Memory)?;
         for told in &replies {
             reply.clear();
             write_reply(reply, told)?;
         }
-        Ok(())
+        write_count(reply, replies.len(), count)
     }
 }
 
@@ -121,12 +122,7 @@ where
         Ok(())
     }
 
-    fn call(
-        &mut self,
-        call: &Call<'_>,
-        _list: &[Word<'_>],
-        reply: &mut String,
-    ) -> Result<(), Stop> {
+    fn call(&mut self, call: &Call<'_>, _list: &[Word], reply: &mut String) -> Result<(), Stop> {
         let before = self.steps.len();
         let added = self.add(call, reply);
         if added.is_err() {

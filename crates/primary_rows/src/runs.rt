@@ -36,6 +36,43 @@ pub type Plain<'a> = Command<DefaultKey, Number<'a>>;
 /// A command of `run_detaching_new` and `run_detaching`.
 pub type Detachable<'a> = DetachCommand<DefaultKey, Number<'a>>;
 
+// One try of a run on a new map.
+fn try_new<'a, M: Primary<DefaultKey, Number<'a>>>(
+    supply: Supply<'a>,
+    commands: Vec<Plain<'a>>,
+) -> Result<(M, Answers<'a>), Vec<Plain<'a>>> {
+    let made = |key| make(supply, Made::Key, key);
+    run_new(supply.alloc, commands, look, keep_even, made)
+}
+
+// One try of a run on a map.
+fn try_on<'a, M: Primary<DefaultKey, Number<'a>>>(
+    supply: Supply<'a>,
+    map: &mut M,
+    commands: Vec<Plain<'a>>,
+) -> Result<Answers<'a>, Vec<Plain<'a>>> {
+    let made = |key| make(supply, Made::Key, key);
+    run(supply.alloc, map, commands, look, keep_even, made)
+}
+
+// The same where keys can be detached.
+fn try_detaching_new<'a, M: Detaching<DefaultKey, Number<'a>>>(
+    supply: Supply<'a>,
+    commands: Vec<Detachable<'a>>,
+) -> Result<(M, Answers<'a>), Vec<Detachable<'a>>> {
+    let made = |key| make(supply, Made::Key, key);
+    run_detaching_new(supply.alloc, commands, look, keep_even, made)
+}
+
+fn try_detaching_on<'a, M: Detaching<DefaultKey, Number<'a>>>(
+    supply: Supply<'a>,
+    map: &mut M,
+    commands: Vec<Detachable<'a>>,
+) -> Result<Answers<'a>, Vec<Detachable<'a>>> {
+    let made = |key| make(supply, Made::Key, key);
+    run_detaching(supply.alloc, map, commands, look, keep_even, made)
+}
+
 impl<'a, M: Primary<DefaultKey, Number<'a>>> Runner<'a, M> for Plain<'a> {
     fn of_step(supply: Supply<'a>, step: &Step) -> Option<Self> {
         match step {
@@ -45,23 +82,21 @@ impl<'a, M: Primary<DefaultKey, Number<'a>>> Runner<'a, M> for Plain<'a> {
     }
 
     fn run_new(supply: Supply<'a>, commands: Vec<Self>) -> Option<(M, Answers<'a>)> {
-        let made = |key| make(supply, Made::Key, key);
-        match run_new(supply.alloc, commands, look, keep_even, made) {
+        match try_new(supply, commands) {
             Ok(ended) => Some(ended),
             Err(commands) => {
-                let made = |key| make(supply, Made::Key, key);
-                run_new(supply.alloc, commands, look, keep_even, made).ok()
+                supply.counts.count_made_twice();
+                try_new(supply, commands).ok()
             }
         }
     }
 
     fn run(supply: Supply<'a>, map: &mut M, commands: Vec<Self>) -> Option<Answers<'a>> {
-        let made = |key| make(supply, Made::Key, key);
-        match run(supply.alloc, map, commands, look, keep_even, made) {
+        match try_on(supply, map, commands) {
             Ok(ended) => Some(ended),
             Err(commands) => {
-                let made = |key| make(supply, Made::Key, key);
-                run(supply.alloc, map, commands, look, keep_even, made).ok()
+                supply.counts.count_made_twice();
+                try_on(supply, map, commands).ok()
             }
         }
     }
@@ -83,23 +118,21 @@ impl<'a, M: Detaching<DefaultKey, Number<'a>>> Runner<'a, M> for Detachable<'a> 
     }
 
     fn run_new(supply: Supply<'a>, commands: Vec<Self>) -> Option<(M, Answers<'a>)> {
-        let made = |key| make(supply, Made::Key, key);
-        match run_detaching_new(supply.alloc, commands, look, keep_even, made) {
+        match try_detaching_new(supply, commands) {
             Ok(ended) => Some(ended),
             Err(commands) => {
-                let made = |key| make(supply, Made::Key, key);
-                run_detaching_new(supply.alloc, commands, look, keep_even, made).ok()
+                supply.counts.count_made_twice();
+                try_detaching_new(supply, commands).ok()
             }
         }
     }
 
     fn run(supply: Supply<'a>, map: &mut M, commands: Vec<Self>) -> Option<Answers<'a>> {
-        let made = |key| make(supply, Made::Key, key);
-        match run_detaching(supply.alloc, map, commands, look, keep_even, made) {
+        match try_detaching_on(supply, map, commands) {
             Ok(ended) => Some(ended),
             Err(commands) => {
-                let made = |key| make(supply, Made::Key, key);
-                run_detaching(supply.alloc, map, commands, look, keep_even, made).ok()
+                supply.counts.count_made_twice();
+                try_detaching_on(supply, map, commands).ok()
             }
         }
     }
@@ -211,11 +244,17 @@ impl<'a, M: Drop, C: Runner<'a, M>> Runs<'a, M, C> {
 
     // Runs the list of a number on a map of its own, and writes the sum of its replies.
     fn run_list(&mut self, number: u64, detaches: bool, reply: &mut String) -> Result<(), Stop> {
-        let commands = listed::<M, C>(self.supply, number, detaches)?;
-        let (_map, replies) = C::run_new(self.supply, commands).ok_or(Stop::Memory)?;
+        let replies = self.replies_to_list(number, detaches)?;
         all_served(&replies)?;
         let sum = sum_of(&mut self.again, &replies)?;
-        Ok(write!(reply, "{sum}")?)
+        Outcome::Number(sum).write(reply)
+    }
+
+    // The replies to the list of a number on a map of its own, which is dropped.
+    fn replies_to_list(&self, number: u64, detaches: bool) -> Result<Answers<'a>, Stop> {
+        let commands = listed::<M, C>(self.supply, number, detaches)?;
+        let (_map, replies) = C::run_new(self.supply, commands).ok_or(Stop::Memory)?;
+        Ok(replies)
     }
 
     // Adds the commands of a call, and runs all. `looks` adds none.
@@ -299,12 +338,7 @@ impl<'a, M: Drop, C: Runner<'a, M>> Subject for Runs<'a, M, C> {
         Ok(())
     }
 
-    fn call(
-        &mut self,
-        call: &Call<'_>,
-        _list: &[Word<'_>],
-        reply: &mut String,
-    ) -> Result<(), Stop> {
+    fn call(&mut self, call: &Call<'_>, _list: &[Word], reply: &mut String) -> Result<(), Stop> {
         let before = self.steps.len();
         let added = self.add(call, reply);
         if added.is_err() {

@@ -53,7 +53,7 @@ fn hold_plain<M: Plain>(
     kind: &str,
     output: &mut impl Write,
 ) -> Result<bool, Stop> {
-    let mut map: PlainMap<M> = PlainMap::new(file.supply.alloc)?;
+    let mut map: PlainMap<'_, M> = PlainMap::new(file.supply)?;
     file.hold(kind, &mut map, output)
 }
 

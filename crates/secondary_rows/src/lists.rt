@@ -1,22 +1,17 @@
 //! Calls on lists, of pairs and of slots.
 
-use crate::call::{is_name, read_pair};
+use crate::call::read_pair;
 use crate::maps::Maps;
 use slotmap::{DefaultKey, Secondary, SlotsError};
 use slotmap_rows::{
-    Number, Outcome, Slots, Stop, Supply, Word, read_slots, write_put_three, write_put_two,
+    Mode, Number, Outcome, Slots, Stop, Supply, Word, read_slots, write_put_three, write_put_two,
     write_slots,
 };
 use slotmap_rows_secondary::{Held, Keep, Pairs};
 
 impl<'a, M: Held<'a, H> + Secondary<DefaultKey, Number<'a>>, H: Copy> Maps<'a, M, H> {
     /// The calls that are given a list of words.
-    pub fn on_list(
-        &mut self,
-        name: &str,
-        list: &[Word<'_>],
-        reply: &mut String,
-    ) -> Result<(), Stop> {
+    pub fn on_list(&mut self, name: &str, list: &[Word], reply: &mut String) -> Result<(), Stop> {
         match name {
             "extend" => self.extend(list),
             "from_iter" => self.from_pairs(list),
@@ -28,33 +23,32 @@ impl<'a, M: Held<'a, H> + Secondary<DefaultKey, Number<'a>>, H: Copy> Maps<'a, M
         }
     }
 
-    fn from_pairs(&mut self, list: &[Word<'_>]) -> Result<(), Stop> {
+    fn from_pairs(&mut self, list: &[Word]) -> Result<(), Stop> {
         self.map = self.of_pairs(read_pairs(self.supply, list)?)?;
         Ok(())
     }
 
-    fn equals(&self, list: &[Word<'_>], reply: &mut String) -> Result<(), Stop> {
+    fn equals(&self, list: &[Word], reply: &mut String) -> Result<(), Stop> {
         let other = self.of_pairs(read_pairs(self.supply, list)?)?;
         Outcome::Flag(self.map == other).write(reply)
     }
 
-    fn from_slots(&mut self, list: &[Word<'_>], reply: &mut String) -> Result<(), Stop> {
+    fn from_slots(&mut self, list: &[Word], reply: &mut String) -> Result<(), Stop> {
         let list = read_slots(self.supply, list)?;
         self.from_list(list, reply)
     }
 
-    fn retain(&mut self, list: &[Word<'_>], reply: &mut String) -> Result<(), Stop> {
-        let Some(word) = list.first() else {
-            return Err(Stop::Unknown);
+    fn retain(&mut self, list: &[Word], reply: &mut String) -> Result<(), Stop> {
+        let keep = match list.first() {
+            Some(Word::Mode(Mode::Even)) => Keep::Even,
+            Some(Word::Mode(Mode::Nothing)) => Keep::Nothing,
+            Some(_) => Keep::OddCalls,
+            None => return Err(Stop::Unknown),
         };
-        if is_name(word, "even") {
-            self.map.retain_some(Keep::Even, reply);
-        } else if is_name(word, "nothing") {
-            self.map.retain_some(Keep::Nothing, reply);
-        } else {
+        if matches!(keep, Keep::OddCalls) {
             reply.push_str("values")?;
-            self.map.retain_some(Keep::OddCalls, reply);
         }
+        self.map.retain_some(keep, reply);
         Ok(())
     }
 
@@ -75,7 +69,7 @@ impl<'a, M: Held<'a, H> + Secondary<DefaultKey, Number<'a>>, H: Copy> Maps<'a, M
 
     // `extend`. Where memory runs out for a pair, those before it are in the map; then it is called
     // once more with the rest.
-    fn extend(&mut self, list: &[Word<'_>]) -> Result<(), Stop> {
+    fn extend(&mut self, list: &[Word]) -> Result<(), Stop> {
         let Some(refused) = self.put_all(list)? else {
             return Ok(());
         };
@@ -83,6 +77,7 @@ impl<'a, M: Held<'a, H> + Secondary<DefaultKey, Number<'a>>, H: Copy> Maps<'a, M
         let Some(rest) = list.get(position.unwrap_or(0)..) else {
             return Err(Stop::Memory);
         };
+        self.supply.counts.count_made_twice();
         match self.put_all(rest)? {
             Some(_) => Err(Stop::Memory),
             None => Ok(()),
@@ -90,7 +85,7 @@ impl<'a, M: Held<'a, H> + Secondary<DefaultKey, Number<'a>>, H: Copy> Maps<'a, M
     }
 
     // `extend`: the key of the pair that came back.
-    fn put_all(&mut self, list: &[Word<'_>]) -> Result<Option<DefaultKey>, Stop> {
+    fn put_all(&mut self, list: &[Word]) -> Result<Option<DefaultKey>, Stop> {
         match self.map.put_all(read_pairs(self.supply, list)?) {
             Ok(()) => Ok(None),
             Err(pair) => Ok(Some(key_of(pair))),
@@ -117,7 +112,7 @@ impl<'a, M: Held<'a, H> + Secondary<DefaultKey, Number<'a>>, H: Copy> Maps<'a, M
     }
 
     // `replace_disjoint` of no key, of two or of three.
-    fn replace_disjoint(&mut self, list: &[Word<'_>], reply: &mut String) -> Result<(), Stop> {
+    fn replace_disjoint(&mut self, list: &[Word], reply: &mut String) -> Result<(), Stop> {
         match list {
             [] => Ok(write!(reply, "{}", self.map.replace_none())?),
             [first, second] => match (read_pair(first), read_pair(second)) {
@@ -149,11 +144,7 @@ impl<'a, M: Held<'a, H> + Secondary<DefaultKey, Number<'a>>, H: Copy> Maps<'a, M
 }
 
 // The keys and the values of three pairs.
-fn read_three(
-    first: &Word<'_>,
-    second: &Word<'_>,
-    third: &Word<'_>,
-) -> Option<([DefaultKey; 3], [u64; 3])> {
+fn read_three(first: &Word, second: &Word, third: &Word) -> Option<([DefaultKey; 3], [u64; 3])> {
     let (first, value) = read_pair(first)?;
     let (second, other) = read_pair(second)?;
     let (third, last) = read_pair(third)?;
@@ -161,7 +152,7 @@ fn read_three(
 }
 
 // The pairs of the words.
-fn read_pairs<'a>(supply: Supply<'a>, list: &[Word<'_>]) -> Result<Pairs<'a>, Stop> {
+fn read_pairs<'a>(supply: Supply<'a>, list: &[Word]) -> Result<Pairs<'a>, Stop> {
     let mut pairs = Vec::new(supply.alloc);
     for word in list {
         let Some((key, value)) = read_pair(word) else {
@@ -180,7 +171,7 @@ fn key_of(pair: (DefaultKey, Number<'_>)) -> DefaultKey {
 }
 
 // Whether a word is a pair of this key.
-fn is_pair_of(word: &Word<'_>, key: DefaultKey) -> bool {
+fn is_pair_of(word: &Word, key: DefaultKey) -> bool {
     match read_pair(word) {
         Some((other, _)) => other == key,
         None => false,

@@ -49,7 +49,7 @@ impl<'a, M: Held<'a, H> + Secondary<DefaultKey, Number<'a>>, H: Copy + Drop> Sub
         Ok(())
     }
 
-    fn call(&mut self, call: &Call<'_>, list: &[Word<'_>], reply: &mut String) -> Result<(), Stop> {
+    fn call(&mut self, call: &Call<'_>, list: &[Word], reply: &mut String) -> Result<(), Stop> {
         let name = call.name;
         match call.words {
             Words::Key(key) => self.on_key(name, key, reply),

@@ -3,8 +3,7 @@
 use crate::call::read_pair;
 use crate::fresh::Fresh;
 use slotmap::{DefaultKey, OutOfMemory, Secondary, SecondaryMap, SparseSecondaryMap};
-use slotmap_rows::{Call, Outcome, Stop, Subject, Word, Words};
-use std::alloc::Global;
+use slotmap_rows::{Call, Outcome, Stop, Subject, Supply, Word, Words};
 
 /// What such a map can do beside the calls of `Secondary`. Each method makes the map's own call.
 pub trait Plain: Secondary<DefaultKey, u64> + Fresh + Drop {
@@ -44,30 +43,30 @@ impl Plain for SparseSecondaryMap<DefaultKey, u64> {
 
 /// The map of a row.
 #[derive(Drop)]
-pub struct PlainMap<M> {
-    alloc: Global,
+pub struct PlainMap<'a, M> {
+    supply: Supply<'a>,
     map: M,
 }
 
-impl<M: Plain> PlainMap<M> {
+impl<'a, M: Plain> PlainMap<'a, M> {
     /// A new map.
-    pub fn new(alloc: Global) -> Result<PlainMap<M>, Stop> {
+    pub fn new(supply: Supply<'a>) -> Result<PlainMap<'a, M>, Stop> {
         Ok(PlainMap {
-            alloc,
-            map: M::fresh(alloc).map_err(|_| Stop::Memory)?,
+            supply,
+            map: M::fresh(supply.alloc).map_err(|_| Stop::Memory)?,
         })
     }
 }
 
-impl<M: Plain> Subject for PlainMap<M> {
+impl<'a, M: Plain> Subject for PlainMap<'a, M> {
     fn begin(&mut self) -> Result<(), Stop> {
-        self.map = M::fresh(self.alloc).map_err(|_| Stop::Memory)?;
+        self.map = M::fresh(self.supply.alloc).map_err(|_| Stop::Memory)?;
         Ok(())
     }
 
-    fn call(&mut self, call: &Call<'_>, list: &[Word<'_>], reply: &mut String) -> Result<(), Stop> {
+    fn call(&mut self, call: &Call<'_>, list: &[Word], reply: &mut String) -> Result<(), Stop> {
         let outcome = match (call.name, call.words) {
-            ("extend_refs", _) => return extend_refs(self.alloc, &mut self.map, list),
+            ("extend_refs", _) => return extend_refs(self.supply, &mut self.map, list),
             ("or_default", Words::Key(key)) => Outcome::Value(self.map.put_default(key)?),
             ("insert", Words::Put(key, value)) => match self.map.insert(key, value) {
                 Ok(before) => Outcome::Value(before),
@@ -83,8 +82,8 @@ impl<M: Plain> Subject for PlainMap<M> {
 
 // `extend_refs`. Where memory runs out for a pair, those before it are in the map; then it is
 // called once more.
-fn extend_refs<M: Plain>(alloc: Global, map: &mut M, words: &[Word<'_>]) -> Result<(), Stop> {
-    let mut pairs = Vec::new(alloc);
+fn extend_refs<M: Plain>(supply: Supply<'_>, map: &mut M, words: &[Word]) -> Result<(), Stop> {
+    let mut pairs = Vec::new(supply.alloc);
     for word in words {
         match read_pair(word) {
             Some(pair) => pairs.push(pair)?,
@@ -94,6 +93,7 @@ fn extend_refs<M: Plain>(alloc: Global, map: &mut M, words: &[Word<'_>]) -> Resu
     let Err(refused) = map.put_refs(&pairs) else {
         return Ok(());
     };
+    supply.counts.count_made_twice();
     let position = pairs.iter().position(|pair| *pair == refused);
     match pairs.get(position.unwrap_or(0)..) {
         Some(rest) => map.put_refs(rest).map_err(|_| Stop::Memory),

@@ -5,7 +5,9 @@ use crate::keyed::write_or_put;
 use slotmap::{
     DefaultKey, KeyData, ReserveError, Secondary, SecondaryCommand, SecondaryReply, run_secondary,
 };
-use slotmap_rows::{Call, Number, Outcome, Stop, Subject, Supply, Word, Words, look, write_option};
+use slotmap_rows::{
+    Call, Number, Outcome, Stop, Subject, Supply, Word, Words, look, write_count, write_option,
+};
 use std::alloc::Global;
 use std::marker::PhantomData;
 
@@ -31,7 +33,7 @@ pub trait Bench<'a, Step>: Sized + Drop {
 
     /// Runs commands; none where memory runs out. A run that is refused is made once more with what it
     /// hands back.
-    fn run(&mut self, alloc: Global, commands: Vec<Self::Command>) -> Option<Vec<Self::Reply>>;
+    fn run(&mut self, supply: Supply<'a>, commands: Vec<Self::Command>) -> Option<Vec<Self::Reply>>;
 
     /// Writes a reply. Fails where memory ran out for its command.
     fn write(reply: &mut String, told: &Self::Reply) -> Result<(), Stop>;
@@ -103,12 +105,13 @@ impl<'a, B: Bench<'a, Step>, Step: Drop> Runs<'a, B, Step> {
                 commands.push(B::command(self.supply, step).ok_or(Stop::Unknown)?)?;
             }
         }
-        let replies = maps.run(self.supply.alloc, commands).ok_or(Stop::Memory)?;
+        let count = commands.len();
+        let replies = maps.run(self.supply, commands).ok_or(Stop::Memory)?;
         for told in &replies {
             reply.clear();
             B::write(reply, told)?;
         }
-        Ok(())
+        write_count(reply, replies.len(), count)
     }
 }
 
@@ -119,12 +122,7 @@ impl<'a, B: Bench<'a, Step>, Step: Drop> Subject for Runs<'a, B, Step> {
         Ok(())
     }
 
-    fn call(
-        &mut self,
-        call: &Call<'_>,
-        _list: &[Word<'_>],
-        reply: &mut String,
-    ) -> Result<(), Stop> {
+    fn call(&mut self, call: &Call<'_>, _list: &[Word], reply: &mut String) -> Result<(), Stop> {
         let before = self.steps.len();
         let added = self.add(call, reply);
         if added.is_err() {
@@ -143,11 +141,24 @@ pub struct Alone<M> {
     map: M,
 }
 
+type Given<'a> = SecondaryCommand<DefaultKey, Number<'a>>;
+
+type Answer<'a> = SecondaryReply<Number<'a>, u64>;
+
+// One try of a run on a map.
+fn try_run<'a, M: Secondary<DefaultKey, Number<'a>>>(
+    alloc: Global,
+    map: &mut M,
+    commands: Vec<Given<'a>>,
+) -> Result<Vec<Answer<'a>>, Vec<Given<'a>>> {
+    run_secondary(alloc, map, commands, look)
+}
+
 impl<'a, M: Secondary<DefaultKey, Number<'a>> + Fresh + Drop> Bench<'a, SecondaryStep>
     for Alone<M> {
-    type Command = SecondaryCommand<DefaultKey, Number<'a>>;
+    type Command = Given<'a>;
 
-    type Reply = SecondaryReply<Number<'a>, u64>;
+    type Reply = Answer<'a>;
 
     fn fresh(alloc: Global) -> Result<Self, ReserveError> {
         Ok(Alone {
@@ -188,10 +199,17 @@ impl<'a, M: Secondary<DefaultKey, Number<'a>> + Fresh + Drop> Bench<'a, Secondar
         })
     }
 
-    fn run(&mut self, alloc: Global, commands: Vec<Self::Command>) -> Option<Vec<Self::Reply>> {
-        match run_secondary(alloc, &mut self.map, commands, look) {
+    fn run(
+        &mut self,
+        supply: Supply<'a>,
+        commands: Vec<Self::Command>,
+    ) -> Option<Vec<Self::Reply>> {
+        match try_run(supply.alloc, &mut self.map, commands) {
             Ok(replies) => Some(replies),
-            Err(commands) => run_secondary(alloc, &mut self.map, commands, look).ok(),
+            Err(commands) => {
+                supply.counts.count_made_twice();
+                try_run(supply.alloc, &mut self.map, commands).ok()
+            }
         }
     }
 

@@ -15,6 +15,7 @@ pub struct Call<'c> {
 pub enum Mode {
     Even,
     EveryOther,
+    Nothing,
     Fails,
     Rest,
     Iter,
@@ -50,7 +51,7 @@ pub enum Words {
 }
 
 /// Reads the words of a call.
-pub fn read_words(words: &[Word<'_>]) -> Words {
+pub fn read_words(words: &[Word]) -> Words {
     match words {
         [] => Words::Nothing,
         [first] => read_one(read_part(first)),
@@ -69,29 +70,13 @@ pub fn read_words(words: &[Word<'_>]) -> Words {
     }
 }
 
-fn read_part(word: &Word<'_>) -> Part {
+fn read_part(word: &Word) -> Part {
     match word {
         Word::Number(number) => Part::Number(*number),
         Word::Key(key) => Part::Key(*key),
-        Word::Name(name) => match read_mode(name) {
-            Some(mode) => Part::Mode(mode),
-            None => Part::Other,
-        },
+        Word::Mode(mode) => Part::Mode(*mode),
         _ => Part::Other,
     }
-}
-
-fn read_mode(name: &str) -> Option<Mode> {
-    Some(match name {
-        "even" => Mode::Even,
-        "every_other" => Mode::EveryOther,
-        "fails" => Mode::Fails,
-        "rest" => Mode::Rest,
-        "iter" => Mode::Iter,
-        "keys" => Mode::Keys,
-        "values" => Mode::Values,
-        _ => return None,
-    })
 }
 
 fn read_one(word: Part) -> Words {

@@ -7,12 +7,15 @@
 //! - `row NAME`: the next row, on a new map;
 //! - `CALL WORDS -> RESULT`: a call, with the result that it must have; without ` -> ` the result
 //!   is `done`;
-//! - `repeat N CALL WORDS -> RESULT`: the same call N times, with the result of the last one. In
-//!   its words `#` stands for the number of the turn, from 1 on: `#` alone, `#v1` in a key, `#v1:#`
-//!   in a pair. `2#` is twice that number. `#a`, `#b` and `#c` are the wheels of a counter: `#a`
-//!   goes from 1 to 10 and begins again, and moves `#b` on, as that moves `#c`. So a thousand turns
-//!   go through each three of the numbers 1 to 10;
-//! - `sum N CALL WORDS -> SUM`: the same, with one number for all N results, their [`Sum`].
+//! - `repeat N CALL WORDS -> RESULT`: the same call N times, each with this result. In the words
+//!   `#` stands for the number of the turn, from 1 on: `#` alone, `#v1` in a key, `#v1:#` in a pair.
+//!   In the result it may stand once, as in `#v1`. In the words `2#` is twice that number. `#a`,
+//!   `#b` and `#c` are the wheels of a counter: `#a` goes from 1 to 10 and begins again, and moves
+//!   `#b` on, as that moves `#c`. So a thousand turns go through each three of the numbers 1 to 10;
+//! - `last N CALL WORDS -> RESULT`: the same, with the result of the last call alone;
+//! - `sum N CALL WORDS -> SUM`: the same, with one number for all N results, their [`Sum`];
+//! - `surely CALL WORDS -> RESULT`, or with one of these words behind `surely`: a call for which
+//!   there is room, so that it may not run out of memory.
 //!
 //! A [`Subject`] makes the calls. These calls are [`File::hold`]'s own:
 //!
@@ -26,7 +29,8 @@
 //!
 //! A call that runs out of memory is made once more, since it must change nothing. No
 //! value may be lost or left over by it, and the second call must have the result of the row. So a
-//! program prints the same whichever of its allocations fails.
+//! program prints the same whichever of its allocations fails, but for the number of calls made
+//! twice. Where no allocation fails it is 0.
 #![tactic(auto)]
 
 mod call;
@@ -53,6 +57,8 @@ pub use outcome::{Outcome, taken};
 pub use rows::{File, Subject};
 pub use stop::Stop;
 pub use sum::Sum;
-pub use texts::{SHOWN, write_key, write_keys, write_option, write_pair, write_pairs, write_slots};
+pub use texts::{
+    SHOWN, write_count, write_key, write_keys, write_option, write_pair, write_pairs, write_slots,
+};
 pub use walks::{Item, Shown, write_item, write_steps, write_taken, write_walked};
 pub use words::Word;

@@ -64,7 +64,7 @@ macro_rules! written {
 }
 
 /// The slots that words say.
-pub fn read_slots<'a>(supply: Supply<'a>, words: &[Word<'_>]) -> Result<Slots<'a>, Stop> {
+pub fn read_slots<'a>(supply: Supply<'a>, words: &[Word]) -> Result<Slots<'a>, Stop> {
     let mut slots = Vec::new(supply.alloc);
     for word in words {
         let (value, version) = match word {

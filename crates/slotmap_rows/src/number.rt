@@ -4,13 +4,14 @@ use slotmap_core::keys::DefaultKey;
 use std::alloc::{AllocError, Global};
 use std::cell::Cell;
 
-/// How many values were made, cloned, dropped and looked at.
+/// How many values were made, cloned, dropped and looked at, and how many calls were made twice.
 #[derive(Drop)]
 pub struct Counts {
     made: Cell<u64>,
     cloned: Cell<u64>,
     dropped: Cell<u64>,
     looks: Cell<u64>,
+    calls_made_twice: Cell<u64>,
 }
 
 impl Counts {
@@ -21,6 +22,7 @@ impl Counts {
             cloned: Cell::new(0),
             dropped: Cell::new(0),
             looks: Cell::new(0),
+            calls_made_twice: Cell::new(0),
         }
     }
 
@@ -60,6 +62,18 @@ impl Counts {
     /// Returns how often `look` was called since then.
     pub fn looks(&self) -> u64 {
         self.looks.get()
+    }
+
+    /// Counts a call that is made twice, since memory ran out the first time.
+    pub fn count_made_twice(&self) {
+        count(&self.calls_made_twice);
+    }
+
+    /// Returns how many such calls there were since the last time that it was asked.
+    pub(crate) fn take_made_twice(&self) -> u64 {
+        let calls = self.calls_made_twice.get();
+        self.calls_made_twice.set(0);
+        calls
     }
 
     /// Returns all numbers of values as they are now.

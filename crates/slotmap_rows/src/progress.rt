@@ -78,14 +78,16 @@ impl Progress {
         Ok(())
     }
 
-    /// Prints how many rows and calls there were, and returns whether none differed.
-    pub fn finish(&self, output: &mut impl Write) -> Result<bool, Stop> {
+    /// Prints how many rows and calls there were, and how many calls were made twice. Returns
+    /// whether none differed.
+    pub fn finish(&self, made_twice: u64, output: &mut impl Write) -> Result<bool, Stop> {
         let (file, kind, rows, calls) = (&self.file, &self.kind, self.rows, self.calls);
         let differences = self.differences;
         if rows != 0 {
+            write!(output, "{file}: {kind}: {rows} rows, {calls} calls, ")?;
             writeln!(
                 output,
-                "{file}: {kind}: {rows} rows, {calls} calls, {differences} differences"
+                "{differences} differences, {made_twice} calls made twice"
             )?;
         }
         Ok(differences == 0)

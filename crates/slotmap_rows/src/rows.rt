@@ -6,7 +6,7 @@ use crate::progress::Progress;
 use crate::stop::Stop;
 use crate::sum::Sum;
 use crate::words::Word;
-use std::alloc::{AllocError, Global};
+use std::alloc::AllocError;
 use std::io::Write;
 
 /// What is checked against rows: a map, or several that belong together.
@@ -18,7 +18,7 @@ pub trait Subject: Drop {
     ///
     /// Fails with `Stop::Unknown` if there is no such call. Fails with `Stop::Memory` if memory
     /// runs out; then nothing changed.
-    fn call(&mut self, call: &Call<'_>, list: &[Word<'_>], reply: &mut String) -> Result<(), Stop>;
+    fn call(&mut self, call: &Call<'_>, list: &[Word], reply: &mut String) -> Result<(), Stop>;
 }
 
 /// A file of rows, and what its kinds share.
@@ -46,18 +46,22 @@ impl<'a, 't> File<'a, 't> {
             desk.take_line(line, output)?;
         }
         desk.end_row(output)?;
-        desk.progress.finish(output)
+        let made_twice = self.supply.counts.take_made_twice();
+        desk.progress.finish(made_twice, output)
     }
 }
 
-// What is checked, how far it was, and the reply to its last call. Memory for the reply is allocated
-// once.
+// What is checked, how far it was, the words of its last call and the reply. Memory for both is
+// allocated once.
 #[derive(Drop)]
 struct Desk<'s, 'a, S> {
     subject: &'s mut S,
     supply: Supply<'a>,
     progress: Progress,
+    words: Vec<Word>,
     reply: String,
+    // Whether the call may not run out of memory.
+    is_sure: bool,
 }
 
 impl<'s, 'a, S: Subject> Desk<'s, 'a, S> {
@@ -73,7 +77,9 @@ impl<'s, 'a, S: Subject> Desk<'s, 'a, S> {
             subject,
             supply: file.supply,
             progress: Progress::new(alloc, kind, file.name)?,
+            words: Vec::with_capacity(alloc, 100)?,
             reply,
+            is_sure: false,
         })
     }
 
@@ -103,6 +109,7 @@ impl<'s, 'a, S: Subject> Desk<'s, 'a, S> {
     // Drops the maps of a row and begins anew. No value may be alive then.
     fn end_row(&mut self, output: &mut impl Write) -> Result<(), Stop> {
         if let Err(Stop::Memory) = self.subject.begin() {
+            self.supply.counts.count_made_twice();
             self.subject.begin()?;
         }
         if self.progress.is_well && self.supply.counts.alive() != 0 {
@@ -121,22 +128,46 @@ impl<'s, 'a, S: Subject> Desk<'s, 'a, S> {
             None => (line, "done"),
         };
         self.progress.count_call();
-        if let Some((times, call)) = made_often(call, "repeat ") {
-            self.repeat(call, times)?;
-        } else if let Some((times, call)) = made_often(call, "sum ") {
-            self.sum(call, times)?;
-        } else {
-            self.make(call, 1)?;
-        }
-        if self.reply.as_str() != expected {
+        if !self.hold_call(call, expected)? {
             self.progress
                 .differ(call, self.reply.as_str(), expected, output)?;
         }
         Ok(())
     }
 
+    // Makes a call as often as its line says, and returns whether its results are those of the row.
+    fn hold_call(&mut self, call: &str, expected: &str) -> Result<bool, Stop> {
+        let sure = call.strip_prefix("surely ");
+        self.is_sure = sure.is_some();
+        let call = sure.unwrap_or(call);
+        if let Some((times, call)) = made_often(call, "repeat ") {
+            return self.repeat(call, times, expected);
+        }
+        if let Some((times, call)) = made_often(call, "last ") {
+            self.make_often(call, times)?;
+        } else if let Some((times, call)) = made_often(call, "sum ") {
+            self.sum(call, times)?;
+        } else {
+            self.make(call, 1)?;
+        }
+        Ok(self.reply.as_str() == expected)
+    }
+
+    // Makes a call so many times, and returns whether each result is that of the row. It ends at the
+    // first other one.
+    fn repeat(&mut self, call: &str, times: u64, expected: &str) -> Result<bool, Stop> {
+        for turn in 0..times {
+            let turn = turn.wrapping_add(1);
+            self.make(call, turn)?;
+            if !is_result(self.reply.as_str(), expected, turn) {
+                return Ok(false);
+            }
+        }
+        Ok(true)
+    }
+
     // Makes a call so many times, and leaves the last result in the reply.
-    fn repeat(&mut self, call: &str, times: u64) -> Result<(), Stop> {
+    fn make_often(&mut self, call: &str, times: u64) -> Result<(), Stop> {
         for turn in 0..times {
             self.make(call, turn.wrapping_add(1))?;
         }
@@ -149,7 +180,7 @@ impl<'s, 'a, S: Subject> Desk<'s, 'a, S> {
         let mut sum = Sum::new();
         for turn in 0..times {
             self.make(call, turn.wrapping_add(1))?;
-            if self.reply.as_str() == NO_MEMORY {
+            if self.reply.as_str().starts_with(NO_MEMORY) {
                 return Ok(());
             }
             sum.add(self.reply.as_str());
@@ -160,7 +191,7 @@ impl<'s, 'a, S: Subject> Desk<'s, 'a, S> {
     }
 
     // Makes a call in turn `turn`, and leaves its result in the reply. A call that runs out of
-    // memory is made once more.
+    // memory is made once more, unless it may not.
     fn make(&mut self, call: &str, turn: u64) -> Result<(), Stop> {
         let counts = self.supply.counts;
         let (alive, seen) = (counts.alive(), counts.seen());
@@ -168,21 +199,21 @@ impl<'s, 'a, S: Subject> Desk<'s, 'a, S> {
         if made != Err(Stop::Memory) {
             return self.tell(made);
         }
+        if self.is_sure {
+            return self.say("out of memory in spite of its room");
+        }
         if counts.alive() != alive {
             return self.say("lost or kept a value as memory ran out");
         }
         counts.set_back(seen);
+        counts.count_made_twice();
         let made = self.call_once(call, turn);
         self.tell(made)
     }
 
     // Makes a call.
     fn call_once(&mut self, call: &str, turn: u64) -> Result<(), Stop> {
-        let list = read_list(self.supply.alloc, call, turn)?;
-        let name = match call.split_once(' ') {
-            Some((name, _)) => name,
-            None => call,
-        };
+        let name = read_call(call, turn, &mut self.words)?;
         self.reply.clear();
         let counts = self.supply.counts;
         let reply = &mut self.reply;
@@ -191,8 +222,9 @@ impl<'s, 'a, S: Subject> Desk<'s, 'a, S> {
             "cloned" => write!(reply, "{}", counts.take_cloned())?,
             "alive" => write!(reply, "{}", counts.alive())?,
             _ => {
-                let words = read_words(&list);
-                self.subject.call(&Call { name, words }, &list, reply)?;
+                let words = read_words(&self.words);
+                self.subject
+                    .call(&Call { name, words }, &self.words, reply)?;
             }
         }
         if self.reply.is_empty() {
@@ -221,10 +253,25 @@ fn made_often<'t>(call: &'t str, word: &str) -> Option<(u64, &'t str)> {
     Some((times.parse().ok()?, call))
 }
 
-// The words of a call after its name, in turn `turn`.
-fn read_list(alloc: Global, call: &str, turn: u64) -> Result<Vec<Word<'_>>, AllocError> {
-    call.split(' ')
-        .skip(1)
-        .map(|word| Word::read(word, turn))
-        .collect(alloc)
+// Reads the words of a call in turn `turn`, and returns its name.
+fn read_call<'t>(call: &'t str, turn: u64, words: &mut Vec<Word>) -> Result<&'t str, AllocError> {
+    words.clear();
+    let Some((name, rest)) = call.split_once(' ') else {
+        return Ok(call);
+    };
+    for word in rest.split(' ') {
+        words.push(Word::read(word, turn))?;
+    }
+    Ok(name)
+}
+
+// Whether a reply is the result of a row in turn `turn`, for which `#` stands there.
+fn is_result(reply: &str, expected: &str, turn: u64) -> bool {
+    let Some((front, back)) = expected.split_once('#') else {
+        return reply == expected;
+    };
+    let Some(rest) = reply.strip_prefix(front) else {
+        return false;
+    };
+    rest.strip_suffix(back).map(|number| number.parse()) == Some(Ok(turn))
 }

@@ -2,6 +2,7 @@
 //! `5@3` or `-@2`.
 
 use crate::number::Number;
+use crate::stop::Stop;
 use slotmap_core::keys::{DefaultKey, Key};
 use slotmap_core::serial::SlotRecord;
 use std::alloc::AllocError;
@@ -50,6 +51,14 @@ pub fn write_pairs(
     }
     for (key, value) in pairs {
         write_pair(reply, *key, value.value)?;
+    }
+    Ok(())
+}
+
+/// Writes where a run of so many commands has another number of replies.
+pub fn write_count(reply: &mut String, replies: usize, commands: usize) -> Result<(), Stop> {
+    if replies != commands {
+        write!(reply, " and {replies} replies to {commands} commands")?;
     }
     Ok(())
 }

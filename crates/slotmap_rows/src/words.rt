@@ -1,10 +1,11 @@
 //! The words of a call.
 
+use crate::call::Mode;
 use slotmap_core::keys::{DefaultKey, Key, KeyData};
 
 /// A word of a call.
 #[derive(Clone, Copy)]
-pub enum Word<'t> {
+pub enum Word {
     /// A key: `2v3` of index 2 and version 3, or `null`.
     Key(DefaultKey),
     /// A number: `17`.
@@ -13,13 +14,15 @@ pub enum Word<'t> {
     Pair(DefaultKey, u64),
     /// A slot of a list: `5@3`, or `-@2` without a value.
     Slot(Option<u64>, u32),
+    /// A word that says what is meant.
+    Mode(Mode),
     /// Anything else.
-    Name(&'t str),
+    Other,
 }
 
-impl<'t> Word<'t> {
+impl Word {
     /// Reads a word in turn `turn` of a repeated call.
-    pub(crate) fn read(word: &'t str, turn: u64) -> Word<'t> {
+    pub(crate) fn read(word: &str, turn: u64) -> Word {
         if let Some(number) = read_number(word, turn) {
             return Word::Number(number);
         }
@@ -31,7 +34,7 @@ impl<'t> Word<'t> {
 }
 
 // Reads a word of two parts.
-fn read_two(word: &str, turn: u64) -> Word<'_> {
+fn read_two(word: &str, turn: u64) -> Word {
     if let Some((key, value)) = word.split_once(':') {
         if let (Some(key), Some(value)) = (read_key(key, turn), read_number(value, turn)) {
             return Word::Pair(key, value);
@@ -47,7 +50,24 @@ fn read_two(word: &str, turn: u64) -> Word<'_> {
             }
         }
     }
-    Word::Name(word)
+    match read_mode(word) {
+        Some(mode) => Word::Mode(mode),
+        None => Word::Other,
+    }
+}
+
+fn read_mode(name: &str) -> Option<Mode> {
+    Some(match name {
+        "even" => Mode::Even,
+        "every_other" => Mode::EveryOther,
+        "nothing" => Mode::Nothing,
+        "fails" => Mode::Fails,
+        "rest" => Mode::Rest,
+        "iter" => Mode::Iter,
+        "keys" => Mode::Keys,
+        "values" => Mode::Values,
+        _ => return None,
+    })
 }
 
 fn read_number(word: &str, turn: u64) -> Option<u64> {

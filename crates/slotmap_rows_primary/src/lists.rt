@@ -45,18 +45,14 @@ impl<'a, M: Held<'a> + Primary<DefaultKey, Number<'a>>> Maps<'a, M> {
     }
 
     /// `from_slots` of the list of the words.
-    pub fn from_slots(&mut self, words: &[Word<'_>], reply: &mut String) -> Result<(), Stop> {
+    pub fn from_slots(&mut self, words: &[Word], reply: &mut String) -> Result<(), Stop> {
         let list = read_slots(self.supply, words)?;
         self.from_list(list, reply)
     }
 }
 
 /// `check_slots` of a limit and a list.
-pub fn write_checked(
-    supply: Supply<'_>,
-    words: &[Word<'_>],
-    reply: &mut String,
-) -> Result<(), Stop> {
+pub fn write_checked(supply: Supply<'_>, words: &[Word], reply: &mut String) -> Result<(), Stop> {
     let Some((Word::Number(limit), words)) = words.split_first() else {
         return Err(Stop::Unknown);
     };

@@ -51,7 +51,7 @@ impl<'a, M: Held<'a> + Primary<DefaultKey, Number<'a>>> Subject for Maps<'a, M> 
         Ok(())
     }
 
-    fn call(&mut self, call: &Call<'_>, list: &[Word<'_>], reply: &mut String) -> Result<(), Stop> {
+    fn call(&mut self, call: &Call<'_>, list: &[Word], reply: &mut String) -> Result<(), Stop> {
         match call.name {
             "from_slots" => self.from_slots(list, reply),
             "check_slots" => write_checked(self.supply, list, reply),

@@ -46,3 +46,8 @@ returns-clause-comes g c =
       omega (arith, way.some, way.passed, c.new-counted.ensures.reads, c.new-counted.ensures.place, c.idx.ensures.value, ap (λ k. k.index) c.data.ensures.value),
       finds.least,
     )
+
+pub overflow_cast-place : goal.overflow_cast-place
+overflow_cast-place g c =
+    let found = found g (goal.at.overflow_cast-place g c).After-next_live-place in
+    omega (arith, (live_key _ _ _ c.self.invariant _ _ _ found.finds.there).index_fits)

@@ -1,8 +1,9 @@
-use Rattle.std.proofs.Common.{◌≡◌, ◌+◌}
+use Rattle.std.proofs.Common.{◌≡◌, ◌+◌, arith}
 use Rattle.slotmap_hop.specs.Links.{prev_at}
 use Rattle.slotmap_hop.specs.Slots.{all_links}
 use Rattle.slotmap_hop.proofs.Writes.{flags_kept}
-use Rattle.slotmap_hop.proofs.Joining.{back_ready, prev_is, after_head, joins_before}
+use Rattle.slotmap_hop.proofs.Joining.{ready, back_ready, prev_is, after_head, joins_before}
+use Rattle.slotmap_hop.proofs.Taking.{first}
 use Rattle.slotmap_hop.proofs.blocks.grow_left.Goals as goal
 use Rattle.slotmap_hop.proofs.blocks.grow_left.Goals.{After-prev_of-prev}
 
@@ -20,3 +21,15 @@ returns-clause-blocks g c =
     rw c.name_front.ensures.links
     (joins_before c.requires.can c.requires.right (all_links c.relink.new.slots) c.requires.left c.next_of-next.ensures c.back_of-back.ensures
     (prev g (goal.at.returns-clause-blocks g c).After-prev_of-prev) c.relink.ensures.links c.relink.ensures.ends)
+
+pub back_of-back-requires : goal.back_of-back-requires
+back_of-back-requires g c = grind (arith, ready, first)
+
+pub next_of-next-requires : goal.next_of-next-requires
+next_of-next-requires g c = grind (arith, ready, first)
+
+pub prev_of-prev-requires : goal.prev_of-prev-requires
+prev_of-prev-requires g c = grind (arith, ready, first)
+
+pub relink-requires-clause-before : goal.relink-requires-clause-before
+relink-requires-clause-before g c = grind (arith, ready, first)

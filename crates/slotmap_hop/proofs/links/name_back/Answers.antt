@@ -16,3 +16,12 @@ returns-in-Front-clause-places g c = places_kept c.args.slots.now c.args.front c
 
 pub returns-in_default-clause-links : goal.returns-in_default-clause-links
 returns-in_default-clause-links g c = grind (arith, common_steps, set-get_or)
+
+pub bounds-slots-front : goal.bounds-slots-front
+bounds-slots-front g c = leads_within c.args.slots.now c.args.front c.requires
+
+pub next_of-next-requires : goal.next_of-next-requires
+next_of-next-requires g c = grind (arith, common_steps)
+
+pub returns-in_default-clause-places : goal.returns-in_default-clause-places
+returns-in_default-clause-places g c = grind (arith, common_steps)

@@ -1,9 +1,9 @@
 use Rattle.std.proofs.Common.{◌≡◌, ◌+◌, ◌-◌, ◌∷◌, sym, ap, refl, ◌∙◌, arith}
 use Rattle.slotmap_core.proofs.Common.{with_items, with_items_is, same_Some, key, common_steps}
-use Rattle.slotmap_hop.specs.Slots.{version_in}
+use Rattle.slotmap_hop.specs.Slots.{CanFree, version_in}
 use Rattle.slotmap_hop.specs.Iter.{pairs_left, IsIter, FindsSlot}
 use Rattle.slotmap_hop.proofs.SlotLemmas.{same_length}
-use Rattle.slotmap_hop.proofs.LiveSlots.{live_key, value_is}
+use Rattle.slotmap_hop.proofs.LiveSlots.{live_key, can_free, value_is}
 use Rattle.slotmap_hop.proofs.Iterators.{can_go_on, pairs-taken, iter_taken}
 use Rattle.slotmap_hop.proofs.into_iter.IntoIterIterator.next.Goals.{After-next_live-place, After-retire-value}
 use Rattle.slotmap_hop.proofs.into_iter.IntoIterIterator.next.Goals as goal
@@ -51,3 +51,23 @@ returns-then-self-eq0-clause-steps g c = grind (arith, common_steps)
 
 pub returns-clause-goes : goal.returns-clause-goes
 returns-clause-goes g c = grind (arith, common_steps)
+
+pub overflow_cast-place : goal.overflow_cast-place
+overflow_cast-place g c =
+    let found = found g (goal.at.overflow_cast-place g c).After-next_live-place in
+    omega (arith, (live_key _ _ _ c.self.invariant.stands.sound _ _ _ found.finds.there).index_fits)
+
+pub overflow_add-self : goal.overflow_add-self
+overflow_add-self g c =
+    let found = found g (goal.at.overflow_add-self g c).After-next_live-place in
+    omega (arith, (live_key _ _ _ c.self.invariant.stands.sound _ _ _ found.finds.there).index_fits)
+
+-- the slot that was found can be retired
+can : (g : _) (c : After-next_live-place g) → CanFree c.self.inside.slots.items c.next_live-place.result.0
+can g c = let found = found g c in can_free _ _ _ c.self.invariant.stands.sound _ _ _ found.finds.there
+
+pub retire-value-requires-clause-inside : goal.retire-value-requires-clause-inside
+retire-value-requires-clause-inside g c = rw c.as_mut_slice.ensures.value (can g (goal.at.retire-value-requires-clause-inside g c).After-next_live-place).inside
+
+pub retire-value-requires-clause-live : goal.retire-value-requires-clause-live
+retire-value-requires-clause-live g c = rw c.as_mut_slice.ensures.value (can g (goal.at.retire-value-requires-clause-live g c).After-next_live-place).live

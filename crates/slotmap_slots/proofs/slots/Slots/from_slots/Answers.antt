@@ -1,6 +1,6 @@
 use Rattle.std.proofs.Common.{◌≡◌, ◌+◌, ◌∷◌, ◌++◌, [], Some, length, true, refl, sym, ap, subst, ◌∙◌, append_assoc, append-nil, length-append, arith}
 use Rattle.slotmap_core.proofs.Common.{into_iter_items, IsConsistent, Accepts, AllFitBelow, length_push, nil_from_length, starts-stack, odd_of, even_where}
-use Rattle.slotmap_core.proofs.Common.{next_consistent, first_taken, reads_as}
+use Rattle.slotmap_core.proofs.Common.{next_consistent, first_taken, reads_as, common_steps}
 use Rattle.slotmap_slots.specs.Slot.{full, empty, vacancies, Free, Retired}
 use Rattle.slotmap_slots.proofs.SlotLemmas.{valid, FitsEmpty-free, head_within}
 use Rattle.slotmap_slots.proofs.SettledLemmas.{vacancies-push}
@@ -133,3 +133,21 @@ returns-clause-reads g c =
 
 pub returns-clause-stack : goal.returns-clause-stack
 returns-clause-stack g c = ap Some ((returns-clause-reads g c).starts.stack _ refl)
+
+pub overflow_add-aside_count : goal.overflow_add-aside_count
+overflow_add-aside_count g c = grind (arith, common_steps)
+
+pub overflow_add-live_count : goal.overflow_add-live_count
+overflow_add-live_count g c = grind (arith, common_steps)
+
+pub overflow_cast-index : goal.overflow_cast-index
+overflow_cast-index g c = grind (arith, common_steps)
+
+pub push-requires-clause-room : goal.push-requires-clause-room
+push-requires-clause-room g c = grind (arith, common_steps)
+
+pub push_empty-requires-then-version-eq0-clause-room : goal.push_empty-requires-then-version-eq0-clause-room
+push_empty-requires-then-version-eq0-clause-room g c = grind (arith, common_steps)
+
+pub push_empty-requires-else-version-eq0-clause-room : goal.push_empty-requires-else-version-eq0-clause-room
+push_empty-requires-else-version-eq0-clause-room g c = grind (arith, common_steps)

@@ -1,5 +1,5 @@
 use Rattle.std.proofs.Common.{◌<◌, arith}
-use Rattle.slotmap_core.proofs.Common.{err_not_ok}
+use Rattle.slotmap_core.proofs.Common.{err_not_ok, common_steps}
 use Rattle.slotmap_slots.proofs.SettledLemmas.{settled_fits, settled_used, settled_places, grown}
 use Rattle.slotmap_slots.proofs.slots.Slots.reserve.Goals as goal
 
@@ -35,3 +35,15 @@ returns-clause-makes_room g c =
         settled_places c.self.invariant c.self.view_is,
       ),
     )))
+
+pub overflow_sub-capacity : goal.overflow_sub-capacity
+overflow_sub-capacity g c = grind (arith, common_steps)
+
+pub overflow_sub-missing : goal.overflow_sub-missing
+overflow_sub-missing g c = grind (arith, common_steps)
+
+pub overflow_sub-missing-2 : goal.overflow_sub-missing-2
+overflow_sub-missing-2 g c = grind (arith, common_steps)
+
+pub overflow_sub-used : goal.overflow_sub-used
+overflow_sub-used g c = grind (arith, common_steps)

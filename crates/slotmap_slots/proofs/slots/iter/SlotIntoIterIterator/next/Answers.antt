@@ -49,3 +49,8 @@ returns-clause-steps g c = grind (arith, next g (goal.at.returns-clause-steps g 
 
 pub returns-clause-goes : goal.returns-clause-goes
 returns-clause-goes g c = grind (arith, returns-clause-steps)
+
+pub overflow_cast-index : goal.overflow_cast-index
+overflow_cast-index g c =
+    let there = (next g (goal.at.overflow_cast-index g c).In_ok-index).version_there in
+    omega (arith, c.self.invariant.0.fits, slice_get_within c.self.inside.versions.items c.in_ok-index.index _ there)

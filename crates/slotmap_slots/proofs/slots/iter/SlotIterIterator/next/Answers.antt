@@ -40,3 +40,11 @@ returns-clause-steps g c = grind (arith, next g (goal.at.returns-clause-steps g 
 
 pub returns-clause-goes : goal.returns-clause-goes
 returns-clause-goes g c = grind (arith, returns-clause-steps)
+
+pub bounds-self-inside-index : goal.bounds-self-inside-index
+bounds-self-inside-index g c = slice_get_within c.self.inside.payloads.now c.in_ok-index.index _ (next g (goal.at.bounds-self-inside-index g c).In_ok-index).value_there
+
+pub overflow_cast-index : goal.overflow_cast-index
+overflow_cast-index g c =
+    let there = (next g (goal.at.overflow_cast-index g c).In_ok-index).version_there in
+    omega (arith, c.self.invariant.0.fits, slice_get_within c.self.inside.versions.now c.in_ok-index.index _ there)

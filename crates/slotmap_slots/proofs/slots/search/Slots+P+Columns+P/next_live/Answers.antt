@@ -2,7 +2,7 @@ use Rattle.std.proofs.Common.{◌<◌, inl, arith}
 use Rattle.slotmap_core.proofs.Common.{Key, IsLive, if_none}
 use native.Mathlib.Decide.{dec_lt}
 use Rattle.slotmap_slots.proofs.AheadLemmas.{settled_odds, settled_ahead, none_odd, odd_at, versions-length}
-use Rattle.slotmap_slots.proofs.SettledLemmas.{settled_valid, settled_places, settled_live, settled_passed}
+use Rattle.slotmap_slots.proofs.SettledLemmas.{settled_valid, settled_places, settled_live, settled_passed, settled_fits}
 use Rattle.slotmap_slots.proofs.slots.search.Slots+P+Columns+P.next_live.Goals.{After-version-version, In_err-index}
 use Rattle.slotmap_slots.proofs.slots.search.Slots+P+Columns+P.next_live.Goals as goal
 
@@ -48,3 +48,9 @@ returns-clause-odds g c = settled_odds c.self.invariant c.self.view_is c.next_od
 
 pub returns-clause-valid : goal.returns-clause-valid
 returns-clause-valid g c = settled_valid c.self.invariant c.self.view_is
+
+pub version-version-requires : goal.version-version-requires
+version-version-requires g c = omega (arith, c.in_ok-index.ensures.ahead.behind.within, c.in_ok-index.ensures.on, versions-length c.self.inside.layout.slots)
+
+pub overflow_cast-index : goal.overflow_cast-index
+overflow_cast-index g c = omega (arith, c.in_ok-index.ensures.ahead.behind.within, c.in_ok-index.ensures.on, versions-length c.self.inside.layout.slots, settled_fits c.self.invariant c.self.view_is)

@@ -1,0 +1,18 @@
+use Rattle.slotmap_core.proofs.Common.{arith, common_steps}
+use Rattle.slotmap_hop.proofs.SlotReads.{leads_within}
+use Rattle.slotmap_hop.proofs.links.next_of.Goals as goal
+
+pub bounds-slots-front : goal.bounds-slots-front
+bounds-slots-front g c = leads_within c.args.slots.now c.args.front c.requires
+
+pub returns-in-Front : goal.returns-in-Front
+returns-in-Front g c = grind (arith, common_steps)
+
+pub returns-in-Single : goal.returns-in-Single
+returns-in-Single g c = grind (arith, common_steps)
+
+pub rule_out-requires : goal.rule_out-requires
+rule_out-requires g c = grind (arith, common_steps)
+
+pub unreachable-requires : goal.unreachable-requires
+unreachable-requires g c = grind (arith, common_steps)
