@@ -31,7 +31,7 @@ ITEM = re.compile(r"\b(pub|impl|fn|struct|enum|trait|ghost)\b")
 # Where a path in code may begin, besides the top and the page's own folder.
 ROOTS = ["crates", "crates/*", "crates/slotmap_core/src", "crates/slotmap_slots/src"]
 # Paths that a page names and that aren't of the repository: those of templates, of examples, and of other machines.
-OTHERS = ("crates/app", "proofs/echo", "src/clock.rt", "src/lib.rs", "proofs/MAP", "CRATE/", "OUT/", "/usr/", "crates/slotrun/out/", "proofs/find_key",
+OTHERS = ("crates/app", "crates/slotmap.txt", "proofs/echo", "src/clock.rt", "src/lib.rs", "proofs/MAP", "CRATE/", "OUT/", "/usr/", "crates/slotrun/out/", "proofs/find_key",
           "proofs/fill", "proofs/count_reads", "proofs/tour")
 
 
