@@ -73,7 +73,10 @@ done
 
 if [ -n "$archive" ]; then
     mv "$room/crates.txt" "$room/crates/slotmap.txt"
-    tar -C "$room" -cJf "$archive" crates
+    mkdir -p "$(dirname "$archive")"
+    packer=xz
+    ! command -v zstd >/dev/null || packer="zstd -q -6 --long=27"
+    tar -C "$room" --use-compress-program="$packer" -cf "$archive" crates
     echo "$archive: ${#crates[@]} crates, $(du -h "$archive" | cut -f 1)"
 else
     mkdir -p "$dest/crates"
