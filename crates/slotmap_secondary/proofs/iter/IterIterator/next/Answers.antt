@@ -21,3 +21,6 @@ loop-version-smaller g c = grind (arith, common_steps)
 
 pub invariant_of-self : goal.invariant_of-self
 invariant_of-self g c = grind (arith, common_steps)
+
+pub sure-requires : goal.sure-requires
+sure-requires g c = grind (arith, common_steps)
