@@ -32,10 +32,16 @@ loop-slot-init g c =
     }
 
 pub overflow_cast-position : goal.overflow_cast-position
-overflow_cast-position g c = grind (arith, common_steps, fewer_read, length-map)
+overflow_cast-position g c =
+    let at = c.loop-slot in
+    let accepted = accepted g (goal.at.overflow_cast-position g c).In_ok-check_slots in
+    omega (arith, fewer_read _ _ _ _ at.invariant.split _ _ at.invariant.counted accepted, length-map at.keys.items g.K.Key.data_of, c.len-position.ensures, at.keys.ok.0)
 
 pub overflow_cast-len : goal.overflow_cast-len
-overflow_cast-len g c = grind (arith, common_steps, fewer_read)
+overflow_cast-len g c =
+    let at = c.loop-slot in
+    let accepted = accepted g (goal.at.overflow_cast-len g c).In_ok-check_slots in
+    omega (arith, fewer_read _ _ _ _ at.invariant.split _ _ at.invariant.counted accepted, c.len-in-Some-value.ensures, at.positions.ok.0)
 
 pub loop-slot-preserved : goal.loop-slot-preserved
 loop-slot-preserved g c =
@@ -100,3 +106,9 @@ returns-clause-stack g c = c.in_ok-slots.ensures.stack ∙ ap Some (stack_alike 
 
 pub returns-clause-in_order : goal.returns-clause-in_order
 returns-clause-in_order g c = let split = split_all g (goal.at.returns-clause-in_order g c).In-None in split.ascending ∙ ap (λ m. map.keys m) (sym split.lives)
+
+pub push_reserved-requires : goal.push_reserved-requires
+push_reserved-requires g c = grind (arith, common_steps)
+
+pub loop-slot-smaller : goal.loop-slot-smaller
+loop-slot-smaller g c = grind (arith, common_steps)

@@ -1,6 +1,5 @@
 use Rattle.slotmap_core.proofs.Common.{Some, option_copied, sym, ap, ◌∙◌, arith, same_read}
-use Rattle.slotmap_dense.proofs.SettledLemmas.{absent, present}
-use Rattle.slotmap_dense.proofs.SettledLemmas.{dense_valid}
+use Rattle.slotmap_dense.proofs.SettledLemmas.{well_formed, absent, present}
 use Rattle.slotmap_dense.proofs.DenseSlotMap.get.Goals as goal
 
 pub returns-in_err-position-clause-value : goal.returns-in_err-position-clause-value
@@ -19,7 +18,7 @@ returns-clause-value g c =
     rw (← c.data.ensures.value) (ap Some (same_read c.self.inside.values.items _ _ _ c.index.ensures found.there) ∙ sym found.gives)
 
 pub returns-in_err-position-clause-valid : goal.returns-in_err-position-clause-valid
-returns-in_err-position-clause-valid g c = grind (arith, dense_valid)
+returns-in_err-position-clause-valid g c = well_formed _ c.self.inside c.self.view_is c.self.invariant
 
 pub returns-clause-valid : goal.returns-clause-valid
-returns-clause-valid g c = grind (arith, dense_valid)
+returns-clause-valid g c = well_formed _ c.self.inside c.self.view_is c.self.invariant

@@ -1,5 +1,5 @@
 use Rattle.slotmap_core.proofs.Common.{Some, sym, ap, ◌∙◌, arith, same_read}
-use Rattle.slotmap_dense.proofs.SettledLemmas.{contains, present}
+use Rattle.slotmap_dense.proofs.SettledLemmas.{well_formed, contains, present}
 use Rattle.slotmap_dense.proofs.DenseSlotMap.get_unchecked.Goals as goal
 
 pub get_unchecked-position-requires : goal.get_unchecked-position-requires
@@ -13,3 +13,6 @@ pub returns-clause-value : goal.returns-clause-value
 returns-clause-value g c =
     let found = present _ c.self.inside c.self.view_is c.self.invariant c.data.result _ c.get_unchecked-position.ensures.value in
     rw (← c.data.ensures.value) (found.gives ∙ sym (ap Some (same_read c.self.inside.values.items _ _ _ c.index.ensures found.there)))
+
+pub returns-clause-valid : goal.returns-clause-valid
+returns-clause-valid g c = well_formed _ c.self.inside c.self.view_is c.self.invariant

@@ -55,3 +55,18 @@ overflow_cast-position g c = grind (arith, common_steps)
 
 pub returns-clause-order : goal.returns-clause-order
 returns-clause-order g c = grind (arith, common_steps)
+
+pub push_reserved-requires : goal.push_reserved-requires
+push_reserved-requires g c = grind (arith, common_steps)
+
+pub push_reserved-requires-2 : goal.push_reserved-requires-2
+push_reserved-requires-2 g c = grind (arith, common_steps)
+
+pub reattach-requires : goal.reattach-requires
+reattach-requires g c = grind (arith, common_steps)
+
+pub invariant_of-self : goal.invariant_of-self
+invariant_of-self g c = rw c.make_room_in.ensures.keeps c.self.invariant
+
+pub invariant_of-self-then-is_err-2 : goal.invariant_of-self-then-is_err-2
+invariant_of-self-then-is_err-2 g c = rw (c.make_room_in.ensures.keeps, c.make_room_in-2.ensures.keeps) c.self.invariant

@@ -1,4 +1,4 @@
-use Rattle.slotmap_core.proofs.Common.{subst, arith, key_there, key_exchanged}
+use Rattle.slotmap_core.proofs.Common.{subst, arith, common_steps, key_there, key_exchanged}
 use Rattle.slotmap_dense.specs.Dense.{IsDense}
 use Rattle.slotmap_dense.proofs.WellFormed.{dense_written}
 use Rattle.slotmap_dense.proofs.DenseSlotMap.replace_disjoint.Goals as goal
@@ -17,3 +17,15 @@ loop-i-preserved g c =
           key_exchanged dense_written g.K.Key.data_of c.args.keys c.loop-i.invariant.done c.index-keys-i.result (omega arith) c.index-values-i.result _ (omega arith)
           c.swap_value.ensures.taken;
     })
+
+pub loop-i-init : goal.loop-i-init
+loop-i-init g c = grind (arith, common_steps)
+
+pub returns-clause-which : goal.returns-clause-which
+returns-clause-which g c = grind (arith, common_steps)
+
+pub returns-clause-value : goal.returns-clause-value
+returns-clause-value g c = grind (arith, common_steps)
+
+pub returns-clause-ok : goal.returns-clause-ok
+returns-clause-ok g c = grind (arith, common_steps)

@@ -1,4 +1,5 @@
 use Rattle.slotmap_core.proofs.Common.{refl, arith, rules}
+use Rattle.slotmap_dense.proofs.WellFormed.{IsSound-other}
 use Rattle.slotmap_dense.proofs.SettledLemmas.{used_is, makes-room}
 use Rattle.slotmap_dense.proofs.DenseSlotMap.reserve.Goals as goal
 
@@ -39,3 +40,23 @@ returns-clause-makes_room g c =
     let values = c.in_ok-make_room_in-2.ensures in
     makes-room _ m c.self.view_is c.self.invariant c.make_room_in_slots.new.slots c.make_room_in.new.items c.make_room_in-2.new.items c.args.additional _
     c.in_ok-make_room_in_slots.ensures.makes_room keys.keeps values.keeps keys.capacity values.capacity _ (λ _. (refl, keys.ok, values.ok)) (grind arith) (grind arith)
+
+pub invariant_of-self : goal.invariant_of-self
+invariant_of-self g c =
+    let room = c.in_err-make_room_in_slots.ensures.makes_room in
+    IsSound-other _ _ _ _ _ c.self.invariant room.after room.keeps.live refl
+
+pub invariant_of-self-2 : goal.invariant_of-self-2
+invariant_of-self-2 g c =
+    let room = c.in_ok-make_room_in_slots.ensures.makes_room in
+    rw (c.in_ok-make_room_in.ensures.keeps, c.in_ok-make_room_in-2.ensures.keeps) (IsSound-other _ _ _ _ _ c.self.invariant room.after room.keeps.live refl)
+
+pub invariant_of-self-in_err-make_room_in : goal.invariant_of-self-in_err-make_room_in
+invariant_of-self-in_err-make_room_in g c =
+    let room = c.in_ok-make_room_in_slots.ensures.makes_room in
+    rw c.in_err-make_room_in.ensures.keeps (IsSound-other _ _ _ _ _ c.self.invariant room.after room.keeps.live refl)
+
+pub invariant_of-self-in_err-make_room_in-2 : goal.invariant_of-self-in_err-make_room_in-2
+invariant_of-self-in_err-make_room_in-2 g c =
+    let room = c.in_ok-make_room_in_slots.ensures.makes_room in
+    rw (c.in_ok-make_room_in.ensures.keeps, c.in_err-make_room_in-2.ensures.keeps) (IsSound-other _ _ _ _ _ c.self.invariant room.after room.keeps.live refl)

@@ -9,3 +9,18 @@ returns-in-Err-clause-extends g c =
     let at = c.loop-key in
     let stopped = ExtendsBy-stopped g.K.Key.data_of at.yielded c.in-Some.key c.in-Some.value _ at.invariant.2.put (at.key-iterator, at.yielded_by, c.in-Some.ensures.steps) c.in-Err.ensures.err in
     (c.into_iter-key-iterator.result, c.into_iter-key-iterator.ensures.into_iter_gives, rw c.in-Err.ensures.unchanged stopped)
+
+pub loop-key-init : goal.loop-key-init
+loop-key-init g c = grind (arith, common_steps)
+
+pub returns-clause-extends : goal.returns-clause-extends
+returns-clause-extends g c = grind (arith, common_steps)
+
+pub returns-in-Err-clause-full : goal.returns-in-Err-clause-full
+returns-in-Err-clause-full g c = grind (arith, common_steps)
+
+pub returns-in-Err-clause-absent : goal.returns-in-Err-clause-absent
+returns-in-Err-clause-absent g c = grind (arith, common_steps)
+
+pub returns-in-Err-clause-capacity : goal.returns-in-Err-clause-capacity
+returns-in-Err-clause-capacity g c = grind (arith, common_steps)
