@@ -2,8 +2,9 @@
 
 use slotmap::{Command, DefaultKey, DetachCommand, Reply};
 use slotmap_rows::{
-    Call, Mode, Number, Stop, Supply, Words, write_key, write_keys, write_option, write_pairs,
+    Call, Mode, Number, Outcome, Stop, Supply, Words, write_key, write_keys, write_pairs,
 };
+use std::alloc::AllocError;
 
 /// A command with the number of its value, which is made anew for each run.
 pub type Step = DetachCommand<DefaultKey, u64>;
@@ -68,28 +69,39 @@ pub fn plain_command<'a>(
 /// Writes a reply as the call's result.
 pub fn write_answer(reply: &mut String, answer: &Answer<'_>) -> Result<(), Stop> {
     match answer {
-        Reply::Key(key) => write_key(reply, *key)?,
-        Reply::Looked(value) => write_option(reply, *value)?,
-        Reply::Taken(Some(value)) => write!(reply, "{}", value.value)?,
-        Reply::Taken(None) => reply.push_str("none")?,
-        Reply::Flag(flag) => write!(reply, "{flag}")?,
-        Reply::Len(len) => write!(reply, "{len}")?,
-        Reply::Drained(pairs) => write_pairs(reply, pairs)?,
-        Reply::Keys(keys) => write_keys(reply, keys)?,
-        answer => return write_refusal(reply, answer),
+        Reply::Key(key) => or_stop(write_key(reply, *key)),
+        Reply::Looked(value) => Outcome::Value(*value).write(reply),
+        Reply::Taken(Some(value)) => Outcome::Number(value.value).write(reply),
+        Reply::Taken(None) => Outcome::Value(None).write(reply),
+        Reply::Flag(flag) => Outcome::Flag(*flag).write(reply),
+        Reply::Len(len) => Outcome::Number(*len as u64).write(reply),
+        Reply::Drained(pairs) => or_stop(write_pairs(reply, pairs)),
+        Reply::Keys(keys) => or_stop(write_keys(reply, keys)),
+        answer => write_refusal(reply, answer),
     }
-    Ok(())
 }
 
 fn write_refusal(reply: &mut String, answer: &Answer<'_>) -> Result<(), Stop> {
     match answer {
-        Reply::Put(Ok(before)) => write!(reply, "{}", before.value)?,
-        Reply::Put(Err(back)) | Reply::NotDetached(back) => write!(reply, "{} back", back.value)?,
-        Reply::Failed(error) => write!(reply, "failed {error}")?,
-        Reply::TooGreat => reply.push_str("too great")?,
-        Reply::Full(_) => reply.push_str("full")?,
-        Reply::Memory(_) => return Err(Stop::Memory),
-        _ => reply.push_str("done")?,
+        Reply::Put(Ok(before)) => Outcome::Number(before.value).write(reply),
+        Reply::Put(Err(back)) | Reply::NotDetached(back) => write_back(reply, back.value),
+        Reply::Failed(error) => write_failed(reply, *error),
+        Reply::TooGreat => or_stop(reply.push_str("too great")),
+        Reply::Full(_) => or_stop(reply.push_str("full")),
+        Reply::Memory(_) => Err(Stop::Memory),
+        _ => or_stop(reply.push_str("done")),
     }
-    Ok(())
+}
+
+fn write_back(reply: &mut String, value: u64) -> Result<(), Stop> {
+    or_stop(write!(reply, "{value} back"))
+}
+
+fn write_failed(reply: &mut String, error: u64) -> Result<(), Stop> {
+    or_stop(write!(reply, "failed {error}"))
+}
+
+// What was written, or why it was not.
+fn or_stop(ended: Result<(), AllocError>) -> Result<(), Stop> {
+    Ok(ended?)
 }

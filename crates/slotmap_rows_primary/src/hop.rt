@@ -1,7 +1,10 @@
 //! `HopSlotMap` held to rows.
 
+ghost use Rattle.std.specs.Iterator.{IsFinite};
+
 use crate::held::Held;
 use crate::maps::Maps;
+use slotmap::hop::{Iter, Keys, Values};
 use slotmap::{DefaultKey, HopSlotMap, OutOfMemory, ReserveError, SlotsError};
 use slotmap_rows::{
     Call, Exchanged, ExchangedThree, ExchangedTwo, Mode, Number, Shown, Slots, Stop, Way, Words,
@@ -95,41 +98,55 @@ impl<'a> Held<'a> for HopSlotMap<DefaultKey, Number<'a>> {
             return Err(Stop::Unknown);
         };
         let (reads, copied) = match walk {
-            Mode::Iter => count_pairs(&maps.map, steps)?,
-            Mode::Keys => count_keys(&maps.map, steps)?,
-            Mode::Values => count_values(&maps.map, steps)?,
+            Mode::Iter => count_reads(maps.map.iter(), steps)?,
+            Mode::Keys => count_reads(maps.map.keys(), steps)?,
+            Mode::Values => count_reads(maps.map.values(), steps)?,
             _ => return Err(Stop::Unknown),
         };
         write_reads(reply, reads, copied, (least, most))
     }
 }
 
-type Map<'a> = HopSlotMap<DefaultKey, Number<'a>>;
+// An iterator that says how many slots it read.
+trait Reads {
+    fn reads_so_far(&self) -> usize;
+}
+
+impl<'a, K, V> Reads for Iter<'a, K, V> {
+    fn reads_so_far(&self) -> usize {
+        self.reads()
+    }
+}
+
+impl<'a, K, V> Reads for Keys<'a, K, V> {
+    fn reads_so_far(&self) -> usize {
+        self.reads()
+    }
+}
+
+impl<'a, K, V> Reads for Values<'a, K, V> {
+    fn reads_so_far(&self) -> usize {
+        self.reads()
+    }
+}
 
 // How many slots so many steps of an iterator read, as it and a clone of it say.
-macro_rules! counted {
-    ($walk:expr, $steps:expr) => {{
-        let mut walk = $walk;
-        for _ in 0..$steps {
-            walk.next();
-        }
-        let copy = walk.clone()?;
-        let reads = walk.reads();
+fn count_reads<I: Iterator + Clone + Reads>(
+    mut walk: I,
+    steps: u64,
+) -> Result<(usize, usize), AllocError>
+where
+    I::Item: Drop,
+    requires always { (state : I) → I.can_next state }
+    requires ends { (state : I) → IsFinite (I.remaining state) }
+{
+    for _ in 0..steps {
         walk.next();
-        Ok((reads, copy.reads()))
-    }};
-}
-
-fn count_pairs(map: &Map<'_>, steps: u64) -> Result<(usize, usize), AllocError> {
-    counted!(map.iter(), steps)
-}
-
-fn count_keys(map: &Map<'_>, steps: u64) -> Result<(usize, usize), AllocError> {
-    counted!(map.keys(), steps)
-}
-
-fn count_values(map: &Map<'_>, steps: u64) -> Result<(usize, usize), AllocError> {
-    counted!(map.values(), steps)
+    }
+    let copy = walk.clone()?;
+    let reads = walk.reads_so_far();
+    walk.next();
+    Ok((reads, copy.reads_so_far()))
 }
 
 // Writes whether a number of reads is within bounds, and where a clone counts another one.
