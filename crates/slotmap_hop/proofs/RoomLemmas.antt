@@ -10,6 +10,25 @@ module _ {V : Type 0} (m : HopContent V) (n : ℕ) (ok : Type 0) (well : IsHopCo
   pub hop_room_had : ok → n ≤ m.content.room → MakesHopRoom m n ok m
   hop_room_had is room = record { makes_room = room_had m.content n ok is well.valid room; blocks = refl; before = well; after = well }
 
+  -- if there isn't, a call that changes nothing may fail
+  pub hop_room_lacked : (ok → ⊥) → m.content.room < n → MakesHopRoom m n ok m
+  hop_room_lacked fails few = record {
+    makes_room = record {
+      before = well.valid;
+      after = well.valid;
+      fits = λ is. absurd (fails is);
+      room = λ is. absurd (fails is);
+      live_and_more = λ is. absurd (fails is);
+      succeeds = λ room. absurd (omega arith);
+      had_room = λ room. refl;
+      keeps = record { live = refl; detached = refl; retired = refl; next = refl; offer = refl; stack = refl; room = omega arith };
+      capacity = omega arith;
+    };
+    blocks = refl;
+    before = well;
+    after = well;
+  }
+
 module _ {V : Type 0} (slots : List (Slot V)) (vacant elems : ℕ) (sound : IsSound slots vacant elems) (fits : ℕ) (holds : length slots ≤ fits)
     {now : HopContent V} (view : hop_content slots (fits - 1) ≡ now) where
   hop_valid : IsHopContent now
@@ -37,3 +56,7 @@ module _ {V : Type 0} (slots : List (Slot V)) (vacant elems : ℕ) (sound : IsSo
     -- the request succeeded
     pub grown_granted : ok → used now.content + n ≤ most → used now.content + n + 1 ≤ more → MakesHopRoom now n ok (hop_content slots (more - 1))
     grown_granted granted few enough = grind (arith, used_places, kept, hop_valid, grown_valid)
+
+    -- the request failed
+    pub grown_refused : (ok → ⊥) → MakesHopRoom now n ok (hop_content slots (more - 1))
+    grown_refused fails = grind (arith, kept, hop_valid, grown_valid)

@@ -1,6 +1,6 @@
-use Rattle.slotmap_core.proofs.Common.{Some, same_live, CallsAt-called, common_steps, arith}
+use Rattle.slotmap_core.proofs.Common.{Some, None, same_live, CallsAt-called, common_steps, arith}
 use Rattle.slotmap_hop.proofs.Retaining.{Retaining, RetainingAt, retaining_starts_at, retaining_may_come, retaining_kept_at, retaining_dropped_at, retaining_ends}
-use Rattle.slotmap_hop.proofs.HopSlotMap.retain.Goals.{In-Some, After-key_at-key}
+use Rattle.slotmap_hop.proofs.HopSlotMap.retain.Goals.{In-Some, In_default, After-key_at-key}
 use Rattle.slotmap_hop.proofs.HopSlotMap.retain.Goals as goal
 
 pub loop-next-init : goal.loop-next-init
@@ -34,8 +34,26 @@ loop-next-preserved g c =
     retaining_kept_at g.F.FnMut g.K.Key.data_of c.args.self.now c.args.f c.first_place-next.ensures.valid (CallsAt-called g.F.FnMut c.f-stays.ensures)
     (so_far g (goal.at.loop-next-preserved g c).After-key_at-key) c.get_unchecked_mut.ensures.value _ comes c.if-not-stays.false
 
+-- the closure was called for all live keys
+ended : (g : _) (c : In_default g) → Retaining g.F.FnMut g.K.Key.data_of c.args.self.now c.args.f c.loop-next.self None c.loop-next.f
+ended g c = rw c.in_default.is at c.loop-next.invariant
+
 pub returns-clause-by_index : goal.returns-clause-by_index
-returns-clause-by_index g c = retaining_ends g.F.FnMut g.K.Key.data_of c.args.self.now c.args.f _ _ (rw c.in_default.is at c.loop-next.invariant)
+returns-clause-by_index g c = retaining_ends g.F.FnMut g.K.Key.data_of c.args.self.now c.args.f _ _ (ended g (goal.at.returns-clause-by_index g c).In_default)
 
 pub returns-clause-retained : goal.returns-clause-retained
 returns-clause-retained g c = (returns-clause-by_index g c).retains
+
+pub returns-clause-leaves : goal.returns-clause-leaves
+returns-clause-leaves g c = (ended g (goal.at.returns-clause-leaves g c).In_default).sweep.swept.leaves
+
+pub returns-clause-valid : goal.returns-clause-valid
+returns-clause-valid g c =
+    let sweep = (ended g (goal.at.returns-clause-valid g c).In_default).sweep in
+    record { before = c.first_place-next.ensures.valid; after = sweep.valid; capacity = sweep.swept.capacity }
+
+pub overflow_add-place : goal.overflow_add-place
+overflow_add-place g c = grind (arith, common_steps)
+
+pub first_place-next-requires-in-Some : goal.first_place-next-requires-in-Some
+first_place-next-requires-in-Some g c = grind (arith, common_steps)

@@ -2,7 +2,8 @@ use Rattle.slotmap_core.proofs.Common.{common_steps}
 use Rattle.std.proofs.Common.{◌-◌, arith}
 use Rattle.slotmap_hop.specs.Slots.{all_links}
 use Rattle.slotmap_hop.proofs.Writes.{vacancy_kept}
-use Rattle.slotmap_hop.proofs.Taking.{second_head, front_vacant, taken_block, lost_front, shorter_to_one, shorter_longer}
+use Rattle.slotmap_hop.proofs.Joining.{ready}
+use Rattle.slotmap_hop.proofs.Taking.{first, second_head, front_vacant, taken_block, lost_front, shorter_to_one, shorter_longer}
 use Rattle.slotmap_hop.proofs.blocks.drop_back.Goals as goal
 
 pub relink-requires-clause-after : goal.relink-requires-clause-after
@@ -24,3 +25,18 @@ returns-then-front-back-2-clause-blocks g c =
 
 pub returns-else-front-back-2-clause-blocks : goal.returns-else-front-back-2-clause-blocks
 returns-else-front-back-2-clause-blocks g c = grind (arith, common_steps, shorter_longer)
+
+pub next_of-next-requires : goal.next_of-next-requires
+next_of-next-requires g c = grind (arith, ready, first)
+
+pub next_of-next-requires-then-front-back-2 : goal.next_of-next-requires-then-front-back-2
+next_of-next-requires-then-front-back-2 g c = grind (arith, ready, first)
+
+pub relink-requires-clause-before : goal.relink-requires-clause-before
+relink-requires-clause-before g c = grind (arith, ready, first)
+
+pub name_back-requires : goal.name_back-requires
+name_back-requires g c = grind (arith, ready, first)
+
+pub set_links-requires : goal.set_links-requires
+set_links-requires g c = grind (arith, ready, first)

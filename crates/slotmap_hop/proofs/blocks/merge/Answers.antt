@@ -1,8 +1,9 @@
-use Rattle.std.proofs.Common.{◌≡◌, ◌+◌, ◌-◌, true, refl, ◌∙◌}
+use Rattle.std.proofs.Common.{◌≡◌, ◌+◌, ◌-◌, true, refl, ◌∙◌, arith}
 use Rattle.slotmap_hop.specs.Links.{vacant_at, prev_at, end_at}
 use Rattle.slotmap_hop.specs.Slots.{all_links}
 use Rattle.slotmap_hop.proofs.Writes.{ends_kept, flags_kept, leads_kept, tails_kept, vacancy_kept}
-use Rattle.slotmap_hop.proofs.Joining.{left_tails, front_leads, front_ready, back_ready, prev_is, after_head, joins_between}
+use Rattle.slotmap_hop.proofs.Joining.{ready, left_tails, front_leads, front_ready, back_ready, prev_is, after_head, joins_between}
+use Rattle.slotmap_hop.proofs.Taking.{first}
 use Rattle.slotmap_hop.proofs.blocks.merge.Goals as goal
 use Rattle.slotmap_hop.proofs.blocks.merge.Goals.{After-prev_of-before, After-front_of-front}
 
@@ -39,3 +40,15 @@ returns-clause-blocks g c =
     (joins_between c.requires.can c.requires.right (all_links c.relink.new.slots) c.requires.left c.next_of-after.ensures c.back_of-back.ensures
     (before g (goal.at.returns-clause-blocks g c).After-prev_of-before) c.relink.ensures.links c.relink.ensures.ends
     c.front_of-front.ensures c.prev_of-prev.ensures refl)
+
+pub back_of-back-requires : goal.back_of-back-requires
+back_of-back-requires g c = grind (arith, ready, first)
+
+pub next_of-after-requires : goal.next_of-after-requires
+next_of-after-requires g c = grind (arith, ready, first)
+
+pub prev_of-before-requires : goal.prev_of-before-requires
+prev_of-before-requires g c = grind (arith, ready, first)
+
+pub relink-requires-clause-before : goal.relink-requires-clause-before
+relink-requires-clause-before g c = grind (arith, ready, first)

@@ -15,3 +15,6 @@ returns-in-Front g c = place_read c.args.slots.now c.args.place c.index-slots-pl
 
 pub returns-in-Back : goal.returns-in-Back
 returns-in-Back g c = place_read c.args.slots.now c.args.place c.index-slots-place.result _ (slot_within c.args.slots.now c.args.place c.requires) (sym c.index-slots-place.is ∙ c.in-Back.is)
+
+pub bounds-slots-place : goal.bounds-slots-place
+bounds-slots-place g c = slot_within c.args.slots.now c.args.place c.requires

@@ -151,3 +151,21 @@ push_empty-requires-then-version-eq0-clause-room g c = grind (arith, common_step
 
 pub push_empty-requires-else-version-eq0-clause-room : goal.push_empty-requires-else-version-eq0-clause-room
 push_empty-requires-else-version-eq0-clause-room g c = grind (arith, common_steps)
+
+pub loop-record-smaller : goal.loop-record-smaller
+loop-record-smaller g c = grind (arith, common_steps)
+
+pub loop-record-smaller-in-Some-value : goal.loop-record-smaller-in-Some-value
+loop-record-smaller-in-Some-value g c = grind (arith, common_steps)
+
+pub loop-record-smaller-then-version-eq0 : goal.loop-record-smaller-then-version-eq0
+loop-record-smaller-then-version-eq0 g c = grind (arith, common_steps)
+
+pub push_empty-requires-clause-room : goal.push_empty-requires-clause-room
+push_empty-requires-clause-room g c = grind (arith, common_steps)
+
+pub push_empty-requires-clause-out : goal.push_empty-requires-clause-out
+push_empty-requires-clause-out g c = grind (arith, common_steps)
+
+pub push_empty-requires-then-version-eq0-clause-out : goal.push_empty-requires-then-version-eq0-clause-out
+push_empty-requires-then-version-eq0-clause-out g c = grind (arith, common_steps)

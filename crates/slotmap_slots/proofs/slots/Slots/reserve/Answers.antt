@@ -44,6 +44,3 @@ overflow_sub-missing g c = grind (arith, common_steps)
 
 pub overflow_sub-missing-2 : goal.overflow_sub-missing-2
 overflow_sub-missing-2 g c = grind (arith, common_steps)
-
-pub overflow_sub-used : goal.overflow_sub-used
-overflow_sub-used g c = grind (arith, common_steps)
