@@ -3,6 +3,7 @@
 use super::text::{key, no_memory};
 use crate::{DefaultKey, DenseSlotMap, HopSlotMap, SecondaryMap, SlotMap, SparseSecondaryMap};
 use std::alloc::{AllocError, Global};
+use std::process::Abort;
 use std::test::Fail;
 
 // A value that can't be cloned.
@@ -37,94 +38,113 @@ where
     Ok(has_first && has_one(copy) && has_one(walk))
 }
 
-// Whether all iterators of a map of two values that lend are cloned.
+/// A map of tickets, whose iterators are cloned.
+trait Lends: Drop {
+    /// A map of two tickets.
+    fn two(alloc: Global) -> Result<Self, Fail>;
+
+    /// Whether all iterators that it lends are cloned.
+    fn are_cloned(&self) -> Result<bool, AllocError>;
+}
+
 macro_rules! are_cloned {
     ($map:expr) => {
         Ok(is_cloned($map.iter())? && is_cloned($map.keys())? && is_cloned($map.values())?)
     };
 }
 
-fn basic(alloc: Global) -> Result<SlotMap<DefaultKey, Ticket>, Fail> {
-    let mut map = SlotMap::new(alloc)?;
-    map.insert(numbered(1)).map_err(no_memory)?;
-    map.insert(numbered(2)).map_err(no_memory)?;
-    Ok(map)
+impl Lends for SlotMap<DefaultKey, Ticket> {
+    fn two(alloc: Global) -> Result<Self, Fail> {
+        let mut map = SlotMap::new(alloc)?;
+        map.insert(numbered(1)).map_err(no_memory)?;
+        map.insert(numbered(2)).map_err(no_memory)?;
+        Ok(map)
+    }
+
+    fn are_cloned(&self) -> Result<bool, AllocError> {
+        are_cloned!(self)
+    }
 }
 
-fn are_cloned_of_basic(map: &SlotMap<DefaultKey, Ticket>) -> Result<bool, AllocError> {
-    are_cloned!(map)
+impl Lends for DenseSlotMap<DefaultKey, Ticket> {
+    fn two(alloc: Global) -> Result<Self, Fail> {
+        let mut map = DenseSlotMap::new(alloc)?;
+        map.insert(numbered(1)).map_err(no_memory)?;
+        map.insert(numbered(2)).map_err(no_memory)?;
+        Ok(map)
+    }
+
+    fn are_cloned(&self) -> Result<bool, AllocError> {
+        are_cloned!(self)
+    }
+}
+
+impl Lends for HopSlotMap<DefaultKey, Ticket> {
+    fn two(alloc: Global) -> Result<Self, Fail> {
+        let mut map = HopSlotMap::new(alloc)?;
+        map.insert(numbered(1)).map_err(no_memory)?;
+        map.insert(numbered(2)).map_err(no_memory)?;
+        Ok(map)
+    }
+
+    fn are_cloned(&self) -> Result<bool, AllocError> {
+        are_cloned!(self)
+    }
+}
+
+impl Lends for SecondaryMap<DefaultKey, Ticket> {
+    fn two(alloc: Global) -> Result<Self, Fail> {
+        let mut map = SecondaryMap::new(alloc)?;
+        map.insert(key(1, 1), numbered(1)).map_err(no_memory)?;
+        map.insert(key(2, 1), numbered(2)).map_err(no_memory)?;
+        Ok(map)
+    }
+
+    fn are_cloned(&self) -> Result<bool, AllocError> {
+        are_cloned!(self)
+    }
+}
+
+impl Lends for SparseSecondaryMap<DefaultKey, Ticket> {
+    fn two(alloc: Global) -> Result<Self, Fail> {
+        let mut map = SparseSecondaryMap::new(alloc)?;
+        map.insert(key(1, 1), numbered(1)).map_err(no_memory)?;
+        map.insert(key(2, 1), numbered(2)).map_err(no_memory)?;
+        Ok(map)
+    }
+
+    fn are_cloned(&self) -> Result<bool, AllocError> {
+        are_cloned!(self)
+    }
+}
+
+fn hold_cloned<M: Lends>(rt: &impl Abort, alloc: Global) -> Result<(), Fail> {
+    let map = M::two(alloc)?;
+    assert!(rt; map.are_cloned()?);
+    Ok(())
 }
 
 #[test]
 fn of_slot_map(rt: HostRuntime) -> Result<(), Fail> {
-    assert!(rt; are_cloned_of_basic(&basic(rt.alloc())?)?);
-    Ok(())
-}
-
-fn dense(alloc: Global) -> Result<DenseSlotMap<DefaultKey, Ticket>, Fail> {
-    let mut map = DenseSlotMap::new(alloc)?;
-    map.insert(numbered(1)).map_err(no_memory)?;
-    map.insert(numbered(2)).map_err(no_memory)?;
-    Ok(map)
-}
-
-fn are_cloned_of_dense(map: &DenseSlotMap<DefaultKey, Ticket>) -> Result<bool, AllocError> {
-    are_cloned!(map)
+    hold_cloned::<SlotMap<DefaultKey, Ticket>>(&rt, rt.alloc())
 }
 
 #[test]
 fn of_dense_slot_map(rt: HostRuntime) -> Result<(), Fail> {
-    assert!(rt; are_cloned_of_dense(&dense(rt.alloc())?)?);
-    Ok(())
-}
-
-fn hop(alloc: Global) -> Result<HopSlotMap<DefaultKey, Ticket>, Fail> {
-    let mut map = HopSlotMap::new(alloc)?;
-    map.insert(numbered(1)).map_err(no_memory)?;
-    map.insert(numbered(2)).map_err(no_memory)?;
-    Ok(map)
-}
-
-fn are_cloned_of_hop(map: &HopSlotMap<DefaultKey, Ticket>) -> Result<bool, AllocError> {
-    are_cloned!(map)
+    hold_cloned::<DenseSlotMap<DefaultKey, Ticket>>(&rt, rt.alloc())
 }
 
 #[test]
 fn of_hop_slot_map(rt: HostRuntime) -> Result<(), Fail> {
-    assert!(rt; are_cloned_of_hop(&hop(rt.alloc())?)?);
-    Ok(())
-}
-
-fn secondary(alloc: Global) -> Result<SecondaryMap<DefaultKey, Ticket>, Fail> {
-    let mut map = SecondaryMap::new(alloc)?;
-    map.insert(key(1, 1), numbered(1)).map_err(no_memory)?;
-    map.insert(key(2, 1), numbered(2)).map_err(no_memory)?;
-    Ok(map)
-}
-
-fn are_cloned_of_secondary(map: &SecondaryMap<DefaultKey, Ticket>) -> Result<bool, AllocError> {
-    are_cloned!(map)
+    hold_cloned::<HopSlotMap<DefaultKey, Ticket>>(&rt, rt.alloc())
 }
 
 #[test]
 fn of_secondary_map(rt: HostRuntime) -> Result<(), Fail> {
-    assert!(rt; are_cloned_of_secondary(&secondary(rt.alloc())?)?);
-    Ok(())
-}
-
-fn sparse(alloc: Global) -> Result<SparseSecondaryMap<DefaultKey, Ticket>, Fail> {
-    let mut map = SparseSecondaryMap::new(alloc)?;
-    map.insert(key(1, 1), numbered(1)).map_err(no_memory)?;
-    map.insert(key(2, 1), numbered(2)).map_err(no_memory)?;
-    Ok(map)
-}
-
-fn are_cloned_of_sparse(map: &SparseSecondaryMap<DefaultKey, Ticket>) -> Result<bool, AllocError> {
-    are_cloned!(map)
+    hold_cloned::<SecondaryMap<DefaultKey, Ticket>>(&rt, rt.alloc())
 }
 
 #[test]
 fn of_sparse_secondary_map(rt: HostRuntime) -> Result<(), Fail> {
-    assert!(rt; are_cloned_of_sparse(&sparse(rt.alloc())?)?);
-    Ok(())
+    hold_cloned::<SparseSecondaryMap<DefaultKey, Ticket>>(&rt, rt.alloc())
 }
