@@ -1,7 +1,7 @@
 //! A struct that holds maps derives `Clone`. Calls of `clone` itself are in `clones.rows` and `copies.rows`.
 
 use crate::{DefaultKey, DenseSlotMap, SlotMap};
-use std::alloc::Global;
+use std::alloc::{AllocError, Global};
 use std::test::Fail;
 
 #[derive(Clone, Drop)]
@@ -10,13 +10,31 @@ struct Names {
     packed: DenseSlotMap<DefaultKey, String>,
 }
 
-// One name in each map, and its key, which is the same in both.
+// A map of one name, and its key.
+fn plain(alloc: Global) -> Result<(SlotMap<DefaultKey, String>, DefaultKey), Fail> {
+    let mut map = SlotMap::new(alloc)?;
+    let key = map.insert(String::from_str(alloc, "Ada")?)?;
+    Ok((map, key))
+}
+
+// The same, with the same key.
+fn packed(alloc: Global) -> Result<DenseSlotMap<DefaultKey, String>, Fail> {
+    let mut map = DenseSlotMap::new(alloc)?;
+    map.insert(String::from_str(alloc, "Ada")?)?;
+    Ok(map)
+}
+
 fn one_name(alloc: Global) -> Result<(Names, DefaultKey), Fail> {
-    let mut plain: SlotMap<DefaultKey, String> = SlotMap::new(alloc)?;
-    let mut packed: DenseSlotMap<DefaultKey, String> = DenseSlotMap::new(alloc)?;
-    let key = plain.insert(String::from_str(alloc, "Ada")?)?;
-    packed.insert(String::from_str(alloc, "Ada")?)?;
+    let packed = packed(alloc)?;
+    let (plain, key) = plain(alloc)?;
     Ok((Names { plain, packed }, key))
+}
+
+// Removes a key, and returns whether both maps are empty then.
+fn empties(names: &mut Names, key: DefaultKey) -> bool {
+    names.plain.remove(key);
+    names.packed.remove(key);
+    names.plain.is_empty() && names.packed.is_empty()
 }
 
 fn is_name(found: Option<&String>, wanted: &str) -> bool {
@@ -26,14 +44,19 @@ fn is_name(found: Option<&String>, wanted: &str) -> bool {
     }
 }
 
+fn has_name(names: &Names, key: DefaultKey) -> bool {
+    is_name(names.plain.get(key), "Ada") && is_name(names.packed.get(key), "Ada")
+}
+
+// Whether a clone keeps the name when the maps are emptied.
+fn is_apart(names: &mut Names, key: DefaultKey) -> Result<bool, AllocError> {
+    let copy = names.clone()?;
+    Ok(empties(names, key) && has_name(&copy, key))
+}
+
 #[test]
 fn a_clone_goes_its_own_way(rt: HostRuntime) -> Result<(), Fail> {
     let (mut names, key) = one_name(rt.alloc())?;
-    let copy = names.clone()?;
-    names.plain.remove(key);
-    names.packed.remove(key);
-    assert!(rt; names.plain.is_empty() && names.packed.is_empty());
-    assert!(rt; is_name(copy.plain.get(key), "Ada"));
-    assert!(rt; is_name(copy.packed.get(key), "Ada"));
+    assert!(rt; is_apart(&mut names, key)?);
     Ok(())
 }

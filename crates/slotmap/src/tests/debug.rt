@@ -1,8 +1,8 @@
-//! What maps, iterators and entries print, and that iterators say how much is left.
+//! What slots, `OrPut` and iterators over several pairs print with `{:?}`, and that iterators say how much is left. What maps,
+//! entries and each kind of iterator print is tested with their names.
 
-use crate::{
-    DefaultKey, DenseSlotMap, HopSlotMap, Primary, SecondaryMap, SlotMap, SparseSecondaryMap,
-};
+use super::text::{Text, hold_text};
+use crate::{DefaultKey, OrPut, SlotMap, SlotRecord};
 use std::alloc::Global;
 use std::fmt::Debug;
 use std::iter::FusedIterator;
@@ -15,24 +15,8 @@ fn shows<D: Debug>(alloc: Global, value: &D, text: &str) -> bool {
     }
 }
 
-// Whether a new map shows the value 5 under its first key.
-fn shows_one<M: Primary<DefaultKey, u64> + Debug + Drop>(alloc: Global) -> Result<bool, Fail> {
-    let mut map = M::with_key(alloc)?;
-    map.insert(5)?;
-    Ok(shows(alloc, &map, "{DefaultKey(1v1): 5}"))
-}
-
 fn left<I: ExactSizeIterator + FusedIterator>(items: &I) -> usize {
     items.len()
-}
-
-#[test]
-fn primary_maps(rt: HostRuntime) -> Result<(), Fail> {
-    let alloc = rt.alloc();
-    assert!(rt; shows_one::<SlotMap<DefaultKey, u64>>(alloc)?);
-    assert!(rt; shows_one::<DenseSlotMap<DefaultKey, u64>>(alloc)?);
-    assert!(rt; shows_one::<HopSlotMap<DefaultKey, u64>>(alloc)?);
-    Ok(())
 }
 
 // A map of two values.
@@ -43,38 +27,60 @@ fn two(alloc: Global) -> Result<SlotMap<DefaultKey, u64>, Fail> {
     Ok(map)
 }
 
+// Whether an iterator shows two pairs, and has one left after a step.
+fn counts_down(alloc: Global, map: &SlotMap<DefaultKey, u64>) -> bool {
+    let mut pairs = map.iter();
+    let shown = shows(alloc, &pairs, "Iter { remaining: 2 }");
+    pairs.next();
+    shown && left(&pairs) == 1
+}
+
 #[test]
 fn iterators(rt: HostRuntime) -> Result<(), Fail> {
-    let alloc = rt.alloc();
-    let map = two(alloc)?;
-    let mut pairs = map.iter();
-    assert!(rt; shows(alloc, &pairs, "Iter { remaining: 2 }"));
-    pairs.next();
-    assert_eq!(rt; left(&pairs), 1);
+    assert!(rt; counts_down(rt.alloc(), &two(rt.alloc())?));
     Ok(())
 }
 
 #[test]
 fn drains(rt: HostRuntime) -> Result<(), Fail> {
-    let alloc = rt.alloc();
-    let mut map = two(alloc)?;
-    assert!(rt; shows(alloc, &map.drain(), "Drain { remaining: 2 }"));
+    let mut map = two(rt.alloc())?;
+    assert!(rt; shows(rt.alloc(), &map.drain(), "Drain { remaining: 2 }"));
     Ok(())
 }
 
+fn slots(alloc: Global) -> Text {
+    let live = SlotRecord {
+        value: Some(5),
+        version: 1,
+    };
+    let vacant: SlotRecord<u64> = SlotRecord {
+        value: None,
+        version: 2,
+    };
+    format!(in alloc; "{live:?} {vacant:?}")
+}
+
 #[test]
-fn side_maps_and_entries(rt: HostRuntime) -> Result<(), Fail> {
-    let alloc = rt.alloc();
-    let mut map: SlotMap<DefaultKey, u64> = SlotMap::new(alloc)?;
-    let key = map.insert(5)?;
-    let mut side: SecondaryMap<DefaultKey, u64> = SecondaryMap::new(alloc)?;
-    let vacant = "Vacant(VacantEntry { key: DefaultKey(1v1) })";
-    assert!(rt; shows(alloc, &side.try_entry(key)?, vacant));
-    side.insert(key, 7)?;
-    assert!(rt; shows(alloc, &side, "{DefaultKey(1v1): 7}"));
-    let mut sparse: SparseSecondaryMap<DefaultKey, u64> = SparseSecondaryMap::new(alloc)?;
-    sparse.insert(key, 8)?;
-    let occupied = "Occupied(OccupiedEntry { key: DefaultKey(1v1), value: 8 })";
-    assert!(rt; shows(alloc, &sparse.try_entry(key)?, occupied));
-    Ok(())
+fn slots_of_lists(rt: HostRuntime) -> Result<(), Fail> {
+    let texts = "SlotRecord { value: Some(5), version: 1 } SlotRecord { value: None, version: 2 }";
+    hold_text(&rt, slots(rt.alloc()), texts)
+}
+
+fn or_puts(alloc: Global) -> Text {
+    let placed: OrPut<u64> = OrPut::Placed;
+    format!(in alloc;
+        "{:?} {:?} {placed:?} {:?}",
+        OrPut::NoEntry(1),
+        OrPut::Kept(2),
+        OrPut::Memory(3)
+    )
+}
+
+#[test]
+fn what_or_put_did(rt: HostRuntime) -> Result<(), Fail> {
+    hold_text(
+        &rt,
+        or_puts(rt.alloc()),
+        "NoEntry(1) Kept(2) Placed Memory(3)",
+    )
 }

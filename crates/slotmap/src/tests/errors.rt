@@ -1,65 +1,102 @@
-//! The message of each error.
+//! The message of each error, and what it prints with `{:?}`.
 
+use super::text::hold_text;
 use crate::{
     InsertError, InsertWithError, JsonError, NoEntry, OutOfMemory, PutError, ReattachError,
     ReserveError, SlotsError, TryInsertError,
 };
 use std::alloc::Global;
 use std::error::Error;
-use std::fmt::Display;
+use std::fmt::{Debug, Display};
+use std::process::Abort;
 use std::test::Fail;
 
-fn says<E: Error + Display>(alloc: Global, error: &E, message: &str) -> bool {
-    match format!(in alloc; "{error}") {
-        Ok(text) => text.as_str() == message,
-        Err(_) => false,
+// Holds errors of one type to their texts, each of the message and of what `{:?}` prints.
+fn hold_texts<E: Error + Display + Debug>(
+    rt: &impl Abort,
+    alloc: Global,
+    errors: &[(E, &str)],
+) -> Result<(), Fail> {
+    for (error, text) in errors {
+        hold_text(rt, format!(in alloc; "{error}: {error:?}"), text)?;
     }
+    Ok(())
 }
 
 #[test]
 fn messages_with_what_comes_back(rt: HostRuntime) -> Result<(), Fail> {
-    let alloc = rt.alloc();
-    assert!(rt; says(alloc, &InsertError::Full(5), "full"));
-    assert!(rt; says(alloc, &InsertError::Memory(5), "out of memory"));
-    assert!(rt; says(alloc, &ReattachError::NotDetached(5), "not detached"));
-    assert!(rt; says(alloc, &ReattachError::Memory(5), "out of memory"));
-    assert!(rt; says(alloc, &PutError(5), "out of memory"));
-    Ok(())
+    let inserts = [
+        (InsertError::Full(5), "full: Full(5)"),
+        (InsertError::Memory(5), "out of memory: Memory(5)"),
+    ];
+    hold_texts(&rt, rt.alloc(), &inserts)?;
+    let reattaches = [
+        (
+            ReattachError::NotDetached(5),
+            "not detached: NotDetached(5)",
+        ),
+        (ReattachError::Memory(5), "out of memory: Memory(5)"),
+    ];
+    hold_texts(&rt, rt.alloc(), &reattaches)?;
+    hold_texts(
+        &rt,
+        rt.alloc(),
+        &[(PutError(5), "out of memory: PutError(5)")],
+    )
 }
 
 #[test]
 fn messages_of_inserts_with_a_closure(rt: HostRuntime) -> Result<(), Fail> {
-    let alloc = rt.alloc();
-    let closure = TryInsertError::Closure(SlotsError::Inconsistent(3));
-    assert!(rt; says(alloc, &closure, "inconsistent 3"));
-    let full: TryInsertError<SlotsError> = TryInsertError::Full;
-    assert!(rt; says(alloc, &full, "full"));
-    let memory: TryInsertError<SlotsError> = TryInsertError::Memory;
-    assert!(rt; says(alloc, &memory, "out of memory"));
-    assert!(rt; says(alloc, &InsertWithError::Full, "full"));
-    assert!(rt; says(alloc, &InsertWithError::Memory, "out of memory"));
-    Ok(())
+    let tries = [
+        (
+            TryInsertError::Closure(SlotsError::Inconsistent(3)),
+            "inconsistent 3: Closure(Inconsistent(3))",
+        ),
+        (TryInsertError::Full, "full: Full"),
+        (TryInsertError::Memory, "out of memory: Memory"),
+    ];
+    hold_texts(&rt, rt.alloc(), &tries)?;
+    let inserts = [
+        (InsertWithError::Full, "full: Full"),
+        (InsertWithError::Memory, "out of memory: Memory"),
+    ];
+    hold_texts(&rt, rt.alloc(), &inserts)
 }
 
 #[test]
 fn messages_of_lists(rt: HostRuntime) -> Result<(), Fail> {
-    let alloc = rt.alloc();
-    assert!(rt; says(alloc, &SlotsError::TooMany, "too many"));
-    assert!(rt; says(alloc, &SlotsError::FirstNotEmpty, "first not empty"));
-    assert!(rt; says(alloc, &SlotsError::Inconsistent(3), "inconsistent 3"));
-    assert!(rt; says(alloc, &SlotsError::Memory, "out of memory"));
-    Ok(())
+    let lists = [
+        (SlotsError::TooMany, "too many: TooMany"),
+        (SlotsError::FirstNotEmpty, "first not empty: FirstNotEmpty"),
+        (
+            SlotsError::Inconsistent(3),
+            "inconsistent 3: Inconsistent(3)",
+        ),
+        (SlotsError::Memory, "out of memory: Memory"),
+    ];
+    hold_texts(&rt, rt.alloc(), &lists)?;
+    let json = [
+        (JsonError::Shape, "shape: Shape"),
+        (JsonError::Memory, "out of memory: Memory"),
+    ];
+    hold_texts(&rt, rt.alloc(), &json)
 }
 
 #[test]
 fn messages(rt: HostRuntime) -> Result<(), Fail> {
-    let alloc = rt.alloc();
-    assert!(rt; says(alloc, &OutOfMemory, "out of memory"));
-    assert!(rt; says(alloc, &ReserveError::TooGreat, "too great"));
-    assert!(rt; says(alloc, &ReserveError::Memory, "out of memory"));
-    assert!(rt; says(alloc, &JsonError::Shape, "shape"));
-    assert!(rt; says(alloc, &JsonError::Memory, "out of memory"));
-    assert!(rt; says(alloc, &NoEntry::Older, "no entry"));
-    assert!(rt; says(alloc, &NoEntry::Memory, "out of memory"));
-    Ok(())
+    hold_texts(
+        &rt,
+        rt.alloc(),
+        &[(OutOfMemory, "out of memory: OutOfMemory")],
+    )?;
+    let reserves = [
+        (ReserveError::TooGreat, "too great: TooGreat"),
+        (ReserveError::Memory, "out of memory: Memory"),
+    ];
+    hold_texts(&rt, rt.alloc(), &reserves)?;
+    let entries = [
+        (NoEntry::Older, "no entry: Older"),
+        (NoEntry::Memory, "out of memory: Memory"),
+    ];
+    hold_texts(&rt, rt.alloc(), &entries)
 }

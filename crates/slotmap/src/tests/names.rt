@@ -1,34 +1,47 @@
 //! Names of this crate that no other test uses: the types of iterators and entries. The traits of the maps aren't in scope here, so
-//! each call is the map's own.
+//! each call is the map's own. What iterators print is tested here too.
 
-use super::text::key;
+use super::text::{Text, hold_text, key, no_memory};
 use crate::{
     DefaultKey, DenseSlotMap, HopSlotMap, Key, KeyData, NodeKey, OrPut, SecondaryMap, SlotMap,
     SparseSecondaryMap, basic, dense, hop, secondary, sparse_secondary,
 };
 use std::alloc::Global;
+use std::fmt::Debug;
 use std::process::Abort;
 use std::test::Fail;
 
-/// What each iterator of a map yields first, by the names in the map's module.
+// What an iterator prints, what it yields then, and what it prints after that.
+fn walk_text<I>(alloc: Global, mut walk: I) -> Text
+where
+    I: Iterator + Debug + Drop,
+    I::Item: Debug + Drop,
+    requires can { I.can_next walk }
+{
+    let before = format!(in alloc; "{walk:?}")?;
+    let item = walk.next();
+    format!(in alloc; "{before} {item:?} {walk:?}")
+}
+
+/// The texts of each iterator of a map, by the names in the map's module.
 trait Walked: Drop {
     /// A map of 7 under the key 1v1. Its type is also in the module of its iterators.
     fn one(alloc: Global) -> Result<Self, Fail>;
 
     /// `Iter`.
-    fn pair(&self) -> Option<(DefaultKey, &u64)>;
+    fn pairs_text(&self, alloc: Global) -> Text;
 
     /// `Keys`.
-    fn key(&self) -> Option<DefaultKey>;
+    fn keys_text(&self, alloc: Global) -> Text;
 
     /// `Values`.
-    fn value(&self) -> Option<&u64>;
+    fn values_text(&self, alloc: Global) -> Text;
 
     /// `Drain`.
-    fn drained(&mut self) -> Option<(DefaultKey, u64)>;
+    fn drain_text(&mut self, alloc: Global) -> Text;
 
     /// `IntoIter`.
-    fn taken(self) -> Option<(DefaultKey, u64)>;
+    fn owner_text(self, alloc: Global) -> Text;
 }
 
 impl Walked for SlotMap<DefaultKey, u64> {
@@ -38,24 +51,24 @@ impl Walked for SlotMap<DefaultKey, u64> {
         Ok(map)
     }
 
-    fn pair(&self) -> Option<(DefaultKey, &u64)> {
-        basic::Iter::next(&mut self.iter())
+    fn pairs_text(&self, alloc: Global) -> Text {
+        walk_text::<basic::Iter<_, _>>(alloc, self.iter())
     }
 
-    fn key(&self) -> Option<DefaultKey> {
-        basic::Keys::next(&mut self.keys())
+    fn keys_text(&self, alloc: Global) -> Text {
+        walk_text::<basic::Keys<_, _>>(alloc, self.keys())
     }
 
-    fn value(&self) -> Option<&u64> {
-        basic::Values::next(&mut self.values())
+    fn values_text(&self, alloc: Global) -> Text {
+        walk_text::<basic::Values<_, _>>(alloc, self.values())
     }
 
-    fn drained(&mut self) -> Option<(DefaultKey, u64)> {
-        basic::Drain::next(&mut self.drain())
+    fn drain_text(&mut self, alloc: Global) -> Text {
+        walk_text::<basic::Drain<_, _>>(alloc, self.drain())
     }
 
-    fn taken(self) -> Option<(DefaultKey, u64)> {
-        basic::IntoIter::next(&mut self.into_iter())
+    fn owner_text(self, alloc: Global) -> Text {
+        walk_text::<basic::IntoIter<_, _>>(alloc, self.into_iter())
     }
 }
 
@@ -66,24 +79,24 @@ impl Walked for DenseSlotMap<DefaultKey, u64> {
         Ok(map)
     }
 
-    fn pair(&self) -> Option<(DefaultKey, &u64)> {
-        dense::Iter::next(&mut self.iter())
+    fn pairs_text(&self, alloc: Global) -> Text {
+        walk_text::<dense::Iter<_, _>>(alloc, self.iter())
     }
 
-    fn key(&self) -> Option<DefaultKey> {
-        dense::Keys::next(&mut self.keys())
+    fn keys_text(&self, alloc: Global) -> Text {
+        walk_text::<dense::Keys<_, _>>(alloc, self.keys())
     }
 
-    fn value(&self) -> Option<&u64> {
-        dense::Values::next(&mut self.values())
+    fn values_text(&self, alloc: Global) -> Text {
+        walk_text::<dense::Values<_, _>>(alloc, self.values())
     }
 
-    fn drained(&mut self) -> Option<(DefaultKey, u64)> {
-        dense::Drain::next(&mut self.drain())
+    fn drain_text(&mut self, alloc: Global) -> Text {
+        walk_text::<dense::Drain<_, _>>(alloc, self.drain())
     }
 
-    fn taken(self) -> Option<(DefaultKey, u64)> {
-        dense::IntoIter::next(&mut self.into_iter())
+    fn owner_text(self, alloc: Global) -> Text {
+        walk_text::<dense::IntoIter<_, _>>(alloc, self.into_iter())
     }
 }
 
@@ -94,24 +107,24 @@ impl Walked for HopSlotMap<DefaultKey, u64> {
         Ok(map)
     }
 
-    fn pair(&self) -> Option<(DefaultKey, &u64)> {
-        hop::Iter::next(&mut self.iter())
+    fn pairs_text(&self, alloc: Global) -> Text {
+        walk_text::<hop::Iter<_, _>>(alloc, self.iter())
     }
 
-    fn key(&self) -> Option<DefaultKey> {
-        hop::Keys::next(&mut self.keys())
+    fn keys_text(&self, alloc: Global) -> Text {
+        walk_text::<hop::Keys<_, _>>(alloc, self.keys())
     }
 
-    fn value(&self) -> Option<&u64> {
-        hop::Values::next(&mut self.values())
+    fn values_text(&self, alloc: Global) -> Text {
+        walk_text::<hop::Values<_, _>>(alloc, self.values())
     }
 
-    fn drained(&mut self) -> Option<(DefaultKey, u64)> {
-        hop::Drain::next(&mut self.drain())
+    fn drain_text(&mut self, alloc: Global) -> Text {
+        walk_text::<hop::Drain<_, _>>(alloc, self.drain())
     }
 
-    fn taken(self) -> Option<(DefaultKey, u64)> {
-        hop::IntoIter::next(&mut self.into_iter())
+    fn owner_text(self, alloc: Global) -> Text {
+        walk_text::<hop::IntoIter<_, _>>(alloc, self.into_iter())
     }
 }
 
@@ -122,24 +135,24 @@ impl Walked for SecondaryMap<DefaultKey, u64> {
         Ok(map)
     }
 
-    fn pair(&self) -> Option<(DefaultKey, &u64)> {
-        secondary::Iter::next(&mut self.iter())
+    fn pairs_text(&self, alloc: Global) -> Text {
+        walk_text::<secondary::Iter<_, _>>(alloc, self.iter())
     }
 
-    fn key(&self) -> Option<DefaultKey> {
-        secondary::Keys::next(&mut self.keys())
+    fn keys_text(&self, alloc: Global) -> Text {
+        walk_text::<secondary::Keys<_, _>>(alloc, self.keys())
     }
 
-    fn value(&self) -> Option<&u64> {
-        secondary::Values::next(&mut self.values())
+    fn values_text(&self, alloc: Global) -> Text {
+        walk_text::<secondary::Values<_, _>>(alloc, self.values())
     }
 
-    fn drained(&mut self) -> Option<(DefaultKey, u64)> {
-        secondary::Drain::next(&mut self.drain())
+    fn drain_text(&mut self, alloc: Global) -> Text {
+        walk_text::<secondary::Drain<_, _>>(alloc, self.drain())
     }
 
-    fn taken(self) -> Option<(DefaultKey, u64)> {
-        secondary::IntoIter::next(&mut self.into_iter())
+    fn owner_text(self, alloc: Global) -> Text {
+        walk_text::<secondary::IntoIter<_, _>>(alloc, self.into_iter())
     }
 }
 
@@ -151,39 +164,55 @@ impl Walked for SparseSecondaryMap<DefaultKey, u64> {
         Ok(map)
     }
 
-    fn pair(&self) -> Option<(DefaultKey, &u64)> {
-        sparse_secondary::Iter::next(&mut self.iter())
+    fn pairs_text(&self, alloc: Global) -> Text {
+        walk_text::<sparse_secondary::Iter<_, _>>(alloc, self.iter())
     }
 
-    fn key(&self) -> Option<DefaultKey> {
-        sparse_secondary::Keys::next(&mut self.keys())
+    fn keys_text(&self, alloc: Global) -> Text {
+        walk_text::<sparse_secondary::Keys<_, _>>(alloc, self.keys())
     }
 
-    fn value(&self) -> Option<&u64> {
-        sparse_secondary::Values::next(&mut self.values())
+    fn values_text(&self, alloc: Global) -> Text {
+        walk_text::<sparse_secondary::Values<_, _>>(alloc, self.values())
     }
 
-    fn drained(&mut self) -> Option<(DefaultKey, u64)> {
-        sparse_secondary::Drain::next(&mut self.drain())
+    fn drain_text(&mut self, alloc: Global) -> Text {
+        walk_text::<sparse_secondary::Drain<_, _, _>>(alloc, self.drain())
     }
 
-    fn taken(self) -> Option<(DefaultKey, u64)> {
-        sparse_secondary::IntoIter::next(&mut self.into_iter())
+    fn owner_text(self, alloc: Global) -> Text {
+        walk_text::<sparse_secondary::IntoIter<_, _>>(alloc, self.into_iter())
     }
 }
 
-fn hold_lent<M: Walked>(rt: &impl Abort, map: &M) {
-    assert!(rt; map.pair() == Some((key(1, 1), &7)));
-    assert!(rt; map.key() == Some(key(1, 1)));
-    assert!(rt; map.value() == Some(&7));
+// Holds the iterators of a map of 7 under the key 1v1 that it lends.
+fn hold_lent<M: Walked>(rt: &impl Abort, alloc: Global, map: &M) -> Result<(), Fail> {
+    let pairs = "Iter { remaining: 1 } Some((DefaultKey(1v1), 7)) Iter { remaining: 0 }";
+    hold_text(rt, map.pairs_text(alloc), pairs)?;
+    let keys = "Keys { remaining: 1 } Some(DefaultKey(1v1)) Keys { remaining: 0 }";
+    hold_text(rt, map.keys_text(alloc), keys)?;
+    let values = "Values { remaining: 1 } Some(7) Values { remaining: 0 }";
+    hold_text(rt, map.values_text(alloc), values)
 }
 
-fn hold_walks<M: Walked>(rt: &impl Abort, alloc: Global) -> Result<(), Fail> {
+// Holds the iterators that take the pairs out.
+fn hold_taken<M: Walked>(rt: &impl Abort, alloc: Global, map: &mut M) -> Result<(), Fail> {
+    let drain = "Drain { remaining: 1 } Some((DefaultKey(1v1), 7)) Drain { remaining: 0 }";
+    hold_text(rt, map.drain_text(alloc), drain)?;
+    let owner = "IntoIter { remaining: 1 } Some((DefaultKey(1v1), 7)) IntoIter { remaining: 0 }";
+    hold_text(rt, M::one(alloc)?.owner_text(alloc), owner)
+}
+
+fn map_text<M: Debug>(alloc: Global, map: &M) -> Text {
+    format!(in alloc; "{map:?}")
+}
+
+fn hold_walks<M: Walked + Debug>(rt: &impl Abort, alloc: Global) -> Result<(), Fail> {
     let mut map = M::one(alloc)?;
-    hold_lent(rt, &map);
-    assert!(rt; map.drained() == Some((key(1, 1), 7)));
-    assert!(rt; M::one(alloc)?.taken() == Some((key(1, 1), 7)));
-    Ok(())
+    hold_text(rt, map_text(alloc, &map), "{DefaultKey(1v1): 7}")?;
+    hold_lent(rt, alloc, &map)?;
+    hold_taken(rt, alloc, &mut map)?;
+    hold_text(rt, map_text(alloc, &map), "{}")
 }
 
 #[test]
@@ -195,26 +224,66 @@ fn walks_have_their_names(rt: HostRuntime) -> Result<(), Fail> {
     hold_walks::<SparseSecondaryMap<DefaultKey, u64>>(&rt, rt.alloc())
 }
 
+type Packed = DenseSlotMap<DefaultKey, u64>;
+
+// Sets the value that `IterMut` yields first, and returns its key with the value that it had.
+fn set_pair(map: &mut Packed, value: u64) -> Option<(DefaultKey, u64)> {
+    let (key, place) = dense::IterMut::next(&mut map.iter_mut())?;
+    Some((key, std::mem::replace(place, value)))
+}
+
+// The same of `ValuesMut`.
+fn set_value(map: &mut Packed, value: u64) -> Option<u64> {
+    let place = dense::ValuesMut::next(&mut map.values_mut())?;
+    Some(std::mem::replace(place, value))
+}
+
+// Whether each iterator that writes yields the value that was there, and leaves the new one.
+fn is_written(map: &mut Packed) -> bool {
+    let pair = set_pair(map, 8) == Some((key(1, 1), 7));
+    pair && set_value(map, 9) == Some(8) && map.values().next() == Some(&9)
+}
+
 #[test]
 fn walks_that_write_have_their_names(rt: HostRuntime) -> Result<(), Fail> {
-    let mut map: DenseSlotMap<DefaultKey, u64> = DenseSlotMap::one(rt.alloc())?;
-    assert!(rt; dense::IterMut::next(&mut map.iter_mut()).is_some());
-    assert!(rt; dense::ValuesMut::next(&mut map.values_mut()).is_some());
+    let mut map = Packed::one(rt.alloc())?;
+    assert!(rt; is_written(&mut map));
     Ok(())
+}
+
+fn pairs_mut_text(alloc: Global, map: &mut Packed) -> Text {
+    walk_text::<dense::IterMut<_, _>>(alloc, map.iter_mut())
+}
+
+fn values_mut_text(alloc: Global, map: &mut Packed) -> Text {
+    walk_text::<dense::ValuesMut<_, _>>(alloc, map.values_mut())
+}
+
+#[test]
+fn walks_that_write_have_their_texts(rt: HostRuntime) -> Result<(), Fail> {
+    let mut map = Packed::one(rt.alloc())?;
+    let pairs = "IterMut { remaining: 1 } Some((DefaultKey(1v1), 7)) IterMut { remaining: 0 }";
+    hold_text(&rt, pairs_mut_text(rt.alloc(), &mut map), pairs)?;
+    let values = "ValuesMut { remaining: 1 } Some(7) ValuesMut { remaining: 0 }";
+    hold_text(&rt, values_mut_text(rt.alloc(), &mut map), values)
+}
+
+fn has_slice(map: &mut Packed, values: &[u64]) -> bool {
+    *map.values_as_mut_slice() == *values
 }
 
 #[test]
 fn a_slice_of_values_has_each(rt: HostRuntime) -> Result<(), Fail> {
-    let mut map: DenseSlotMap<DefaultKey, u64> = DenseSlotMap::one(rt.alloc())?;
+    let mut map = Packed::one(rt.alloc())?;
     map.insert(8)?;
-    assert_eq!(rt; map.values_as_mut_slice().len(), 2);
+    assert!(rt; has_slice(&mut map, &[7, 8]));
     Ok(())
 }
 
 #[test]
-fn a_new_walk_has_read_little(rt: HostRuntime) -> Result<(), Fail> {
+fn a_new_walk_has_read_nothing(rt: HostRuntime) -> Result<(), Fail> {
     let map: HopSlotMap<DefaultKey, u64> = HopSlotMap::one(rt.alloc())?;
-    assert!(rt; map.iter().reads() <= map.iter().len());
+    assert_eq!(rt; map.iter().reads(), 0);
     Ok(())
 }
 
@@ -225,6 +294,9 @@ trait Entered: Walked {
 
     /// The key of a `VacantEntry`.
     fn vacant(&mut self, key: DefaultKey) -> Option<DefaultKey>;
+
+    /// What `Entry` prints, and with it the entry that it holds.
+    fn entry_text(&mut self, alloc: Global, key: DefaultKey) -> Text;
 
     /// `or_put`.
     fn or_put(&mut self, key: DefaultKey, value: u64) -> OrPut<u64>;
@@ -247,6 +319,11 @@ impl Entered for SecondaryMap<DefaultKey, u64> {
             }
             _ => None,
         }
+    }
+
+    fn entry_text(&mut self, alloc: Global, key: DefaultKey) -> Text {
+        let entry = self.try_entry(key).map_err(no_memory)?;
+        format!(in alloc; "{entry:?}")
     }
 
     fn or_put(&mut self, key: DefaultKey, value: u64) -> OrPut<u64> {
@@ -273,16 +350,33 @@ impl Entered for SparseSecondaryMap<DefaultKey, u64, sparse_secondary::DefaultHa
         }
     }
 
+    fn entry_text(&mut self, alloc: Global, key: DefaultKey) -> Text {
+        let entry = self.try_entry(key).map_err(no_memory)?;
+        format!(in alloc; "{entry:?}")
+    }
+
     fn or_put(&mut self, key: DefaultKey, value: u64) -> OrPut<u64> {
         SparseSecondaryMap::or_put(self, key, value)
     }
 }
 
-fn hold_entries<M: Entered>(rt: &impl Abort, alloc: Global) -> Result<(), Fail> {
-    let mut map = M::one(alloc)?;
+fn hold_entry_texts<M: Entered>(rt: &impl Abort, alloc: Global, map: &mut M) -> Result<(), Fail> {
+    let occupied = "Occupied(OccupiedEntry { key: DefaultKey(1v1), value: 7 })";
+    hold_text(rt, map.entry_text(alloc, key(1, 1)), occupied)?;
+    let vacant = "Vacant(VacantEntry { key: DefaultKey(2v3) })";
+    hold_text(rt, map.entry_text(alloc, key(2, 3)), vacant)
+}
+
+fn hold_entry_types<M: Entered>(rt: &impl Abort, map: &mut M) {
     assert_eq!(rt; map.occupied(key(1, 1)), Some(7));
     assert_eq!(rt; map.vacant(key(2, 3)), Some(key(2, 3)));
     assert!(rt; matches!(map.or_put(key(2, 1), 6), OrPut::Placed));
+}
+
+fn hold_entries<M: Entered>(rt: &impl Abort, alloc: Global) -> Result<(), Fail> {
+    let mut map = M::one(alloc)?;
+    hold_entry_texts(rt, alloc, &mut map)?;
+    hold_entry_types(rt, &mut map);
     Ok(())
 }
 

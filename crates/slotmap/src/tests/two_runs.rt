@@ -119,16 +119,25 @@ fn hold_second(rt: &impl Abort, later: &Replies) {
     assert!(rt; has_key(later, 4, key(1, 5)));
 }
 
+fn run_lists(
+    alloc: Global,
+    map: &mut SlotMap<DefaultKey, u64>,
+) -> Result<(Replies, Replies), Fail> {
+    let first = first_list(alloc)?;
+    let second = second_list(alloc)?;
+    Ok(run_twice(alloc, map, first, second).ok_or("a run was refused")?)
+}
+
+fn hold_first(rt: &impl Abort, earlier: &Replies) {
+    assert!(rt; has_key(earlier, 0, key(1, 1)));
+    assert!(rt; matches!(earlier.get(2), Some(Reply::Failed(()))));
+}
+
 #[test]
 fn a_second_run_answers_no_key_of_the_first(rt: HostRuntime) -> Result<(), Fail> {
     let mut map: SlotMap<DefaultKey, u64> = SlotMap::new(rt.alloc())?;
-    let first = first_list(rt.alloc())?;
-    let second = second_list(rt.alloc())?;
-    let Some((earlier, later)) = run_twice(rt.alloc(), &mut map, first, second) else {
-        return Err(Fail::from("a run was refused"));
-    };
-    assert!(rt; has_key(&earlier, 0, key(1, 1)));
-    assert!(rt; matches!(earlier.get(2), Some(Reply::Failed(()))));
+    let (earlier, later) = run_lists(rt.alloc(), &mut map)?;
+    hold_first(&rt, &earlier);
     hold_second(&rt, &later);
     Ok(())
 }
@@ -148,6 +157,18 @@ fn reattaching_list(alloc: Global) -> Result<Vec<DetachCommand<DefaultKey, u64>>
     ]?)
 }
 
+fn run_detaching_lists(
+    alloc: Global,
+) -> Result<(SlotMap<DefaultKey, u64>, Replies, Replies), Fail> {
+    let first = detaching_list(alloc)?;
+    let second = reattaching_list(alloc)?;
+    Ok(run_new_and_on(alloc, first, second).ok_or("a run was refused")?)
+}
+
+fn hold_detached(rt: &impl Abort, earlier: &Replies) {
+    assert!(rt; matches!(earlier.get(1), Some(Reply::Taken(Some(1)))));
+}
+
 fn hold_reattached(rt: &impl Abort, later: &Replies) {
     assert!(rt; has_key(later, 0, key(2, 1)));
     assert!(rt; matches!(later.get(1), Some(Reply::Done)));
@@ -156,13 +177,8 @@ fn hold_reattached(rt: &impl Abort, later: &Replies) {
 
 #[test]
 fn a_run_goes_on_where_one_on_a_new_map_ended(rt: HostRuntime) -> Result<(), Fail> {
-    let first = detaching_list(rt.alloc())?;
-    let second = reattaching_list(rt.alloc())?;
-    let made: Option<(SlotMap<DefaultKey, u64>, _, _)> = run_new_and_on(rt.alloc(), first, second);
-    let Some((map, earlier, later)) = made else {
-        return Err(Fail::from("a run was refused"));
-    };
-    assert!(rt; matches!(earlier.get(1), Some(Reply::Taken(Some(1)))));
+    let (map, earlier, later) = run_detaching_lists(rt.alloc())?;
+    hold_detached(&rt, &earlier);
     hold_reattached(&rt, &later);
     assert!(rt; map.get(key(1, 1)) == Some(&8));
     Ok(())
