@@ -1,5 +1,5 @@
-//! Calls on their happy path. Each test asks a function over any tables, since a call costs the prover much more where the
-//! tables are named.
+//! Calls on their happy path. They stand in functions over any tables, and [`do_well`] alone names the tables, since each
+//! call where they are named costs the prover as much as a whole test.
 
 use slotmap::{DefaultKey, SecondaryMap, SparseSecondaryMap};
 use slotmap_entities::{CloneTables, First, Kind, Second, Table, Tables, World};
@@ -29,10 +29,8 @@ where
     Ok((world, a))
 }
 
-type Seen = (Option<u64>, Option<u8>);
-
-// An entity's value and its second component.
-fn look<T, F, S>(alloc: Global) -> Result<Seen, Fail>
+// Looks up the entity and its second component.
+fn look<T, F, S>(alloc: Global) -> Result<bool, Fail>
 where
     T: Tables<DefaultKey>,
     F: Kind<DefaultKey, T>,
@@ -41,17 +39,12 @@ where
     S::Table: Table<DefaultKey, Component = u8>,
 {
     let (world, a) = one::<T, F, S>(alloc)?;
-    Ok((world.get(a).copied(), world.component::<S>(a).copied()))
-}
-
-#[test]
-fn looks(rt: HostRuntime) -> Result<(), Fail> {
-    assert_eq!(rt; look::<Two, First, Second>(rt.alloc())?, (Some(1), Some(5)));
-    Ok(())
+    let seen = (world.get(a).copied(), world.component::<S>(a).copied());
+    Ok(seen == (Some(1), Some(5)))
 }
 
 // Writes the second component, and takes it.
-fn write<T, F, S>(alloc: Global) -> Result<Option<u8>, Fail>
+fn write<T, F, S>(alloc: Global) -> Result<bool, Fail>
 where
     T: Tables<DefaultKey>,
     F: Kind<DefaultKey, T>,
@@ -63,18 +56,11 @@ where
     if let Some(component) = world.component_mut::<S>(a) {
         *component = 6;
     }
-    Ok(world.detach::<S>(a))
+    Ok(world.detach::<S>(a) == Some(6))
 }
 
-#[test]
-fn writes(rt: HostRuntime) -> Result<(), Fail> {
-    assert_eq!(rt; write::<Two, First, Second>(rt.alloc())?, Some(6));
-    Ok(())
-}
-
-// Writes the second components and removes the first ones. Returns the second one of an entity, and
-// whether it has a first one.
-fn retain<T, F, S>(alloc: Global) -> Result<(Option<u8>, bool), Fail>
+// Writes the second components, and removes the first ones.
+fn retain<T, F, S>(alloc: Global) -> Result<bool, Fail>
 where
     T: Tables<DefaultKey>,
     F: Kind<DefaultKey, T>,
@@ -88,41 +74,27 @@ where
         true
     });
     world.retain_components::<F, _>(|_, _| false);
-    Ok((world.component::<S>(a).copied(), world.has::<F>(a)))
+    let left = (world.component::<S>(a).copied(), world.has::<F>(a));
+    Ok(left == (Some(6), false))
 }
 
-#[test]
-fn retains(rt: HostRuntime) -> Result<(), Fail> {
-    assert_eq!(rt; retain::<Two, First, Second>(rt.alloc())?, (Some(6), false));
-    Ok(())
-}
-
-// What an entity's removal returns, and the first component of a later one.
-fn remove<T, F, S>(alloc: Global) -> Result<(Option<(u64, T::Parts)>, Option<u32>), Fail>
+// Removes the entity with its components. A later one has none.
+fn remove<T, F, S>(alloc: Global) -> Result<bool, Fail>
 where
-    T: Tables<DefaultKey>,
+    T: CloneTables<DefaultKey> + Tables<DefaultKey, Parts = (Option<u32>, (Option<u8>, ()))>,
     F: Kind<DefaultKey, T>,
     S: Kind<DefaultKey, T>,
     F::Table: Table<DefaultKey, Component = u32>,
     S::Table: Table<DefaultKey, Component = u8>,
 {
     let (mut world, a) = one::<T, F, S>(alloc)?;
-    let removed = world.despawn(a);
+    let removed = world.despawn(a) == Some((1, (Some(10), (Some(5), ()))));
     let later = world.spawn(2)?;
-    Ok((removed, world.component::<F>(later).copied()))
+    Ok(removed && world.component::<F>(later).is_none())
 }
 
-#[test]
-fn removals(rt: HostRuntime) -> Result<(), Fail> {
-    assert_eq!(rt;
-        remove::<Two, First, Second>(rt.alloc())?,
-        (Some((1, (Some(10), (Some(5), ())))), None)
-    );
-    Ok(())
-}
-
-// What a copy has after the entity was removed.
-fn copy<T, F, S>(alloc: Global) -> Result<Seen, Fail>
+// Removes the entity, which a copy still has.
+fn copy<T, F, S>(alloc: Global) -> Result<bool, Fail>
 where
     T: CloneTables<DefaultKey>,
     F: Kind<DefaultKey, T>,
@@ -133,12 +105,92 @@ where
     let (mut world, a) = one::<T, F, S>(alloc)?;
     let copy = world.clone()?;
     world.despawn(a);
-    Ok((copy.get(a).copied(), copy.component::<S>(a).copied()))
+    let seen = (copy.get(a).copied(), copy.component::<S>(a).copied());
+    Ok(seen == (Some(1), Some(5)))
+}
+
+// Goes over the entities, before and after a `clear`.
+fn walk<T, F, S>(alloc: Global) -> Result<bool, Fail>
+where
+    T: Tables<DefaultKey>,
+    F: Kind<DefaultKey, T>,
+    S: Kind<DefaultKey, T>,
+    F::Table: Table<DefaultKey, Component = u32>,
+    S::Table: Table<DefaultKey, Component = u8>,
+{
+    let (mut world, a) = one::<T, F, S>(alloc)?;
+    let walked = world.iter().next() == Some((a, &1));
+    world.clear();
+    Ok(walked && world.keys().next().is_none())
+}
+
+// The calls of a test.
+enum Calls {
+    Look,
+    Write,
+    Retain,
+    Remove,
+    Copy,
+    Walk,
+}
+
+// Whether the calls return what they should.
+fn go_well<T, F, S>(alloc: Global, calls: Calls) -> Result<bool, Fail>
+where
+    T: CloneTables<DefaultKey> + Tables<DefaultKey, Parts = (Option<u32>, (Option<u8>, ()))>,
+    F: Kind<DefaultKey, T>,
+    S: Kind<DefaultKey, T>,
+    F::Table: Table<DefaultKey, Component = u32>,
+    S::Table: Table<DefaultKey, Component = u8>,
+{
+    match calls {
+        Calls::Look => look::<T, F, S>(alloc),
+        Calls::Write => write::<T, F, S>(alloc),
+        Calls::Retain => retain::<T, F, S>(alloc),
+        Calls::Remove => remove::<T, F, S>(alloc),
+        Calls::Copy => copy::<T, F, S>(alloc),
+        Calls::Walk => walk::<T, F, S>(alloc),
+    }
+}
+
+// Whether the calls return what they should on a world of two tables.
+fn do_well(alloc: Global, calls: Calls) -> Result<bool, Fail> {
+    go_well::<Two, First, Second>(alloc, calls)
+}
+
+#[test]
+fn looks(rt: HostRuntime) -> Result<(), Fail> {
+    assert!(rt; do_well(rt.alloc(), Calls::Look)?);
+    Ok(())
+}
+
+#[test]
+fn writes(rt: HostRuntime) -> Result<(), Fail> {
+    assert!(rt; do_well(rt.alloc(), Calls::Write)?);
+    Ok(())
+}
+
+#[test]
+fn retains(rt: HostRuntime) -> Result<(), Fail> {
+    assert!(rt; do_well(rt.alloc(), Calls::Retain)?);
+    Ok(())
+}
+
+#[test]
+fn removals(rt: HostRuntime) -> Result<(), Fail> {
+    assert!(rt; do_well(rt.alloc(), Calls::Remove)?);
+    Ok(())
 }
 
 #[test]
 fn copies(rt: HostRuntime) -> Result<(), Fail> {
-    assert_eq!(rt; copy::<Two, First, Second>(rt.alloc())?, (Some(1), Some(5)));
+    assert!(rt; do_well(rt.alloc(), Calls::Copy)?);
+    Ok(())
+}
+
+#[test]
+fn walk_and_clear(rt: HostRuntime) -> Result<(), Fail> {
+    assert!(rt; do_well(rt.alloc(), Calls::Walk)?);
     Ok(())
 }
 
@@ -154,26 +206,5 @@ fn joins_well(world: &Small<Two>, a: DefaultKey) -> bool {
 fn joins(rt: HostRuntime) -> Result<(), Fail> {
     let (world, a) = one::<Two, First, Second>(rt.alloc())?;
     assert!(rt; joins_well(&world, a));
-    Ok(())
-}
-
-// Whether a walk begins with the entity, and which is the first one after a `clear`.
-fn walk<T, F, S>(alloc: Global) -> Result<(bool, Option<DefaultKey>), Fail>
-where
-    T: Tables<DefaultKey>,
-    F: Kind<DefaultKey, T>,
-    S: Kind<DefaultKey, T>,
-    F::Table: Table<DefaultKey, Component = u32>,
-    S::Table: Table<DefaultKey, Component = u8>,
-{
-    let (mut world, a) = one::<T, F, S>(alloc)?;
-    let walked = world.iter().next() == Some((a, &1));
-    world.clear();
-    Ok((walked, world.keys().next()))
-}
-
-#[test]
-fn walk_and_clear(rt: HostRuntime) -> Result<(), Fail> {
-    assert_eq!(rt; walk::<Two, First, Second>(rt.alloc())?, (true, None));
     Ok(())
 }
