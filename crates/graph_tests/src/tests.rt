@@ -44,8 +44,10 @@ fn edges_into(graph: &Small, node: NodeKey) -> (usize, usize) {
 #[test]
 fn lists(rt: HostRuntime) -> Result<(), Fail> {
     let (graph, a, b, edge) = pair(rt.alloc())?;
-    assert_eq!(rt; first_edges(&graph, a, b), [Some(edge), Some(edge)]);
-    assert_eq!(rt; edges_into(&graph, b), (1, 1));
+    assert_eq!(rt;
+        (first_edges(&graph, a, b), edges_into(&graph, b)),
+        ([Some(edge), Some(edge)], (1, 1))
+    );
     Ok(())
 }
 
@@ -71,27 +73,20 @@ fn from_both_ends(graph: &Small, node: NodeKey) -> Result<[Option<EdgeKey>; 4], 
     Ok([last, copied, edges.next(), edges.next_back()])
 }
 
-// Puts two edges in the place of the first one.
-fn two_for_one(
-    graph: &mut Small,
-    a: NodeKey,
-    b: NodeKey,
-    first: EdgeKey,
-) -> Result<(EdgeKey, EdgeKey), Fail> {
+// Puts two edges in the place of the first one, and says whether a walk from both ends finds them.
+fn walks_well(graph: &mut Small, a: NodeKey, b: NodeKey, first: EdgeKey) -> Result<bool, Fail> {
     let second = graph.add_edge(a, b, 6)?;
     graph.remove_edge(first);
     let third = graph.add_edge(a, b, 7)?;
-    Ok((second, third))
+    let found = from_both_ends(graph, b)?;
+    let are_two = graph.edges_to(b).len() == 2;
+    Ok(are_two && found == [Some(third), Some(second), Some(second), None])
 }
 
 #[test]
 fn walks(rt: HostRuntime) -> Result<(), Fail> {
     let (mut graph, a, b, first) = pair(rt.alloc())?;
-    let (second, third) = two_for_one(&mut graph, a, b, first)?;
-    assert_eq!(rt;
-        (graph.edges_to(b).len(), from_both_ends(&graph, b)?),
-        (2, [Some(third), Some(second), Some(second), None])
-    );
+    assert!(rt; walks_well(&mut graph, a, b, first)?);
     Ok(())
 }
 
@@ -100,15 +95,17 @@ fn has_order(graph: &Small, alloc: Global, order: &[NodeKey]) -> Result<bool, Fa
     Ok(graph.topological_order(alloc)?.as_slice() == order)
 }
 
-// Adds an edge back, and returns it with why there is no order then.
-fn close(
+// Adds an edge back, and says whether one of the two then stands in the way of an order.
+fn closes(
     graph: &mut Small,
     alloc: Global,
     a: NodeKey,
     b: NodeKey,
-) -> Result<(EdgeKey, Option<OrderError>), Fail> {
+    edge: EdgeKey,
+) -> Result<bool, Fail> {
     let back = graph.add_edge(b, a, 6)?;
-    Ok((back, graph.topological_order(alloc).err()))
+    let closing = graph.topological_order(alloc).err();
+    Ok(closing == Some(OrderError::Cycle(edge)) || closing == Some(OrderError::Cycle(back)))
 }
 
 #[test]
@@ -116,10 +113,7 @@ fn orders(rt: HostRuntime) -> Result<(), Fail> {
     let alloc = rt.alloc();
     let (mut graph, a, b, edge) = pair(alloc)?;
     assert!(rt; has_order(&graph, alloc, [a, b].as_slice())?);
-    let (back, closing) = close(&mut graph, alloc, a, b)?;
-    assert!(rt;
-        closing == Some(OrderError::Cycle(edge)) || closing == Some(OrderError::Cycle(back))
-    );
+    assert!(rt; closes(&mut graph, alloc, a, b, edge)?);
     Ok(())
 }
 
@@ -209,18 +203,18 @@ fn keys_of_all(rt: HostRuntime) -> Result<(), Fail> {
     Ok(())
 }
 
-fn make_room_and_clear(graph: &mut Small) -> Result<(), Fail> {
+// Makes room and clears the graph, and says whether all is gone.
+fn clears(graph: &mut Small, node: NodeKey, edge: EdgeKey) -> Result<bool, Fail> {
     graph.reserve_nodes(2)?;
     graph.reserve_edges(2)?;
     graph.clear();
-    Ok(())
+    let has_one = graph.contains_node(node) || graph.contains_edge(edge);
+    Ok(!has_one && graph.node_count() == 0)
 }
 
 #[test]
 fn room_and_clear(rt: HostRuntime) -> Result<(), Fail> {
     let (mut graph, a, _, edge) = pair(rt.alloc())?;
-    make_room_and_clear(&mut graph)?;
-    assert!(rt; !graph.contains_node(a) && !graph.contains_edge(edge));
-    assert_eq!(rt; graph.node_count(), 0);
+    assert!(rt; clears(&mut graph, a, edge)?);
     Ok(())
 }
