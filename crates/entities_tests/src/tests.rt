@@ -1,98 +1,210 @@
-//! Calls on their happy path, in short functions.
+//! Calls on their happy path. They stand in functions over any tables, and [`do_well`] alone names the tables, since each
+//! call where they are named costs the prover as much as a whole test.
 
 use slotmap::{DefaultKey, SecondaryMap, SparseSecondaryMap};
-use slotmap_entities::{First, Second, World};
+use slotmap_entities::{CloneTables, First, Kind, Second, Table, Tables, World};
 use std::alloc::Global;
 use std::test::Fail;
 
-type Tables = (
+type Small<T> = World<DefaultKey, u64, T>;
+
+type Two = (
     SecondaryMap<DefaultKey, u32>,
     (SparseSecondaryMap<DefaultKey, u8>, ()),
 );
 
-type Small = World<DefaultKey, u64, Tables>;
-
-// A world of one entity of the value 1, which has 10 in the first table and 5 in the second.
-fn one(alloc: Global) -> Result<(Small, DefaultKey), Fail> {
-    let mut world: Small = World::new(alloc)?;
+// A world of one entity of the value 1, which has 10 as its first component and 5 as its second.
+fn one<T, F, S>(alloc: Global) -> Result<(Small<T>, DefaultKey), Fail>
+where
+    T: Tables<DefaultKey>,
+    F: Kind<DefaultKey, T>,
+    S: Kind<DefaultKey, T>,
+    F::Table: Table<DefaultKey, Component = u32>,
+    S::Table: Table<DefaultKey, Component = u8>,
+{
+    let mut world: Small<T> = World::new(alloc)?;
     let a = world.spawn(1)?;
-    world.attach::<First>(a, 10)?;
-    world.attach::<Second>(a, 5)?;
+    world.attach::<F>(a, 10)?;
+    world.attach::<S>(a, 5)?;
     Ok((world, a))
+}
+
+// Looks up the entity and its second component.
+fn look<T, F, S>(alloc: Global) -> Result<bool, Fail>
+where
+    T: Tables<DefaultKey>,
+    F: Kind<DefaultKey, T>,
+    S: Kind<DefaultKey, T>,
+    F::Table: Table<DefaultKey, Component = u32>,
+    S::Table: Table<DefaultKey, Component = u8>,
+{
+    let (world, a) = one::<T, F, S>(alloc)?;
+    let seen = (world.get(a).copied(), world.component::<S>(a).copied());
+    Ok(seen == (Some(1), Some(5)))
+}
+
+// Writes the second component, and takes it.
+fn write<T, F, S>(alloc: Global) -> Result<bool, Fail>
+where
+    T: Tables<DefaultKey>,
+    F: Kind<DefaultKey, T>,
+    S: Kind<DefaultKey, T>,
+    F::Table: Table<DefaultKey, Component = u32>,
+    S::Table: Table<DefaultKey, Component = u8>,
+{
+    let (mut world, a) = one::<T, F, S>(alloc)?;
+    if let Some(component) = world.component_mut::<S>(a) {
+        *component = 6;
+    }
+    Ok(world.detach::<S>(a) == Some(6))
+}
+
+// Writes the second components, and removes the first ones.
+fn retain<T, F, S>(alloc: Global) -> Result<bool, Fail>
+where
+    T: Tables<DefaultKey>,
+    F: Kind<DefaultKey, T>,
+    S: Kind<DefaultKey, T>,
+    F::Table: Table<DefaultKey, Component = u32>,
+    S::Table: Table<DefaultKey, Component = u8>,
+{
+    let (mut world, a) = one::<T, F, S>(alloc)?;
+    world.retain_components::<S, _>(|_, component| {
+        *component = 6;
+        true
+    });
+    world.retain_components::<F, _>(|_, _| false);
+    let left = (world.component::<S>(a).copied(), world.has::<F>(a));
+    Ok(left == (Some(6), false))
+}
+
+// Removes the entity with its components. A later one has none.
+fn remove<T, F, S>(alloc: Global) -> Result<bool, Fail>
+where
+    T: CloneTables<DefaultKey> + Tables<DefaultKey, Parts = (Option<u32>, (Option<u8>, ()))>,
+    F: Kind<DefaultKey, T>,
+    S: Kind<DefaultKey, T>,
+    F::Table: Table<DefaultKey, Component = u32>,
+    S::Table: Table<DefaultKey, Component = u8>,
+{
+    let (mut world, a) = one::<T, F, S>(alloc)?;
+    let removed = world.despawn(a) == Some((1, (Some(10), (Some(5), ()))));
+    let later = world.spawn(2)?;
+    Ok(removed && world.component::<F>(later).is_none())
+}
+
+// Removes the entity, which a copy still has.
+fn copy<T, F, S>(alloc: Global) -> Result<bool, Fail>
+where
+    T: CloneTables<DefaultKey>,
+    F: Kind<DefaultKey, T>,
+    S: Kind<DefaultKey, T>,
+    F::Table: Table<DefaultKey, Component = u32>,
+    S::Table: Table<DefaultKey, Component = u8>,
+{
+    let (mut world, a) = one::<T, F, S>(alloc)?;
+    let copy = world.clone()?;
+    world.despawn(a);
+    let seen = (copy.get(a).copied(), copy.component::<S>(a).copied());
+    Ok(seen == (Some(1), Some(5)))
+}
+
+// Goes over the entities, before and after a `clear`.
+fn walk<T, F, S>(alloc: Global) -> Result<bool, Fail>
+where
+    T: Tables<DefaultKey>,
+    F: Kind<DefaultKey, T>,
+    S: Kind<DefaultKey, T>,
+    F::Table: Table<DefaultKey, Component = u32>,
+    S::Table: Table<DefaultKey, Component = u8>,
+{
+    let (mut world, a) = one::<T, F, S>(alloc)?;
+    let walked = world.iter().next() == Some((a, &1));
+    world.clear();
+    Ok(walked && world.keys().next().is_none())
+}
+
+// The calls of a test.
+enum Calls {
+    Look,
+    Write,
+    Retain,
+    Remove,
+    Copy,
+    Walk,
+}
+
+// Whether the calls return what they should.
+fn go_well<T, F, S>(alloc: Global, calls: Calls) -> Result<bool, Fail>
+where
+    T: CloneTables<DefaultKey> + Tables<DefaultKey, Parts = (Option<u32>, (Option<u8>, ()))>,
+    F: Kind<DefaultKey, T>,
+    S: Kind<DefaultKey, T>,
+    F::Table: Table<DefaultKey, Component = u32>,
+    S::Table: Table<DefaultKey, Component = u8>,
+{
+    match calls {
+        Calls::Look => look::<T, F, S>(alloc),
+        Calls::Write => write::<T, F, S>(alloc),
+        Calls::Retain => retain::<T, F, S>(alloc),
+        Calls::Remove => remove::<T, F, S>(alloc),
+        Calls::Copy => copy::<T, F, S>(alloc),
+        Calls::Walk => walk::<T, F, S>(alloc),
+    }
+}
+
+// Whether the calls return what they should on a world of two tables.
+fn do_well(alloc: Global, calls: Calls) -> Result<bool, Fail> {
+    go_well::<Two, First, Second>(alloc, calls)
 }
 
 #[test]
 fn looks(rt: HostRuntime) -> Result<(), Fail> {
-    let (world, a) = one(rt.alloc())?;
-    assert_eq!(rt;
-        (world.get(a), world.component::<Second>(a)),
-        (Some(&1), Some(&5))
-    );
+    assert!(rt; do_well(rt.alloc(), Calls::Look)?);
     Ok(())
 }
 
 #[test]
 fn writes(rt: HostRuntime) -> Result<(), Fail> {
-    let (mut world, a) = one(rt.alloc())?;
-    if let Some(component) = world.component_mut::<Second>(a) {
-        *component = 6;
-    }
-    assert_eq!(rt; world.detach::<Second>(a), Some(6));
+    assert!(rt; do_well(rt.alloc(), Calls::Write)?);
     Ok(())
 }
 
 #[test]
 fn retains(rt: HostRuntime) -> Result<(), Fail> {
-    let (mut world, a) = one(rt.alloc())?;
-    world.retain_components::<Second, _>(|_, component| {
-        *component = 6;
-        true
-    });
-    assert_eq!(rt; world.component::<Second>(a), Some(&6));
-    world.retain_components::<First, _>(|_, _| false);
-    assert!(rt; !world.has::<First>(a));
+    assert!(rt; do_well(rt.alloc(), Calls::Retain)?);
     Ok(())
 }
 
 #[test]
 fn removals(rt: HostRuntime) -> Result<(), Fail> {
-    let (mut world, a) = one(rt.alloc())?;
-    assert_eq!(rt; world.despawn(a), Some((1, (Some(10), (Some(5), ())))));
-    let later = world.spawn(2)?;
-    assert_eq!(rt; world.component::<First>(later), None);
+    assert!(rt; do_well(rt.alloc(), Calls::Remove)?);
     Ok(())
 }
 
 #[test]
 fn copies(rt: HostRuntime) -> Result<(), Fail> {
-    let (mut world, a) = one(rt.alloc())?;
-    let copy = world.clone()?;
-    world.despawn(a);
-    assert_eq!(rt;
-        (copy.get(a), copy.component::<Second>(a)),
-        (Some(&1), Some(&5))
-    );
-    Ok(())
-}
-
-#[test]
-fn joins(rt: HostRuntime) -> Result<(), Fail> {
-    let (world, a) = one(rt.alloc())?;
-    assert_eq!(rt;
-        (
-            world.with::<Second>().next(),
-            world.with_both::<First, Second>().next()
-        ),
-        (Some((a, &5)), Some((a, &10, &5)))
-    );
+    assert!(rt; do_well(rt.alloc(), Calls::Copy)?);
     Ok(())
 }
 
 #[test]
 fn walk_and_clear(rt: HostRuntime) -> Result<(), Fail> {
-    let (mut world, a) = one(rt.alloc())?;
-    assert_eq!(rt; world.iter().next(), Some((a, &1)));
-    world.clear();
-    assert_eq!(rt; world.keys().next(), None);
+    assert!(rt; do_well(rt.alloc(), Calls::Walk)?);
+    Ok(())
+}
+
+// Whether the first rows of walks over one kind and over both are those of the entity.
+fn joins_well(world: &Small<Two>, a: DefaultKey) -> bool {
+    (
+        world.with::<Second>().next(),
+        world.with_both::<First, Second>().next(),
+    ) == (Some((a, &5)), Some((a, &10, &5)))
+}
+
+#[test]
+fn joins(rt: HostRuntime) -> Result<(), Fail> {
+    let (world, a) = one::<Two, First, Second>(rt.alloc())?;
+    assert!(rt; joins_well(&world, a));
     Ok(())
 }

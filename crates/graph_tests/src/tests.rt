@@ -1,4 +1,4 @@
-//! Calls on their happy path, in short functions.
+//! Calls on their happy path. What a test expects is found by functions that borrow the graph.
 
 use slotmap::NodeKey;
 use slotmap_graph::{EdgeKey, Graph, OrderError};
@@ -16,12 +16,17 @@ fn pair(alloc: Global) -> Result<(Small, NodeKey, NodeKey, EdgeKey), Fail> {
     Ok((graph, a, b, edge))
 }
 
+// The value of a node and that of an edge.
+fn values_of(graph: &Small, node: NodeKey, edge: EdgeKey) -> (Option<u64>, Option<u64>) {
+    (graph.node(node).copied(), graph.edge(edge).copied())
+}
+
 #[test]
 fn values(rt: HostRuntime) -> Result<(), Fail> {
     let (graph, a, b, edge) = pair(rt.alloc())?;
     assert_eq!(rt;
-        (graph.node(a), graph.edge(edge), graph.edge_ends(edge)),
-        (Some(&1), Some(&5), Some((a, b)))
+        (values_of(&graph, a, edge), graph.edge_ends(edge)),
+        ((Some(1), Some(5)), Some((a, b)))
     );
     Ok(())
 }
@@ -31,20 +36,32 @@ fn first_edges(graph: &Small, a: NodeKey, b: NodeKey) -> [Option<EdgeKey>; 2] {
     [graph.edges_from(a).next(), graph.find_edge(a, b)]
 }
 
+// How many edges lead to a node, by their list and by the call for it.
+fn edges_into(graph: &Small, node: NodeKey) -> (usize, usize) {
+    (graph.edges_to(node).len(), graph.in_degree(node))
+}
+
 #[test]
 fn lists(rt: HostRuntime) -> Result<(), Fail> {
     let (graph, a, b, edge) = pair(rt.alloc())?;
-    assert_eq!(rt; first_edges(&graph, a, b), [Some(edge), Some(edge)]);
-    assert_eq!(rt; (graph.edges_to(b).len(), graph.in_degree(b)), (1, 1));
+    assert_eq!(rt;
+        (first_edges(&graph, a, b), edges_into(&graph, b)),
+        ([Some(edge), Some(edge)], (1, 1))
+    );
     Ok(())
+}
+
+// Whether one edge leads from the first node, to the second, and no other node is reachable.
+fn finds(graph: &Small, alloc: Global, a: NodeKey, b: NodeKey) -> Result<bool, Fail> {
+    let near = graph.neighbours(alloc, a)?.as_slice() == [b].as_slice();
+    Ok(near && graph.reachable(alloc, a)?.as_slice() == [a, b].as_slice())
 }
 
 #[test]
 fn searches(rt: HostRuntime) -> Result<(), Fail> {
     let alloc = rt.alloc();
     let (graph, a, b, _) = pair(alloc)?;
-    assert_eq!(rt; graph.neighbours(alloc, a)?.as_slice(), [b].as_slice());
-    assert_eq!(rt; graph.reachable(alloc, a)?.as_slice(), [a, b].as_slice());
+    assert!(rt; finds(&graph, alloc, a, b)?);
     Ok(())
 }
 
@@ -56,31 +73,47 @@ fn from_both_ends(graph: &Small, node: NodeKey) -> Result<[Option<EdgeKey>; 4], 
     Ok([last, copied, edges.next(), edges.next_back()])
 }
 
-#[test]
-fn walks(rt: HostRuntime) -> Result<(), Fail> {
-    let (mut graph, a, b, first) = pair(rt.alloc())?;
+// Puts two edges in the place of the first one, and says whether a walk from both ends finds them.
+fn walks_well(graph: &mut Small, a: NodeKey, b: NodeKey, first: EdgeKey) -> Result<bool, Fail> {
     let second = graph.add_edge(a, b, 6)?;
     graph.remove_edge(first);
     let third = graph.add_edge(a, b, 7)?;
-    assert_eq!(rt; graph.edges_to(b).len(), 2);
-    let found = from_both_ends(&graph, b)?;
-    assert_eq!(rt; found, [Some(third), Some(second), Some(second), None]);
+    let found = from_both_ends(graph, b)?;
+    let are_two = graph.edges_to(b).len() == 2;
+    Ok(are_two && found == [Some(third), Some(second), Some(second), None])
+}
+
+#[test]
+fn walks(rt: HostRuntime) -> Result<(), Fail> {
+    let (mut graph, a, b, first) = pair(rt.alloc())?;
+    assert!(rt; walks_well(&mut graph, a, b, first)?);
     Ok(())
+}
+
+// Whether the graph has an order, and it is this one.
+fn has_order(graph: &Small, alloc: Global, order: &[NodeKey]) -> Result<bool, Fail> {
+    Ok(graph.topological_order(alloc)?.as_slice() == order)
+}
+
+// Adds an edge back, and says whether one of the two then stands in the way of an order.
+fn closes(
+    graph: &mut Small,
+    alloc: Global,
+    a: NodeKey,
+    b: NodeKey,
+    edge: EdgeKey,
+) -> Result<bool, Fail> {
+    let back = graph.add_edge(b, a, 6)?;
+    let closing = graph.topological_order(alloc).err();
+    Ok(closing == Some(OrderError::Cycle(edge)) || closing == Some(OrderError::Cycle(back)))
 }
 
 #[test]
 fn orders(rt: HostRuntime) -> Result<(), Fail> {
     let alloc = rt.alloc();
     let (mut graph, a, b, edge) = pair(alloc)?;
-    assert_eq!(rt;
-        graph.topological_order(alloc)?.as_slice(),
-        [a, b].as_slice()
-    );
-    let back = graph.add_edge(b, a, 6)?;
-    let closing = graph.topological_order(alloc).err();
-    assert!(rt;
-        closing == Some(OrderError::Cycle(edge)) || closing == Some(OrderError::Cycle(back))
-    );
+    assert!(rt; has_order(&graph, alloc, [a, b].as_slice())?);
+    assert!(rt; closes(&mut graph, alloc, a, b, edge)?);
     Ok(())
 }
 
@@ -110,10 +143,7 @@ fn orders_without_the_cycle(rt: HostRuntime) -> Result<(), Fail> {
     let alloc = rt.alloc();
     let (mut graph, behind, a, own) = looped(alloc)?;
     graph.remove_edge(own);
-    assert_eq!(rt;
-        graph.topological_order(alloc)?.as_slice(),
-        [a, behind].as_slice()
-    );
+    assert!(rt; has_order(&graph, alloc, [a, behind].as_slice())?);
     Ok(())
 }
 
@@ -125,28 +155,38 @@ fn removals(rt: HostRuntime) -> Result<(), Fail> {
     Ok(())
 }
 
-#[test]
-fn writes(rt: HostRuntime) -> Result<(), Fail> {
-    let (mut graph, a, _, edge) = pair(rt.alloc())?;
-    if let Some(value) = graph.node_mut(a) {
+fn write(graph: &mut Small, node: NodeKey, edge: EdgeKey) {
+    if let Some(value) = graph.node_mut(node) {
         *value = 7;
     }
     if let Some(value) = graph.edge_mut(edge) {
         *value = 8;
     }
-    assert_eq!(rt; (graph.node(a), graph.edge(edge)), (Some(&7), Some(&8)));
+}
+
+#[test]
+fn writes(rt: HostRuntime) -> Result<(), Fail> {
+    let (mut graph, a, _, edge) = pair(rt.alloc())?;
+    write(&mut graph, a, edge);
+    assert_eq!(rt; values_of(&graph, a, edge), (Some(7), Some(8)));
     Ok(())
+}
+
+// What a copy has of two nodes after the second one was removed: its value, and the first's edge.
+fn kept_by_copy(
+    graph: &mut Small,
+    a: NodeKey,
+    b: NodeKey,
+) -> Result<(Option<u64>, Option<EdgeKey>), Fail> {
+    let copy = graph.clone()?;
+    graph.remove_node(b);
+    Ok((copy.node(b).copied(), copy.edges_from(a).next()))
 }
 
 #[test]
 fn copies(rt: HostRuntime) -> Result<(), Fail> {
     let (mut graph, a, b, edge) = pair(rt.alloc())?;
-    let copy = graph.clone()?;
-    graph.remove_node(b);
-    assert_eq!(rt;
-        (copy.node(b), copy.edges_from(a).next()),
-        (Some(&2), Some(edge))
-    );
+    assert_eq!(rt; kept_by_copy(&mut graph, a, b)?, (Some(2), Some(edge)));
     Ok(())
 }
 
@@ -163,13 +203,18 @@ fn keys_of_all(rt: HostRuntime) -> Result<(), Fail> {
     Ok(())
 }
 
-#[test]
-fn room_and_clear(rt: HostRuntime) -> Result<(), Fail> {
-    let (mut graph, a, _, edge) = pair(rt.alloc())?;
+// Makes room and clears the graph, and says whether all is gone.
+fn clears(graph: &mut Small, node: NodeKey, edge: EdgeKey) -> Result<bool, Fail> {
     graph.reserve_nodes(2)?;
     graph.reserve_edges(2)?;
     graph.clear();
-    assert!(rt; !graph.contains_node(a) && !graph.contains_edge(edge));
-    assert_eq!(rt; graph.node_count(), 0);
+    let has_one = graph.contains_node(node) || graph.contains_edge(edge);
+    Ok(!has_one && graph.node_count() == 0)
+}
+
+#[test]
+fn room_and_clear(rt: HostRuntime) -> Result<(), Fail> {
+    let (mut graph, a, _, edge) = pair(rt.alloc())?;
+    assert!(rt; clears(&mut graph, a, edge)?);
     Ok(())
 }

@@ -1,100 +1,148 @@
-//! Calls on their happy path, in short functions.
+//! Calls on their happy path. What a test expects is found by functions that borrow the list.
 
 use slotmap::NodeKey;
 use slotmap_list::{Cursor, StableList};
 use std::alloc::Global;
 use std::test::Fail;
 
+type List = StableList<NodeKey, u64>;
+
+type Element = Option<(NodeKey, u64)>;
+
 // A list of the values 1 and 2.
-fn pair(alloc: Global) -> Result<(StableList<NodeKey, u64>, NodeKey, NodeKey), Fail> {
+fn pair(alloc: Global) -> Result<(List, NodeKey, NodeKey), Fail> {
     let mut list = StableList::with_capacity_and_key(alloc, 2)?;
     let one = list.push_back(1)?;
     let two = list.push_back(2)?;
     Ok((list, one, two))
 }
 
+// Whether the list has these values.
+fn shows(list: &List, alloc: Global, values: &[u64]) -> Result<bool, Fail> {
+    Ok(list.to_vec(alloc)?.as_slice() == values)
+}
+
+// Makes room, adds a value behind an element, and returns what follows the new one.
+fn add_behind(list: &mut List, one: NodeKey) -> Result<Option<NodeKey>, Fail> {
+    list.reserve(2)?;
+    let mid = list.insert_after(one, 5)?;
+    Ok(list.next(mid))
+}
+
+fn adds_before(list: &mut List, one: NodeKey) -> bool {
+    list.insert_before(one, 6).is_ok() && list.push_front(7).is_ok()
+}
+
 #[test]
 fn adds(rt: HostRuntime) -> Result<(), Fail> {
     let (mut list, one, two) = pair(rt.alloc())?;
-    list.reserve(2)?;
-    let mid = list.insert_after(one, 5)?;
-    assert_eq!(rt; list.next(mid), Some(two));
-    let before = list.insert_before(one, 6).is_ok();
-    assert!(rt; before && list.push_front(7).is_ok());
+    assert_eq!(rt; add_behind(&mut list, one)?, Some(two));
+    assert!(rt; adds_before(&mut list, one));
     Ok(())
+}
+
+// Takes both elements, and looks for the one that was taken by its cursor.
+fn take_both(list: &mut List, one: NodeKey) -> (Element, Option<u64>, Option<u64>) {
+    (list.pop_back(), list.remove(one), list.get(one).copied())
 }
 
 #[test]
 fn takes(rt: HostRuntime) -> Result<(), Fail> {
     let (mut list, one, two) = pair(rt.alloc())?;
-    let taken = (list.pop_back(), list.remove(one));
-    assert_eq!(rt; taken, (Some((two, 2)), Some(1)));
-    assert_eq!(rt; list.get(one), None);
+    assert_eq!(rt; take_both(&mut list, one), (Some((two, 2)), Some(1), None));
     Ok(())
+}
+
+// The last element and the first one, taken from the ends.
+fn ends(list: List) -> (Element, Element) {
+    let mut elements = list.into_iter();
+    (elements.next_back(), elements.next())
 }
 
 #[test]
 fn goes_through(rt: HostRuntime) -> Result<(), Fail> {
     let alloc = rt.alloc();
     let (list, one, two) = pair(alloc)?;
-    assert_eq!(rt; list.to_vec(alloc)?.as_slice(), [1, 2].as_slice());
-    let mut elements = list.into_iter();
-    let ends = (elements.next_back(), elements.next());
-    assert_eq!(rt; ends, (Some((two, 2)), Some((one, 1))));
+    assert!(rt; shows(&list, alloc, [1, 2].as_slice())?);
+    assert_eq!(rt; ends(list), (Some((two, 2)), Some((one, 1))));
     Ok(())
+}
+
+fn drained(list: &mut List) -> [Element; 3] {
+    let mut elements = list.drain();
+    [elements.next(), elements.next(), elements.next()]
 }
 
 #[test]
 fn drains(rt: HostRuntime) -> Result<(), Fail> {
     let (mut list, one, two) = pair(rt.alloc())?;
-    let mut elements = list.drain();
-    let drained = [elements.next(), elements.next(), elements.next()];
-    assert_eq!(rt; drained, [Some((one, 1)), Some((two, 2)), None]);
+    assert_eq!(rt; drained(&mut list), [Some((one, 1)), Some((two, 2)), None]);
     Ok(())
+}
+
+fn extends(list: &mut List, alloc: Global) -> Result<bool, Fail> {
+    list.extend(vec![in alloc; 3]?)?;
+    shows(list, alloc, [1, 2, 3].as_slice())
+}
+
+fn appends(list: &mut List, alloc: Global) -> Result<bool, Fail> {
+    let mut other: StableList<Cursor, u64> = StableList::from_iter(alloc, vec![in alloc; 4]?)?;
+    list.append(&mut other)?;
+    shows(list, alloc, [1, 2, 3, 4].as_slice())
 }
 
 #[test]
 fn adds_several(rt: HostRuntime) -> Result<(), Fail> {
     let alloc = rt.alloc();
     let (mut list, _, _) = pair(alloc)?;
-    list.extend(vec![in alloc; 3]?)?;
-    let made: Result<StableList<Cursor, u64>, _> = StableList::from_iter(alloc, vec![in alloc; 4]?);
-    let Ok(mut other) = made else {
-        return Ok(());
-    };
-    list.append(&mut other)?;
-    assert_eq!(rt; list.to_vec(alloc)?.as_slice(), [1, 2, 3, 4].as_slice());
+    assert!(rt; extends(&mut list, alloc)?);
+    assert!(rt; appends(&mut list, alloc)?);
     Ok(())
+}
+
+fn swaps_ends(list: &mut List, alloc: Global, one: NodeKey) -> Result<bool, Fail> {
+    let three = list.push_back(3)?;
+    Ok(list.swap(one, three) && shows(list, alloc, [3, 2, 1].as_slice())?)
+}
+
+fn swaps_next(list: &mut List, alloc: Global, one: NodeKey, two: NodeKey) -> Result<bool, Fail> {
+    let swapped = list.swap(two, one) && list.get(one) == Some(&1);
+    Ok(swapped && shows(list, alloc, [3, 1, 2].as_slice())?)
 }
 
 #[test]
 fn swaps(rt: HostRuntime) -> Result<(), Fail> {
     let alloc = rt.alloc();
     let (mut list, one, two) = pair(alloc)?;
-    let three = list.push_back(3)?;
-    assert!(rt; list.swap(one, three));
-    assert_eq!(rt; list.to_vec(alloc)?.as_slice(), [3, 2, 1].as_slice());
-    assert!(rt; list.swap(two, one));
-    assert_eq!(rt; list.to_vec(alloc)?.as_slice(), [3, 1, 2].as_slice());
-    assert_eq!(rt; list.get(one), Some(&1));
+    assert!(rt; swaps_ends(&mut list, alloc, one)?);
+    assert!(rt; swaps_next(&mut list, alloc, one, two)?);
     Ok(())
+}
+
+// What a copy has after the list was cleared.
+fn kept_by_copy(list: &mut List, one: NodeKey) -> Result<Option<u64>, Fail> {
+    let copy = list.clone()?;
+    list.clear();
+    Ok(copy.get(one).copied())
 }
 
 #[test]
 fn copies(rt: HostRuntime) -> Result<(), Fail> {
     let (mut list, one, _) = pair(rt.alloc())?;
-    let copy = list.clone()?;
-    list.clear();
-    assert_eq!(rt; copy.get(one), Some(&1));
+    assert_eq!(rt; kept_by_copy(&mut list, one)?, Some(1));
     Ok(())
 }
 
-#[test]
 #[tactic(auto, using(slotmap_list::proofs::Visiting::callable_in_order))]
+fn retain_others(list: &mut List) {
+    list.retain(|_, value| *value != 1);
+}
+
+#[test]
 fn retains(rt: HostRuntime) -> Result<(), Fail> {
     let alloc = rt.alloc();
     let (mut list, _, _) = pair(alloc)?;
-    list.retain(|_, value| *value != 1);
-    assert_eq!(rt; list.to_vec(alloc)?.as_slice(), [2].as_slice());
+    retain_others(&mut list);
+    assert!(rt; shows(&list, alloc, [2].as_slice())?);
     Ok(())
 }

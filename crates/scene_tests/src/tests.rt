@@ -1,4 +1,4 @@
-//! Calls on their happy path, in short functions.
+//! Calls on their happy path. What a test expects is found by functions that borrow the scene.
 
 use slotmap::NodeKey;
 use slotmap_scene::Scene;
@@ -16,27 +16,37 @@ fn family(alloc: Global) -> Result<(Family, NodeKey, NodeKey, NodeKey), Fail> {
     Ok((scene, top, first, second))
 }
 
+type Relatives = (Option<NodeKey>, Option<NodeKey>, Option<usize>);
+
+// A child's parent, the parent's first child, and the child's depth.
+fn relatives(scene: &Family, parent: NodeKey, child: NodeKey) -> Relatives {
+    (
+        scene.parent(child),
+        scene.children(parent).next(),
+        scene.depth(child),
+    )
+}
+
 #[test]
 fn parents_and_children(rt: HostRuntime) -> Result<(), Fail> {
     let (scene, top, first, second) = family(rt.alloc())?;
     assert_eq!(rt;
-        (
-            scene.parent(second),
-            scene.children(top).next(),
-            scene.depth(second)
-        ),
+        relatives(&scene, top, second),
         (Some(top), Some(first), Some(1))
     );
     Ok(())
 }
 
+// Whether there are three nodes, and these are the first two with their values.
+fn begins_with(scene: &Family, top: NodeKey, first: NodeKey) -> bool {
+    let mut nodes = scene.iter();
+    (nodes.len(), nodes.next(), nodes.next()) == (3, Some((top, &1)), Some((first, &2)))
+}
+
 #[test]
 fn all_nodes(rt: HostRuntime) -> Result<(), Fail> {
     let (scene, top, first, _) = family(rt.alloc())?;
-    let mut nodes = scene.iter();
-    assert_eq!(rt; nodes.len(), 3);
-    assert_eq!(rt; nodes.next(), Some((top, &1)));
-    assert_eq!(rt; nodes.next(), Some((first, &2)));
+    assert!(rt; begins_with(&scene, top, first));
     Ok(())
 }
 
@@ -48,10 +58,9 @@ fn four_keys(scene: &Family) -> [Option<NodeKey>; 4] {
 #[test]
 fn all_keys(rt: HostRuntime) -> Result<(), Fail> {
     let (scene, top, first, second) = family(rt.alloc())?;
-    assert_eq!(rt; scene.keys().size_hint(), (3, Some(3)));
     assert_eq!(rt;
-        four_keys(&scene),
-        [Some(top), Some(first), Some(second), None]
+        (scene.keys().size_hint(), four_keys(&scene)),
+        ((3, Some(3)), [Some(top), Some(first), Some(second), None])
     );
     Ok(())
 }
@@ -74,42 +83,55 @@ fn sum_of(scene: &Family) -> u64 {
 #[test]
 fn all_values(rt: HostRuntime) -> Result<(), Fail> {
     let (scene, _, _, _) = family(rt.alloc())?;
-    assert_eq!(rt; second_value(&scene), (2, Some(2)));
-    assert_eq!(rt; sum_of(&scene), 6);
-    assert!(rt; scene.capacity() >= 3);
+    assert_eq!(rt;
+        (second_value(&scene), sum_of(&scene), scene.capacity() >= 3),
+        ((2, Some(2)), 6, true)
+    );
     Ok(())
+}
+
+// Whether the second child moves below the first one, and both stay below the root.
+fn reparents(scene: &mut Family, top: NodeKey, first: NodeKey, second: NodeKey) -> bool {
+    scene.reparent(second, first).is_ok() && scene.is_within(second, top)
 }
 
 #[test]
 fn moves(rt: HostRuntime) -> Result<(), Fail> {
     let (mut scene, top, first, second) = family(rt.alloc())?;
-    let moved = scene.reparent(second, first).is_ok();
-    assert!(rt; moved && scene.is_within(second, top));
-    let made = scene.make_root(first);
-    assert_eq!(rt; (made, scene.depth(second)), (true, Some(1)));
+    assert!(rt; reparents(&mut scene, top, first, second));
+    assert_eq!(rt;
+        (scene.make_root(first), scene.depth(second)),
+        (true, Some(1))
+    );
     Ok(())
+}
+
+// Writes a value, and returns it.
+fn write(scene: &mut Family, node: NodeKey) -> Option<u64> {
+    if let Some(value) = scene.get_mut(node) {
+        *value = 7;
+    }
+    scene.get(node).copied()
 }
 
 #[test]
 fn values(rt: HostRuntime) -> Result<(), Fail> {
     let (mut scene, _, first, _) = family(rt.alloc())?;
-    if let Some(value) = scene.get_mut(first) {
-        *value = 7;
-    }
-    assert_eq!(rt; scene.get(first), Some(&7));
+    assert_eq!(rt; write(&mut scene, first), Some(7));
     scene.clear();
     assert!(rt; scene.is_empty());
     Ok(())
 }
 
+// Removes a tree. Returns its root's value, whether another node is still there, and the rest's size.
+fn remove(scene: &mut Family, root: NodeKey, node: NodeKey) -> (Option<u64>, bool, usize) {
+    (scene.remove(root), scene.contains_key(node), scene.len())
+}
+
 #[test]
 fn removals(rt: HostRuntime) -> Result<(), Fail> {
     let (mut scene, top, first, _) = family(rt.alloc())?;
-    let removed = scene.remove(top);
-    assert_eq!(rt;
-        (removed, scene.contains_key(first), scene.len()),
-        (Some(1), false, 0)
-    );
+    assert_eq!(rt; remove(&mut scene, top, first), (Some(1), false, 0));
     Ok(())
 }
 
@@ -129,16 +151,25 @@ fn goes_up(rt: HostRuntime) -> Result<(), Fail> {
     Ok(())
 }
 
+// Adds a node on each side of another one.
+fn add_around(scene: &mut Family, node: NodeKey) -> Result<(NodeKey, NodeKey), Fail> {
+    let before = scene.insert_before(node, 4)?;
+    let after = scene.insert_after(node, 5)?;
+    Ok((before, after))
+}
+
+// Whether these nodes are below the root, which gets no sibling.
+fn has_below(scene: &mut Family, root: NodeKey, nodes: &[NodeKey]) -> Result<bool, Fail> {
+    let below = scene.descendants(root)?.as_slice() == nodes;
+    Ok(below && scene.insert_after(root, 6).is_err())
+}
+
 #[test]
 fn siblings(rt: HostRuntime) -> Result<(), Fail> {
     let (mut scene, top, first, second) = family(rt.alloc())?;
-    let mid = scene.insert_before(second, 4)?;
-    let last = scene.insert_after(second, 5)?;
-    assert_eq!(rt;
-        scene.descendants(top)?.as_slice(),
-        [first, mid, second, last].as_slice()
-    );
-    assert!(rt; scene.insert_after(top, 6).is_err());
+    let (mid, last) = add_around(&mut scene, second)?;
+    let below = [first, mid, second, last];
+    assert!(rt; has_below(&mut scene, top, below.as_slice())?);
     Ok(())
 }
 
@@ -150,22 +181,23 @@ fn from_both_ends(scene: &Family, node: NodeKey) -> [Option<NodeKey>; 3] {
 #[test]
 fn children_from_both_ends(rt: HostRuntime) -> Result<(), Fail> {
     let (scene, top, first, second) = family(rt.alloc())?;
-    assert_eq!(rt; scene.children(top).len(), 2);
     assert_eq!(rt;
-        from_both_ends(&scene, top),
-        [Some(second), Some(first), None]
+        (scene.children(top).len(), from_both_ends(&scene, top)),
+        (2, [Some(second), Some(first), None])
     );
     Ok(())
+}
+
+// A node's parent and value in a copy, after the scene was cleared.
+fn kept_by_copy(scene: &mut Family, node: NodeKey) -> Result<(Option<NodeKey>, Option<u64>), Fail> {
+    let copy = scene.clone()?;
+    scene.clear();
+    Ok((copy.parent(node), copy.get(node).copied()))
 }
 
 #[test]
 fn copies(rt: HostRuntime) -> Result<(), Fail> {
     let (mut scene, top, first, _) = family(rt.alloc())?;
-    let copy = scene.clone()?;
-    scene.clear();
-    assert_eq!(rt;
-        (copy.parent(first), copy.get(first)),
-        (Some(top), Some(&2))
-    );
+    assert_eq!(rt; kept_by_copy(&mut scene, first)?, (Some(top), Some(2)));
     Ok(())
 }

@@ -1,67 +1,89 @@
-//! Calls on their happy path, in short functions.
+//! Calls on their happy path. What a test expects is found by functions that borrow the scheduler.
 
 use slotmap::NodeKey;
 use slotmap_scheduler::Scheduler;
 use std::alloc::Global;
 use std::test::Fail;
 
+type Jobs = Scheduler<NodeKey, u64>;
+
 // Two jobs, the second due before the first.
-fn pair(alloc: Global) -> Result<(Scheduler<NodeKey, u64>, NodeKey, NodeKey), Fail> {
-    let mut scheduler = Scheduler::with_capacity_and_key(alloc, 2)?;
-    let tea = scheduler.schedule(30, 1)?;
-    let bell = scheduler.schedule(20, 2)?;
-    Ok((scheduler, tea, bell))
+fn pair(alloc: Global) -> Result<(Jobs, NodeKey, NodeKey), Fail> {
+    let mut jobs = Scheduler::with_capacity_and_key(alloc, 2)?;
+    let tea = jobs.schedule(30, 1)?;
+    let bell = jobs.schedule(20, 2)?;
+    Ok((jobs, tea, bell))
+}
+
+// Whether these jobs are due at 30, in their order, and no other job waits.
+fn has_due(jobs: &mut Jobs, alloc: Global, due: &[(NodeKey, u64)]) -> Result<bool, Fail> {
+    let mut taken = Vec::new(alloc);
+    jobs.pop_all_due(30, &mut taken)?;
+    Ok(taken.as_slice() == due && jobs.is_empty())
 }
 
 #[test]
 fn takes_what_is_due(rt: HostRuntime) -> Result<(), Fail> {
-    let (mut scheduler, tea, bell) = pair(rt.alloc())?;
-    let mut due = Vec::new(rt.alloc());
-    scheduler.pop_all_due(30, &mut due)?;
-    assert_eq!(rt; due.as_slice(), [(bell, 2), (tea, 1)].as_slice());
-    assert!(rt; scheduler.is_empty());
+    let alloc = rt.alloc();
+    let (mut jobs, tea, bell) = pair(alloc)?;
+    let due = [(bell, 2), (tea, 1)];
+    assert!(rt; has_due(&mut jobs, alloc, due.as_slice())?);
     Ok(())
+}
+
+// Makes room, moves a job, and returns whether it moved and which job is next.
+fn put_off(jobs: &mut Jobs, job: NodeKey) -> Result<(bool, Option<(u64, NodeKey)>), Fail> {
+    jobs.reserve(1)?;
+    Ok((jobs.reschedule(job, 40).is_ok(), jobs.peek()))
 }
 
 #[test]
 fn moves_a_job(rt: HostRuntime) -> Result<(), Fail> {
-    let (mut scheduler, tea, bell) = pair(rt.alloc())?;
-    scheduler.reserve(1)?;
-    assert!(rt; scheduler.reschedule(bell, 40).is_ok());
-    assert_eq!(rt; scheduler.peek(), Some((30, tea)));
+    let (mut jobs, tea, bell) = pair(rt.alloc())?;
+    assert_eq!(rt; put_off(&mut jobs, bell)?, (true, Some((30, tea))));
     Ok(())
+}
+
+// Whether each list of jobs begins with the first one.
+fn lists_first(jobs: &Jobs, tea: NodeKey) -> bool {
+    (jobs.iter().next(), jobs.keys().next(), jobs.values().next())
+        == (Some((tea, 30, &1)), Some(tea), Some(&1))
 }
 
 #[test]
 fn lists_the_jobs(rt: HostRuntime) -> Result<(), Fail> {
-    let (scheduler, tea, _) = pair(rt.alloc())?;
-    assert_eq!(rt;
-        (
-            scheduler.iter().next(),
-            scheduler.keys().next(),
-            scheduler.values().next()
-        ),
-        (Some((tea, 30, &1)), Some(tea), Some(&1))
-    );
+    let (jobs, tea, _) = pair(rt.alloc())?;
+    assert!(rt; lists_first(&jobs, tea));
     Ok(())
+}
+
+fn greatest(jobs: &Jobs) -> u64 {
+    let mut greatest = 0;
+    for (_, _, job) in jobs {
+        greatest = (*job).max(greatest);
+    }
+    greatest
 }
 
 #[test]
 fn goes_over_the_jobs(rt: HostRuntime) -> Result<(), Fail> {
-    let (scheduler, _, _) = pair(rt.alloc())?;
-    let mut greatest = 0;
-    for (_, _, job) in &scheduler {
-        greatest = (*job).max(greatest);
-    }
-    assert_eq!(rt; greatest, 2);
+    let (jobs, _, _) = pair(rt.alloc())?;
+    assert_eq!(rt; greatest(&jobs), 2);
     Ok(())
+}
+
+type Kept = (Option<u64>, Option<(u64, NodeKey)>);
+
+// A job and the next one in a copy, after the scheduler was cleared.
+fn kept_by_copy(jobs: &mut Jobs, job: NodeKey) -> Result<Kept, Fail> {
+    let copy = jobs.clone()?;
+    jobs.clear();
+    Ok((copy.get(job).copied(), copy.peek()))
 }
 
 #[test]
 fn copies(rt: HostRuntime) -> Result<(), Fail> {
-    let (mut scheduler, tea, bell) = pair(rt.alloc())?;
-    let copy = scheduler.clone()?;
-    scheduler.clear();
-    assert_eq!(rt; (copy.get(tea), copy.peek()), (Some(&1), Some((20, bell))));
+    let (mut jobs, tea, bell) = pair(rt.alloc())?;
+    assert_eq!(rt; kept_by_copy(&mut jobs, tea)?, (Some(1), Some((20, bell))));
     Ok(())
 }
