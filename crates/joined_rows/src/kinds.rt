@@ -23,7 +23,7 @@ type Plain = JoinedCommand<u64, u64>;
 
 type Detaches = JoinedDetachCommand<u64, u64>;
 
-/// All kinds: runs by each call on each primary map that has it, and on both secondary maps.
+/// All kinds.
 pub struct All;
 
 impl Kinds for All {
@@ -46,8 +46,10 @@ where
 
 // `run_joined`.
 fn hold_joined(file: File<'_, '_>, output: &mut impl Write) -> Result<bool, Stop> {
-    let of_basic = hold_runs::<Basic, Vector, Plain>(file, "basic_with_secondary", output)?;
-    let of_dense = hold_runs::<Dense, Hashed, Plain>(file, "dense_with_sparse", output)?;
+    let of_basic = hold_runs::<Basic, Vector, Plain>(file, "basic_with_secondary", output)?
+        & hold_runs::<Basic, Hashed, Plain>(file, "basic_with_sparse", output)?;
+    let of_dense = hold_runs::<Dense, Vector, Plain>(file, "dense_with_secondary", output)?
+        & hold_runs::<Dense, Hashed, Plain>(file, "dense_with_sparse", output)?;
     let of_hop = hold_runs::<Hop, Vector, Plain>(file, "hop_with_secondary", output)?
         & hold_runs::<Hop, Hashed, Plain>(file, "hop_with_sparse", output)?;
     Ok(of_basic && of_dense && of_hop)
@@ -55,15 +57,15 @@ fn hold_joined(file: File<'_, '_>, output: &mut impl Write) -> Result<bool, Stop
 
 // `run_joined_detaching`.
 fn hold_detaching(file: File<'_, '_>, output: &mut impl Write) -> Result<bool, Stop> {
-    let of_basic = hold_runs::<Basic, Hashed, Detaches>(
+    let of_basic = hold_runs::<Basic, Vector, Detaches>(
         file,
-        "detaching_basic_with_sparse",
+        "detaching_basic_with_secondary",
         output,
-    )?;
+    )? & hold_runs::<Basic, Hashed, Detaches>(file, "detaching_basic_with_sparse", output)?;
     let of_dense = hold_runs::<Dense, Vector, Detaches>(
         file,
         "detaching_dense_with_secondary",
         output,
-    )?;
+    )? & hold_runs::<Dense, Hashed, Detaches>(file, "detaching_dense_with_sparse", output)?;
     Ok(of_basic && of_dense)
 }

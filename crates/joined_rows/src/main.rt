@@ -4,13 +4,10 @@
 //! The arguments are the names of files of rows, whose lines are those of `slotmap_rows`. Each
 //! file is held to each kind, and the status is 1 if a reply differs. The kinds are:
 //!
-//! - `basic_with_secondary`, `dense_with_sparse`, `hop_with_secondary`, `hop_with_sparse`: runs by
+//! - `basic_with_secondary`, `basic_with_sparse`, and the same of `dense` and `hop`: runs by
 //!   `run_joined`;
-//! - `detaching_basic_with_sparse`, `detaching_dense_with_secondary`: runs by
-//!   `run_joined_detaching`.
-//!
-//! So each row is run on each primary map that it is for, and on both secondary maps. More pairings
-//! would run the same two bodies, which are generic over both maps.
+//! - `detaching_basic_with_secondary`, `detaching_basic_with_sparse`, and the same of `dense`: runs
+//!   by `run_joined_detaching`.
 //!
 //! A call is the next command of a list. With each call all commands are run anew on new maps, and
 //! the result is the last reply. `next_list` ends a list: the next one is run on the same maps.
