@@ -1,4 +1,4 @@
-//! Calls on their happy path. What a test expects is found by functions that borrow the list.
+//! Calls on their happy path. A function `.._well` says whether the calls of its test return what they should.
 
 use slotmap::NodeKey;
 use slotmap_list::{Cursor, StableList};
@@ -33,11 +33,14 @@ fn adds_before(list: &mut List, one: NodeKey) -> bool {
     list.insert_before(one, 6).is_ok() && list.push_front(7).is_ok()
 }
 
+fn adds_well(alloc: Global) -> Result<bool, Fail> {
+    let (mut list, one, two) = pair(alloc)?;
+    Ok(add_behind(&mut list, one)? == Some(two) && adds_before(&mut list, one))
+}
+
 #[test]
 fn adds(rt: HostRuntime) -> Result<(), Fail> {
-    let (mut list, one, two) = pair(rt.alloc())?;
-    assert_eq!(rt; add_behind(&mut list, one)?, Some(two));
-    assert!(rt; adds_before(&mut list, one));
+    assert!(rt; adds_well(rt.alloc())?);
     Ok(())
 }
 
@@ -46,10 +49,14 @@ fn take_both(list: &mut List, one: NodeKey) -> (Element, Option<u64>, Option<u64
     (list.pop_back(), list.remove(one), list.get(one).copied())
 }
 
+fn takes_well(alloc: Global) -> Result<bool, Fail> {
+    let (mut list, one, two) = pair(alloc)?;
+    Ok(take_both(&mut list, one) == (Some((two, 2)), Some(1), None))
+}
+
 #[test]
 fn takes(rt: HostRuntime) -> Result<(), Fail> {
-    let (mut list, one, two) = pair(rt.alloc())?;
-    assert_eq!(rt; take_both(&mut list, one), (Some((two, 2)), Some(1), None));
+    assert!(rt; takes_well(rt.alloc())?);
     Ok(())
 }
 
@@ -59,12 +66,14 @@ fn ends(list: List) -> (Element, Element) {
     (elements.next_back(), elements.next())
 }
 
+fn goes_through_well(alloc: Global) -> Result<bool, Fail> {
+    let (list, one, two) = pair(alloc)?;
+    Ok(shows(&list, alloc, [1, 2].as_slice())? && ends(list) == (Some((two, 2)), Some((one, 1))))
+}
+
 #[test]
 fn goes_through(rt: HostRuntime) -> Result<(), Fail> {
-    let alloc = rt.alloc();
-    let (list, one, two) = pair(alloc)?;
-    assert!(rt; shows(&list, alloc, [1, 2].as_slice())?);
-    assert_eq!(rt; ends(list), (Some((two, 2)), Some((one, 1))));
+    assert!(rt; goes_through_well(rt.alloc())?);
     Ok(())
 }
 
@@ -73,10 +82,14 @@ fn drained(list: &mut List) -> [Element; 3] {
     [elements.next(), elements.next(), elements.next()]
 }
 
+fn drains_well(alloc: Global) -> Result<bool, Fail> {
+    let (mut list, one, two) = pair(alloc)?;
+    Ok(drained(&mut list) == [Some((one, 1)), Some((two, 2)), None])
+}
+
 #[test]
 fn drains(rt: HostRuntime) -> Result<(), Fail> {
-    let (mut list, one, two) = pair(rt.alloc())?;
-    assert_eq!(rt; drained(&mut list), [Some((one, 1)), Some((two, 2)), None]);
+    assert!(rt; drains_well(rt.alloc())?);
     Ok(())
 }
 
@@ -91,12 +104,14 @@ fn appends(list: &mut List, alloc: Global) -> Result<bool, Fail> {
     shows(list, alloc, [1, 2, 3, 4].as_slice())
 }
 
+fn adds_several_well(alloc: Global) -> Result<bool, Fail> {
+    let (mut list, _, _) = pair(alloc)?;
+    Ok(extends(&mut list, alloc)? && appends(&mut list, alloc)?)
+}
+
 #[test]
 fn adds_several(rt: HostRuntime) -> Result<(), Fail> {
-    let alloc = rt.alloc();
-    let (mut list, _, _) = pair(alloc)?;
-    assert!(rt; extends(&mut list, alloc)?);
-    assert!(rt; appends(&mut list, alloc)?);
+    assert!(rt; adds_several_well(rt.alloc())?);
     Ok(())
 }
 
@@ -110,12 +125,14 @@ fn swaps_next(list: &mut List, alloc: Global, one: NodeKey, two: NodeKey) -> Res
     Ok(swapped && shows(list, alloc, [3, 1, 2].as_slice())?)
 }
 
+fn swaps_well(alloc: Global) -> Result<bool, Fail> {
+    let (mut list, one, two) = pair(alloc)?;
+    Ok(swaps_ends(&mut list, alloc, one)? && swaps_next(&mut list, alloc, one, two)?)
+}
+
 #[test]
 fn swaps(rt: HostRuntime) -> Result<(), Fail> {
-    let alloc = rt.alloc();
-    let (mut list, one, two) = pair(alloc)?;
-    assert!(rt; swaps_ends(&mut list, alloc, one)?);
-    assert!(rt; swaps_next(&mut list, alloc, one, two)?);
+    assert!(rt; swaps_well(rt.alloc())?);
     Ok(())
 }
 
@@ -126,10 +143,14 @@ fn kept_by_copy(list: &mut List, one: NodeKey) -> Result<Option<u64>, Fail> {
     Ok(copy.get(one).copied())
 }
 
+fn copies_well(alloc: Global) -> Result<bool, Fail> {
+    let (mut list, one, _) = pair(alloc)?;
+    Ok(kept_by_copy(&mut list, one)? == Some(1))
+}
+
 #[test]
 fn copies(rt: HostRuntime) -> Result<(), Fail> {
-    let (mut list, one, _) = pair(rt.alloc())?;
-    assert_eq!(rt; kept_by_copy(&mut list, one)?, Some(1));
+    assert!(rt; copies_well(rt.alloc())?);
     Ok(())
 }
 
@@ -138,11 +159,14 @@ fn retain_others(list: &mut List) {
     list.retain(|_, value| *value != 1);
 }
 
-#[test]
-fn retains(rt: HostRuntime) -> Result<(), Fail> {
-    let alloc = rt.alloc();
+fn retains_well(alloc: Global) -> Result<bool, Fail> {
     let (mut list, _, _) = pair(alloc)?;
     retain_others(&mut list);
-    assert!(rt; shows(&list, alloc, [2].as_slice())?);
+    Ok(shows(&list, alloc, [2].as_slice())?)
+}
+
+#[test]
+fn retains(rt: HostRuntime) -> Result<(), Fail> {
+    assert!(rt; retains_well(rt.alloc())?);
     Ok(())
 }

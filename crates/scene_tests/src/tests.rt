@@ -1,4 +1,4 @@
-//! Calls on their happy path. What a test expects is found by functions that borrow the scene.
+//! Calls on their happy path. A function `.._well` says whether the calls of its test return what they should.
 
 use slotmap::NodeKey;
 use slotmap_scene::Scene;
@@ -27,13 +27,14 @@ fn relatives(scene: &Family, parent: NodeKey, child: NodeKey) -> Relatives {
     )
 }
 
+fn parents_and_children_well(alloc: Global) -> Result<bool, Fail> {
+    let (scene, top, first, second) = family(alloc)?;
+    Ok(relatives(&scene, top, second) == (Some(top), Some(first), Some(1)))
+}
+
 #[test]
 fn parents_and_children(rt: HostRuntime) -> Result<(), Fail> {
-    let (scene, top, first, second) = family(rt.alloc())?;
-    assert_eq!(rt;
-        relatives(&scene, top, second),
-        (Some(top), Some(first), Some(1))
-    );
+    assert!(rt; parents_and_children_well(rt.alloc())?);
     Ok(())
 }
 
@@ -43,10 +44,14 @@ fn begins_with(scene: &Family, top: NodeKey, first: NodeKey) -> bool {
     (nodes.len(), nodes.next(), nodes.next()) == (3, Some((top, &1)), Some((first, &2)))
 }
 
+fn all_nodes_well(alloc: Global) -> Result<bool, Fail> {
+    let (scene, top, first, _) = family(alloc)?;
+    Ok(begins_with(&scene, top, first))
+}
+
 #[test]
 fn all_nodes(rt: HostRuntime) -> Result<(), Fail> {
-    let (scene, top, first, _) = family(rt.alloc())?;
-    assert!(rt; begins_with(&scene, top, first));
+    assert!(rt; all_nodes_well(rt.alloc())?);
     Ok(())
 }
 
@@ -55,13 +60,17 @@ fn four_keys(scene: &Family) -> [Option<NodeKey>; 4] {
     [keys.next(), keys.next(), keys.next(), keys.next()]
 }
 
+fn all_keys_well(alloc: Global) -> Result<bool, Fail> {
+    let (scene, top, first, second) = family(alloc)?;
+    Ok(
+        (scene.keys().size_hint(), four_keys(&scene))
+            == ((3, Some(3)), [Some(top), Some(first), Some(second), None]),
+    )
+}
+
 #[test]
 fn all_keys(rt: HostRuntime) -> Result<(), Fail> {
-    let (scene, top, first, second) = family(rt.alloc())?;
-    assert_eq!(rt;
-        (scene.keys().size_hint(), four_keys(&scene)),
-        ((3, Some(3)), [Some(top), Some(first), Some(second), None])
-    );
+    assert!(rt; all_keys_well(rt.alloc())?);
     Ok(())
 }
 
@@ -80,13 +89,14 @@ fn sum_of(scene: &Family) -> u64 {
     sum
 }
 
+fn all_values_well(alloc: Global) -> Result<bool, Fail> {
+    let (scene, _, _, _) = family(alloc)?;
+    Ok((second_value(&scene), sum_of(&scene), scene.capacity() >= 3) == ((2, Some(2)), 6, true))
+}
+
 #[test]
 fn all_values(rt: HostRuntime) -> Result<(), Fail> {
-    let (scene, _, _, _) = family(rt.alloc())?;
-    assert_eq!(rt;
-        (second_value(&scene), sum_of(&scene), scene.capacity() >= 3),
-        ((2, Some(2)), 6, true)
-    );
+    assert!(rt; all_values_well(rt.alloc())?);
     Ok(())
 }
 
@@ -95,14 +105,17 @@ fn reparents(scene: &mut Family, top: NodeKey, first: NodeKey, second: NodeKey) 
     scene.reparent(second, first).is_ok() && scene.is_within(second, top)
 }
 
+fn moves_well(alloc: Global) -> Result<bool, Fail> {
+    let (mut scene, top, first, second) = family(alloc)?;
+    Ok(
+        reparents(&mut scene, top, first, second)
+            && (scene.make_root(first), scene.depth(second)) == (true, Some(1)),
+    )
+}
+
 #[test]
 fn moves(rt: HostRuntime) -> Result<(), Fail> {
-    let (mut scene, top, first, second) = family(rt.alloc())?;
-    assert!(rt; reparents(&mut scene, top, first, second));
-    assert_eq!(rt;
-        (scene.make_root(first), scene.depth(second)),
-        (true, Some(1))
-    );
+    assert!(rt; moves_well(rt.alloc())?);
     Ok(())
 }
 
@@ -128,10 +141,14 @@ fn remove(scene: &mut Family, root: NodeKey, node: NodeKey) -> (Option<u64>, boo
     (scene.remove(root), scene.contains_key(node), scene.len())
 }
 
+fn removals_well(alloc: Global) -> Result<bool, Fail> {
+    let (mut scene, top, first, _) = family(alloc)?;
+    Ok(remove(&mut scene, top, first) == (Some(1), false, 0))
+}
+
 #[test]
 fn removals(rt: HostRuntime) -> Result<(), Fail> {
-    let (mut scene, top, first, _) = family(rt.alloc())?;
-    assert_eq!(rt; remove(&mut scene, top, first), (Some(1), false, 0));
+    assert!(rt; removals_well(rt.alloc())?);
     Ok(())
 }
 
@@ -141,13 +158,14 @@ fn roots_and_above(scene: &Family, node: NodeKey) -> [Option<NodeKey>; 3] {
     [scene.roots().next(), above.next(), above.next()]
 }
 
+fn goes_up_well(alloc: Global) -> Result<bool, Fail> {
+    let (scene, top, first, _) = family(alloc)?;
+    Ok(roots_and_above(&scene, first) == [Some(top), Some(top), None])
+}
+
 #[test]
 fn goes_up(rt: HostRuntime) -> Result<(), Fail> {
-    let (scene, top, first, _) = family(rt.alloc())?;
-    assert_eq!(rt;
-        roots_and_above(&scene, first),
-        [Some(top), Some(top), None]
-    );
+    assert!(rt; goes_up_well(rt.alloc())?);
     Ok(())
 }
 
@@ -164,12 +182,16 @@ fn has_below(scene: &mut Family, root: NodeKey, nodes: &[NodeKey]) -> Result<boo
     Ok(below && scene.insert_after(root, 6).is_err())
 }
 
-#[test]
-fn siblings(rt: HostRuntime) -> Result<(), Fail> {
-    let (mut scene, top, first, second) = family(rt.alloc())?;
+fn siblings_well(alloc: Global) -> Result<bool, Fail> {
+    let (mut scene, top, first, second) = family(alloc)?;
     let (mid, last) = add_around(&mut scene, second)?;
     let below = [first, mid, second, last];
-    assert!(rt; has_below(&mut scene, top, below.as_slice())?);
+    Ok(has_below(&mut scene, top, below.as_slice())?)
+}
+
+#[test]
+fn siblings(rt: HostRuntime) -> Result<(), Fail> {
+    assert!(rt; siblings_well(rt.alloc())?);
     Ok(())
 }
 
@@ -178,13 +200,17 @@ fn from_both_ends(scene: &Family, node: NodeKey) -> [Option<NodeKey>; 3] {
     [children.next_back(), children.next(), children.next_back()]
 }
 
+fn children_from_both_ends_well(alloc: Global) -> Result<bool, Fail> {
+    let (scene, top, first, second) = family(alloc)?;
+    Ok(
+        (scene.children(top).len(), from_both_ends(&scene, top))
+            == (2, [Some(second), Some(first), None]),
+    )
+}
+
 #[test]
 fn children_from_both_ends(rt: HostRuntime) -> Result<(), Fail> {
-    let (scene, top, first, second) = family(rt.alloc())?;
-    assert_eq!(rt;
-        (scene.children(top).len(), from_both_ends(&scene, top)),
-        (2, [Some(second), Some(first), None])
-    );
+    assert!(rt; children_from_both_ends_well(rt.alloc())?);
     Ok(())
 }
 
@@ -195,9 +221,13 @@ fn kept_by_copy(scene: &mut Family, node: NodeKey) -> Result<(Option<NodeKey>, O
     Ok((copy.parent(node), copy.get(node).copied()))
 }
 
+fn copies_well(alloc: Global) -> Result<bool, Fail> {
+    let (mut scene, top, first, _) = family(alloc)?;
+    Ok(kept_by_copy(&mut scene, first)? == (Some(top), Some(2)))
+}
+
 #[test]
 fn copies(rt: HostRuntime) -> Result<(), Fail> {
-    let (mut scene, top, first, _) = family(rt.alloc())?;
-    assert_eq!(rt; kept_by_copy(&mut scene, first)?, (Some(top), Some(2)));
+    assert!(rt; copies_well(rt.alloc())?);
     Ok(())
 }

@@ -1,4 +1,4 @@
-//! Calls on their happy path. What a test expects is found by functions that borrow the scheduler.
+//! Calls on their happy path. A function `.._well` says whether the calls of its test return what they should.
 
 use slotmap::NodeKey;
 use slotmap_scheduler::Scheduler;
@@ -22,12 +22,15 @@ fn has_due(jobs: &mut Jobs, alloc: Global, due: &[(NodeKey, u64)]) -> Result<boo
     Ok(taken.as_slice() == due && jobs.is_empty())
 }
 
-#[test]
-fn takes_what_is_due(rt: HostRuntime) -> Result<(), Fail> {
-    let alloc = rt.alloc();
+fn takes_what_is_due_well(alloc: Global) -> Result<bool, Fail> {
     let (mut jobs, tea, bell) = pair(alloc)?;
     let due = [(bell, 2), (tea, 1)];
-    assert!(rt; has_due(&mut jobs, alloc, due.as_slice())?);
+    Ok(has_due(&mut jobs, alloc, due.as_slice())?)
+}
+
+#[test]
+fn takes_what_is_due(rt: HostRuntime) -> Result<(), Fail> {
+    assert!(rt; takes_what_is_due_well(rt.alloc())?);
     Ok(())
 }
 
@@ -37,10 +40,14 @@ fn put_off(jobs: &mut Jobs, job: NodeKey) -> Result<(bool, Option<(u64, NodeKey)
     Ok((jobs.reschedule(job, 40).is_ok(), jobs.peek()))
 }
 
+fn moves_a_job_well(alloc: Global) -> Result<bool, Fail> {
+    let (mut jobs, tea, bell) = pair(alloc)?;
+    Ok(put_off(&mut jobs, bell)? == (true, Some((30, tea))))
+}
+
 #[test]
 fn moves_a_job(rt: HostRuntime) -> Result<(), Fail> {
-    let (mut jobs, tea, bell) = pair(rt.alloc())?;
-    assert_eq!(rt; put_off(&mut jobs, bell)?, (true, Some((30, tea))));
+    assert!(rt; moves_a_job_well(rt.alloc())?);
     Ok(())
 }
 
@@ -50,10 +57,14 @@ fn lists_first(jobs: &Jobs, tea: NodeKey) -> bool {
         == (Some((tea, 30, &1)), Some(tea), Some(&1))
 }
 
+fn lists_the_jobs_well(alloc: Global) -> Result<bool, Fail> {
+    let (jobs, tea, _) = pair(alloc)?;
+    Ok(lists_first(&jobs, tea))
+}
+
 #[test]
 fn lists_the_jobs(rt: HostRuntime) -> Result<(), Fail> {
-    let (jobs, tea, _) = pair(rt.alloc())?;
-    assert!(rt; lists_first(&jobs, tea));
+    assert!(rt; lists_the_jobs_well(rt.alloc())?);
     Ok(())
 }
 
@@ -65,10 +76,14 @@ fn greatest(jobs: &Jobs) -> u64 {
     greatest
 }
 
+fn goes_over_the_jobs_well(alloc: Global) -> Result<bool, Fail> {
+    let (jobs, _, _) = pair(alloc)?;
+    Ok(greatest(&jobs) == 2)
+}
+
 #[test]
 fn goes_over_the_jobs(rt: HostRuntime) -> Result<(), Fail> {
-    let (jobs, _, _) = pair(rt.alloc())?;
-    assert_eq!(rt; greatest(&jobs), 2);
+    assert!(rt; goes_over_the_jobs_well(rt.alloc())?);
     Ok(())
 }
 
@@ -81,9 +96,13 @@ fn kept_by_copy(jobs: &mut Jobs, job: NodeKey) -> Result<Kept, Fail> {
     Ok((copy.get(job).copied(), copy.peek()))
 }
 
+fn copies_well(alloc: Global) -> Result<bool, Fail> {
+    let (mut jobs, tea, bell) = pair(alloc)?;
+    Ok(kept_by_copy(&mut jobs, tea)? == (Some(1), Some((20, bell))))
+}
+
 #[test]
 fn copies(rt: HostRuntime) -> Result<(), Fail> {
-    let (mut jobs, tea, bell) = pair(rt.alloc())?;
-    assert_eq!(rt; kept_by_copy(&mut jobs, tea)?, (Some(1), Some((20, bell))));
+    assert!(rt; copies_well(rt.alloc())?);
     Ok(())
 }
