@@ -3,6 +3,6 @@
 #![tactic(auto, using(slotmap::proofs::Callers::keys))]
 
 #[cfg(test)]
-mod tests;
+mod messages;
 #[cfg(test)]
-mod texts;
+mod tests;
