@@ -139,9 +139,7 @@ fn run_plain(alloc: Global, mut script: &[u8]) -> (u8, Vec<u8>) {
 fn plain_lines(rt: HostRuntime) {
     for (script, want, wanted_status) in &PLAIN {
         let (status, output) = run_plain(rt.alloc(), script.as_bytes());
-        assert_eq!(rt;
-            (status, output.as_slice()),
-            (*wanted_status, want.as_bytes())
-        );
+        assert_eq!(rt; status, *wanted_status);
+        assert_eq!(rt; output.as_slice(), want.as_bytes());
     }
 }
