@@ -14,8 +14,7 @@ pub fn hold_outcome(
     want: (u8, &str),
 ) -> Result<(), Fail> {
     let (status, text) = outcome(alloc, &[kind], script)?;
-    assert_eq!(rt; text.as_str(), want.1, "{script:?}");
-    assert_eq!(rt; status, want.0, "{script:?}");
+    assert_eq!(rt; (status, text.as_str()), want, "{script:?}");
     Ok(())
 }
 

@@ -64,16 +64,19 @@ fn long_list(alloc: Global, count: u64) -> Result<String, AllocError> {
     Ok(list)
 }
 
-#[test]
-fn a_list_of_many_records(rt: HostRuntime) -> Result<(), Fail> {
-    let alloc = rt.alloc();
+// A script that reads the list and prints it, and what it has to print.
+fn long_case(alloc: Global) -> Result<(String, String), AllocError> {
     let list = long_list(alloc, 3000)?;
-    let list = list.as_str();
     let script = format!(in alloc; "load {list}\nlen\nget 4294970296\nslots\n")?;
     let want = format!(in alloc; "done\nlen 3000\nvalue 2999\n{list}\n")?;
+    Ok((script, want))
+}
+
+#[test]
+fn a_list_of_many_records(rt: HostRuntime) -> Result<(), Fail> {
+    let (script, want) = long_case(rt.alloc())?;
     for kind in ["basic", "dense", "hop"] {
-        let want = (0, want.as_str());
-        hold_outcome(&rt, alloc, kind, script.as_bytes(), want)?;
+        hold_outcome(&rt, rt.alloc(), kind, script.as_bytes(), (0, &want))?;
     }
     Ok(())
 }

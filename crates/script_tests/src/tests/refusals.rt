@@ -13,20 +13,32 @@ use slotmap_script::script::parse;
 use std::alloc::Global;
 use std::test::Fail;
 
+// The line of a reply.
+fn reply_line(alloc: Global, mut reply: LineReply) -> Result<Vec<u8>, Fail> {
+    let mut output = Vec::new(alloc);
+    write_reply(&mut output, &mut reply)?;
+    Ok(output)
+}
+
 #[test]
 fn words(rt: HostRuntime) -> Result<(), Fail> {
-    let mut table: [(LineReply, &str); 4] = [
+    let table: [(LineReply, &str); 4] = [
         (Reply::Full(None), "full\n"),
         (Reply::Full(Some(5)), "full\n"),
         (Reply::Memory(None), "memory\n"),
         (Reply::Memory(Some(5)), "memory\n"),
     ];
-    for (reply, want) in &mut table {
-        let mut output = Vec::new(rt.alloc());
-        write_reply(&mut output, reply)?;
-        assert_eq!(rt; output.as_slice(), want.as_bytes());
+    for (reply, want) in table {
+        assert_eq!(rt; reply_line(rt.alloc(), reply)?.as_slice(), want.as_bytes());
     }
     Ok(())
+}
+
+// The line of a list that isn't read.
+fn refusal_line(alloc: Global, error: &LoadError) -> Result<Vec<u8>, Fail> {
+    let mut output = Vec::new(alloc);
+    write_refusal(&mut output, error)?;
+    Ok(output)
 }
 
 // Why a list isn't read.
@@ -39,9 +51,10 @@ fn refusals_of_lists(rt: HostRuntime) -> Result<(), Fail> {
         (LoadError::Slots(SlotsError::TooMany), "too many\n"),
     ];
     for (error, want) in &table {
-        let mut output = Vec::new(rt.alloc());
-        write_refusal(&mut output, error)?;
-        assert_eq!(rt; output.as_slice(), want.as_bytes());
+        assert_eq!(rt;
+            refusal_line(rt.alloc(), error)?.as_slice(),
+            want.as_bytes()
+        );
     }
     Ok(())
 }
@@ -82,43 +95,51 @@ impl Commands<Refusing> for Unanswered {
     }
 }
 
-// Replies before the failure are printed; then the script ends.
-#[test]
-fn refused_memory(rt: HostRuntime) -> Result<(), Fail> {
-    let alloc = rt.alloc();
-    let script = b"slots\nload []\nload [{\"version\":0}]\nlen\nslots\n";
+// The status and the output of a script on a map for which there is no memory.
+fn run_refusing(alloc: Global, script: &[u8]) -> Result<(u8, Vec<u8>), Fail> {
     let stretches = parse::<Refusing, Unanswered>(alloc, script)
         .ok()
         .ok_or("a script")?;
     let mut output = Vec::new(alloc);
     let ended = run_stretches(alloc, Refusing, stretches, &mut output);
-    assert_eq!(rt; finish(ended, &mut output), 3);
-    assert_eq!(rt;
-        output.as_slice(),
-        b"memory\ntoo many\nmemory\nno script\n".as_slice()
-    );
+    Ok((finish(ended, &mut output), output))
+}
+
+// Replies before the failure are printed; then the script ends.
+#[test]
+fn refused_memory(rt: HostRuntime) -> Result<(), Fail> {
+    let script = b"slots\nload []\nload [{\"version\":0}]\nlen\nslots\n";
+    let (status, output) = run_refusing(rt.alloc(), script)?;
+    let want = b"memory\ntoo many\nmemory\nno script\n";
+    assert_eq!(rt; (status, output.as_slice()), (3, want.as_slice()));
     Ok(())
+}
+
+// Scripts, what they print, and their statuses.
+static PLAIN: [(&str, &str, u8); 3] = [
+    (
+        "insert 5\nget 4294967297\nremove 4294967297\nlen\nkeys\nclear\nslots\nload [{\"version\":0}]",
+        "key 4294967297\nvalue 5\nvalue 5\nlen 0\nkeys\ndone\n\
+            [{\"value\":null,\"version\":0},{\"value\":null,\"version\":2}]\ndone\n",
+        0,
+    ),
+    ("insert 1\ndetach 4294967297\n", "bad line 2\n", 2),
+    ("reattach 4294967297 1\n", "bad line 1\n", 2),
+];
+
+// The status and the output of a script on a map whose keys can't be detached.
+fn run_plain(alloc: Global, mut script: &[u8]) -> (u8, Vec<u8>) {
+    let mut output = Vec::new(alloc);
+    let ended = run_on::<SlotMap<DefaultKey, i32>, Plain>(alloc, &mut script, &mut output);
+    (finish(ended, &mut output), output)
 }
 
 // The lines of a map whose keys can't be detached.
 #[test]
-fn plain_lines(rt: HostRuntime) -> Result<(), Fail> {
-    let table: [(&str, &str, u8); 3] = [
-        (
-            "insert 5\nget 4294967297\nremove 4294967297\nlen\nkeys\nclear\nslots\nload [{\"version\":0}]",
-            "key 4294967297\nvalue 5\nvalue 5\nlen 0\nkeys\ndone\n\
-                [{\"value\":null,\"version\":0},{\"value\":null,\"version\":2}]\ndone\n",
-            0,
-        ),
-        ("insert 1\ndetach 4294967297\n", "bad line 2\n", 2),
-        ("reattach 4294967297 1\n", "bad line 1\n", 2),
-    ];
-    for (script, want, status) in table {
-        let mut input = script.as_bytes();
-        let mut output = Vec::new(rt.alloc());
-        let ended = run_on::<SlotMap<DefaultKey, i32>, Plain>(rt.alloc(), &mut input, &mut output);
-        assert_eq!(rt; finish(ended, &mut output), status);
+fn plain_lines(rt: HostRuntime) {
+    for (script, want, wanted_status) in &PLAIN {
+        let (status, output) = run_plain(rt.alloc(), script.as_bytes());
+        assert_eq!(rt; status, *wanted_status);
         assert_eq!(rt; output.as_slice(), want.as_bytes());
     }
-    Ok(())
 }

@@ -23,36 +23,49 @@ impl Read for FailingReader {
     }
 }
 
+const USAGE: &str = "usage: slotrun basic|dense|hop\n";
+
+// Words, the output and the status.
+static FAULTS: [(&[&str], &str, u8); 15] = [
+    (&[], USAGE, 2),
+    (&[""], USAGE, 2),
+    (&["tree"], USAGE, 2),
+    (&["Basic"], USAGE, 2),
+    (&["Dense"], USAGE, 2),
+    (&["Hop"], USAGE, 2),
+    (&[" basic "], USAGE, 2),
+    (&["basic "], USAGE, 2),
+    (&["basically"], USAGE, 2),
+    (&["dense\n"], USAGE, 2),
+    (&["ho"], USAGE, 2),
+    (&["basic", "basic"], USAGE, 2),
+    (&["basic", ""], USAGE, 2),
+    (&["basic"], "no script\n", 3),
+    (&["hop"], "no script\n", 3),
+];
+
+// Runs a script whose input fails after some bytes.
+fn hold_fault(
+    rt: &impl Abort,
+    alloc: Global,
+    words: &[&str],
+    bytes: &'static [u8],
+    want: (&str, u8),
+) -> Result<(), Fail> {
+    let words = list(alloc, words)?;
+    let mut input = FailingReader { bytes };
+    let mut output = Vec::new(alloc);
+    let status = run_script(alloc, &words, &mut input, &mut output);
+    assert_eq!(rt; (output.as_slice(), status), (want.0.as_bytes(), want.1));
+    Ok(())
+}
+
 // The usage comes before the input is read, and a failed read before any line is parsed.
 #[test]
 fn order_of_faults(rt: HostRuntime) -> Result<(), Fail> {
-    let usage = "usage: slotrun basic|dense|hop\n";
-    let table: [(&[&str], &str, u8); 15] = [
-        (&[], usage, 2),
-        (&[""], usage, 2),
-        (&["tree"], usage, 2),
-        (&["Basic"], usage, 2),
-        (&["Dense"], usage, 2),
-        (&["Hop"], usage, 2),
-        (&[" basic "], usage, 2),
-        (&["basic "], usage, 2),
-        (&["basically"], usage, 2),
-        (&["dense\n"], usage, 2),
-        (&["ho"], usage, 2),
-        (&["basic", "basic"], usage, 2),
-        (&["basic", ""], usage, 2),
-        (&["basic"], "no script\n", 3),
-        (&["hop"], "no script\n", 3),
-    ];
-    for (words, want, status) in table {
-        let words = list(rt.alloc(), words)?;
-        for bytes in [b"".as_slice(), b"len\nx\n".as_slice()] {
-            let mut input = FailingReader { bytes };
-            let mut output = Vec::new(rt.alloc());
-            let got = run_script(rt.alloc(), &words, &mut input, &mut output);
-            assert_eq!(rt; output.as_slice(), want.as_bytes());
-            assert_eq!(rt; got, status);
-        }
+    for (words, text, status) in &FAULTS {
+        hold_fault(&rt, rt.alloc(), words, b"", (text, *status))?;
+        hold_fault(&rt, rt.alloc(), words, b"len\nx\n", (text, *status))?;
     }
     Ok(())
 }
@@ -108,6 +121,22 @@ fn long_script(alloc: Global) -> Result<Vec<u8>, AllocError> {
     Ok(script)
 }
 
+// Runs a script with a writer that fails at one call, and returns the writer and the status.
+fn run_failing(
+    alloc: Global,
+    words: &[String],
+    mut script: &[u8],
+    fails_at: usize,
+) -> (FailingWriter, u8) {
+    let mut output = FailingWriter {
+        fails_at,
+        calls: 0,
+        taken: Vec::new(alloc),
+    };
+    let status = run_script(alloc, words, &mut script, &mut output);
+    (output, status)
+}
+
 // Each call of the writer fails in turn. The status is then 3, and no call follows. Returns the
 // writer and the status of the first run in which none fails.
 fn each_call_fails(
@@ -118,40 +147,42 @@ fn each_call_fails(
 ) -> Result<(FailingWriter, u8), Fail> {
     let words = list(alloc, &[word])?;
     for fails_at in 1..1000 {
-        let taken = Vec::new(alloc);
-        let mut output = FailingWriter {
-            fails_at,
-            calls: 0,
-            taken,
-        };
-        let mut input = script;
-        let status = run_script(alloc, &words, &mut input, &mut output);
+        let (output, status) = run_failing(alloc, &words, script, fails_at);
         if output.calls < fails_at {
             return Ok((output, status));
         }
-        assert_eq!(rt; status, 3);
-        assert_eq!(rt; output.calls, fails_at);
+        assert_eq!(rt; (status, output.calls), (3, fails_at));
     }
     Err(Fail::from("a writer that is called without end"))
 }
 
+// Holds a script to the smallest number of calls of the writer, the bytes that it writes, and the
+// status.
+fn hold_writes(
+    rt: &impl Abort,
+    alloc: Global,
+    word: &str,
+    script: &[u8],
+    want: (usize, usize, u8),
+) -> Result<(), Fail> {
+    let (output, status) = each_call_fails(rt, alloc, word, script)?;
+    assert!(rt; output.calls >= want.0);
+    assert_eq!(rt; (output.taken.len(), status), (want.1, want.2));
+    Ok(())
+}
+
+static WRITES: [(&str, &[u8], (usize, usize, u8)); 4] = [
+    ("tree", b"", (2, 31, 2)),
+    ("basic", b"x\n", (2, 11, 2)),
+    ("basic", b"", (1, 0, 0)),
+    ("basic", b"len\n", (2, 6, 0)),
+];
+
 #[test]
 fn failing_writers(rt: HostRuntime) -> Result<(), Fail> {
-    let long = long_script(rt.alloc())?;
-    // A script, the smallest number of calls of the writer, the bytes that it writes, and the
-    // status.
-    let table: [(&str, &[u8], usize, usize, u8); 5] = [
-        ("tree", b"", 2, 31, 2),
-        ("basic", b"x\n", 2, 11, 2),
-        ("basic", b"", 1, 0, 0),
-        ("basic", b"len\n", 2, 6, 0),
-        ("basic", long.as_slice(), 8, 60849, 0),
-    ];
-    for (word, script, least, length, want) in table {
-        let (output, status) = each_call_fails(&rt, rt.alloc(), word, script)?;
-        assert!(rt; output.calls >= least);
-        assert_eq!(rt; output.taken.len(), length);
-        assert_eq!(rt; status, want);
+    for (word, script, want) in &WRITES {
+        hold_writes(&rt, rt.alloc(), word, script, *want)?;
     }
-    Ok(())
+    let long = long_script(rt.alloc())?;
+    hold_writes(&rt, rt.alloc(), "basic", &long, (8, 60849, 0))
 }
