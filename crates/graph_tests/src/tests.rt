@@ -1,4 +1,4 @@
-//! Calls on their happy path. What a test expects is found by functions that borrow the graph.
+//! Calls on their happy path. A function `.._well` says whether the calls of its test return what they should.
 
 use slotmap::NodeKey;
 use slotmap_graph::{EdgeKey, Graph, OrderError};
@@ -21,13 +21,14 @@ fn values_of(graph: &Small, node: NodeKey, edge: EdgeKey) -> (Option<u64>, Optio
     (graph.node(node).copied(), graph.edge(edge).copied())
 }
 
+fn values_well(alloc: Global) -> Result<bool, Fail> {
+    let (graph, a, b, edge) = pair(alloc)?;
+    Ok((values_of(&graph, a, edge), graph.edge_ends(edge)) == ((Some(1), Some(5)), Some((a, b))))
+}
+
 #[test]
 fn values(rt: HostRuntime) -> Result<(), Fail> {
-    let (graph, a, b, edge) = pair(rt.alloc())?;
-    assert_eq!(rt;
-        (values_of(&graph, a, edge), graph.edge_ends(edge)),
-        ((Some(1), Some(5)), Some((a, b)))
-    );
+    assert!(rt; values_well(rt.alloc())?);
     Ok(())
 }
 
@@ -41,13 +42,14 @@ fn edges_into(graph: &Small, node: NodeKey) -> (usize, usize) {
     (graph.edges_to(node).len(), graph.in_degree(node))
 }
 
+fn lists_well(alloc: Global) -> Result<bool, Fail> {
+    let (graph, a, b, edge) = pair(alloc)?;
+    Ok((first_edges(&graph, a, b), edges_into(&graph, b)) == ([Some(edge), Some(edge)], (1, 1)))
+}
+
 #[test]
 fn lists(rt: HostRuntime) -> Result<(), Fail> {
-    let (graph, a, b, edge) = pair(rt.alloc())?;
-    assert_eq!(rt;
-        (first_edges(&graph, a, b), edges_into(&graph, b)),
-        ([Some(edge), Some(edge)], (1, 1))
-    );
+    assert!(rt; lists_well(rt.alloc())?);
     Ok(())
 }
 
@@ -57,11 +59,14 @@ fn finds(graph: &Small, alloc: Global, a: NodeKey, b: NodeKey) -> Result<bool, F
     Ok(near && graph.reachable(alloc, a)?.as_slice() == [a, b].as_slice())
 }
 
+fn searches_well(alloc: Global) -> Result<bool, Fail> {
+    let (graph, a, b, _) = pair(alloc)?;
+    Ok(finds(&graph, alloc, a, b)?)
+}
+
 #[test]
 fn searches(rt: HostRuntime) -> Result<(), Fail> {
-    let alloc = rt.alloc();
-    let (graph, a, b, _) = pair(alloc)?;
-    assert!(rt; finds(&graph, alloc, a, b)?);
+    assert!(rt; searches_well(rt.alloc())?);
     Ok(())
 }
 
@@ -74,7 +79,12 @@ fn from_both_ends(graph: &Small, node: NodeKey) -> Result<[Option<EdgeKey>; 4], 
 }
 
 // Puts two edges in the place of the first one, and says whether a walk from both ends finds them.
-fn walks_well(graph: &mut Small, a: NodeKey, b: NodeKey, first: EdgeKey) -> Result<bool, Fail> {
+fn walks_from_both_ends(
+    graph: &mut Small,
+    a: NodeKey,
+    b: NodeKey,
+    first: EdgeKey,
+) -> Result<bool, Fail> {
     let second = graph.add_edge(a, b, 6)?;
     graph.remove_edge(first);
     let third = graph.add_edge(a, b, 7)?;
@@ -83,10 +93,14 @@ fn walks_well(graph: &mut Small, a: NodeKey, b: NodeKey, first: EdgeKey) -> Resu
     Ok(are_two && found == [Some(third), Some(second), Some(second), None])
 }
 
+fn walks_well(alloc: Global) -> Result<bool, Fail> {
+    let (mut graph, a, b, first) = pair(alloc)?;
+    Ok(walks_from_both_ends(&mut graph, a, b, first)?)
+}
+
 #[test]
 fn walks(rt: HostRuntime) -> Result<(), Fail> {
-    let (mut graph, a, b, first) = pair(rt.alloc())?;
-    assert!(rt; walks_well(&mut graph, a, b, first)?);
+    assert!(rt; walks_well(rt.alloc())?);
     Ok(())
 }
 
@@ -108,12 +122,14 @@ fn closes(
     Ok(closing == Some(OrderError::Cycle(edge)) || closing == Some(OrderError::Cycle(back)))
 }
 
+fn orders_well(alloc: Global) -> Result<bool, Fail> {
+    let (mut graph, a, b, edge) = pair(alloc)?;
+    Ok(has_order(&graph, alloc, [a, b].as_slice())? && closes(&mut graph, alloc, a, b, edge)?)
+}
+
 #[test]
 fn orders(rt: HostRuntime) -> Result<(), Fail> {
-    let alloc = rt.alloc();
-    let (mut graph, a, b, edge) = pair(alloc)?;
-    assert!(rt; has_order(&graph, alloc, [a, b].as_slice())?);
-    assert!(rt; closes(&mut graph, alloc, a, b, edge)?);
+    assert!(rt; orders_well(rt.alloc())?);
     Ok(())
 }
 
@@ -127,31 +143,38 @@ fn looped(alloc: Global) -> Result<(Small, NodeKey, NodeKey, EdgeKey), Fail> {
     Ok((graph, behind, a, own))
 }
 
+fn finds_the_cycle_well(alloc: Global) -> Result<bool, Fail> {
+    let (graph, _, _, own) = looped(alloc)?;
+    Ok(graph.topological_order(alloc).err() == Some(OrderError::Cycle(own)))
+}
+
 #[test]
 fn finds_the_cycle(rt: HostRuntime) -> Result<(), Fail> {
-    let alloc = rt.alloc();
-    let (graph, _, _, own) = looped(alloc)?;
-    assert_eq!(rt;
-        graph.topological_order(alloc).err(),
-        Some(OrderError::Cycle(own))
-    );
+    assert!(rt; finds_the_cycle_well(rt.alloc())?);
     Ok(())
+}
+
+fn orders_without_the_cycle_well(alloc: Global) -> Result<bool, Fail> {
+    let (mut graph, behind, a, own) = looped(alloc)?;
+    graph.remove_edge(own);
+    Ok(has_order(&graph, alloc, [a, behind].as_slice())?)
 }
 
 #[test]
 fn orders_without_the_cycle(rt: HostRuntime) -> Result<(), Fail> {
-    let alloc = rt.alloc();
-    let (mut graph, behind, a, own) = looped(alloc)?;
-    graph.remove_edge(own);
-    assert!(rt; has_order(&graph, alloc, [a, behind].as_slice())?);
+    assert!(rt; orders_without_the_cycle_well(rt.alloc())?);
     Ok(())
+}
+
+fn removals_well(alloc: Global) -> Result<bool, Fail> {
+    let (mut graph, _, b, edge) = pair(alloc)?;
+    let removed = graph.remove_node(b);
+    Ok((removed, graph.contains_edge(edge)) == (Some(2), false))
 }
 
 #[test]
 fn removals(rt: HostRuntime) -> Result<(), Fail> {
-    let (mut graph, _, b, edge) = pair(rt.alloc())?;
-    let removed = graph.remove_node(b);
-    assert_eq!(rt; (removed, graph.contains_edge(edge)), (Some(2), false));
+    assert!(rt; removals_well(rt.alloc())?);
     Ok(())
 }
 
@@ -164,11 +187,15 @@ fn write(graph: &mut Small, node: NodeKey, edge: EdgeKey) {
     }
 }
 
+fn writes_well(alloc: Global) -> Result<bool, Fail> {
+    let (mut graph, a, _, edge) = pair(alloc)?;
+    write(&mut graph, a, edge);
+    Ok(values_of(&graph, a, edge) == (Some(7), Some(8)))
+}
+
 #[test]
 fn writes(rt: HostRuntime) -> Result<(), Fail> {
-    let (mut graph, a, _, edge) = pair(rt.alloc())?;
-    write(&mut graph, a, edge);
-    assert_eq!(rt; values_of(&graph, a, edge), (Some(7), Some(8)));
+    assert!(rt; writes_well(rt.alloc())?);
     Ok(())
 }
 
@@ -183,10 +210,14 @@ fn kept_by_copy(
     Ok((copy.node(b).copied(), copy.edges_from(a).next()))
 }
 
+fn copies_well(alloc: Global) -> Result<bool, Fail> {
+    let (mut graph, a, b, edge) = pair(alloc)?;
+    Ok(kept_by_copy(&mut graph, a, b)? == (Some(2), Some(edge)))
+}
+
 #[test]
 fn copies(rt: HostRuntime) -> Result<(), Fail> {
-    let (mut graph, a, b, edge) = pair(rt.alloc())?;
-    assert_eq!(rt; kept_by_copy(&mut graph, a, b)?, (Some(2), Some(edge)));
+    assert!(rt; copies_well(rt.alloc())?);
     Ok(())
 }
 
@@ -196,10 +227,14 @@ fn first_keys(graph: &Small) -> (Option<NodeKey>, Option<NodeKey>, Option<EdgeKe
     (nodes.next(), nodes.next(), graph.edges().next())
 }
 
+fn keys_of_all_well(alloc: Global) -> Result<bool, Fail> {
+    let (graph, a, b, edge) = pair(alloc)?;
+    Ok(first_keys(&graph) == (Some(a), Some(b), Some(edge)))
+}
+
 #[test]
 fn keys_of_all(rt: HostRuntime) -> Result<(), Fail> {
-    let (graph, a, b, edge) = pair(rt.alloc())?;
-    assert_eq!(rt; first_keys(&graph), (Some(a), Some(b), Some(edge)));
+    assert!(rt; keys_of_all_well(rt.alloc())?);
     Ok(())
 }
 
@@ -212,9 +247,13 @@ fn clears(graph: &mut Small, node: NodeKey, edge: EdgeKey) -> Result<bool, Fail>
     Ok(!has_one && graph.node_count() == 0)
 }
 
+fn room_and_clear_well(alloc: Global) -> Result<bool, Fail> {
+    let (mut graph, a, _, edge) = pair(alloc)?;
+    Ok(clears(&mut graph, a, edge)?)
+}
+
 #[test]
 fn room_and_clear(rt: HostRuntime) -> Result<(), Fail> {
-    let (mut graph, a, _, edge) = pair(rt.alloc())?;
-    assert!(rt; clears(&mut graph, a, edge)?);
+    assert!(rt; room_and_clear_well(rt.alloc())?);
     Ok(())
 }
