@@ -53,6 +53,11 @@ impl<'a, M: Held<'a> + Primary<DefaultKey, Number<'a>>> Maps<'a, M> {
         write_put(reply, self.map.write(way, key, self.supply.number(value)))
     }
 
+    /// `replace_disjoint` of no key.
+    pub fn replace_none(&mut self, reply: &mut String) -> Result<(), Stop> {
+        Outcome::Flag(self.map.replace_none()).write(reply)
+    }
+
     /// The call with two keys, each with a value.
     pub fn on_put_two(
         &mut self,
@@ -61,10 +66,12 @@ impl<'a, M: Held<'a> + Primary<DefaultKey, Number<'a>>> Maps<'a, M> {
         values: [u64; 2],
         reply: &mut String,
     ) -> Result<(), Stop> {
-        match name {
-            "replace_disjoint" => self.replace_two(keys, values, reply),
-            _ => Err(Stop::Unknown),
+        if name != "replace_disjoint" {
+            return Err(Stop::Unknown);
         }
+        let [first, second] = values;
+        let values = [self.supply.number(first), self.supply.number(second)];
+        write_put_two(reply, self.map.replace_two(keys, values))
     }
 
     /// The call with three keys, each with a value.
@@ -75,34 +82,9 @@ impl<'a, M: Held<'a> + Primary<DefaultKey, Number<'a>>> Maps<'a, M> {
         values: [u64; 3],
         reply: &mut String,
     ) -> Result<(), Stop> {
-        match name {
-            "replace_disjoint" => self.replace_three(keys, values, reply),
-            _ => Err(Stop::Unknown),
+        if name != "replace_disjoint" {
+            return Err(Stop::Unknown);
         }
-    }
-
-    /// `replace_disjoint` of no key.
-    pub fn replace_none(&mut self, reply: &mut String) -> Result<(), Stop> {
-        Outcome::Flag(self.map.replace_none()).write(reply)
-    }
-
-    fn replace_two(
-        &mut self,
-        keys: [DefaultKey; 2],
-        values: [u64; 2],
-        reply: &mut String,
-    ) -> Result<(), Stop> {
-        let [first, second] = values;
-        let values = [self.supply.number(first), self.supply.number(second)];
-        write_put_two(reply, self.map.replace_two(keys, values))
-    }
-
-    fn replace_three(
-        &mut self,
-        keys: [DefaultKey; 3],
-        values: [u64; 3],
-        reply: &mut String,
-    ) -> Result<(), Stop> {
         let [first, second, third] = values;
         let (first, second) = (self.supply.number(first), self.supply.number(second));
         let values = [first, second, self.supply.number(third)];
