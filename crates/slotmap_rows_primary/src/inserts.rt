@@ -3,7 +3,7 @@
 use crate::held::Held;
 use crate::maps::Maps;
 use slotmap::{DefaultKey, InsertError, InsertWithError, Key, Primary, TryInsertError};
-use slotmap_rows::{Call, Mode, Number, Stop, Supply, Words, write_key};
+use slotmap_rows::{Number, Stop, Supply, write_key};
 
 /// What a closure returns for the new key.
 #[derive(Clone, Copy)]
@@ -31,21 +31,8 @@ pub fn make<'a>(supply: Supply<'a>, made: Made, key: DefaultKey) -> Result<Numbe
 }
 
 impl<'a, M: Held<'a> + Primary<DefaultKey, Number<'a>>> Maps<'a, M> {
-    /// The calls that insert, or the next ones.
-    pub fn on_insert(&mut self, call: &Call<'_>, reply: &mut String) -> Result<(), Stop> {
-        let made = match (call.name, call.words) {
-            ("insert", Words::Number(value)) => return self.insert(value, reply),
-            ("insert_with_key", Words::Number(value)) => return self.insert_with(value, reply),
-            ("try_insert_with_key", Words::Number(value)) => Made::Value(value),
-            ("try_insert_with_key", Words::Named(Mode::Fails, error)) => Made::Error(error),
-            ("insert_made", Words::Nothing) => Made::Key,
-            ("insert_refused", Words::Nothing) => Made::Refused,
-            _ => return self.on_key(call, reply),
-        };
-        self.try_insert(made, reply)
-    }
-
-    fn insert(&mut self, value: u64, reply: &mut String) -> Result<(), Stop> {
+    /// `insert`.
+    pub fn insert(&mut self, value: u64, reply: &mut String) -> Result<(), Stop> {
         match self.map.insert(self.supply.number(value)) {
             Ok(key) => Ok(write_key(reply, key)?),
             Err(InsertError::Full(_)) => Ok(reply.push_str("full")?),
@@ -54,8 +41,8 @@ impl<'a, M: Held<'a> + Primary<DefaultKey, Number<'a>>> Maps<'a, M> {
         }
     }
 
-    // Inserts by a closure that returns a value.
-    fn insert_with(&mut self, value: u64, reply: &mut String) -> Result<(), Stop> {
+    /// Inserts by a closure that returns a value.
+    pub fn insert_with(&mut self, value: u64, reply: &mut String) -> Result<(), Stop> {
         let supply = self.supply;
         let mut calls: u64 = 0;
         let made = self.map.insert_with_key(|key| {
@@ -72,8 +59,8 @@ impl<'a, M: Held<'a> + Primary<DefaultKey, Number<'a>>> Maps<'a, M> {
         }
     }
 
-    // Inserts by a closure that may fail.
-    fn try_insert(&mut self, how: Made, reply: &mut String) -> Result<(), Stop> {
+    /// Inserts by a closure that may fail.
+    pub fn try_insert(&mut self, how: Made, reply: &mut String) -> Result<(), Stop> {
         let supply = self.supply;
         let mut calls: u64 = 0;
         let made = self.map.try_insert_with_key(|key| {

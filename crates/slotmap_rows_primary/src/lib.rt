@@ -47,6 +47,7 @@
 mod basic;
 mod dense;
 mod detached;
+mod forms;
 mod held;
 mod hop;
 mod inserts;

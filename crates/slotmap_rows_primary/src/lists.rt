@@ -7,20 +7,30 @@ use slotmap::{
     DefaultKey, JsonError, Key, KeyData, OutOfMemory, Primary, SlotRecord, SlotsError, check_slots,
     key_from_value, key_to_value, slots_from_value, slots_to_value,
 };
-use slotmap_rows::{Call, Number, Slots, Stop, Supply, Word, Words, read_slots, write_slots};
+use slotmap_rows::{Number, Slots, Stop, Supply, Word, read_slots, write_slots};
 use std::alloc::Global;
 
 impl<'a, M: Held<'a> + Primary<DefaultKey, Number<'a>>> Maps<'a, M> {
-    /// The calls on lists of slots, or the next ones.
-    pub fn on_list(&mut self, call: &Call<'_>, reply: &mut String) -> Result<(), Stop> {
-        match (call.name, call.words) {
-            ("to_slots", Words::Nothing) => Ok(write_slots(reply, &self.map.list()?)?),
-            ("through_slots", Words::Nothing) => {
+    /// The calls with a list of slots.
+    pub fn on_list(&mut self, name: &str, list: &[Word], reply: &mut String) -> Result<(), Stop> {
+        match name {
+            "from_slots" => self.from_slots(list, reply),
+            "check_slots" => check_list(self.supply, list, reply),
+            _ => Err(Stop::Unknown),
+        }
+    }
+
+    /// The calls on the map's list of slots, and `from_slots` of no slot.
+    pub fn on_slots(&mut self, name: &str, reply: &mut String) -> Result<(), Stop> {
+        match name {
+            "to_slots" => Ok(write_slots(reply, &self.map.list()?)?),
+            "through_slots" => {
                 let list = self.map.list()?;
                 self.from_list(list, reply)
             }
-            ("through_json", Words::Nothing) => self.through_json(reply),
-            _ => self.on_two(call, reply),
+            "through_json" => self.through_json(reply),
+            "from_slots" => self.from_slots(&[], reply),
+            _ => Err(Stop::Unknown),
         }
     }
 
@@ -44,20 +54,30 @@ impl<'a, M: Held<'a> + Primary<DefaultKey, Number<'a>>> Maps<'a, M> {
         Ok(())
     }
 
-    /// `from_slots` of the list of the words.
-    pub fn from_slots(&mut self, words: &[Word], reply: &mut String) -> Result<(), Stop> {
+    // `from_slots` of the list of the words.
+    fn from_slots(&mut self, words: &[Word], reply: &mut String) -> Result<(), Stop> {
         let list = read_slots(self.supply, words)?;
         self.from_list(list, reply)
     }
 }
 
-/// `check_slots` of a limit and a list.
-pub fn write_checked(supply: Supply<'_>, words: &[Word], reply: &mut String) -> Result<(), Stop> {
-    let Some((Word::Number(limit), words)) = words.split_first() else {
-        return Err(Stop::Unknown);
-    };
+// `check_slots` of a limit and a list, which are the words.
+fn check_list(supply: Supply<'_>, words: &[Word], reply: &mut String) -> Result<(), Stop> {
+    match words.split_first() {
+        Some((Word::Number(limit), words)) => write_checked(supply, *limit as usize, words, reply),
+        _ => Err(Stop::Unknown),
+    }
+}
+
+/// `check_slots` of a limit and a list of the words.
+pub fn write_checked(
+    supply: Supply<'_>,
+    limit: usize,
+    words: &[Word],
+    reply: &mut String,
+) -> Result<(), Stop> {
     let list = read_slots(supply, words)?;
-    if let Err(error) = check_slots(&list, *limit as usize) {
+    if let Err(error) = check_slots(&list, limit) {
         write!(reply, "{error}")?;
     }
     Ok(())

@@ -3,25 +3,35 @@
 use crate::held::Held;
 use crate::maps::Maps;
 use slotmap::{DefaultKey, Primary};
-use slotmap_rows::{Call, Mode, Number, Stop, Words, keep_even, write_keys, write_pairs};
+use slotmap_rows::{Number, Stop, write_keys, write_pairs};
 
 impl<'a, M: Held<'a> + Primary<DefaultKey, Number<'a>>> Maps<'a, M> {
-    /// The calls that go over all pairs, or the next ones.
-    pub fn on_many(&mut self, call: &Call<'_>, reply: &mut String) -> Result<(), Stop> {
-        match (call.name, call.words) {
-            ("clear", Words::Nothing) => self.map.clear(),
-            ("retain", Words::Mode(Mode::Even)) => self.map.retain(keep_even),
-            ("retain", Words::Mode(Mode::EveryOther)) => self.retain_every_other(reply)?,
-            ("drain_into", Words::Nothing) => self.drain_into(reply)?,
-            ("keys_into", Words::Nothing) => self.keys_into(reply)?,
-            _ => return self.on_walk(call, reply),
+    /// The calls with no word that go over all pairs.
+    pub fn on_pairs(&mut self, name: &str, reply: &mut String) -> Result<(), Stop> {
+        match name {
+            "clear" => Ok(self.map.clear()),
+            "for" => self.map.walk_all(reply),
+            "drain_into" => self.drain_into(reply),
+            "keys_into" => self.keys_into(reply),
+            _ => Err(Stop::Unknown),
         }
-        Ok(())
     }
 
-    // Keeps what the first, third, fifth call and so on sees, and doubles each value: writes the
-    // values that it saw.
-    fn retain_every_other(&mut self, reply: &mut String) -> Result<(), Stop> {
+    /// So many steps of an iterator.
+    pub fn on_steps(&mut self, name: &str, steps: usize, reply: &mut String) -> Result<(), Stop> {
+        match name {
+            "iter" => self.map.walk_pairs(steps, reply),
+            "keys" => self.map.walk_keys(steps, reply),
+            "values" => self.map.walk_values(steps, reply),
+            "drain" => self.map.drain_some(steps, reply),
+            "into_iter" => self.take_some(steps, reply),
+            _ => Err(Stop::Unknown),
+        }
+    }
+
+    /// Keeps what the first, third, fifth call and so on sees, and doubles each value: writes the
+    /// values that it saw.
+    pub fn retain_every_other(&mut self, reply: &mut String) -> Result<(), Stop> {
         reply.push_str("values")?;
         let mut is_odd = false;
         self.map.retain(|_, value| {
@@ -45,27 +55,13 @@ impl<'a, M: Held<'a> + Primary<DefaultKey, Number<'a>>> Maps<'a, M> {
         Ok(write_keys(reply, &keys)?)
     }
 
-    // The iterators.
-    fn on_walk(&mut self, call: &Call<'_>, reply: &mut String) -> Result<(), Stop> {
-        match (call.name, call.words) {
-            ("iter", Words::Number(steps)) => self.map.walk_pairs(steps as usize, reply),
-            ("keys", Words::Number(steps)) => self.map.walk_keys(steps as usize, reply),
-            ("values", Words::Number(steps)) => self.map.walk_values(steps as usize, reply),
-            ("for", Words::Nothing) => self.map.walk_all(reply),
-            ("drain", Words::Number(steps)) => self.map.drain_some(steps as usize, reply),
-            ("into_iter", Words::Number(steps)) => self.take_some(steps as usize, reply),
-            ("into_iter", Words::Named(Mode::Rest, steps)) => self.take_all(steps as usize, reply),
-            _ => self.on_list(call, reply),
-        }
-    }
-
     // So many steps of `into_iter` of a clone.
     fn take_some(&self, steps: usize, reply: &mut String) -> Result<(), Stop> {
         self.map.copy()?.take_some(steps, reply)
     }
 
-    // The same, and the rest.
-    fn take_all(&self, steps: usize, reply: &mut String) -> Result<(), Stop> {
+    /// The same, and the rest.
+    pub fn take_all(&self, steps: usize, reply: &mut String) -> Result<(), Stop> {
         self.map.copy()?.take_all(steps, reply)
     }
 }

@@ -1,7 +1,6 @@
 //! The map of a row and the map set beside it.
 
 use crate::held::Held;
-use crate::lists::write_checked;
 use slotmap::{DefaultKey, Primary};
 use slotmap_rows::{Call, Number, Stop, Subject, Supply, Word, Words};
 use std::mem;
@@ -26,19 +25,13 @@ impl<'a, M: Held<'a> + Primary<DefaultKey, Number<'a>>> Maps<'a, M> {
 
     /// `clone` sets a clone beside the map, `clone_from` makes the map a clone of the map beside it,
     /// `exchange` exchanges both, and `drop_clone` drops the map beside it.
-    pub fn on_two(&mut self, call: &Call<'_>, reply: &mut String) -> Result<(), Stop> {
-        match (call.name, call.words) {
-            ("clone", Words::Nothing) => self.other = Some(self.map.copy()?),
-            ("clone_from", Words::Nothing) => match &self.other {
-                Some(other) => self.map.copy_from(other)?,
-                None => return Err(Stop::Unknown),
-            },
-            ("exchange", Words::Nothing) => match &mut self.other {
-                Some(other) => mem::swap(&mut self.map, other),
-                None => return Err(Stop::Unknown),
-            },
-            ("drop_clone", Words::Nothing) => self.other = None,
-            _ => return M::own(self, call, reply),
+    pub fn on_two(&mut self, name: &str) -> Result<(), Stop> {
+        match (name, &mut self.other) {
+            ("clone", _) => self.other = Some(self.map.copy()?),
+            ("clone_from", Some(other)) => self.map.copy_from(other)?,
+            ("exchange", Some(other)) => mem::swap(&mut self.map, other),
+            ("drop_clone", _) => self.other = None,
+            _ => return Err(Stop::Unknown),
         }
         Ok(())
     }
@@ -52,10 +45,20 @@ impl<'a, M: Held<'a> + Primary<DefaultKey, Number<'a>>> Subject for Maps<'a, M> 
     }
 
     fn call(&mut self, call: &Call<'_>, list: &[Word], reply: &mut String) -> Result<(), Stop> {
-        match call.name {
-            "from_slots" => self.from_slots(list, reply),
-            "check_slots" => write_checked(self.supply, list, reply),
-            _ => self.on_insert(call, reply),
+        let name = call.name;
+        match call.words {
+            Words::Nothing => self.on_bare(call, reply),
+            Words::Number(number) => self.on_number(call, number, reply),
+            Words::Key(key) => self.on_key(call, key, reply),
+            Words::Put(key, value) => self.on_put(call, key, value, reply),
+            Words::PutTwo(first, value, second, other) => {
+                self.on_put_two(name, [first, second], [value, other], reply)
+            }
+            Words::PutThree(keys, values) => self.on_put_three(name, keys, values, reply),
+            Words::Mode(mode) => self.on_mode(name, mode, reply),
+            Words::Named(mode, number) => self.on_named(name, mode, number, reply),
+            Words::Other => self.on_list(name, list, reply),
+            _ => M::own(self, call, reply),
         }
     }
 }

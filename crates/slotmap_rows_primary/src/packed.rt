@@ -10,50 +10,74 @@ use std::mem;
 type Map<'a> = DenseSlotMap<DefaultKey, Number<'a>>;
 
 impl<'a> Maps<'a, Map<'a>> {
-    /// The calls that lend values for writing, or the next ones.
+    /// The calls of this map alone, and those of maps whose keys can be detached.
     pub fn on_packed(&mut self, call: &Call<'_>, reply: &mut String) -> Result<(), Stop> {
-        match (call.name, call.words) {
-            ("iter_mut", Words::Number(steps)) => {
-                write_taken("pairs", self.map.iter_mut(), steps as usize, reply)
+        let name = call.name;
+        match call.words {
+            Words::Nothing => self.on_slices(name, reply),
+            Words::Number(steps) => self.on_lent(name, steps as usize, reply),
+            Words::Numbers(position, value) => {
+                self.on_position(name, position as usize, value, reply)
             }
-            ("values_mut", Words::Number(steps)) => {
-                write_taken("values", self.map.values_mut(), steps as usize, reply)
-            }
-            ("for_mut", Words::Nothing) => for_mut(&mut self.map, reply),
-            ("get_disjoint_mut", Words::Keys(first, second)) => {
-                swap_two(&mut self.map, [first, second], reply)
-            }
-            ("get_disjoint_unchecked_mut", Words::Keys(first, second)) => {
-                swap_unchecked(&mut self.map, first, second, reply)
-            }
-            _ => self.on_slices(call, reply),
+            Words::Keys(first, second) => self.on_keys(name, first, second, reply),
+            Words::Key(_) | Words::Put(_, _) => self.on_detached(call, reply),
+            _ => Err(Stop::Unknown),
         }
     }
 
-    // The calls on slices.
-    fn on_slices(&mut self, call: &Call<'_>, reply: &mut String) -> Result<(), Stop> {
-        match (call.name, call.words) {
-            ("keys_as_slice", Words::Nothing) => Ok(write_keys(reply, self.map.keys_as_slice())?),
-            ("values_as_slice", Words::Nothing) => {
-                write_values(reply, self.map.values_as_slice())
-            }
-            ("as_slices", Words::Nothing) => {
+    // The slices, and `for` over `&mut map`.
+    fn on_slices(&mut self, name: &str, reply: &mut String) -> Result<(), Stop> {
+        match name {
+            "for_mut" => for_mut(&mut self.map, reply),
+            "keys_as_slice" => Ok(write_keys(reply, self.map.keys_as_slice())?),
+            "values_as_slice" => write_values(reply, self.map.values_as_slice()),
+            "as_slices" => {
                 let (keys, values) = self.map.as_slices();
                 write_slices(reply, keys, values)
             }
-            ("values_as_mut_slice", Words::Numbers(position, value)) => {
+            _ => Err(Stop::Unknown),
+        }
+    }
+
+    // So many steps of an iterator that lends values for writing.
+    fn on_lent(&mut self, name: &str, steps: usize, reply: &mut String) -> Result<(), Stop> {
+        match name {
+            "iter_mut" => write_taken("pairs", self.map.iter_mut(), steps, reply),
+            "values_mut" => write_taken("values", self.map.values_mut(), steps, reply),
+            _ => Err(Stop::Unknown),
+        }
+    }
+
+    // Exchanges the value at a position of a slice that lends values for writing.
+    fn on_position(
+        &mut self,
+        name: &str,
+        position: usize,
+        value: u64,
+        reply: &mut String,
+    ) -> Result<(), Stop> {
+        match name {
+            "values_as_mut_slice" => {
                 let value = self.supply.number(value);
-                put(
-                    self.map.values_as_mut_slice(),
-                    position as usize,
-                    value,
-                    reply,
-                )
+                put(self.map.values_as_mut_slice(), position, value, reply)
             }
-            ("as_mut_slices", Words::Numbers(position, value)) => {
-                self.put_behind_keys(position as usize, value, reply)
-            }
-            _ => self.on_detached(call, reply),
+            "as_mut_slices" => self.put_behind_keys(position, value, reply),
+            _ => Err(Stop::Unknown),
+        }
+    }
+
+    // Exchanges the values of two keys.
+    fn on_keys(
+        &mut self,
+        name: &str,
+        first: DefaultKey,
+        second: DefaultKey,
+        reply: &mut String,
+    ) -> Result<(), Stop> {
+        match name {
+            "get_disjoint_mut" => swap_two(&mut self.map, [first, second], reply),
+            "get_disjoint_unchecked_mut" => swap_unchecked(&mut self.map, first, second, reply),
+            _ => Err(Stop::Unknown),
         }
     }
 
