@@ -5,15 +5,15 @@ pub use Rattle.slotmap_core.specs.declared.commands.Reply.TheVariants.{Key as Ke
 pub use Rattle.slotmap_core.specs.declared.joined.JoinedReply.TheVariants.{Old as JoinedOld, Looked as JoinedLooked}
 -- runs: the machine, what a run is given, the laws of its replies
 pub use Rattle.slotmap_core.specs.Machine.{State, StandsIn, IsIssued, Fresh, empty_state, retired}
-pub use Rattle.slotmap_core.specs.Given.{Given as RunGiven, given, any_closures}
+pub use Rattle.slotmap_core.specs.Given.{RunGiven, given, any_closures}
 pub use Rattle.slotmap_core.specs.Step.{Step, DetachStep}
 pub use Rattle.slotmap_core.specs.Run.{Run, Unretiring}
 pub use Rattle.slotmap_core.specs.Fit.{Fits, Starts, RunFollows, RunsAnew, Continues}
 pub use Rattle.slotmap_core.specs.Law.{Laws, DetachLaws, NoKeyTwice, RemovedForGood, ReserveHolds, DetachedNotReissued, DetachedReattaches, ReattachBinds, LastFreedFirst}
 pub use Rattle.slotmap_core.specs.Law.{IsRefusal, NeedsRoom, DetachNeedsRoom, Spares, keys_told}
-pub use Rattle.slotmap_core.specs.SecondaryStep.{Step as SideStep, Given as SideGiven, given_secondary, LooksAt}
+pub use Rattle.slotmap_core.specs.SecondaryStep.{SideStep, SideGiven, given_secondary, LooksAt}
 pub use Rattle.slotmap_core.specs.SecondaryLaw.{HadMemory, Shows, seen_by, EachAgrees}
-pub use Rattle.slotmap_core.specs.Joined.{Step as JoinedStep, DetachStep as JoinedDetachStep, Joined, given_joined, named, RunsBeside}
+pub use Rattle.slotmap_core.specs.Joined.{JoinedStep, JoinedDetachStep, Joined, given_joined, named, RunsBeside}
 pub use Rattle.slotmap_core.specs.Dictionary.{Dictionary, WithDictionary, DictionaryStep, DetachDictionaryStep, RepliesByDictionary, noted, unused, RunsByDictionary}
 pub use Rattle.slotmap_core.specs.Key.{Key, IsKey, null_key, is_last, next_version, is_older, key_cmp, coded_key, same_keys}
 pub use Rattle.slotmap_core.specs.Content.{Content, content_code, IsContent, IsLive, IsDetached, IsRetired, IsVacant, Stands, used, places, most}
@@ -50,14 +50,14 @@ pub use Rattle.slotmap_core.specs.SecondaryEqual.{AreEqual}
 pub use Rattle.slotmap_core.specs.SecondaryExtend.{AllPut, Extends, ExtendsBy}
 -- the models of a `SecondaryMap` and of a `SparseSecondaryMap`, and what holds of each; a function with an entry as a
 -- parameter requires that it is in place
-pub use Rattle.slotmap_secondary.specs.Content.{Content as SideContent, content_code as side_code, IsContent as IsSideContent, with_value as side_with_value}
-pub use Rattle.slotmap_secondary.specs.Entry.{IsInPlace as IsSideInPlace, entry_map as side_entry_map, entry_key as side_entry_key, entry_value as side_entry_value, entry_with as side_entry_with}
-pub use Rattle.slotmap_sparse.specs.Content.{Content as SparseContent, content_code as sparse_code, IsContent as IsSparseContent, with_value as sparse_with_value}
-pub use Rattle.slotmap_sparse.specs.Entry.{IsInPlace as IsSparseInPlace, entry_map as sparse_entry_map, entry_key as sparse_entry_key, entry_value as sparse_entry_value, entry_with as sparse_entry_with}
+pub use Rattle.slotmap_secondary.specs.Content.{SideContent, side_code, IsSideContent, side_with_value}
+pub use Rattle.slotmap_secondary.specs.Entry.{IsSideInPlace, side_entry_map, side_entry_key, side_entry_value, side_entry_with}
+pub use Rattle.slotmap_sparse.specs.Content.{SparseContent, sparse_code, IsSparseContent, sparse_with_value}
+pub use Rattle.slotmap_sparse.specs.Entry.{IsSparseInPlace, sparse_entry_map, sparse_entry_key, sparse_entry_value, sparse_entry_with}
 -- what a step of a drain, or of an iterator that lends values, requires and leaves
 pub use Rattle.slotmap_basic.specs.Drain.{DrainCanStep, DrainSteps, drain_live, drain_loan}
-pub use Rattle.slotmap_dense.specs.Drain.{DrainSteps as DenseDrainSteps, drain_live as dense_drain_live, drain_loan as dense_drain_loan}
+pub use Rattle.slotmap_dense.specs.Drain.{DenseDrainSteps, dense_drain_live, dense_drain_loan}
 pub use Rattle.slotmap_dense.specs.IterMut.{IterMutCanStep}
-pub use Rattle.slotmap_hop.specs.Drain.{DrainCanStep as HopDrainCanStep, DrainSteps as HopDrainSteps, drain_live as hop_drain_live, drain_loan as hop_drain_loan}
-pub use Rattle.slotmap_secondary.specs.Drain.{DrainCanStep as SideDrainCanStep, DrainSteps as SideDrainSteps, drain_loan as side_drain_loan}
-pub use Rattle.slotmap_sparse.specs.Drain.{DrainSteps as SparseDrainSteps, drain_loan as sparse_drain_loan}
+pub use Rattle.slotmap_hop.specs.Drain.{HopDrainCanStep, HopDrainSteps, hop_drain_live, hop_drain_loan}
+pub use Rattle.slotmap_secondary.specs.Drain.{SideDrainCanStep, SideDrainSteps, side_drain_loan}
+pub use Rattle.slotmap_sparse.specs.Drain.{SparseDrainSteps, sparse_drain_loan}

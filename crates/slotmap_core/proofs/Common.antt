@@ -106,7 +106,7 @@ pub use Rattle.slotmap_core.specs.Words.{last_version, null_key, key_from, is_la
 pub use Rattle.slotmap_core.specs.Words.{IsDetached, IsListing, IsKeyListing, NoneBelow, IsListingBut, with_entries, Along, Removes, Inserts, with_value}
 pub use Rattle.slotmap_core.specs.Words.{Leaves, Detaches, Reattaches, Keeps, IsNew, pushed_all, EmptiesByIndex, pushed, Replaces, StaysValid, MakesRoom}
 pub use Rattle.slotmap_core.specs.Words.{MayGrow, ClonesEqual, IsCloneOf, AreClones, IsCloneBy, IsCopy, CanReplace, RefusesCapacity, Refuses, RefusesWith}
-pub use Rattle.slotmap_core.specs.Words.{RefusesReattach, LacksRoom, Visit, RetainsBy, CallsAt, CallableOnEach, seen, MayCome, kept, Given, given, any_closures}
+pub use Rattle.slotmap_core.specs.Words.{RefusesReattach, LacksRoom, Visit, RetainsBy, CallsAt, CallableOnEach, seen, MayCome, kept, RunGiven, given, any_closures}
 pub use Rattle.slotmap_core.specs.Words.{KeepsAt, State, IsIssued, retired, StandsIn, Fresh, after_insert, empty_state, after_remove, after_replace}
 pub use Rattle.slotmap_core.specs.Words.{after_reserve, after_detach, after_reattach, DetachStep, Step, MayLackMemory, MayLackRoom, Run, Unretiring, Fits}
 pub use Rattle.slotmap_core.specs.Words.{Follows, Lasts, Starts, RunFollows, RunsAnew, Continues, Lifo, IsBasic, answer, after_command, offer_of, top_key}

@@ -1,5 +1,5 @@
 -- What each call of a map guarantees, whatever it returns.
-use Rattle.std.specs.Prelude.{◌≡◌, ℕ, ◌+◌, ◌≤◌, Bool}
+use Rattle.std.specs.Prelude.{◌≡◌, ℕ, ◌+◌, ◌<◌, ◌≤◌, Bool}
 use Rattle.std.specs.FinMap as map
 use Rattle.slotmap_core.specs.Content.{Content, IsContent, used, most}
 use Rattle.slotmap_core.specs.Transition.{Keeps}
@@ -11,12 +11,13 @@ module _ {V : Type 0} where
     pub after : IsContent reuses new
     pub capacity : new.capacity ≡ old.capacity
 
-  -- A call that may allocate room for one more key: the map was and is well formed, and no room is lost. If the call fails,
-  -- the map holds what it held
+  -- A call that may allocate room for one more key: the map was and is well formed, and no capacity is lost. If there is room
+  -- already, the capacity stays. If the call fails, the map holds what it held
   pub record MayGrow (reuses : Bool) (old : Content V) (refused : Type 0) (new : Content V) : Type 0 where
     pub before : IsContent reuses old
     pub after : IsContent reuses new
     pub capacity : old.capacity ≤ new.capacity
+    pub in_place : 0 < old.room → new.capacity ≡ old.capacity
     pub unchanged : refused → Keeps old new
 
   -- a call that reserves room for n more keys; `ok` says that it succeeds

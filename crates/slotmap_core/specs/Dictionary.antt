@@ -8,7 +8,7 @@ use Rattle.slotmap_core.specs.Run.{Run}
 use Rattle.slotmap_core.specs.Fit.{Fits}
 use Rattle.slotmap_core.specs.Secondary.{Pairs}
 use Rattle.slotmap_core.specs.SecondaryStep.{LooksAt}
-use Rattle.slotmap_core.specs.Joined.{Given, Joined, named, Step, DetachStep}
+use Rattle.slotmap_core.specs.Joined.{JoinedGiven, Joined, named, JoinedStep, JoinedDetachStep}
 use Rattle.slotmap_core.specs.declared.joined.JoinedCommand.{JoinedCommand}
 use Rattle.slotmap_core.specs.declared.joined.JoinedCommand.TheVariants as command
 use Rattle.slotmap_core.specs.declared.joined.JoinedDetachCommand.{JoinedDetachCommand}
@@ -34,7 +34,7 @@ module _ {K W : Type 0} (data_of : K → Key) where
   after_take d (Some k) = map.remove d (data_of k)
   after_take d None = d
 
-module _ {K V W R : Type 0} (given : Given K W R) where
+module _ {K V W R : Type 0} (given : JoinedGiven K W R) where
   -- a put that had memory binds the key that it names to its value, a take removes that key, and nothing else changes
   abbrev pub noted : List K → Dictionary W → JoinedCommand V W → JoinedReply K V W R → Dictionary W
   noted keys d (command.Put n w) (reply.Old before) = after_put given.data_of d (named keys n) w
@@ -50,14 +50,14 @@ module _ {K V W R : Type 0} (given : Given K W R) where
 
   -- a step of the two maps, told and noted by the dictionary
   pub record DictionaryStep (old : WithDictionary K V W) (c : JoinedCommand V W) (r : JoinedReply K V W R) (new : WithDictionary K V W) : Type 0 where
-    pub steps : Step given old.joined c r new.joined
+    pub steps : JoinedStep given old.joined c r new.joined
     pub by_dictionary : RepliesByDictionary old.joined old.dictionary c r
     pub notes : new.dictionary ≡ noted old.joined.keys old.dictionary c r
 
   -- the same for a primary map whose keys can be detached; that changes nothing in the dictionary
   abbrev pub DetachDictionaryStep : WithDictionary K V W → JoinedDetachCommand V W → JoinedReply K V W R → WithDictionary K V W → Type 0
   DetachDictionaryStep old (detaching.Plain c) r new = DictionaryStep old c r new
-  DetachDictionaryStep old c r new = DetachStep given old.joined c r new.joined × (new.dictionary ≡ old.dictionary)
+  DetachDictionaryStep old c r new = JoinedDetachStep given old.joined c r new.joined × (new.dictionary ≡ old.dictionary)
 
 -- no slot was made, nothing was stored, and nothing was put under a key
 abbrev pub unused : {K V W : Type 0} → WithDictionary K V W

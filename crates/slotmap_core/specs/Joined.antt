@@ -29,13 +29,13 @@ use Rattle.slotmap_core.specs.declared.joined.JoinedReply.TheVariants as reply
 
 -- What a run is given: the data of a key, and what may be seen of a value of the secondary map. And whether memory
 -- can't run out for an existing slot of the primary map
-pub record Given (K W R : Type 0) : Type 1 where
+pub record JoinedGiven (K W R : Type 0) : Type 1 where
   pub data_of : K → Key
   pub looks : W → R → Type 0
   pub reuses : Bool
 
 -- what a run with the closure `look` is given
-abbrev pub given_joined : {K W R L : Type 0} → (K → Key) → Shared L (Bor W × Unit {0}) R → L → Bool → Given K W R
+abbrev pub given_joined : {K W R L : Type 0} → (K → Key) → Shared L (Bor W × Unit {0}) R → L → Bool → JoinedGiven K W R
 given_joined data_of look_calls look reuses = record { data_of = data_of; looks = FnReturnsAt look_calls look; reuses = reuses }
 
 -- the states of both machines
@@ -50,7 +50,7 @@ abbrev pub named : {K : Type 0} → List K → ℕ → Option K
 named keys zero = None
 named keys (suc n) = slice_get keys n
 
-module _ {K V W R : Type 0} (given : Given K W R) where
+module _ {K V W R : Type 0} (given : JoinedGiven K W R) where
   -- a step of the primary map; no command calls a closure there
   abbrev pub First : Joined K V W → DetachCommand K V → Reply K V (Unit {0}) (Unit {0}) → Joined K V W → Type 0
   First old c r new =
@@ -60,7 +60,7 @@ module _ {K V W R : Type 0} (given : Given K W R) where
   -- a step of the secondary map
   abbrev pub Second : Joined K V W → SecondaryCommand K W → SecondaryReply W R → Joined K V W → Type 0
   Second old c r new =
-      secondary_step.Step (record { data_of = given.data_of; looks = given.looks }) old.secondary c r new.secondary
+      secondary_step.SideStep (record { data_of = given.data_of; looks = given.looks }) old.secondary c r new.secondary
       × (new.primary ≡ old.primary) × (new.keys ≡ old.keys)
 
   -- the key that is returned is the next one that a number names
@@ -93,12 +93,12 @@ module _ {K V W R : Type 0} (given : Given K W R) where
   StepTake old _ _ new = ⊥
 
   -- from old, the machine may give this reply to the command and go on to new: a step of one of the two maps, or no step
-  abbrev pub Step : Joined K V W → JoinedCommand V W → JoinedReply K V W R → Joined K V W → Type 0
-  Step old (command.Insert v) r new = StepInsert old v r new
-  Step old (command.Remove n) r new = StepRemove old (named old.keys n) r new
-  Step old (command.Put n w) r new = StepPut old (named old.keys n) w r new
-  Step old (command.Look n) r new = StepLook old (named old.keys n) r new
-  Step old (command.Take n) r new = StepTake old (named old.keys n) r new
+  abbrev pub JoinedStep : Joined K V W → JoinedCommand V W → JoinedReply K V W R → Joined K V W → Type 0
+  JoinedStep old (command.Insert v) r new = StepInsert old v r new
+  JoinedStep old (command.Remove n) r new = StepRemove old (named old.keys n) r new
+  JoinedStep old (command.Put n w) r new = StepPut old (named old.keys n) w r new
+  JoinedStep old (command.Look n) r new = StepLook old (named old.keys n) r new
+  JoinedStep old (command.Take n) r new = StepTake old (named old.keys n) r new
 
   abbrev pub StepDetach : Joined K V W → Option K → JoinedReply K V W R → Joined K V W → Type 0
   StepDetach old (Some k) (reply.Taken taken) new = First old (Detach k) (first_reply.Taken taken) new × (new.keys ≡ old.keys)
@@ -113,10 +113,10 @@ module _ {K V W R : Type 0} (given : Given K W R) where
   StepReattach old _ v _ new = ⊥
 
   -- the same for a primary map whose keys can be detached
-  abbrev pub DetachStep : Joined K V W → JoinedDetachCommand V W → JoinedReply K V W R → Joined K V W → Type 0
-  DetachStep old (detaching.Plain c) r new = Step old c r new
-  DetachStep old (detaching.Detach n) r new = StepDetach old (named old.keys n) r new
-  DetachStep old (detaching.Reattach n v) r new = StepReattach old (named old.keys n) v r new
+  abbrev pub JoinedDetachStep : Joined K V W → JoinedDetachCommand V W → JoinedReply K V W R → Joined K V W → Type 0
+  JoinedDetachStep old (detaching.Plain c) r new = JoinedStep old c r new
+  JoinedDetachStep old (detaching.Detach n) r new = StepDetach old (named old.keys n) r new
+  JoinedDetachStep old (detaching.Reattach n v) r new = StepReattach old (named old.keys n) v r new
 
 -- The replies are a run from each state that fits the primary map and from the pairs of the secondary one. It leads to a
 -- state that fits the primary map afterwards, and to the secondary map's pairs then

@@ -7,7 +7,7 @@ use Rattle.slotmap_core.specs.Key.{Key}
 use Rattle.slotmap_core.specs.Content.{most}
 use Rattle.slotmap_core.specs.Listing.{IsListing, IsKeyListing}
 use Rattle.slotmap_core.specs.Machine.{State, Fresh, used, after_insert, after_remove, after_replace, after_clear, after_reserve, after_detach, after_reattach}
-use Rattle.slotmap_core.specs.Given.{Given}
+use Rattle.slotmap_core.specs.Given.{RunGiven}
 use Rattle.slotmap_core.specs.declared.commands.Command.{Command}
 use Rattle.slotmap_core.specs.declared.commands.Command.TheVariants as command
 use Rattle.slotmap_core.specs.declared.commands.DetachCommand.{DetachCommand}
@@ -34,7 +34,7 @@ module _ {V : Type 0} (reuses : Bool) (s : State V) where
     -- if existing slots need no memory, fewer than n of them are vacant
     pub beyond_peak : reuses ≡ true → s.peak < used s + n
 
-module _ {K V R E : Type 0} (given : Given K V R E) where
+module _ {K V R E : Type 0} (given : RunGiven K V R E) where
   -- a fresh key is returned, and bound to v; the reply is `Full` if and only if the limit is reached; both errors have v
   abbrev pub StepInsert : State V → V → Reply K V R E → State V → Type 0
   StepInsert old v (reply.Key k) new = (used old ≢ most) × Fresh old (given.data_of k) × (new ≡ after_insert old (given.data_of k) v)

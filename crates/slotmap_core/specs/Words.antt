@@ -41,7 +41,7 @@ pub use Rattle.slotmap_core.specs.Disjoint.{CanReplace, value_of, with_values, A
 pub use Rattle.slotmap_core.specs.Refusal.{RefusesCapacity, Refuses, RefusesWith, RefusesInsert, RefusesReattach, LacksRoom}
 pub use Rattle.slotmap_core.specs.Returned.{uninserted, unattached, with_uninserted, with_unattached}
 pub use Rattle.slotmap_core.specs.Retain.{Visit, RetainsBy, CallsAt, CallableOnEach, seen, MayCome, kept}
-pub use Rattle.slotmap_core.specs.Given.{Given, given, any_closures, KeepsAt}
+pub use Rattle.slotmap_core.specs.Given.{RunGiven, given, any_closures, KeepsAt}
 pub use Rattle.slotmap_core.specs.Machine.{State, IsIssued, retired, StandsIn, Fresh, after_insert, empty_state, after_remove, after_replace, after_reserve}
 pub use Rattle.slotmap_core.specs.Machine.{after_detach, after_reattach, is_retired}
 pub use Rattle.slotmap_core.specs.Step.{DetachStep, Step, MayLackMemory, MayLackRoom}

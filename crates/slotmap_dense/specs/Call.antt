@@ -1,6 +1,6 @@
 -- What the calls of a dense map guarantee, whatever they return.
 use Rattle.std.specs.FinMap as map
-use Rattle.std.specs.Prelude.{◌≡◌, ◌+◌, ◌≤◌, ℕ}
+use Rattle.std.specs.Prelude.{◌≡◌, ◌+◌, ◌<◌, ◌≤◌, ℕ}
 use Rattle.slotmap_core.specs.Words.{used, most, Keeps}
 use Rattle.slotmap_dense.specs.Dense.{Dense, IsDense, SameOrder}
 
@@ -11,12 +11,13 @@ module _ {V : Type 0} where
     pub after : IsDense new
     pub capacity : new.content.capacity ≡ old.content.capacity
 
-  -- A call that may allocate room for one more key: the map was and is well formed, and no capacity is lost. If the call
-  -- fails, the map holds what it held, in the same order
+  -- A call that may allocate room for one more key: the map was and is well formed, and no capacity is lost. If there is room
+  -- already, the capacity stays. If the call fails, the map holds what it held, in the same order
   pub record GrowsDense (old : Dense V) (refused : Type 0) (new : Dense V) : Type 0 where
     pub before : IsDense old
     pub after : IsDense new
     pub capacity : old.content.capacity ≤ new.content.capacity
+    pub in_place : 0 < old.content.room → new.content.capacity ≡ old.content.capacity
     pub unchanged : refused → Keeps old.content new.content
     pub same_order : refused → SameOrder old new
 

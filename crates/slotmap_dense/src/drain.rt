@@ -3,7 +3,7 @@
 ghost use Rattle.std.specs.Prelude.{◌≡◌, ◌≤◌, Some, IfSome};
 ghost use Rattle.slotmap_core.specs.Words.{size, UpTo, drain_count, KeepsLoan, Along, KeepsAlong, ListsAlong};
 ghost use Rattle.slotmap_dense.specs.Dense.{IsDense, Empties};
-ghost use Rattle.slotmap_dense.specs.Drain.{drain_loan, drain_live, DrainSteps, DrainsFromBack};
+ghost use Rattle.slotmap_dense.specs.Drain.{dense_drain_loan, dense_drain_live, DenseDrainSteps, DrainsFromBack};
 
 use crate::DenseSlotMap;
 use slotmap_core::keys::Key;
@@ -20,7 +20,7 @@ pub struct Drain<'a, K: Key, V> {
 
 impl<'a, K: Key, V: Drop> Drop for Drain<'a, K, V> {
     fn drop(self)
-        ensures ends { Empties (drain_loan self.entry).now self.exit.0.now }
+        ensures ends { Empties (dense_drain_loan self.entry).now self.exit.0.now }
         ensures valid { IsDense self.exit.0.now }
     {
         let Drain { map } = self;
@@ -31,9 +31,9 @@ impl<'a, K: Key, V: Drop> Drop for Drain<'a, K, V> {
 impl<'a, K: Key, V: Drop> Iterator for Drain<'a, K, V> {
     type Item = (K, V);
 
-    ghost next_gives = { DrainSteps K.data_of };
+    ghost next_gives = { DenseDrainSteps K.data_of };
 
-    ghost remaining = { drain_count drain_live };
+    ghost remaining = { drain_count dense_drain_live };
 
     fn next(&mut self) -> Option<(K, V)> {
         match self.map.take_last() {
@@ -43,9 +43,9 @@ impl<'a, K: Key, V: Drop> Iterator for Drain<'a, K, V> {
     }
 
     fn size_hint(&self) -> (usize, Option<usize>)
-        ensures lower { result.0 ≤ size (drain_count drain_live self.now) }
-        ensures upper { IfSome result.1 (UpTo (drain_count drain_live self.now)) }
-        ensures exact { result ≡ (size (drain_count drain_live self.now), Some (size (drain_count drain_live self.now))) }
+        ensures lower { result.0 ≤ size (drain_count dense_drain_live self.now) }
+        ensures upper { IfSome result.1 (UpTo (drain_count dense_drain_live self.now)) }
+        ensures exact { result ≡ (size (drain_count dense_drain_live self.now), Some (size (drain_count dense_drain_live self.now))) }
     {
         let len = self.len();
         (len, Some(len))
@@ -85,12 +85,12 @@ impl<K: Key, V: Drop> DenseSlotMap<K, V> {
     /// assert!(rt; map.is_empty());
     /// ```
     pub fn drain(&mut self) -> Drain<'_, K, V>
-        ensures map { (drain_loan result).now ≡ self.old }
-        ensures same_reference { (drain_loan result).ghost_name ≡ self.entry.ghost_name }
+        ensures map { (dense_drain_loan result).now ≡ self.old }
+        ensures same_reference { (dense_drain_loan result).ghost_name ≡ self.entry.ghost_name }
         // Laws of the steps, for callers that take more of them.
-        ensures stays { KeepsAlong (DrainSteps K.data_of) (KeepsLoan drain_loan Empties) result }
-        ensures lists { ListsAlong K.data_of drain_live (DrainSteps K.data_of) result }
-        ensures in_order { Along (DrainSteps K.data_of) (DrainsFromBack K.data_of) result }
+        ensures stays { KeepsAlong (DenseDrainSteps K.data_of) (KeepsLoan dense_drain_loan Empties) result }
+        ensures lists { ListsAlong K.data_of dense_drain_live (DenseDrainSteps K.data_of) result }
+        ensures in_order { Along (DenseDrainSteps K.data_of) (DrainsFromBack K.data_of) result }
         ensures valid { IsDense self.old }
     {
         self.note_valid();

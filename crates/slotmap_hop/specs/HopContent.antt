@@ -80,11 +80,13 @@ module _ {V : Type 0} where
     pub after : IsHopContent new
     pub capacity : new.content.capacity ≡ old.content.capacity
 
-  -- a call that may allocate room for one more key: the map was and is well formed, and no capacity is lost
+  -- A call that may allocate room for one more key: the map was and is well formed, and no capacity is lost. If there is room
+  -- already, the capacity stays
   pub record GrowsHop (old new : HopContent V) : Type 0 where
     pub before : IsHopContent old
     pub after : IsHopContent new
     pub capacity : old.content.capacity ≤ new.content.capacity
+    pub in_place : 0 < old.content.room → new.content.capacity ≡ old.content.capacity
 
   -- a call that reserves room for n more keys, where `ok` says that it succeeds; the blocks stay
   pub record MakesHopRoom (old : HopContent V) (n : ℕ) (ok : Type 0) (new : HopContent V) : Type 0 where

@@ -21,10 +21,10 @@ pub struct Drain<'a, K: Key, V> {
 }
 
 impl<'a, K: Key, V: Drop> Drop for Drain<'a, K, V> {
-    ghost use Rattle.slotmap_hop.specs.Drain.{drain_loan, EmptiesMap};
+    ghost use Rattle.slotmap_hop.specs.Drain.{hop_drain_loan, EmptiesMap};
 
     fn drop(self)
-        ensures ends { EmptiesMap (drain_loan self.entry).now self.exit.0.now.content }
+        ensures ends { EmptiesMap (hop_drain_loan self.entry).now self.exit.0.now.content }
         ensures valid { IsHopContent self.exit.0.now }
     {
         let Drain { map, next: _next } = self;
@@ -34,15 +34,15 @@ impl<'a, K: Key, V: Drop> Drop for Drain<'a, K, V> {
 
 impl<'a, K: Key, V: Drop> Iterator for Drain<'a, K, V> {
     ghost use Rattle.slotmap_core.specs.Words.{drain_count};
-    ghost use Rattle.slotmap_hop.specs.Drain.{drain_live, DrainSteps, DrainCanStep};
+    ghost use Rattle.slotmap_hop.specs.Drain.{hop_drain_live, HopDrainSteps, HopDrainCanStep};
 
     type Item = (K, V);
 
-    ghost can_next = { DrainCanStep K.data_of };
+    ghost can_next = { HopDrainCanStep K.data_of };
 
-    ghost next_gives = { DrainSteps K.data_of };
+    ghost next_gives = { HopDrainSteps K.data_of };
 
-    ghost remaining = { drain_count drain_live };
+    ghost remaining = { drain_count hop_drain_live };
 
     fn next(&mut self) -> Option<(K, V)> {
         let Some(key) = self.next else {
@@ -54,9 +54,9 @@ impl<'a, K: Key, V: Drop> Iterator for Drain<'a, K, V> {
     }
 
     fn size_hint(&self) -> (usize, Option<usize>)
-        ensures lower { result.0 ≤ size (drain_count drain_live self.now) }
-        ensures upper { IfSome result.1 (UpTo (drain_count drain_live self.now)) }
-        ensures exact { result ≡ (size (drain_count drain_live self.now), Some (size (drain_count drain_live self.now))) }
+        ensures lower { result.0 ≤ size (drain_count hop_drain_live self.now) }
+        ensures upper { IfSome result.1 (UpTo (drain_count hop_drain_live self.now)) }
+        ensures exact { result ≡ (size (drain_count hop_drain_live self.now), Some (size (drain_count hop_drain_live self.now))) }
     {
         let len = self.len();
         (len, Some(len))
@@ -79,7 +79,7 @@ impl<'a, K: Key, V: Drop> fmt::Debug for Drain<'a, K, V> {
 
 impl<K: Key, V: Drop> HopSlotMap<K, V> {
     ghost use Rattle.slotmap_core.specs.Words.{KeepsLoan, KeepsAlong, ListsAlong, InOrderAlong};
-    ghost use Rattle.slotmap_hop.specs.Drain.{drain_loan, drain_live, EmptiesMap, DrainCanStep, DrainSteps};
+    ghost use Rattle.slotmap_hop.specs.Drain.{hop_drain_loan, hop_drain_live, EmptiesMap, HopDrainCanStep, HopDrainSteps};
 
     /// Returns an iterator that removes the live keys and yields them with their values, by
     /// ascending index.
@@ -97,14 +97,14 @@ impl<K: Key, V: Drop> HopSlotMap<K, V> {
     /// assert!(rt; map.is_empty());
     /// ```
     pub fn drain(&mut self) -> Drain<'_, K, V>
-        ensures map { (drain_loan result).now ≡ self.old }
-        ensures same_reference { (drain_loan result).ghost_name ≡ self.entry.ghost_name }
-        ensures ready { DrainCanStep K.data_of result }
+        ensures map { (hop_drain_loan result).now ≡ self.old }
+        ensures same_reference { (hop_drain_loan result).ghost_name ≡ self.entry.ghost_name }
+        ensures ready { HopDrainCanStep K.data_of result }
 
         // Laws of the steps, for callers that take more of them.
-        ensures stays { KeepsAlong (DrainSteps K.data_of) (KeepsLoan drain_loan EmptiesMap) result }
-        ensures lists { ListsAlong K.data_of drain_live (DrainSteps K.data_of) result }
-        ensures in_order { InOrderAlong K.data_of drain_live (DrainSteps K.data_of) result }
+        ensures stays { KeepsAlong (HopDrainSteps K.data_of) (KeepsLoan hop_drain_loan EmptiesMap) result }
+        ensures lists { ListsAlong K.data_of hop_drain_live (HopDrainSteps K.data_of) result }
+        ensures in_order { InOrderAlong K.data_of hop_drain_live (HopDrainSteps K.data_of) result }
 
         ensures valid { IsHopContent self.old }
     {

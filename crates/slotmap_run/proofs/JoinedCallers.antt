@@ -6,7 +6,7 @@ use Rattle.slotmap_core.specs.Machine.{StandsIn}
 use Rattle.slotmap_core.specs.Run.{Run}
 use Rattle.slotmap_core.specs.SecondaryStep.{LooksAt}
 use Rattle.slotmap_core.specs.SecondaryLaw.{Shows}
-use Rattle.slotmap_core.specs.Joined.{Given, named, StepPut}
+use Rattle.slotmap_core.specs.Joined.{JoinedGiven, named, StepPut}
 use Rattle.slotmap_core.specs.Dictionary.{WithDictionary, DictionaryStep, after_put, unused}
 use Rattle.slotmap_core.specs.declared.joined.JoinedCommand.{JoinedCommand}
 use Rattle.slotmap_core.specs.declared.joined.JoinedCommand.TheVariants as command
@@ -35,7 +35,7 @@ none_named : {K : Type 0} (n : ℕ) (k : K) → named [] n ≡ Some k → ⊥
 none_named zero k h = absurd (cc)
 none_named (suc n) k h = absurd (cc)
 
-module _ {K V W R : Type 0} (given : Given K W R) where
+module _ {K V W R : Type 0} (given : JoinedGiven K W R) where
   -- the command removes no key
   abbrev pub RemovesNone : JoinedCommand V W → Type 0
   RemovesNone (command.Remove n) = ⊥

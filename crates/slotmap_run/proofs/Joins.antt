@@ -6,7 +6,7 @@ use Rattle.slotmap_core.proofs.Common.{Lasts, Follows as FollowsFirst, reply_key
 use Rattle.slotmap_core.proofs.Common.{WithDictionary, noted, RepliesByDictionary, DictionaryStep, DetachDictionaryStep, MayGrow, Refuses, RefusesReattach}
 use Rattle.slotmap_core.proofs.Common.{None, inl, inr, refl, sym, ap, ◌∙◌, same_Some}
 use Rattle.slotmap_core.specs.Step as first_step
-use Rattle.slotmap_core.specs.Joined.{Given, Step, DetachStep}
+use Rattle.slotmap_core.specs.Joined.{JoinedGiven, JoinedStep, JoinedDetachStep}
 use Rattle.slotmap_core.specs.declared.errors.ReattachError.{ReattachError}
 use Rattle.slotmap_core.specs.declared.errors.ReattachError.TheVariants as again
 use Rattle.slotmap_core.specs.declared.errors.InsertError.TheVariants.{Full, Memory}
@@ -35,10 +35,10 @@ use Rattle.slotmap_run.specs.Ties.{joined, told_by, Known, JoinFollows}
 -- calls of the primary map
 
 -- the machine of the primary map: no command calls a closure there
-abbrev closed : {K V W R : Type 0} → Given K W R → First K V (Unit {0}) (Unit {0})
+abbrev closed : {K V W R : Type 0} → JoinedGiven K W R → First K V (Unit {0}) (Unit {0})
 closed given = record { data_of = given.data_of; looks = λ v r. ⊥; keeps = λ k v w stays. ⊥; makes = λ k r. ⊥; reuses = given.reuses }
 
-module _ {K V W R C : Type 0} (given : Given K W R) (old new : Content V) (m : Pairs W) (keys : List K)
+module _ {K V W R C : Type 0} (given : JoinedGiven K W R) (old new : Content V) (m : Pairs W) (keys : List K)
     (Machine : Joined K V W → C → JoinedReply K V W R → Joined K V W → Type 0) (Telling : WithDictionary K V W → C → JoinedReply K V W R → WithDictionary K V W → Type 0)
     (c : C) (r : JoinedReply K V W R) (a : DetachCommand K V) (b : Reply K V (Unit {0}) (Unit {0})) where
   -- a step of the primary map that returns no key
@@ -58,12 +58,12 @@ module _ {K V W R C : Type 0} (given : Given K W R) (old new : Content V) (m : P
     lasts = follows.lasts;
   }
 
-module _ {K V W R : Type 0} (given : Given K W R) (old new : Content V) (m : Pairs W) (keys : List K) (ok : IsContent given.reuses old) where
+module _ {K V W R : Type 0} (given : JoinedGiven K W R) (old new : Content V) (m : Pairs W) (keys : List K) (ok : IsContent given.reuses old) where
   abbrev Plainly : JoinedCommand V W → JoinedReply K V W R → List K → Type 0
-  Plainly c r keys' = JoinFollows given.data_of (Step given) (DictionaryStep given) old m keys c r new m keys'
+  Plainly c r keys' = JoinFollows given.data_of (JoinedStep given) (DictionaryStep given) old m keys c r new m keys'
 
   abbrev Detaching : JoinedDetachCommand V W → JoinedReply K V W R → Type 0
-  Detaching c r = JoinFollows given.data_of (DetachStep given) (DetachDictionaryStep given) old m keys c r new m keys
+  Detaching c r = JoinFollows given.data_of (JoinedDetachStep given) (DetachDictionaryStep given) old m keys c r new m keys
 
   pub inserts : IsContent given.reuses new → (key : K) (v : V) → Inserts old (given.data_of key) v new → Plainly (command.Insert v) (reply.Key key) (keys ++ key ∷ [])
   inserts new_ok key v i =
@@ -85,9 +85,9 @@ module _ {K V W R : Type 0} (given : Given K W R) (old new : Content V) (m : Pai
 
   module _ (c : JoinedCommand V W) (r : JoinedReply K V W R) (a : Command K V) (b : Reply K V (Unit {0}) (Unit {0})) where
     by_plain : reply_keys given.data_of b ≡ [] → Served first_step.Step Plain (closed given) old a b new
-        → ((s t : State V) → first_step.Step (closed given) s a b t → Step given (joined s m keys) c r (joined t m keys))
+        → ((s t : State V) → first_step.Step (closed given) s a b t → JoinedStep given (joined s m keys) c r (joined t m keys))
         → ((s : State V) (d : Dictionary W) → RepliesByDictionary given (joined s m keys) d c r × (d ≡ noted given keys d c r)) → Plainly c r keys
-    by_plain none served step telling = quiet given old new m keys (Step given) (DictionaryStep given) c r (Plain a) b none (record { step = served.follows.step; lasts = served.follows.lasts })
+    by_plain none served step telling = quiet given old new m keys (JoinedStep given) (DictionaryStep given) c r (Plain a) b none (record { step = served.follows.step; lasts = served.follows.lasts })
         step (λ s t d step. record { steps = step; by_dictionary = (telling s d).0; notes = (telling s d).1 })
 
   pub full : (v back : V) → Refuses old v (Full back) → Keeps old new → Plainly (command.Insert v) (reply.Full back) keys
@@ -105,9 +105,9 @@ module _ {K V W R : Type 0} (given : Given K W R) (old new : Content V) (m : Pai
 
     module _ (c : JoinedDetachCommand V W) (r : JoinedReply K V W R) (a : DetachCommand K V) (b : Reply K V (Unit {0}) (Unit {0})) where
       by_detaching : reply_keys given.data_of b ≡ [] → Served first_step.DetachStep (λ c. c) (closed given) old a b new
-          → ((s t : State V) → first_step.DetachStep (closed given) s a b t → DetachStep given (joined s m keys) c r (joined t m keys))
-          → ((s t : State V) (d : Dictionary W) → DetachStep given (joined s m keys) c r (joined t m keys) → DetachDictionaryStep given (told_by s m keys d) c r (told_by t m keys d)) → Detaching c r
-      by_detaching none served step telling = quiet given old new m keys (DetachStep given) (DetachDictionaryStep given) c r a b none served.follows step telling
+          → ((s t : State V) → first_step.DetachStep (closed given) s a b t → JoinedDetachStep given (joined s m keys) c r (joined t m keys))
+          → ((s t : State V) (d : Dictionary W) → JoinedDetachStep given (joined s m keys) c r (joined t m keys) → DetachDictionaryStep given (told_by s m keys d) c r (told_by t m keys d)) → Detaching c r
+      by_detaching none served step telling = quiet given old new m keys (JoinedDetachStep given) (DetachDictionaryStep given) c r a b none served.follows step telling
 
     pub detached : (taken : Option V) → taken ≡ map.get old.live (given.data_of key) → OnSome taken (Detaches old (given.data_of key) new) → IfNone taken (new ≡ old)
         → Detaching (detaching.Detach i) (reply.Taken taken)
@@ -133,7 +133,7 @@ named_one keys (suc i) k h = (i, h)
 
 -- calls of the secondary map, and of none
 
-module _ {K V W R : Type 0} (given : Given K W R) (old : Content V) (m : Pairs W) (keys : List K) (ok : IsContent given.reuses old) where
+module _ {K V W R : Type 0} (given : JoinedGiven K W R) (old : Content V) (m : Pairs W) (keys : List K) (ok : IsContent given.reuses old) where
   stays_lasts : (n : ℕ) → Lasts (n + 1) old → Lasts n old
   stays_lasts = (keeps given.reuses old old ok (first.keeps_itself old)).lasts
 
@@ -149,15 +149,15 @@ module _ {K V W R : Type 0} (given : Given K W R) (old : Content V) (m : Pairs W
     }
 
   abbrev Second : JoinedCommand V W → JoinedReply K V W R → Pairs W → Type 0
-  Second c r m' = JoinFollows given.data_of (Step given) (DictionaryStep given) old m keys c r old m' keys
+  Second c r m' = JoinFollows given.data_of (JoinedStep given) (DictionaryStep given) old m keys c r old m' keys
 
   -- nor does the dictionary, which tells nothing
-  plainly : (c : JoinedCommand V W) (r : JoinedReply K V W R) → ((s : State V) → Step given (joined s m keys) c r (joined s m keys))
+  plainly : (c : JoinedCommand V W) (r : JoinedReply K V W R) → ((s : State V) → JoinedStep given (joined s m keys) c r (joined s m keys))
       → ((s : State V) (d : Dictionary W) → RepliesByDictionary given (joined s m keys) d c r × (d ≡ noted given keys d c r)) → Second c r m
-  plainly c r step telling = silent (Step given) (DictionaryStep given) c r step (λ s d fits known step. record { steps = step; by_dictionary = (telling s d).0; notes = (telling s d).1 })
+  plainly c r step telling = silent (JoinedStep given) (DictionaryStep given) c r step (λ s d fits known step. record { steps = step; by_dictionary = (telling s d).0; notes = (telling s d).1 })
 
   -- the secondary map changes
-  turns : (m' : Pairs W) (c : JoinedCommand V W) (r : JoinedReply K V W R) (after : Dictionary W → Dictionary W) → ((s : State V) → Step given (joined s m keys) c r (joined s m' keys))
+  turns : (m' : Pairs W) (c : JoinedCommand V W) (r : JoinedReply K V W R) (after : Dictionary W → Dictionary W) → ((s : State V) → JoinedStep given (joined s m keys) c r (joined s m' keys))
       → ((s : State V) (d : Dictionary W) → Fits s old → Known given.data_of s d old m keys → Lasts (2 ^ 31) old
       → RepliesByDictionary given (joined s m keys) d c r × (after d ≡ noted given keys d c r) × Known given.data_of s (after d) old m' keys) → Second c r m'
   turns m' c r after step telling = record {
@@ -195,7 +195,7 @@ module _ {K V W R : Type 0} (given : Given K W R) (old : Content V) (m : Pairs W
     no_room w back lacks = plainly _ _ (λ s. rw (← told) ((lacks, refl), refl, refl)) (λ s d. (tt, refl))
 
     pub looks : (found : Option W) (looked : Option R) → found ≡ get m at → LooksAt given.looks found looked → Second (command.Look i) (reply.Looked looked) m
-    looks found looked is saw = silent (Step given) (DictionaryStep given) _ _ (λ s. rw (← told) ((rw is at saw, refl), refl, refl)) (λ s d fits known step. record {
+    looks found looked is saw = silent (JoinedStep given) (DictionaryStep given) _ _ (λ s. rw (← told) ((rw is at saw, refl), refl, refl)) (λ s d fits known step. record {
       steps = step;
       by_dictionary = λ k h held. rw (is ∙ agrees s d fits known k h held) at saw;
       notes = refl;
@@ -215,10 +215,10 @@ module _ {K V W R : Type 0} (given : Given K W R) (old : Content V) (m : Pairs W
     takes_no_key = plainly _ _ (λ s. rw (← told) refl) (λ s d. (tt, refl))
 
     abbrev Detached : JoinedDetachCommand V W → JoinedReply K V W R → Type 0
-    Detached c r = JoinFollows given.data_of (DetachStep given) (DetachDictionaryStep given) old m keys c r old m keys
+    Detached c r = JoinFollows given.data_of (JoinedDetachStep given) (DetachDictionaryStep given) old m keys c r old m keys
 
     pub detaches_no_key : Detached (detaching.Detach i) reply.NoKey
-    detaches_no_key = silent (DetachStep given) (DetachDictionaryStep given) _ _ (λ s. rw (← told) refl) (λ s d fits known step. (step, refl))
+    detaches_no_key = silent (JoinedDetachStep given) (DetachDictionaryStep given) _ _ (λ s. rw (← told) refl) (λ s d fits known step. (step, refl))
 
     pub reattaches_no_key : (v : V) → Detached (detaching.Reattach i v) (reply.NoKeyFirst v)
-    reattaches_no_key v = silent (DetachStep given) (DetachDictionaryStep given) _ _ (λ s. rw (← told) (refl, refl)) (λ s d fits known step. (step, refl))
+    reattaches_no_key v = silent (JoinedDetachStep given) (DetachDictionaryStep given) _ _ (λ s. rw (← told) (refl, refl)) (λ s d fits known step. (step, refl))

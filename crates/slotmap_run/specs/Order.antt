@@ -2,7 +2,7 @@
 use Rattle.std.specs.FinMap as map
 use Rattle.std.specs.FinSet as set
 use Rattle.std.specs.Prelude.{◌≡◌, Bool, true, Some, IsSome}
-use Rattle.slotmap_core.specs.Words.{Key, Content, IsContent, places, IsNew, State, Given, Follows, Lifo, IsBasic, after_command, answer, reply_keys, IsRefusal}
+use Rattle.slotmap_core.specs.Words.{Key, Content, IsContent, places, IsNew, State, RunGiven, Follows, Lifo, IsBasic, after_command, answer, reply_keys, IsRefusal}
 use Rattle.slotmap_core.specs.declared.commands.DetachCommand.{DetachCommand}
 use Rattle.slotmap_core.specs.declared.commands.Reply.{Reply}
 
@@ -21,8 +21,8 @@ module _ {K V R E : Type 0} (data_of : K → Key) where
 
 -- a command is run: it is a step of this machine, and slots are reused in that order (`of` makes a command of a list with detaching from
 -- it)
-pub record Served {K V R E C : Type 0} (Step : Given K V R E → State V → C → Reply K V R E → State V → Type 0) (of : C → DetachCommand K V)
-    (given : Given K V R E) (old : Content V) (c : C) (r : Reply K V R E) (new : Content V) : Type 0 where
+pub record Served {K V R E C : Type 0} (Step : RunGiven K V R E → State V → C → Reply K V R E → State V → Type 0) (of : C → DetachCommand K V)
+    (given : RunGiven K V R E) (old : Content V) (c : C) (r : Reply K V R E) (new : Content V) : Type 0 where
   pub follows : Follows (Step given) old c r new
   pub orders : Orders given.data_of old (of c) r new
 

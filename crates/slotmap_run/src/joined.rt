@@ -2,7 +2,7 @@
 
 ghost use Rattle.std.specs.Prelude.{◌≡◌, ◌+◌, ◌<◌, ◌≤◌, vec_len, vec_capacity, IfOk, IfErr, OnErr};
 ghost use Rattle.slotmap_core.specs.Words.{IsContent, Starts, given_joined, named, RunsBeside, DictionaryStep, DetachDictionaryStep, RunsByDictionary};
-ghost use Rattle.slotmap_core.specs.Joined.{Step, DetachStep};
+ghost use Rattle.slotmap_core.specs.Joined.{JoinedStep, JoinedDetachStep};
 ghost use Rattle.slotmap_run.specs.Replies.{joined_reattach_reply_of};
 ghost use Rattle.slotmap_run.specs.Ties.{JoinServed};
 
@@ -63,7 +63,7 @@ where
         × (vec_len maps.keys.now + left ≤ vec_capacity maps.keys.now) };
 
     ghost step = { λ self. let what = given_joined K.data_of L.Fn self.look M.REUSES in
-        JoinServed K.data_of M.content S.pairs (Step what) (DictionaryStep what) };
+        JoinServed K.data_of M.content S.pairs (JoinedStep what) (DictionaryStep what) };
 
     fn serve(
         &self,
@@ -160,7 +160,7 @@ where
     // here.
     ensures starts { Starts M.REUSES (M.content primary.old) }
     ensures run { let what = given_joined K.data_of L.Fn look M.REUSES in
-        IfOk result (λ replies. RunsBeside (Step what)
+        IfOk result (λ replies. RunsBeside (JoinedStep what)
         (M.content primary.old) (S.pairs secondary.old) commands.items replies.items
         (M.content primary.new) (S.pairs secondary.new)) }
 
@@ -207,7 +207,7 @@ where
         × (vec_len maps.keys.now + left ≤ vec_capacity maps.keys.now) };
 
     ghost step = { λ self. let what = given_joined K.data_of L.Fn self.look M.REUSES in
-        JoinServed K.data_of M.content S.pairs (DetachStep what) (DetachDictionaryStep what) };
+        JoinServed K.data_of M.content S.pairs (JoinedDetachStep what) (DetachDictionaryStep what) };
 
     fn serve(
         &self,
@@ -267,7 +267,7 @@ where
     // here.
     ensures starts { Starts M.REUSES (M.content primary.old) }
     ensures run { let what = given_joined K.data_of L.Fn look M.REUSES in
-        IfOk result (λ replies. RunsBeside (DetachStep what)
+        IfOk result (λ replies. RunsBeside (JoinedDetachStep what)
         (M.content primary.old) (S.pairs secondary.old) commands.items replies.items
         (M.content primary.new) (S.pairs secondary.new)) }
 

@@ -2,7 +2,7 @@
 
 ghost use Rattle.std.specs.Prelude.{◌≡◌, IfOk, IfErr, OnErr};
 ghost use Rattle.slotmap_core.specs.Words.{AllByRecursion, Run, given_secondary, HadMemory, Shows, seen_by, EachAgrees};
-ghost use Rattle.slotmap_core.specs.SecondaryStep.{Step};
+ghost use Rattle.slotmap_core.specs.SecondaryStep.{SideStep};
 
 use crate::given::GivenLook;
 use crate::serves::{Serves, run_all};
@@ -21,7 +21,7 @@ where
 {
     ghost ready = { λ self map _. L.IsAlwaysCallable self.look };
 
-    ghost step = { λ self old command reply new. Step
+    ghost step = { λ self old command reply new. SideStep
         (given_secondary K.data_of L.Fn self.look)
         (S.pairs old) command reply (S.pairs new) };
 
@@ -83,14 +83,14 @@ where
 
     // Replies and content are a run of the machine.
     ensures run { let what = given_secondary K.data_of L.Fn look in
-        IfOk result (λ replies. Run (Step what)
+        IfOk result (λ replies. Run (SideStep what)
         (S.pairs map.old) commands.items replies.items (S.pairs map.new)) }
 
     // If `look` always returns what f returns, each other map that held the same returns the same
     // replies, whatever closure tells f there, and if no allocation fails.
     ensures run_seen { let what = given_secondary K.data_of L.Fn look in
         IfOk result (λ replies. (f : V → R) → Shows what.looks f →
-        Run (Step (seen_by K.data_of f))
+        Run (SideStep (seen_by K.data_of f))
         (S.pairs map.old) commands.items replies.items (S.pairs map.new)) }
     ensures agrees { let what = given_secondary K.data_of L.Fn look in
         IfOk result (λ replies. (f : V → R) → Shows what.looks f →

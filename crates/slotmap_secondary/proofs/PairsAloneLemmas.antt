@@ -6,25 +6,25 @@ use Rattle.slotmap_core.proofs.Common.{get_bound, bind_twice, in_own, pair_of}
 use Rattle.slotmap_secondary.specs.declared.entry.Entry.TheVariants.{Occupied}
 use Rattle.slotmap_secondary.specs.declared.entry.OccupiedEntry.{OccupiedEntry}
 use Rattle.slotmap_secondary.specs.Entry.{IsWritten, occupied_with}
-use Rattle.slotmap_secondary.specs.Content.{Content, IsContent, with_value}
+use Rattle.slotmap_secondary.specs.Content.{SideContent, IsSideContent, side_with_value}
 
 module _ {V : Type 0} where
-  pub with_value_twice : (c : Content V) (k : Key) (v w : V) → with_value (with_value c k v) k w ≡ with_value c k w
+  pub with_value_twice : (c : SideContent V) (k : Key) (v w : V) → side_with_value (side_with_value c k v) k w ≡ side_with_value c k w
   with_value_twice c k v w = ap (λ (m : Pairs V). record c { pairs = m }) (bind_twice c.pairs k v w)
 
   -- no key of a vacant index is in the map
   pub absent : (m : Pairs V) (i : ℕ) → map.get m i ≡ None → (q : Key) → q.index ≡ i → contains_key m q ≡ false
   absent m i none q at = ap (λ o. is_some (value_at q.version o)) (ap (map.get m) at ∙ none)
 
-  pub key_within : (c : Content V) → IsContent c → (q : Key) → contains_key c.pairs q ≡ true → q.index < c.places
+  pub key_within : (c : SideContent V) → IsSideContent c → (q : Key) → contains_key c.pairs q ≡ true → q.index < c.places
   key_within c well q has = let p = pair_of c.pairs q has in well.within q.index p.0 p.1
 
   -- two changes of the pairs alone are together a change of the pairs alone
-  pub keeps_on : (a b c : Content V) (m : Pairs V) → b ≡ record a { pairs = b.pairs } → c ≡ record b { pairs = m } → c ≡ record a { pairs = c.pairs }
-  keeps_on a b c m e f = rw f (ap (λ (x : Content V). record x { pairs = m }) e)
+  pub keeps_on : (a b c : SideContent V) (m : Pairs V) → b ≡ record a { pairs = b.pairs } → c ≡ record b { pairs = m } → c ≡ record a { pairs = c.pairs }
+  keeps_on a b c m e f = rw f (ap (λ (x : SideContent V). record x { pairs = m }) e)
 
   -- another value for a key of the map
-  pub IsContent-with_value : (c : Content V) (k : Key) (v : V) → IsContent c → contains_key c.pairs k ≡ true → IsContent (with_value c k v)
+  pub IsContent-with_value : (c : SideContent V) (k : Key) (v : V) → IsSideContent c → contains_key c.pairs k ≡ true → IsSideContent (side_with_value c k v)
   IsContent-with_value c k v well has = record {
     keys = IsSecondary-again c.pairs k v has well.keys;
     within = λ i p found. grind (arith, get_after_insert nat_cmp_total exact_unsigned c.pairs k.index (k.version, v) i p found, key_within c well k has, well.within i p);

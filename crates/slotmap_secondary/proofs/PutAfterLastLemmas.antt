@@ -3,7 +3,7 @@ use Rattle.std.specs.FinMap as map
 use Rattle.std.proofs.Common.{◌≡◌, ◌≢◌, ◌+◌, ◌<◌, ◌≤◌, ◌^◌, ◌∷◌, ◌++◌, ℕ, cond, List, [], length, None, ne_eqb, eq-eqb, refl, sym, ap, subst, ◌∙◌, arith}
 use Rattle.slotmap_core.proofs.Common.{Key, IsKey, null_key, no_entry, vacant, entry_at, entry, bind, length_push, none_from}
 use Rattle.slotmap_secondary.specs.Slots.{Slot, Occupied, pairs_of, content_of, IsSound}
-use Rattle.slotmap_secondary.specs.Content.{Content, IsContent}
+use Rattle.slotmap_secondary.specs.Content.{SideContent, IsSideContent}
 use Rattle.slotmap_secondary.proofs.SlotLemmas.{each-push}
 use Rattle.slotmap_secondary.proofs.FromListLemmas.{pairs-push_key, count_key}
 
@@ -20,7 +20,7 @@ module _ {V : Type 0} (slots : List (Slot V)) (len : ℕ) (sound : IsSound slots
   pub content-append : (capacity : ℕ) → content_of (slots ++ Occupied k.version x ∷ []) capacity ≡ record { pairs = bind (pairs_of slots) k x; places = length slots + 1; capacity = capacity }
   content-append capacity = rw (pairs-push_key slots k.version x, length_push slots (Occupied k.version x), ← at) refl
 
-module _ {V : Type 0} (c : Content V) (well : IsContent c) (k : Key) where
+module _ {V : Type 0} (c : SideContent V) (well : IsSideContent c) (k : Key) where
   -- after the last slot there is nothing
   nothing_past : c.places ≤ k.index → map.get c.pairs k.index ≡ None
   nothing_past past = none_from (map.get c.pairs k.index) (λ p is. omega (arith, well.within k.index p is))

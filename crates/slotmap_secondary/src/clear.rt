@@ -2,7 +2,7 @@
 
 ghost use Rattle.std.specs.FinMap as map;
 ghost use Rattle.std.specs.Prelude.{◌≡◌, ◌≤◌, ℕ, true};
-ghost use Rattle.slotmap_secondary.specs.Content.{IsContent};
+ghost use Rattle.slotmap_secondary.specs.Content.{IsSideContent};
 
 use crate::{SecondaryMap, slot};
 use slotmap_core::keys::Key;
@@ -19,7 +19,7 @@ impl<K: Key, V: Drop> SecondaryMap<K, V> {
     /// ```
     pub fn clear(&mut self)
         ensures empty { self.new ≡ record self.old { pairs = map.empty } }
-        ensures valid { IsContent self.new }
+        ensures valid { IsSideContent self.new }
     {
         slot::vacate_all(&mut self.slots);
         self.len = 0;
@@ -29,7 +29,7 @@ impl<K: Key, V: Drop> SecondaryMap<K, V> {
     pub(crate) fn clear_from(&mut self, start: usize)
         ensures empty { ((i : ℕ) → map.contains_key self.old.pairs i ≡ true → start ≤ i)
             → self.new ≡ record self.old { pairs = map.empty } }
-        ensures valid { IsContent self.new }
+        ensures valid { IsSideContent self.new }
     {
         for index in start..self.place_count() {
             drop(self.take_at(index));

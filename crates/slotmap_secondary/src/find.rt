@@ -3,7 +3,7 @@
 ghost use Rattle.std.specs.FinMap as map;
 ghost use Rattle.std.specs.Prelude.{◌≡◌, ◌<◌, None, IfSome, IfNone, true};
 ghost use Rattle.slotmap_core.specs.Words.{contains_key, entry};
-ghost use Rattle.slotmap_secondary.specs.Content.{IsContent};
+ghost use Rattle.slotmap_secondary.specs.Content.{IsSideContent};
 
 use crate::SecondaryMap;
 use crate::slot::{Found, Slot};
@@ -18,7 +18,7 @@ impl<K: Key, V: Drop> SecondaryMap<K, V> {
     // What the key's entry is.
     pub(crate) fn find(&self, key: K) -> Found
         ensures found { is_found result (entry self.now.pairs (K.data_of key)) }
-        ensures valid { IsContent self.now }
+        ensures valid { IsSideContent self.now }
     {
         let index = key.data().idx() as usize;
         if index < self.place_count() {
@@ -34,7 +34,7 @@ impl<K: Key, V: Drop> SecondaryMap<K, V> {
     pub(crate) fn find_in(&self, key: K) -> Found
         requires { (K.data_of key).index < self.now.places }
         ensures found { is_found result (entry self.now.pairs (K.data_of key)) }
-        ensures valid { IsContent self.now }
+        ensures valid { IsSideContent self.now }
     {
         let key = key.data();
         self.slots[key.idx() as usize].find(key.version())
@@ -43,7 +43,7 @@ impl<K: Key, V: Drop> SecondaryMap<K, V> {
     // How many slots there are.
     pub(crate) fn place_count(&self) -> usize
         ensures count { result ≡ self.now.places }
-        ensures valid { IsContent self.now }
+        ensures valid { IsSideContent self.now }
     {
         self.slots.len()
     }

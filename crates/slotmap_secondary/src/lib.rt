@@ -22,7 +22,7 @@
 ghost use Rattle.std.specs.FinMap as map;
 ghost use Rattle.std.specs.Prelude.{◌≡◌, ◌≤◌, ◌+◌, ◌↔◌, IsTrue, IfOk, OnOk, IfErr};
 ghost use Rattle.slotmap_core.specs.Words.{most, RefusesCapacity};
-ghost use Rattle.slotmap_secondary.specs.Content.{IsContent, SetsCapacity};
+ghost use Rattle.slotmap_secondary.specs.Content.{IsSideContent, SetsCapacity};
 
 mod access;
 mod clear;
@@ -84,12 +84,12 @@ pub struct SecondaryMap<K, V> {
 
 impl<K, V> Model for SecondaryMap<K, V> {
     ghost use Rattle.std.specs.Prelude.{◌-◌, vec_capacity};
-    ghost use Rattle.slotmap_secondary.specs.Content.{Content, content_code};
+    ghost use Rattle.slotmap_secondary.specs.Content.{SideContent, side_code};
     ghost use Rattle.slotmap_secondary.specs.Slots.{content_of, IsSound};
 
-    ghost Value = { Content V };
+    ghost Value = { SideContent V };
 
-    ghost coded = { content_code V.code };
+    ghost coded = { side_code V.code };
 
     ghost view = { λ m. content_of m.slots.items (vec_capacity m.slots - 1) };
 
@@ -120,7 +120,7 @@ impl<K: Key, V: Drop> SecondaryMap<K, V> {
         ensures empty { IfOk result (λ made. made.pairs ≡ map.empty) }
         ensures places { IfOk result (λ made. made.places ≡ 1) }
         ensures err { IfErr result (λ error. error ≡ ReserveError.Memory) }
-        ensures valid { IfOk result IsContent }
+        ensures valid { IfOk result IsSideContent }
     {
         SecondaryMap::with_capacity(alloc, 0)
     }
@@ -140,7 +140,7 @@ impl<K: Key, V: Drop> SecondaryMap<K, V> {
         ensures capacity { IfOk result (λ made. capacity ≤ made.capacity) }
         ensures fits { OnOk result (capacity ≤ most) }
         ensures err { IfErr result (RefusesCapacity capacity) }
-        ensures valid { IfOk result IsContent }
+        ensures valid { IfOk result IsSideContent }
     {
         if capacity > MOST_INDEX {
             return Err(ReserveError::TooGreat);
@@ -163,7 +163,7 @@ impl<K: Key, V: Drop> SecondaryMap<K, V> {
     /// ```
     pub fn len(&self) -> usize
         ensures value { result ≡ map.len self.now.pairs }
-        ensures valid { IsContent self.now }
+        ensures valid { IsSideContent self.now }
     {
         self.len
     }
@@ -177,7 +177,7 @@ impl<K: Key, V: Drop> SecondaryMap<K, V> {
     /// ```
     pub fn is_empty(&self) -> bool
         ensures value { IsTrue result ↔ (map.len self.now.pairs ≡ 0) }
-        ensures valid { IsContent self.now }
+        ensures valid { IsSideContent self.now }
     {
         self.len() == 0
     }
@@ -194,7 +194,7 @@ impl<K: Key, V: Drop> SecondaryMap<K, V> {
     pub fn capacity(&self) -> usize
         ensures value { result ≡ self.now.capacity }
         ensures fits { map.len self.now.pairs ≤ result + 1 }
-        ensures valid { IsContent self.now }
+        ensures valid { IsSideContent self.now }
     {
         self.slots.capacity() - 1
     }
@@ -213,7 +213,7 @@ impl<K: Key, V: Drop> SecondaryMap<K, V> {
     /// ```
     pub fn set_capacity(&mut self, capacity: usize) -> Result<(), ReserveError>
         ensures sets { SetsCapacity capacity self.old result self.new }
-        ensures valid { IsContent self.new }
+        ensures valid { IsSideContent self.new }
     {
         if capacity > MOST_INDEX {
             // Reads the map, for the clause `valid`.
@@ -234,7 +234,7 @@ impl<K: Key, V: Drop> SecondaryMap<K, V> {
     /// ```
     pub fn try_set_capacity(&mut self, capacity: usize) -> Result<(), ReserveError>
         ensures sets { SetsCapacity capacity self.old result self.new }
-        ensures valid { IsContent self.new }
+        ensures valid { IsSideContent self.new }
     {
         self.set_capacity(capacity)
     }

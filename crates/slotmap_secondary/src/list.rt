@@ -3,7 +3,7 @@
 ghost use Rattle.std.specs.FinMap as map;
 ghost use Rattle.std.specs.Prelude.{◌≡◌, length, IfOk, IsOk, IfErr};
 ghost use Rattle.slotmap_core.specs.Words.{ClonesEqual, IsCloneOf, Key, get, keyed, start_live, Accepts, RefusesStart};
-ghost use Rattle.slotmap_secondary.specs.Content.{IsContent};
+ghost use Rattle.slotmap_secondary.specs.Content.{IsSideContent};
 ghost use Rattle.slotmap_secondary.specs.Written.{Writes, WritesClones};
 
 use crate::SecondaryMap;
@@ -48,7 +48,7 @@ impl<K: Key, V: Drop> SecondaryMap<K, V> {
         ensures contents_if_clones_equal { IfOk result (λ slots.
             ClonesEqual V.is_clone → start_live slots.items ≡ keyed self.now.pairs) }
 
-        ensures valid { IsContent self.now }
+        ensures valid { IsSideContent self.now }
     {
         let mut slots = Vec::with_capacity(*self.slots.allocator(), self.slots.len())?;
         for index in 0..self.slots.len() {
@@ -83,7 +83,7 @@ impl<K: Key, V: Drop> SecondaryMap<K, V> {
     pub fn from_slots(alloc: Global, list: Vec<SlotRecord<V>>) -> Result<Self, SlotsError>
         ensures contents { IfOk result (λ made. keyed made.pairs ≡ start_live list.items) }
         ensures places { IfOk result (λ made. made.places ≡ length list.items) }
-        ensures valid { IfOk result IsContent }
+        ensures valid { IfOk result IsSideContent }
 
         // When it fails: the first error that applies.
         ensures accepted { IsOk result → Accepts list.items 4294967294 }

@@ -2,7 +2,7 @@
 
 ghost use Rattle.std.specs.Prelude.{◌≡◌, ◌<◌, Some, true};
 ghost use Rattle.slotmap_core.specs.Words.{get, contains_key, remove};
-ghost use Rattle.slotmap_secondary.specs.Content.{IsContent};
+ghost use Rattle.slotmap_secondary.specs.Content.{IsSideContent};
 
 use crate::SecondaryMap;
 use crate::slot::Slot;
@@ -23,7 +23,7 @@ impl<K: Key, V: Drop> SecondaryMap<K, V> {
     pub fn remove(&mut self, key: K) -> Option<V>
         ensures value { result ≡ get self.old.pairs (K.data_of key) }
         ensures removes { self.new ≡ record self.old { pairs = remove self.old.pairs (K.data_of key) } }
-        ensures valid { IsContent self.new }
+        ensures valid { IsSideContent self.new }
     {
         // `get` tests what kind of slot it is, and `take_live` then needs no test.
         if self.get(key).is_some() {
@@ -38,7 +38,7 @@ impl<K: Key, V: Drop> SecondaryMap<K, V> {
         requires { contains_key self.old.pairs (K.data_of key) ≡ true }
         ensures value { get self.old.pairs (K.data_of key) ≡ Some result }
         ensures removes { self.new ≡ record self.old { pairs = remove self.old.pairs (K.data_of key) } }
-        ensures valid { IsContent self.new }
+        ensures valid { IsSideContent self.new }
     {
         let index = key.data().idx() as usize;
         let value = self.slots[index].take();
@@ -50,7 +50,7 @@ impl<K: Key, V: Drop> SecondaryMap<K, V> {
     pub(crate) fn take_at(&mut self, index: usize) -> Option<(K, V)>
         requires { index < self.old.places }
         ensures takes { TakesAt K.data_of self.old index result self.new }
-        ensures valid { IsContent self.new }
+        ensures valid { IsSideContent self.new }
     {
         match mem::replace(&mut self.slots[index], Slot::Vacant(0)) {
             Slot::Vacant(_) => None,

@@ -6,7 +6,7 @@ use Rattle.slotmap_core.proofs.Common.{keys_of, Key, IsKey, Pairs, IsSecondary, 
 use Rattle.slotmap_core.proofs.Common.{◌∙◌, nat_cmp, arith, inl, inr, MutBor, Result, Ok, OnOk, exact_unsigned, lookup-none, none_past_head, len_inserted}
 use Rattle.slotmap_core.proofs.Common.{get_after_insert, insert_same, get_here, IsSecondary-empty, IsSecondary-bind, IsSecondary-put, IsSecondary-remove}
 use Rattle.slotmap_core.proofs.Common.{same_version, not_null_at, put_at}
-use Rattle.slotmap_sparse.specs.Content.{Content, IsContent, with_value, room}
+use Rattle.slotmap_sparse.specs.Content.{SparseContent, IsSparseContent, sparse_with_value, room}
 use Rattle.slotmap_sparse.specs.Found.{put_over}
 use Rattle.slotmap_sparse.specs.Entries.{pairs_of, content_of, IsSound}
 
@@ -29,12 +29,12 @@ module _ {V : Type 0} where
   found_pair es p is q = sym (get-pairs es q) ∙ ap (λ (x : Pairs V). map.get x q) is
 
   -- what a look-up of an index finds is at the index of the key
-  pub stands_at : {S : Type 0} (m : HashMap ℕ (ℕ × V) S) (c : Content V) → content_of m ≡ c → (k : Key) (i : ℕ) → i ≡ k.index → (o : Option (ℕ × V)) → lookup (nat_eq i) m.entries ≡ o
+  pub stands_at : {S : Type 0} (m : HashMap ℕ (ℕ × V) S) (c : SparseContent V) → content_of m ≡ c → (k : Key) (i : ℕ) → i ≡ k.index → (o : Option (ℕ × V)) → lookup (nat_eq i) m.entries ≡ o
       → map.get c.pairs k.index ≡ o
-  stands_at m c is k i at o found = sym (found_pair m.entries c.pairs (ap (λ (x : Content V). x.pairs) is) i ∙ ap (map.get c.pairs) at) ∙ found
+  stands_at m c is k i at o found = sym (found_pair m.entries c.pairs (ap (λ (x : SparseContent V). x.pairs) is) i ∙ ap (map.get c.pairs) at) ∙ found
 
   -- what a key finds at a pair that a look-up of its index lends
-  module _ {S : Type 0} (m : HashMap ℕ (ℕ × V) S) (c : Content V) (is : content_of m ≡ c) (k : Key) (i : ℕ) (at : i ≡ k.index) (p : ℕ × V)
+  module _ {S : Type 0} (m : HashMap ℕ (ℕ × V) S) (c : SparseContent V) (is : content_of m ≡ c) (k : Key) (i : ℕ) (at : i ≡ k.index) (p : ℕ × V)
       (stood : lookup (nat_eq i) m.entries ≡ Some p) where
     pub found_own : p.0 ≡ k.version → get c.pairs k ≡ Some p.1
     found_own same = get_here c.pairs k p (stands_at m c is k i at (Some p) stood) (eq-eqb p.0 k.version same)
@@ -68,19 +68,19 @@ module _ {V : Type 0} where
   same_len es p is sound = sym (ap (λ (x : Pairs V). map.len x) is) ∙ len-pairs es sound.unique
 
   -- what is sound is well formed
-  pub well_formed : {S : Type 0} (m : HashMap ℕ (ℕ × V) S) (c : Content V) → content_of m ≡ c → IsSound m.entries → IsContent c
+  pub well_formed : {S : Type 0} (m : HashMap ℕ (ℕ × V) S) (c : SparseContent V) → content_of m ≡ c → IsSound m.entries → IsSparseContent c
   well_formed m c is sound =
-      let pairs = ap (λ (x : Content V). x.pairs) is in
-      let memory : hash_map_len m + spare m ≡ c.capacity = ap (λ (x : Content V). x.capacity) is in
+      let pairs = ap (λ (x : SparseContent V). x.pairs) is in
+      let memory : hash_map_len m + spare m ≡ c.capacity = ap (λ (x : SparseContent V). x.capacity) is in
       let long = same_len m.entries c.pairs pairs sound in
       record { keys = valid_pairs m.entries c.pairs pairs sound; fits = omega (arith, memory, long) }
 
   -- there is memory for as many further keys as the hash map has spare entries
-  spare_room : {S : Type 0} (m : HashMap ℕ (ℕ × V) S) (c : Content V) → content_of m ≡ c → IsSound m.entries → room c ≡ spare m
+  spare_room : {S : Type 0} (m : HashMap ℕ (ℕ × V) S) (c : SparseContent V) → content_of m ≡ c → IsSound m.entries → room c ≡ spare m
   spare_room m c is sound = grind (arith, same_len)
 
   -- so with no fewer spare entries there is memory for no fewer keys
-  pub more_room : {S : Type 0} (m n : HashMap ℕ (ℕ × V) S) (c : Content V) → content_of m ≡ c → IsSound m.entries → IsSound n.entries → spare m ≤ spare n → room c ≤ room (content_of n)
+  pub more_room : {S : Type 0} (m n : HashMap ℕ (ℕ × V) S) (c : SparseContent V) → content_of m ≡ c → IsSound m.entries → IsSound n.entries → spare m ≤ spare n → room c ≤ room (content_of n)
   more_room m n c is sound after more = omega (arith, spare_room m c is sound, spare_room n (content_of n) refl after, more)
 
   pub IsSound-empty : (es : Entries V) → IsDistinct nat_eq (keys_of es) → es ≡ [] → IsSound es
@@ -121,7 +121,7 @@ module _ {V : Type 0} where
     pub IsSound-through : IsSound n.entries
     IsSound-through = IsSound-written m.entries n.entries sound written.4 i p (p.0, w) (get-pairs m.entries i ∙ stood) refl put_there
 
-    pub content-through : (c : Content V) → content_of m ≡ c → contains_key c.pairs k ≡ true → content_of n ≡ with_value c k w
+    pub content-through : (c : SparseContent V) → content_of m ≡ c → contains_key c.pairs k ≡ true → content_of n ≡ sparse_with_value c k w
     content-through c is stands = grind (arith, stands_at, same_version, put_there)
 
   -- what a reference leaves if nothing was written through it
@@ -138,14 +138,14 @@ module _ {V : Type 0} where
     content_kept = let memory : hash_map_len n + spare n ≡ hash_map_len m + spare m = λ j. written.2 j + written.6 j in λ j. record { pairs = pairs_kept j; capacity = memory j }
 
   -- what a put over the pair at the index of a key leaves
-  module _ {S : Type 0} (m n : HashMap ℕ (ℕ × V) S) (sound : IsSound m.entries) (c : Content V) (is : content_of m ≡ c) (k : Key) (key : IsKey k)
+  module _ {S : Type 0} (m n : HashMap ℕ (ℕ × V) S) (sound : IsSound m.entries) (c : SparseContent V) (is : content_of m ≡ c) (k : Key) (key : IsKey k)
       (i : ℕ) (at : i ≡ k.index) (p : ℕ × V) (v : V) (stood : lookup (nat_eq i) m.entries ≡ Some p)
       (written : WritesThrough nat_eq (nat_eq i) m (put_over k.version v p) n) where
     stands : map.get c.pairs k.index ≡ Some p
     stands = stands_at m c is k i at (Some p) stood
 
     valid : IsSecondary c.pairs
-    valid = valid_pairs m.entries c.pairs (ap (λ (x : Content V). x.pairs) is) sound
+    valid = valid_pairs m.entries c.pairs (ap (λ (x : SparseContent V). x.pairs) is) sound
 
     other : is_null k ≡ false
     other = not_null_at c.pairs k p stands valid

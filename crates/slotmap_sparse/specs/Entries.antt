@@ -2,14 +2,14 @@
 use Rattle.std.specs.FinMap as map
 use Rattle.std.specs.Prelude.{◌≡◌, ◌+◌, ℕ, Bool, List, nat_eq}
 use Rattle.slotmap_core.specs.Words.{Mut, Takes, MutBor, HashMap, hash_map_len, spare, IsDistinct, keys_of, Key, key_from, Pairs, IsSecondary}
-use Rattle.slotmap_sparse.specs.Content.{Content}
+use Rattle.slotmap_sparse.specs.Content.{SparseContent}
 
 module _ {V : Type 0} where
   -- from each index to its version and value
   abbrev pub pairs_of : List (ℕ × (ℕ × V)) → Pairs V
   pairs_of entries = map.from_entries entries
 
-  abbrev pub content_of : {S : Type 0} → HashMap ℕ (ℕ × V) S → Content V
+  abbrev pub content_of : {S : Type 0} → HashMap ℕ (ℕ × V) S → SparseContent V
   content_of slots = record { pairs = pairs_of slots.entries; capacity = hash_map_len slots + spare slots }
 
   -- no index occurs twice, and each is that of a key with its version

@@ -12,7 +12,7 @@ use Rattle.slotmap_sparse.specs.declared.entry.Entry.TheVariants.{Occupied, Vaca
 use Rattle.slotmap_sparse.specs.declared.entry.OccupiedEntry.{OccupiedEntry}
 use Rattle.slotmap_sparse.specs.contracts.SparseSecondaryMap.{the_row}
 use Rattle.slotmap_sparse.specs.contracts.entry.OccupiedEntry as occupied
-use Rattle.slotmap_sparse.specs.Content.{Content, room, with_value}
+use Rattle.slotmap_sparse.specs.Content.{SparseContent, room, sparse_with_value}
 
 -- what an entry of k leaves in the map: an older pair at k's index is removed
 abbrev pub entry_leaves : {V : Type 0} → Pairs V → Key → Pairs V
@@ -20,64 +20,64 @@ entry_leaves m k = if contains_key m k then m else map.remove m k.index
 
 module _ {K V S Z : Type 0} where
   -- the reference to the map
-  abbrev pub entry_map_ref : Entry K V S Z → MutBor (Content V)
+  abbrev pub entry_map_ref : Entry K V S Z → MutBor (SparseContent V)
   entry_map_ref (Occupied e) = e.map
   entry_map_ref (Vacant e) = e.map
 
   -- what the map holds
-  abbrev pub entry_map : Entry K V S Z → Content V
-  entry_map e = (entry_map_ref e).now
+  abbrev pub sparse_entry_map : Entry K V S Z → SparseContent V
+  sparse_entry_map e = (entry_map_ref e).now
 
   -- the ghost name of the reference to the map
   abbrev pub entry_lender : Entry K V S Z → GName
   entry_lender e = (entry_map_ref e).ghost_name
 
-  abbrev pub entry_key : Entry K V S Z → K
-  entry_key (Occupied e) = e.key
-  entry_key (Vacant e) = e.key
+  abbrev pub sparse_entry_key : Entry K V S Z → K
+  sparse_entry_key (Occupied e) = e.key
+  sparse_entry_key (Vacant e) = e.key
 
   module _ (data_of : K → Key) where
     -- the value that the key has
-    abbrev pub entry_value : Entry K V S Z → Option V
-    entry_value (Occupied e) = get e.map.now.pairs (data_of e.key)
-    entry_value (Vacant e) = None
+    abbrev pub sparse_entry_value : Entry K V S Z → Option V
+    sparse_entry_value (Occupied e) = get e.map.now.pairs (data_of e.key)
+    sparse_entry_value (Vacant e) = None
 
     -- the key of an occupied entry is in the map; that of a vacant entry can be inserted, and nothing is at its index
-    abbrev pub IsInPlace : Entry K V S Z → Type 0
-    IsInPlace (Occupied e) = contains_key e.map.now.pairs (data_of e.key) ≡ true
-    IsInPlace (Vacant e) = (pair.entry e.map.now.pairs (data_of e.key) ≡ pair.vacant) × (map.get e.map.now.pairs (data_of e.key).index ≡ None)
+    abbrev pub IsSparseInPlace : Entry K V S Z → Type 0
+    IsSparseInPlace (Occupied e) = contains_key e.map.now.pairs (data_of e.key) ≡ true
+    IsSparseInPlace (Vacant e) = (pair.entry e.map.now.pairs (data_of e.key) ≡ pair.vacant) × (map.get e.map.now.pairs (data_of e.key).index ≡ None)
 
     -- the map once this is the value of the key
-    abbrev pub entry_with : Entry K V S Z → V → Content V
-    entry_with e v = with_value (entry_map e) (data_of (entry_key e)) v
+    abbrev pub sparse_entry_with : Entry K V S Z → V → SparseContent V
+    sparse_entry_with e v = sparse_with_value (sparse_entry_map e) (data_of (sparse_entry_key e)) v
 
     -- the pairs once the key is removed
     abbrev pub entry_without : Entry K V S Z → Pairs V
-    entry_without e = remove (entry_map e).pairs (data_of (entry_key e))
+    entry_without e = remove (sparse_entry_map e).pairs (data_of (sparse_entry_key e))
 
     -- o, once this is its value
     abbrev pub occupied_with : OccupiedEntry K V S Z → V → OccupiedEntry K V S Z
-    occupied_with o v = record o { map = record o.map { now = with_value o.map.now (data_of o.key) v } }
+    occupied_with o v = record o { map = record o.map { now = sparse_with_value o.map.now (data_of o.key) v } }
 
     -- d is the entry e, once v is its value
     pub record IsWritten (e : Entry K V S Z) (v : V) (d : Entry K V S Z) : Type 0 where
       pub same_map : entry_lender d ≡ entry_lender e
-      pub same_key : entry_key d ≡ entry_key e
-      pub after : entry_map d ≡ entry_with e v
-      pub value : entry_value d ≡ Some v
-      pub in_place : IsInPlace d
+      pub same_key : sparse_entry_key d ≡ sparse_entry_key e
+      pub after : sparse_entry_map d ≡ sparse_entry_with e v
+      pub value : sparse_entry_value d ≡ Some v
+      pub in_place : IsSparseInPlace d
 
     -- e is an entry of k in the map behind m; the map holds what it held, except for an older pair at k's index
-    pub record Enters (m : MutBor (Content V)) (k : K) (e : Entry K V S Z) : Type 0 where
+    pub record Enters (m : MutBor (SparseContent V)) (k : K) (e : Entry K V S Z) : Type 0 where
       pub same_map : entry_lender e ≡ m.ghost_name
-      pub key : entry_key e ≡ k
-      pub pairs : (entry_map e).pairs ≡ entry_leaves m.now.pairs (data_of k)
-      pub room : room m.now ≤ room (entry_map e)
+      pub key : sparse_entry_key e ≡ k
+      pub pairs : (sparse_entry_map e).pairs ≡ entry_leaves m.now.pairs (data_of k)
+      pub room : room m.now ≤ room (sparse_entry_map e)
       -- if no older pair is at k's index, the map is unchanged
-      pub occupied : contains_key m.now.pairs (data_of k) ≡ true → entry_map e ≡ m.now
-      pub empty : map.get m.now.pairs (data_of k).index ≡ None → entry_map e ≡ m.now
-      pub value : entry_value e ≡ get m.now.pairs (data_of k)
-      pub in_place : IsInPlace e
+      pub occupied : contains_key m.now.pairs (data_of k) ≡ true → sparse_entry_map e ≡ m.now
+      pub empty : map.get m.now.pairs (data_of k).index ≡ None → sparse_entry_map e ≡ m.now
+      pub value : sparse_entry_value e ≡ get m.now.pairs (data_of k)
+      pub in_place : IsSparseInPlace e
 
     -- the entry that k has in m, by the definitions of `slotmap_core`: none, occupied or vacant
     abbrev pub IsEntryOf : Pairs V → Key → Option (Entry K V S Z) → Type 0
@@ -86,14 +86,14 @@ module _ {K V S Z : Type 0} where
     IsEntryOf m k (Some (Vacant e)) = pair.entry m k ≡ pair.vacant
 
     -- n is the map of e, once w is the value of its key; its capacity may have grown
-    pub record Fills (e : Entry K V S Z) (n : Content V) (w : V) : Type 0 where
-      pub pairs : n.pairs ≡ (entry_with e w).pairs
-      pub capacity : (entry_map e).capacity ≤ n.capacity
+    pub record Fills (e : Entry K V S Z) (n : SparseContent V) (w : V) : Type 0 where
+      pub pairs : n.pairs ≡ (sparse_entry_with e w).pairs
+      pub capacity : (sparse_entry_map e).capacity ≤ n.capacity
 
   -- n holds what the map of e holds: an allocation failed
-  pub record StaysUnfilled (e : Entry K V S Z) (n : Content V) : Type 0 where
-    pub pairs : n.pairs ≡ (entry_map e).pairs
-    pub capacity : (entry_map e).capacity ≤ n.capacity
+  pub record StaysUnfilled (e : Entry K V S Z) (n : SparseContent V) : Type 0 where
+    pub pairs : n.pairs ≡ (sparse_entry_map e).pairs
+    pub capacity : (sparse_entry_map e).capacity ≤ n.capacity
 
   -- if there is an entry, P holds of it
   abbrev pub IfEntry : {E : Type 0} → Result (Option (Entry K V S Z)) E → (Entry K V S Z → Type 0) → Type 0
@@ -103,13 +103,13 @@ module _ {K V S Z : Type 0} where
 
 module _ (K V S H : RattleType) (build : builder.Ghosts S.Denot H.Denot) (hash : hasher.Ghosts H.Denot) where
   -- at `Err` the map is unchanged
-  abbrev pub rests_if_err : MutBor (Content V.Denot) → Result (Entry K.Denot V.Denot S.Denot H.Denot) NoEntry → Fml
+  abbrev pub rests_if_err : MutBor (SparseContent V.Denot) → Result (Entry K.Denot V.Denot S.Denot H.Denot) NoEntry → Fml
   rests_if_err s r = RestsIfErr (the_row K V S H build hash) s entry_lender r (λ n. n ≡ s.now)
 
   module _ (data_of : K.Denot → Key) where
     -- once the borrow r ends, the key has the last value written through r
     abbrev pub entry_lends : Entry K.Denot V.Denot S.Denot H.Denot → MutBor V.Denot → Fml
-    entry_lends e r = Lends (the_row K V S H build hash) V (entry_map_ref e) r (entry_with data_of e)
+    entry_lends e r = Lends (the_row K V S H build hash) V (entry_map_ref e) r (sparse_entry_with data_of e)
 
     -- the same if r is a reference; at `Err` the map holds what it held
     abbrev pub entry_lends_ok : {E : Type 0} → Entry K.Denot V.Denot S.Denot H.Denot → Result (MutBor V.Denot) E → Fml

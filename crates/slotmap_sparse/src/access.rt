@@ -3,7 +3,7 @@
 ghost use Rattle.std.specs.Prelude.{◌≡◌, ◌↔◌, IsTrue, IsOk, IfOk, OnOk, OnErr, IfErr, option_copied, Some, true, map as map_list};
 ghost use Rattle.slotmap_core.specs.Words.{sem, option_copied_mut, get, contains_key, bind};
 ghost use Rattle.slotmap_core.specs.Several.{CanReplace, AreValuesOf, with_values};
-ghost use Rattle.slotmap_sparse.specs.Content.{IsContent, with_value};
+ghost use Rattle.slotmap_sparse.specs.Content.{IsSparseContent, sparse_with_value};
 ghost use Rattle.slotmap_sparse.specs.Lends.{lends_get, lends_value};
 
 use crate::SparseSecondaryMap;
@@ -23,7 +23,7 @@ impl<K: Key, V: Drop, S: BuildHasher + Drop> SparseSecondaryMap<K, V, S> {
     /// ```
     pub fn contains_key(&self, key: K) -> bool
         ensures value { result ≡ contains_key self.now.pairs (K.data_of key) }
-        ensures valid { IsContent self.now }
+        ensures valid { IsSparseContent self.now }
     {
         self.get(key).is_some()
     }
@@ -38,7 +38,7 @@ impl<K: Key, V: Drop, S: BuildHasher + Drop> SparseSecondaryMap<K, V, S> {
     /// ```
     pub fn get(&self, key: K) -> Option<&V>
         ensures value { option_copied result ≡ get self.now.pairs (K.data_of key) }
-        ensures valid { IsContent self.now }
+        ensures valid { IsSparseContent self.now }
     {
         match self.slot(key) {
             Some((version, value)) => {
@@ -64,7 +64,7 @@ impl<K: Key, V: Drop, S: BuildHasher + Drop> SparseSecondaryMap<K, V, S> {
     pub fn get_unchecked(&self, key: K) -> &V
         requires { contains_key self.now.pairs (K.data_of key) ≡ true }
         ensures value { get self.now.pairs (K.data_of key) ≡ Some result.now }
-        ensures valid { IsContent self.now }
+        ensures valid { IsSparseContent self.now }
     {
         self.get(key).unwrap()
     }
@@ -83,7 +83,7 @@ impl<K: Key, V: Drop, S: BuildHasher + Drop> SparseSecondaryMap<K, V, S> {
     pub fn get_mut(&mut self, key: K) -> Option<&mut V>
         ensures* writes_back { sem 𝓛 (lends_get K.row V.row S.row S.Hasher.row S.BuildHasher S.Hasher.Hasher self.entry (K.data_of key) result) }
         ensures value { option_copied_mut result ≡ get self.old.pairs (K.data_of key) }
-        ensures was_valid { IsContent self.old }
+        ensures was_valid { IsSparseContent self.old }
     {
         let key = key.data();
         let Some(slot) = self.slots.get_mut(&key.idx()) else {
@@ -108,7 +108,7 @@ impl<K: Key, V: Drop, S: BuildHasher + Drop> SparseSecondaryMap<K, V, S> {
         requires { contains_key self.old.pairs (K.data_of key) ≡ true }
         ensures* writes_back { sem 𝓛 (lends_value K.row V.row S.row S.Hasher.row S.BuildHasher S.Hasher.Hasher self.entry (K.data_of key) result) }
         ensures value { get self.old.pairs (K.data_of key) ≡ Some result.now }
-        ensures was_valid { IsContent self.old }
+        ensures was_valid { IsSparseContent self.old }
     {
         let index = key.data().idx();
         &mut self.slots.get_mut(&index).unwrap().1
@@ -142,7 +142,7 @@ impl<K: Key, V: Drop, S: BuildHasher + Drop> SparseSecondaryMap<K, V, S> {
         ensures err { IfErr result (λ back. back ≡ values) }
         ensures unchanged { OnErr result (self.new ≡ self.old) }
 
-        ensures valid { IsContent self.new }
+        ensures valid { IsSparseContent self.new }
     {
         if !self.can_replace(&keys) {
             return Err(values);
@@ -156,7 +156,7 @@ impl<K: Key, V: Drop, S: BuildHasher + Drop> SparseSecondaryMap<K, V, S> {
     // Whether each key is in the map, and no two are equal.
     fn can_replace(&self, keys: &[K]) -> bool
         ensures which { IsTrue result ↔ CanReplace get self.now.pairs (map_list K.data_of keys.now) }
-        ensures valid { IsContent self.now }
+        ensures valid { IsSparseContent self.now }
     {
         // Reads the map even if there is no key, for the clause `valid`.
         let _ = self.len();
@@ -172,9 +172,9 @@ impl<K: Key, V: Drop, S: BuildHasher + Drop> SparseSecondaryMap<K, V, S> {
     // Swaps the value of a key that is in the map with another.
     fn swap_value(&mut self, key: K, value: &mut V)
         requires { contains_key self.old.pairs (K.data_of key) ≡ true }
-        ensures put { self.new ≡ with_value self.old (K.data_of key) value.old }
+        ensures put { self.new ≡ sparse_with_value self.old (K.data_of key) value.old }
         ensures taken { get self.old.pairs (K.data_of key) ≡ Some value.new }
-        ensures valid { IsContent self.new }
+        ensures valid { IsSparseContent self.new }
     {
         mem::swap(self.get_unchecked_mut(key), value);
     }

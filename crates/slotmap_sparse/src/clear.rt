@@ -2,7 +2,7 @@
 
 ghost use Rattle.std.specs.FinMap as map;
 ghost use Rattle.std.specs.Prelude.{◌≡◌, ◌≤◌};
-ghost use Rattle.slotmap_sparse.specs.Content.{IsContent};
+ghost use Rattle.slotmap_sparse.specs.Content.{IsSparseContent};
 
 use crate::SparseSecondaryMap;
 use slotmap_core::keys::Key;
@@ -20,7 +20,7 @@ impl<K: Key, V: Drop, S: BuildHasher + Drop> SparseSecondaryMap<K, V, S> {
     pub fn clear(&mut self)
         ensures empty { self.new.pairs ≡ map.empty }
         ensures capacity { self.old.capacity ≤ self.new.capacity }
-        ensures valid { IsContent self.new }
+        ensures valid { IsSparseContent self.new }
     {
         self.slots.clear();
     }

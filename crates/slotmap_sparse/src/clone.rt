@@ -2,7 +2,7 @@
 
 ghost use Rattle.std.specs.Prelude.{◌≡◌, IfOk, OnOk, OnErr};
 ghost use Rattle.slotmap_core.specs.Words.{ClonesEqual, HasClones};
-ghost use Rattle.slotmap_sparse.specs.Content.{IsContent};
+ghost use Rattle.slotmap_sparse.specs.Content.{IsSparseContent};
 
 use crate::SparseSecondaryMap;
 use slotmap_core::keys::Key;
@@ -30,7 +30,7 @@ impl<K: Key, V: Clone, S: BuildHasher + Clone> SparseSecondaryMap<K, V, S> {
         // If a clone of a value always equals it, the copy holds what the map holds.
         ensures copies_if_clones_equal { IfOk result (λ copy. ClonesEqual V.is_clone → copy.pairs ≡ self.now.pairs) }
 
-        ensures valid { IfOk result IsContent }
+        ensures valid { IfOk result IsSparseContent }
     {
         let slots = self.slots.clone()?;
         Ok(SparseSecondaryMap {
@@ -60,7 +60,7 @@ impl<K: Key, V: Clone, S: BuildHasher + Clone> SparseSecondaryMap<K, V, S> {
         ensures copies_if_clones_equal { OnOk result (ClonesEqual V.is_clone → self.new.pairs ≡ source.now.pairs) }
 
         ensures unchanged { OnErr result (self.new ≡ self.old) }
-        ensures valid { OnOk result (IsContent self.new) }
+        ensures valid { OnOk result (IsSparseContent self.new) }
     {
         *self = source.clone()?;
         Ok(())
@@ -69,7 +69,7 @@ impl<K: Key, V: Clone, S: BuildHasher + Clone> SparseSecondaryMap<K, V, S> {
 
 /// By the method `clone`, for what is generic over clones, as a derived `Clone` of a struct.
 impl<K: Key, V: Clone, S: BuildHasher + Clone> Clone for SparseSecondaryMap<K, V, S> {
-    ghost is_clone = { λ m copy. HasClones V.is_clone m.pairs copy.pairs × IsContent copy };
+    ghost is_clone = { λ m copy. HasClones V.is_clone m.pairs copy.pairs × IsSparseContent copy };
 
     fn clone(&self) -> Result<Self, AllocError> {
         SparseSecondaryMap::clone(self)

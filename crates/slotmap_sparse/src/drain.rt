@@ -3,8 +3,8 @@
 ghost use Rattle.std.specs.FinMap as map;
 ghost use Rattle.std.specs.Prelude.{◌≡◌, ◌≤◌, Some, IfSome};
 ghost use Rattle.slotmap_core.specs.Words.{size, UpTo, KeepsAlong, ListsAlong, keyed};
-ghost use Rattle.slotmap_sparse.specs.Content.{IsContent};
-ghost use Rattle.slotmap_sparse.specs.Drain.{drain_loan, drain_count, DrainSteps, DrainKeeps};
+ghost use Rattle.slotmap_sparse.specs.Content.{IsSparseContent};
+ghost use Rattle.slotmap_sparse.specs.Drain.{sparse_drain_loan, drain_count, SparseDrainSteps, DrainKeeps};
 
 use crate::{DefaultHasher, SparseSecondaryMap};
 use slotmap_core::keys::Key;
@@ -22,8 +22,8 @@ pub struct Drain<'a, K: Key, V, S: BuildHasher = DefaultHasher> {
 impl<'a, K: Key, V: Drop, S: BuildHasher + Drop> Drop for Drain<'a, K, V, S> {
     fn drop(self)
         ensures ends { self.exit.0.now.pairs ≡ map.empty }
-        ensures capacity { (drain_loan self.entry).now.capacity ≤ self.exit.0.now.capacity }
-        ensures valid { IsContent self.exit.0.now }
+        ensures capacity { (sparse_drain_loan self.entry).now.capacity ≤ self.exit.0.now.capacity }
+        ensures valid { IsSparseContent self.exit.0.now }
     {
         let Drain { map } = self;
         map.clear();
@@ -33,7 +33,7 @@ impl<'a, K: Key, V: Drop, S: BuildHasher + Drop> Drop for Drain<'a, K, V, S> {
 impl<'a, K: Key, V: Drop, S: BuildHasher + Drop> Iterator for Drain<'a, K, V, S> {
     type Item = (K, V);
 
-    ghost next_gives = { DrainSteps K.data_of };
+    ghost next_gives = { SparseDrainSteps K.data_of };
 
     ghost remaining = { drain_count };
 
@@ -80,14 +80,14 @@ impl<K: Key, V: Drop, S: BuildHasher + Drop> SparseSecondaryMap<K, V, S> {
     /// assert!(rt; map.is_empty());
     /// ```
     pub fn drain(&mut self) -> Drain<'_, K, V, S>
-        ensures map { (drain_loan result).now ≡ self.old }
-        ensures same_reference { (drain_loan result).ghost_name ≡ self.entry.ghost_name }
+        ensures map { (sparse_drain_loan result).now ≡ self.old }
+        ensures same_reference { (sparse_drain_loan result).ghost_name ≡ self.entry.ghost_name }
 
         // Laws of the steps, for callers that go on with the iterator.
-        ensures stays { KeepsAlong (DrainSteps K.data_of) DrainKeeps result }
-        ensures lists { ListsAlong K.data_of (λ d. keyed (drain_loan d).now.pairs) (DrainSteps K.data_of) result }
+        ensures stays { KeepsAlong (SparseDrainSteps K.data_of) DrainKeeps result }
+        ensures lists { ListsAlong K.data_of (λ d. keyed (sparse_drain_loan d).now.pairs) (SparseDrainSteps K.data_of) result }
 
-        ensures valid { IsContent self.old }
+        ensures valid { IsSparseContent self.old }
     {
         // Reads the map, for the clause `valid`.
         let _ = self.len();

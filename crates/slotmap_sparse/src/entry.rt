@@ -3,9 +3,9 @@
 ghost use Rattle.std.specs.FinMap as map;
 ghost use Rattle.std.specs.Prelude.{◌≡◌, ◌≤◌, ◌<◌, Some, None, IsOk, IfOk, IfErr, OnErr, unwrap_or};
 ghost use Rattle.slotmap_core.specs.Words.{UnwrapsOrElse, sem, MutBor, ModifiesValue, entry, no_entry};
-ghost use Rattle.slotmap_sparse.specs.Content.{IsContent, room};
-ghost use Rattle.slotmap_sparse.specs.Entry.{Enters, IsEntryOf, IfEntry, rests_if_err, entry_key, entry_map, IsInPlace, entry_lends_ok, entry_lender};
-ghost use Rattle.slotmap_sparse.specs.Entry.{entry_value, entry_with, entry_without, IsWritten, entry_lends, occupied_lends, occupied_with};
+ghost use Rattle.slotmap_sparse.specs.Content.{IsSparseContent, room};
+ghost use Rattle.slotmap_sparse.specs.Entry.{Enters, IsEntryOf, IfEntry, rests_if_err, sparse_entry_key, sparse_entry_map, IsSparseInPlace, entry_lends_ok, entry_lender};
+ghost use Rattle.slotmap_sparse.specs.Entry.{sparse_entry_value, sparse_entry_with, entry_without, IsWritten, entry_lends, occupied_lends, occupied_with};
 ghost use Rattle.slotmap_core.specs.declared.secondary.NoEntry.TheVariants as no_entry;
 ghost use Rattle.slotmap_sparse.specs.declared.entry.Entry.TheVariants.{Vacant, Occupied};
 
@@ -20,7 +20,7 @@ use std::{fmt, mem};
 /// The entry of a key: occupied if the key is in the map, vacant if it can be inserted.
 ///
 /// [`SparseSecondaryMap::entry`] and [`SparseSecondaryMap::try_entry`] return it. The contracts of
-/// its calls require `IsInPlace`, which these two ensure.
+/// its calls require `IsSparseInPlace`, which these two ensure.
 #[derive(Drop)]
 pub enum Entry<'a, K, V, S: BuildHasher = DefaultHasher> {
     /// The key is in the map.
@@ -67,7 +67,7 @@ impl<K: Key, V: Drop, S: BuildHasher + Drop> SparseSecondaryMap<K, V, S> {
         ensures never_refused { IsOk result }
         ensures which { IfOk result (IsEntryOf K.data_of self.old.pairs (K.data_of key)) }
         ensures ok { IfEntry result (Enters K.data_of self.entry key) }
-        ensures was_valid { IsContent self.old }
+        ensures was_valid { IsSparseContent self.old }
     {
         match self.try_entry(key) {
             Ok(entry) => Ok(Some(entry)),
@@ -91,7 +91,7 @@ impl<K: Key, V: Drop, S: BuildHasher + Drop> SparseSecondaryMap<K, V, S> {
 
         ensures err { IfErr result (λ error. (error ≡ no_entry.Older) × (entry self.old.pairs (K.data_of key) ≡ no_entry)) }
         ensures* unchanged { sem 𝓛 (rests_if_err K.row V.row S.row S.Hasher.row S.BuildHasher S.Hasher.Hasher self.entry result) }
-        ensures was_valid { IsContent self.old }
+        ensures was_valid { IsSparseContent self.old }
     {
         match self.find(key) {
             Found::No => return Err(NoEntry::Older),
@@ -112,7 +112,7 @@ impl<'a, K: Key, V: Drop, S: BuildHasher + Drop> Entry<'a, K, V, S> {
     /// assert_eq!(rt; entry.key(), b);
     /// ```
     pub fn key(&self) -> K
-        ensures { result ≡ entry_key self.now }
+        ensures { result ≡ sparse_entry_key self.now }
     {
         match self {
             Entry::Occupied(entry) => entry.key(),
@@ -132,15 +132,15 @@ impl<'a, K: Key, V: Drop, S: BuildHasher + Drop> Entry<'a, K, V, S> {
     pub fn and_modify<F: FnOnce(&mut V)>(self, f: F) -> Entry<'a, K, V, S>
     where
         F: Drop,
-        requires in_place { IsInPlace K.data_of self }
+        requires in_place { IsSparseInPlace K.data_of self }
         // On the value that the key has.
-        requires callable { (shown : MutBor V) → entry_value K.data_of self ≡ Some shown.now → F.pre f shown }
+        requires callable { (shown : MutBor V) → sparse_entry_value K.data_of self ≡ Some shown.now → F.pre f shown }
         ensures same_map { entry_lender result ≡ entry_lender self.entry }
-        ensures key { entry_key result ≡ entry_key self.entry }
-        ensures in_place { IsInPlace K.data_of result }
-        ensures same_writes { (w : V) → entry_with K.data_of result w ≡ entry_with K.data_of self.entry w }
+        ensures key { sparse_entry_key result ≡ sparse_entry_key self.entry }
+        ensures in_place { IsSparseInPlace K.data_of result }
+        ensures same_writes { (w : V) → sparse_entry_with K.data_of result w ≡ sparse_entry_with K.data_of self.entry w }
         ensures same_removal { entry_without K.data_of result ≡ entry_without K.data_of self.entry }
-        ensures value { ModifiesValue F.FnOnce f (entry_value K.data_of self.entry) (entry_value K.data_of result) }
+        ensures value { ModifiesValue F.FnOnce f (sparse_entry_value K.data_of self.entry) (sparse_entry_value K.data_of result) }
     {
         match self {
             Entry::Vacant(entry) => Entry::Vacant(entry),
@@ -164,11 +164,11 @@ impl<'a, K: Key, V: Drop, S: BuildHasher + Drop> Entry<'a, K, V, S> {
     /// assert_eq!(rt; *map.try_entry(b)?.or_insert(7)?, 7);
     /// ```
     pub fn or_insert(self, value: V) -> Result<&'a mut V, PutError<V>>
-        requires { IsInPlace K.data_of self }
+        requires { IsSparseInPlace K.data_of self }
         ensures* writes_back { sem 𝓛 (entry_lends_ok K.row V.row S.row S.Hasher.row S.BuildHasher S.Hasher.Hasher K.data_of self.entry result) }
-        ensures value { IfOk result (λ r. r.now ≡ unwrap_or (entry_value K.data_of self.entry) value) }
-        ensures err { IfErr result (λ error. (entry_value K.data_of self.entry ≡ None) × (error.0 ≡ value)) }
-        ensures room { map.len (entry_map self.entry).pairs < (entry_map self.entry).capacity → IsOk result }
+        ensures value { IfOk result (λ r. r.now ≡ unwrap_or (sparse_entry_value K.data_of self.entry) value) }
+        ensures err { IfErr result (λ error. (sparse_entry_value K.data_of self.entry ≡ None) × (error.0 ≡ value)) }
+        ensures room { map.len (sparse_entry_map self.entry).pairs < (sparse_entry_map self.entry).capacity → IsOk result }
     {
         match self {
             Entry::Occupied(entry) => Ok(entry.into_mut()),
@@ -189,12 +189,12 @@ impl<'a, K: Key, V: Drop, S: BuildHasher + Drop> Entry<'a, K, V, S> {
     pub fn or_insert_with<F: FnOnce() -> V>(self, f: F) -> Result<&'a mut V, OutOfMemory>
     where
         F: Drop,
-        requires in_place { IsInPlace K.data_of self }
-        requires callable { entry_value K.data_of self ≡ None → F.pre f }
+        requires in_place { IsSparseInPlace K.data_of self }
+        requires callable { sparse_entry_value K.data_of self ≡ None → F.pre f }
         ensures* writes_back { sem 𝓛 (entry_lends_ok K.row V.row S.row S.Hasher.row S.BuildHasher S.Hasher.Hasher K.data_of self.entry result) }
-        ensures value { IfOk result (λ r. UnwrapsOrElse (entry_value K.data_of self.entry) (F.post f) r.now) }
-        ensures err { OnErr result (entry_value K.data_of self.entry ≡ None) }
-        ensures room { map.len (entry_map self.entry).pairs < (entry_map self.entry).capacity → IsOk result }
+        ensures value { IfOk result (λ r. UnwrapsOrElse (sparse_entry_value K.data_of self.entry) (F.post f) r.now) }
+        ensures err { OnErr result (sparse_entry_value K.data_of self.entry ≡ None) }
+        ensures room { map.len (sparse_entry_map self.entry).pairs < (sparse_entry_map self.entry).capacity → IsOk result }
     {
         match self {
             Entry::Occupied(entry) => Ok(entry.into_mut()),
@@ -213,11 +213,11 @@ impl<'a, K: Key, V: Drop, S: BuildHasher + Drop> Entry<'a, K, V, S> {
     pub fn or_default(self) -> Result<&'a mut V, OutOfMemory>
     where
         V: Default,
-        requires in_place { IsInPlace K.data_of self }
+        requires in_place { IsSparseInPlace K.data_of self }
         ensures* writes_back { sem 𝓛 (entry_lends_ok K.row V.row S.row S.Hasher.row S.BuildHasher S.Hasher.Hasher K.data_of self.entry result) }
-        ensures value { IfOk result (λ r. UnwrapsOrElse (entry_value K.data_of self.entry) V.is_default r.now) }
-        ensures err { OnErr result (entry_value K.data_of self.entry ≡ None) }
-        ensures room { map.len (entry_map self.entry).pairs < (entry_map self.entry).capacity → IsOk result }
+        ensures value { IfOk result (λ r. UnwrapsOrElse (sparse_entry_value K.data_of self.entry) V.is_default r.now) }
+        ensures err { OnErr result (sparse_entry_value K.data_of self.entry ≡ None) }
+        ensures room { map.len (sparse_entry_map self.entry).pairs < (sparse_entry_map self.entry).capacity → IsOk result }
     {
         match self {
             Entry::Occupied(entry) => Ok(entry.into_mut()),
@@ -235,7 +235,7 @@ impl<'a, K: Key, V: Drop, S: BuildHasher + Drop> VacantEntry<'a, K, V, S> {
     /// }
     /// ```
     pub fn key(&self) -> K
-        ensures { result ≡ entry_key (Vacant self.now) }
+        ensures { result ≡ sparse_entry_key (Vacant self.now) }
     {
         self.key
     }
@@ -252,11 +252,11 @@ impl<'a, K: Key, V: Drop, S: BuildHasher + Drop> VacantEntry<'a, K, V, S> {
     /// assert_eq!(rt; map.get(b).copied(), Some(6));
     /// ```
     pub fn insert(self, value: V) -> Result<&'a mut V, PutError<V>>
-        requires { IsInPlace K.data_of (Vacant self) }
+        requires { IsSparseInPlace K.data_of (Vacant self) }
         ensures* writes_back { sem 𝓛 (entry_lends_ok K.row V.row S.row S.Hasher.row S.BuildHasher S.Hasher.Hasher K.data_of (Vacant self.entry) result) }
         ensures value { IfOk result (λ r. r.now ≡ value) }
         ensures err { IfErr result (λ error. error.0 ≡ value) }
-        ensures room { map.len (entry_map (Vacant self.entry)).pairs < (entry_map (Vacant self.entry)).capacity → IsOk result }
+        ensures room { map.len (sparse_entry_map (Vacant self.entry)).pairs < (sparse_entry_map (Vacant self.entry)).capacity → IsOk result }
     {
         let VacantEntry { map, key } = self;
         map.add(key, value)?;
@@ -267,11 +267,11 @@ impl<'a, K: Key, V: Drop, S: BuildHasher + Drop> VacantEntry<'a, K, V, S> {
     fn insert_with<F: FnOnce() -> V>(self, f: F) -> Result<&'a mut V, OutOfMemory>
     where
         F: Drop,
-        requires in_place { IsInPlace K.data_of (Vacant self) }
+        requires in_place { IsSparseInPlace K.data_of (Vacant self) }
         requires callable { F.pre f }
         ensures* writes_back { sem 𝓛 (entry_lends_ok K.row V.row S.row S.Hasher.row S.BuildHasher S.Hasher.Hasher K.data_of (Vacant self.entry) result) }
         ensures value { IfOk result (λ r. F.post f r.now) }
-        ensures room { map.len (entry_map (Vacant self.entry)).pairs < (entry_map (Vacant self.entry)).capacity → IsOk result }
+        ensures room { map.len (sparse_entry_map (Vacant self.entry)).pairs < (sparse_entry_map (Vacant self.entry)).capacity → IsOk result }
     {
         let VacantEntry { map, key } = self;
         if map.make_room(1).is_err() {
@@ -291,7 +291,7 @@ impl<'a, K: Key, V: Drop, S: BuildHasher + Drop> OccupiedEntry<'a, K, V, S> {
     /// }
     /// ```
     pub fn key(&self) -> K
-        ensures { result ≡ entry_key (Occupied self.now) }
+        ensures { result ≡ sparse_entry_key (Occupied self.now) }
     {
         self.key
     }
@@ -304,8 +304,8 @@ impl<'a, K: Key, V: Drop, S: BuildHasher + Drop> OccupiedEntry<'a, K, V, S> {
     /// }
     /// ```
     pub fn get(&self) -> &V
-        requires { IsInPlace K.data_of (Occupied self.now) }
-        ensures { entry_value K.data_of (Occupied self.now) ≡ Some result.now }
+        requires { IsSparseInPlace K.data_of (Occupied self.now) }
+        ensures { sparse_entry_value K.data_of (Occupied self.now) ≡ Some result.now }
     {
         self.map.get_unchecked(self.key)
     }
@@ -319,9 +319,9 @@ impl<'a, K: Key, V: Drop, S: BuildHasher + Drop> OccupiedEntry<'a, K, V, S> {
     /// }
     /// ```
     pub fn get_mut(&mut self) -> &mut V
-        requires { IsInPlace K.data_of (Occupied self.old) }
+        requires { IsSparseInPlace K.data_of (Occupied self.old) }
         ensures* writes_back { sem 𝓛 (occupied_lends K.row V.row S.row S.Hasher.row S.BuildHasher S.Hasher.Hasher K.data_of self.entry result) }
-        ensures value { entry_value K.data_of (Occupied self.old) ≡ Some result.now }
+        ensures value { sparse_entry_value K.data_of (Occupied self.old) ≡ Some result.now }
         ensures written { (w : V) → IsWritten K.data_of (Occupied self.old) w (Occupied (occupied_with K.data_of self.old w)) }
     {
         let key = self.key;
@@ -339,9 +339,9 @@ impl<'a, K: Key, V: Drop, S: BuildHasher + Drop> OccupiedEntry<'a, K, V, S> {
     /// assert_eq!(rt; map.get(a).copied(), Some(5));
     /// ```
     pub fn into_mut(self) -> &'a mut V
-        requires { IsInPlace K.data_of (Occupied self) }
+        requires { IsSparseInPlace K.data_of (Occupied self) }
         ensures* writes_back { sem 𝓛 (entry_lends K.row V.row S.row S.Hasher.row S.BuildHasher S.Hasher.Hasher K.data_of (Occupied self.entry) result) }
-        ensures value { entry_value K.data_of (Occupied self.entry) ≡ Some result.now }
+        ensures value { sparse_entry_value K.data_of (Occupied self.entry) ≡ Some result.now }
     {
         let OccupiedEntry { map, key } = self;
         map.get_unchecked_mut(key)
@@ -356,8 +356,8 @@ impl<'a, K: Key, V: Drop, S: BuildHasher + Drop> OccupiedEntry<'a, K, V, S> {
     /// assert_eq!(rt; map.get(a).copied(), Some(5));
     /// ```
     pub fn insert(&mut self, value: V) -> V
-        requires { IsInPlace K.data_of (Occupied self.old) }
-        ensures old { entry_value K.data_of (Occupied self.old) ≡ Some result }
+        requires { IsSparseInPlace K.data_of (Occupied self.old) }
+        ensures old { sparse_entry_value K.data_of (Occupied self.old) ≡ Some result }
         ensures written { IsWritten K.data_of (Occupied self.old) value (Occupied self.new) }
     {
         mem::replace(self.get_mut(), value)
@@ -372,11 +372,11 @@ impl<'a, K: Key, V: Drop, S: BuildHasher + Drop> OccupiedEntry<'a, K, V, S> {
     /// assert!(rt; !map.contains_key(a));
     /// ```
     pub fn remove_entry(self) -> (K, V)
-        requires { IsInPlace K.data_of (Occupied self) }
-        ensures key { result.0 ≡ entry_key (Occupied self.entry) }
-        ensures value { entry_value K.data_of (Occupied self.entry) ≡ Some result.1 }
+        requires { IsSparseInPlace K.data_of (Occupied self) }
+        ensures key { result.0 ≡ sparse_entry_key (Occupied self.entry) }
+        ensures value { sparse_entry_value K.data_of (Occupied self.entry) ≡ Some result.1 }
         ensures removes { self.exit.0.now.pairs ≡ entry_without K.data_of (Occupied self.entry) }
-        ensures room { room (entry_map (Occupied self.entry)) ≤ room self.exit.0.now }
+        ensures room { room (sparse_entry_map (Occupied self.entry)) ≤ room self.exit.0.now }
     {
         let OccupiedEntry { map, key } = self;
         (key, map.take_live(key))
@@ -391,10 +391,10 @@ impl<'a, K: Key, V: Drop, S: BuildHasher + Drop> OccupiedEntry<'a, K, V, S> {
     /// assert!(rt; !map.contains_key(a));
     /// ```
     pub fn remove(self) -> V
-        requires { IsInPlace K.data_of (Occupied self) }
-        ensures value { entry_value K.data_of (Occupied self.entry) ≡ Some result }
+        requires { IsSparseInPlace K.data_of (Occupied self) }
+        ensures value { sparse_entry_value K.data_of (Occupied self.entry) ≡ Some result }
         ensures removes { self.exit.0.now.pairs ≡ entry_without K.data_of (Occupied self.entry) }
-        ensures room { room (entry_map (Occupied self.entry)) ≤ room self.exit.0.now }
+        ensures room { room (sparse_entry_map (Occupied self.entry)) ≤ room self.exit.0.now }
     {
         self.remove_entry().1
     }

@@ -3,7 +3,7 @@
 ghost use Rattle.std.specs.FinMap as map;
 ghost use Rattle.std.specs.Prelude.{◌≡◌, ◌≤◌, List, IfOk, IfErr, OnErr, Some, None};
 ghost use Rattle.slotmap_core.specs.Words.{IsFinite, Drains, YieldsThen, AllPut, Extends, ExtendsBy};
-ghost use Rattle.slotmap_sparse.specs.Content.{IsContent};
+ghost use Rattle.slotmap_sparse.specs.Content.{IsSparseContent};
 ghost use Rattle.slotmap_sparse.specs.Extend.{LacksRoomForPair};
 
 use crate::SparseSecondaryMap;
@@ -36,7 +36,7 @@ impl<K: Key, V: Drop, S: BuildHasher + Drop> SparseSecondaryMap<K, V, S> {
         ensures full { OnErr result (self.old.capacity ≤ map.len self.new.pairs) }
         ensures absent { IfErr result (λ back. map.get self.new.pairs (K.data_of back.0).index ≡ None) }
 
-        ensures valid { IsContent self.new }
+        ensures valid { IsSparseContent self.new }
     {
         // Reads the map, for the clause `valid`.
         let _ = self.len();
@@ -74,7 +74,7 @@ impl<K: Key, V: Drop, S: BuildHasher + Drop> SparseSecondaryMap<K, V, S> {
         ensures full { OnErr result (self.old.capacity ≤ map.len self.new.pairs) }
         ensures absent { IfErr result (λ back. map.get self.new.pairs (K.data_of back.0).index ≡ None) }
 
-        ensures valid { IsContent self.new }
+        ensures valid { IsSparseContent self.new }
     {
         // Reads the map, for the clause `valid`.
         let _ = self.len();
@@ -114,7 +114,7 @@ impl<K: Key, V: Drop, S: BuildHasher + Drop> SparseSecondaryMap<K, V, S> {
         ensures err { IfErr result (λ back. (pair : K × V) × (back ≡ Some pair) × (it : I.IntoIter) × (pairs : List (K × V)) × (rest : I.IntoIter)
             × I.into_iter_gives iter it × YieldsThen I.IntoIter.next_gives it pairs (Some pair) rest
             × LacksRoomForPair K.data_of pairs pair) }
-        ensures valid { IfOk result IsContent }
+        ensures valid { IfOk result IsSparseContent }
     {
         let mut all = SparseSecondaryMap::empty(alloc, hash_builder);
         match all.extend(iter) {
@@ -151,7 +151,7 @@ impl<K: Key, V: Drop> SparseSecondaryMap<K, V> {
         ensures err { IfErr result (λ back. (pair : K × V) × (back ≡ Some pair) × (it : I.IntoIter) × (pairs : List (K × V)) × (rest : I.IntoIter)
             × I.into_iter_gives iter it × YieldsThen I.IntoIter.next_gives it pairs (Some pair) rest
             × LacksRoomForPair K.data_of pairs pair) }
-        ensures valid { IfOk result IsContent }
+        ensures valid { IfOk result IsSparseContent }
     {
         SparseSecondaryMap::from_iter_with_hasher(alloc, iter, BuildHasherDefault::new())
     }

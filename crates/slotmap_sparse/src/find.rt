@@ -3,7 +3,7 @@
 ghost use Rattle.std.specs.FinMap as map;
 ghost use Rattle.std.specs.Prelude.{◌≡◌, option_copied};
 ghost use Rattle.slotmap_core.specs.Words.{IsKey, entry, is_null};
-ghost use Rattle.slotmap_sparse.specs.Content.{IsContent};
+ghost use Rattle.slotmap_sparse.specs.Content.{IsSparseContent};
 
 use crate::SparseSecondaryMap;
 use slotmap_core::keys::{Key, is_older_version};
@@ -27,7 +27,7 @@ impl<K: Key, V: Drop, S: BuildHasher + Drop> SparseSecondaryMap<K, V, S> {
     #[inline(always)]
     pub(crate) fn slot(&self, key: K) -> Option<&(u32, V)>
         ensures value { option_copied result ≡ map.get self.now.pairs (K.data_of key).index }
-        ensures valid { IsContent self.now }
+        ensures valid { IsSparseContent self.now }
     {
         self.slots.get(&key.data().idx())
     }
@@ -35,7 +35,7 @@ impl<K: Key, V: Drop, S: BuildHasher + Drop> SparseSecondaryMap<K, V, S> {
     // What the key's entry is.
     pub(crate) fn find(&self, key: K) -> Found
         ensures found { is_found result (map.get self.now.pairs (K.data_of key).index) (entry self.now.pairs (K.data_of key)) }
-        ensures valid { IsContent self.now }
+        ensures valid { IsSparseContent self.now }
     {
         let slot = self.slot(key);
         if is_null(key) {

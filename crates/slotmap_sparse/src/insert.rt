@@ -4,7 +4,7 @@ ghost use Rattle.std.specs.FinMap as map;
 ghost use Rattle.std.specs.Prelude.{◌≡◌, ◌<◌, ◌≤◌, ◌+◌, Some, None, IfOk, OnOk, OnErr, IfErr, IsOk, true, false};
 ghost use Rattle.slotmap_core.specs.Words.{get, put, bind, is_null, value_at, RefusesPut, OrPuts};
 ghost use Rattle.slotmap_core.specs.declared.secondary.OrPut.TheVariants as or_put;
-ghost use Rattle.slotmap_sparse.specs.Content.{IsContent};
+ghost use Rattle.slotmap_sparse.specs.Content.{IsSparseContent};
 ghost use Rattle.slotmap_sparse.specs.Found.{put_over};
 
 use crate::SparseSecondaryMap;
@@ -23,7 +23,7 @@ impl<K: Key, V: Drop, S: BuildHasher + Drop> SparseSecondaryMap<K, V, S> {
         ensures keeps { self.new.pairs ≡ self.old.pairs }
         ensures capacity { self.old.capacity ≤ self.new.capacity }
         ensures room { map.len self.old.pairs + additional ≤ self.old.capacity → IsOk result }
-        ensures valid { IsContent self.new }
+        ensures valid { IsSparseContent self.new }
     {
         self.slots.reserve(additional)
     }
@@ -38,7 +38,7 @@ impl<K: Key, V: Drop, S: BuildHasher + Drop> SparseSecondaryMap<K, V, S> {
         ensures unchanged { OnErr result (self.new.pairs ≡ self.old.pairs) }
         ensures capacity { self.old.capacity ≤ self.new.capacity }
         ensures room { map.len self.old.pairs < self.old.capacity → IsOk result }
-        ensures valid { IsContent self.new }
+        ensures valid { IsSparseContent self.new }
     {
         let key = key.data();
         match self.slots.insert(key.idx(), (key.version(), value)) {
@@ -59,7 +59,7 @@ impl<K: Key, V: Drop, S: BuildHasher + Drop> SparseSecondaryMap<K, V, S> {
         ensures err { IfErr result (λ back. back ≡ value) }
         ensures absent { OnErr result (map.get self.old.pairs (K.data_of key).index ≡ None) }
         ensures unchanged { OnErr result (self.new ≡ self.old) }
-        ensures valid { IsContent self.new }
+        ensures valid { IsSparseContent self.new }
     {
         let key = key.data();
         let Some(slot) = self.slots.get_mut(&key.idx()) else {
@@ -102,7 +102,7 @@ impl<K: Key, V: Drop, S: BuildHasher + Drop> SparseSecondaryMap<K, V, S> {
             → self.new.capacity ≡ self.old.capacity }
         ensures null { is_null (K.data_of key) ≡ true → self.new ≡ self.old }
         ensures capacity { self.old.capacity ≤ self.new.capacity }
-        ensures valid { IsContent self.new }
+        ensures valid { IsSparseContent self.new }
     {
         // Reads the map, for the clause `valid`.
         let _ = self.len();
@@ -145,7 +145,7 @@ impl<K: Key, V: Drop, S: BuildHasher + Drop> SparseSecondaryMap<K, V, S> {
             → self.new.capacity ≡ self.old.capacity }
         ensures null { is_null (K.data_of key) ≡ true → self.new ≡ self.old }
         ensures capacity { self.old.capacity ≤ self.new.capacity }
-        ensures valid { IsContent self.new }
+        ensures valid { IsSparseContent self.new }
     {
         match self.find(key) {
             Found::No => OrPut::NoEntry(value),

@@ -3,7 +3,7 @@
 ghost use Rattle.std.specs.FinMap as map;
 ghost use Rattle.std.specs.Prelude.{◌≡◌, ◌≤◌, length, Some, IfSome, IfNone, true, ⊤};
 ghost use Rattle.slotmap_core.specs.Words.{YieldsFirstBy, item_count, at_most, UpTo, keyed, contains_key, IsListing, IsKeyListing, IsValueListing};
-ghost use Rattle.slotmap_sparse.specs.Content.{IsContent};
+ghost use Rattle.slotmap_sparse.specs.Content.{IsSparseContent};
 
 use crate::SparseSecondaryMap;
 use slotmap_core::keys::{Key, KeyData};
@@ -283,7 +283,7 @@ impl<K: Key, V, S: BuildHasher> SparseSecondaryMap<K, V, S> {
     /// ```
     pub fn iter(&self) -> Iter<'_, K, V>
         ensures listing { IsListing (keyed self.now.pairs) result }
-        ensures valid { IsContent self.now }
+        ensures valid { IsSparseContent self.now }
     {
         Iter {
             pairs: self.slots.iter(),
@@ -302,7 +302,7 @@ impl<K: Key, V, S: BuildHasher> SparseSecondaryMap<K, V, S> {
     /// ```
     pub fn keys(&self) -> Keys<'_, K, V>
         ensures listing { IsKeyListing (keyed self.now.pairs) result }
-        ensures valid { IsContent self.now }
+        ensures valid { IsSparseContent self.now }
     {
         Keys { pairs: self.iter() }
     }
@@ -318,7 +318,7 @@ impl<K: Key, V, S: BuildHasher> SparseSecondaryMap<K, V, S> {
     /// ```
     pub fn values(&self) -> Values<'_, K, V>
         ensures listing { IsValueListing (keyed self.now.pairs) result }
-        ensures valid { IsContent self.now }
+        ensures valid { IsSparseContent self.now }
     {
         Values { pairs: self.iter() }
     }

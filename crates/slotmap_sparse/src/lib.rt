@@ -21,7 +21,7 @@
 
 ghost use Rattle.std.specs.FinMap as map;
 ghost use Rattle.std.specs.Prelude.{◌≡◌, ◌≤◌, ◌↔◌, IsTrue, IfOk, OnOk, IfErr, IsOk};
-ghost use Rattle.slotmap_sparse.specs.Content.{IsContent, MakesRoom, RefusesRoom, most_keys};
+ghost use Rattle.slotmap_sparse.specs.Content.{IsSparseContent, MakesRoom, RefusesRoom, most_keys};
 
 mod access;
 mod clear;
@@ -96,12 +96,12 @@ pub struct SparseSecondaryMap<K, V, S: BuildHasher = DefaultHasher> {
 }
 
 impl<K, V, S: BuildHasher> Model for SparseSecondaryMap<K, V, S> {
-    ghost use Rattle.slotmap_sparse.specs.Content.{Content, content_code};
+    ghost use Rattle.slotmap_sparse.specs.Content.{SparseContent, sparse_code};
     ghost use Rattle.slotmap_sparse.specs.Entries.{content_of, IsSound};
 
-    ghost Value = { Content V };
+    ghost Value = { SparseContent V };
 
-    ghost coded = { content_code V.code };
+    ghost coded = { sparse_code V.code };
 
     ghost view = { λ m. content_of m.slots };
 
@@ -130,7 +130,7 @@ impl<K: Key, V: Drop> SparseSecondaryMap<K, V> {
     pub fn new(alloc: Global) -> Result<Self, ReserveError>
         ensures ok { IsOk result }
         ensures empty { IfOk result (λ made. made.pairs ≡ map.empty) }
-        ensures valid { IfOk result IsContent }
+        ensures valid { IfOk result IsSparseContent }
     {
         SparseSecondaryMap::with_hasher(alloc, BuildHasherDefault::new())
     }
@@ -150,7 +150,7 @@ impl<K: Key, V: Drop> SparseSecondaryMap<K, V> {
         ensures capacity { IfOk result (λ made. capacity ≤ made.capacity) }
         ensures fits { OnOk result (capacity ≤ most_keys) }
         ensures err { IfErr result (RefusesRoom capacity) }
-        ensures valid { IfOk result IsContent }
+        ensures valid { IfOk result IsSparseContent }
     {
         SparseSecondaryMap::with_capacity_and_hasher(alloc, capacity, BuildHasherDefault::new())
     }
@@ -170,7 +170,7 @@ impl<K: Key, V: Drop, S: BuildHasher + Drop> SparseSecondaryMap<K, V, S> {
     pub fn with_hasher(alloc: Global, hash_builder: S) -> Result<Self, ReserveError>
         ensures ok { IsOk result }
         ensures empty { IfOk result (λ made. made.pairs ≡ map.empty) }
-        ensures valid { IfOk result IsContent }
+        ensures valid { IfOk result IsSparseContent }
     {
         Ok(SparseSecondaryMap::empty(alloc, hash_builder))
     }
@@ -178,7 +178,7 @@ impl<K: Key, V: Drop, S: BuildHasher + Drop> SparseSecondaryMap<K, V, S> {
     // An empty map with this hasher.
     pub(crate) fn empty(alloc: Global, hash_builder: S) -> Self
         ensures empty { result.pairs ≡ map.empty }
-        ensures valid { IsContent result }
+        ensures valid { IsSparseContent result }
     {
         SparseSecondaryMap {
             slots: HashMap::with_hasher(alloc, hash_builder),
@@ -207,7 +207,7 @@ impl<K: Key, V: Drop, S: BuildHasher + Drop> SparseSecondaryMap<K, V, S> {
         ensures capacity { IfOk result (λ made. capacity ≤ made.capacity) }
         ensures fits { OnOk result (capacity ≤ most_keys) }
         ensures err { IfErr result (RefusesRoom capacity) }
-        ensures valid { IfOk result IsContent }
+        ensures valid { IfOk result IsSparseContent }
     {
         if capacity > MOST_KEYS {
             return Err(ReserveError::TooGreat);
@@ -228,7 +228,7 @@ impl<K: Key, V: Drop, S: BuildHasher + Drop> SparseSecondaryMap<K, V, S> {
     /// ```
     pub fn len(&self) -> usize
         ensures value { result ≡ map.len self.now.pairs }
-        ensures valid { IsContent self.now }
+        ensures valid { IsSparseContent self.now }
     {
         self.slots.len()
     }
@@ -242,7 +242,7 @@ impl<K: Key, V: Drop, S: BuildHasher + Drop> SparseSecondaryMap<K, V, S> {
     /// ```
     pub fn is_empty(&self) -> bool
         ensures value { IsTrue result ↔ (map.len self.now.pairs ≡ 0) }
-        ensures valid { IsContent self.now }
+        ensures valid { IsSparseContent self.now }
     {
         self.len() == 0
     }
@@ -258,7 +258,7 @@ impl<K: Key, V: Drop, S: BuildHasher + Drop> SparseSecondaryMap<K, V, S> {
     pub fn capacity(&self) -> usize
         ensures value { result ≡ self.now.capacity }
         ensures fits { map.len self.now.pairs ≤ result }
-        ensures valid { IsContent self.now }
+        ensures valid { IsSparseContent self.now }
     {
         self.slots.capacity()
     }
@@ -277,7 +277,7 @@ impl<K: Key, V: Drop, S: BuildHasher + Drop> SparseSecondaryMap<K, V, S> {
     /// ```
     pub fn reserve(&mut self, additional: usize) -> Result<(), ReserveError>
         ensures makes_room { MakesRoom additional self.old result self.new }
-        ensures valid { IsContent self.new }
+        ensures valid { IsSparseContent self.new }
     {
         if self.len().saturating_add(additional) > MOST_KEYS {
             return Err(ReserveError::TooGreat);
@@ -296,7 +296,7 @@ impl<K: Key, V: Drop, S: BuildHasher + Drop> SparseSecondaryMap<K, V, S> {
     /// ```
     pub fn try_reserve(&mut self, additional: usize) -> Result<(), ReserveError>
         ensures makes_room { MakesRoom additional self.old result self.new }
-        ensures valid { IsContent self.new }
+        ensures valid { IsSparseContent self.new }
     {
         self.reserve(additional)
     }

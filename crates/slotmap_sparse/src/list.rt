@@ -3,7 +3,7 @@
 ghost use Rattle.std.specs.FinMap as map;
 ghost use Rattle.std.specs.Prelude.{◌≡◌, ◌<◌, ◌≤◌, ◌^◌, ◌%◌, None, IfOk, OnOk, IsOk, IfErr, IsSome};
 ghost use Rattle.slotmap_core.specs.Words.{ClonesEqual, IsCloneOf, Key, null_key, get, keyed, start_live, Accepts, RefusesStart};
-ghost use Rattle.slotmap_sparse.specs.Content.{IsContent};
+ghost use Rattle.slotmap_sparse.specs.Content.{IsSparseContent};
 ghost use Rattle.slotmap_sparse.specs.Written.{ReachesLargest, Writes, WritesClones, IsCloneSlot, with_slot};
 
 use crate::SparseSecondaryMap;
@@ -48,7 +48,7 @@ impl<K: Key, V: Drop, S: BuildHasher + Drop> SparseSecondaryMap<K, V, S> {
         ensures contents_if_clones_equal { IfOk result (λ slots.
             ClonesEqual V.is_clone → start_live slots.items ≡ keyed self.now.pairs) }
 
-        ensures valid { IsContent self.now }
+        ensures valid { IsSparseContent self.now }
     {
         let count = self.place_count();
         let mut slots = Vec::with_capacity(self.alloc, count)?;
@@ -62,7 +62,7 @@ impl<K: Key, V: Drop, S: BuildHasher + Drop> SparseSecondaryMap<K, V, S> {
     fn place_count(&self) -> usize
         ensures count { ReachesLargest self.now.pairs result }
         ensures fits { result ≤ 2 ^ 32 }
-        ensures valid { IsContent self.now }
+        ensures valid { IsSparseContent self.now }
     {
         let mut count = 1;
         for key in self.keys() {
@@ -121,7 +121,7 @@ impl<K: Key, V: Drop, S: BuildHasher + Drop> SparseSecondaryMap<K, V, S> {
         hash_builder: S,
     ) -> Result<Self, SlotsError>
         ensures contents { IfOk result (λ made. keyed made.pairs ≡ start_live list.items) }
-        ensures valid { IfOk result IsContent }
+        ensures valid { IfOk result IsSparseContent }
 
         // When it fails: the first error that applies.
         ensures accepted { IsOk result → Accepts list.items 4294967294 }
@@ -145,7 +145,7 @@ impl<K: Key, V: Drop, S: BuildHasher + Drop> SparseSecondaryMap<K, V, S> {
         requires absent { map.get self.old.pairs index ≡ None }
         ensures ok { OnOk result (self.new.pairs ≡ with_slot self.old.pairs index slot) }
         ensures err { IfErr result (λ error. error ≡ SlotsError.Memory) }
-        ensures valid { IsContent self.new }
+        ensures valid { IsSparseContent self.new }
     {
         // Reads the map, for the clause `valid`.
         let _ = self.len();
@@ -176,7 +176,7 @@ impl<K: Key, V: Drop> SparseSecondaryMap<K, V> {
     /// ```
     pub fn from_slots(alloc: Global, list: Vec<SlotRecord<V>>) -> Result<Self, SlotsError>
         ensures contents { IfOk result (λ made. keyed made.pairs ≡ start_live list.items) }
-        ensures valid { IfOk result IsContent }
+        ensures valid { IfOk result IsSparseContent }
 
         // When it fails: the first error that applies.
         ensures accepted { IsOk result → Accepts list.items 4294967294 }

@@ -3,7 +3,7 @@
 ghost use Rattle.std.specs.FinMap as map;
 ghost use Rattle.std.specs.Prelude.{◌≡◌, ◌≤◌, Some, IfNone, true};
 ghost use Rattle.slotmap_core.specs.Words.{get, contains_key, remove};
-ghost use Rattle.slotmap_sparse.specs.Content.{IsContent, room};
+ghost use Rattle.slotmap_sparse.specs.Content.{IsSparseContent, room};
 ghost use Rattle.slotmap_sparse.specs.Drain.{TakesPair};
 
 use crate::SparseSecondaryMap;
@@ -26,7 +26,7 @@ impl<K: Key, V: Drop, S: BuildHasher + Drop> SparseSecondaryMap<K, V, S> {
         ensures removes { self.new.pairs ≡ remove self.old.pairs (K.data_of key) }
         ensures unchanged { IfNone result (self.new ≡ self.old) }
         ensures room { room self.old ≤ room self.new }
-        ensures valid { IsContent self.new }
+        ensures valid { IsSparseContent self.new }
     {
         if self.contains_key(key) {
             Some(self.take_live(key))
@@ -42,7 +42,7 @@ impl<K: Key, V: Drop, S: BuildHasher + Drop> SparseSecondaryMap<K, V, S> {
         ensures value { get self.old.pairs (K.data_of key) ≡ Some result }
         ensures removes { self.new.pairs ≡ remove self.old.pairs (K.data_of key) }
         ensures room { room self.old ≤ room self.new }
-        ensures valid { IsContent self.new }
+        ensures valid { IsSparseContent self.new }
     {
         let (_, value) = self.take_slot(key).unwrap();
         value
@@ -54,7 +54,7 @@ impl<K: Key, V: Drop, S: BuildHasher + Drop> SparseSecondaryMap<K, V, S> {
         ensures value { result ≡ map.get self.old.pairs (K.data_of key).index }
         ensures removes { self.new.pairs ≡ map.remove self.old.pairs (K.data_of key).index }
         ensures room { room self.old ≤ room self.new }
-        ensures valid { IsContent self.new }
+        ensures valid { IsSparseContent self.new }
     {
         self.slots.remove(&key.data().idx())
     }
@@ -64,7 +64,7 @@ impl<K: Key, V: Drop, S: BuildHasher + Drop> SparseSecondaryMap<K, V, S> {
     pub(crate) fn take_first(&mut self) -> Option<(K, V)>
         ensures takes { TakesPair K.data_of self.old result self.new }
         ensures room { room self.old ≤ room self.new }
-        ensures valid { IsContent self.new }
+        ensures valid { IsSparseContent self.new }
     {
         let Some(key) = self.keys().next() else {
             return None;

@@ -2,7 +2,7 @@
 
 ghost use Rattle.std.specs.Prelude.{◌≡◌, ◌≤◌};
 ghost use Rattle.slotmap_core.specs.Words.{key_from, keyed, CallsAt, RetainsBy, CallableOnEach};
-ghost use Rattle.slotmap_sparse.specs.Content.{IsContent, room};
+ghost use Rattle.slotmap_sparse.specs.Content.{IsSparseContent, room};
 ghost use Rattle.slotmap_sparse.specs.Entries.{CallableOnPair};
 
 use crate::SparseSecondaryMap;
@@ -34,7 +34,7 @@ impl<K: Key, V: Drop, S: BuildHasher + Drop> SparseSecondaryMap<K, V, S> {
         requires { CallableOnEach F.FnMut K.data_of f (keyed self.old.pairs) }
         ensures retained { RetainsBy F.FnMut K.data_of f (keyed self.old.pairs) (keyed self.new.pairs) }
         ensures room { room self.old ≤ room self.new }
-        ensures valid { IsContent self.new }
+        ensures valid { IsSparseContent self.new }
     {
         let shown = move |index: &u32, slot: &mut (u32, V)|
             requires { CallableOnPair F.FnMut K.data_of f index.now slot.old }

@@ -1,10 +1,10 @@
 use Rattle.std.proofs.Common.{◌≤◌}
 use Rattle.slotmap_core.proofs.Common.{AllPut}
-use Rattle.slotmap_sparse.specs.Content.{IsContent}
+use Rattle.slotmap_sparse.specs.Content.{IsSparseContent}
 use Rattle.slotmap_sparse.proofs.SparseSecondaryMap.extend.Given as goal
 
 abbrev pub invariant-loop-key : goal.invariant-loop-key
 invariant-loop-key g l =
     (goal.iterator-loop-key g).can_next l.key-iterator
     × (goal.iterator-loop-key g).is_finite l.key-iterator
-    × record { put : AllPut g.K.Key.data_of l.fn.self.pairs l.yielded l.self.pairs; grown : l.fn.self.capacity ≤ l.self.capacity; well : IsContent l.self }
+    × record { put : AllPut g.K.Key.data_of l.fn.self.pairs l.yielded l.self.pairs; grown : l.fn.self.capacity ≤ l.self.capacity; well : IsSparseContent l.self }

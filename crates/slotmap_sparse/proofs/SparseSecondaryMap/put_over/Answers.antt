@@ -1,6 +1,6 @@
 use Rattle.std.specs.FinMap as map
 use Rattle.slotmap_core.proofs.Common.{WritesThrough, option_copied_mut, IsKey, value_at, nat_eq, refl, sym, ap, subst, ◌∙◌, common_steps, arith}
-use Rattle.slotmap_sparse.specs.Content.{IsContent}
+use Rattle.slotmap_sparse.specs.Content.{IsSparseContent}
 use Rattle.slotmap_sparse.specs.Entries.{content_of}
 use Rattle.slotmap_sparse.specs.Found.{put_over}
 use Rattle.slotmap_sparse.proofs.EntriesLemmas.{found_pair, well_formed, IsSound-over, content_over}
@@ -14,7 +14,7 @@ returns-in_default-clause-absent g c =
 pub returns-in_default-clause-valid : goal.returns-in_default-clause-valid
 returns-in_default-clause-valid g c =
     let same = c.get_mut.follows.holds-at-none in
-    subst (λ m. IsContent (content_of m)) (sym same) (well_formed c.self.inside.slots _ refl c.self.invariant)
+    subst (λ m. IsSparseContent (content_of m)) (sym same) (well_formed c.self.inside.slots _ refl c.self.invariant)
 
 pub invariant_of-self-2 : goal.invariant_of-self-2
 invariant_of-self-2 g c =
