@@ -143,8 +143,8 @@ impl<K: Key, V: Drop> SlotMap<K, V> {
         mut values: [V; N],
     ) -> Result<[V; N], [V; N]>
         ensures which { IsOk result ↔ CanReplace self.old (map_list K.data_of keys) }
-        ensures put { OnOk result (self.new ≡ with_values self.old (map_list K.data_of keys) values) }
-        ensures taken { IfOk result (AreValuesOf self.old (map_list K.data_of keys)) }
+        ensures value { IfOk result (AreValuesOf self.old (map_list K.data_of keys)) }
+        ensures ok { OnOk result (self.new ≡ with_values self.old (map_list K.data_of keys) values) }
 
         ensures err { IfErr result (λ given. given ≡ values) }
         ensures unchanged { OnErr result (self.new ≡ self.old) }

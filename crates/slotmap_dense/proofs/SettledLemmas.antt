@@ -82,18 +82,33 @@ module _ {K V : Type 0} (data_of : K → Key) (m : Inside K V) {now : Dense V} (
     stays-valid sound' slots_same keys_same values_same =
         record { before = well_formed; after = dense_valid data_of slots' keys' values' sound'; capacity = rw (← view, slots_same, keys_same, values_same) refl }
 
+    -- if both vectors have room for one more, they keep their capacities
+    abbrev StayInRoom : Type 0
+    StayInRoom = vec_len m.keys + 1 ≤ vec_capacity m.keys → vec_len m.values + 1 ≤ vec_capacity m.values
+        → (vec_capacity keys' ≡ vec_capacity m.keys) × (vec_capacity values' ≡ vec_capacity m.values)
+
+    -- then the map's capacity stays as well
+    in_place : slots'.capacity ≡ m.slots.capacity → StayInRoom → 0 < now.content.room → new.content.capacity ≡ now.content.capacity
+    in_place slots_same stay enough =
+        let room : 0 < (held data_of m.slots m.keys m.values).content.room = subst (λ (d : Dense V). 0 < d.content.room) (sym view) enough in
+        let had : (vec_len m.keys + 1 ≤ vec_capacity m.keys) × (vec_len m.values + 1 ≤ vec_capacity m.values) =
+        omega (arith, m.keys.ok.0, m.values.ok.0, m.keys.ok.1, m.values.ok.1, length-map m.keys.items data_of, sound.same_length) in
+        let same = stay had.0 had.1 in rw (← view, slots_same, same.0, same.1) refl
+
     -- a call that succeeded, with one pair more
-    pub may-grow : (refused : Type 0) → (refused → ⊥) → IsSound slots' (list_map data_of keys'.items) values'.items → m.slots.capacity ≤ slots'.capacity
-        → vec_capacity m.keys ≤ vec_capacity keys' → vec_capacity m.values ≤ vec_capacity values' → GrowsDense now refused new
-    may-grow refused never sound' slots_more keys_more values_more = grind (arith, well_formed, dense_valid, unchanged)
+    pub may-grow : (refused : Type 0) → (refused → ⊥) → IsSound slots' (list_map data_of keys'.items) values'.items → slots'.capacity ≡ m.slots.capacity
+        → vec_capacity m.keys ≤ vec_capacity keys' → vec_capacity m.values ≤ vec_capacity values' → StayInRoom → GrowsDense now refused new
+    may-grow refused never sound' slots_same keys_more values_more stay =
+        let same = in_place slots_same stay in grind (arith, well_formed, dense_valid, unchanged, same)
 
     keeps : Keeps m.slots slots' → keys'.items ≡ m.keys.items → values'.items ≡ m.values.items → now.content.room ≤ new.content.room → Keeps now.content new.content
     keeps same keys_same values_same more = grind arith
 
     -- a call that failed: the vectors may have more room, and nothing else changed
     pub refused-grow : (refused : Type 0) → slots' ≡ m.slots → keys'.items ≡ m.keys.items → values'.items ≡ m.values.items
-        → vec_capacity m.keys ≤ vec_capacity keys' → vec_capacity m.values ≤ vec_capacity values' → GrowsDense now refused new
-    refused-grow refused slots_same keys_same values_same keys_more values_more = grind (arith, well_formed, dense_valid, unchanged, keeps)
+        → vec_capacity m.keys ≤ vec_capacity keys' → vec_capacity m.values ≤ vec_capacity values' → StayInRoom → GrowsDense now refused new
+    refused-grow refused slots_same keys_same values_same keys_more values_more stay =
+        let same = in_place (ap (λ c. c.capacity) slots_same) stay in grind (arith, well_formed, dense_valid, unchanged, keeps, same)
 
     -- the pair of k was taken out of position i, and the last pair moved there; so the slots, with k removed or detached, changed for that one
     pub record Closed (k : Key) (i : ℕ) (v : V) (left : Content ℕ) : Type 0 where

@@ -1,8 +1,8 @@
 //! Detached keys: the value is taken out, and the slot is kept.
 
 ghost use Rattle.std.specs.FinMap as map;
-ghost use Rattle.std.specs.Prelude.{◌≡◌, OnSome, IfSome, IfNone, OnOk, IfErr, IsErr, false};
-ghost use Rattle.slotmap_core.specs.Words.{Detaches, Reattaches, RefusesReattach};
+ghost use Rattle.std.specs.Prelude.{◌≡◌, OnSome, IfSome, IfNone, OnOk, OnErr, IfErr, IsErr, false};
+ghost use Rattle.slotmap_core.specs.Words.{Detaches, Keeps, Reattaches, RefusesReattach};
 ghost use Rattle.slotmap_dense.specs.Dense.{Appends, ClosesGap};
 ghost use Rattle.slotmap_dense.specs.Call.{StaysDense, GrowsDense};
 
@@ -57,6 +57,7 @@ impl<K: Key, V: Drop> DenseSlotMap<K, V> {
         ensures ok { OnOk result (Reattaches self.old.content (K.data_of key) value self.new.content) }
         ensures order { OnOk result (Appends self.old (K.data_of key) value self.new) }
         ensures err { IfErr result (λ error. RefusesReattach false self.old.content (K.data_of key) value error) }
+        ensures unchanged { OnErr result (Keeps self.old.content self.new.content) }
         ensures valid { GrowsDense self.old (IsErr result) self.new }
     {
         let data = key.data();

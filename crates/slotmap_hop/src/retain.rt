@@ -95,7 +95,7 @@ impl<K: Key, V: Drop> HopSlotMap<K, V> {
         // For each entry, in each state in which calls for other entries leave the closure.
         requires { CallableOnEach F.FnMut K.data_of f self.old.content.live }
         ensures retained { RetainsBy F.FnMut K.data_of f self.old.content.live self.new.content.live }
-        ensures by_index { RetainsByIndex F.FnMut K.data_of f self.old self.new }
+        ensures order { RetainsByIndex F.FnMut K.data_of f self.old self.new }
         ensures leaves { Leaves self.old.content self.new.content }
         ensures valid { StaysHop self.old self.new }
     {

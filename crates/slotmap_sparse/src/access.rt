@@ -83,7 +83,7 @@ impl<K: Key, V: Drop, S: BuildHasher + Drop> SparseSecondaryMap<K, V, S> {
     pub fn get_mut(&mut self, key: K) -> Option<&mut V>
         ensures* writes_back { sem 𝓛 (lends_get K.row V.row S.row S.Hasher.row S.BuildHasher S.Hasher.Hasher self.entry (K.data_of key) result) }
         ensures value { option_copied_mut result ≡ get self.old.pairs (K.data_of key) }
-        ensures was_valid { IsSparseContent self.old }
+        ensures valid { IsSparseContent self.old }
     {
         let key = key.data();
         let Some(slot) = self.slots.get_mut(&key.idx()) else {
@@ -108,7 +108,7 @@ impl<K: Key, V: Drop, S: BuildHasher + Drop> SparseSecondaryMap<K, V, S> {
         requires { contains_key self.old.pairs (K.data_of key) ≡ true }
         ensures* writes_back { sem 𝓛 (lends_value K.row V.row S.row S.Hasher.row S.BuildHasher S.Hasher.Hasher self.entry (K.data_of key) result) }
         ensures value { get self.old.pairs (K.data_of key) ≡ Some result.now }
-        ensures was_valid { IsSparseContent self.old }
+        ensures valid { IsSparseContent self.old }
     {
         let index = key.data().idx();
         &mut self.slots.get_mut(&index).unwrap().1
@@ -215,6 +215,7 @@ impl<K: Key, V: Drop, S: BuildHasher + Drop> IndexMut<K> for SparseSecondaryMap<
         requires { contains_key self.old.pairs (K.data_of key) ≡ true }
         ensures* writes_back { sem 𝓛 (lends_value K.row V.row S.row S.Hasher.row S.BuildHasher S.Hasher.Hasher self.entry (K.data_of key) result) }
         ensures value { get self.old.pairs (K.data_of key) ≡ Some result.now }
+        ensures valid { IsSparseContent self.old }
     {
         self.get_unchecked_mut(key)
     }

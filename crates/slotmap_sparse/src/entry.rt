@@ -67,7 +67,7 @@ impl<K: Key, V: Drop, S: BuildHasher + Drop> SparseSecondaryMap<K, V, S> {
         ensures never_refused { IsOk result }
         ensures which { IfOk result (IsEntryOf K.data_of self.old.pairs (K.data_of key)) }
         ensures ok { IfEntry result (Enters K.data_of self.entry key) }
-        ensures was_valid { IsSparseContent self.old }
+        ensures valid { IsSparseContent self.old }
     {
         match self.try_entry(key) {
             Ok(entry) => Ok(Some(entry)),
@@ -91,7 +91,7 @@ impl<K: Key, V: Drop, S: BuildHasher + Drop> SparseSecondaryMap<K, V, S> {
 
         ensures err { IfErr result (λ error. (error ≡ no_entry.Older) × (entry self.old.pairs (K.data_of key) ≡ no_entry)) }
         ensures* unchanged { sem 𝓛 (rests_if_err K.row V.row S.row S.Hasher.row S.BuildHasher S.Hasher.Hasher self.entry result) }
-        ensures was_valid { IsSparseContent self.old }
+        ensures valid { IsSparseContent self.old }
     {
         match self.find(key) {
             Found::No => return Err(NoEntry::Older),

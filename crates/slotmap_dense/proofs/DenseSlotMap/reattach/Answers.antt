@@ -1,4 +1,4 @@
-use Rattle.slotmap_core.proofs.Common.{length, refl, ap, arith, rules}
+use Rattle.slotmap_core.proofs.Common.{length, refl, ap, ◌∙◌, arith, rules}
 use Rattle.slotmap_dense.proofs.MoveLemmas.{kept_not_live}
 use Rattle.slotmap_dense.proofs.SettledLemmas.{well_formed, refused-grow, may-grow, Appended, appended}
 use Rattle.slotmap_dense.proofs.DenseSlotMap.reattach.Goals.{After-push_reserved-2}
@@ -14,6 +14,7 @@ returns-then-is_err-clause-valid g c =
     let m = c.self.inside in
     let keys = c.make_room_in.ensures in
     refused-grow _ m c.self.view_is c.self.invariant m.slots c.make_room_in.new.items m.values _ refl keys.keeps refl keys.capacity (omega arith)
+    (λ in_keys in_values. (keys.had_room in_keys, refl))
 
 pub returns-then-is_err-2-clause-valid : goal.returns-then-is_err-2-clause-valid
 returns-then-is_err-2-clause-valid g c =
@@ -21,6 +22,7 @@ returns-then-is_err-2-clause-valid g c =
     let keys = c.make_room_in.ensures in
     let values = c.make_room_in-2.ensures in
     refused-grow _ m c.self.view_is c.self.invariant m.slots c.make_room_in.new.items c.make_room_in-2.new.items _ refl keys.keeps values.keeps keys.capacity values.capacity
+    (λ in_keys in_values. (keys.had_room in_keys, values.had_room in_values))
 
 grown : (g : _) (c : After-push_reserved-2 g) → Appended g.K.Key.data_of c.self.inside c.self.view_is c.self.invariant c.reattach.new.self c.push_reserved.new.self
     c.push_reserved-2.new.self (g.K.Key.data_of c.args.key) c.args.value c.len-position.result
@@ -44,8 +46,9 @@ returns-clause-ok g c = (grown g (goal.at.returns-clause-ok g c).After-push_rese
 pub returns-clause-valid : goal.returns-clause-valid
 returns-clause-valid g c =
     may-grow _ c.self.inside c.self.view_is c.self.invariant c.reattach.new.self c.push_reserved.new.self c.push_reserved-2.new.self _ (λ is. absurd (cc))
-    (invariant_of-self-2 g c) (omega (arith, c.reattach.ensures.valid.capacity)) (omega (arith, c.push_reserved.ensures.capacity, c.make_room_in.ensures.capacity))
+    (invariant_of-self-2 g c) c.reattach.ensures.valid.capacity (omega (arith, c.push_reserved.ensures.capacity, c.make_room_in.ensures.capacity))
     (omega (arith, c.push_reserved-2.ensures.capacity, c.make_room_in-2.ensures.capacity))
+    (λ in_keys in_values. (c.push_reserved.ensures.capacity ∙ c.make_room_in.ensures.had_room in_keys, c.push_reserved-2.ensures.capacity ∙ c.make_room_in-2.ensures.had_room in_values))
 
 pub returns-then-is_err-clause-err : goal.returns-then-is_err-clause-err
 returns-then-is_err-clause-err g c = grind (arith, common_steps)

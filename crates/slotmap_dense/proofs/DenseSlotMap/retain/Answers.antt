@@ -40,11 +40,11 @@ ended g c is =
     let past : length found.new.self.keys ≤ found.result = omega (arith, is, c.len.ensures.value, len_keys found.new.self c.len.ensures.valid) in
     Going-end g.F.FnMut g.K.Key.data_of c.args.self.now c.args.f _ _ c.loop-position.invariant.going found.ensures.passes past
 
-pub returns-clause-packed : goal.returns-clause-packed
-returns-clause-packed g c = (ended g (goal.at.returns-clause-packed g c).After-len c.if-position-len.true).packed
+pub returns-clause-order : goal.returns-clause-order
+returns-clause-order g c = (ended g (goal.at.returns-clause-order g c).After-len c.if-position-len.true).packed
 
 pub returns-clause-retained : goal.returns-clause-retained
-returns-clause-retained g c = (returns-clause-packed g c).retains
+returns-clause-retained g c = (returns-clause-order g c).retains
 
 pub returns-clause-leaves : goal.returns-clause-leaves
 returns-clause-leaves g c = (ended g (goal.at.returns-clause-leaves g c).After-len c.if-position-len.true).leaves

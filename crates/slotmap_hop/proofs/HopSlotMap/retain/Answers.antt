@@ -38,11 +38,11 @@ loop-next-preserved g c =
 ended : (g : _) (c : In_default g) → Retaining g.F.FnMut g.K.Key.data_of c.args.self.now c.args.f c.loop-next.self None c.loop-next.f
 ended g c = rw c.in_default.is at c.loop-next.invariant
 
-pub returns-clause-by_index : goal.returns-clause-by_index
-returns-clause-by_index g c = retaining_ends g.F.FnMut g.K.Key.data_of c.args.self.now c.args.f _ _ (ended g (goal.at.returns-clause-by_index g c).In_default)
+pub returns-clause-order : goal.returns-clause-order
+returns-clause-order g c = retaining_ends g.F.FnMut g.K.Key.data_of c.args.self.now c.args.f _ _ (ended g (goal.at.returns-clause-order g c).In_default)
 
 pub returns-clause-retained : goal.returns-clause-retained
-returns-clause-retained g c = (returns-clause-by_index g c).retains
+returns-clause-retained g c = (returns-clause-order g c).retains
 
 pub returns-clause-leaves : goal.returns-clause-leaves
 returns-clause-leaves g c = (ended g (goal.at.returns-clause-leaves g c).In_default).sweep.swept.leaves

@@ -2,4 +2,4 @@ use Rattle.slotmap_secondary.proofs.PairsAloneLemmas.{IsContent-with_value}
 use Rattle.slotmap_secondary.proofs.SecondaryMap.replace_value.Goals as goal
 
 pub returns-clause-valid : goal.returns-clause-valid
-returns-clause-valid g c = IsContent-with_value c.args.self.now (g.K.Key.data_of c.args.key) c.replace.new.dest c.get_unchecked_mut.ensures.was_valid c.requires
+returns-clause-valid g c = IsContent-with_value c.args.self.now (g.K.Key.data_of c.args.key) c.replace.new.dest c.get_unchecked_mut.ensures.valid c.requires

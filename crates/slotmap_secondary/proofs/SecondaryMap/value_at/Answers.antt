@@ -36,5 +36,5 @@ returns g c =
           c.version-version.ensures.value,
         ) (content-write c.self.inside.slots.items _ _ _ w slot.there),
       ),
-      record { writes_back = tt; value = slot.gives ∙ same_value _ _ _ _ (sym (ap pair_in read) ∙ c.value_mut.ensures.value); was_valid = well_formed c.self.inside _ c.self.view_is c.self.invariant },
+      record { writes_back = tt; value = slot.gives ∙ same_value _ _ _ _ (sym (ap pair_in read) ∙ c.value_mut.ensures.value); valid = well_formed c.self.inside _ c.self.view_is c.self.invariant },
     )

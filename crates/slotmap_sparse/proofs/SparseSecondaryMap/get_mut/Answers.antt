@@ -12,7 +12,7 @@ returns-in_default g c =
     let none = stands_at c.self.inside.slots _ c.self.view_is k _ at None (sym c.get_mut.ensures.value ∙ ap option_copied_mut c.in_default.is) in
     let same = ap content_of c.get_mut.follows.holds-at-none ∙ c.self.view_is in (
       λ i. inr (same i),
-      record { writes_back = tt; value = sym (ap (value_at k.version) none); was_valid = well_formed c.self.inside.slots _ c.self.view_is c.self.invariant },
+      record { writes_back = tt; value = sym (ap (value_at k.version) none); valid = well_formed c.self.inside.slots _ c.self.view_is c.self.invariant },
     )
 
 pub invariant_of-self-then-slot-version : goal.invariant_of-self-then-slot-version
@@ -28,7 +28,7 @@ returns-then-slot-version g c =
     let none = found_none c.self.inside.slots _ c.self.view_is (g.K.Key.data_of c.args.key) _ at p stood other in
     let kept = content_kept c.self.inside.slots _ c.self.invariant _ p stood (c.get_mut.follows.holds p) ∙ c.self.view_is in (
       λ i. inr (kept i),
-      record { writes_back = tt; value = sym none; was_valid = well_formed c.self.inside.slots _ c.self.view_is c.self.invariant },
+      record { writes_back = tt; value = sym none; valid = well_formed c.self.inside.slots _ c.self.view_is c.self.invariant },
     )
 
 pub invariant_of-self-lent : goal.invariant_of-self-lent
@@ -45,5 +45,5 @@ returns g c =
     let stood = sym c.get_mut.ensures.value ∙ ap option_copied_mut c.in-Some.is in
     let found = found_own c.self.inside.slots _ c.self.view_is k _ at p stood (c.if-slot-version.false ∙ c.version.ensures.value ∙ ap (λ k. k.version) c.data-key.ensures.value) in (
       λ i. inl (c.slot-1.given, λ w. content-through _ _ c.self.invariant k _ at p w stood (c.get_mut.follows.holds (p.0, w)) _ c.self.view_is (ap is_some found) i),
-      record { writes_back = tt; value = sym found; was_valid = well_formed c.self.inside.slots _ c.self.view_is c.self.invariant },
+      record { writes_back = tt; value = sym found; valid = well_formed c.self.inside.slots _ c.self.view_is c.self.invariant },
     )

@@ -18,5 +18,5 @@ returns g c =
     let stood = sym c.get_mut.ensures.value ∙ ap option_copied_mut c.unwrap.ensures in
     let there = sym (found_pair _ _ (ap (λ x. x.pairs) c.self.view_is) _ ∙ ap (map.get c.args.self.now.pairs) at) ∙ stood in (
       (refl, λ w. content-through _ _ c.self.invariant (g.K.Key.data_of c.args.key) _ at c.unwrap.result.now w stood (c.get_mut.follows.holds (c.unwrap.result.now.0, w)) _ c.self.view_is c.requires),
-      record { writes_back = tt; value = get_stands _ _ c.requires _ there; was_valid = well_formed c.self.inside.slots _ c.self.view_is c.self.invariant },
+      record { writes_back = tt; value = get_stands _ _ c.requires _ there; valid = well_formed c.self.inside.slots _ c.self.view_is c.self.invariant },
     )

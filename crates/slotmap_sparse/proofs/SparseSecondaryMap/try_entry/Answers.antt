@@ -27,7 +27,7 @@ returns g c =
         };
         err = tt;
         unchanged = tt;
-        was_valid = c.find.ensures.valid;
+        valid = c.find.ensures.valid;
       },
     )
 
