@@ -4,6 +4,7 @@ pub mod SpentLemmas
 pub mod RetainCallers
 pub mod Walks
 pub mod RunCallers
+pub mod RemovalCallers
 pub mod SecondaryCallers
 pub mod SecondaryRuns
 pub mod SideTables

@@ -1,8 +1,10 @@
 -- Laws of the replies to a list of commands. The reply to a command has the command's position in the list: if there are as
 -- many commands before the one as replies before the other, they belong together.
-use Rattle.std.specs.Prelude.{◌≡◌, ◌≢◌, ℕ, ◌<◌, List, [], ◌∷◌, ◌++◌, length, Bool, false, Option, Some, None, Ok, ⊤, ◌⊎◌}
+use Rattle.std.specs.Prelude.{◌≡◌, ◌≢◌, ℕ, ◌<◌, List, [], ◌∷◌, ◌++◌, length, Bool, true, false, Some, None, Ok, Err, ⊤, ◌⊎◌, map as list_map}
 use Rattle.std.specs.List.{IsDistinct, AllByRecursion, AllZip}
 use Rattle.std.specs.Ordering.{eq_by_cmp}
+use Rattle.std.specs.FinMap as map
+use Rattle.std.specs.FinSet as set
 use Rattle.slotmap_core.specs.Key.{Key, key_cmp}
 use Rattle.slotmap_core.specs.Lifo.{IsBasic, answers, no_places}
 use Rattle.slotmap_core.specs.declared.commands.Command.{Command}
@@ -27,15 +29,75 @@ module _ {K V R E : Type 0} (data_of : K → Key) where
   abbrev pub NoKeyTwice : List (Reply K V R E) → Type 0
   NoKeyTwice replies = IsDistinct (eq_by_cmp key_cmp) (keys_told replies)
 
--- Once a Remove of a key returned a value, each later Get of that key returns `None`. (`of` makes a command of the list from
--- a plain one)
-abbrev pub RemovedForGood : {K V R E C : Type 0} → (Command K V → C) → List C → List (Reply K V R E) → Type 0
-RemovedForGood {K} {V} {R} {E} {C} of commands replies =
-    (before between after : List C) (told_before told_between told_after : List (Reply K V R E)) (key : K) (v : V) (looked : Option R)
-    → length before ≡ length told_before → length between ≡ length told_between
-    → commands ≡ before ++ of (command.Remove key) ∷ (between ++ of (command.Get key) ∷ after)
-    → replies ≡ told_before ++ reply.Taken (Some v) ∷ (told_between ++ reply.Looked looked ∷ told_after)
-    → looked ≡ None
+module _ {K V R E : Type 0} (data_of : K → Key) (k : Key) where
+  -- the reply shows that k is live after the command
+  abbrev pub ShowsLive : DetachCommand K V → Reply K V R E → Type 0
+  ShowsLive (detaching.Plain (command.Insert v)) (reply.Key other) = data_of other ≡ k
+  ShowsLive (detaching.Plain command.InsertWith) (reply.Key other) = data_of other ≡ k
+  ShowsLive (detaching.Plain (command.Get other)) (reply.Looked (Some seen)) = data_of other ≡ k
+  ShowsLive (detaching.Plain (command.Contains other)) (reply.Flag is) = (is ≡ true) × (data_of other ≡ k)
+  ShowsLive (detaching.Plain (command.Replace other v)) (reply.Put (Ok before)) = data_of other ≡ k
+  ShowsLive (detaching.Plain command.Keys) (reply.Keys keys) = set.contains (set.from_list {R = key_cmp} (list_map data_of keys.items)) k ≡ true
+  ShowsLive (detaching.Reattach other v) reply.Done = data_of other ≡ k
+  ShowsLive _ _ = ⊥
+
+  -- the reply shows that k isn't live after the command
+  abbrev pub ShowsNotLive : DetachCommand K V → Reply K V R E → Type 0
+  ShowsNotLive (detaching.Plain command.Clear) reply.Done = ⊤
+  ShowsNotLive (detaching.Plain command.Drain) (reply.Drained pairs) = ⊤
+  ShowsNotLive (detaching.Plain (command.Get other)) (reply.Looked None) = data_of other ≡ k
+  ShowsNotLive (detaching.Plain (command.Contains other)) (reply.Flag is) = (is ≡ false) × (data_of other ≡ k)
+  ShowsNotLive (detaching.Plain (command.Replace other v)) (reply.Put (Err back)) = data_of other ≡ k
+  ShowsNotLive (detaching.Plain (command.Remove other)) (reply.Taken taken) = data_of other ≡ k
+  ShowsNotLive (detaching.Plain command.Keys) (reply.Keys keys) = set.contains (set.from_list {R = key_cmp} (list_map data_of keys.items)) k ≡ false
+  ShowsNotLive (detaching.Detach other) (reply.Taken None) = data_of other ≡ k
+  ShowsNotLive _ _ = ⊥
+
+  -- the reply shows that the command removed k: a Remove returns its value, or a Drain lists it
+  abbrev pub RemovesKey : DetachCommand K V → Reply K V R E → Type 0
+  RemovesKey (detaching.Plain (command.Remove other)) (reply.Taken (Some v)) = data_of other ≡ k
+  RemovesKey (detaching.Plain command.Drain) (reply.Drained pairs) = map.contains_key (map.from_entries {R = key_cmp} (list_map (λ p. (data_of p.0, p.1)) pairs.items)) k ≡ true
+  RemovesKey _ _ = ⊥
+
+  -- the command isn't a Detach of k that returns a value
+  abbrev pub LeavesAttached : DetachCommand K V → Reply K V R E → Type 0
+  LeavesAttached (detaching.Detach other) (reply.Taken (Some v)) = data_of other ≢ k
+  LeavesAttached _ _ = ⊤
+
+  -- if the command asks for k, the reply is that of a key that is neither live nor detached
+  abbrev pub FindsNothing : DetachCommand K V → Reply K V R E → Type 0
+  FindsNothing (detaching.Plain (command.Get other)) answer = data_of other ≡ k → answer ≡ reply.Looked None
+  FindsNothing (detaching.Plain (command.Contains other)) answer = data_of other ≡ k → answer ≡ reply.Flag false
+  FindsNothing (detaching.Plain (command.Replace other v)) answer = data_of other ≡ k → answer ≡ reply.Put (Err v)
+  FindsNothing (detaching.Plain (command.Remove other)) answer = data_of other ≡ k → answer ≡ reply.Taken None
+  FindsNothing (detaching.Detach other) answer = data_of other ≡ k → answer ≡ reply.Taken None
+  FindsNothing (detaching.Reattach other v) answer = data_of other ≡ k → answer ≡ reply.NotDetached v
+  FindsNothing _ answer = ⊤
+
+module _ {K V R E C : Type 0} (data_of : K → Key) (of : C → DetachCommand K V) where
+  -- Once a Remove returned a key's value, or a Drain listed the key, no later command finds it. (`of` makes a command with
+  -- detaching from one of the list)
+  abbrev pub RemovedForGood : List C → List (Reply K V R E) → Type 0
+  RemovedForGood commands replies =
+      (before after : List C) (told_before told_after : List (Reply K V R E)) (k : Key) (c : C) (r : Reply K V R E)
+      → length before ≡ length told_before
+      → commands ≡ before ++ c ∷ after
+      → replies ≡ told_before ++ r ∷ told_after
+      → RemovesKey data_of k (of c) r
+      → AllZip (λ d answer. FindsNothing data_of k (of d) answer) after told_after
+
+  -- Once a reply showed that a key is live, and a later one shows that it no longer is, no command after that finds it; but
+  -- no Detach between the two may return its value. So it is of a key that a Clear or a Retain removed
+  abbrev pub GoneForGood : List C → List (Reply K V R E) → Type 0
+  GoneForGood commands replies =
+      (before between after : List C) (told_before told_between told_after : List (Reply K V R E)) (k : Key) (c d : C) (r answer : Reply K V R E)
+      → length before ≡ length told_before
+      → AllZip (λ other told. LeavesAttached data_of k (of other) told) between told_between
+      → commands ≡ before ++ c ∷ (between ++ d ∷ after)
+      → replies ≡ told_before ++ r ∷ (told_between ++ answer ∷ told_after)
+      → ShowsLive data_of k (of c) r
+      → ShowsNotLive data_of k (of d) answer
+      → AllZip (λ other told. FindsNothing data_of k (of other) told) after told_after
 
 -- the command inserts
 abbrev pub NeedsRoom : {K V : Type 0} → Command K V → Type 0
@@ -109,13 +171,15 @@ module _ {K V R E : Type 0} (data_of : K → Key) where
   -- what holds of the replies to every list of commands
   pub record Laws (commands : List (Command K V)) (replies : List (Reply K V R E)) : Type 0 where
     pub no_key_twice : NoKeyTwice data_of replies
-    pub removed_for_good : RemovedForGood (λ command. command) commands replies
+    pub removed_for_good : RemovedForGood data_of detaching.Plain commands replies
+    pub gone_for_good : GoneForGood data_of detaching.Plain commands replies
     pub reserve_holds : ReserveHolds (λ command. command) NeedsRoom commands replies
 
   -- the same on a map whose keys can be detached
   pub record DetachLaws (reuses : Bool) (commands : List (DetachCommand K V)) (replies : List (Reply K V R E)) : Type 0 where
     pub no_key_twice : NoKeyTwice data_of replies
-    pub removed_for_good : RemovedForGood detaching.Plain commands replies
+    pub removed_for_good : RemovedForGood data_of (λ command. command) commands replies
+    pub gone_for_good : GoneForGood data_of (λ command. command) commands replies
     pub reserve_holds : ReserveHolds detaching.Plain DetachNeedsRoom commands replies
     pub not_reissued : DetachedNotReissued data_of commands replies
     pub reattaches : DetachedReattaches data_of reuses commands replies

@@ -32,6 +32,7 @@ pub mod SecondaryStep
 pub mod SecondaryLaw
 pub mod Joined
 pub mod Dictionary
+pub mod JoinedLaw
 pub mod Several
 pub mod SecondaryEqual
 pub mod SecondaryExtend

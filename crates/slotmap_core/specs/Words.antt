@@ -49,6 +49,7 @@ pub use Rattle.slotmap_core.specs.Run.{Run, Unretiring}
 pub use Rattle.slotmap_core.specs.Fit.{Fits, Follows, Lasts, Starts, RunFollows, RunsAnew, Continues}
 pub use Rattle.slotmap_core.specs.Lifo.{Lifo, IsBasic, answer, after_command, offer_of, top_key, places_after, no_places}
 pub use Rattle.slotmap_core.specs.Law.{reply_keys, IsRefusal, keys_told, Laws, DetachLaws, Spares, NoKeyTwice, LastFreedFirst, RemovedForGood}
+pub use Rattle.slotmap_core.specs.Law.{GoneForGood, ShowsLive, ShowsNotLive, RemovesKey, LeavesAttached, FindsNothing}
 pub use Rattle.slotmap_core.specs.Law.{DetachedNotReissued, DetachedReattaches, ReattachBinds, NeedsRoom, DetachNeedsRoom, ReserveHolds}
 pub use Rattle.slotmap_core.specs.Gather.{gather, add}
 pub use Rattle.slotmap_core.specs.Places.{Vacant, Live, Place, Detached, Retired, live_entry, retired_entry, left_by, live_value, detached_entry, next_entry}
@@ -73,6 +74,7 @@ pub use Rattle.slotmap_core.specs.SecondaryLaw.{HadMemory, Shows, seen_by, EachA
 pub use Rattle.slotmap_core.specs.Joined.{Joined, named, RunsBeside, given_joined}
 pub use Rattle.slotmap_core.specs.Dictionary.{Dictionary, WithDictionary, DictionaryStep, DetachDictionaryStep, RunsByDictionary, unused, noted}
 pub use Rattle.slotmap_core.specs.Dictionary.{RepliesByDictionary}
+pub use Rattle.slotmap_core.specs.JoinedLaw.{JoinedFindsNothing, JoinedRemovedForGood}
 pub use Rattle.slotmap_core.specs.SecondaryEqual.{AreEqual, are_equal, are_equal_laws, are_equal_equiv, same_entries, SameValue}
 pub use Rattle.slotmap_core.specs.SecondaryExtend.{AllPut, values_of, ExtendsBy, Extends}
 pub use Rattle.slotmap_core.specs.SecondaryWritten.{record_of_pair, slot_pair}

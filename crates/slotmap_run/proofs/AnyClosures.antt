@@ -1,11 +1,11 @@
 -- A step with some closures is a step with closures that may do anything.
-use Rattle.slotmap_core.proofs.Common.{State, Given, any_closures, Step, DetachStep, arith}
+use Rattle.slotmap_core.proofs.Common.{State, RunGiven, any_closures, Step, DetachStep, arith}
 use Rattle.slotmap_core.specs.declared.commands.Command.{Command}
 use Rattle.slotmap_core.specs.declared.commands.DetachCommand.{DetachCommand}
 use Rattle.slotmap_core.specs.declared.commands.Reply.{Reply}
 
-module _ {K V R E : Type 0} (given : Given K V R E) where
-  abbrev pub freed : Given K V R E
+module _ {K V R E : Type 0} (given : RunGiven K V R E) where
+  abbrev pub freed : RunGiven K V R E
   freed = any_closures given.data_of given.reuses
 
   pub freely : (old : State V) (c : Command K V) (r : Reply K V R E) (new : State V) → Step given old c r new → Step freed old c r new

@@ -2,7 +2,7 @@
 use Rattle.std.specs.FinMap as map
 use Rattle.std.specs.FinSet as set
 use Rattle.std.proofs.Common.{◌≡◌, ◌⊎◌, Ok, List, Some, true, false, inl, ap, is_some, arith}
-use Rattle.slotmap_core.proofs.Common.{State, IsIssued, Given, DetachStep, keys_told, DetachedNotReissued, DetachedReattaches, ReattachBinds, Spares}
+use Rattle.slotmap_core.proofs.Common.{State, IsIssued, RunGiven, DetachStep, keys_told, DetachedNotReissued, DetachedReattaches, ReattachBinds, Spares}
 use Rattle.slotmap_core.proofs.Common.{keys_total, exact_keys, itself}
 use Rattle.slotmap_core.specs.declared.commands.Command.TheVariants as command
 use Rattle.slotmap_core.specs.declared.commands.DetachCommand.{DetachCommand}
@@ -15,7 +15,7 @@ use Rattle.slotmap_run.proofs.StepCases.{detach_machine, detached_stays}
 use Rattle.slotmap_run.proofs.Runs.{run_split, run_keeps, run_keeps_by}
 use Rattle.slotmap_run.proofs.NewRuns.{RunsWell}
 
-module _ {K V R E : Type 0} (given : Given K V R E) where
+module _ {K V R E : Type 0} (given : RunGiven K V R E) where
   pub detached_not_reissued : (commands : List (DetachCommand K V)) (replies : List (Reply K V R E)) → RunsWell (DetachStep given) commands replies → DetachedNotReissued given.data_of commands replies
   detached_not_reissued commands replies well cs ds rs ss key v e is js =
       let run = rw (is, js) at well.run in

@@ -1,7 +1,7 @@
 -- What a call of one of two joined maps does is a step of the joined machine.
 use Rattle.std.specs.FinMap as map
 use Rattle.std.proofs.Common.{◌≡◌, ◌+◌, ◌^◌, ◌∷◌, ◌++◌, slice_get, Result, Ok, Err, OnSome, IfNone, OnOk, IfErr, IsErr, ℕ, zero, suc, List, [], Option, Some}
-use Rattle.slotmap_core.proofs.Common.{Key, Content, IsContent, Inserts, Keeps, Removes, Detaches, Reattaches, Given as First, State, IsIssued, StandsIn, Fits}
+use Rattle.slotmap_core.proofs.Common.{Key, Content, IsContent, Inserts, Keeps, Removes, Detaches, Reattaches, RunGiven as First, State, IsIssued, StandsIn, Fits}
 use Rattle.slotmap_core.proofs.Common.{Lasts, Follows as FollowsFirst, reply_keys, Pairs, get, put, remove, RefusesPut, LooksAt, Joined, named, Dictionary}
 use Rattle.slotmap_core.proofs.Common.{WithDictionary, noted, RepliesByDictionary, DictionaryStep, DetachDictionaryStep, MayGrow, Refuses, RefusesReattach}
 use Rattle.slotmap_core.proofs.Common.{None, inl, inr, refl, sym, ap, ◌∙◌, same_Some}

@@ -3,7 +3,7 @@ use Rattle.std.specs.FinMap as map
 use Rattle.std.specs.FinSet as set
 use Rattle.std.proofs.Common.{◌≡◌, ◌≢◌, ◌+◌, ◌≤◌, ◌∷◌, ◌⊎◌, List, [], length, true, false, inl, inr, refl, ap, arith}
 use Rattle.slotmap_core.proofs.Common.{IsDistinct, AllByRecursion, eq_by_cmp, Key, key_cmp, most, State, IsIssued, StandsIn, Fresh, after_insert, empty_state}
-use Rattle.slotmap_core.proofs.Common.{retired, Run, Unretiring, Given, reply_keys, keys_told, NoKeyTwice, keys_total, exact_keys, itself, in_retired}
+use Rattle.slotmap_core.proofs.Common.{retired, Run, Unretiring, RunGiven, reply_keys, keys_told, NoKeyTwice, keys_total, exact_keys, itself, in_retired}
 use Rattle.slotmap_core.specs.Machine.{used}
 use Rattle.slotmap_core.specs.Step as plain
 use Rattle.slotmap_core.specs.declared.commands.Command.{Command}
@@ -62,11 +62,11 @@ module _ {K V R E : Type 0} (data_of : K → Key) where
 
 -- A machine of primary maps: each step binds a fresh key, or none; and its steps for plain commands are those of the plain machine (`of`
 -- makes a command of this machine from a plain one)
-pub record IsMachine {K V R E C : Type 0} (given : Given K V R E) (Step : State V → C → Reply K V R E → State V → Type 0) (of : Command K V → C) : Type 0 where
+pub record IsMachine {K V R E C : Type 0} (given : RunGiven K V R E) (Step : State V → C → Reply K V R E → State V → Type 0) (of : Command K V → C) : Type 0 where
   pub cases : (old : State V) (c : C) (r : Reply K V R E) (new : State V) → Step old c r new → Binds given.data_of old r new ⊎ Shrinks given.data_of old r new
   pub plainly : (old : State V) (c : Command K V) (r : Reply K V R E) (new : State V) → Step old (of c) r new → plain.Step given old c r new
 
-module _ {K V R E C : Type 0} {given : Given K V R E} {Step : State V → C → Reply K V R E → State V → Type 0} {of : Command K V → C} (m : IsMachine given Step of) where
+module _ {K V R E C : Type 0} {given : RunGiven K V R E} {Step : State V → C → Reply K V R E → State V → Type 0} {of : Command K V → C} (m : IsMachine given Step of) where
   issued_stays : (old : State V) (c : C) (r : Reply K V R E) (new : State V) → Step old c r new → (k : Key) → IsIssued old k → IsIssued new k
   issued_stays old c r new step k h = grind (arith, m.cases old c r new step, changes)
 

@@ -1,6 +1,6 @@
 -- What a reserve promised is kept.
 use Rattle.std.proofs.Common.{◌≡◌, ◌+◌, ◌≤◌, max, List, ap, arith}
-use Rattle.slotmap_core.proofs.Common.{State, most, Given, Step, DetachStep, NeedsRoom, DetachNeedsRoom, IsRefusal, ReserveHolds}
+use Rattle.slotmap_core.proofs.Common.{State, most, RunGiven, Step, DetachStep, NeedsRoom, DetachNeedsRoom, IsRefusal, ReserveHolds}
 use Rattle.slotmap_core.specs.Machine.{used}
 use Rattle.slotmap_core.specs.declared.commands.Command.{Command}
 use Rattle.slotmap_core.specs.declared.commands.Command.TheVariants as command
@@ -12,7 +12,7 @@ use Rattle.slotmap_run.proofs.Laws.{IsMachine, IsGood, good_stays, still_promise
 use Rattle.slotmap_run.proofs.Runs.{run_split, run_keeps}
 use Rattle.slotmap_run.proofs.NewRuns.{RunsWell}
 
-module _ {K V R E : Type 0} (given : Given K V R E) where
+module _ {K V R E : Type 0} (given : RunGiven K V R E) where
   -- if what is owed is within the limit, an insert or a reattach fails only if nothing is owed
   pub detach_refused : (old : State V) (c : DetachCommand K V) (r : Reply K V R E) (new : State V) → DetachNeedsRoom c → DetachStep given old c r new
       → IsRefusal r → used old + old.promised ≤ most → old.promised ≡ 0
@@ -21,7 +21,7 @@ module _ {K V R E : Type 0} (given : Given K V R E) where
   pub plain_refused : (old : State V) (c : Command K V) (r : Reply K V R E) (new : State V) → NeedsRoom c → Step given old c r new → IsRefusal r → used old + old.promised ≤ most → old.promised ≡ 0
   plain_refused old c = detach_refused old (detaching.Plain c)
 
-module _ {K V R E C : Type 0} {given : Given K V R E} {Machine : State V → C → Reply K V R E → State V → Type 0} {of : Command K V → C} (m : IsMachine given Machine of)
+module _ {K V R E C : Type 0} {given : RunGiven K V R E} {Machine : State V → C → Reply K V R E → State V → Type 0} {of : Command K V → C} (m : IsMachine given Machine of)
     (Such : C → Type 0) (refused : (old : State V) (c : C) (r : Reply K V R E) (new : State V) → Such c → Machine old c r new → IsRefusal r → used old + old.promised ≤ most → old.promised ≡ 0) where
   pub reserve_holds : (commands : List C) (replies : List (Reply K V R E)) → RunsWell Machine commands replies → ReserveHolds of Such commands replies
   reserve_holds commands replies well cs ds es rs ss us n c r e f few such is js refusal =

@@ -2,7 +2,7 @@
 use Rattle.std.specs.FinMap as map
 use Rattle.std.specs.FinSet as set
 use Rattle.std.proofs.Common.{◌≡◌, ◌⊎◌, arith, [], true, inl, inr, refl}
-use Rattle.slotmap_core.proofs.Common.{Key, key_cmp, State, Given, Step, DetachStep, reply_keys, Spares}
+use Rattle.slotmap_core.proofs.Common.{Key, key_cmp, State, RunGiven, Step, DetachStep, reply_keys, Spares}
 use Rattle.slotmap_core.specs.declared.commands.Command.TheVariants as command
 use Rattle.slotmap_core.specs.declared.commands.DetachCommand.{DetachCommand}
 use Rattle.slotmap_core.specs.declared.commands.DetachCommand.TheVariants as detaching
@@ -11,7 +11,7 @@ use Rattle.slotmap_core.specs.declared.commands.Reply.TheVariants as reply
 use Rattle.slotmap_run.proofs.MapChanges.{changes}
 use Rattle.slotmap_run.proofs.Laws.{Binds, Shrinks, IsMachine}
 
-module _ {K V R E : Type 0} (given : Given K V R E) where
+module _ {K V R E : Type 0} (given : RunGiven K V R E) where
   module _ (old : State V) (c : DetachCommand K V) (r : Reply K V R E) (new : State V) (step : DetachStep given old c r new) where
     shrinks : reply_keys given.data_of r ≡ [] → Shrinks given.data_of old r new
     shrinks quiet = record {

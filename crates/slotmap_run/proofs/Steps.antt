@@ -5,7 +5,7 @@ use Rattle.std.proofs.Common.{◌≡◌, ◌≢◌, ◌+◌, ◌≤◌, ◌∷�
 use Rattle.slotmap_core.specs.Words.{Bor, MutBor}
 use Rattle.slotmap_core.proofs.Common.{Mut, Key, key_cmp, Content, IsContent, IsLive, used, most, IsListing, IsKeyListing, Inserts, Keeps, Removes, Replaces}
 use Rattle.slotmap_core.proofs.Common.{Leaves, Detaches, Reattaches, with_value, MayGrow, MakesRoom, LacksRoom, Refuses, RefusesWith, RefusesCapacity}
-use Rattle.slotmap_core.proofs.Common.{RefusesReattach, Visit, CallsAt, RetainsBy, Given, State, Fresh, after_insert, MayLackMemory, MayLackRoom, Step}
+use Rattle.slotmap_core.proofs.Common.{RefusesReattach, Visit, CallsAt, RetainsBy, RunGiven, State, Fresh, after_insert, MayLackMemory, MayLackRoom, Step}
 use Rattle.slotmap_core.proofs.Common.{DetachStep, Fits, Follows, Lifo, IsBasic, answer, after_command, IsRefusal, reply_keys, Result, Ok, Err, IfOk, OnOk}
 use Rattle.slotmap_core.proofs.Common.{IfErr, OnErr, IsErr, IsOk, Option, Some, None, Bool, false, refl, sym, ap, ◌∙◌, subst, arith, is_some, none_of, false_of}
 use Rattle.slotmap_core.proofs.Common.{retained_none, retained_at}
@@ -40,7 +40,7 @@ keeps_same old new same = grind arith
 replaces_with : {V : Type 0} (old new : Content V) (k : Key) (v : V) → new ≡ with_value old k v → Replaces old k v new
 replaces_with old new k v put = grind arith
 
-module _ {K V R E : Type 0} (given : Given K V R E) (old new : Content V) (ok : IsContent given.reuses old) where
+module _ {K V R E : Type 0} (given : RunGiven K V R E) (old new : Content V) (ok : IsContent given.reuses old) where
   abbrev IsStep : Command K V → Reply K V R E → Type 0
   IsStep command reply = Served Step detaching.Plain given old command reply new
 
@@ -123,7 +123,7 @@ module _ {K V R E : Type 0} (given : Given K V R E) (old new : Content V) (ok : 
   replaced key v (Err back) found put none same = stays (λ b. b) (keeps_same old new same) (λ s fits. (rw fits.live (none_of _ none.0), none.1, refl))
 
   -- a command that leaves the machine that reuses the slot freed last as it is
-  unmoved : {C : Type 0} {Machine : Given K V R E → State V → C → Reply K V R E → State V → Type 0} {of : C → DetachCommand K V} {c : C} {r : Reply K V R E}
+  unmoved : {C : Type 0} {Machine : RunGiven K V R E → State V → C → Reply K V R E → State V → Type 0} {of : C → DetachCommand K V} {c : C} {r : Reply K V R E}
       → Keeps old new → ((s : State V) → Fits s old → Machine given s c r s) → ((l : Lifo) → reply_keys given.data_of r ≡ answer given.data_of l (of c))
       → ((l : Lifo) → IsLifo l old → after_command given.data_of l (of c) ≡ l) → Served Machine of given old c r new
   unmoved kept step told same = record {
@@ -132,7 +132,7 @@ module _ {K V R E : Type 0} (given : Given K V R E) (old new : Content V) (ok : 
   }
 
   -- a command that takes the value of a live key, and changes nothing where the key isn't live
-  takes : {C : Type 0} {Machine : Given K V R E → State V → C → Reply K V R E → State V → Type 0} {of : C → DetachCommand K V} {c : C} {after : State V → State V} {Does : Type 0}
+  takes : {C : Type 0} {Machine : RunGiven K V R E → State V → C → Reply K V R E → State V → Type 0} {of : C → DetachCommand K V} {c : C} {after : State V → State V} {Does : Type 0}
       → (key : K) (taken : Option V) → taken ≡ map.get old.live (given.data_of key) → OnSome taken Does → IfNone taken (new ≡ old)
       → (IsLive old (given.data_of key) → Does → Moves after old new)
       → (IsLive old (given.data_of key) → Does → (l : Lifo) → IsLifo l old → IsLifo (after_command given.data_of l (of c)) new)

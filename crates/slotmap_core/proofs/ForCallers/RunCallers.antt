@@ -1,10 +1,10 @@
 -- What the laws of a run say of replies by their positions: for callers, who know commands and replies by index.
 -- For callers.
-use Rattle.std.proofs.Common.{◌≡◌, ◌≢◌, ℕ, zero, suc, ◌+◌, ◌-◌, ◌<◌, ◌≤◌, List, [], ◌∷◌, ◌++◌, length, take, drop, slice_get, Some, None, Option, Ok, Bool, true, false, ◌⊎◌, inl, inr, refl, sym, ap, ◌∙◌, arith}
+use Rattle.std.proofs.Common.{◌≡◌, ◌≢◌, ℕ, zero, suc, ◌+◌, ◌-◌, ◌<◌, ◌≤◌, List, [], ◌∷◌, ◌++◌, length, take, drop, slice_get, Some, Ok, Bool, true, false, ◌⊎◌, inl, inr, refl, sym, ap, ◌∙◌, arith}
 use Rattle.std.specs.List.{IsDistinct, AllByRecursion, AllZip}
 use Rattle.std.specs.Ordering.{eq_by_cmp}
 use Rattle.slotmap_core.specs.Key.{Key, key_cmp}
-use Rattle.slotmap_core.specs.Law.{reply_keys, keys_told, NoKeyTwice, RemovedForGood, ReserveHolds, IsRefusal, Spares, DetachedNotReissued, DetachedReattaches, ReattachBinds}
+use Rattle.slotmap_core.specs.Law.{reply_keys, keys_told, NoKeyTwice, ReserveHolds, IsRefusal, Spares, DetachedNotReissued, DetachedReattaches, ReattachBinds}
 use Rattle.slotmap_core.specs.Run.{Run}
 use Rattle.slotmap_core.specs.declared.commands.Command.{Command}
 use Rattle.slotmap_core.specs.declared.commands.Command.TheVariants as command
@@ -74,15 +74,6 @@ module _ {K V R E : Type 0} (data_of : K → Key) where
   keys_differ replies i j a b law less at_i at_j = earlier_differs replies i j a b law less at_i at_j
 
 module _ {K V R E C : Type 0} (of : Command K V → C) (commands : List C) (replies : List (Reply K V R E)) where
-  -- once the Remove of a key at one position returned a value, a Get of it at a later one finds nothing
-  pub removed_finds_nothing : (i j : ℕ) (key : K) (v : V) (looked : Option R) → RemovedForGood of commands replies → i < j
-      → slice_get commands i ≡ Some (of (command.Remove key)) → slice_get commands j ≡ Some (of (command.Get key))
-      → slice_get replies i ≡ Some (reply.Taken (Some v)) → slice_get replies j ≡ Some (reply.Looked looked) → looked ≡ None
-  removed_finds_nothing i j key v looked law less removes gets taken seen =
-      let asked = split_at_two commands i j _ _ less removes gets in
-      let told = split_at_two replies i j _ _ less taken seen in
-      law asked.before asked.between asked.after told.before told.between told.after key v looked (asked.at ∙ sym told.at) (omega (arith, asked.apart, told.apart)) asked.is told.is
-
   -- once the Reserve of n at one position succeeds, none of the next n commands is refused if it grows the map
   pub reserved_not_refused : (NeedsRoom : C → Type 0) (i j n : ℕ) (c : C) (answer : Reply K V R E) → ReserveHolds of NeedsRoom commands replies → i < j → j ≤ i + n → NeedsRoom c
       → slice_get commands i ≡ Some (of (command.Reserve n)) → slice_get commands j ≡ Some c

@@ -1,6 +1,6 @@
 -- Lists cut at positions: what stands before an element, between two of them and after.
 -- For runs.
-use Rattle.std.proofs.Common.{◌≡◌, ℕ, zero, suc, ◌+◌, ◌<◌, List, [], ◌∷◌, ◌++◌, length, take, drop, slice_get, Some, refl, sym, ap, ◌∙◌, arith}
+use Rattle.std.proofs.Common.{◌≡◌, ℕ, zero, suc, ◌+◌, ◌<◌, List, [], ◌∷◌, ◌++◌, length, take, drop, slice_get, Some, refl, sym, ap, ◌∙◌, append_assoc, length-append, arith}
 use Rattle.slotmap_core.specs.Words.{AllByRecursion, AllZip}
 
 module _ {X : Type 0} where
@@ -65,6 +65,12 @@ module _ {X : Type 0} where
   past_seam [] ys x n = let next : length {A = X} [] + 1 + n ≡ suc n = omega arith in rw next refl
   past_seam (z ∷ xs) ys x n = let next : length (z ∷ xs) + 1 + n ≡ suc (length xs + 1 + n) = omega arith in rw next (past_seam xs ys x n)
 
+  -- the elements after x are those from the next position on
+  pub stands_after : {xs : List X} {i : ℕ} {x : X} (s : SplitsAt xs i x) (n : ℕ) → slice_get s.after n ≡ slice_get xs (i + 1 + n)
+  stands_after {xs} {i} {x} s n = sym (
+      ap (λ l. slice_get l (i + 1 + n)) s.is ∙ ap (λ k. slice_get (s.before ++ x ∷ s.after) (k + 1 + n)) (sym s.at) ∙ past_seam s.before s.after x n
+      )
+
   module _ {xs : List X} {i j : ℕ} {x y : X} (s : SplitsAtTwo xs i j x y) (n : ℕ) (z : X) where
     -- an element of the part before, and one of the part between, by their positions
     pub stands_before : slice_get s.before n ≡ Some z → slice_get xs n ≡ Some z
@@ -74,6 +80,12 @@ module _ {X : Type 0} where
     stands_between h =
         ap (λ l. slice_get l (i + 1 + n)) s.is ∙ ap (λ k. slice_get (s.before ++ x ∷ (s.between ++ y ∷ s.after)) (k + 1 + n)) (sym s.at)
         ∙ past_seam s.before (s.between ++ y ∷ s.after) x n ∙ before_seam s.between (y ∷ s.after) n z h
+
+  -- the elements after y
+  pub stands_past : {xs : List X} {i j : ℕ} {x y : X} (s : SplitsAtTwo xs i j x y) (n : ℕ) → slice_get s.after n ≡ slice_get xs (j + 1 + n)
+  stands_past {x = x} {y = y} s n =
+      let long = length-append s.before (x ∷ s.between) in
+      stands_after (record { before = s.before ++ x ∷ s.between; after = s.after; is = s.is ∙ sym (append_assoc s.before (x ∷ s.between) (y ∷ s.after)); at = omega (arith, s.at, s.apart) }) n
 
   pub at_seam : (xs ys : List X) (x : X) → slice_get (xs ++ x ∷ ys) (length xs) ≡ Some x
   at_seam [] ys x = refl
@@ -96,3 +108,10 @@ pub zipped_by_positions : {X Y : Type 0} (P : X → Y → Type 0) (xs : List X) 
 zipped_by_positions P [] [] long each = tt
 zipped_by_positions P (x ∷ xs) (y ∷ ys) long each = (each 0 x y (omega arith) refl refl, zipped_by_positions P xs ys (omega arith) (λ n z w less. each (suc n) z w (omega arith)))
 zipped_by_positions P _ _ long each = absurd (omega arith)
+
+-- what holds of both lists, place by place, holds of the elements at a position
+pub zipped_at : {X Y : Type 0} (P : X → Y → Type 0) (xs : List X) (ys : List Y) (n : ℕ) (x : X) (y : Y) → AllZip P xs ys → slice_get xs n ≡ Some x → slice_get ys n ≡ Some y → P x y
+zipped_at P [] ys n x y all h g = absurd (cc)
+zipped_at P (w ∷ xs) [] n x y all h g = absurd all
+zipped_at P (w ∷ xs) (z ∷ ys) zero x y all h g = let is : w ≡ x = cc in let same : z ≡ y = cc in rw (← is, ← same) all.0
+zipped_at P (w ∷ xs) (z ∷ ys) (suc n) x y all h g = zipped_at P xs ys n x y all.1 h g
