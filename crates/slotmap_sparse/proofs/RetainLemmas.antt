@@ -2,10 +2,10 @@
 use Rattle.std.specs.FinMap as map
 use Rattle.std.proofs.Common.{◌≡◌, ◌+◌, ◌∷◌, ◌++◌, ℕ, Bool, cond, nat_eq, List, [], length, Some, None, is_some, refl, sym, ap, subst, ◌∙◌, arith}
 use Rattle.slotmap_core.specs.Words.{MutBor}
-use Rattle.slotmap_core.proofs.Common.{nat_eq_equiv, Mut, FoldsTo, IsDistinct, keys_of, RetainsPairs, SomeCallAtPair, Key, IsKey, key_cmp, key_from, IsListing}
+use Rattle.slotmap_core.proofs.Common.{nat_eq_equiv, Mut, FoldsTo, IsDistinct, keys_of, RetainsPairs, SomeCallAtPair, Key, IsKey, key_cmp, IsListing}
 use Rattle.slotmap_core.proofs.Common.{IsListingBut, with_entries, Visit, CallsAt, RetainsBy, MayCome, seen, kept, Pairs, keyed, keyed_entry, value_at}
 use Rattle.slotmap_core.proofs.Common.{lookup_head, key_from-odd, get-keyed, Visits-rest}
-use Rattle.slotmap_sparse.specs.Entries.{pairs_of, IsSound}
+use Rattle.slotmap_sparse.specs.Entries.{pairs_of, IsSound, VisitsPair}
 use Rattle.slotmap_sparse.specs.Iter.{key_pairs, IsOfKey, AreOfKeys}
 use Rattle.slotmap_sparse.proofs.EntriesLemmas.{get-pairs}
 use Rattle.slotmap_sparse.proofs.IterLemmas.{listing, of_keys}
@@ -46,8 +46,7 @@ module _ {V : Type 0} where
 module _ {F G K V : Type 0} (g : Mut F (K × (MutBor V × Unit {0})) (Bool × (MutBor V × Unit {0}))) (data_of : K → Key) (T : G → ℕ → ℕ × V → Bool → ℕ × V → G → Type 0) (state : G → F) where
   -- a call on an entry shows the key and the value, and keeps the version
   abbrev pub ShowsEach : Type 0
-  ShowsEach = (c : G) (i : ℕ) (p : ℕ × V) (b : Bool) (q : ℕ × V) (d : G) → T c i p b q d
-      → (q.0 ≡ p.0) × ((key : K) × (data_of key ≡ key_from i p.0) × CallsAt g (state c) (record { key = key; before = p.1; after = q.1; stays = b }) (state d))
+  ShowsEach = (c : G) (i : ℕ) (p : ℕ × V) (b : Bool) (q : ℕ × V) (d : G) → T c i p b q d → VisitsPair g data_of (state c) i p b q (state d)
 
   pub record Visited (c : G) (es left : List (ℕ × (ℕ × V))) : Type 0 where
     pub visits : List (Visit K V)
@@ -67,12 +66,12 @@ module _ {F G K V : Type 0} (g : Mut F (K × (MutBor V × Unit {0})) (Bool × (M
   came shows c d [] of run = record { visits = []; calls = ap state run; saw = refl }
   came shows c d (e ∷ es) of run =
       let call = shows c e.0 e.1 run.1.0 run.1.1 run.0 run.1.2 in
-      let named : data_of call.1.0 ≡ record { index = e.0; version = e.1.0 } = call.1.1 ∙ key_from-odd e.0 e.1.0 of.0.1 of.0.0.odd in
+      let named : data_of call.key ≡ record { index = e.0; version = e.1.0 } = call.named ∙ key_from-odd e.0 e.1.0 of.0.1 of.0.0.odd in
       let more = came shows run.0 d es of.1 run.2 in
-      let one : Visit K V = record { key = call.1.0; before = e.1.1; after = run.1.1.1; stays = run.1.0 } in
+      let one : Visit K V = record { key = call.key; before = e.1.1; after = run.1.1.1; stays = run.1.0 } in
       record {
         visits = one ∷ more.visits;
-        calls = (state run.0, call.1.2, more.calls);
+        calls = (state run.0, call.called, more.calls);
         saw = λ i. (named i, e.1.1) ∷ more.saw i;
       }
 
@@ -99,16 +98,16 @@ module _ {F G K V : Type 0} (g : Mut F (K × (MutBor V × Unit {0})) (Bool × (M
       let d = run.2 in
       let rest = run.3 in
       let call = shows c e.0 e.1 b w d run.4 in
-      let key = call.1.0 in
-      let named : data_of key ≡ record { index = e.0; version = e.1.0 } = call.1.1 ∙ key_from-odd e.0 e.1.0 of.0.1 of.0.0.odd in
+      let key = call.key in
+      let named : data_of key ≡ record { index = e.0; version = e.1.0 } = call.named ∙ key_from-odd e.0 e.1.0 of.0.1 of.0.0.odd in
       let more = visited shows d es rest of.1 run.5 in
       let one : Visit K V = record { key = key; before = e.1.1; after = w.1; stays = b } in
-      let here : IsOfKey (e.0, w) = (subst (λ (n : ℕ). IsKey (record { index = e.0; version = n })) (sym call.0) of.0.0, of.0.1) in
-      let same : ◌≡◌ {A = Key × V} (data_of key, w.1) (keyed_entry (e.0, w)) = λ i. ((named ∙ (λ j. record { index = e.0; version = sym call.0 j })) i, w.1) in
+      let here : IsOfKey (e.0, w) = (subst (λ (n : ℕ). IsKey (record { index = e.0; version = n })) (sym call.version) of.0.0, of.0.1) in
+      let same : ◌≡◌ {A = Key × V} (data_of key, w.1) (keyed_entry (e.0, w)) = λ i. ((named ∙ (λ j. record { index = e.0; version = sym call.version j })) i, w.1) in
       record {
         visits = one ∷ more.visits;
         last = more.last;
-        calls = (state d, call.1.2, more.calls);
+        calls = (state d, call.called, more.calls);
         saw = λ i. (named i, e.1.1) ∷ more.saw i;
         stay = grind (arith, same, more.stay, run.6);
         of = rw run.6 (grind (arith, here, more.of));
@@ -126,7 +125,6 @@ module _ {F G K V : Type 0} (g : Mut F (K × (MutBor V × Unit {0})) (Bool × (M
 
 module _ {F K V : Type 0} (g : Mut F (K × (MutBor V × Unit {0})) (Bool × (MutBor V × Unit {0}))) (data_of : K → Key) where
   -- what one call on an entry says of the entry itself
-  pub shown_at : (i j : ℕ) (p p' q q' : ℕ × V) (b : Bool) (f f' : F) → j ≡ i → p' ≡ p → q' ≡ q
-      → ((key : K) × (data_of key ≡ key_from j p'.0) × CallsAt g f (record { key = key; before = p'.1; after = q'.1; stays = b }) f') → q'.0 ≡ p'.0
-      → (q.0 ≡ p.0) × ((key : K) × (data_of key ≡ key_from i p.0) × CallsAt g f (record { key = key; before = p.1; after = q.1; stays = b }) f')
-  shown_at i j p p' q q' b f f' at before after call version = grind (arith, key_from)
+  pub shown_at : (i j : ℕ) (p p' q q' : ℕ × V) (b : Bool) (f f' : F) → j ≡ i → p' ≡ p → q' ≡ q → VisitsPair g data_of f j p' b q' f' → VisitsPair g data_of f i p b q f'
+  shown_at i j p p' q q' b f f' at before after visits = subst (λ (n : ℕ). VisitsPair g data_of f n p b q f') at
+      (subst (λ (x : ℕ × V). VisitsPair g data_of f j x b q f') before (subst (λ (y : ℕ × V). VisitsPair g data_of f j p' b y f') after visits))

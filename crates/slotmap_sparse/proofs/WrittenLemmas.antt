@@ -1,6 +1,6 @@
 -- The list that a map is written as, with clones of its values.
 use Rattle.std.specs.FinMap as map
-use Rattle.std.proofs.Common.{◌≡◌, ◌-◌, ◌<◌, ◌≤◌, ◌∷◌, ◌++◌, ℕ, cond, true, false, nat_eq, eqb-true, eq-eqb, ne_eqb, List, [], None}
+use Rattle.std.proofs.Common.{◌≡◌, ◌<◌, ◌≤◌, ◌∷◌, ◌++◌, ℕ, cond, true, false, nat_eq, eqb-true, eq-eqb, ne_eqb, List, [], None}
 use Rattle.slotmap_core.proofs.Common.{nat_cmp_total, unsigned_tied, ClonesEqual, IsCloneOf, start_live, Key, Pairs, IsSecondary, get, keyed, record_of_pair}
 use Rattle.slotmap_core.proofs.Common.{length, slice_get, Option, Some, refl, sym, ap, subst, ◌∙◌, nat_cmp, arith, length_push, slice_get_push}
 use Rattle.slotmap_core.proofs.Common.{slice_get_push_other, get-keyed, none_of, some_is, IsPairClone, HasClones-by_index, contents_written}

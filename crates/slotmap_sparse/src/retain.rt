@@ -1,9 +1,9 @@
 //! The call that visits all keys, and removes those that its closure rejects.
 
-ghost use Rattle.std.specs.Prelude.{◌≡◌, ◌≤◌};
-ghost use Rattle.slotmap_core.specs.Words.{key_from, keyed, CallsAt, RetainsBy, CallableOnEach};
+ghost use Rattle.std.specs.Prelude.{◌≤◌};
+ghost use Rattle.slotmap_core.specs.Words.{keyed, RetainsBy, CallableOnEach};
 ghost use Rattle.slotmap_sparse.specs.Content.{IsSparseContent, room};
-ghost use Rattle.slotmap_sparse.specs.Entries.{CallableOnPair};
+ghost use Rattle.slotmap_sparse.specs.Entries.{CallableOnPair, VisitsPair};
 
 use crate::SparseSecondaryMap;
 use slotmap_core::keys::{Key, KeyData};
@@ -38,9 +38,7 @@ impl<K: Key, V: Drop, S: BuildHasher + Drop> SparseSecondaryMap<K, V, S> {
     {
         let shown = move |index: &u32, slot: &mut (u32, V)|
             requires { CallableOnPair F.FnMut K.data_of f index.now slot.old }
-            ensures called { (key : K) × (K.data_of key ≡ key_from index.now slot.old.0)
-                × CallsAt F.FnMut f.entry (record { key = key; before = slot.old.1; after = slot.new.1; stays = result }) f.exit }
-            ensures version { slot.new.0 ≡ slot.old.0 }
+            ensures { VisitsPair F.FnMut K.data_of f.entry index.now slot.old result slot.new f.exit }
         { visit(&mut f, *index, slot) };
         self.slots.retain(shown);
     }
@@ -49,9 +47,7 @@ impl<K: Key, V: Drop, S: BuildHasher + Drop> SparseSecondaryMap<K, V, S> {
 // Calls the closure for a key and its value.
 fn visit<K: Key, V, F: FnMut(K, &mut V) -> bool>(f: &mut F, index: u32, slot: &mut (u32, V)) -> bool
     requires { CallableOnPair F.FnMut K.data_of f.old index slot.old }
-    ensures called { (key : K) × (K.data_of key ≡ key_from index slot.old.0)
-        × CallsAt F.FnMut f.old (record { key = key; before = slot.old.1; after = slot.new.1; stays = result }) f.new }
-    ensures version { slot.new.0 ≡ slot.old.0 }
+    ensures { VisitsPair F.FnMut K.data_of f.old index slot.old result slot.new f.new }
 {
     let key = K::from(KeyData::new(index, slot.0));
     f(key, &mut slot.1)

@@ -11,28 +11,30 @@ pub retain-requires : goal.retain-requires
 retain-requires g c = record {
   at = λ before after d k v is run.
       let comes = comes_to g.F.FnMut g.K.Key.data_of _ (λ x. x.0)
-      (λ x i p b q y t. shown_at g.F.FnMut g.K.Key.data_of i _ p _ q _ b x.0 y.0 t.shows.0 t.shows.1 t.leaves t.called.met.0 t.called.met.1) _ d
+      (λ x i p b q y t. shown_at g.F.FnMut g.K.Key.data_of i _ p _ q _ b x.0 y.0 t.shows.0 t.shows.1 t.leaves t.called.met) _ d
       before after (k, v) c.args.self.now.pairs
       (subst (λ (es : List (ℕ × (ℕ × g.row.V.Denot))). pairs_of es ≡ c.args.self.now.pairs) is (ap (λ m. m.pairs) c.self.view_is))
       (subst (λ (es : List (ℕ × (ℕ × g.row.V.Denot))). IsSound es) is c.self.invariant) run in
-      λ lent slot at held. λ key shown named shows.
-      let of : g.K.Key.data_of key ≡ record { index = k; version = v.0 } = named ∙ (λ j. key_from (at j) (held j).0) ∙ key_from-odd k v.0 comes.0.1 comes.0.0.odd in
-      c.requires.at d.0 key shown
-      (subst (λ (q : Key). MayCome g.F.FnMut g.K.Key.data_of c.args.f (keyed c.args.self.now.pairs) q d.0) (sym of) comes.1)
-      (subst (λ (q : Key). map.get (keyed c.args.self.now.pairs) q ≡ Some shown.now) (sym of) (comes.2 ∙ ap Some (sym (shows ∙ ap (λ (x : ℕ × g.row.V.Denot). x.1) held))));
+      λ lent slot at held. record {
+        at = λ key shown named shows.
+            let of : g.K.Key.data_of key ≡ record { index = k; version = v.0 } = named ∙ (λ j. key_from (at j) (held j).0) ∙ key_from-odd k v.0 comes.0.1 comes.0.0.odd in
+            c.requires.at d.0 key shown
+            (subst (λ (q : Key). MayCome g.F.FnMut g.K.Key.data_of c.args.f (keyed c.args.self.now.pairs) q d.0) (sym of) comes.1)
+            (subst (λ (q : Key). map.get (keyed c.args.self.now.pairs) q ≡ Some shown.now) (sym of) (comes.2 ∙ ap Some (sym (shows ∙ ap (λ (x : ℕ × g.row.V.Denot). x.1) held))));
+      };
 }
 
 pub invariant_of-self : goal.invariant_of-self
 invariant_of-self g c =
     let done = visited g.F.FnMut g.K.Key.data_of _ (λ x. x.0)
-    (λ x i p b q y t. shown_at g.F.FnMut g.K.Key.data_of i _ p _ q _ b x.0 y.0 t.shows.0 t.shows.1 t.leaves t.called.met.0 t.called.met.1) _ _ _
+    (λ x i p b q y t. shown_at g.F.FnMut g.K.Key.data_of i _ p _ q _ b x.0 y.0 t.shows.0 t.shows.1 t.leaves t.called.met) _ _ _
     (of_keys _ c.self.invariant) c.retain.ensures.filtered in
     record { unique = c.retain.ensures.unique; keys = valid_from _ done.of }
 
 pub returns-clause-retained : goal.returns-clause-retained
 returns-clause-retained g c =
     let done = visited g.F.FnMut g.K.Key.data_of _ (λ x. x.0)
-    (λ x i p b q y t. shown_at g.F.FnMut g.K.Key.data_of i _ p _ q _ b x.0 y.0 t.shows.0 t.shows.1 t.leaves t.called.met.0 t.called.met.1) _ _ _
+    (λ x i p b q y t. shown_at g.F.FnMut g.K.Key.data_of i _ p _ q _ b x.0 y.0 t.shows.0 t.shows.1 t.leaves t.called.met) _ _ _
     (of_keys _ c.self.invariant) c.retain.ensures.filtered in
     retains_by g.F.FnMut g.K.Key.data_of _ (λ x. x.0) _ _ _ _ (ap (λ m. m.pairs) c.self.view_is) c.self.invariant.unique c.retain.ensures.unique done
 
