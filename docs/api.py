@@ -69,13 +69,7 @@ STRUCTURES = {
 # What stands before the table of calls.
 SAME_CALLS = [
     "Calls of one name have one meaning in the three primary maps, and one in the two secondary maps. Their clauses say where they differ.",
-    "Some clauses of one meaning have other names in another map:",
-    "",
-    "- What `replace_disjoint` returns and leaves is `taken` and `put` in a `SlotMap`, `value` and `ok` elsewhere.",
-    "- After an error of `reattach` a `SlotMap` is `unchanged`; a `DenseSlotMap` says so in `valid`.",
-    "- The order of `retain` is `order` in a `SlotMap`, `packed` in a `DenseSlotMap`, `by_index` in a `HopSlotMap`.",
-    "- That a map was well formed before a loan is `valid` in the primary maps and for `entry` of a `SecondaryMap`, else `was_valid`;",
-    "  `index_mut` of the secondary maps lacks it.",
+    "A clause of one meaning has one name in all of them.",
     "",
 ]
 # What the structures share, with a page of its own.
