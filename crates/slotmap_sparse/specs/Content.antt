@@ -46,5 +46,6 @@ module _ {V : Type 0} where
     pub capacity : old.capacity ≤ new.capacity
     -- if the number is too great, it doesn't ask for memory
     pub too_great : IfErr result (λ error. error ≡ reserve.TooGreat → new ≡ old)
-    -- if there is memory already, it succeeds
+    -- if there is memory already, it succeeds and changes nothing
     pub room : map.len old.pairs + n ≤ old.capacity → map.len old.pairs + n ≤ most_keys → IsOk result
+    pub had_room : map.len old.pairs + n ≤ old.capacity → new ≡ old

@@ -266,9 +266,9 @@ impl<K: Key, V: Drop, S: BuildHasher + Drop> SparseSecondaryMap<K, V, S> {
     /// Reserves memory for `additional` more keys: the next `additional` inserts succeed.
     ///
     /// Fails with `TooGreat` if and only if the keys plus `additional` exceed 4294967295, else with
-    /// `Memory` if the allocation fails. In either case the map holds what it held. It never fails
-    /// if there is memory already. Takes time linear in the number of keys if they move, else
-    /// constant time.
+    /// `Memory` if the allocation fails. In either case the map holds what it held. If there is
+    /// memory already, it never fails, and nothing changes. Takes time linear in the number of keys
+    /// if they move, else constant time.
     ///
     /// ```
     /// map.reserve(100)?;
@@ -281,6 +281,9 @@ impl<K: Key, V: Drop, S: BuildHasher + Drop> SparseSecondaryMap<K, V, S> {
     {
         if self.len().saturating_add(additional) > MOST_KEYS {
             return Err(ReserveError::TooGreat);
+        }
+        if additional <= self.capacity() - self.len() {
+            return Ok(());
         }
         self.make_room(additional)?;
         Ok(())
