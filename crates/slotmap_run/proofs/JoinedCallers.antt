@@ -117,7 +117,7 @@ module _ {K V W R : Type 0} (given : JoinedGiven K W R) (n : ℕ) where
   joined_step old (detaching.Detach m) r new step = step.0
   joined_step old (detaching.Reattach m v) r new step = step.0
 
-  still_named : (old : Joined K V W) (c : JoinedDetachCommand V W) (r : JoinedReply K V W R) (new : Joined K V W) → JoinedDetachStep given old c r new → (k : K) → named old.keys n ≡ Some k → named new.keys n ≡ Some k
+  pub still_named : (old : Joined K V W) (c : JoinedDetachCommand V W) (r : JoinedReply K V W R) (new : Joined K V W) → JoinedDetachStep given old c r new → (k : K) → named old.keys n ≡ Some k → named new.keys n ≡ Some k
   still_named old (detaching.Plain (command.Insert v)) (reply.Key q) new step k is = ap (λ keys. named keys n) step.1 ∙ named_more old.keys q n k is
   still_named old (detaching.Plain (command.Insert v)) r new step k is = grind (arith, is)
   still_named old (detaching.Plain (command.Remove m)) r new step k is = grind (arith, is)
