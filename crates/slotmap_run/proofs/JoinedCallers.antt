@@ -33,7 +33,7 @@ named_pushed keys k zero q h = absurd (cc)
 named_pushed [] k (suc zero) q h = inl (refl, cc)
 named_pushed [] k (suc (suc n)) q h = absurd (cc)
 named_pushed (x ∷ keys) k (suc zero) q h = inr h
-named_pushed (x ∷ keys) k (suc (suc n)) q h = elim (named_pushed keys k (suc n) q h) [ | inl last ↦ inl (omega (arith, last.0), last.1) | inr was ↦ inr was ]
+named_pushed (x ∷ keys) k (suc (suc n)) q h = elim (named_pushed keys k (suc n) q h) [ inl last ↦ inl (omega (arith, last.0), last.1) | inr was ↦ inr was ]
 
 none_named : {K : Type 0} (n : ℕ) (k : K) → named [] n ≡ Some k → ⊥
 none_named zero k h = absurd (cc)

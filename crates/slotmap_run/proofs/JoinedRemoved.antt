@@ -1,6 +1,6 @@
 -- A key that a joined run removed from the primary map is gone for good: for callers.
-use Rattle.std.proofs.Common.{◌≡◌, ◌⊎◌, ℕ, List, [], ◌∷◌, ◌++◌, Option, Some, None, inl, inr, refl, sym, ap, ◌∙◌, subst, arith}
-use Rattle.slotmap_core.proofs.Common.{Key, Content, State, RunGiven, DetachStep, Run, Starts, AllZip, Joined, named, RunsBeside}
+use Rattle.std.proofs.Common.{◌≡◌, ℕ, List, [], ◌∷◌, Option, Some, None, refl, ap, ◌∙◌, subst, arith}
+use Rattle.slotmap_core.proofs.Common.{Content, State, DetachStep, Run, Starts, AllZip, Joined, named, RunsBeside}
 use Rattle.slotmap_core.specs.Joined.{JoinedGiven, JoinedStep, JoinedDetachStep, StepRemove, StepDetach, StepReattach}
 use Rattle.slotmap_core.specs.JoinedLaw.{JoinedFindsNothing, JoinedRemovedForGood}
 use Rattle.slotmap_core.specs.Secondary.{Pairs}

@@ -1,7 +1,7 @@
 -- What a run takes out for good, by what its states and its closures say, and by positions: for callers, who know what the map held before, or which keys `keep` rejects.
 use Rattle.std.specs.FinMap as map
-use Rattle.std.proofs.Common.{◌≡◌, ◌⊎◌, ℕ, zero, suc, ◌+◌, ◌-◌, ◌<◌, Bool, List, [], ◌∷◌, ◌++◌, length, slice_get, Some, true, false, inl, inr, refl, sym, ap, ◌∙◌, subst, arith}
-use Rattle.slotmap_core.proofs.Common.{Key, Content, IsContent, State, empty_state, RunGiven, Run, Fits, Starts, IsLive, AllZip}
+use Rattle.std.proofs.Common.{◌≡◌, ◌⊎◌, ℕ, ◌+◌, ◌-◌, ◌<◌, Bool, List, ◌∷◌, ◌++◌, length, slice_get, Some, true, false, inl, inr, sym, ap, ◌∙◌, subst, arith}
+use Rattle.slotmap_core.proofs.Common.{Key, Content, IsContent, State, RunGiven, Run, Fits}
 use Rattle.slotmap_core.specs.Law.{ShowsLive, ShowsNotLive, LeavesAttached, FindsNothing}
 use Rattle.slotmap_core.specs.declared.commands.Command.TheVariants as command
 use Rattle.slotmap_core.specs.declared.commands.DetachCommand.{DetachCommand}
@@ -10,7 +10,7 @@ use Rattle.slotmap_core.specs.declared.commands.Reply.{Reply}
 use Rattle.slotmap_core.proofs.General.Positions.{split_at, stands_after, before_in, zipped_at, zipped_by_positions}
 use Rattle.slotmap_core.proofs.ForCallers.RemovalCallers.{StaysAttached}
 use Rattle.slotmap_run.proofs.Fits.{used_same}
-use Rattle.slotmap_run.proofs.Laws.{IsGood, empty_good, good_stays}
+use Rattle.slotmap_run.proofs.Laws.{IsGood, good_stays}
 use Rattle.slotmap_run.proofs.StepCases.{detach_machine}
 use Rattle.slotmap_run.proofs.Runs.{run_split, run_keeps_by}
 use Rattle.slotmap_run.proofs.RemovedKeys.{Attached, live_attached, attached_gone, attached_stays, shown_live, shown_not_live, not_live_attached, rejected_not_live, StepOf, all_good, none_found}
