@@ -86,14 +86,16 @@ module _ {K V W R : Type 0} (given : JoinedGiven K W R) (n : ℕ) where
         older p there same = let less = fresh.newer p there (ap (λ (x : Key). x.index) same) in let alike = ap (λ (x : Key). x.version) same in absurd (omega arith)
 
     -- no new key
-    as_before : new.keys ≡ old.keys → new.primary.issued ≡ old.primary.issued → ((k : K) → named old.keys n ≡ Some k → StandsIn old.primary (given.data_of k) → StandsIn new.primary (given.data_of k)) → Holds new
+    as_before : new.keys ≡ old.keys → new.primary.issued ≡ old.primary.issued
+        → ((k : K) → named old.keys n ≡ Some k → StandsIn old.primary (given.data_of k) → StandsIn new.primary (given.data_of k)) → Holds new
     as_before keys issued stands = record {
       issued = λ m q h. let there = holds.issued m q (ap (λ ks. named ks m) (sym keys) ∙ h) in rw issued there;
       apart = λ l m p q h g same. holds.apart l m p q (ap (λ ks. named ks l) (sym keys) ∙ h) (ap (λ ks. named ks m) (sym keys) ∙ g) same;
       stands = λ k h. let was = ap (λ ks. named ks n) (sym keys) ∙ h in stands k was (holds.stands k was);
     }
 
-  holds_stays : (old : Joined K V W) (c : JoinedDetachCommand V W) (r : JoinedReply K V W R) (new : Joined K V W) → RemovesOther n c → JoinedDetachStep given old c r new → Holds old → Holds new
+  holds_stays : (old : Joined K V W) (c : JoinedDetachCommand V W) (r : JoinedReply K V W R) (new : Joined K V W) → RemovesOther n c → JoinedDetachStep given old c r new
+      → Holds old → Holds new
   holds_stays old (detaching.Plain (command.Insert v)) (reply.Key q) new other step holds = one_more old new holds q v step.1 step.0.0.1 step.0.0.2
   holds_stays old (detaching.Plain (command.Insert v)) r new other step holds = as_before old new holds (grind arith) (grind arith) (λ k h there. grind (arith, there))
   holds_stays old (detaching.Plain (command.Remove m)) r new other step holds = as_before old new holds (grind arith) (grind arith)
@@ -112,12 +114,14 @@ record Finds {K V W R : Type 0} (given : JoinedGiven K W R) (n : ℕ) (k : K) (w
 
 module _ {K V W R : Type 0} (given : JoinedGiven K W R) (n : ℕ) where
   -- the joined step of a step with a dictionary
-  joined_step : (old : WithDictionary K V W) (c : JoinedDetachCommand V W) (r : JoinedReply K V W R) (new : WithDictionary K V W) → DetachDictionaryStep given old c r new → JoinedDetachStep given old.joined c r new.joined
+  joined_step : (old : WithDictionary K V W) (c : JoinedDetachCommand V W) (r : JoinedReply K V W R) (new : WithDictionary K V W) → DetachDictionaryStep given old c r new
+      → JoinedDetachStep given old.joined c r new.joined
   joined_step old (detaching.Plain c) r new step = step.steps
   joined_step old (detaching.Detach m) r new step = step.0
   joined_step old (detaching.Reattach m v) r new step = step.0
 
-  pub still_named : (old : Joined K V W) (c : JoinedDetachCommand V W) (r : JoinedReply K V W R) (new : Joined K V W) → JoinedDetachStep given old c r new → (k : K) → named old.keys n ≡ Some k → named new.keys n ≡ Some k
+  pub still_named : (old : Joined K V W) (c : JoinedDetachCommand V W) (r : JoinedReply K V W R) (new : Joined K V W) → JoinedDetachStep given old c r new → (k : K)
+      → named old.keys n ≡ Some k → named new.keys n ≡ Some k
   still_named old (detaching.Plain (command.Insert v)) (reply.Key q) new step k is = ap (λ keys. named keys n) step.1 ∙ named_more old.keys q n k is
   still_named old (detaching.Plain (command.Insert v)) r new step k is = grind (arith, is)
   still_named old (detaching.Plain (command.Remove m)) r new step k is = grind (arith, is)
@@ -139,14 +143,17 @@ module _ {K V W R : Type 0} (given : JoinedGiven K W R) (n : ℕ) where
     taken_elsewhere m (Some q) is other =
         get_left keys_total exact_keys old.dictionary (given.data_of q) (given.data_of k) (λ same. other (finds.holds.apart m n q k is finds.names (sym same))) ∙ finds.has
 
-    still_has : (c : JoinedDetachCommand V W) (r : JoinedReply K V W R) (new : WithDictionary K V W) → WritesOther n c → DetachDictionaryStep given old c r new → map.get new.dictionary (given.data_of k) ≡ Some w
+    still_has : (c : JoinedDetachCommand V W) (r : JoinedReply K V W R) (new : WithDictionary K V W) → WritesOther n c → DetachDictionaryStep given old c r new
+        → map.get new.dictionary (given.data_of k) ≡ Some w
     still_has (detaching.Plain (command.Put m u)) (reply.Old before) new other step = ap (λ d. map.get d (given.data_of k)) step.notes ∙ put_elsewhere m (named old.joined.keys m) u refl other
-    still_has (detaching.Plain (command.Take m)) (reply.TakenSecond taken) new other step = ap (λ d. map.get d (given.data_of k)) step.notes ∙ taken_elsewhere m (named old.joined.keys m) refl other
+    still_has (detaching.Plain (command.Take m)) (reply.TakenSecond taken) new other step = ap (λ d. map.get d (given.data_of k)) step.notes
+        ∙ taken_elsewhere m (named old.joined.keys m) refl other
     still_has (detaching.Plain c) r new other step = grind (arith, finds.has)
     still_has (detaching.Detach m) r new other step = ap (λ d. map.get d (given.data_of k)) step.1 ∙ finds.has
     still_has (detaching.Reattach m v) r new other step = ap (λ d. map.get d (given.data_of k)) step.1 ∙ finds.has
 
-    finds_stays : (c : JoinedDetachCommand V W) (r : JoinedReply K V W R) (new : WithDictionary K V W) → RemovesOther n c → WritesOther n c → DetachDictionaryStep given old c r new → Finds given n k w new
+    finds_stays : (c : JoinedDetachCommand V W) (r : JoinedReply K V W R) (new : WithDictionary K V W) → RemovesOther n c → WritesOther n c
+        → DetachDictionaryStep given old c r new → Finds given n k w new
     finds_stays c r new kept other step =
         let steps = joined_step old c r new step in
         record {
@@ -156,10 +163,12 @@ module _ {K V W R : Type 0} (given : JoinedGiven K W R) (n : ℕ) where
         }
 
   -- a put that has memory is found by the number that it names
-  put_finds : (w : W) (before : Option W) (old new : WithDictionary K V W) → DictionaryStep given old (command.Put n w) (reply.Old before) new → Holds given n old.joined → (k : K) × Finds given n k w new
+  put_finds : (w : W) (before : Option W) (old new : WithDictionary K V W) → DictionaryStep given old (command.Put n w) (reply.Old before) new → Holds given n old.joined
+      → (k : K) × Finds given n k w new
   put_finds w before old new step holds = of_named (named old.joined.keys n) refl step.steps step.notes
     where
-      of_named : (o : Option K) → named old.joined.keys n ≡ o → StepPut given old.joined o w (reply.Old before) new.joined → new.dictionary ≡ after_put given.data_of old.dictionary o w → (k : K) × Finds given n k w new
+      of_named : (o : Option K) → named old.joined.keys n ≡ o → StepPut given old.joined o w (reply.Old before) new.joined
+          → new.dictionary ≡ after_put given.data_of old.dictionary o w → (k : K) × Finds given n k w new
       of_named (Some k) is puts notes = (
         k,
         record {
@@ -171,7 +180,8 @@ module _ {K V W R : Type 0} (given : JoinedGiven K W R) (n : ℕ) where
       of_named None is puts notes = absurd puts
 
   -- what a look-up by that number shows
-  finds_shown : (k : K) (w : W) (seen : Option R) (old new : WithDictionary K V W) → DictionaryStep given old (command.Look n) (reply.Looked seen) new → Finds given n k w old → LooksAt given.looks (Some w) seen
+  finds_shown : (k : K) (w : W) (seen : Option R) (old new : WithDictionary K V W) → DictionaryStep given old (command.Look n) (reply.Looked seen) new → Finds given n k w old
+      → LooksAt given.looks (Some w) seen
   finds_shown k w seen old new step finds = subst (λ (o : Option W). LooksAt given.looks o seen) finds.has (step.by_dictionary k finds.names (finds.holds.stands k finds.names))
 
 -- a list of commands, each seen as one with detaching
@@ -196,7 +206,8 @@ module _ {K V W R C : Type 0} (given : JoinedGiven K W R) (of : C → JoinedDeta
         let second = run_split StepOf asked.between told.between l (reply.Looked seen) asked.after told.after first.1 t long_between first.4 in
         let kept_before : AllZip (λ c r. RemovesOther n (of c)) asked.before told.before = zipped_by_positions _ asked.before told.before long (λ m c r inside is_c is_r.
         at_in_first (λ c. RemovesOther n (of c)) j m commands c unremoved (omega (arith, asked.at)) (stands_before asked m c is_c)) in
-        let kept_between : AllZip (λ c r. RemovesOther n (of c) × WritesOther n (of c)) asked.between told.between = zipped_by_positions _ asked.between told.between long_between (λ m c r inside is_c is_r. (
+        let kept_between : AllZip (λ c r. RemovesOther n (of c) × WritesOther n (of c)) asked.between told.between = zipped_by_positions _ asked.between told.between long_between
+        (λ m c r inside is_c is_r. (
           at_in_first (λ c. RemovesOther n (of c)) j (i + 1 + m) commands c unremoved (omega (arith, asked.apart)) (stands_between asked m c is_c),
           at_in_part (λ c. WritesOther n (of c)) (i + 1) (j - (i + 1)) m commands c unwritten (omega (arith, asked.apart)) (stands_between asked m c is_c),
         )) in
@@ -206,7 +217,8 @@ module _ {K V W R C : Type 0} (given : JoinedGiven K W R) (of : C → JoinedDeta
           stands = λ k h. absurd (none_named n k h);
         } in
         let held = run_keeps_by StepOf (λ s. Holds given n s.joined) (λ c r. RemovesOther n (of c))
-        (λ old c r new kept step holds. holds_stays given n old.joined (of c) r new.joined kept (joined_step given n old (of c) r new step) holds) asked.before told.before unused first.0 kept_before first.2 start in
+        (λ old c r new kept step holds. holds_stays given n old.joined (of c) r new.joined kept (joined_step given n old (of c) r new step) holds)
+        asked.before told.before unused first.0 kept_before first.2 start in
         let put_step = subst (λ x. DetachDictionaryStep given first.0 x (reply.Old before) first.1) puts first.3 in
         let found = put_finds given n w before first.0 first.1 put_step held in
         let still = run_keeps_by StepOf (Finds given n found.0 w) (λ c r. RemovesOther n (of c) × WritesOther n (of c))
@@ -248,7 +260,8 @@ module _ {K V W R : Type 0} (given : JoinedGiven K W R) where
   detach_put_shown t commands replies i j n w before seen =
       shown_after given (λ c. c) n w before seen (detaching.Plain (command.Put n w)) (detaching.Plain (command.Look n)) refl refl t commands replies i j
 
-  pub detach_put_seen : (f : W → R) (t : WithDictionary K V W) (commands : List (JoinedDetachCommand V W)) (replies : List (JoinedReply K V W R)) (i j n : ℕ) (w : W) (before : Option W) (seen : Option R)
+  pub detach_put_seen : (f : W → R) (t : WithDictionary K V W) (commands : List (JoinedDetachCommand V W)) (replies : List (JoinedReply K V W R)) (i j n : ℕ) (w : W) (before : Option W)
+      (seen : Option R)
       → Run (DetachDictionaryStep given) unused commands replies t → Shows given.looks f → i < j
       → AllByRecursion (RemovesOther n) (take j commands) → AllByRecursion (WritesOther n) (take (j - (i + 1)) (drop (i + 1) commands))
       → slice_get commands i ≡ Some (detaching.Plain (command.Put n w)) → slice_get commands j ≡ Some (detaching.Plain (command.Look n))

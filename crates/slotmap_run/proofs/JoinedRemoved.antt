@@ -25,7 +25,8 @@ use Rattle.slotmap_run.proofs.Runs.{run_split, run_keeps}
 
 module _ {K V W R : Type 0} (given : JoinedGiven K W R) where
   -- what each step of the primary map's machine keeps, each joined step keeps
-  module _ (P : State V → Type 0) (keeps : (old : State V) (c : DetachCommand K V) (r : Reply K V (Unit {0}) (Unit {0})) (new : State V) → DetachStep (closed given) old c r new → P old → P new) where
+  module _ (P : State V → Type 0)
+      (keeps : (old : State V) (c : DetachCommand K V) (r : Reply K V (Unit {0}) (Unit {0})) (new : State V) → DetachStep (closed given) old c r new → P old → P new) where
     kept_removing : (o : Option K) (old : Joined K V W) (r : JoinedReply K V W R) (new : Joined K V W) → StepRemove given old o r new → P old.primary → P new.primary
     kept_removing (Some k) old (reply.Taken taken) new step p = keeps old.primary (Plain (first.Remove k)) (first_reply.Taken taken) new.primary step.0.0 p
     kept_removing None old reply.NoKey new step p = rw step p
@@ -73,7 +74,9 @@ module _ {K V W R : Type 0} (given : JoinedGiven K W R) where
     not_found was = grind (arith, was.names, was.gone.not_standing)
 
     removes : (v : V) → c ≡ detaching.Plain (command.Remove n) → r ≡ reply.Taken (Some v) → IsGood old.primary → NamesGone n new
-    removes v is_c is_r good = of_named (named old.keys n) refl (subst (λ x. JoinedDetachStep given old x (reply.Taken (Some v)) new) is_c (subst (λ x. JoinedDetachStep given old c x new) is_r step))
+    removes v is_c is_r good =
+        let taken = subst (λ x. JoinedDetachStep given old c x new) is_r step in
+        of_named (named old.keys n) refl (subst (λ x. JoinedDetachStep given old x (reply.Taken (Some v)) new) is_c taken)
       where
         of_named : (o : Option K) → named old.keys n ≡ o → StepRemove given old o (reply.Taken (Some v)) new → NamesGone n new
         of_named (Some k) is taken = record {
@@ -93,7 +96,8 @@ module _ {K V W R C : Type 0} (given : JoinedGiven K W R) (of : C → JoinedDeta
       (not_found given n s (of c) r run.0 run.1 was, none_found n cs rs run.0 t run.2 (still_gone given n s (of c) r run.0 run.1 was))
   none_found n _ _ s t run was = absurd run
 
-  removed_in_run : (commands : List C) (replies : List (JoinedReply K V W R)) (s t : Joined K V W) → Run StepOf s commands replies t → IsGood s.primary → JoinedRemovedForGood of commands replies
+  removed_in_run : (commands : List C) (replies : List (JoinedReply K V W R)) (s t : Joined K V W) → Run StepOf s commands replies t → IsGood s.primary
+      → JoinedRemovedForGood of commands replies
   removed_in_run commands replies s t whole good cs ds rs ss n c v e is_c is js =
       let run = rw (is, js) at whole in
       let first = run_split StepOf cs rs c (reply.Taken (Some v)) ds ss s t e run in
@@ -101,14 +105,16 @@ module _ {K V W R C : Type 0} (given : JoinedGiven K W R) (of : C → JoinedDeta
       none_found n ds ss first.1 t first.4 (removes given n first.0 (of c) (reply.Taken (Some v)) first.1 first.3 v is_c refl still)
 
 -- from the clauses `starts` and `run` of `run_joined`
-pub joined_removed_for_good : {K V W R : Type 0} (given : JoinedGiven K W R) (old new : Content V) (beside after : Pairs W) (commands : List (JoinedCommand V W)) (replies : List (JoinedReply K V W R))
+pub joined_removed_for_good : {K V W R : Type 0} (given : JoinedGiven K W R) (old new : Content V) (beside after : Pairs W) (commands : List (JoinedCommand V W))
+    (replies : List (JoinedReply K V W R))
     → Starts given.reuses old → RunsBeside (JoinedStep given) old beside commands replies new after → JoinedRemovedForGood detaching.Plain commands replies
 joined_removed_for_good given old new beside after commands replies starts run =
     let ran = run starts.state starts.fits in
     removed_in_run given detaching.Plain commands replies _ ran.0 ran.1 (fits_good given.reuses starts.state old starts.valid starts.fits)
 
 -- and of `run_joined_detaching`
-pub joined_detach_removed_for_good : {K V W R : Type 0} (given : JoinedGiven K W R) (old new : Content V) (beside after : Pairs W) (commands : List (JoinedDetachCommand V W)) (replies : List (JoinedReply K V W R))
+pub joined_detach_removed_for_good : {K V W R : Type 0} (given : JoinedGiven K W R) (old new : Content V) (beside after : Pairs W) (commands : List (JoinedDetachCommand V W))
+    (replies : List (JoinedReply K V W R))
     → Starts given.reuses old → RunsBeside (JoinedDetachStep given) old beside commands replies new after → JoinedRemovedForGood (λ c. c) commands replies
 joined_detach_removed_for_good given old new beside after commands replies starts run =
     let ran = run starts.state starts.fits in
