@@ -1,96 +1,178 @@
 -- What a joined run finds, by positions: for callers, who know commands and replies by index.
-use Rattle.std.proofs.Common.{◌≡◌, ℕ, zero, suc, ◌+◌, ◌-◌, ◌<◌, List, [], ◌∷◌, ◌++◌, length, take, drop, slice_get, Some, None, Option, ◌⊎◌, inl, inr, refl, sym, ap, ◌∙◌, subst, arith}
+use Rattle.std.proofs.Common.{◌≡◌, ◌≢◌, ℕ, zero, suc, ◌+◌, ◌-◌, ◌<◌, List, [], ◌∷◌, ◌++◌, length, take, drop, slice_get, Some, None, Option, ◌⊎◌, inl, inr, refl, sym, ap, ◌∙◌, subst, arith}
 use Rattle.std.specs.List.{AllByRecursion, AllZip}
 use Rattle.std.specs.FinMap as map
-use Rattle.slotmap_core.specs.Machine.{StandsIn}
+use Rattle.slotmap_core.specs.Machine.{StandsIn, IsIssued, Fresh, after_insert}
+use Rattle.slotmap_core.specs.Key.{Key}
 use Rattle.slotmap_core.specs.Run.{Run}
 use Rattle.slotmap_core.specs.SecondaryStep.{LooksAt}
 use Rattle.slotmap_core.specs.SecondaryLaw.{Shows}
-use Rattle.slotmap_core.specs.Joined.{JoinedGiven, named, StepPut}
-use Rattle.slotmap_core.specs.Dictionary.{WithDictionary, DictionaryStep, after_put, unused}
+use Rattle.slotmap_core.specs.Joined.{Joined, JoinedGiven, JoinedDetachStep, named, StepPut}
+use Rattle.slotmap_core.specs.Dictionary.{WithDictionary, DictionaryStep, DetachDictionaryStep, after_put, after_take, unused}
 use Rattle.slotmap_core.specs.declared.joined.JoinedCommand.{JoinedCommand}
 use Rattle.slotmap_core.specs.declared.joined.JoinedCommand.TheVariants as command
+use Rattle.slotmap_core.specs.declared.joined.JoinedDetachCommand.{JoinedDetachCommand}
+use Rattle.slotmap_core.specs.declared.joined.JoinedDetachCommand.TheVariants as detaching
 use Rattle.slotmap_core.specs.declared.joined.JoinedReply.{JoinedReply}
 use Rattle.slotmap_core.specs.declared.joined.JoinedReply.TheVariants as reply
-use Rattle.slotmap_core.proofs.General.KeyLemmas.{keys_total, exact_keys}
-use Rattle.slotmap_core.proofs.General.Maps.{get_inserted, in_inserted}
+use Rattle.slotmap_core.proofs.General.KeyLemmas.{keys_total, exact_keys, itself}
+use Rattle.slotmap_core.proofs.General.Maps.{get_inserted, get_other, get_left, in_inserted}
 use Rattle.slotmap_core.proofs.General.Positions.{split_at_two, stands_before, stands_between, at_in_first, at_in_part, zipped_by_positions}
 use Rattle.slotmap_run.proofs.Runs.{run_split, run_keeps_by}
 use Rattle.slotmap_run.proofs.MapChanges.{changes}
 
-named_more : {K : Type 0} (keys : List K) (k : K) (n : ℕ) (q : K) → named keys n ≡ Some q → named (keys ++ k ∷ []) n ≡ Some q
+pub named_more : {K : Type 0} (keys : List K) (k : K) (n : ℕ) (q : K) → named keys n ≡ Some q → named (keys ++ k ∷ []) n ≡ Some q
 named_more keys k zero q h = absurd (cc)
 named_more [] k (suc n) q h = absurd (cc)
 named_more (x ∷ keys) k (suc zero) q h = h
 named_more (x ∷ keys) k (suc (suc n)) q h = named_more keys k (suc n) q h
 
-named_pushed : {K : Type 0} (keys : List K) (k : K) (n : ℕ) (q : K) → named (keys ++ k ∷ []) n ≡ Some q → (q ≡ k) ⊎ (named keys n ≡ Some q)
+-- a number of a longer list names the last key, or the same key as before
+named_pushed : {K : Type 0} (keys : List K) (k : K) (n : ℕ) (q : K) → named (keys ++ k ∷ []) n ≡ Some q → ((n ≡ length keys + 1) × (q ≡ k)) ⊎ (named keys n ≡ Some q)
 named_pushed keys k zero q h = absurd (cc)
-named_pushed [] k (suc zero) q h = inl (cc)
+named_pushed [] k (suc zero) q h = inl (refl, cc)
 named_pushed [] k (suc (suc n)) q h = absurd (cc)
 named_pushed (x ∷ keys) k (suc zero) q h = inr h
-named_pushed (x ∷ keys) k (suc (suc n)) q h = named_pushed keys k (suc n) q h
+named_pushed (x ∷ keys) k (suc (suc n)) q h = elim (named_pushed keys k (suc n) q h) [ inl last ↦ inl (omega (arith, last.0), last.1) | inr was ↦ inr was ]
 
 none_named : {K : Type 0} (n : ℕ) (k : K) → named [] n ≡ Some k → ⊥
 none_named zero k h = absurd (cc)
 none_named (suc n) k h = absurd (cc)
 
-module _ {K V W R : Type 0} (given : JoinedGiven K W R) where
-  -- the command removes no key
-  abbrev pub RemovesNone : JoinedCommand V W → Type 0
-  RemovesNone (command.Remove n) = ⊥
-  RemovesNone _ = Unit {0}
+-- the command doesn't remove the key that n names
+abbrev pub RemovesOther : {V W : Type 0} → ℕ → JoinedDetachCommand V W → Type 0
+RemovesOther n (detaching.Plain (command.Remove m)) = m ≢ n
+RemovesOther n _ = Unit {0}
 
-  -- the command writes no value beside the map
-  abbrev pub WritesNone : JoinedCommand V W → Type 0
-  WritesNone (command.Put n w) = ⊥
-  WritesNone (command.Take n) = ⊥
-  WritesNone _ = Unit {0}
+-- the command writes no value beside the key that n names
+abbrev pub WritesOther : {V W : Type 0} → ℕ → JoinedDetachCommand V W → Type 0
+WritesOther n (detaching.Plain (command.Put m w)) = m ≢ n
+WritesOther n (detaching.Plain (command.Take m)) = m ≢ n
+WritesOther n _ = Unit {0}
 
-  -- each key that a number names is live or detached
-  AllStand : WithDictionary K V W → Type 0
-  AllStand s = (n : ℕ) (k : K) → named s.joined.keys n ≡ Some k → StandsIn s.joined.primary (given.data_of k)
+module _ {K V W R : Type 0} (given : JoinedGiven K W R) (n : ℕ) where
+  -- the keys that numbers name were returned and differ, and that of n is live or detached
+  record Holds (s : Joined K V W) : Type 0 where
+    issued : (m : ℕ) (q : K) → named s.keys m ≡ Some q → IsIssued s.primary (given.data_of q)
+    apart : (l m : ℕ) (p q : K) → named s.keys l ≡ Some p → named s.keys m ≡ Some q → given.data_of p ≡ given.data_of q → l ≡ m
+    stands : (k : K) → named s.keys n ≡ Some k → StandsIn s.primary (given.data_of k)
 
-  held_stays : (old : WithDictionary K V W) (c : JoinedCommand V W) (r : JoinedReply K V W R) (new : WithDictionary K V W) → RemovesNone c → DictionaryStep given old c r new → AllStand old → AllStand new
-  unfolding AllStand
-  held_stays old (command.Insert v) (reply.Key q) new none step held n k h =
-      elim (named_pushed old.joined.keys q n k (ap (λ keys. named keys n) (sym step.steps.1) ∙ h)) [
-        | inl is ↦ rw (step.steps.0.0.2, is) (inl (in_inserted keys_total exact_keys old.joined.primary.live (given.data_of q) v))
-        | inr was ↦
-            let there = held n k was in
-            rw step.steps.0.0.2 (grind (arith, changes, there))
-      ]
-  held_stays old (command.Insert v) r new none step held n k h = grind (arith, held n k)
-  held_stays old (command.Remove m) r new none step held n k h = absurd none
-  held_stays old (command.Put m w) r new none step held n k h = grind (arith, held n k)
-  held_stays old (command.Look m) r new none step held n k h = grind (arith, held n k)
-  held_stays old (command.Take m) r new none step held n k h = grind (arith, held n k)
+  module _ (old new : Joined K V W) (holds : Holds old) where
+    one_more : (q : K) (v : V) → new.keys ≡ old.keys ++ q ∷ [] → Fresh old.primary (given.data_of q) → new.primary ≡ after_insert old.primary (given.data_of q) v → Holds new
+    one_more q v keys fresh is =
+        let at = λ (m : ℕ) (p : K) (h : named new.keys m ≡ Some p). named_pushed old.keys q m p (ap (λ ks. named ks m) (sym keys) ∙ h) in
+        record {
+          issued = λ m p h. elim (at m p h) [
+            | inl last ↦ rw (is, last.1) (grind (arith, changes, itself keys_total exact_keys (given.data_of q)))
+            | inr was ↦ let there = holds.issued m p was in rw is (grind (arith, changes, there))
+          ];
+          apart = λ l m p r h g same. elim (at l p h) [
+            | inl last ↦ elim (at m r g) [
+              | inl other ↦ last.0 ∙ sym other.0
+              | inr was ↦ absurd (older (given.data_of r) (holds.issued m r was) (sym same ∙ ap given.data_of last.1))
+            ]
+            | inr here ↦ elim (at m r g) [
+              | inl other ↦ absurd (older (given.data_of p) (holds.issued l p here) (same ∙ ap given.data_of other.1))
+              | inr was ↦ holds.apart l m p r here was same
+            ]
+          ];
+          stands = λ k h. elim (at n k h) [
+            | inl last ↦ rw (is, last.1) (inl (in_inserted keys_total exact_keys old.primary.live (given.data_of q) v))
+            | inr was ↦ let there = holds.stands k was in rw is (grind (arith, changes, there))
+          ];
+        }
+      where
+        older : (p : Key) → IsIssued old.primary p → p ≡ given.data_of q → ⊥
+        older p there same = let less = fresh.newer p there (ap (λ (x : Key). x.index) same) in let alike = ap (λ (x : Key). x.version) same in absurd (omega arith)
 
-  -- a number names this key, and the dictionary has this value for it
-  record Finds (n : ℕ) (k : K) (w : W) (s : WithDictionary K V W) : Type 0 where
-    names : named s.joined.keys n ≡ Some k
-    has : map.get s.dictionary (given.data_of k) ≡ Some w
+    -- no new key
+    as_before : new.keys ≡ old.keys → new.primary.issued ≡ old.primary.issued
+        → ((k : K) → named old.keys n ≡ Some k → StandsIn old.primary (given.data_of k) → StandsIn new.primary (given.data_of k)) → Holds new
+    as_before keys issued stands = record {
+      issued = λ m q h. let there = holds.issued m q (ap (λ ks. named ks m) (sym keys) ∙ h) in rw issued there;
+      apart = λ l m p q h g same. holds.apart l m p q (ap (λ ks. named ks l) (sym keys) ∙ h) (ap (λ ks. named ks m) (sym keys) ∙ g) same;
+      stands = λ k h. let was = ap (λ ks. named ks n) (sym keys) ∙ h in stands k was (holds.stands k was);
+    }
 
-  finds_stays : (n : ℕ) (k : K) (w : W) (old : WithDictionary K V W) (c : JoinedCommand V W) (r : JoinedReply K V W R) (new : WithDictionary K V W) → WritesNone c → DictionaryStep given old c r new
-      → Finds n k w old → Finds n k w new
-  finds_stays n k w old (command.Insert v) (reply.Key q) new none step finds = record {
-    names = ap (λ keys. named keys n) step.steps.1 ∙ named_more old.joined.keys q n k finds.names;
-    has = ap (λ d. map.get d (given.data_of k)) step.notes ∙ finds.has;
-  }
-  finds_stays n k w old (command.Insert v) r new none step finds = grind (arith, finds.names, finds.has)
-  finds_stays n k w old (command.Remove m) r new none step finds = grind (arith, finds.names, finds.has)
-  finds_stays n k w old (command.Look m) r new none step finds = grind (arith, finds.names, finds.has)
-  finds_stays n k w old (command.Put m u) r new none step finds = absurd none
-  finds_stays n k w old (command.Take m) r new none step finds = absurd none
+  holds_stays : (old : Joined K V W) (c : JoinedDetachCommand V W) (r : JoinedReply K V W R) (new : Joined K V W) → RemovesOther n c → JoinedDetachStep given old c r new
+      → Holds old → Holds new
+  holds_stays old (detaching.Plain (command.Insert v)) (reply.Key q) new other step holds = one_more old new holds q v step.1 step.0.0.1 step.0.0.2
+  holds_stays old (detaching.Plain (command.Insert v)) r new other step holds = as_before old new holds (grind arith) (grind arith) (λ k h there. grind (arith, there))
+  holds_stays old (detaching.Plain (command.Remove m)) r new other step holds = as_before old new holds (grind arith) (grind arith)
+      (λ k h there. let alone = λ (q : K) (g : named old.keys m ≡ Some q). holds.apart m n q k g h in grind (arith, changes, there, alone, other))
+  holds_stays old (detaching.Plain (command.Put m w)) r new other step holds = as_before old new holds (grind arith) (grind arith) (λ k h there. grind (arith, there))
+  holds_stays old (detaching.Plain (command.Look m)) r new other step holds = as_before old new holds (grind arith) (grind arith) (λ k h there. grind (arith, there))
+  holds_stays old (detaching.Plain (command.Take m)) r new other step holds = as_before old new holds (grind arith) (grind arith) (λ k h there. grind (arith, there))
+  holds_stays old (detaching.Detach m) r new other step holds = as_before old new holds (grind arith) (grind arith) (λ k h there. grind (arith, changes, there))
+  holds_stays old (detaching.Reattach m v) r new other step holds = as_before old new holds (grind arith) (grind arith) (λ k h there. grind (arith, changes, there))
+
+-- a number names this key, and the dictionary has this value for it
+record Finds {K V W R : Type 0} (given : JoinedGiven K W R) (n : ℕ) (k : K) (w : W) (s : WithDictionary K V W) : Type 0 where
+  holds : Holds given n s.joined
+  names : named s.joined.keys n ≡ Some k
+  has : map.get s.dictionary (given.data_of k) ≡ Some w
+
+module _ {K V W R : Type 0} (given : JoinedGiven K W R) (n : ℕ) where
+  -- the joined step of a step with a dictionary
+  joined_step : (old : WithDictionary K V W) (c : JoinedDetachCommand V W) (r : JoinedReply K V W R) (new : WithDictionary K V W) → DetachDictionaryStep given old c r new
+      → JoinedDetachStep given old.joined c r new.joined
+  joined_step old (detaching.Plain c) r new step = step.steps
+  joined_step old (detaching.Detach m) r new step = step.0
+  joined_step old (detaching.Reattach m v) r new step = step.0
+
+  pub still_named : (old : Joined K V W) (c : JoinedDetachCommand V W) (r : JoinedReply K V W R) (new : Joined K V W) → JoinedDetachStep given old c r new → (k : K)
+      → named old.keys n ≡ Some k → named new.keys n ≡ Some k
+  still_named old (detaching.Plain (command.Insert v)) (reply.Key q) new step k is = ap (λ keys. named keys n) step.1 ∙ named_more old.keys q n k is
+  still_named old (detaching.Plain (command.Insert v)) r new step k is = grind (arith, is)
+  still_named old (detaching.Plain (command.Remove m)) r new step k is = grind (arith, is)
+  still_named old (detaching.Plain (command.Put m w)) r new step k is = grind (arith, is)
+  still_named old (detaching.Plain (command.Look m)) r new step k is = grind (arith, is)
+  still_named old (detaching.Plain (command.Take m)) r new step k is = grind (arith, is)
+  still_named old (detaching.Detach m) r new step k is = grind (arith, is)
+  still_named old (detaching.Reattach m v) r new step k is = grind (arith, is)
+
+  module _ (k : K) (w : W) (old : WithDictionary K V W) (finds : Finds given n k w old) where
+    -- what is written beside another number's key
+    put_elsewhere : (m : ℕ) (o : Option K) (u : W) → named old.joined.keys m ≡ o → m ≢ n → map.get (after_put given.data_of old.dictionary o u) (given.data_of k) ≡ Some w
+    put_elsewhere m None u is other = finds.has
+    put_elsewhere m (Some q) u is other =
+        get_other keys_total exact_keys old.dictionary (given.data_of q) u (given.data_of k) (λ same. other (finds.holds.apart m n q k is finds.names (sym same))) ∙ finds.has
+
+    taken_elsewhere : (m : ℕ) (o : Option K) → named old.joined.keys m ≡ o → m ≢ n → map.get (after_take given.data_of old.dictionary o) (given.data_of k) ≡ Some w
+    taken_elsewhere m None is other = finds.has
+    taken_elsewhere m (Some q) is other =
+        get_left keys_total exact_keys old.dictionary (given.data_of q) (given.data_of k) (λ same. other (finds.holds.apart m n q k is finds.names (sym same))) ∙ finds.has
+
+    still_has : (c : JoinedDetachCommand V W) (r : JoinedReply K V W R) (new : WithDictionary K V W) → WritesOther n c → DetachDictionaryStep given old c r new
+        → map.get new.dictionary (given.data_of k) ≡ Some w
+    still_has (detaching.Plain (command.Put m u)) (reply.Old before) new other step = ap (λ d. map.get d (given.data_of k)) step.notes ∙ put_elsewhere m (named old.joined.keys m) u refl other
+    still_has (detaching.Plain (command.Take m)) (reply.TakenSecond taken) new other step = ap (λ d. map.get d (given.data_of k)) step.notes
+        ∙ taken_elsewhere m (named old.joined.keys m) refl other
+    still_has (detaching.Plain c) r new other step = grind (arith, finds.has)
+    still_has (detaching.Detach m) r new other step = ap (λ d. map.get d (given.data_of k)) step.1 ∙ finds.has
+    still_has (detaching.Reattach m v) r new other step = ap (λ d. map.get d (given.data_of k)) step.1 ∙ finds.has
+
+    finds_stays : (c : JoinedDetachCommand V W) (r : JoinedReply K V W R) (new : WithDictionary K V W) → RemovesOther n c → WritesOther n c
+        → DetachDictionaryStep given old c r new → Finds given n k w new
+    finds_stays c r new kept other step =
+        let steps = joined_step old c r new step in
+        record {
+          holds = holds_stays given n old.joined c r new.joined kept steps finds.holds;
+          names = still_named old.joined c r new.joined steps k finds.names;
+          has = still_has c r new other step;
+        }
 
   -- a put that has memory is found by the number that it names
-  put_finds : (n : ℕ) (w : W) (before : Option W) (old new : WithDictionary K V W) → DictionaryStep given old (command.Put n w) (reply.Old before) new → (k : K) × Finds n k w new
-  put_finds n w before old new step = of_named (named old.joined.keys n) refl step.steps step.notes
+  put_finds : (w : W) (before : Option W) (old new : WithDictionary K V W) → DictionaryStep given old (command.Put n w) (reply.Old before) new → Holds given n old.joined
+      → (k : K) × Finds given n k w new
+  put_finds w before old new step holds = of_named (named old.joined.keys n) refl step.steps step.notes
     where
-      of_named : (o : Option K) → named old.joined.keys n ≡ o → StepPut given old.joined o w (reply.Old before) new.joined → new.dictionary ≡ after_put given.data_of old.dictionary o w → (k : K) × Finds n k w new
+      of_named : (o : Option K) → named old.joined.keys n ≡ o → StepPut given old.joined o w (reply.Old before) new.joined
+          → new.dictionary ≡ after_put given.data_of old.dictionary o w → (k : K) × Finds given n k w new
       of_named (Some k) is puts notes = (
         k,
         record {
+          holds = holds_stays given n old.joined (detaching.Plain (command.Put n w)) (reply.Old before) new.joined tt step.steps holds;
           names = ap (λ keys. named keys n) puts.2 ∙ is;
           has = ap (λ d. map.get d (given.data_of k)) notes ∙ get_inserted keys_total exact_keys old.dictionary (given.data_of k) w;
         },
@@ -98,52 +180,92 @@ module _ {K V W R : Type 0} (given : JoinedGiven K W R) where
       of_named None is puts notes = absurd puts
 
   -- what a look-up by that number shows
-  finds_shown : (n : ℕ) (k : K) (w : W) (seen : Option R) (old new : WithDictionary K V W) → DictionaryStep given old (command.Look n) (reply.Looked seen) new → AllStand old → Finds n k w old
+  finds_shown : (k : K) (w : W) (seen : Option R) (old new : WithDictionary K V W) → DictionaryStep given old (command.Look n) (reply.Looked seen) new → Finds given n k w old
       → LooksAt given.looks (Some w) seen
-  unfolding AllStand
-  finds_shown n k w seen old new step held finds = subst (λ (o : Option W). LooksAt given.looks o seen) finds.has (step.by_dictionary k finds.names (held n k finds.names))
+  finds_shown k w seen old new step finds = subst (λ (o : Option W). LooksAt given.looks o seen) finds.has (step.by_dictionary k finds.names (finds.holds.stands k finds.names))
 
-  -- The value that is put under a number at one position is what a Look at the same number shows at a later one, if no command before it
-  -- removes a key, and none in between puts or takes a value
+-- a list of commands, each seen as one with detaching
+module _ {K V W R C : Type 0} (given : JoinedGiven K W R) (of : C → JoinedDetachCommand V W) where
+  abbrev StepOf : WithDictionary K V W → C → JoinedReply K V W R → WithDictionary K V W → Type 0
+  StepOf old c r new = DetachDictionaryStep given old (of c) r new
+
+  module _ (n : ℕ) (w : W) (before : Option W) (seen : Option R) (p l : C) (puts : of p ≡ detaching.Plain (command.Put n w)) (looks : of l ≡ detaching.Plain (command.Look n)) where
+    shown_after : (t : WithDictionary K V W) (commands : List C) (replies : List (JoinedReply K V W R)) (i j : ℕ) → Run StepOf unused commands replies t → i < j
+        → AllByRecursion (λ c. RemovesOther n (of c)) (take j commands) → AllByRecursion (λ c. WritesOther n (of c)) (take (j - (i + 1)) (drop (i + 1) commands))
+        → slice_get commands i ≡ Some p → slice_get commands j ≡ Some l
+        → slice_get replies i ≡ Some (reply.Old before) → slice_get replies j ≡ Some (reply.Looked seen)
+        → LooksAt given.looks (Some w) seen
+    shown_after t commands replies i j run less unremoved unwritten at_put at_look put looked =
+        let asked = split_at_two commands i j p l less at_put at_look in
+        let told = split_at_two replies i j _ _ less put looked in
+        let long : length asked.before ≡ length told.before = asked.at ∙ sym told.at in
+        let long_between : length asked.between ≡ length told.between = omega (arith, asked.apart, told.apart) in
+        let whole = subst (λ (x : List (JoinedReply K V W R)). Run StepOf unused (asked.before ++ p ∷ (asked.between ++ l ∷ asked.after)) x t) told.is
+        (subst (λ (x : List C). Run StepOf unused x replies t) asked.is run) in
+        let first = run_split StepOf asked.before told.before p (reply.Old before) _ _ unused t long whole in
+        let second = run_split StepOf asked.between told.between l (reply.Looked seen) asked.after told.after first.1 t long_between first.4 in
+        let kept_before : AllZip (λ c r. RemovesOther n (of c)) asked.before told.before = zipped_by_positions _ asked.before told.before long (λ m c r inside is_c is_r.
+        at_in_first (λ c. RemovesOther n (of c)) j m commands c unremoved (omega (arith, asked.at)) (stands_before asked m c is_c)) in
+        let kept_between : AllZip (λ c r. RemovesOther n (of c) × WritesOther n (of c)) asked.between told.between = zipped_by_positions _ asked.between told.between long_between
+        (λ m c r inside is_c is_r. (
+          at_in_first (λ c. RemovesOther n (of c)) j (i + 1 + m) commands c unremoved (omega (arith, asked.apart)) (stands_between asked m c is_c),
+          at_in_part (λ c. WritesOther n (of c)) (i + 1) (j - (i + 1)) m commands c unwritten (omega (arith, asked.apart)) (stands_between asked m c is_c),
+        )) in
+        let start : Holds {V = V} {R = R} given n (unused {K = K} {V = V} {W = W}).joined = record {
+          issued = λ m q h. absurd (none_named m q h);
+          apart = λ m o q x h g same. absurd (none_named m q h);
+          stands = λ k h. absurd (none_named n k h);
+        } in
+        let held = run_keeps_by StepOf (λ s. Holds given n s.joined) (λ c r. RemovesOther n (of c))
+        (λ old c r new kept step holds. holds_stays given n old.joined (of c) r new.joined kept (joined_step given n old (of c) r new step) holds)
+        asked.before told.before unused first.0 kept_before first.2 start in
+        let put_step = subst (λ x. DetachDictionaryStep given first.0 x (reply.Old before) first.1) puts first.3 in
+        let found = put_finds given n w before first.0 first.1 put_step held in
+        let still = run_keeps_by StepOf (Finds given n found.0 w) (λ c r. RemovesOther n (of c) × WritesOther n (of c))
+        (λ old c r new kept step finds. finds_stays given n found.0 w old finds (of c) r new kept.0 kept.1 step) asked.between told.between first.1 second.0 kept_between second.2 found.1 in
+        finds_shown given n found.0 w seen second.0 second.1 (subst (λ x. DetachDictionaryStep given second.0 x (reply.Looked seen) second.1) looks second.3) still
+
+shows_seen : {W R : Type 0} (looks : W → R → Type 0) (f : W → R) (w : W) (seen : Option R) → Shows looks f → LooksAt looks (Some w) seen → seen ≡ Some (f w)
+shows_seen looks f w (Some r) shows sees = ap Some (shows w r sees)
+shows_seen looks f w None shows sees = absurd sees
+
+module _ {K V W R : Type 0} (given : JoinedGiven K W R) where
+  -- The value that is put under a number at one position is what a Look at the same number shows at a later one, if no command before the
+  -- Look removes that number's key, and none in between puts or takes a value under it. Other keys may come, go and be written
   pub put_shown : (t : WithDictionary K V W) (commands : List (JoinedCommand V W)) (replies : List (JoinedReply K V W R)) (i j n : ℕ) (w : W) (before : Option W) (seen : Option R)
       → Run (DictionaryStep given) unused commands replies t → i < j
-      → AllByRecursion RemovesNone (take j commands) → AllByRecursion WritesNone (take (j - (i + 1)) (drop (i + 1) commands))
+      → AllByRecursion (λ c. RemovesOther n (detaching.Plain c)) (take j commands) → AllByRecursion (λ c. WritesOther n (detaching.Plain c)) (take (j - (i + 1)) (drop (i + 1) commands))
       → slice_get commands i ≡ Some (command.Put n w) → slice_get commands j ≡ Some (command.Look n)
       → slice_get replies i ≡ Some (reply.Old before) → slice_get replies j ≡ Some (reply.Looked seen)
       → LooksAt given.looks (Some w) seen
-  unfolding AllStand
-  put_shown t commands replies i j n w before seen run less unremoved unwritten puts looks put looked =
-      let asked = split_at_two commands i j _ _ less puts looks in
-      let told = split_at_two replies i j _ _ less put looked in
-      let long : length asked.before ≡ length told.before = asked.at ∙ sym told.at in
-      let long_between : length asked.between ≡ length told.between = omega (arith, asked.apart, told.apart) in
-      let whole = subst (λ (x : List (JoinedReply K V W R)). Run (DictionaryStep given) unused (asked.before ++ command.Put n w ∷ (asked.between ++ command.Look n ∷ asked.after)) x t) told.is
-      (subst (λ (x : List (JoinedCommand V W)). Run (DictionaryStep given) unused x replies t) asked.is run) in
-      let first = run_split (DictionaryStep given) asked.before told.before (command.Put n w) (reply.Old before) _ _ unused t long whole in
-      let second = run_split (DictionaryStep given) asked.between told.between (command.Look n) (reply.Looked seen) asked.after told.after first.1 t long_between first.4 in
-      let none_before : AllZip (λ c r. RemovesNone c) asked.before told.before = zipped_by_positions _ asked.before told.before long (λ m c r inside is_c is_r.
-      at_in_first RemovesNone j m commands c unremoved (omega (arith, asked.at)) (stands_before asked m c is_c)) in
-      let none_between : AllZip (λ c r. RemovesNone c × WritesNone c) asked.between told.between = zipped_by_positions _ asked.between told.between long_between (λ m c r inside is_c is_r. (
-        at_in_first RemovesNone j (i + 1 + m) commands c unremoved (omega (arith, asked.apart)) (stands_between asked m c is_c),
-        at_in_part WritesNone (i + 1) (j - (i + 1)) m commands c unwritten (omega (arith, asked.apart)) (stands_between asked m c is_c),
-      )) in
-      let held = run_keeps_by (DictionaryStep given) AllStand (λ c r. RemovesNone c) (λ old c r new none step held. held_stays old c r new none step held) asked.before told.before unused first.0 none_before first.2 (λ m k h. absurd (none_named m k h)) in
-      let held_on = held_stays first.0 (command.Put n w) (reply.Old before) first.1 tt first.3 held in
-      let found = put_finds n w before first.0 first.1 first.3 in
-      let held_at = run_keeps_by (DictionaryStep given) AllStand (λ c r. RemovesNone c × WritesNone c) (λ old c r new none step held. held_stays old c r new none.0 step held) asked.between told.between first.1 second.0 none_between second.2 held_on in
-      let found_at = run_keeps_by (DictionaryStep given) (Finds n found.0 w) (λ c r. RemovesNone c × WritesNone c) (λ old c r new none step finds. finds_stays n found.0 w old c r new none.1 step finds) asked.between told.between first.1 second.0 none_between second.2 found.1 in
-      finds_shown n found.0 w seen second.0 second.1 second.3 held_at found_at
+  put_shown t commands replies i j n w before seen = shown_after given detaching.Plain n w before seen (command.Put n w) (command.Look n) refl refl t commands replies i j
 
   -- the same where f tells what is shown of a value
   pub put_seen : (f : W → R) (t : WithDictionary K V W) (commands : List (JoinedCommand V W)) (replies : List (JoinedReply K V W R)) (i j n : ℕ) (w : W) (before : Option W) (seen : Option R)
       → Run (DictionaryStep given) unused commands replies t → Shows given.looks f → i < j
-      → AllByRecursion RemovesNone (take j commands) → AllByRecursion WritesNone (take (j - (i + 1)) (drop (i + 1) commands))
+      → AllByRecursion (λ c. RemovesOther n (detaching.Plain c)) (take j commands) → AllByRecursion (λ c. WritesOther n (detaching.Plain c)) (take (j - (i + 1)) (drop (i + 1) commands))
       → slice_get commands i ≡ Some (command.Put n w) → slice_get commands j ≡ Some (command.Look n)
       → slice_get replies i ≡ Some (reply.Old before) → slice_get replies j ≡ Some (reply.Looked seen)
       → seen ≡ Some (f w)
   put_seen f t commands replies i j n w before seen run shows less unremoved unwritten puts looks put looked =
-      seen_is seen (put_shown t commands replies i j n w before seen run less unremoved unwritten puts looks put looked)
-    where
-      seen_is : (seen : Option R) → LooksAt given.looks (Some w) seen → seen ≡ Some (f w)
-      seen_is (Some r) sees = ap Some (shows w r sees)
-      seen_is None sees = absurd sees
+      shows_seen given.looks f w seen shows (put_shown t commands replies i j n w before seen run less unremoved unwritten puts looks put looked)
+
+  -- both for a primary map whose keys can be detached: a Detach or a Reattach of any key may stand between
+  pub detach_put_shown : (t : WithDictionary K V W) (commands : List (JoinedDetachCommand V W)) (replies : List (JoinedReply K V W R)) (i j n : ℕ) (w : W) (before : Option W) (seen : Option R)
+      → Run (DetachDictionaryStep given) unused commands replies t → i < j
+      → AllByRecursion (RemovesOther n) (take j commands) → AllByRecursion (WritesOther n) (take (j - (i + 1)) (drop (i + 1) commands))
+      → slice_get commands i ≡ Some (detaching.Plain (command.Put n w)) → slice_get commands j ≡ Some (detaching.Plain (command.Look n))
+      → slice_get replies i ≡ Some (reply.Old before) → slice_get replies j ≡ Some (reply.Looked seen)
+      → LooksAt given.looks (Some w) seen
+  detach_put_shown t commands replies i j n w before seen =
+      shown_after given (λ c. c) n w before seen (detaching.Plain (command.Put n w)) (detaching.Plain (command.Look n)) refl refl t commands replies i j
+
+  pub detach_put_seen : (f : W → R) (t : WithDictionary K V W) (commands : List (JoinedDetachCommand V W)) (replies : List (JoinedReply K V W R)) (i j n : ℕ) (w : W) (before : Option W)
+      (seen : Option R)
+      → Run (DetachDictionaryStep given) unused commands replies t → Shows given.looks f → i < j
+      → AllByRecursion (RemovesOther n) (take j commands) → AllByRecursion (WritesOther n) (take (j - (i + 1)) (drop (i + 1) commands))
+      → slice_get commands i ≡ Some (detaching.Plain (command.Put n w)) → slice_get commands j ≡ Some (detaching.Plain (command.Look n))
+      → slice_get replies i ≡ Some (reply.Old before) → slice_get replies j ≡ Some (reply.Looked seen)
+      → seen ≡ Some (f w)
+  detach_put_seen f t commands replies i j n w before seen run shows less unremoved unwritten puts looks put looked =
+      shows_seen given.looks f w seen shows (detach_put_shown t commands replies i j n w before seen run less unremoved unwritten puts looks put looked)

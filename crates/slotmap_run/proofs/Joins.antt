@@ -35,7 +35,7 @@ use Rattle.slotmap_run.specs.Ties.{joined, told_by, Known, JoinFollows}
 -- calls of the primary map
 
 -- the machine of the primary map: no command calls a closure there
-abbrev closed : {K V W R : Type 0} → JoinedGiven K W R → First K V (Unit {0}) (Unit {0})
+abbrev pub closed : {K V W R : Type 0} → JoinedGiven K W R → First K V (Unit {0}) (Unit {0})
 closed given = record { data_of = given.data_of; looks = λ v r. ⊥; keeps = λ k v w stays. ⊥; makes = λ k r. ⊥; reuses = given.reuses }
 
 module _ {K V W R C : Type 0} (given : JoinedGiven K W R) (old new : Content V) (m : Pairs W) (keys : List K)

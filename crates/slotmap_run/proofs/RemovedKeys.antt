@@ -50,7 +50,8 @@ module _ {K V R E : Type 0} (given : RunGiven K V R E) (k : Key) (old : State V)
   gone_not_found gone = grind (arith, gone.not_standing)
 
   -- no key is live that Retain's closure rejects whatever its value
-  pub rejected_not_live : c ≡ detaching.Plain command.Retain → ((key : K) (v w : V) (stays : Bool) → given.data_of key ≡ k → given.keeps key v w stays → stays ≡ false) → map.contains_key new.live k ≡ false
+  pub rejected_not_live : c ≡ detaching.Plain command.Retain → ((key : K) (v w : V) (stays : Bool) → given.data_of key ≡ k → given.keeps key v w stays → stays ≡ false)
+      → map.contains_key new.live k ≡ false
   rejected_not_live is rejects = not_kept r (subst (λ x. DetachStep given old x r new) is step)
     where
       at_key : Retains given old new → (o : Option V) → map.get old.live k ≡ o → map.get new.live k ≡ None

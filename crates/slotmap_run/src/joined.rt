@@ -3,6 +3,8 @@
 ghost use Rattle.std.specs.Prelude.{◌≡◌, ◌+◌, ◌<◌, ◌≤◌, vec_len, vec_capacity, IfOk, IfErr, OnErr};
 ghost use Rattle.slotmap_core.specs.Words.{IsContent, Starts, given_joined, named, RunsBeside, DictionaryStep, DetachDictionaryStep, RunsByDictionary};
 ghost use Rattle.slotmap_core.specs.Joined.{JoinedStep, JoinedDetachStep};
+ghost use Rattle.slotmap_core.specs.JoinedLaw.{JoinedRemovedForGood};
+ghost use Rattle.slotmap_core.specs.declared.joined.JoinedDetachCommand.TheVariants as detaching;
 ghost use Rattle.slotmap_run.specs.Replies.{joined_reattach_reply_of};
 ghost use Rattle.slotmap_run.specs.Ties.{JoinServed};
 
@@ -171,6 +173,10 @@ where
         (M.content primary.old) (S.pairs secondary.old) commands.items replies.items
         (M.content primary.new) (S.pairs secondary.new)) }
 
+    // Once a Remove returned a value, no later command finds that key in the primary map.
+    ensures removed_for_good { IfOk result (λ replies.
+        JoinedRemovedForGood detaching.Plain commands.items replies.items) }
+
     // If there is no memory for the keys or the replies, nothing is run.
     ensures err { IfErr result (λ back. back ≡ commands) }
     ensures unchanged { OnErr result ((M.content primary.new ≡ M.content primary.old)
@@ -277,6 +283,10 @@ where
         IfOk result (λ replies. RunsByDictionary (DetachDictionaryStep what)
         (M.content primary.old) (S.pairs secondary.old) commands.items replies.items
         (M.content primary.new) (S.pairs secondary.new)) }
+
+    // Once a Remove returned a value, no later command finds that key in the primary map.
+    ensures removed_for_good { IfOk result (λ replies.
+        JoinedRemovedForGood (λ command. command) commands.items replies.items) }
 
     // If there is no memory for the keys or the replies, nothing is run.
     ensures err { IfErr result (λ back. back ≡ commands) }

@@ -50,7 +50,8 @@ module _ {K V R E C : Type 0} (data_of : K → Key) (of : C → DetachCommand K 
       (stands_past asked (j - (i + 1)) ∙ ap (slice_get commands) at ∙ is_d) (stands_past told (j - (i + 1)) ∙ ap (slice_get replies) at ∙ is_answer)
 
 -- no plain command detaches a key
-pub never_detached : {K V R E : Type 0} (data_of : K → Key) (commands : List (Command K V)) (replies : List (Reply K V R E)) (k : Key) (i j : ℕ) → StaysAttached data_of detaching.Plain commands replies k i j
+pub never_detached : {K V R E : Type 0} (data_of : K → Key) (commands : List (Command K V)) (replies : List (Reply K V R E)) (k : Key) (i j : ℕ)
+    → StaysAttached data_of detaching.Plain commands replies k i j
 never_detached data_of commands replies k i j n c r more less is_c is_r = tt
 
 -- once the Remove of a key at one position returned a value, a Get of it at a later one finds nothing (`plain` makes a command of the list from a plain one)
@@ -64,7 +65,8 @@ removed_finds_nothing data_of of plain is commands replies i j key v looked law 
     cc
 
 -- once the joined Remove of a number at one position returned a value, the command at a later one doesn't find that number's key
-pub joined_removed_not_found : {K V W R C : Type 0} (of : C → JoinedDetachCommand V W) (commands : List C) (replies : List (JoinedReply K V W R)) (i j n : ℕ) (c d : C) (v : V) (answer : JoinedReply K V W R)
+pub joined_removed_not_found : {K V W R C : Type 0} (of : C → JoinedDetachCommand V W) (commands : List C) (replies : List (JoinedReply K V W R)) (i j n : ℕ) (c d : C) (v : V)
+    (answer : JoinedReply K V W R)
     → JoinedRemovedForGood of commands replies → i < j → of c ≡ joined_detaching.Plain (joined.Remove n)
     → slice_get commands i ≡ Some c → slice_get replies i ≡ Some (joined_reply.Taken (Some v))
     → slice_get commands j ≡ Some d → slice_get replies j ≡ Some answer → JoinedFindsNothing n (of d) answer

@@ -65,6 +65,10 @@ module _ {X : Type 0} where
   past_seam [] ys x n = let next : length {A = X} [] + 1 + n ≡ suc n = omega arith in rw next refl
   past_seam (z ∷ xs) ys x n = let next : length (z ∷ xs) + 1 + n ≡ suc (length xs + 1 + n) = omega arith in rw next (past_seam xs ys x n)
 
+  -- an element of the part before x, by its position
+  pub before_in : {xs : List X} {i : ℕ} {x : X} (s : SplitsAt xs i x) (n : ℕ) (z : X) → slice_get s.before n ≡ Some z → slice_get xs n ≡ Some z
+  before_in {x = x} s n z h = ap (λ l. slice_get l n) s.is ∙ before_seam s.before (x ∷ s.after) n z h
+
   -- the elements after x are those from the next position on
   pub stands_after : {xs : List X} {i : ℕ} {x : X} (s : SplitsAt xs i x) (n : ℕ) → slice_get s.after n ≡ slice_get xs (i + 1 + n)
   stands_after {xs} {i} {x} s n = sym (
