@@ -25,11 +25,12 @@ impl<K: Key, V: Drop> SlotMap<K, V> {
 
     /// Inserts a value and returns its new key.
     ///
-    /// The slot freed last is reused, and then the call can't fail. If no slot is vacant, one is
-    /// added. It fails with `Full` if 4294967294 keys are live, detached or retired, and with
-    /// `Memory` if memory runs out. The error holds the value, and the map holds what it held. In
-    /// Rust a full map panics, and running out of memory aborts. Constant time, unless the vectors
-    /// grow.
+    /// The slot freed last is reused; then the call can't fail, and the capacity stays. If no slot
+    /// is vacant, one is added. The capacity stays also where room was reserved.
+    ///
+    /// It fails with `Full` if 4294967294 keys are live, detached or retired, and with `Memory` if
+    /// memory runs out. The error holds the value, and the map holds what it held. In Rust a full
+    /// map panics, and running out of memory aborts. Constant time, unless the vectors grow.
     ///
     /// ```
     /// map.remove(a);

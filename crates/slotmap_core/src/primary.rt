@@ -139,7 +139,8 @@ pub trait Primary<K: Key, V>: Sized {
     /// Inserts a value and returns its new key.
     ///
     /// It fails with `Full` if 4294967294 keys are live, detached or retired, and with `Memory` if
-    /// memory runs out. The error holds the value.
+    /// memory runs out. The error holds the value. If there is room for one more key, the capacity
+    /// stays.
     ///
     /// ```
     /// let mut map: SlotMap<DefaultKey, u64> = SlotMap::new(alloc)?;

@@ -51,7 +51,8 @@ impl<K: Key, V: Drop> DenseSlotMap<K, V> {
     ///
     /// The key and its value are appended to the packed order. The slot freed last is reused. If no
     /// slot is vacant, one is added. Even if a slot is vacant, the lists of keys and values may
-    /// have to grow, unless room was reserved.
+    /// have to grow. If room was reserved, the call doesn't fail with `Memory`, and the capacity
+    /// stays.
     ///
     /// It fails with `Full` if 4294967294 keys are live, detached or retired, and with `Memory` if
     /// memory runs out. The error holds the value, and the map holds what it held. In Rust a full

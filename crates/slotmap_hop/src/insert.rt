@@ -91,9 +91,9 @@ impl<K: Key, V: Drop> HopSlotMap<K, V> {
 
     /// Inserts a value and returns its new key.
     ///
-    /// If a slot is vacant, one is reused, and the call can't fail: the last slot of the first
-    /// block in the list, or of the block of slot 0 if the list is empty. If no slot is vacant, one
-    /// is added.
+    /// If a slot is vacant, one is reused: the last slot of the first block in the list, or of the
+    /// block of slot 0 if the list is empty. Then the call can't fail, and the capacity stays. If no
+    /// slot is vacant, one is added. The capacity stays also where room was reserved.
     ///
     /// It fails with `Full` if 4294967294 keys are live or retired, and with `Memory` if memory
     /// runs out. The error holds the value, and the map holds what it held. In Rust a full map
