@@ -118,6 +118,7 @@ module _ {V W : Type 0} (f : V → W) where
       before = content-mapped old true valid.before;
       after = content-mapped new true valid.after;
       capacity = valid.capacity;
+      in_place = valid.in_place;
       unchanged = λ no. mapped-keeps (valid.unchanged no);
     }
 
