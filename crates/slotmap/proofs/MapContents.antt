@@ -33,7 +33,7 @@ module _ {V : Type 0} where
   dense_stays valid = record { before = valid.before.content; after = valid.after.content; capacity = valid.capacity }
 
   pub dense_grows : {old new : Dense V} {refused : Type 0} → GrowsDense old refused new → MayGrow false old.content refused new.content
-  dense_grows valid = record { before = valid.before.content; after = valid.after.content; capacity = valid.capacity; unchanged = valid.unchanged }
+  dense_grows valid = record { before = valid.before.content; after = valid.after.content; capacity = valid.capacity; in_place = valid.in_place; unchanged = valid.unchanged }
 
   pub hop_well : {m : HopContent V} → IsHopContent m → IsContent true m.content
   hop_well well = well.valid
@@ -46,6 +46,7 @@ module _ {V : Type 0} where
     before = valid.before.valid;
     after = valid.after.valid;
     capacity = valid.capacity;
+    in_place = valid.in_place;
     unchanged = elim answer as (λ r. OnErr r (Keeps old.content new.content) → IsErr r → Keeps old.content new.content) [
       | Ok key ↦ λ same err. absurd (cc)
       | Err e ↦ λ same err. same
