@@ -29,10 +29,15 @@ pub use Rattle.slotmap.proofs.KeysAlone.{contains-keys_of, len-keys_of, spent_al
 pub use Rattle.slotmap.proofs.Loans.{same_lent, same_unlent}
 pub use Rattle.slotmap_core.proofs.ForCallers.Walks.{Walks, walk_start, walk_here, walk_next, walk_step, walk_end, none_found}
 -- the replies of runs, by their positions
-pub use Rattle.slotmap_core.proofs.ForCallers.RunCallers.{as_many, Begins, begins, keys_differ, removed_finds_nothing, reserved_not_refused}
+pub use Rattle.slotmap_core.proofs.ForCallers.RunCallers.{as_many, Begins, begins, keys_differ, reserved_not_refused}
 pub use Rattle.slotmap_core.proofs.ForCallers.RunCallers.{detached_not_returned, StaysDetached, ReattachesOther, stays_detached, detached_bound, detached_bound_or_memory, bound_value}
 pub use Rattle.slotmap_core.proofs.ForCallers.SecondaryRuns.{runs_agree, run_seen_by}
-pub use Rattle.slotmap_run.proofs.JoinedCallers.{RemovesNone, WritesNone, put_shown, put_seen}
+-- a key that was removed is found by no later command
+pub use Rattle.slotmap_core.proofs.ForCallers.RemovalCallers.{removed_finds_nothing, removed_not_found, gone_not_found, StaysAttached, never_detached, joined_removed_not_found}
+pub use Rattle.slotmap_run.proofs.LostKeys.{Rejects, Loses, live_lost_not_found, shown_lost_not_found, lost_not_found, fits_good}
+pub use Rattle.slotmap_run.proofs.Laws.{empty_good}
+-- what was put beside a key
+pub use Rattle.slotmap_run.proofs.JoinedCallers.{RemovesOther, WritesOther, put_shown, put_seen, detach_put_shown, detach_put_seen}
 -- JSON that is written and read again
 pub use Rattle.slotmap_json.proofs.RoundTrips.{key_read_back, key_returned, slots_read_back, slots_not_refused, map_read_back}
 -- a side table beside a primary map

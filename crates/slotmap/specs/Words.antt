@@ -1,8 +1,11 @@
 -- The words that callers' clauses cite, all in one module. Declares nothing.
 pub use Rattle.slotmap_core.specs.Lifo.{IsBasic}
 -- replies to commands, as a caller's clauses name them
-pub use Rattle.slotmap_core.specs.declared.commands.Reply.TheVariants.{Key as KeyReply, Looked as LookedReply, Put as PutReply, Taken as TakenReply, Done as DoneReply}
+pub use Rattle.slotmap_core.specs.declared.commands.Reply.TheVariants.{Key as KeyReply, Looked as LookedReply, Put as PutReply, Taken as TakenReply, Done as DoneReply, Flag as FlagReply}
 pub use Rattle.slotmap_core.specs.declared.joined.JoinedReply.TheVariants.{Old as JoinedOld, Looked as JoinedLooked}
+-- a plain command as one of a list in which keys can be detached: what makes it, for the laws that speak of both kinds of lists
+pub use Rattle.slotmap_core.specs.declared.commands.DetachCommand.TheVariants.{Plain as PlainCommand}
+pub use Rattle.slotmap_core.specs.declared.joined.JoinedDetachCommand.TheVariants.{Plain as PlainJoined}
 -- runs: the machine, what a run is given, the laws of its replies
 pub use Rattle.slotmap_core.specs.Machine.{State, StandsIn, IsIssued, Fresh, empty_state, retired}
 pub use Rattle.slotmap_core.specs.Given.{RunGiven, given, any_closures}
@@ -10,11 +13,13 @@ pub use Rattle.slotmap_core.specs.Step.{Step, DetachStep}
 pub use Rattle.slotmap_core.specs.Run.{Run, Unretiring}
 pub use Rattle.slotmap_core.specs.Fit.{Fits, Starts, RunFollows, RunsAnew, Continues}
 pub use Rattle.slotmap_core.specs.Law.{Laws, DetachLaws, NoKeyTwice, RemovedForGood, ReserveHolds, DetachedNotReissued, DetachedReattaches, ReattachBinds, LastFreedFirst}
+pub use Rattle.slotmap_core.specs.Law.{GoneForGood, ShowsLive, ShowsNotLive, RemovesKey, LeavesAttached, FindsNothing}
 pub use Rattle.slotmap_core.specs.Law.{IsRefusal, NeedsRoom, DetachNeedsRoom, Spares, keys_told}
 pub use Rattle.slotmap_core.specs.SecondaryStep.{SideStep, SideGiven, given_secondary, LooksAt}
 pub use Rattle.slotmap_core.specs.SecondaryLaw.{HadMemory, Shows, seen_by, EachAgrees}
 pub use Rattle.slotmap_core.specs.Joined.{JoinedStep, JoinedDetachStep, Joined, given_joined, named, RunsBeside}
 pub use Rattle.slotmap_core.specs.Dictionary.{Dictionary, WithDictionary, DictionaryStep, DetachDictionaryStep, RepliesByDictionary, noted, unused, RunsByDictionary}
+pub use Rattle.slotmap_core.specs.JoinedLaw.{JoinedFindsNothing, JoinedRemovedForGood}
 pub use Rattle.slotmap_core.specs.Key.{Key, IsKey, null_key, is_last, next_version, is_older, key_cmp, coded_key, same_keys}
 pub use Rattle.slotmap_core.specs.Content.{Content, content_code, IsContent, IsLive, IsDetached, IsRetired, IsVacant, Stands, used, places, most}
 pub use Rattle.slotmap_core.specs.Spent.{IsSpent, KeepsSpent}
