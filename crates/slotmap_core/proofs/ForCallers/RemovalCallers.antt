@@ -1,7 +1,9 @@
 -- A removed key is found by no later command, by positions.
 -- For callers.
-use Rattle.std.proofs.Common.{◌≡◌, ℕ, ◌+◌, ◌-◌, ◌<◌, List, length, slice_get, Some, None, Option, refl, sym, ap, ◌∙◌, arith}
-use Rattle.slotmap_core.specs.Key.{Key}
+use Rattle.std.proofs.Common.{◌≡◌, ℕ, zero, suc, ◌+◌, ◌-◌, ◌<◌, List, [], ◌∷◌, length, slice_get, Some, None, Option, option_map, true, refl, sym, ap, ◌∙◌, arith, map as list_map}
+use Rattle.std.proofs.lemmas.Option.{slice_get-map}
+use Rattle.std.specs.FinMap as map
+use Rattle.slotmap_core.specs.Key.{Key, key_cmp}
 use Rattle.slotmap_core.specs.Law.{RemovedForGood, GoneForGood, ShowsLive, ShowsNotLive, RemovesKey, LeavesAttached, FindsNothing}
 use Rattle.slotmap_core.specs.JoinedLaw.{JoinedRemovedForGood, JoinedFindsNothing}
 use Rattle.slotmap_core.specs.declared.commands.Command.{Command}
@@ -15,6 +17,8 @@ use Rattle.slotmap_core.specs.declared.joined.JoinedDetachCommand.{JoinedDetachC
 use Rattle.slotmap_core.specs.declared.joined.JoinedDetachCommand.TheVariants as joined_detaching
 use Rattle.slotmap_core.specs.declared.joined.JoinedReply.{JoinedReply}
 use Rattle.slotmap_core.specs.declared.joined.JoinedReply.TheVariants as joined_reply
+use Rattle.slotmap_core.proofs.General.KeyLemmas.{keys_total, exact_keys}
+use Rattle.slotmap_core.proofs.General.Maps.{in_inserted}
 use Rattle.slotmap_core.proofs.General.Positions.{split_at, split_at_two, stands_between, stands_after, stands_past, zipped_at, zipped_by_positions}
 
 module _ {K V R E C : Type 0} (data_of : K → Key) (of : C → DetachCommand K V) (commands : List C) (replies : List (Reply K V R E)) (k : Key) where
@@ -63,6 +67,17 @@ removed_finds_nothing data_of of plain is commands replies i j key v looked law 
     let none = removed_not_found data_of of commands replies (data_of key) i j _ _ _ (reply.Looked looked) law less removes taken (rw (is (command.Remove key)) refl) gets seen in
     let found : reply.Looked looked ≡ reply.Looked None = (rw (is (command.Get key)) at none) refl in
     cc
+
+in_entries : {V : Type 0} (es : List (Key × V)) (p : ℕ) (e : Key × V) → slice_get es p ≡ Some e → map.contains_key (map.from_entries {R = key_cmp} es) e.0 ≡ true
+in_entries [] p e h = absurd (cc)
+in_entries (x ∷ es) zero e h = let is : x ≡ e = cc in rw (← is) (in_inserted keys_total exact_keys (map.from_entries es) x.0 x.1)
+in_entries {V} (x ∷ es) (suc p) e h = let rest = in_entries es p e h in grind (arith, rest, map.get-insert {X = V} keys_total (map.from_entries es) x.0 x.1 e.0)
+
+-- a Drain removes each key that it lists: this is `RemovesKey` of such a reply
+pub drained_removes : {K V : Type 0} (data_of : K → Key) (pairs : List (K × V)) (p : ℕ) (key : K) (v : V) → slice_get pairs p ≡ Some (key, v)
+    → map.contains_key (map.from_entries {R = key_cmp} (list_map (λ e. (data_of e.0, e.1)) pairs)) (data_of key) ≡ true
+drained_removes data_of pairs p key v h =
+    in_entries (list_map (λ e. (data_of e.0, e.1)) pairs) p (data_of key, v) (slice_get-map (λ e. (data_of e.0, e.1)) pairs p ∙ ap (option_map (λ e. (data_of e.0, e.1))) h)
 
 -- once the joined Remove of a number at one position returned a value, the command at a later one doesn't find that number's key
 pub joined_removed_not_found : {K V W R C : Type 0} (of : C → JoinedDetachCommand V W) (commands : List C) (replies : List (JoinedReply K V W R)) (i j n : ℕ) (c d : C) (v : V)
