@@ -46,8 +46,8 @@ module _ {K V R E : Type 0} (given : RunGiven K V R E) (k : Key) (old : State V)
   pub removes_gone : RemovesKey given.data_of k c r → IsGood old → Gone new k
   removes_gone removes good = grind (arith, changes, itself keys_total exact_keys k, good.apart k, good.held_issued k, map.get-empty {X = V} key_cmp k)
 
-  pub gone_not_found : Gone old k → FindsNothing given.data_of k c r
-  gone_not_found gone = grind (arith, gone.not_standing)
+  pub gone_finds_nothing : Gone old k → FindsNothing given.data_of k c r
+  gone_finds_nothing gone = grind (arith, gone.not_standing)
 
   -- no key is live that Retain's closure rejects whatever its value
   pub rejected_not_live : c ≡ detaching.Plain command.Retain → ((key : K) (v w : V) (stays : Bool) → given.data_of key ≡ k → given.keeps key v w stays → stays ≡ false)
@@ -74,7 +74,7 @@ module _ {K V R E C : Type 0} (given : RunGiven K V R E) (of : C → DetachComma
   pub none_found : (k : Key) (cs : List C) (rs : List (Reply K V R E)) (s t : State V) → Run StepOf s cs rs t → Gone s k → AllZip (λ c answer. FindsNothing given.data_of k (of c) answer) cs rs
   none_found k [] [] s t run gone = tt
   none_found k (c ∷ cs) (r ∷ rs) s t run gone =
-      (gone_not_found given k s (of c) r run.0 run.1 gone, none_found k cs rs run.0 t run.2 (gone_stays (detach_machine given) k s (of c) r run.0 run.1 gone))
+      (gone_finds_nothing given k s (of c) r run.0 run.1 gone, none_found k cs rs run.0 t run.2 (gone_stays (detach_machine given) k s (of c) r run.0 run.1 gone))
   none_found k _ _ s t run gone = absurd run
 
   pub removed_for_good : (commands : List C) (replies : List (Reply K V R E)) → RunsWell StepOf commands replies → RemovedForGood given.data_of of commands replies
