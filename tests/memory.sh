@@ -17,7 +17,8 @@
 # are the random rows of secondary_rows, which count drops after an `extend`: it keeps the pairs before the fault, and is called
 # again with the rest.
 #
-# Once room was made for a hundred keys, no insert of one of them asks for memory.
+# Once room was made for a hundred keys, no insert of one of them asks for memory. Nor does any call that never allocates, in a
+# map of a hundred keys: a removal, a detach, a reattach, a replacement, a clear, a retain, a drain, a reserve that finds room.
 #
 # No row asks for far more memory than it needs. Over a file of rows the largest request is at most 256 KiB, which is ten
 # thousand slots of 24 bytes. Where a call is repeated over 1,000 times it is at most 16 MiB.
@@ -186,17 +187,49 @@ count_requests() {
     grep -q ', 0 differences, 0 calls made twice$' "$scratch/room.printed" || echo "and differs"
 }
 
-# check_room PROGRAM KIND ROOM LOOK PUT ..: once there is room for a hundred keys, a call that puts a value a hundred times asks
-# for memory no more often than one with as many words that only looks.
+# check_room PROGRAM KIND ROOM LOOK CHANGE ..: once there is room for a hundred keys, lines that change the map ask for memory no more
+# often than LOOK, lines of as many words that only look at it.
 check_room() {
-    local program=$top/crates/$1/out/$1 row="maps $2\nrow within the room\n$3\nsurely repeat 100 " least seen
+    local program=$top/crates/$1/out/$1 row="maps $2\nrow within the room\n$3\n" least seen change
     least=$(count_requests "$program" "$row$4\n")
-    for put in "${@:5}"; do
-        seen=$(count_requests "$program" "$row$put\n")
+    for change in "${@:5}"; do
+        seen=$(count_requests "$program" "$row$change\n")
         [[ $seen = "$least" && $seen != *differs* ]] && continue
-        echo "fault: $1 of the kind $2 asks for memory within its room by $put: $seen requests, where $least do"
+        echo "fault: $1 of the kind $2 asks for memory within its room by $change: $seen requests, where $least do"
         exit 1
     done
+}
+
+# check_emptied PROGRAM KIND ROOM FILL CALL ..: a call for all keys asks for memory no more often in a full map than in an empty one,
+# which is filled afterwards. A CALL has the words LEFT where it tells how many keys there were.
+check_emptied() {
+    local call
+    for call in "${@:5}"; do
+        check_room "$1" "$2" "$3" "${call/LEFT/0 left}\n$4" "$4\n${call/LEFT/100 left}"
+    done
+}
+
+# check_primary PROGRAM KIND: the calls of a primary map.
+check_primary() {
+    local each='surely repeat 100' fill='surely repeat 100 insert # -> #v1' room='reserve 100'
+    local full="$room\n$fill"
+    check_room "$1" "$2" "$room" "$each get #v1 -> none" "$fill" "$each insert_with_key # -> #v1" "$each try_insert_with_key # -> #v1"
+    check_room "$1" "$2" "$full" "$each get #v1 -> #" "$each remove #v1 -> #"
+    check_room "$1" "$2" "$full" "$each get_mut #v1 7 -> #" "$each replace #v1 7 -> #"
+    check_room "$1" "$2" "$room" "$each has_capacity 50" "$each reserve 50" "$each try_reserve 50"
+    check_emptied "$1" "$2" "$room" "$fill" clear 'retain even' 'drain 0 -> pairs, LEFT'
+    [ "$2" = hop ] && return
+    check_room "$1" "$2" "$full" "$each get #v1 -> #" "$each detach #v1 -> #"
+    check_room "$1" "$2" "$full\n$each detach #v1 -> #" "$each replace #v1 # -> # back" "$each reattach #v1 #"
+}
+
+# check_secondary PROGRAM KIND RESERVE: the calls of a secondary map whose room is made by the call RESERVE.
+check_secondary() {
+    local each='surely repeat 100' fill='surely repeat 100 insert #v1 # -> none' room="$3 100"
+    check_room "$1" "$2" "$room" "$each get_mut #v1 # -> # back" "$fill" "$each or_put #v1 # -> placed" \
+        "$each or_insert #v1 # -> #" "$each entry_insert #v1 # -> #"
+    check_room "$1" "$2" "$room\n$fill" "$each get #v1 -> #" "$each remove #v1 -> #"
+    check_emptied "$1" "$2" "$room" "$fill" clear 'retain even' 'drain 0 -> pairs, LEFT'
 }
 
 # check_rooms PROGRAM: no call asks for memory within the room that was made. Joined runs make no room.
@@ -206,13 +239,11 @@ check_rooms() {
         return
     elif [ "$1" = primary_rows ]; then
         for kind in basic dense hop; do
-            check_room "$1" $kind 'reserve 100' 'get #v1 -> none' 'insert # -> #v1' \
-                'insert_with_key # -> #v1' 'try_insert_with_key # -> #v1'
+            check_primary "$1" $kind
         done
     else
         for kind in 'secondary set_capacity' 'secondary try_set_capacity' 'sparse reserve' 'random try_reserve'; do
-            check_room "$1" "${kind% *}" "${kind#* } 100" 'get_mut #v1 # -> # back' 'insert #v1 # -> none' \
-                'or_put #v1 # -> placed' 'or_insert #v1 # -> #' 'entry_insert #v1 # -> #'
+            check_secondary "$1" "${kind% *}" "${kind#* }"
         done
     fi
     echo "$1: no request within the room that was made"
