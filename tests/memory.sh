@@ -216,7 +216,7 @@ check_primary() {
     check_room "$1" "$2" "$room" "$each get #v1 -> none" "$fill" "$each insert_with_key # -> #v1" "$each try_insert_with_key # -> #v1"
     check_room "$1" "$2" "$full" "$each get #v1 -> #" "$each remove #v1 -> #"
     check_room "$1" "$2" "$full" "$each get_mut #v1 7 -> #" "$each replace #v1 7 -> #"
-    check_room "$1" "$2" "$room" "$each has_capacity 50" "$each reserve 50" "$each try_reserve 50"
+    check_room "$1" "$2" "$room" "$each has_capacity 50 -> true" "$each reserve 50 -> done" "$each try_reserve 50 -> done"
     check_emptied "$1" "$2" "$room" "$fill" clear 'retain even' 'drain 0 -> pairs, LEFT'
     [ "$2" = hop ] && return
     check_room "$1" "$2" "$full" "$each get #v1 -> #" "$each detach #v1 -> #"
