@@ -86,8 +86,8 @@ module _ {K V R E C : Type 0} (data_of : K → Key) (of : C → DetachCommand K 
       → RemovesKey data_of k (of c) r
       → AllZip (λ d answer. FindsNothing data_of k (of d) answer) after told_after
 
-  -- Once a reply showed that a key is live, and a later one shows that it no longer is, no command after that finds it; but
-  -- no Detach between the two may return its value. So it is of a key that a Clear or a Retain removed
+  -- Once a reply showed that a key is live, and a later one shows that it no longer is, no command after that finds it. Between
+  -- the two no Detach may return its value. So it is of a key that a Clear or a Retain removed
   abbrev pub GoneForGood : List C → List (Reply K V R E) → Type 0
   GoneForGood commands replies =
       (before between after : List C) (told_before told_between told_after : List (Reply K V R E)) (k : Key) (c d : C) (r answer : Reply K V R E)
