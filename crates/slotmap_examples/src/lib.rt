@@ -5,6 +5,7 @@ pub mod any_map;
 pub mod clones;
 pub mod drains;
 pub mod exchange;
+pub mod fused;
 pub mod hops;
 pub mod json;
 pub mod lookups;
