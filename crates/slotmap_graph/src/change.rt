@@ -81,8 +81,8 @@ fn insert_edge<E: Drop>(
 impl<K: Key, N: Drop, E: Drop> Graph<K, N, E> {
     /// Adds a node with no edge, and returns its key, which no node had before.
     ///
-    /// If a slot is vacant or room was reserved, the call can't fail. If the call fails, the error
-    /// holds the value, and the graph is unchanged.
+    /// If a slot is vacant or room was reserved, the call can't fail, and the capacity stays. If the
+    /// call fails, the error holds the value, and the graph is unchanged.
     ///
     /// ```
     /// let mut graph: Graph<NodeKey, &str, u64> = Graph::new(alloc)?;
@@ -103,6 +103,7 @@ impl<K: Key, N: Drop, E: Drop> Graph<K, N, E> {
         ensures err { IfErr result (Refuses self.old.nodes node) }
         ensures reuses { 0 < map.len self.old.nodes.next → IsOk result }
         ensures room { 0 < self.old.nodes.room → IsOk result }
+        ensures in_place { 0 < self.old.nodes.room → self.new.nodes.capacity ≡ self.old.nodes.capacity }
         ensures unchanged { OnErr result (Keeps self.old.nodes self.new.nodes) }
     {
         insert_node(&mut self.nodes, node)
@@ -111,8 +112,8 @@ impl<K: Key, N: Drop, E: Drop> Graph<K, N, E> {
     /// Adds an edge from one node to another, and returns its key, which no edge had before.
     ///
     /// It is the last of the outgoing edges of the one, and of the incoming edges of the other. If
-    /// a slot is vacant or room was reserved, memory can't run out. If the call fails, the error
-    /// holds the value, and the graph is unchanged.
+    /// a slot is vacant or room was reserved, memory can't run out, and the capacity stays. If the call
+    /// fails, the error holds the value, and the graph is unchanged.
     ///
     /// ```
     /// let mut graph: Graph<NodeKey, &str, u64> = Graph::new(alloc)?;
@@ -136,6 +137,7 @@ impl<K: Key, N: Drop, E: Drop> Graph<K, N, E> {
         ensures err { IfErr result (RefusesEdge self.old.nodes self.old.edges (K.data_of from) (K.data_of to) edge) }
         ensures reuses { IsLive self.old.nodes (K.data_of from) → IsLive self.old.nodes (K.data_of to) → 0 < map.len self.old.edges.next → IsOk result }
         ensures room { IsLive self.old.nodes (K.data_of from) → IsLive self.old.nodes (K.data_of to) → 0 < self.old.edges.room → IsOk result }
+        ensures in_place { 0 < self.old.edges.room → self.new.edges.capacity ≡ self.old.edges.capacity }
         ensures unchanged { OnErr result (Keeps self.old.edges self.new.edges × SameEdges self.old.out self.new.out × SameEdges self.old.into self.new.into) }
 
         // All else is as before.
@@ -152,7 +154,7 @@ impl<K: Key, N: Drop, E: Drop> Graph<K, N, E> {
     }
 
     /// Removes an edge, and returns its value, or `None` if it doesn't exist. Its key is never used
-    /// again. Constant time.
+    /// again. The room and the capacity stay. Constant time.
     ///
     /// ```
     /// let mut graph: Graph<NodeKey, &str, u64> = Graph::new(alloc)?;
@@ -168,6 +170,7 @@ impl<K: Key, N: Drop, E: Drop> Graph<K, N, E> {
         ensures unchanged { IfNone result (self.new.edges ≡ self.old.edges) }
         ensures for_good { OnSome result (IsSpent self.new.edges edge) }
         ensures leaves { Leaves self.old.edges self.new.edges }
+        ensures capacity { self.new.edges.capacity ≡ self.old.edges.capacity }
         ensures out { (k : KeyOf) → edges_at self.new.out k ≡ without edge (edges_at self.old.out k) }
         ensures into { (k : KeyOf) → edges_at self.new.into k ≡ without edge (edges_at self.old.into k) }
         ensures nodes { self.new.nodes ≡ self.old.nodes }
@@ -193,7 +196,8 @@ impl<K: Key, N: Drop, E: Drop> Graph<K, N, E> {
         }
     }
 
-    /// Removes every edge from a node or to it, and no other. Their keys are spent for good.
+    /// Removes every edge from a node or to it, and no other. Their keys are spent for good. The room
+    /// and the capacity stay.
     ///
     /// ```
     /// let mut graph: Graph<NodeKey, &str, u64> = Graph::new(alloc)?;
@@ -207,6 +211,7 @@ impl<K: Key, N: Drop, E: Drop> Graph<K, N, E> {
             (λ e. cond (avoids (K.data_of node) e) (Some e) None) (map.get self.old.edges.live k) }
         ensures for_good { (k : KeyOf) (e : SeenEdge E) → map.get self.old.edges.live k ≡ Some e → touches (K.data_of node) e ≡ true → IsSpent self.new.edges k }
         ensures leaves { Leaves self.old.edges self.new.edges }
+        ensures capacity { self.new.edges.capacity ≡ self.old.edges.capacity }
         ensures out { (k : KeyOf) → edges_at self.new.out k ≡ filter (map.contains_key self.new.edges.live) (edges_at self.old.out k) }
         ensures into { (k : KeyOf) → edges_at self.new.into k ≡ filter (map.contains_key self.new.edges.live) (edges_at self.old.into k) }
         ensures nodes { self.new.nodes ≡ self.old.nodes }
@@ -218,7 +223,8 @@ impl<K: Key, N: Drop, E: Drop> Graph<K, N, E> {
     }
 
     /// Removes a node, and every edge from it or to it. It returns the node's value, or `None` if
-    /// the node doesn't exist. The key of the node and those of its edges are never used again.
+    /// the node doesn't exist. The key of the node and those of its edges are never used again. The
+    /// room and the capacity stay.
     ///
     /// ```
     /// let mut graph: Graph<NodeKey, &str, u64> = Graph::new(alloc)?;
@@ -236,6 +242,7 @@ impl<K: Key, N: Drop, E: Drop> Graph<K, N, E> {
         ensures unchanged { IfNone result (self.new.nodes ≡ self.old.nodes) }
         ensures for_good { OnSome result (IsSpent self.new.nodes (K.data_of node)) }
         ensures leaves { Leaves self.old.nodes self.new.nodes }
+        ensures capacity { self.new.nodes.capacity ≡ self.old.nodes.capacity }
         ensures gone { KeepsSpent self.old.nodes self.new.nodes }
 
         // Its edges are gone, and no others.
@@ -243,6 +250,7 @@ impl<K: Key, N: Drop, E: Drop> Graph<K, N, E> {
             (λ e. cond (avoids (K.data_of node) e) (Some e) None) (map.get self.old.edges.live k) }
         ensures edges_for_good { (k : KeyOf) (e : SeenEdge E) → map.get self.old.edges.live k ≡ Some e → touches (K.data_of node) e ≡ true → IsSpent self.new.edges k }
         ensures edges_leave { Leaves self.old.edges self.new.edges }
+        ensures edges_capacity { self.new.edges.capacity ≡ self.old.edges.capacity }
         ensures edges_gone { KeepsSpent self.old.edges self.new.edges }
         ensures out { (k : KeyOf) → edges_at self.new.out k ≡ filter (map.contains_key self.new.edges.live) (edges_at self.old.out k) }
         ensures into { (k : KeyOf) → edges_at self.new.into k ≡ filter (map.contains_key self.new.edges.live) (edges_at self.old.into k) }
@@ -251,7 +259,8 @@ impl<K: Key, N: Drop, E: Drop> Graph<K, N, E> {
         take_node(&mut self.nodes, node)
     }
 
-    /// Removes all nodes and all edges. Their keys are never used again. The room stays.
+    /// Removes all nodes and all edges. Their keys are never used again. The room and the
+    /// capacity stay.
     ///
     /// It takes time linear in the number of slots.
     ///
@@ -266,6 +275,8 @@ impl<K: Key, N: Drop, E: Drop> Graph<K, N, E> {
         ensures edges { self.new.edges.live ≡ map.empty }
         ensures nodes_leave { Leaves self.old.nodes self.new.nodes }
         ensures edges_leave { Leaves self.old.edges self.new.edges }
+        ensures nodes_capacity { self.new.nodes.capacity ≡ self.old.nodes.capacity }
+        ensures edges_capacity { self.new.edges.capacity ≡ self.old.edges.capacity }
         ensures for_good { (k : KeyOf) → IsLive self.old.nodes k → IsSpent self.new.nodes k }
         ensures edges_for_good { (k : KeyOf) → IsLive self.old.edges k → IsSpent self.new.edges k }
     {

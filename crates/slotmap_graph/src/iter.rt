@@ -13,7 +13,7 @@ use std::marker::Model;
 /// from both ends: see [`Graph::edges_from`] and [`Graph::edges_to`].
 ///
 /// A contract sees it as the list of the keys that it will still yield. After its end it yields
-/// nothing. A clone yields the same keys; cloning allocates nothing.
+/// nothing. A clone yields the same keys; cloning can't fail.
 ///
 /// [`Graph::edges_from`]: crate::Graph::edges_from
 /// [`Graph::edges_to`]: crate::Graph::edges_to

@@ -8,6 +8,8 @@
 //! - A removed key stays stale, also that of an edge.
 //! - The edges of a node are listed in the order in which they were added.
 //! - A call that fails changes nothing, and returns the value.
+//! - Where there is room, no node or edge is refused for memory, and the capacity stays. No removal
+//!   loses room or changes a capacity.
 //!
 //! Each node has a list of its outgoing edges, and one of its incoming edges. They are links between
 //! the edges: there are two maps, one of nodes and one of edges, and nothing else is allocated. So a
@@ -177,7 +179,8 @@ impl<K: Key, N: Drop, E: Drop> Graph<K, N, E> {
         Ok(Graph { nodes, edges })
     }
 
-    /// Reserves room for `additional` more nodes: to add them can't fail then.
+    /// Reserves room for `additional` more nodes: to add them can't fail then, and the
+    /// capacity stays.
     ///
     /// It fails with `TooGreat` if more than 4294967294 nodes would be there, and with `Memory` if
     /// memory runs out. The graph has the same nodes then.
@@ -198,7 +201,8 @@ impl<K: Key, N: Drop, E: Drop> Graph<K, N, E> {
         self.nodes.reserve(additional)
     }
 
-    /// Reserves room for `additional` more edges: to add them can't fail then, if their nodes exist.
+    /// Reserves room for `additional` more edges: to add them can't fail then, if their nodes exist,
+    /// and the capacity stays.
     ///
     /// It fails with `TooGreat` if more than 4294967294 edges would be there, and with `Memory` if
     /// memory runs out. The graph has the same edges then.

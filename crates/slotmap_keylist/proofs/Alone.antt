@@ -1,12 +1,12 @@
 -- A content without its values, which is one with the same value for each: what each change of a map does to it.
-use Rattle.std.proofs.Common.{◌≡◌, true, Option, Some, None, is_some, refl, sym, ap, ◌∙◌, arith}
+use Rattle.std.proofs.Common.{◌≡◌, ℕ, true, Option, Some, None, is_some, refl, sym, ap, ◌∙◌, arith}
 use Rattle.std.specs.Option.{option_map}
 use Rattle.std.specs.FinMap as map
-use Rattle.slotmap.specs.Words.{Key, key_cmp, Content, IsContent, IsLive, IsSpent, KeepsSpent, IsNew, Inserts, Removes, Keeps, IsCopy, IsCloneBy, without_values, with_value, LacksRoom, used}
+use Rattle.slotmap.specs.Words.{Key, key_cmp, Content, IsContent, IsLive, IsSpent, KeepsSpent, IsNew, Inserts, Removes, Keeps, Leaves, MakesRoom, IsCopy, IsCloneBy, without_values, with_value, LacksRoom, used}
 use Rattle.slotmap.specs.KeysAlone.{keys_of}
 use Rattle.slotmap.proofs.Callers.{clone_copies, contains-keys_of, len-keys_of, spent_alone, alone_spent, keeps_spent_alone, spent_finds_nothing, inserted_not_spent}
 use Rattle.slotmap_keylist.specs.Mapped.{map_values}
-use Rattle.slotmap_keylist.proofs.Mapped.{mapped-new, mapped-inserts, mapped-removes, mapped-keeps, mapped-clones, mapped-written, mapped-lacks, get-mapped, len-mapped, some-mapped, is_mapped}
+use Rattle.slotmap_keylist.proofs.Mapped.{mapped-new, mapped-inserts, mapped-removes, mapped-keeps, mapped-leaves, mapped-room, mapped-clones, mapped-written, mapped-lacks, get-mapped, len-mapped, some-mapped, is_mapped}
 
 same_units : (a b : Option (Unit {0})) → is_some a ≡ is_some b → a ≡ b
 same_units None None is = refl
@@ -55,6 +55,14 @@ module _ {V : Type 0} where
   pub alone-keeps : (old new : Content V) → Keeps old new → Keeps (without_values old) (without_values new)
   unfolding keys_of map_values
   alone-keeps old new keeps = mapped-keeps none old new keeps
+
+  pub alone-leaves : (old new : Content V) → Leaves old new → Leaves (without_values old) (without_values new)
+  unfolding keys_of map_values
+  alone-leaves old new leaves = mapped-leaves none old new leaves
+
+  pub alone-room : (old new : Content V) (n : ℕ) (ok : Type 0) → MakesRoom true old n ok new → MakesRoom true (without_values old) n ok (without_values new)
+  unfolding keys_of map_values
+  alone-room old new n ok makes = mapped-room none old new n ok makes
 
   pub alone-copy : (is_clone : V → V → Type 0) (source copy : Content V) → IsCloneBy is_clone source copy → IsCopy (without_values source) (without_values copy)
   unfolding keys_of map_values

@@ -1,9 +1,9 @@
 -- Many values that are added at the back.
 use Rattle.std.specs.FinMap as map
 use Rattle.std.specs.FinSet as set
-use Rattle.std.proofs.Common.{◌≡◌, ◌≤◌, ◌⊎◌, cond, List, [], ◌∷◌, ◌++◌, length, map as list_map, Some, None, is_some, ◌+◌, IsSome, Result, Ok, Err, IsOk, IfOk, inl, inr, refl, sym, ap, subst, ◌∙◌, arith, append_assoc, append-nil}
-use Rattle.slotmap.specs.Words.{Key, key_cmp, Content, IsNew, IsSpent, KeepsSpent, Inserts, Keeps, used}
-use Rattle.slotmap.proofs.Callers.{keys_total, exact_keys, tied}
+use Rattle.std.proofs.Common.{ℕ, zero, suc, IsErr, ◌<◌, ◌≡◌, ◌≤◌, ◌⊎◌, cond, List, [], ◌∷◌, ◌++◌, length, map as list_map, Some, None, is_some, ◌+◌, IsSome, Result, Ok, Err, IsOk, IfOk, inl, inr, refl, sym, ap, subst, ◌∙◌, arith, append_assoc, append-nil}
+use Rattle.slotmap.specs.Words.{Key, key_cmp, Content, IsNew, IsSpent, KeepsSpent, Inserts, Keeps, Leaves, used}
+use Rattle.slotmap.proofs.Callers.{keys_total, exact_keys, leaves_in_turn, leaves_none, tied}
 use Rattle.slotmap_list.specs.Sequence.{Sequence, value_of, TakesFront}
 use Rattle.slotmap_list.specs.declared.PushError.{PushError}
 use Rattle.slotmap_list.specs.declared.PushError.TheVariants.{Full, Memory}
@@ -14,6 +14,12 @@ use Rattle.slotmap_list.specs.Additions.{Adds, FullAtLimit, refused}
 pub ok_so : {A E : Type 0} (r : Result A E) (P Q : A → Type 0) → IsOk r → IfOk r P → IfOk r Q → (x : A) × P x × Q x
 ok_so (Ok x) P Q ok p q = (x, p, q)
 ok_so (Err e) P Q ok p q = absurd (cc)
+
+-- where a call fails that can't fail with room, there is none
+pub no_room : {A E : Type 0} (n : ℕ) (r : Result A E) → IsErr r → (0 < n → IsOk r) → n ≡ 0
+no_room zero r err fits = refl
+no_room (suc n) (Ok x) err fits = absurd (cc)
+no_room (suc n) (Err e) err fits = absurd (let ok = fits (omega arith) in cc)
 
 -- how many slots are in use: none in a new map, one more after an insert, and as many where a call keeps the content
 pub used_new : (c : Content (Unit {0})) → IsNew c → used c ≡ 0
@@ -66,16 +72,23 @@ module _ {T : Type 0} where
     pub room : length other.elements ≤ now.cursors.room
     pub gone : KeepsSpent old.cursors now.cursors
     pub gone_other : KeepsSpent old_other.cursors other.cursors
+    pub in_place : length old_other.elements ≤ old.cursors.room → now.cursors.capacity ≡ old.cursors.capacity
+    pub leaves_other : Leaves old_other.cursors other.cursors
+    pub capacity_other : other.cursors.capacity ≡ old_other.cursors.capacity
     pub taken : (k : Key) → IsSome (value_of k old_other.elements) → IsSome (value_of k other.elements) ⊎ IsSpent other.cursors k
 
-  pub moving_start : (old now other : Sequence T) → now.elements ≡ old.elements → length other.elements ≤ now.cursors.room → KeepsSpent old.cursors now.cursors → Moving old other now other
-  moving_start old now other same room gone = record {
+  pub moving_start : (old now other : Sequence T) → now.elements ≡ old.elements → length other.elements ≤ now.cursors.room → KeepsSpent old.cursors now.cursors
+      → (length other.elements ≤ old.cursors.room → now.cursors.capacity ≡ old.cursors.capacity) → Moving old other now other
+  moving_start old now other same room gone in_place = record {
     moved = [];
     adds = subst (Adds old.elements []) (sym same) (Adds-start old.elements);
     ahead = refl;
     room = room;
     gone = gone;
     gone_other = λ k spent. spent;
+    in_place = in_place;
+    leaves_other = leaves_none other.cursors;
+    capacity_other = refl;
     taken = λ k there. inl there;
   }
 
@@ -84,15 +97,19 @@ module _ {T : Type 0} where
 
   pub moving_step : (old old_other now other next next_other : Sequence T) (k q : Key) (v : T) → Moving old old_other now other
       → TakesFront other.elements (Some (k, v)) next_other.elements → IsSpent next_other.cursors k → KeepsSpent other.cursors next_other.cursors
+      → Leaves other.cursors next_other.cursors → next_other.cursors.capacity ≡ other.cursors.capacity → next.cursors.capacity ≡ now.cursors.capacity
       → next.elements ≡ now.elements ++ (q, v) ∷ [] → Inserts now.cursors q tt next.cursors → KeepsSpent now.cursors next.cursors
       → Moving old old_other next next_other
-  moving_step old old_other now other next next_other k q v m takes spent keeps_other adds inserts keeps = record {
+  moving_step old old_other now other next next_other k q v m takes spent keeps_other leaves_other capacity_other in_place adds inserts keeps = record {
     moved = m.moved ++ v ∷ [];
     adds = Adds-push old.elements now.elements next.elements m.moved q v m.adds adds;
     ahead = append_assoc m.moved (v ∷ []) (values next_other.elements) ∙ ap (λ l. m.moved ++ l) (sym (ap values takes)) ∙ m.ahead;
     room = (let long = ap length takes in let more = inserts.room in let had = m.room in omega arith);
     gone = λ u s. keeps u (m.gone u s);
     gone_other = λ u s. keeps_other u (m.gone_other u s);
+    in_place = λ fits. in_place ∙ m.in_place fits;
+    leaves_other = leaves_in_turn old_other.cursors other.cursors next_other.cursors m.leaves_other leaves_other;
+    capacity_other = capacity_other ∙ m.capacity_other;
     taken = λ u there. elim (m.taken u there) [
       | inl here ↦ elim (stands_or_first k v next_other.elements u (subst (λ l. IsSome (value_of u l)) takes here)) [
         | inl still ↦ inl still

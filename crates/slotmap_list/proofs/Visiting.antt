@@ -3,8 +3,8 @@ use Rattle.std.proofs.Common.{◌≡◌, ◌<◌, ◌+◌, ℕ, length, arith, B
 use denote.Param.Always.{always_mut, mut_next}
 use Rattle.std.specs.Fn.{Mut, Called, Takes}
 use Rattle.std.specs.Borrow.{MutBor}
-use Rattle.slotmap.specs.Words.{Key, IsSpent, KeepsSpent}
-use Rattle.slotmap.proofs.Callers.{same_or_other}
+use Rattle.slotmap.specs.Words.{Key, IsSpent, KeepsSpent, Leaves}
+use Rattle.slotmap.proofs.Callers.{leaves_in_turn, leaves_none, same_or_other}
 use Rattle.slotmap_list.specs.Sequence.{Sequence, value_of, first_or, key_after, with_value_at, without, IsOnce}
 use Rattle.slotmap_list.specs.Retain.{RetainsOne, RetainsEach, CallableInOrder}
 use Rattle.slotmap_list.proofs.Elements.{same, one_other, times, times-append, times_none, none_there, absent_before, apart_first, itself_first, once_drop, front_of, no_first}
@@ -49,6 +49,8 @@ module _ {F K T : Type 0} (g : Mut F (K × (MutBor T × Unit {0})) (Bool × (Mut
     pub at_is : at ≡ first_or rest None
     pub for_good : (k : Key) → IsSome (value_of k old.elements) → value_of k now.elements ≡ None → IsSpent now.cursors k
     pub gone : KeepsSpent old.cursors now.cursors
+    pub leaves : Leaves old.cursors now.cursors
+    pub capacity : now.cursors.capacity ≡ old.cursors.capacity
 
   pub retaining_start : (old : Sequence T) (f : F) (at : Option Key) → at ≡ first_or old.elements None → Retaining old f old at f
   retaining_start old f at is = record {
@@ -61,6 +63,8 @@ module _ {F K T : Type 0} (g : Mut F (K × (MutBor T × Unit {0})) (Bool × (Mut
     at_is = is;
     for_good = λ k there none. absurd (let h = ap is_some none in cc);
     gone = λ k spent. spent;
+    leaves = leaves_none old.cursors;
+    capacity = refl;
   }
 
   pub retaining_end : (old : Sequence T) (f : F) (now : Sequence T) (f' : F) → Retaining old f now None f' → RetainsEach g data_of f old.elements now.elements f'
@@ -137,8 +141,9 @@ module _ {F K T : Type 0} {g : Mut F (K × (MutBor T × Unit {0})) (Bool × (Mut
 
       -- one more element was visited: k is left, or it is gone for good
       step : {new : Sequence T} (more : List (Key × T)) → RetainsOne g data_of f' (k, here.0) more f'' → new.elements ≡ (r.left ++ more) ++ here.1
-          → (value_of k new.elements ≡ None → IsSpent new.cursors k) → KeepsSpent now.cursors new.cursors → Retaining g data_of old f new next f''
-      step {new} more visit new_is for_good keeps = record {
+          → (value_of k new.elements ≡ None → IsSpent new.cursors k) → KeepsSpent now.cursors new.cursors → Leaves now.cursors new.cursors → new.cursors.capacity ≡ now.cursors.capacity
+          → Retaining g data_of old f new next f''
+      step {new} more visit new_is for_good keeps leaves capacity = record {
         done = r.done ++ (k, here.0) ∷ [];
         left = r.left ++ more;
         rest = here.1;
@@ -157,16 +162,18 @@ module _ {F K T : Type 0} {g : Mut F (K × (MutBor T × Unit {0})) (Bool × (Mut
               omega arith)))
         ]);
         gone = λ u s. keeps u (r.gone u s);
+        leaves = leaves_in_turn old.cursors now.cursors new.cursors r.leaves leaves;
+        capacity = capacity ∙ r.capacity;
       }
 
       pub retaining_kept : stays ≡ true → Retaining g data_of old f (record now { elements = with_value_at k after.now now.elements }) next f''
       retaining_kept keep = step ((k, after.now) ∷ []) (subst (λ b. RetainsOne g data_of f' (k, here.0) (cond b ((k, after.now) ∷ []) []) f'') keep one) kept_is
-          (λ none. absurd (let some = written_stands in let h = sym (ap is_some none) ∙ some in cc)) (λ u spent. spent)
+          (λ none. absurd (let some = written_stands in let h = sym (ap is_some none) ∙ some in cc)) (λ u spent. spent) (leaves_none now.cursors) refl
 
       pub retaining_dropped : {new : Sequence T} → stays ≡ false → new.elements ≡ without k (with_value_at k after.now now.elements) → IsSpent new.cursors k → KeepsSpent now.cursors new.cursors
-          → Retaining g data_of old f new next f''
-      retaining_dropped drop removed spent keeps = step [] (subst (λ b. RetainsOne g data_of f' (k, here.0) (cond b ((k, after.now) ∷ []) []) f'') drop one)
-          (dropped_is removed ∙ ap (λ l. l ++ here.1) (sym (append-nil r.left))) (λ _. spent) keeps
+          → Leaves now.cursors new.cursors → new.cursors.capacity ≡ now.cursors.capacity → Retaining g data_of old f new next f''
+      retaining_dropped drop removed spent keeps leaves capacity = step [] (subst (λ b. RetainsOne g data_of f' (k, here.0) (cond b ((k, after.now) ∷ []) []) f'') drop one)
+          (dropped_is removed ∙ ap (λ l. l ++ here.1) (sym (append-nil r.left))) (λ _. spent) keeps leaves capacity
 
 -- a closure that can always be called
 module _ {F K T : Type 0} (g : Mut F (K × (MutBor T × Unit {0})) (Bool × (MutBor T × Unit {0}))) (data_of : K → Key) where

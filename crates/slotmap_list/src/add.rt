@@ -24,6 +24,7 @@ impl<K: Key, T: Drop> StableList<K, T> {
         ensures err { IfErr result (RefusesPush self.old.cursors value) }
         ensures reuses { 0 < map.len self.old.cursors.next → IsOk result }
         ensures room { 0 < self.old.cursors.room → IsOk result }
+        ensures in_place { 0 < self.old.cursors.room → self.new.cursors.capacity ≡ self.old.cursors.capacity }
         ensures unchanged { OnErr result (self.new.elements ≡ self.old.elements) }
         ensures keeps { OnErr result (Keeps self.old.cursors self.new.cursors) }
         ensures gone { KeepsSpent self.old.cursors self.new.cursors }
@@ -53,8 +54,8 @@ impl<K: Key, T: Drop> StableList<K, T> {
 
     /// Adds an element at the back, and returns its cursor.
     ///
-    /// If a slot is vacant or room was reserved, memory can't run out. If the call fails, the error
-    /// holds the value, and the list has the same elements.
+    /// If a slot is vacant or room was reserved, memory can't run out, and the capacity stays. If the
+    /// call fails, the error holds the value, and the list has the same elements.
     pub fn push_back(&mut self, value: T) -> Result<K, PushError<T>>
         ensures ok { IfOk result (λ key. self.new.elements ≡ self.old.elements ++ (K.data_of key, value) ∷ []) }
         ensures fresh { IfOk result (λ key. value_of (K.data_of key) self.old.elements ≡ None) }
@@ -64,6 +65,7 @@ impl<K: Key, T: Drop> StableList<K, T> {
         ensures err { IfErr result (RefusesPush self.old.cursors value) }
         ensures reuses { 0 < map.len self.old.cursors.next → IsOk result }
         ensures room { 0 < self.old.cursors.room → IsOk result }
+        ensures in_place { 0 < self.old.cursors.room → self.new.cursors.capacity ≡ self.old.cursors.capacity }
         ensures unchanged { OnErr result (self.new.elements ≡ self.old.elements) }
         ensures keeps { OnErr result (Keeps self.old.cursors self.new.cursors) }
         ensures gone { KeepsSpent self.old.cursors self.new.cursors }
@@ -73,8 +75,8 @@ impl<K: Key, T: Drop> StableList<K, T> {
 
     /// Adds an element at the front, and returns its cursor.
     ///
-    /// If a slot is vacant or room was reserved, memory can't run out. If the call fails, the error
-    /// holds the value, and the list has the same elements.
+    /// If a slot is vacant or room was reserved, memory can't run out, and the capacity stays. If the
+    /// call fails, the error holds the value, and the list has the same elements.
     pub fn push_front(&mut self, value: T) -> Result<K, PushError<T>>
         ensures ok { IfOk result (λ key. self.new.elements ≡ (K.data_of key, value) ∷ self.old.elements) }
         ensures fresh { IfOk result (λ key. value_of (K.data_of key) self.old.elements ≡ None) }
@@ -83,6 +85,7 @@ impl<K: Key, T: Drop> StableList<K, T> {
         ensures err { IfErr result (RefusesPush self.old.cursors value) }
         ensures reuses { 0 < map.len self.old.cursors.next → IsOk result }
         ensures room { 0 < self.old.cursors.room → IsOk result }
+        ensures in_place { 0 < self.old.cursors.room → self.new.cursors.capacity ≡ self.old.cursors.capacity }
         ensures unchanged { OnErr result (self.new.elements ≡ self.old.elements) }
         ensures keeps { OnErr result (Keeps self.old.cursors self.new.cursors) }
         ensures gone { KeepsSpent self.old.cursors self.new.cursors }
@@ -105,6 +108,7 @@ impl<K: Key, T: Drop> StableList<K, T> {
         ensures err { IfErr result (RefusesPlace self.old cursor value) }
         ensures reuses { IsSome (value_of cursor self.old.elements) → 0 < map.len self.old.cursors.next → IsOk result }
         ensures room { IsSome (value_of cursor self.old.elements) → 0 < self.old.cursors.room → IsOk result }
+        ensures in_place { 0 < self.old.cursors.room → self.new.cursors.capacity ≡ self.old.cursors.capacity }
         ensures unchanged { OnErr result (self.new.elements ≡ self.old.elements) }
         ensures keeps { OnErr result (Keeps self.old.cursors self.new.cursors) }
         ensures gone { KeepsSpent self.old.cursors self.new.cursors }
@@ -121,8 +125,8 @@ impl<K: Key, T: Drop> StableList<K, T> {
 
     /// Adds an element after that of a cursor, and returns its cursor.
     ///
-    /// If a slot is vacant or room was reserved, memory can't run out. If the call fails, the error
-    /// holds the value, and the list has the same elements.
+    /// If a slot is vacant or room was reserved, memory can't run out, and the capacity stays. If the
+    /// call fails, the error holds the value, and the list has the same elements.
     pub fn insert_after(&mut self, cursor: K, value: T) -> Result<K, PlaceError<T>>
         ensures ok { IfOk result (λ key. self.new.elements ≡ put_after (K.data_of cursor) (K.data_of key, value) self.old.elements) }
         ensures fresh { IfOk result (λ key. value_of (K.data_of key) self.old.elements ≡ None) }
@@ -132,6 +136,7 @@ impl<K: Key, T: Drop> StableList<K, T> {
         ensures err { IfErr result (RefusesPlace self.old (K.data_of cursor) value) }
         ensures reuses { IsSome (value_of (K.data_of cursor) self.old.elements) → 0 < map.len self.old.cursors.next → IsOk result }
         ensures room { IsSome (value_of (K.data_of cursor) self.old.elements) → 0 < self.old.cursors.room → IsOk result }
+        ensures in_place { 0 < self.old.cursors.room → self.new.cursors.capacity ≡ self.old.cursors.capacity }
         ensures unchanged { OnErr result (self.new.elements ≡ self.old.elements) }
         ensures keeps { OnErr result (Keeps self.old.cursors self.new.cursors) }
         ensures gone { KeepsSpent self.old.cursors self.new.cursors }
@@ -141,8 +146,8 @@ impl<K: Key, T: Drop> StableList<K, T> {
 
     /// Adds an element before that of a cursor, and returns its cursor.
     ///
-    /// If a slot is vacant or room was reserved, memory can't run out. If the call fails, the error
-    /// holds the value, and the list has the same elements.
+    /// If a slot is vacant or room was reserved, memory can't run out, and the capacity stays. If the
+    /// call fails, the error holds the value, and the list has the same elements.
     pub fn insert_before(&mut self, cursor: K, value: T) -> Result<K, PlaceError<T>>
         ensures ok { IfOk result (λ key. self.new.elements ≡ put_before (K.data_of cursor) (K.data_of key, value) self.old.elements) }
         ensures fresh { IfOk result (λ key. value_of (K.data_of key) self.old.elements ≡ None) }
@@ -152,6 +157,7 @@ impl<K: Key, T: Drop> StableList<K, T> {
         ensures err { IfErr result (RefusesPlace self.old (K.data_of cursor) value) }
         ensures reuses { IsSome (value_of (K.data_of cursor) self.old.elements) → 0 < map.len self.old.cursors.next → IsOk result }
         ensures room { IsSome (value_of (K.data_of cursor) self.old.elements) → 0 < self.old.cursors.room → IsOk result }
+        ensures in_place { 0 < self.old.cursors.room → self.new.cursors.capacity ≡ self.old.cursors.capacity }
         ensures unchanged { OnErr result (self.new.elements ≡ self.old.elements) }
         ensures keeps { OnErr result (Keeps self.old.cursors self.new.cursors) }
         ensures gone { KeepsSpent self.old.cursors self.new.cursors }

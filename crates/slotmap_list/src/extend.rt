@@ -2,7 +2,8 @@
 
 ghost use Rattle.std.specs.Prelude.{◌≡◌, ◌+◌, ◌≤◌, [], List, IsOk, IfOk, OnOk, IfErr, OnErr, IfSome, IsSome, Some, length, map as list_map};
 ghost use Rattle.std.specs.Iterator.{IsFinite, Drains, YieldsThen};
-ghost use Rattle.slotmap.specs.Words.{Key as KeyOf, IsSpent, Keeps, KeepsSpent, RefusesCapacity, used};
+ghost use Rattle.slotmap.specs.Words.{Key as KeyOf, IsSpent, Keeps, KeepsSpent, Leaves, RefusesCapacity, used};
+ghost use Rattle.std.specs.FinMap as map;
 ghost use Rattle.slotmap_list.specs.Sequence.{value_of};
 ghost use Rattle.slotmap_list.specs.Additions.{Adds, AddsAll, FullAfter, FullAtLimit, refused};
 
@@ -15,8 +16,9 @@ impl<K: Key, T: Drop> StableList<K, T> {
     ///
     /// If a value can't be added, the error holds it. It is `Full` if the list then has as many elements
     /// as a map can hold, counting those whose slots are retired, else `Memory`. The values before it are
-    /// then in the list, and the rest of the iterator is dropped. The iterator has to end. It takes
-    /// constant time a value, unless a vector grows. In Rust this is the trait `Extend`.
+    /// then in the list, and the rest of the iterator is dropped. It can't fail while the values fit into
+    /// the room, and the capacity stays then. The iterator has to end. It takes constant time a value,
+    /// unless a vector grows. In Rust this is the trait `Extend`.
     ///
     /// ```
     /// let mut list = StableList::new(alloc)?;
@@ -31,6 +33,11 @@ impl<K: Key, T: Drop> StableList<K, T> {
             × AddsAll it self.old.elements result self.new.elements I.IntoIter.next_gives }
         ensures used { used self.new.cursors + length self.old.elements ≡ used self.old.cursors + length self.new.elements }
         ensures err { IfErr result (FullAtLimit self.new.cursors) }
+
+        // It can't fail while the values fit into the room, and the capacity stays then.
+        ensures room { OnErr result (self.old.cursors.room + length self.old.elements ≤ length self.new.elements) }
+        ensures in_place { OnOk result (length self.new.elements ≤ self.old.cursors.room + length self.old.elements
+            → self.new.cursors.capacity ≡ self.old.cursors.capacity) }
         ensures gone { KeepsSpent self.old.cursors self.new.cursors }
     {
         for value in iter {
@@ -79,8 +86,9 @@ impl<K: Key, T: Drop> StableList<K, T> {
     ///
     /// Room is made first. So if the call fails, both lists have the same elements. It fails with
     /// `TooGreat` if more than 4294967294 elements would be there, counting those whose slots are
-    /// retired, and with `Memory` if memory runs out. It takes time linear in the number of elements of
-    /// the other list.
+    /// retired, and with `Memory` if memory runs out. Where there is room for the values, the call can't
+    /// fail, and the capacity stays. The room and the capacity of the other list stay. It takes time
+    /// linear in the number of elements of the other list.
     ///
     /// ```
     /// let mut list = StableList::new(alloc)?;
@@ -98,10 +106,16 @@ impl<K: Key, T: Drop> StableList<K, T> {
 
         // Why the call failed, and what that leaves.
         ensures had_room { length other.old.elements ≤ self.old.cursors.room → IsOk result }
+        ensures reuses { length other.old.elements ≤ map.len self.old.cursors.next → IsOk result }
         ensures err { IfErr result (RefusesCapacity (used self.old.cursors + length other.old.elements)) }
         ensures same_elements { OnErr result (self.new.elements ≡ self.old.elements) }
         ensures keeps { OnErr result (Keeps self.old.cursors self.new.cursors) }
         ensures same_other { OnErr result (other.new ≡ other.old) }
+
+        // What stays: the capacity, if there is room, and the room and the capacity of the other list.
+        ensures in_place { length other.old.elements ≤ self.old.cursors.room → self.new.cursors.capacity ≡ self.old.cursors.capacity }
+        ensures leaves_other { Leaves other.old.cursors other.new.cursors }
+        ensures capacity_other { other.new.cursors.capacity ≡ other.old.cursors.capacity }
 
         // What never comes again.
         ensures gone { KeepsSpent self.old.cursors self.new.cursors }

@@ -12,8 +12,8 @@ use std::marker::Model;
 /// An iterator over the elements of a list by value, from both ends. A `for` over a list takes it.
 ///
 /// A contract sees it as the list of the elements that it will still yield, from front to back. After
-/// its end it yields nothing. Each step takes constant time and allocates nothing. Dropping it drops
-/// the values that are left.
+/// its end it yields nothing. Each step takes constant time and can't fail. Dropping it drops the
+/// values that are left.
 ///
 /// ```
 /// let mut list = StableList::new(alloc)?;

@@ -7,7 +7,9 @@
 //!   contract gives the resulting list.
 //! - The cursor of a removed element is never used again for another element.
 //! - A call with a cursor that isn't in the list is refused, and returns the value.
-//! - A call that moves an element allocates nothing, and the element keeps its cursor.
+//! - An element that is moved keeps its cursor, and the capacity stays.
+//! - Where there is room, no added element is refused for memory, and the capacity stays. No removal
+//!   loses room or changes the capacity.
 //! - An iterator yields the elements from front to back, or from back to front.
 //!
 //! Each call takes constant time, except for `to_vec` and `clear`. These take time linear in the number
@@ -30,7 +32,7 @@
 
 ghost use Rattle.std.specs.Prelude.{◌≡◌, ◌+◌, ◌≤◌, [], Some, None, true, IsOk, IfOk, OnOk, IfErr, IfSome, IsTrue, ◌↔◌, is_some, length, option_copied, option_map, map as list_map};
 ghost use Rattle.std.specs.FinMap as map;
-ghost use Rattle.slotmap.specs.Words.{IsNew, IsSpent, Keeps, KeepsSpent, RefusesCapacity, used};
+ghost use Rattle.slotmap.specs.Words.{IsNew, IsSpent, Keeps, KeepsSpent, MakesRoom, RefusesCapacity, used};
 ghost use Rattle.slotmap_list.specs.Sequence.{value_of, first_or, last_or, key_after, key_before, IsOnce};
 
 use slotmap::{DefaultKey, Key, ReserveError, SlotMap};
@@ -190,8 +192,9 @@ impl<K: Key, T: Drop> StableList<K, T> {
 
     /// Reserves room for `additional` more elements.
     ///
-    /// To add the next `additional` elements can't fail. The errors are these; either leaves the
-    /// same elements:
+    /// To add the next `additional` elements can't fail, and the capacity stays then. If there is room
+    /// for them already, the call succeeds and changes nothing. The errors are these; either leaves
+    /// the same elements:
     ///
     /// - `TooGreat`: more than 4294967294 elements would be there, counting those whose slots are
     ///   retired.
@@ -206,6 +209,7 @@ impl<K: Key, T: Drop> StableList<K, T> {
     /// assert_eq!(rt; list.capacity(), capacity);
     /// ```
     pub fn reserve(&mut self, additional: usize) -> Result<(), ReserveError>
+        ensures makes_room { MakesRoom true self.old.cursors additional (IsOk result) self.new.cursors }
         ensures room { OnOk result (additional ≤ self.new.cursors.room) }
         ensures had_room { additional ≤ self.old.cursors.room → IsOk result }
         ensures reuses { additional ≤ map.len self.old.cursors.next → IsOk result }

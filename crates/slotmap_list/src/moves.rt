@@ -48,7 +48,7 @@ impl<K: Key, T: Drop> StableList<K, T> {
 
     /// Moves the element of a cursor to the front. It returns `false` if the cursor isn't in the list.
     ///
-    /// Constant time. Nothing is allocated, and the element keeps its cursor.
+    /// Constant time. The element keeps its cursor, and the capacity stays.
     pub fn move_to_front(&mut self, cursor: K) -> bool
         ensures which { result ≡ is_some (value_of (K.data_of cursor) self.old.elements) }
         ensures moved { self.new ≡ record self.old { elements = moved_to_front (K.data_of cursor) self.old.elements } }
@@ -58,7 +58,7 @@ impl<K: Key, T: Drop> StableList<K, T> {
 
     /// Moves the element of a cursor to the back. It returns `false` if the cursor isn't in the list.
     ///
-    /// Constant time. Nothing is allocated, and the element keeps its cursor.
+    /// Constant time. The element keeps its cursor, and the capacity stays.
     pub fn move_to_back(&mut self, cursor: K) -> bool
         ensures which { result ≡ is_some (value_of (K.data_of cursor) self.old.elements) }
         ensures moved { self.new ≡ record self.old { elements = moved_to_back (K.data_of cursor) self.old.elements } }
@@ -69,7 +69,7 @@ impl<K: Key, T: Drop> StableList<K, T> {
     /// Moves the element of a cursor to the place after another one. It returns `false`, and changes
     /// nothing, if one of the two isn't in the list, or if they are the same.
     ///
-    /// Constant time. Nothing is allocated, and the element keeps its cursor.
+    /// Constant time. The element keeps its cursor, and the capacity stays.
     pub fn move_after(&mut self, cursor: K, other: K) -> bool
         ensures which { result ≡ are_two (K.data_of cursor) (K.data_of other) self.old.elements }
         ensures moved { self.new ≡ record self.old
@@ -81,7 +81,7 @@ impl<K: Key, T: Drop> StableList<K, T> {
     /// Moves the element of a cursor to the place before another one. It returns `false`, and changes
     /// nothing, if one of the two isn't in the list, or if they are the same.
     ///
-    /// Constant time. Nothing is allocated, and the element keeps its cursor.
+    /// Constant time. The element keeps its cursor, and the capacity stays.
     ///
     /// ```
     /// let mut list = StableList::new(alloc)?;
@@ -104,7 +104,7 @@ impl<K: Key, T: Drop> StableList<K, T> {
     ///
     /// Each element moves with its cursor and its value. So `list[cursor]` is what it was, and its
     /// neighbours are the other's. In a slice, where an index names a place, `swap` leaves the index
-    /// and moves the value. Constant time. Nothing is allocated.
+    /// and moves the value. Constant time. The capacity stays.
     ///
     /// ```
     /// let mut list = StableList::new(alloc)?;

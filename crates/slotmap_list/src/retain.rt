@@ -2,7 +2,7 @@
 
 ghost use Rattle.std.specs.Prelude.{◌≡◌, IsSome, None, Some};
 ghost use Rattle.std.specs.Borrow.{sem};
-ghost use Rattle.slotmap.specs.Words.{Key as KeyOf, IsSpent, KeepsSpent};
+ghost use Rattle.slotmap.specs.Words.{Key as KeyOf, IsSpent, KeepsSpent, Leaves};
 ghost use Rattle.slotmap_list.specs.Sequence.{value_of, without};
 ghost use Rattle.slotmap_list.specs.Retain.{RetainsEach, CallableInOrder};
 
@@ -31,6 +31,8 @@ impl<K: Key, T: Drop> StableList<K, T> {
         ensures removed { self.new.elements ≡ without key self.old.elements }
         ensures for_good { IsSpent self.new.cursors key }
         ensures gone { KeepsSpent self.old.cursors self.new.cursors }
+        ensures leaves { Leaves self.old.cursors self.new.cursors }
+        ensures capacity { self.new.cursors.capacity ≡ self.old.cursors.capacity }
     {
         self.take(key);
     }
@@ -39,8 +41,8 @@ impl<K: Key, T: Drop> StableList<K, T> {
     /// returns `false`.
     ///
     /// The closure gets the cursor and a mutable reference to the value. What it writes is kept. The
-    /// cursor of a removed element is never used again. It takes time linear in the number of
-    /// elements, and allocates nothing.
+    /// cursor of a removed element is never used again. The room and the capacity stay. It takes
+    /// time linear in the number of elements.
     ///
     /// ```
     /// let mut list = StableList::from_iter(alloc, vec![in alloc; 1, 2, 3]?).unwrap();
@@ -57,6 +59,8 @@ impl<K: Key, T: Drop> StableList<K, T> {
         ensures retained { (last : F) × RetainsEach F.FnMut K.data_of f self.old.elements self.new.elements last }
         ensures for_good { (k : KeyOf) → IsSome (value_of k self.old.elements) → value_of k self.new.elements ≡ None → IsSpent self.new.cursors k }
         ensures gone { KeepsSpent self.old.cursors self.new.cursors }
+        ensures leaves { Leaves self.old.cursors self.new.cursors }
+        ensures capacity { self.new.cursors.capacity ≡ self.old.cursors.capacity }
     {
         let mut at = self.first.get();
         while let Some(key) = at {

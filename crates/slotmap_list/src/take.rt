@@ -1,7 +1,7 @@
 //! The calls that remove elements.
 
 ghost use Rattle.std.specs.Prelude.{◌≡◌, [], IfNone, IfSome, OnSome, IsSome, None, option_map};
-ghost use Rattle.slotmap.specs.Words.{Key as KeyOf, IsSpent, KeepsSpent, Removes};
+ghost use Rattle.slotmap.specs.Words.{Key as KeyOf, IsSpent, KeepsSpent, Leaves, Removes};
 ghost use Rattle.slotmap_list.specs.Sequence.{value_of, without, TakesFront, TakesBack};
 
 use crate::StableList;
@@ -11,7 +11,7 @@ use slotmap_keylist::{KeyOrNull, inner, outer};
 
 impl<K: Key, T: Drop> StableList<K, T> {
     /// Removes the element of a cursor, and returns its value, or `None` if the cursor isn't in the
-    /// list. The cursor is never used again.
+    /// list. The cursor is never used again. The room and the capacity stay.
     pub fn remove(&mut self, cursor: K) -> Option<T>
         ensures value { result ≡ value_of (K.data_of cursor) self.old.elements }
         ensures removed { self.new.elements ≡ without (K.data_of cursor) self.old.elements }
@@ -19,6 +19,8 @@ impl<K: Key, T: Drop> StableList<K, T> {
         ensures cursors { OnSome result (Removes self.old.cursors (K.data_of cursor) self.new.cursors) }
         ensures for_good { OnSome result (IsSpent self.new.cursors (K.data_of cursor)) }
         ensures gone { KeepsSpent self.old.cursors self.new.cursors }
+        ensures leaves { Leaves self.old.cursors self.new.cursors }
+        ensures capacity { self.new.cursors.capacity ≡ self.old.cursors.capacity }
         ensures stale { IfNone result (self.new ≡ self.old) }
     {
         self.take(inner(cursor))
@@ -32,6 +34,8 @@ impl<K: Key, T: Drop> StableList<K, T> {
         ensures cursors { OnSome result (Removes self.old.cursors cursor self.new.cursors) }
         ensures for_good { OnSome result (IsSpent self.new.cursors cursor) }
         ensures gone { KeepsSpent self.old.cursors self.new.cursors }
+        ensures leaves { Leaves self.old.cursors self.new.cursors }
+        ensures capacity { self.new.cursors.capacity ≡ self.old.cursors.capacity }
         ensures stale { IfNone result (self.new ≡ self.old) }
     {
         let node = self.nodes.remove(cursor)?;
@@ -48,12 +52,14 @@ impl<K: Key, T: Drop> StableList<K, T> {
     }
 
     /// Removes the element at the front, and returns its cursor and its value, or `None` if the list
-    /// is empty. The cursor is never used again.
+    /// is empty. The cursor is never used again. The room and the capacity stay.
     pub fn pop_front(&mut self) -> Option<(K, T)>
         ensures front { TakesFront self.old.elements (option_map (λ e. (K.data_of e.0, e.1)) result) self.new.elements }
         ensures cursors { IfSome result (λ element. Removes self.old.cursors (K.data_of element.0) self.new.cursors) }
         ensures for_good { IfSome result (λ element. IsSpent self.new.cursors (K.data_of element.0)) }
         ensures gone { KeepsSpent self.old.cursors self.new.cursors }
+        ensures leaves { Leaves self.old.cursors self.new.cursors }
+        ensures capacity { self.new.cursors.capacity ≡ self.old.cursors.capacity }
         ensures empty { IfNone result (self.new ≡ self.old) }
     {
         let cursor = self.first.get()?;
@@ -62,12 +68,14 @@ impl<K: Key, T: Drop> StableList<K, T> {
     }
 
     /// Removes the element at the back, and returns its cursor and its value, or `None` if the list
-    /// is empty. The cursor is never used again.
+    /// is empty. The cursor is never used again. The room and the capacity stay.
     pub fn pop_back(&mut self) -> Option<(K, T)>
         ensures back { TakesBack self.old.elements (option_map (λ e. (K.data_of e.0, e.1)) result) self.new.elements }
         ensures cursors { IfSome result (λ element. Removes self.old.cursors (K.data_of element.0) self.new.cursors) }
         ensures for_good { IfSome result (λ element. IsSpent self.new.cursors (K.data_of element.0)) }
         ensures gone { KeepsSpent self.old.cursors self.new.cursors }
+        ensures leaves { Leaves self.old.cursors self.new.cursors }
+        ensures capacity { self.new.cursors.capacity ≡ self.old.cursors.capacity }
         ensures empty { IfNone result (self.new ≡ self.old) }
     {
         let cursor = self.last.get()?;
@@ -75,11 +83,13 @@ impl<K: Key, T: Drop> StableList<K, T> {
         Some((outer(cursor), value))
     }
 
-    /// Removes all elements. Their cursors are never used again.
+    /// Removes all elements. Their cursors are never used again. The room and the capacity stay.
     pub fn clear(&mut self)
         ensures empty { self.new.elements ≡ [] }
         ensures for_good { (k : KeyOf) → IsSome (value_of k self.old.elements) → IsSpent self.new.cursors k }
         ensures gone { KeepsSpent self.old.cursors self.new.cursors }
+        ensures leaves { Leaves self.old.cursors self.new.cursors }
+        ensures capacity { self.new.cursors.capacity ≡ self.old.cursors.capacity }
     {
         self.nodes.clear();
         self.first = KeyOrNull::none();

@@ -17,7 +17,7 @@ use std::marker::{Model, PhantomData};
 /// An iterator over the keys of a node's children, in order, from both ends: see [`Scene::children`].
 ///
 /// A contract sees it as the list of the keys that it will still yield. A clone yields the same keys;
-/// cloning allocates nothing.
+/// cloning can't fail.
 ///
 /// [`Scene::children`]: crate::Scene::children
 #[derive(Drop)]

@@ -164,6 +164,7 @@ impl<T: Drop> Nodes<T> {
         ensures err { IfErr result (RefusesNode self.old value) }
         ensures reuses { 0 < map.len self.old.next → IsOk result }
         ensures room { 0 < self.old.room → IsOk result }
+        ensures in_place { 0 < self.old.room → self.new.capacity ≡ self.old.capacity }
         ensures unchanged { OnErr result (Keeps self.old self.new) }
     {
         add(&mut self.map, value, parent)
@@ -207,6 +208,7 @@ impl<T: Drop> Nodes<T> {
         ensures value { map.get self.old.live node ≡ Some (child result.parent result.value) }
         ensures live { self.new.live ≡ map.remove self.old.live node }
         ensures leaves { Leaves self.old self.new }
+        ensures capacity { self.new.capacity ≡ self.old.capacity }
     {
         let Some(leaf) = self.map.remove(node) else {
             unreachable!()
@@ -218,6 +220,7 @@ impl<T: Drop> Nodes<T> {
     pub fn clear(&mut self)
         ensures empty { self.new.live ≡ map.empty }
         ensures leaves { Leaves self.old self.new }
+        ensures capacity { self.new.capacity ≡ self.old.capacity }
         ensures valid { IsContent true self.old }
     {
         self.map.clear();

@@ -32,6 +32,7 @@ impl<K: Key, T: Drop> Scene<K, T> {
         ensures err { IfErr result (RefusesSibling self.old sibling value) }
         ensures reuses { IsSome (parent_of self.old.live sibling) → 0 < map.len self.old.next → IsOk result }
         ensures room { IsSome (parent_of self.old.live sibling) → 0 < self.old.room → IsOk result }
+        ensures in_place { 0 < self.old.room → self.new.capacity ≡ self.old.capacity }
         ensures unchanged { OnErr result (Keeps self.old self.new) }
     {
         let Some(parent) = self.parent_key(sibling) else {
@@ -47,8 +48,8 @@ impl<K: Key, T: Drop> Scene<K, T> {
     /// grows.
     ///
     /// It fails with `Gone` exactly if the sibling is a root or doesn't exist. If a slot is vacant
-    /// or room was reserved, it fails for no other reason. If the call fails, the error holds the
-    /// value, and the scene is unchanged.
+    /// or room was reserved, it fails for no other reason, and the capacity stays. If the call fails,
+    /// the error holds the value, and the scene is unchanged.
     ///
     /// ```
     /// let mut scene: Scene<DefaultKey, &str> = Scene::new(alloc)?;
@@ -72,6 +73,7 @@ impl<K: Key, T: Drop> Scene<K, T> {
         ensures err { IfErr result (RefusesSibling self.old (K.data_of sibling) value) }
         ensures reuses { IsSome (parent_of self.old.live (K.data_of sibling)) → 0 < map.len self.old.next → IsOk result }
         ensures room { IsSome (parent_of self.old.live (K.data_of sibling)) → 0 < self.old.room → IsOk result }
+        ensures in_place { 0 < self.old.room → self.new.capacity ≡ self.old.capacity }
         ensures unchanged { OnErr result (Keeps self.old self.new) }
     {
         Ok(outer(self.insert(Side::Before, inner(sibling), value)?))
@@ -82,8 +84,8 @@ impl<K: Key, T: Drop> Scene<K, T> {
     /// grows.
     ///
     /// It fails with `Gone` exactly if the sibling is a root or doesn't exist. If a slot is vacant
-    /// or room was reserved, it fails for no other reason. If the call fails, the error holds the
-    /// value, and the scene is unchanged.
+    /// or room was reserved, it fails for no other reason, and the capacity stays. If the call fails,
+    /// the error holds the value, and the scene is unchanged.
     ///
     /// ```
     /// let mut scene: Scene<DefaultKey, &str> = Scene::new(alloc)?;
@@ -107,6 +109,7 @@ impl<K: Key, T: Drop> Scene<K, T> {
         ensures err { IfErr result (RefusesSibling self.old (K.data_of sibling) value) }
         ensures reuses { IsSome (parent_of self.old.live (K.data_of sibling)) → 0 < map.len self.old.next → IsOk result }
         ensures room { IsSome (parent_of self.old.live (K.data_of sibling)) → 0 < self.old.room → IsOk result }
+        ensures in_place { 0 < self.old.room → self.new.capacity ≡ self.old.capacity }
         ensures unchanged { OnErr result (Keeps self.old self.new) }
     {
         Ok(outer(self.insert(Side::After, inner(sibling), value)?))

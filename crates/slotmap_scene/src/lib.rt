@@ -14,7 +14,8 @@
 //! - A call that fails changes nothing, and returns what it was given. It uses up no key.
 //!
 //! The children of a node are kept as links between siblings. So only a new node may need memory, and
-//! none if a node was removed or room was reserved.
+//! none if a node was removed or room was reserved; the capacity stays then. No move and no removal
+//! changes the capacity, and no removal loses room.
 //!
 //! A call takes constant time, unless the map of the nodes grows, with these exceptions:
 //!
@@ -181,7 +182,8 @@ impl<K: Key, T: Drop> Scene<K, T> {
         })
     }
 
-    /// Reserves room for `additional` more nodes: to add so many, roots or children, can't fail then.
+    /// Reserves room for `additional` more nodes: to add so many, roots or children, can't fail then, and
+    /// the capacity stays.
     ///
     /// It fails with `TooGreat` if more than 4294967294 nodes would be there, and with `Memory` if
     /// memory runs out. The scene has the same nodes then.

@@ -14,8 +14,8 @@ use slotmap_keylist::{inner, outer};
 impl<K: Key, T: Drop> Scene<K, T> {
     /// Adds a root with no children, and returns its key, which no node had before.
     ///
-    /// If a slot is vacant or room was reserved, the call can't fail. If the call fails, the error
-    /// holds the value, and the scene is unchanged.
+    /// If a slot is vacant or room was reserved, the call can't fail, and the capacity stays. If the
+    /// call fails, the error holds the value, and the scene is unchanged.
     pub fn add_root(&mut self, value: T) -> Result<K, InsertError<T>>
         ensures adds { IfOk result (λ key. Inserts self.old (K.data_of key) (child None value) self.new) }
         ensures fresh { IfOk result (λ key. lacks_node self.old.live (K.data_of key)) }
@@ -25,6 +25,7 @@ impl<K: Key, T: Drop> Scene<K, T> {
         ensures err { IfErr result (RefusesNode self.old value) }
         ensures reuses { 0 < map.len self.old.next → IsOk result }
         ensures room { 0 < self.old.room → IsOk result }
+        ensures in_place { 0 < self.old.room → self.new.capacity ≡ self.old.capacity }
         ensures unchanged { OnErr result (Keeps self.old self.new) }
     {
         Ok(outer(self.nodes.insert(value, None)?))
@@ -33,8 +34,8 @@ impl<K: Key, T: Drop> Scene<K, T> {
     /// Adds a node with no children as the last child of another one, and returns its key, which no node
     /// had before.
     ///
-    /// If a slot is vacant or room was reserved, it fails exactly if the parent doesn't exist. If
-    /// the call fails, the error holds the value, and the scene is unchanged.
+    /// If a slot is vacant or room was reserved, it fails exactly if the parent doesn't exist, and the
+    /// capacity stays. If the call fails, the error holds the value, and the scene is unchanged.
     pub fn add_child(&mut self, parent: K, value: T) -> Result<K, AddError<T>>
         // The parent has one more child, under a new key.
         ensures adds { IfOk result (λ key. Inserts (record self.old { live = with_child self.old.live (K.data_of parent) (K.data_of key) })
@@ -48,6 +49,7 @@ impl<K: Key, T: Drop> Scene<K, T> {
         ensures err { IfErr result (RefusesChild self.old (K.data_of parent) value) }
         ensures reuses { has_node self.old.live (K.data_of parent) → 0 < map.len self.old.next → IsOk result }
         ensures room { has_node self.old.live (K.data_of parent) → 0 < self.old.room → IsOk result }
+        ensures in_place { 0 < self.old.room → self.new.capacity ≡ self.old.capacity }
         ensures unchanged { OnErr result (Keeps self.old self.new) }
     {
         let parent = inner(parent);
@@ -64,7 +66,7 @@ impl<K: Key, T: Drop> Scene<K, T> {
     /// It is the last child even if it was a child of the new parent before.
     ///
     /// It fails exactly if one of the two doesn't exist, or if the new parent is the node or below it. The
-    /// scene is then unchanged. It allocates nothing.
+    /// scene is then unchanged. The capacity stays.
     pub fn reparent(&mut self, node: K, parent: K) -> Result<(), ReparentError>
         ensures moved { OnOk result (self.new ≡ record self.old { live = as_last_child self.old.live (K.data_of node) (K.data_of parent) }) }
         ensures trees { OnOk result (IsMoved self.old.live self.new.live (K.data_of node) (Some (K.data_of parent)) (λ ks. ks ++ K.data_of node ∷ [])) }
@@ -93,7 +95,7 @@ impl<K: Key, T: Drop> Scene<K, T> {
 
     /// Makes a node a root, with its subtree, and returns whether the node exists.
     ///
-    /// It takes constant time, and allocates nothing.
+    /// It takes constant time. It can't fail, and the capacity stays.
     pub fn make_root(&mut self, node: K) -> bool
         ensures which { IsTrue result ↔ has_node self.old.live (K.data_of node) }
         ensures new { self.new ≡ record self.old { live = as_root self.old.live (K.data_of node) } }
@@ -112,12 +114,13 @@ impl<K: Key, T: Drop> Scene<K, T> {
     /// Removes a node with its subtree, and returns its value, or `None` if it doesn't exist. Their keys
     /// are never used again.
     ///
-    /// It allocates nothing.
+    /// It can't fail. The room and the capacity stay.
     pub fn remove(&mut self, node: K) -> Option<T>
         ensures value { result ≡ value_of self.old.live (K.data_of node) }
         ensures removed { (k : KeyOf) → IsWithin self.old.live k (K.data_of node) → lacks_node self.new.live k }
         ensures others { (k : KeyOf) → (IsWithin self.old.live k (K.data_of node) → ⊥) → map.get self.new.live k ≡ option_map (forgets (K.data_of node)) (map.get self.old.live k) }
         ensures leaves { Leaves self.old self.new }
+        ensures capacity { self.new.capacity ≡ self.old.capacity }
         ensures for_good { (k : KeyOf) → has_node self.old.live k → IsWithin self.old.live k (K.data_of node) → IsSpent self.new k }
         ensures stale { KeepsSpent self.old self.new }
         ensures unchanged { IfNone result (self.new ≡ self.old) }
@@ -129,7 +132,7 @@ impl<K: Key, T: Drop> Scene<K, T> {
         Some(self.nodes.remove_tree(node))
     }
 
-    /// Removes all nodes. Their keys are never used again. The room stays.
+    /// Removes all nodes. Their keys are never used again. The room and the capacity stay.
     ///
     /// ```
     /// let mut scene: Scene<DefaultKey, &str> = Scene::new(alloc)?;
@@ -140,6 +143,7 @@ impl<K: Key, T: Drop> Scene<K, T> {
     pub fn clear(&mut self)
         ensures empty { self.new.live ≡ map.empty }
         ensures leaves { Leaves self.old self.new }
+        ensures capacity { self.new.capacity ≡ self.old.capacity }
         ensures for_good { (k : KeyOf) → has_node self.old.live k → IsSpent self.new k }
     {
         self.nodes.clear();

@@ -120,6 +120,7 @@ impl<T: Drop> Nodes<T> {
         ensures value { value_of self.old.live node ≡ Some result.value }
         ensures live { self.new.live ≡ map.remove (without_child self.old.live (parent_of self.old.live node) node) node }
         ensures leaves { Leaves self.old self.new }
+        ensures capacity { self.new.capacity ≡ self.old.capacity }
     {
         self.leave(node);
         self.remove(node)
@@ -137,6 +138,7 @@ impl<T: Drop> Nodes<T> {
         ensures others { (k : KeyOf) → (IsWithin self.old.live k root → ⊥) → map.get self.new.live k ≡ option_map (forgets root) (map.get self.old.live k) }
         ensures scene { IsScene self.new.live }
         ensures leaves { Leaves self.old self.new }
+        ensures capacity { self.new.capacity ≡ self.old.capacity }
     {
         let mut at = root;
         loop {

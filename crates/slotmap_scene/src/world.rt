@@ -8,7 +8,8 @@
 //! - The result of `world` is the node's own value composed with its ancestors', up to the root.
 //! - They return `None` exactly if the node doesn't exist.
 //!
-//! Both take time linear in the number of nodes above the one that they are given. Nothing is allocated.
+//! Both take time linear in the number of nodes above the one that they are given. Neither fails
+//! for memory.
 //!
 //! ```
 //! let mut arm: Scene<DefaultKey, Offset> = Scene::new(alloc)?;

@@ -1,4 +1,4 @@
-use Rattle.std.proofs.Common.{◌≡◌}
+use Rattle.std.proofs.Common.{◌≡◌, ◌∙◌}
 use Rattle.slotmap_graph.proofs.Common.{refl, ap, arith, times, map_values, Out, Into, listed, seen_edge, keys, mapped, Direction, end, Some}
 use Rattle.slotmap_graph.proofs.Common.{SeenEdge}
 use Rattle.std.specs.FinMap as map
@@ -96,3 +96,8 @@ returns-in_err-remove-clause-into g c = grind (arith, keys, mapped)
 
 pub returns-clause-value : goal.returns-clause-value
 returns-clause-value g c = grind (arith, keys, mapped)
+
+pub returns-clause-capacity : goal.returns-clause-capacity
+returns-clause-capacity g c =
+    let same = c.unlink-2.ensures.seen_edges ∙ c.unlink.ensures.seen_edges in
+    c.remove.ensures.valid.capacity ∙ ap (λ n. n.capacity) same ∙ ap (λ s. s.edges.capacity) c.self.view_is

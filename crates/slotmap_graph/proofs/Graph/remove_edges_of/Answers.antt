@@ -5,7 +5,7 @@ use Rattle.slotmap_graph.proofs.Thinned.{thinned_start, thinned_step, thinned_en
 use Rattle.slotmap_graph.proofs.Graph.remove_edges_of.Goals as goal
 
 pub loop-edge-init : goal.loop-edge-init
-loop-edge-init g c = record { thinned = thinned_start (g.K.Key.data_of c.args.node) c.args.self.now.edges c.args.self.now.edges refl; leaves = leaves_none c.args.self.now.edges; nodes = refl; out = λ k. refl; into = λ k. refl }
+loop-edge-init g c = record { thinned = thinned_start (g.K.Key.data_of c.args.node) c.args.self.now.edges c.args.self.now.edges refl; leaves = leaves_none c.args.self.now.edges; capacity = refl; nodes = refl; out = λ k. refl; into = λ k. refl }
 
 pub loop-edge-smaller : goal.loop-edge-smaller
 loop-edge-smaller g c =
@@ -22,6 +22,7 @@ loop-edge-preserved-in-Some g c =
       thinned = thinned_step (g.K.Key.data_of c.args.node) c.args.self.now.edges c.loop-edge.self.edges so_far.thinned c.remove_edge.new.self.edges c.in-Some.edge there.0
           there.1 there.2 c.remove_edge.ensures.live spent c.remove_edge.ensures.gone;
       leaves = leaves_in_turn c.args.self.now.edges c.loop-edge.self.edges c.remove_edge.new.self.edges so_far.leaves c.remove_edge.ensures.leaves;
+      capacity = c.remove_edge.ensures.capacity ∙ so_far.capacity;
       nodes = c.remove_edge.ensures.nodes ∙ so_far.nodes;
       out = λ k. rw (c.remove_edge.ensures.live, c.remove_edge.ensures.out k) (thin_step now (edges_at c.args.self.now.out k) (edges_at c.loop-edge.self.out k) (so_far.out k) c.in-Some.edge);
       into = λ k. rw (c.remove_edge.ensures.live, c.remove_edge.ensures.into k) (thin_step now (edges_at c.args.self.now.into k) (edges_at c.loop-edge.self.into k) (so_far.into k) c.in-Some.edge);
@@ -47,3 +48,6 @@ returns-clause-gone g c = c.loop-edge.invariant.thinned.keeps
 
 pub returns-clause-leaves : goal.returns-clause-leaves
 returns-clause-leaves g c = c.loop-edge.invariant.leaves
+
+pub returns-clause-capacity : goal.returns-clause-capacity
+returns-clause-capacity g c = c.loop-edge.invariant.capacity

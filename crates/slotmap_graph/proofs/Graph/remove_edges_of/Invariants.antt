@@ -8,6 +8,7 @@ abbrev pub invariant-loop-edge : goal.invariant-loop-edge
 invariant-loop-edge g l = record {
   thinned : Thinned (g.K.Key.data_of l.node) l.fn.self.edges l.self.edges;
   leaves : Leaves l.fn.self.edges l.self.edges;
+  capacity : l.self.edges.capacity ≡ l.fn.self.edges.capacity;
   nodes : l.self.nodes ≡ l.fn.self.nodes;
   out : (k : Key) → filter (map.contains_key l.self.edges.live) (edges_at l.fn.self.out k) ≡ filter (map.contains_key l.self.edges.live) (edges_at l.self.out k);
   into : (k : Key) → filter (map.contains_key l.self.edges.live) (edges_at l.fn.self.into k) ≡ filter (map.contains_key l.self.edges.live) (edges_at l.self.into k);

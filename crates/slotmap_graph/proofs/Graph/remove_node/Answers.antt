@@ -73,3 +73,11 @@ returns-clause-into g c k =
     (seen_along Into c.self.inside.nodes.live c.take_node.new.nodes.live c.self.inside.edges.live c.self.inside.edges.live
     (left_ends c.self.inside.nodes c.self.inside.edges.live c.self.invariant node untouched c.take_node.new.nodes c.take_node.ensures.live Into) (λ q. refl) k
     ∙ ap (λ s. edges_at s.into k) c.self.view_is ∙ c.remove_edges_of.ensures.into k)
+
+pub returns-clause-capacity : goal.returns-clause-capacity
+returns-clause-capacity g c =
+    let same = ap (λ s. s.nodes) c.self.view_is ∙ c.remove_edges_of.ensures.nodes in
+    c.take_node.ensures.valid.capacity ∙ ap (λ n. n.capacity) same
+
+pub returns-clause-edges_capacity : goal.returns-clause-edges_capacity
+returns-clause-edges_capacity g c = ap (λ s. s.edges.capacity) c.self.view_is ∙ c.remove_edges_of.ensures.capacity

@@ -1,4 +1,5 @@
 use Rattle.slotmap.proofs.Callers.{spent_leaves, keeps_spent_alone}
+use Rattle.slotmap_keylist.proofs.Alone.{alone-leaves}
 use Rattle.slotmap_list.proofs.Chains.{chain_new, chain_is, self_chain}
 use Rattle.slotmap_list.proofs.Pops.{emptied_gone}
 use Rattle.slotmap_list.proofs.StableList.clear.Goals as goal
@@ -14,3 +15,6 @@ returns-clause-for_good g c = rw (← c.self.view_is) (emptied_gone _ _ c.clear.
 
 pub returns-clause-gone : goal.returns-clause-gone
 returns-clause-gone g c = rw (← c.self.view_is) (keeps_spent_alone _ _ (spent_leaves _ _ c.clear.ensures.leaves))
+
+pub returns-clause-leaves : goal.returns-clause-leaves
+returns-clause-leaves g c = rw (← c.self.view_is) (alone-leaves _ _ c.clear.ensures.leaves)

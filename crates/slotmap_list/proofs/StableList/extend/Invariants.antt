@@ -1,4 +1,4 @@
-use Rattle.std.proofs.Common.{◌≡◌, ◌+◌, length}
+use Rattle.std.proofs.Common.{◌≡◌, ◌≤◌, ◌+◌, length}
 use Rattle.slotmap.specs.Words.{KeepsSpent, used}
 use Rattle.slotmap_list.specs.Additions.{Adds}
 use Rattle.slotmap_list.proofs.StableList.extend.Given as goal
@@ -10,5 +10,7 @@ invariant-loop-value g l =
     × record {
       adds : Adds l.fn.self.elements l.yielded l.self.elements;
       used : used l.self.cursors + length l.fn.self.elements ≡ used l.fn.self.cursors + length l.self.elements;
+      room : l.fn.self.cursors.room + length l.fn.self.elements ≤ l.self.cursors.room + length l.self.elements;
+      in_place : length l.self.elements ≤ l.fn.self.cursors.room + length l.fn.self.elements → l.self.cursors.capacity ≡ l.fn.self.cursors.capacity;
       gone : KeepsSpent l.fn.self.cursors l.self.cursors;
     }

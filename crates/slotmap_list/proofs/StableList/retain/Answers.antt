@@ -22,7 +22,7 @@ loop-at-smaller-then-not-stays g c =
 pub loop-at-preserved-then-not-stays : goal.loop-at-preserved-then-not-stays
 loop-at-preserved-then-not-stays g c =
     retaining_dropped (rw c.in-Some.is at c.loop-at.invariant) c.after-at.ensures.once c.outer.ensures c.value_mut.ensures.value c.f-stays.ensures c.after-at.ensures.value
-    c.if-not-stays.true c.reject.ensures.removed c.reject.ensures.for_good c.reject.ensures.gone
+    c.if-not-stays.true c.reject.ensures.removed c.reject.ensures.for_good c.reject.ensures.gone c.reject.ensures.leaves c.reject.ensures.capacity
 
 pub loop-at-smaller : goal.loop-at-smaller
 loop-at-smaller g c =

@@ -1,7 +1,7 @@
 use Rattle.std.proofs.Common.{true, is_some, ap, sym, ◌∙◌}
 use Rattle.std.specs.Option.{option_map}
-use Rattle.slotmap.proofs.Callers.{removed_spent, spent_removes}
-use Rattle.slotmap_keylist.proofs.Alone.{alone-removes, gone_stays, gone_here, same_live}
+use Rattle.slotmap.proofs.Callers.{leaves_by_removal, leaves_none, removed_spent, spent_removes}
+use Rattle.slotmap_keylist.proofs.Alone.{alone-leaves, alone-removes, gone_stays, gone_here, same_live}
 use Rattle.slotmap_list.specs.Sequence.{Sequence}
 use Rattle.slotmap_list.proofs.Chains.{value_found, removed_chain, removed_stands, without_absent, absent_removed, self_chain, chain_is, shown}
 use Rattle.slotmap_list.proofs.StableList.take.Goals as goal
@@ -49,3 +49,10 @@ pub returns-clause-gone : goal.returns-clause-gone
 returns-clause-gone g c =
     rw (← c.self.view_is) (gone_stays _ _ _ c.relink.ensures.keys
     (spent_removes _ _ true c.remove.ensures.valid.before _ (ap is_some (sym (rw c.in_ok-node.was at c.remove.ensures.value))) c.in_ok-node.ensures.removes))
+
+pub returns-clause-leaves : goal.returns-clause-leaves
+returns-clause-leaves g c =
+    rw (c.relink.ensures.keys, ← c.self.view_is) (alone-leaves _ _ (leaves_by_removal true _ c.remove.ensures.valid.before c.args.cursor (ap is_some (sym (rw c.in_ok-node.was at c.remove.ensures.value))) _ c.in_ok-node.ensures.removes))
+
+pub returns-in_err-node-clause-leaves : goal.returns-in_err-node-clause-leaves
+returns-in_err-node-clause-leaves g c = rw (← c.self.view_is, c.in_err-node.ensures.unchanged) (leaves_none _)

@@ -1,4 +1,4 @@
-use Rattle.std.proofs.Common.{◌≢◌, sym, ◌∙◌}
+use Rattle.std.proofs.Common.{◌≢◌, refl, sym, ◌∙◌}
 use Rattle.slotmap.specs.Words.{same_keys}
 use Rattle.slotmap.proofs.Callers.{leaves_none, leaves_in_turn}
 use Rattle.slotmap_keylist.proofs.Linking.{none_last}
@@ -7,13 +7,13 @@ use Rattle.slotmap_scene.proofs.Removals.{removing_start, goes_down, down_smalle
 use Rattle.slotmap_scene.proofs.family.Nodes.remove_tree.Goals as goal
 
 pub loop-child-init : goal.loop-child-init
-loop-child-init g c = record { removing = removing_start c.args.self.now.live c.args.root c.requires.scene c.requires.there; leaves = leaves_none c.args.self.now }
+loop-child-init g c = record { removing = removing_start c.args.self.now.live c.args.root c.requires.scene c.requires.there; leaves = leaves_none c.args.self.now; capacity = refl }
 
 pub loop-child-smaller-in-Some : goal.loop-child-smaller-in-Some
 loop-child-smaller-in-Some g c = down_smaller _ _ _ _ c.loop-child.invariant.removing c.in-Some.child (sym c.in-Some.ensures) c.requires.scene.tree
 
 pub loop-child-preserved-in-Some : goal.loop-child-preserved-in-Some
-loop-child-preserved-in-Some g c = record { removing = goes_down _ _ _ _ c.loop-child.invariant.removing c.in-Some.child (sym c.in-Some.ensures); leaves = c.loop-child.invariant.leaves }
+loop-child-preserved-in-Some g c = record { removing = goes_down _ _ _ _ c.loop-child.invariant.removing c.in-Some.child (sym c.in-Some.ensures); leaves = c.loop-child.invariant.leaves; capacity = c.loop-child.invariant.capacity }
 
 pub prune-leaf-requires-clause-leaf : goal.prune-leaf-requires-clause-leaf
 prune-leaf-requires-clause-leaf g c = none_last (children_of c.loop-child.self.live c.loop-child.at) (sym c.in-None.ensures)
@@ -39,4 +39,8 @@ loop-child-preserved g c =
     record {
       removing = rw (c.prune-leaf.ensures.live) (goes_up _ _ _ _ c.loop-child.invariant.removing (none_last _ (sym c.in-None.ensures)) c.in-Some-parent.parent (c.prune-leaf.ensures.parent ∙ c.in-Some-parent.is) below);
       leaves = leaves_in_turn _ _ _ c.loop-child.invariant.leaves c.prune-leaf.ensures.leaves;
+      capacity = c.prune-leaf.ensures.capacity ∙ c.loop-child.invariant.capacity;
     }
+
+pub returns-then-eq-clause-capacity : goal.returns-then-eq-clause-capacity
+returns-then-eq-clause-capacity g c = c.prune-leaf.ensures.capacity ∙ c.loop-child.invariant.capacity

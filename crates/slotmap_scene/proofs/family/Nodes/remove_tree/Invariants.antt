@@ -1,3 +1,4 @@
+use Rattle.std.proofs.Common.{◌≡◌}
 use Rattle.slotmap.specs.Words.{Leaves}
 use Rattle.slotmap_scene.proofs.Removals.{Removing, to_do}
 use Rattle.slotmap_scene.proofs.family.Nodes.remove_tree.Given as goal
@@ -6,6 +7,7 @@ abbrev pub invariant-loop-child : goal.invariant-loop-child
 invariant-loop-child g l = record {
   removing : Removing l.fn.self.live l.self.live l.fn.root l.at;
   leaves : Leaves l.fn.self l.self;
+  capacity : l.self.capacity ≡ l.fn.self.capacity;
 }
 
 abbrev pub decreases-loop-child : goal.decreases-loop-child
