@@ -1,6 +1,19 @@
--- What callers of a scheduler cite: which jobs a loop over `pop_due` took out.
-use Rattle.std.proofs.Common.{◌≡◌, ◌<◌, ◌≤◌, [], ◌∷◌, ◌++◌, ◌∙◌}
+-- What callers of a scheduler cite: which jobs a loop over `pop_due` took out, and how many slots are vacant after `clear`.
+use Rattle.std.specs.FinMap as map
+use Rattle.std.specs.FinSet as set
+use Rattle.slotmap.specs.Words.{is_last}
+use Rattle.slotmap_scheduler.proofs.Common.{Content, IsLive, Leaves, key_cmp, keys_total, exact_keys}
+use Rattle.std.proofs.Common.{◌≡◌, ◌+◌, ◌<◌, ◌≤◌, [], ◌∷◌, ◌++◌, ◌∙◌}
 use Rattle.slotmap_scheduler.proofs.Common.{ℕ, true, false, cond, refl, sym, ap, arith, nat_lt, All, nat_tests, All-nil, All-cons, All-head, Key, Waiting, due_at, left_at}
+
+-- once all jobs were removed, each of their slots is vacant, if no handle was the last of its slot
+pub vacant_again : (old new : Content (Unit {0})) → Leaves old new → new.live ≡ map.empty → ((k : Key) → IsLive old k → is_last k ≡ false) → map.len new.next ≡ map.len old.next + map.len old.live
+vacant_again old new leaves empty not_last =
+    let retired = ap set.len (set.same_set keys_total exact_keys new.retired old.retired (λ q. grind (arith, leaves.retired q, not_last q))) in
+    let detached = ap set.len leaves.detached in
+    let live = ap map.len empty ∙ map.len-empty key_cmp (Unit {0}) in
+    let places = leaves.same_places in
+    omega arith
 
 module _ {T : Type 0} (now : ℕ) where
   abbrev IsDue : Key × (ℕ × T) → Type 0

@@ -1,7 +1,7 @@
 -- A copy of a scheduler: the same handles, times and places, each with a clone of its job.
 use Rattle.std.proofs.Common.{◌≡◌, ◌≤◌, [], ◌∷◌, ◌∙◌}
 use Rattle.slotmap_scheduler.proofs.Common.{ℕ, true, List, Option, Some, None, refl, sym, ap, arith, list_map, option_map, vec_len, vec_capacity, Vec, AllZip, Key, Content}
-use Rattle.slotmap_scheduler.proofs.Common.{IsContent, AreClones, IsCloneOf, IsCloneBy, clone_len, mapped-clones, len-mapped, Job, Entry, IsInverse, IsDueClone, Turn, Timed}
+use Rattle.slotmap_scheduler.proofs.Common.{IsContent, AreClones, IsCloneOf, IsCloneBy, clone_len, mapped-clones, content-mapped, len-mapped, Job, Entry, IsInverse, IsDueClone, Turn, Timed}
 use Rattle.slotmap_scheduler.proofs.Common.{by_turn, as_seen, waiting_of, InOrder, unplaced, timed, spot_of, heap_entry, IsSchedule}
 use Rattle.std.specs.FinMap as map
 use Rattle.slotmap_scheduler.proofs.Inverse.{alike}
@@ -71,6 +71,7 @@ module _ {A : Type 0} (is_clone : A → A → Type 0) where
     pub schedule_copied : (heap' : Vec Entry Z) → heap'.items ≡ heap.items → vec_len heap' ≡ vec_len heap → IsContent true copy → copy.capacity ≤ vec_capacity heap' → IsSchedule copy count heap'
     schedule_copied heap' items len well capacity = record {
       order = copied_order (timed jobs).live (timed copy).live count is.order timed_clones.live len_copied;
+      valid = content-mapped unplaced copy true well;
       indexed = record {
         placed = rw items (alike (spot_of jobs.live) _ (heap_entry heap.items) _ (λ q. same_spot (map.get jobs.live q) (map.get copy.live q) (clones.live q)) (λ i. refl) is.indexed.placed);
         ordered = rw items is.indexed.ordered;

@@ -1,9 +1,16 @@
 -- The handles of a scheduler: the keys of its jobs, with the room that the map and the heap have.
 use Rattle.std.proofs.Common.{◌≡◌, ◌+◌, ◌-◌, ◌≤◌, ◌∙◌}
-use Rattle.slotmap.specs.Words.{most}
-use Rattle.slotmap_scheduler.proofs.Common.{true, refl, ap, arith, vec_len, vec_capacity, min, Vec, Key, Content, IsContent, IsLive, IsSpent, KeepsSpent, IsNew, Inserts, Removes}
+use Rattle.std.specs.FinMap as map
+use Rattle.slotmap.specs.KeysAlone.{keys_of}
+use Rattle.slotmap_keylist.specs.Mapped.{map_values}
+use Rattle.slotmap_scheduler.proofs.Common.{ℕ, true, refl, ap, arith, vec_len, vec_capacity, min, Vec, Key, key_cmp, Content, IsContent, IsLive, IsSpent, KeepsSpent, IsNew, Inserts, Removes}
+use Rattle.slotmap_scheduler.proofs.Common.{Leaves, MakesRoom, contains-keys_of, len-keys_of, shown_content, shown_leaves, alone-keeps, mapped-empty}
 use Rattle.slotmap_scheduler.proofs.Common.{IsCopy, IsCloneBy, without_values, with_value, used, spent_alone, alone_spent, inserted_not_spent, alone-new, alone-inserts}
 use Rattle.slotmap_scheduler.proofs.Common.{alone-removes, alone-copy, alone-written, used_alone, used-mapped, Job, Entry, Turn, unplaced, timed, handles_of}
+
+pub empty_keys : {V : Type 0} (m : map.FinMap key_cmp V) → m ≡ map.empty → keys_of m ≡ map.empty
+unfolding keys_of map_values
+empty_keys {V} m is = ap keys_of is ∙ mapped-empty {W = Unit {0}} (λ (v : V). tt)
 
 module _ {T Z : Type 0} where
   -- the room matters to no handle
@@ -29,6 +36,52 @@ module _ {T Z : Type 0} where
     pub handles_removed : (k : Key) → Removes old k new → vec_len heap' ≤ vec_len heap → vec_capacity heap' ≡ vec_capacity heap → Removes (handles_of old heap) k (handles_of new heap')
     handles_removed k removes len capacity = let alone = alone-removes old new k removes in search arith
 
+    pub handles_left : Leaves old new → vec_len heap' ≤ vec_len heap → vec_capacity heap' ≡ vec_capacity heap → Leaves (handles_of old heap) (handles_of new heap')
+    handles_left leaves len capacity =
+        let alone = shown_leaves old new (keys_of old.live) (keys_of new.live) (contains-keys_of old.live) (len-keys_of old.live) (contains-keys_of new.live) (len-keys_of new.live) leaves in
+        record {
+          no_more = alone.no_more;
+          detached = alone.detached;
+          retired = alone.retired;
+          next = alone.next;
+          same_places = alone.same_places;
+          room = (let more = alone.room in omega arith);
+        }
+
+    pub same_capacity : new.capacity ≡ old.capacity → vec_capacity heap' ≡ vec_capacity heap → (handles_of new heap').capacity ≡ (handles_of old heap).capacity
+    same_capacity map heap i = min (map i) (heap i)
+
+    same_handles : new ≡ old → vec_len heap' ≡ vec_len heap → vec_capacity heap' ≡ vec_capacity heap → handles_of new heap' ≡ handles_of old heap
+    same_handles same len capacity i = record (without_values (same i)) { room = min (same i).room (capacity i - len i); capacity = min (same i).capacity (capacity i) }
+
+    -- room was made in the map and in the heap
+    pub handles_room : (n : ℕ) (made ok : Type 0) → MakesRoom true old n made new → IsContent true (handles_of old heap) → IsContent true (handles_of new heap') → vec_len heap ≡ map.len old.live
+        → vec_len heap' ≡ vec_len heap → vec_capacity heap ≤ vec_capacity heap' → (vec_len heap + n ≤ vec_capacity heap → vec_capacity heap' ≡ vec_capacity heap)
+        → (ok → made × (vec_len heap' + n ≤ vec_capacity heap')) → (n ≤ old.room → vec_len heap + n ≤ vec_capacity heap → ok) → MakesRoom true (handles_of old heap) n ok (handles_of new heap')
+    handles_room n made ok makes before after all len more same has had =
+        let same_used = used_alone old in
+        let live = len-keys_of old.live in
+        let keeps = alone-keeps old new makes.keeps in
+        record {
+          before = before;
+          after = after;
+          fits = λ o. (let fits = makes.fits (has o).0 in omega arith);
+          room = λ o. (let room = makes.room (has o).0 in let long = (has o).1 in omega arith);
+          live_and_more = λ o. (let room = makes.live_and_more (has o).0 in let long = (has o).1 in omega arith);
+          succeeds = λ room. had (omega arith) (omega (arith, heap.ok.1));
+          had_room = λ room. same_handles (makes.had_room (omega arith)) len (same (omega (arith, heap.ok.1)));
+          keeps = record {
+            live = keeps.live;
+            detached = keeps.detached;
+            retired = keeps.retired;
+            next = keeps.next;
+            offer = keeps.offer;
+            stack = keeps.stack;
+            room = (let room = keeps.room in omega arith);
+          };
+          capacity = (let capacity = makes.capacity in omega arith);
+        }
+
     -- a job that is written changes no handle
     pub handles_written : (k : Key) (v : Turn × T) → IsLive old k → new ≡ with_value old k v → vec_len heap' ≡ vec_len heap → vec_capacity heap' ≡ vec_capacity heap → handles_of new heap' ≡ handles_of old heap
     handles_written k v live is len capacity =
@@ -38,11 +91,33 @@ module _ {T Z : Type 0} where
     pub handles_copied : (is_clone : Turn × T → Turn × T → Type 0) → IsCloneBy is_clone old new → IsCopy (handles_of old heap) (handles_of new heap')
     handles_copied is_clone clones = let alone = alone-copy is_clone old new clones in search arith
 
+  -- the handles are a content of their own
+  pub handles_content : (jobs : Content (Turn × T)) (heap : Vec Entry Z) → IsContent true jobs → vec_len heap ≡ map.len jobs.live → map.len jobs.live + map.len jobs.next ≤ vec_capacity heap
+      → IsContent true (handles_of jobs heap)
+  handles_content jobs heap valid all space =
+      let well = shown_content jobs (keys_of jobs.live) (contains-keys_of jobs.live) (len-keys_of jobs.live) true valid in
+      let live = len-keys_of jobs.live in
+      record {
+        keys = well.keys;
+        vacancies = well.vacancies;
+        had_keys = well.had_keys;
+        last = well.last;
+        within = well.within;
+        vacant = well.vacant;
+        apart = well.apart;
+        not_live_and_detached = well.not_live_and_detached;
+        not_standing_and_retired = well.not_standing_and_retired;
+        not_used_and_vacant = well.not_used_and_vacant;
+        limit = well.limit;
+        offers = well.offers;
+        stacked = λ stack is. (let stacked = well.stacked stack is in record { lists = stacked.lists; once = stacked.once; top = stacked.top });
+        room_fits = (let fits = well.room_fits in omega arith);
+        reused = λ _. (let reused = well.reused refl in omega arith);
+        capacity_fits = (let fits = well.capacity_fits in omega (arith, heap.ok.1));
+      }
+
   pub handles_new : (jobs : Content (Turn × T)) (heap : Vec Entry Z) → IsNew jobs → IsNew (handles_of jobs heap)
   handles_new jobs heap new = let alone = alone-new jobs new in search arith
 
   pub used_handles : (jobs : Content (Job T)) (heap : Vec Entry Z) → used (handles_of (timed jobs) heap) ≡ used jobs
   used_handles jobs heap = let alone = used_alone (timed jobs) in let same = used-mapped unplaced jobs in omega arith
-
-  pub handles_limit : (jobs : Content (Job T)) (heap : Vec Entry Z) → IsContent true jobs → used (handles_of (timed jobs) heap) ≤ most
-  handles_limit jobs heap well = let same = used_handles jobs heap in let fits = well.room_fits in omega arith

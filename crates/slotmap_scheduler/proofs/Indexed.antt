@@ -1,6 +1,6 @@
 -- A heap that has the turn of each job: what each call on the map and the heap leaves.
-use Rattle.std.proofs.Common.{◌≡◌, ◌+◌, ◌<◌, ◌∙◌}
-use Rattle.slotmap_scheduler.proofs.Common.{true, List, Option, Some, None, list_set, get_or, length, refl, sym, ap, arith, vec_len, option_map, Vec, SameBelow, length-set}
+use Rattle.std.proofs.Common.{◌≡◌, ◌+◌, ◌<◌, [], ◌∷◌, ◌++◌, ◌∙◌}
+use Rattle.slotmap_scheduler.proofs.Common.{ℕ, true, List, Option, Some, None, list_set, get_or, length, refl, sym, ap, arith, vec_len, option_map, Vec, length-set, get_or_append_left, get_or-append_right}
 use Rattle.slotmap_scheduler.proofs.Common.{get_or-set_same, get_or-set_other, slice_get-get_or, Key, Content, IsContent, Inserts, Removes, with_value, keys, inserted_fresh}
 use Rattle.slotmap_scheduler.proofs.Common.{inserted_len, removed_len, none_of, mapped-inserts, content-mapped, get-mapped, mapped-insert, Job, Entry, Turn, no_entry, unplaced}
 use Rattle.slotmap_scheduler.proofs.Common.{timed, spot_of, IsPlaced, IsHeap, IsHeapBut, Resettled, IsIndexed}
@@ -18,7 +18,13 @@ module _ {T Z : Type 0} where
 
   -- a job was put into the map, and an entry behind the others
   module _ (jobs mid : Content (Job T)) (heap : Vec Entry Z) (is : IsIndexed jobs heap) (valid : IsContent true jobs) (k : Key) (turn : Turn) (job : T) (inserts : Inserts jobs k (record { turn = turn; place = vec_len heap; job = job }) mid)
-      (pushed : Vec Entry Z) (len : vec_len pushed ≡ vec_len heap + 1) (below : SameBelow heap.items pushed.items (vec_len heap)) (last : (d : Entry) → get_or pushed.items (vec_len heap) d ≡ record { turn = turn; handle = k }) where
+      (pushed : Vec Entry Z) (len : vec_len pushed ≡ vec_len heap + 1) (items : pushed.items ≡ heap.items ++ record { turn = turn; handle = k } ∷ []) where
+    below : (i : ℕ) (d : Entry) → i < vec_len heap → get_or pushed.items i d ≡ get_or heap.items i d
+    below i d within = ap (λ es. get_or es i d) items ∙ get_or_append_left heap.items (record { turn = turn; handle = k } ∷ []) d i (omega (arith, heap.ok.0))
+
+    last : (d : Entry) → get_or pushed.items (vec_len heap) d ≡ record { turn = turn; handle = k }
+    last d = rw heap.ok.0 (ap (λ es. get_or es (length heap.items) d) items ∙ get_or-append_right heap.items (record { turn = turn; handle = k } ∷ []) (length heap.items) (length heap.items) d refl (omega arith) ∙ grind arith)
+
     free : map.get jobs.live k ≡ None
     free = none_of (map.get jobs.live k) (inserted_fresh true jobs k _ mid valid inserts)
 

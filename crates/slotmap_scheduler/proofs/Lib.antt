@@ -13,3 +13,4 @@ pub mod Seen
 pub mod Sorted
 pub mod TakingDue
 pub mod Timed
+pub mod Waits

@@ -148,6 +148,11 @@ module _ {T : Type 0} where
     pub none_wait : map.len jobs ≡ 0 → waiting_of jobs ≡ []
     none_wait none = nil_from_length (waiting_of jobs) (len_is ∙ none)
 
+  -- a handle that finds the same has the same time and job
+  pub job_stays : (old : Timed T) (before : ℕ) → InOrder old before → (new : Timed T) (count : ℕ) → InOrder new count → (k : Key) → map.get new k ≡ map.get old k
+      → job_of k (waiting_of new) ≡ job_of k (waiting_of old)
+  job_stays old before was new count now k same = job_is new count now k ∙ ap (option_map (λ (x : Turn × T). (x.0.0, x.1))) same ∙ sym (job_is old before was k)
+
   pub none_in_order : (jobs : Timed T) (count : ℕ) → jobs ≡ map.empty → InOrder jobs count
   none_in_order jobs count is = rw is (in_order map.empty count map.empty
       (record { to = λ k t x there. absurd (let e = map.get-empty {X = Turn × T} key_cmp k in cc); from = λ t k x there. absurd (let e = map.get-empty {X = Key × T} turn_cmp t in cc) })

@@ -1,17 +1,27 @@
 -- What holds of every scheduler, after each call.
-use Rattle.std.proofs.Common.{◌≡◌, ◌+◌, ◌≤◌, ◌⊎◌, [], ◌∷◌, ◌∙◌}
-use Rattle.slotmap_scheduler.proofs.Common.{ℕ, true, List, Some, None, zero, suc, is_some, refl, sym, ap, inl, inr, arith, vec_len, vec_capacity, option_map, Vec, list_any}
+use Rattle.std.proofs.Common.{◌≡◌, ◌≢◌, ◌+◌, ◌≤◌, ◌⊎◌, [], ◌∷◌, ◌∙◌}
+use Rattle.slotmap_scheduler.proofs.Common.{ℕ, true, List, Some, None, zero, suc, is_some, length, refl, sym, ap, inl, inr, arith, vec_len, vec_capacity, option_map, Vec, list_any}
 use Rattle.slotmap_scheduler.proofs.Common.{eq_by_cmp, nat_cmp_total, exact_unsigned, Key, key_cmp, Content, IsContent, Inserts, Removes, Leaves, with_value, keys, keys_total}
 use Rattle.slotmap_scheduler.proofs.Common.{exact_keys, inserted_fresh, inserted_len, removed_len, none_of, itself, tied, content-mapped, get-mapped, len-mapped, mapped-empty}
 use Rattle.slotmap_scheduler.proofs.Common.{mapped-insert, mapped-with, map_values, Job, Entry, Schedule, job_of, in_turn, without, with_job, Turn, waiting_of, InOrder, unplaced}
-use Rattle.slotmap_scheduler.proofs.Common.{timed, spot_of, heap_entry, IsIndexed, handles_of, IsSchedule}
+use Rattle.slotmap_scheduler.proofs.Common.{timed, spot_of, heap_entry, IsIndexed, handles_of, IsSchedule, IsLive, MakesRoom, cond, get-insert_here, get-insert_other}
+use Rattle.slotmap_scheduler.proofs.Common.{leaves_by_removal, shown_content, mapped-room}
 use Rattle.slotmap.proofs.Callers.{some_entry}
 use Rattle.std.specs.FinMap as map
 use Rattle.std.specs.FinSet as set
-use Rattle.slotmap_scheduler.proofs.Order.{added, removed, written, none_in_order, none_wait, job_is}
-use Rattle.slotmap_scheduler.proofs.Handles.{handles_written}
+use Rattle.slotmap_scheduler.proofs.Order.{added, removed, written, none_in_order, none_wait, job_is, job_stays, len_is}
+use Rattle.slotmap_scheduler.proofs.Handles.{handles_written, handles_content, handles_room}
 use Rattle.slotmap_scheduler.proofs.Inverse.{alike}
 use Rattle.slotmap_scheduler.proofs.HeapPlaces.{entry_within}
+
+-- a job that is found without another one
+get-removed_other : {V : Type 0} (m : map.FinMap key_cmp V) (k q : Key) → q ≢ k → map.get (map.remove m k) q ≡ map.get m q
+get-removed_other m k q other = grind (arith, map.get-remove keys_total m k q, tied keys_total exact_keys q k)
+
+-- a value that is written under a live key
+content_written : {V : Type 0} (c : Content V) → IsContent true c → (k : Key) → IsLive c k → (v : V) → IsContent true (with_value c k v)
+content_written c valid k live v = shown_content c (map.insert c.live k v) (λ q. grind (arith, map.get-insert keys_total c.live k v q, tied keys_total exact_keys q k, live))
+    (map.len-insert keys_total c.live k v ∙ ap (λ b. cond b (map.len c.live) (map.len c.live + 1)) live) true valid
 
 module _ {T : Type 0} (jobs : Content (Job T)) (empty : jobs.live ≡ map.empty) where
   none_live : (timed jobs).live ≡ map.empty
@@ -24,9 +34,10 @@ module _ {T : Type 0} (jobs : Content (Job T)) (empty : jobs.live ≡ map.empty)
   none_waits = none_wait (timed jobs).live 0 (none_in_order (timed jobs).live 0 none_live) no_len
 
   -- no job is there
-  pub schedule_none : {Z : Type 0} (count : ℕ) (heap : Vec Entry Z) → vec_len heap ≡ 0 → map.len jobs.next ≤ vec_capacity heap → IsSchedule jobs count heap
-  schedule_none count heap none room = record {
+  pub schedule_none : {Z : Type 0} (count : ℕ) (heap : Vec Entry Z) → IsContent true jobs → vec_len heap ≡ 0 → map.len jobs.next ≤ vec_capacity heap → IsSchedule jobs count heap
+  schedule_none count heap valid none room = record {
     order = none_in_order (timed jobs).live count none_live;
+    valid = content-mapped unplaced jobs true valid;
     indexed = record {
       placed = record {
         to = λ k l x there. absurd (let e = ap (λ m. spot_of m k) empty in let f = map.get-empty {X = Job T} key_cmp k in cc);
@@ -39,26 +50,41 @@ module _ {T : Type 0} (jobs : Content (Job T)) (empty : jobs.live ≡ map.empty)
   }
 
 module _ {T Z : Type 0} (jobs : Content (Job T)) (count : ℕ) (heap : Vec Entry Z) (is : IsSchedule jobs count heap) where
-  -- a job was put in
-  module _ (valid : IsContent true jobs) (jobs' : Content (Job T)) (k : Key) (time : ℕ) (job : T) (inserts : Inserts (timed jobs) k ((time, count), job) (timed jobs')) where
-    well : IsContent true (timed jobs)
-    well = content-mapped unplaced jobs true valid
+  -- the handles are a content
+  pub schedule_content : IsContent true (handles_of (timed jobs) heap)
+  schedule_content = handles_content (timed jobs) heap is.valid is.indexed.len is.room
 
+  -- room was made in the map and in the heap
+  pub reserved_schedule : (jobs' : Content (Job T)) (heap' : Vec Entry Z) (n : ℕ) (ok : Type 0) → MakesRoom true jobs n ok jobs' → heap'.items ≡ heap.items → vec_len heap' ≡ vec_len heap
+      → vec_capacity heap ≤ vec_capacity heap' → IsSchedule jobs' count heap'
+  reserved_schedule jobs' heap' n ok makes items len more =
+      let keeps = makes.keeps in
+      let live = ap (map_values unplaced) keeps.live in
+      record {
+        order = rw live is.order;
+        valid = content-mapped unplaced jobs' true makes.after;
+        indexed = record { placed = rw (keeps.live, items) is.indexed.placed; ordered = rw items is.indexed.ordered; len = len ∙ is.indexed.len ∙ sym (ap map.len live) };
+        room = (let room = is.room in let next = ap map.len keeps.next in let all = ap map.len live in omega arith);
+      }
+
+  -- a job was put in
+  module _ (jobs' : Content (Job T)) (k : Key) (time : ℕ) (job : T) (inserts : Inserts (timed jobs) k ((time, count), job) (timed jobs')) where
     unused : map.get (timed jobs).live k ≡ None
-    unused = none_of (map.get (timed jobs).live k) (inserted_fresh true (timed jobs) k ((time, count), job) (timed jobs') well inserts)
+    unused = none_of (map.get (timed jobs).live k) (inserted_fresh true (timed jobs) k ((time, count), job) (timed jobs') is.valid inserts)
 
     put_next : (map.len jobs'.next + 1 ≡ map.len jobs.next) ⊎ (map.len jobs'.next ≡ 0)
-    put_next = grind (arith, well.offers inserts.below_limit, map.len-remove nat_cmp_total jobs.next k.index, ap map.len inserts.next, inserts.offered, some_entry nat_cmp_total exact_unsigned jobs.next k.index)
+    put_next = grind (arith, is.valid.offers inserts.below_limit, map.len-remove nat_cmp_total jobs.next k.index, ap map.len inserts.next, inserts.offered, some_entry nat_cmp_total exact_unsigned jobs.next k.index)
 
     put_order : InOrder (timed jobs').live (count + 1) × (waiting_of (timed jobs').live ≡ in_turn (k, (time, job)) (waiting_of (timed jobs).live))
     put_order = rw inserts.live (added (timed jobs).live count is.order k time job unused)
 
     pub put_len : map.len (timed jobs').live ≡ map.len (timed jobs).live + 1
-    put_len = inserted_len true (timed jobs) k ((time, count), job) (timed jobs') well inserts
+    put_len = inserted_len true (timed jobs) k ((time, count), job) (timed jobs') is.valid inserts
 
-    pub put_schedule : (heap' : Vec Entry Z) → IsIndexed jobs' heap' → vec_capacity heap ≤ vec_capacity heap' → IsSchedule jobs' (count + 1) heap'
-    put_schedule heap' indexed capacity = record {
+    pub put_schedule : (heap' : Vec Entry Z) → IsContent true (timed jobs') → IsIndexed jobs' heap' → vec_capacity heap' ≡ vec_capacity heap → IsSchedule jobs' (count + 1) heap'
+    put_schedule heap' valid indexed capacity = record {
       order = put_order.0;
+      valid = valid;
       indexed = indexed;
       room = (let more = put_len in let len = indexed.len in let room = is.room in elim put_next [ inl fewer ↦ omega arith | inr none ↦ omega (arith, heap'.ok.1) ]);
     }
@@ -68,6 +94,17 @@ module _ {T Z : Type 0} (jobs : Content (Job T)) (count : ℕ) (heap : Vec Entry
 
     pub put_fresh : job_of k (waiting_of (timed jobs).live) ≡ None
     put_fresh = job_is (timed jobs).live count is.order k ∙ ap (option_map (λ (x : Turn × T). (x.0.0, x.1))) unused
+
+    pub put_more : length (waiting_of (timed jobs').live) ≡ length (waiting_of (timed jobs).live) + 1
+    put_more = len_is (timed jobs').live (count + 1) put_order.0 ∙ put_len ∙ ap (λ n. n + 1) (sym (len_is (timed jobs).live count is.order))
+
+    pub put_there : job_of k (waiting_of (timed jobs').live) ≡ Some (time, job)
+    put_there = job_is (timed jobs').live (count + 1) put_order.0 k
+        ∙ ap (option_map (λ (x : Turn × T). (x.0.0, x.1))) (ap (λ m. map.get m k) inserts.live ∙ get-insert_here (timed jobs).live k ((time, count), job))
+
+    pub put_others : (q : Key) → q ≢ k → job_of q (waiting_of (timed jobs').live) ≡ job_of q (waiting_of (timed jobs).live)
+    put_others q other = job_stays (timed jobs).live count is.order (timed jobs').live (count + 1) put_order.0 q
+        (ap (λ m. map.get m q) inserts.live ∙ get-insert_other (timed jobs).live k ((time, count), job) q other)
 
   module _ (k : Key) (j : Job T) (found : map.get jobs.live k ≡ Some j) where
     had : map.get (timed jobs).live k ≡ Some (j.turn, j.job)
@@ -84,9 +121,22 @@ module _ {T Z : Type 0} (jobs : Content (Job T)) (count : ℕ) (heap : Vec Entry
       pub left_len : map.len (timed jobs').live + 1 ≡ map.len (timed jobs).live
       left_len = removed_len (timed jobs) k (j.turn, j.job) (timed jobs') had removes
 
-      pub left_schedule : (heap' : Vec Entry Z) → IsIndexed jobs' heap' → vec_capacity heap' ≡ vec_capacity heap → IsSchedule jobs' count heap'
-      left_schedule heap' indexed capacity = record {
-        order = rw removes.live less.0;
+      left_order : InOrder (timed jobs').live count
+      left_order = rw removes.live less.0
+
+      pub left_less : length (waiting_of (timed jobs').live) + 1 ≡ length (waiting_of (timed jobs).live)
+      left_less = ap (λ n. n + 1) (len_is (timed jobs').live count left_order) ∙ left_len ∙ sym (len_is (timed jobs).live count is.order)
+
+      pub left_others : (q : Key) → q ≢ k → job_of q (waiting_of (timed jobs').live) ≡ job_of q (waiting_of (timed jobs).live)
+      left_others q other = job_stays (timed jobs).live count is.order (timed jobs').live count left_order q (ap (λ m. map.get m q) removes.live ∙ get-removed_other (timed jobs).live k q other)
+
+      pub left_leaves : Leaves (timed jobs) (timed jobs')
+      left_leaves = leaves_by_removal true (timed jobs) is.valid k (ap is_some had) (timed jobs') removes
+
+      pub left_schedule : (heap' : Vec Entry Z) → IsContent true (timed jobs') → IsIndexed jobs' heap' → vec_capacity heap' ≡ vec_capacity heap → IsSchedule jobs' count heap'
+      left_schedule heap' valid indexed capacity = record {
+        order = left_order;
+        valid = valid;
         indexed = indexed;
         room = (let fewer = left_len in let e = ap map.len removes.next in let more = λ (n : ℕ) (v : ℕ). map.len-insert nat_cmp_total jobs.next n v in let room = is.room in grind (arith, e));
       }
@@ -108,12 +158,23 @@ module _ {T Z : Type 0} (jobs : Content (Job T)) (count : ℕ) (heap : Vec Entry
       turned_len : map.len (timed jobs').live ≡ map.len (timed jobs).live
       turned_len = ap (λ (c : Content (Turn × T)). map.len c.live) turned ∙ grind (arith, keys, had)
 
+      pub turned_there : job_of k (waiting_of (timed jobs').live) ≡ Some (time, j.job)
+      turned_there = job_is (timed jobs').live (count + 1) turned_order.0 k
+          ∙ ap (option_map (λ (x : Turn × T). (x.0.0, x.1))) (ap (λ m. map.get m k) turned_live ∙ get-insert_here (map.remove (timed jobs).live k) k ((time, count), j.job))
+
+      pub turned_others : (q : Key) → q ≢ k → job_of q (waiting_of (timed jobs').live) ≡ job_of q (waiting_of (timed jobs).live)
+      turned_others q other = job_stays (timed jobs).live count is.order (timed jobs').live (count + 1) turned_order.0 q
+          (ap (λ m. map.get m q) turned_live ∙ get-insert_other (map.remove (timed jobs).live k) k ((time, count), j.job) q other ∙ get-removed_other (timed jobs).live k q other)
+
+      pub turned_more : length (waiting_of (timed jobs').live) ≡ length (waiting_of (timed jobs).live)
+      turned_more = len_is (timed jobs').live (count + 1) turned_order.0 ∙ turned_len ∙ sym (len_is (timed jobs).live count is.order)
+
       pub turned_waits : waiting_of (timed jobs').live ≡ in_turn (k, (time, j.job)) (without k (waiting_of (timed jobs).live))
       turned_waits = turned_order.1
 
       module _ (heap' : Vec Entry Z) (indexed : IsIndexed jobs' heap') (capacity : vec_capacity heap' ≡ vec_capacity heap) where
         pub turned_schedule : IsSchedule jobs' (count + 1) heap'
-        turned_schedule = record { order = turned_order.0; indexed = indexed; room = (let len = turned_len in let next = ap (λ (c : Content (Turn × T)). map.len c.next) turned in let room = is.room in omega arith) }
+        turned_schedule = record { order = turned_order.0; valid = rw turned (content_written (timed jobs) is.valid k (ap is_some had) ((time, count), j.job)); indexed = indexed; room = (let len = turned_len in let next = ap (λ (c : Content (Turn × T)). map.len c.next) turned in let room = is.room in omega arith) }
 
         pub turned_handles : handles_of (timed jobs') heap' ≡ handles_of (timed jobs) heap
         turned_handles = handles_written (timed jobs) (timed jobs') heap heap' k ((time, count), j.job) (ap is_some had) turned (indexed.len ∙ turned_len ∙ sym is.indexed.len) capacity
@@ -138,6 +199,7 @@ module _ {T Z : Type 0} (jobs : Content (Job T)) (count : ℕ) (heap : Vec Entry
       pub written_schedule : IsSchedule now count heap
       written_schedule = record {
         order = rw live_written now_written.0;
+        valid = rw (mapped-with unplaced jobs jobs k (record j { job = w })) (content_written (timed jobs) is.valid k (ap is_some had) (j.turn, w));
         indexed = record { placed = alike (spot_of jobs.live) _ (heap_entry heap.items) _ same_spot (λ i. refl) is.indexed.placed; ordered = is.indexed.ordered; len = is.indexed.len ∙ sym len_written };
         room = (let same = len_written in let room = is.room in omega arith);
       }
@@ -147,6 +209,15 @@ module _ {T Z : Type 0} (jobs : Content (Job T)) (count : ℕ) (heap : Vec Entry
           let waiting = ap waiting_of live_written ∙ now_written.1 in
           let handles = handles_written (timed jobs) (timed now) heap heap k (j.turn, w) (ap is_some had) (mapped-with unplaced jobs jobs k (record j { job = w })) refl refl in
           λ i. record { waiting = waiting i; handles = handles i; turns = count }
+
+-- room was made in the map and in the heap, so for the handles
+pub reserved_room : {T Z : Type 0} (jobs : Content (Job T)) (count : ℕ) (heap : Vec Entry Z) (is : IsSchedule jobs count heap) (jobs' : Content (Job T)) (heap' : Vec Entry Z) (n : ℕ) (made ok : Type 0)
+    → MakesRoom true jobs n made jobs' → heap'.items ≡ heap.items → vec_len heap' ≡ vec_len heap → vec_capacity heap ≤ vec_capacity heap'
+    → (vec_len heap + n ≤ vec_capacity heap → vec_capacity heap' ≡ vec_capacity heap) → (ok → made × (vec_len heap' + n ≤ vec_capacity heap')) → (n ≤ jobs.room → vec_len heap + n ≤ vec_capacity heap → ok)
+    → MakesRoom true (handles_of (timed jobs) heap) n ok (handles_of (timed jobs') heap')
+reserved_room jobs count heap is jobs' heap' n made ok makes items len more same has had =
+    handles_room (timed jobs) (timed jobs') heap heap' n made ok (mapped-room unplaced jobs jobs' n made makes) (schedule_content jobs count heap is)
+    (schedule_content jobs' count heap' (reserved_schedule jobs count heap is jobs' heap' n made makes items len more)) is.indexed.len len more same has had
 
 some_item : (s : set.FinSet key_cmp) (n : ℕ) (ks : List Key) → set.items s ≡ ks → set.len s ≡ suc n → (k : Key) × (set.contains s k ≡ true)
 some_item s n [] at len =
@@ -168,13 +239,13 @@ len-subset (suc n) s t len within =
     omega arith
 
 -- all jobs were taken out
-pub schedule_cleared : {T Z : Type 0} (jobs jobs' : Content (Job T)) (count : ℕ) (heap heap' : Vec Entry Z) → IsSchedule jobs count heap → jobs'.live ≡ map.empty → Leaves jobs jobs' → vec_len heap' ≡ 0
-    → vec_capacity heap' ≡ vec_capacity heap → IsSchedule jobs' count heap'
-schedule_cleared {T} jobs jobs' count heap heap' is empty leaves none capacity =
+pub schedule_cleared : {T Z : Type 0} (jobs jobs' : Content (Job T)) (count : ℕ) (heap heap' : Vec Entry Z) → IsSchedule jobs count heap → IsContent true jobs' → jobs'.live ≡ map.empty → Leaves jobs jobs'
+    → vec_len heap' ≡ 0 → vec_capacity heap' ≡ vec_capacity heap → IsSchedule jobs' count heap'
+schedule_cleared {T} jobs jobs' count heap heap' is valid empty leaves none capacity =
     let live = ap map.len empty ∙ map.len-empty key_cmp (Job T) in
     let was = len-mapped unplaced jobs.live in
     let retired = len-subset (set.len jobs.retired) jobs.retired jobs'.retired refl (λ q there. grind (arith, leaves.retired q)) in
     let detached = ap set.len leaves.detached in
     let places = leaves.same_places in
     let room = is.room in
-    schedule_none jobs' empty count heap' none (omega arith)
+    schedule_none jobs' empty count heap' valid none (omega arith)

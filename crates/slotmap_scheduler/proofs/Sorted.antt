@@ -6,11 +6,11 @@ use Rattle.slotmap_scheduler.proofs.Common.{tied, itself}
 use Rattle.std.specs.FinMap as map
 use Rattle.slotmap_scheduler.proofs.Inverse.{Puts, Drops}
 
-first : (a b : Bool) → T (a && b) → T a
+pub first : (a b : Bool) → T (a && b) → T a
 first true b p = tt
 first false b p = p
 
-second : (a b : Bool) → T (a && b) → T b
+pub second : (a b : Bool) → T (a && b) → T b
 second true b p = p
 second false b p = absurd p
 
@@ -22,7 +22,7 @@ pub none_there : {A : Type 0} (o : Option A) → ((x : A) → o ≡ Some x → �
 none_there o not_some = grind arith
 
 module _ {K X : Type 0} {R : K → K → Ordering} (total : IsTotalOrder R) (exact : CmpEqualImpliesEq R) where
-  below_none : (q : K) (es : List (K × X)) → T (below_all R q es) → find R q es ≡ None
+  pub below_none : (q : K) (es : List (K × X)) → T (below_all R q es) → find R q es ≡ None
   below_none q [] below = refl
   below_none q (e ∷ es) below = grind (arith, below_none q es)
 

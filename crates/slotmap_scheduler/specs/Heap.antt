@@ -1,9 +1,9 @@
 -- How a scheduler keeps its jobs: each in the map, with its place in a heap of turns.
-use Rattle.std.specs.Prelude.{◌≡◌, ◌≢◌, ℕ, ◌+◌, ◌-◌, ◌/◌, ◌<◌, ◌≤◌, Bool, false, List, Option, get_or, length, min, vec_len, vec_capacity, slice_get, option_map}
+use Rattle.std.specs.Prelude.{◌≡◌, ◌≢◌, ℕ, ◌+◌, ◌-◌, ◌/◌, ◌<◌, ◌≤◌, Bool, true, false, List, Option, get_or, length, min, vec_len, vec_capacity, slice_get, option_map}
 use Rattle.std.specs.declared.vec.Vec.{Vec}
 use Rattle.std.specs.Ordering.{is_lt}
 use Rattle.std.specs.FinMap as map
-use Rattle.slotmap.specs.Words.{Key, key_cmp, Content, without_values}
+use Rattle.slotmap.specs.Words.{Key, key_cmp, Content, IsContent, without_values}
 use Rattle.slotmap_keylist.specs.Mapped.{map_content}
 use Rattle.slotmap_scheduler.specs.declared.Job.{Job}
 use Rattle.slotmap_scheduler.specs.declared.heap.Entry.{Entry}
@@ -96,6 +96,7 @@ module _ {T : Type 0} where
     -- what holds of every scheduler
     pub record IsSchedule (jobs : Content (Job T)) (count : ℕ) (heap : Vec Entry Z) : Type 0 where
       pub order : InOrder (timed jobs).live count
+      pub valid : IsContent true (timed jobs)
       pub indexed : IsIndexed jobs heap
       -- where a slot of the map is vacant, the heap has room too
       pub room : map.len (timed jobs).live + map.len jobs.next ≤ vec_capacity heap

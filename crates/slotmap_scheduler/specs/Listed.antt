@@ -1,9 +1,9 @@
--- The jobs of a scheduler in an order that isn't promised.
+-- The jobs of a scheduler in another order, and those that are due.
 use Rattle.std.specs.Prelude.{◌≡◌, ℕ, ◌<◌, ◌≤◌, ◌++◌, nat_lt, cond, List, [], ◌∷◌, length, map as list_map}
 use Rattle.std.specs.List.{All}
 use Rattle.slotmap.specs.Words.{Key}
 use Rattle.slotmap_scheduler.specs.declared.Job.{Job}
-use Rattle.slotmap_scheduler.specs.Schedule.{Waiting, job_of}
+use Rattle.slotmap_scheduler.specs.Schedule.{Waiting, job_of, IsByTime}
 
 module _ {T : Type 0} where
   -- these are the jobs that wait: each handle has the same time and job, and there are as many
@@ -39,6 +39,7 @@ module _ {T : Type 0} where
     pub taken : List (K × T)
     pub waited : old ≡ first ++ new
     pub due : All (λ e. e.1.0 ≤ now) first
+    pub sorted : IsByTime first
     pub later : All (λ e. now < e.1.0) new
     pub returned : Due data_of first taken
     pub added : all ≡ items ++ taken

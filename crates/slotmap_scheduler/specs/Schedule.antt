@@ -1,7 +1,7 @@
 -- A scheduler as its user sees it: the jobs that wait, in the order of their turns.
-use Rattle.std.specs.Prelude.{◌≡◌, ℕ, ◌^◌, ◌-◌, ◌<◌, ◌⊎◌, not, nat_lt, refl, List, [], ◌∷◌, Option, None, cond}
+use Rattle.std.specs.Prelude.{◌≡◌, ℕ, ◌^◌, ◌-◌, ◌<◌, ◌≤◌, ◌⊎◌, not, nat_lt, refl, List, [], ◌∷◌, Option, None, cond}
 use Rattle.std.specs.Ordering.{eq_by_cmp}
-use Rattle.std.specs.List.{filter}
+use Rattle.std.specs.List.{All, filter}
 use Rattle.std.specs.FinMap.Entries.{find}
 use Rattle.std.specs.Coded.{Coded, code_by, coded×, coded_list, coded_ℕ}
 use Rattle.slotmap.specs.Words.{Key, key_cmp, coded_key, Content, keys_code, used, most, LacksRoom}
@@ -44,6 +44,16 @@ module _ {T : Type 0} where
   -- the jobs without that of a handle
   abbrev pub without : Key → Waiting T → Waiting T
   without k jobs = filter (λ e. not (eq_by_cmp key_cmp k e.0)) jobs
+
+  -- each handle is there once
+  abbrev pub IsOnce : Waiting T → Type 0
+  IsOnce [] = Unit {0}
+  IsOnce (e ∷ es) = (job_of e.0 es ≡ None) × IsOnce es
+
+  -- no job is due after one behind it
+  abbrev pub IsByTime : Waiting T → Type 0
+  IsByTime [] = Unit {0}
+  IsByTime (e ∷ es) = All (λ x. e.1.0 ≤ x.1.0) es × IsByTime es
 
   -- the same turns, where the handle has another job
   abbrev pub with_job : Key → T → Waiting T → Waiting T

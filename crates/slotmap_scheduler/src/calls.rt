@@ -1,23 +1,23 @@
 //! The calls that change which jobs wait, and in which order.
 
-ghost use Rattle.std.specs.Prelude.{◌≡◌, ℕ, ◌+◌, ◌<◌, ◌≤◌, ◌∷◌, [], Some, None, IfOk, OnOk, IfErr, OnErr, IfSome, OnSome, IfNone, IsOk, is_some, true, option_map, length, vec_len, vec_capacity};
+ghost use Rattle.std.specs.Prelude.{◌≡◌, ◌≢◌, ℕ, ◌+◌, ◌<◌, ◌≤◌, ◌∷◌, [], Some, None, IfOk, OnOk, IfErr, OnErr, IfSome, OnSome, IfNone, IsOk, is_some, true, option_map, length, vec_len, vec_capacity};
 ghost use Rattle.std.specs.List.{All};
 ghost use Rattle.std.specs.FinMap as map;
-ghost use Rattle.slotmap.specs.Words.{Key as KeyOf, Inserts, Removes, Keeps, IsSpent, KeepsSpent, RefusesCapacity, used, most};
-ghost use Rattle.slotmap_scheduler.specs.Schedule.{job_of, in_turn, without, last_turn, RefusesJob, RefusesMove};
+ghost use Rattle.slotmap.specs.Words.{Key as KeyOf, IsContent, MakesRoom, Inserts, Removes, Keeps, Leaves, IsSpent, KeepsSpent, RefusesCapacity, used};
+ghost use Rattle.slotmap_scheduler.specs.Schedule.{job_of, in_turn, without, last_turn, IsOnce, IsByTime, RefusesJob, RefusesMove};
 ghost use Rattle.slotmap_scheduler.specs.Listed.{TakesDue};
 
-use crate::heap::{put_in, set_turn, take_out};
+use crate::heap::{make_room, put_in, set_turn, take_out};
 use crate::{RescheduleError, ScheduleError, Scheduler};
 use slotmap::{Key, ReserveError};
 use slotmap_keylist::{inner, outer};
 use std::alloc::AllocError;
 
 impl<K: Key, T: Drop> Scheduler<K, T> {
-    /// Reserves room for `additional` more jobs.
+    /// Reserves room for `additional` more jobs. If there is room already, it changes nothing.
     ///
-    /// The next `additional` schedules don't fail for memory. The errors are these; either leaves
-    /// the same jobs waiting:
+    /// The next `additional` schedules don't fail then, unless all turns were given out, and the
+    /// capacity stays. The errors are these; either leaves the same jobs waiting:
     ///
     /// - `TooGreat`: more than 4294967294 jobs would be there, counting those whose slots are retired.
     /// - `Memory`: memory runs out.
@@ -31,12 +31,9 @@ impl<K: Key, T: Drop> Scheduler<K, T> {
     /// assert_eq!(rt; scheduler.capacity(), capacity);
     /// ```
     pub fn reserve(&mut self, additional: usize) -> Result<(), ReserveError>
-        ensures room { OnOk result (additional ≤ self.new.handles.room) }
-        ensures had_room { additional ≤ self.old.handles.room → IsOk result }
+        ensures makes_room { MakesRoom true self.old.handles additional (IsOk result) self.new.handles }
         ensures reuses { additional ≤ map.len self.old.handles.next → IsOk result }
         ensures err { IfErr result (RefusesCapacity (used self.old.handles + additional)) }
-        ensures limit { used self.old.handles ≤ most }
-        ensures keeps { Keeps self.old.handles self.new.handles }
         ensures waiting { self.new.waiting ≡ self.old.waiting }
         ensures turns { self.new.turns ≡ self.old.turns }
         ensures stale { KeepsSpent self.old.handles self.new.handles }
@@ -44,7 +41,7 @@ impl<K: Key, T: Drop> Scheduler<K, T> {
         if let Err(error) = self.jobs.reserve(additional) {
             return Err(error);
         }
-        if self.heap.reserve(additional).is_err() {
+        if make_room(&mut self.heap, additional).is_err() {
             return Err(ReserveError::Memory);
         }
         Ok(())
@@ -55,9 +52,13 @@ impl<K: Key, T: Drop> Scheduler<K, T> {
         requires room { 0 < self.old.handles.room }
         requires turns { self.old.turns < last_turn }
         ensures waits { self.new.waiting ≡ in_turn (K.data_of result, (time, job)) self.old.waiting }
+        ensures there { job_of (K.data_of result) self.new.waiting ≡ Some (time, job) }
+        ensures others { (q : KeyOf) → q ≢ K.data_of result → job_of q self.new.waiting ≡ job_of q self.old.waiting }
+        ensures one_more { length self.new.waiting ≡ length self.old.waiting + 1 }
         ensures fresh { job_of (K.data_of result) self.old.waiting ≡ None }
         ensures unspent { IsSpent self.old.handles (K.data_of result) → ⊥ }
         ensures handles { Inserts self.old.handles (K.data_of result) tt self.new.handles }
+        ensures capacity { self.new.handles.capacity ≡ self.old.handles.capacity }
         ensures turns { self.new.turns ≡ self.old.turns + 1 }
         ensures stale { KeepsSpent self.old.handles self.new.handles }
     {
@@ -69,8 +70,9 @@ impl<K: Key, T: Drop> Scheduler<K, T> {
 
     /// Schedules a job, and returns its handle. It is behind all waiting jobs of its time.
     ///
-    /// If the call fails, the error holds the job, and the same jobs wait. The next handle stays the
-    /// same. It takes time logarithmic in the number of jobs, unless a vector grows.
+    /// If there is room and a turn is left, it can't fail, and the capacity stays. If the call fails,
+    /// the error holds the job, and the same jobs wait. The next handle stays the same. It takes time
+    /// logarithmic in the number of jobs, unless a vector grows.
     ///
     /// ```
     /// let mut scheduler: Scheduler<DefaultKey, &str> = Scheduler::new(alloc)?;
@@ -82,14 +84,23 @@ impl<K: Key, T: Drop> Scheduler<K, T> {
     pub fn schedule(&mut self, time: u64, job: T) -> Result<K, ScheduleError<T>>
         // The job waits under a new handle, which no job had before.
         ensures waits { IfOk result (λ handle. self.new.waiting ≡ in_turn (K.data_of handle, (time, job)) self.old.waiting) }
+        ensures there { IfOk result (λ handle. job_of (K.data_of handle) self.new.waiting ≡ Some (time, job)) }
+        ensures others { IfOk result (λ handle. (q : KeyOf) → q ≢ K.data_of handle → job_of q self.new.waiting ≡ job_of q self.old.waiting) }
+        ensures one_more { OnOk result (length self.new.waiting ≡ length self.old.waiting + 1) }
         ensures fresh { IfOk result (λ handle. job_of (K.data_of handle) self.old.waiting ≡ None) }
         ensures unspent { IfOk result (λ handle. IsSpent self.old.handles (K.data_of handle) → ⊥) }
         ensures handles { IfOk result (λ handle. Inserts self.old.handles (K.data_of handle) tt self.new.handles) }
         ensures turns { OnOk result (self.new.turns ≡ self.old.turns + 1) }
 
-        // Why the call failed, and what that leaves. If a slot is vacant, memory can't run out.
-        ensures err { IfErr result (RefusesJob self.old job) }
+        // If there is room, it can't fail, and the capacity stays. For each vacant slot there is room.
+        ensures room { 0 < self.old.handles.room → self.old.turns < last_turn → IsOk result }
+        ensures in_place { 0 < self.old.handles.room → self.new.handles.capacity ≡ self.old.handles.capacity }
         ensures reuses { 0 < map.len self.old.handles.next → self.old.turns < last_turn → IsOk result }
+        ensures capacity { self.old.handles.capacity ≤ self.new.handles.capacity }
+        ensures valid { IsContent true self.old.handles }
+
+        // Why the call failed, and what that leaves.
+        ensures err { IfErr result (RefusesJob self.old job) }
         ensures unchanged { OnErr result (Keeps self.old.handles self.new.handles × (self.new.waiting ≡ self.old.waiting) × (self.new.turns ≡ self.old.turns)) }
 
         // What never comes again.
@@ -108,7 +119,7 @@ impl<K: Key, T: Drop> Scheduler<K, T> {
     /// Cancels the job of a handle, and returns it, or `None` if no job waits under it. It is never
     /// returned later, and its handle is never used again.
     ///
-    /// Nothing is allocated. It takes time logarithmic in the number of jobs.
+    /// The capacity stays. It takes time logarithmic in the number of jobs.
     ///
     /// ```
     /// let mut scheduler: Scheduler<DefaultKey, &str> = Scheduler::new(alloc)?;
@@ -120,9 +131,17 @@ impl<K: Key, T: Drop> Scheduler<K, T> {
     pub fn cancel(&mut self, handle: K) -> Option<T>
         ensures job { result ≡ option_map (λ due. due.1) (job_of (K.data_of handle) self.old.waiting) }
         ensures removed { self.new.waiting ≡ without (K.data_of handle) self.old.waiting }
+        ensures one_less { OnSome result (length self.new.waiting + 1 ≡ length self.old.waiting) }
+        ensures others { (q : KeyOf) → q ≢ K.data_of handle → job_of q self.new.waiting ≡ job_of q self.old.waiting }
         ensures handles { OnSome result (Removes self.old.handles (K.data_of handle) self.new.handles) }
         ensures turns { self.new.turns ≡ self.old.turns }
         ensures unchanged { IfNone result (self.new ≡ self.old) }
+
+        // The capacity stays, and no room is lost.
+        ensures capacity { self.new.handles.capacity ≡ self.old.handles.capacity }
+        ensures leaves { Leaves self.old.handles self.new.handles }
+
+        // What never comes again.
         ensures for_good { OnSome result (IsSpent self.new.handles (K.data_of handle)) }
         ensures stale { KeepsSpent self.old.handles self.new.handles }
     {
@@ -133,7 +152,7 @@ impl<K: Key, T: Drop> Scheduler<K, T> {
     /// Moves the job of a handle to another time, behind all jobs of that time. The handle stays the
     /// same.
     ///
-    /// If the call fails, nothing has changed. Nothing is allocated. It takes time logarithmic in the
+    /// If the call fails, nothing has changed. The capacity stays. It takes time logarithmic in the
     /// number of jobs.
     ///
     /// ```
@@ -147,6 +166,10 @@ impl<K: Key, T: Drop> Scheduler<K, T> {
         // The job waits under the same handle, with a new turn.
         ensures moved { (before : ℕ) (job : T) → job_of (K.data_of handle) self.old.waiting ≡ Some (before, job)
             → OnOk result (self.new.waiting ≡ in_turn (K.data_of handle, (time, job)) (without (K.data_of handle) self.old.waiting)) }
+        ensures there { (before : ℕ) (job : T) → job_of (K.data_of handle) self.old.waiting ≡ Some (before, job)
+            → OnOk result (job_of (K.data_of handle) self.new.waiting ≡ Some (time, job)) }
+        ensures others { (q : KeyOf) → q ≢ K.data_of handle → job_of q self.new.waiting ≡ job_of q self.old.waiting }
+        ensures as_many { length self.new.waiting ≡ length self.old.waiting }
         ensures waits { OnOk result (is_some (job_of (K.data_of handle) self.old.waiting) ≡ true) }
         ensures turns { OnOk result (self.new.turns ≡ self.old.turns + 1) }
         ensures handles { self.new.handles ≡ self.old.handles }
@@ -182,8 +205,11 @@ impl<K: Key, T: Drop> Scheduler<K, T> {
             × (self.now.waiting ≡ (K.data_of next.1, (next.0, job)) ∷ without (K.data_of next.1) self.now.waiting)) }
         ensures none { IfNone result (self.now.waiting ≡ []) }
 
-        // No job is due before it.
+        // No job is due before it: they are sorted by time, and each handle is there once.
+        ensures least { IfSome result (λ next. All (λ e. next.0 ≤ e.1.0) self.now.waiting) }
         ensures later { (now : ℕ) → IfSome result (λ next. now < next.0 → All (λ e. now < e.1.0) self.now.waiting) }
+        ensures sorted { IsByTime self.now.waiting }
+        ensures once { IsOnce self.now.waiting }
     {
         let next = self.heap.first()?;
         Some((next.turn.0, outer(next.handle)))
@@ -193,7 +219,7 @@ impl<K: Key, T: Drop> Scheduler<K, T> {
     /// returned again, and its handle is never used again.
     ///
     /// Of the jobs that wait it is the one of the least time, and of those of that time the one that
-    /// was scheduled first. `None` means that no job is due. Nothing is allocated.
+    /// was scheduled first. `None` means that no job is due. The capacity stays.
     ///
     /// ```
     /// let mut scheduler: Scheduler<DefaultKey, &str> = Scheduler::new(alloc)?;
@@ -203,15 +229,21 @@ impl<K: Key, T: Drop> Scheduler<K, T> {
     /// assert!(rt; scheduler.is_empty());
     /// ```
     pub fn pop_due(&mut self, now: u64) -> Option<(K, T)>
-        // The first job that waits is taken out, and was due.
+        // The first job that waits is taken out, and was due. None that is left is due before it.
         ensures next { IfSome result (λ due. (time : ℕ) × (time ≤ now)
-            × (self.old.waiting ≡ (K.data_of due.0, (time, due.1)) ∷ self.new.waiting)) }
+            × (self.old.waiting ≡ (K.data_of due.0, (time, due.1)) ∷ self.new.waiting) × All (λ e. time ≤ e.1.0) self.new.waiting) }
+        ensures sorted { IsByTime self.old.waiting }
+        ensures once { IsOnce self.old.waiting }
         ensures handles { IfSome result (λ due. Removes self.old.handles (K.data_of due.0) self.new.handles) }
         ensures turns { self.new.turns ≡ self.old.turns }
 
         // None is due.
         ensures none { IfNone result (All (λ e. now < e.1.0) self.old.waiting) }
         ensures unchanged { IfNone result (self.new ≡ self.old) }
+
+        // The capacity stays, and no room is lost.
+        ensures capacity { self.new.handles.capacity ≡ self.old.handles.capacity }
+        ensures leaves { Leaves self.old.handles self.new.handles }
 
         // What never comes again.
         ensures for_good { IfSome result (λ due. IsSpent self.new.handles (K.data_of due.0)) }
@@ -229,8 +261,8 @@ impl<K: Key, T: Drop> Scheduler<K, T> {
     /// order. Their handles are never used again.
     ///
     /// Room for all jobs that wait is made in the vector first. So if the call fails, nothing has
-    /// changed. Where the vector has that room, the call succeeds. It takes time logarithmic in the
-    /// number of jobs for each job that is due.
+    /// changed. Where the vector has that room, the call succeeds. The scheduler's capacity stays. It
+    /// takes time logarithmic in the number of jobs for each job that is due.
     ///
     /// ```
     /// let mut scheduler: Scheduler<DefaultKey, &str> = Scheduler::new(alloc)?;
@@ -243,7 +275,13 @@ impl<K: Key, T: Drop> Scheduler<K, T> {
     pub fn pop_all_due(&mut self, now: u64, due: &mut Vec<(K, T)>) -> Result<(), AllocError>
         // The first jobs that wait are taken out, those that are due.
         ensures taken { OnOk result (TakesDue K.data_of now self.old.waiting due.old.items due.new.items self.new.waiting) }
+        ensures sorted { IsByTime self.old.waiting }
+        ensures once { IsOnce self.old.waiting }
         ensures turns { self.new.turns ≡ self.old.turns }
+
+        // The capacity stays, and no room is lost.
+        ensures capacity { self.new.handles.capacity ≡ self.old.handles.capacity }
+        ensures leaves { Leaves self.old.handles self.new.handles }
 
         // When the call succeeds, and what a failing one leaves.
         ensures had_room { vec_len due.old + length self.old.waiting ≤ vec_capacity due.old → IsOk result }
@@ -261,7 +299,7 @@ impl<K: Key, T: Drop> Scheduler<K, T> {
         Ok(())
     }
 
-    /// Removes all jobs. Their handles are never used again. The room stays.
+    /// Removes all jobs. Their handles are never used again. The capacity stays, and no room is lost.
     ///
     /// It takes time linear in the number of slots.
     ///
@@ -274,6 +312,9 @@ impl<K: Key, T: Drop> Scheduler<K, T> {
     /// ```
     pub fn clear(&mut self)
         ensures empty { self.new.waiting ≡ [] }
+        ensures none_live { self.new.handles.live ≡ map.empty }
+        ensures capacity { self.new.handles.capacity ≡ self.old.handles.capacity }
+        ensures leaves { Leaves self.old.handles self.new.handles }
         ensures for_good { (k : KeyOf) → is_some (job_of k self.old.waiting) ≡ true → IsSpent self.new.handles k }
         ensures turns { self.new.turns ≡ self.old.turns }
         ensures stale { KeepsSpent self.old.handles self.new.handles }

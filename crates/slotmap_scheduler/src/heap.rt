@@ -1,14 +1,15 @@
 //! The heap of turns, which knows the job that is next.
 
-ghost use Rattle.std.specs.Prelude.{◌≡◌, ◌≢◌, ℕ, ◌<◌, ◌≤◌, Some, IfSome, IfNone, OnSome, true, length, vec_len, vec_capacity};
+ghost use Rattle.std.specs.Prelude.{◌≡◌, ◌≢◌, ℕ, ◌+◌, ◌<◌, ◌≤◌, Some, IfSome, IfNone, OnSome, OnOk, IsOk, true, length, vec_len, vec_capacity};
 ghost use Rattle.std.specs.List.{SwappedAt};
 ghost use Rattle.std.specs.FinMap as map;
-ghost use Rattle.slotmap.specs.Words.{IsContent, IsLive, Inserts, Removes, with_value};
+ghost use Rattle.slotmap.specs.Words.{IsLive, StaysValid, Inserts, Removes, with_value};
 ghost use Rattle.slotmap_scheduler.specs.declared.Job.{Job as JobOf};
 ghost use Rattle.slotmap_scheduler.specs.Heap.{precedes, up, IsPlaced, IsHeap, IsHeapBut, IsAbove, IsFirstBelow, Resettled, IsIndexed, timed};
 
 use crate::Job;
 use slotmap::{DefaultKey, SlotMap};
+use std::alloc::AllocError;
 
 // The jobs under their handles.
 pub(crate) type Jobs<T> = SlotMap<DefaultKey, Job<T>>;
@@ -114,6 +115,21 @@ fn settle<T: Drop>(jobs: &mut Jobs<T>, heap: &mut Vec<Entry>, place: usize)
     sift_down(jobs, heap, at);
 }
 
+// Makes room for `additional` more entries. If there is room, it changes nothing.
+pub(crate) fn make_room(heap: &mut Vec<Entry>, additional: usize) -> Result<(), AllocError>
+    ensures keeps { heap.new.items ≡ heap.old.items }
+    ensures len { vec_len heap.new ≡ vec_len heap.old }
+    ensures ok { OnOk result (vec_len heap.new + additional ≤ vec_capacity heap.new) }
+    ensures capacity { vec_capacity heap.old ≤ vec_capacity heap.new }
+    ensures succeeds { vec_len heap.old + additional ≤ vec_capacity heap.old → IsOk result }
+    ensures had_room { vec_len heap.old + additional ≤ vec_capacity heap.old → vec_capacity heap.new ≡ vec_capacity heap.old }
+{
+    if additional <= heap.capacity() - heap.len() {
+        return Ok(());
+    }
+    heap.reserve(additional)
+}
+
 // Puts a job in, for which there is room.
 pub(crate) fn put_in<T: Drop>(
     jobs: &mut Jobs<T>,
@@ -125,13 +141,13 @@ pub(crate) fn put_in<T: Drop>(
     requires room { 0 < jobs.old.room }
     requires space { vec_len heap.old < vec_capacity heap.old }
     ensures inserts { Inserts (timed jobs.old) result (turn, job) (timed jobs.new) }
-    ensures valid { IsContent true jobs.old }
+    ensures valid { StaysValid true (timed jobs.old) (timed jobs.new) }
     ensures indexed { IsIndexed jobs.new heap.new }
-    ensures capacity { vec_capacity heap.old ≤ vec_capacity heap.new }
+    ensures capacity { vec_capacity heap.new ≡ vec_capacity heap.old }
 {
     let place = heap.len();
     let handle = jobs.insert(Job { turn, place, job }).unwrap();
-    let _ = heap.push(Entry { turn, handle });
+    heap.push_reserved(Entry { turn, handle });
     settle(jobs, heap, place);
     handle
 }
@@ -165,7 +181,7 @@ pub(crate) fn take_out<T: Drop>(
     requires { IsIndexed jobs.old heap.old }
     ensures value { result ≡ map.get jobs.old.live handle }
     ensures removes { OnSome result (Removes (timed jobs.old) handle (timed jobs.new)) }
-    ensures valid { IsContent true jobs.old }
+    ensures valid { StaysValid true (timed jobs.old) (timed jobs.new) }
     ensures indexed { IsIndexed jobs.new heap.new }
     ensures capacity { vec_capacity heap.new ≡ vec_capacity heap.old }
     ensures unchanged { IfNone result ((jobs.new ≡ jobs.old) × (heap.new ≡ heap.old)) }

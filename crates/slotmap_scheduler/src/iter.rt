@@ -1,8 +1,9 @@
-//! Iterators over the jobs that wait, in no promised order.
+//! Iterators over the jobs that wait, by ascending index of their handles.
 
 ghost use Rattle.std.specs.Prelude.{◌≡◌, ◌≤◌, length, Some, IfSome, map as list_map};
 ghost use Rattle.std.specs.Iterator.{YieldsFirstBy, item_count, at_most, UpTo};
-ghost use Rattle.slotmap_scheduler.specs.Schedule.{Waiting};
+ghost use Rattle.std.specs.FinMap as map;
+ghost use Rattle.slotmap_scheduler.specs.Schedule.{Waiting, IsOnce};
 ghost use Rattle.slotmap_scheduler.specs.Listed.{ListsJobs};
 
 use crate::{Job, Scheduler};
@@ -154,8 +155,8 @@ impl<'a, K: Key, T: Drop> Iterator for Values<'a, K, T> {
 }
 
 impl<K: Key, T: Drop> Scheduler<K, T> {
-    /// Returns an iterator over the jobs that wait, each with its handle and its time, in no promised
-    /// order. A `for` loop over `&scheduler` goes over the same.
+    /// Returns an iterator over the jobs that wait, each with its handle and its time, by ascending
+    /// index of the handles. A `for` loop over `&scheduler` goes over the same.
     ///
     /// It is made in constant time. All its steps together read each slot once.
     ///
@@ -167,7 +168,9 @@ impl<K: Key, T: Drop> Scheduler<K, T> {
     /// assert!(rt; jobs.next().is_none());
     /// ```
     pub fn iter(&self) -> Iter<'_, K, T>
-        ensures { ListsJobs self.now.waiting result }
+        ensures jobs { ListsJobs self.now.waiting result }
+        ensures in_order { list_map (λ e. e.0) result ≡ map.keys self.now.handles.live }
+        ensures once { IsOnce result }
     {
         Iter {
             jobs: self.jobs.iter(),
@@ -185,7 +188,8 @@ impl<K: Key, T: Drop> Scheduler<K, T> {
     /// assert_eq!(rt; scheduler.keys().next(), Some(tea));
     /// ```
     pub fn keys(&self) -> Keys<'_, K, T>
-        ensures { (jobs : Waiting T) × ListsJobs self.now.waiting jobs × (result ≡ list_map (λ e. e.0) jobs) }
+        ensures jobs { (jobs : Waiting T) × ListsJobs self.now.waiting jobs × (result ≡ list_map (λ e. e.0) jobs) }
+        ensures in_order { result ≡ map.keys self.now.handles.live }
     {
         Keys { jobs: self.iter() }
     }
@@ -200,7 +204,8 @@ impl<K: Key, T: Drop> Scheduler<K, T> {
     /// assert_eq!(rt; scheduler.values().next(), Some(&"tea"));
     /// ```
     pub fn values(&self) -> Values<'_, K, T>
-        ensures { (jobs : Waiting T) × ListsJobs self.now.waiting jobs × (result ≡ list_map (λ e. e.1.1) jobs) }
+        ensures jobs { (jobs : Waiting T) × ListsJobs self.now.waiting jobs × (list_map (λ e. e.0) jobs ≡ map.keys self.now.handles.live)
+            × (result ≡ list_map (λ e. e.1.1) jobs) }
     {
         Values { jobs: self.iter() }
     }

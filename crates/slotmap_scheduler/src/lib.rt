@@ -4,13 +4,14 @@
 //! [`Scheduler::pop_due`] returns the next due job. A clause sees the jobs that wait as one list, in
 //! the order in which they will be returned. What is proved of it:
 //!
-//! - Jobs are returned by ascending time; ties go in scheduling order.
+//! - Jobs are returned by ascending time; ties go in scheduling order. Each handle waits once.
 //! - A job that was cancelled or returned is never returned again. Its handle is never used again, so
 //!   it finds no later job either.
 //! - A call that fails returns the job, and leaves the same jobs waiting. It uses up no handle.
-//! - Of the calls that change a scheduler, only [`Scheduler::schedule`] and [`Scheduler::reserve`]
-//!   allocate memory for it. Where a job was taken out or room was reserved, a schedule can't run out
-//!   of memory.
+//! - If there is room, a schedule can't fail, unless all turns were given out, and the capacity stays.
+//!   There is room after [`Scheduler::reserve`], and for each vacant slot.
+//! - The capacity changes in [`Scheduler::schedule`] and [`Scheduler::reserve`] alone, where it can
+//!   only grow. The other calls lose no room.
 //!
 //! The jobs are in a `SlotMap`, and their turns in a heap in a `Vec`; each job has its place in the
 //! heap. So `schedule`, `reschedule`, `cancel` and `pop_due` take time logarithmic in the number of
@@ -28,10 +29,10 @@
 
 ghost use Rattle.std.specs.Prelude.{◌≡◌, ℕ, ◌+◌, ◌≤◌, [], IfOk, OnOk, IfErr, IfSome, Some, true, option_copied, option_map, is_some, length, IsTrue, ◌↔◌};
 ghost use Rattle.std.specs.FinMap as map;
-ghost use Rattle.slotmap.specs.Words.{IsNew, RefusesCapacity};
+ghost use Rattle.slotmap.specs.Words.{IsContent, IsNew, RefusesCapacity};
 ghost use Rattle.std.specs.Borrow.{sem};
 ghost use Rattle.std.specs.Option.{option_copied_mut};
-ghost use Rattle.slotmap_scheduler.specs.Schedule.{job_of};
+ghost use Rattle.slotmap_scheduler.specs.Schedule.{job_of, IsOnce, IsByTime};
 
 mod calls;
 mod clone;
@@ -173,7 +174,10 @@ impl<K: Key, T: Drop> Scheduler<K, T> {
 
     /// Returns how many jobs wait, in constant time.
     pub fn len(&self) -> usize
-        ensures { result ≡ length self.now.waiting }
+        ensures value { result ≡ length self.now.waiting }
+        ensures live { result ≡ map.len self.now.handles.live }
+        ensures sorted { IsByTime self.now.waiting }
+        ensures once { IsOnce self.now.waiting }
     {
         self.jobs.len()
     }
@@ -187,7 +191,8 @@ impl<K: Key, T: Drop> Scheduler<K, T> {
 
     /// Returns for how many jobs there is memory, in constant time.
     pub fn capacity(&self) -> usize
-        ensures { result ≡ self.now.handles.capacity }
+        ensures value { result ≡ self.now.handles.capacity }
+        ensures valid { IsContent true self.now.handles }
     {
         self.jobs.capacity().min(self.heap.capacity())
     }

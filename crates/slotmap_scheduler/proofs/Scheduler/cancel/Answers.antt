@@ -1,8 +1,8 @@
 use Rattle.std.proofs.Common.{◌∙◌}
-use Rattle.slotmap_scheduler.proofs.Common.{rules, true, is_some, sym, ap, arith, option_map, spent_removes, removed_spent, live-mapped, content-mapped, Job, waiting_of}
+use Rattle.slotmap_scheduler.proofs.Common.{rules, true, is_some, sym, ap, arith, option_map, spent_removes, removed_spent, live-mapped, Job, waiting_of}
 use Rattle.slotmap_scheduler.proofs.Common.{unplaced, timed}
-use Rattle.slotmap_scheduler.proofs.Schedules.{left_len, left_waits, left_schedule}
-use Rattle.slotmap_scheduler.proofs.Handles.{handles_removed, handles_stale, handles_spent}
+use Rattle.slotmap_scheduler.proofs.Schedules.{left_len, left_waits, left_schedule, left_less, left_others, left_leaves}
+use Rattle.slotmap_scheduler.proofs.Handles.{handles_removed, handles_stale, handles_spent, handles_left, same_capacity}
 use Rattle.slotmap_scheduler.proofs.Seen.{job_seen, none_seen}
 use Rattle.slotmap_scheduler.proofs.Results.{without_none}
 use Rattle.slotmap_scheduler.proofs.Scheduler.cancel.Goals as goal
@@ -10,7 +10,7 @@ use Rattle.slotmap_scheduler.proofs.Scheduler.cancel.Goals as goal
 pub invariant_of-self-2 : goal.invariant_of-self-2
 invariant_of-self-2 g c =
     left_schedule c.self.inside.jobs c.self.inside.count c.self.inside.heap c.self.invariant c.inner.result c.in_ok-removed.removed (sym c.take_out.ensures.value ∙ c.in_ok-removed.was) c.take_out.new.jobs
-    c.in_ok-removed.ensures.removes c.take_out.new.heap c.take_out.ensures.indexed c.take_out.ensures.capacity
+    c.in_ok-removed.ensures.removes c.take_out.new.heap c.take_out.ensures.valid.after c.take_out.ensures.indexed c.take_out.ensures.capacity
 
 pub returns : goal.returns
 returns g c =
@@ -18,16 +18,21 @@ returns g c =
     let out = c.take_out.ensures in
     let removes = c.in_ok-removed.ensures.removes in
     let live = live-mapped unplaced c.self.inside.jobs c.inner.result (ap is_some found) in
-    let well = content-mapped unplaced c.self.inside.jobs true out.valid in
+    let well = c.self.invariant.valid in
     let fewer = left_len c.self.inside.jobs c.self.inside.count c.self.inside.heap c.self.invariant c.inner.result c.in_ok-removed.removed found c.take_out.new.jobs removes in
     let len = c.self.invariant.indexed.len in
     let now = out.indexed.len in
     record {
       job = rw (← c.self.view_is, ← c.inner.ensures) (ap (option_map (λ (j : Job g.row.T.Denot). j.job)) (sym found) ∙ job_seen c.self.inside.jobs c.self.inside.count c.self.invariant.order c.inner.result);
       removed = rw (← c.self.view_is, ← c.inner.ensures) (left_waits c.self.inside.jobs c.self.inside.count c.self.inside.heap c.self.invariant c.inner.result c.in_ok-removed.removed found c.take_out.new.jobs removes);
+      one_less = rw (← c.self.view_is) (left_less c.self.inside.jobs c.self.inside.count c.self.inside.heap c.self.invariant c.inner.result c.in_ok-removed.removed found c.take_out.new.jobs removes);
+      others = rw (← c.self.view_is, ← c.inner.ensures) (left_others c.self.inside.jobs c.self.inside.count c.self.inside.heap c.self.invariant c.inner.result c.in_ok-removed.removed found c.take_out.new.jobs removes);
       handles = rw (← c.self.view_is, ← c.inner.ensures) (handles_removed (timed c.self.inside.jobs) (timed c.take_out.new.jobs) c.self.inside.heap c.take_out.new.heap c.inner.result removes (omega arith) out.capacity);
       turns = search rules;
       unchanged = search rules;
+      capacity = rw (← c.self.view_is) (same_capacity (timed c.self.inside.jobs) (timed c.take_out.new.jobs) c.self.inside.heap c.take_out.new.heap out.valid.capacity out.capacity);
+      leaves = rw (← c.self.view_is) (handles_left (timed c.self.inside.jobs) (timed c.take_out.new.jobs) c.self.inside.heap c.take_out.new.heap
+          (left_leaves c.self.inside.jobs c.self.inside.count c.self.inside.heap c.self.invariant c.inner.result c.in_ok-removed.removed found c.take_out.new.jobs removes) (omega arith) out.capacity);
       for_good = rw (← c.inner.ensures) (handles_spent (timed c.take_out.new.jobs) c.take_out.new.heap c.inner.result (removed_spent _ _ true well c.inner.result live removes));
       stale = rw (← c.self.view_is) (handles_stale _ _ c.self.inside.heap c.take_out.new.heap (spent_removes _ _ true well c.inner.result live removes));
     }

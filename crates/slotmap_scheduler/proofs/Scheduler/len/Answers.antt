@@ -1,7 +1,13 @@
 use Rattle.std.proofs.Common.{◌∙◌}
-use Rattle.slotmap_scheduler.proofs.Common.{sym, len-mapped, unplaced, timed}
+use Rattle.slotmap_scheduler.proofs.Common.{sym, len-keys_of, len-mapped, unplaced, timed}
 use Rattle.slotmap_scheduler.proofs.Order.{len_is}
+use Rattle.slotmap_scheduler.proofs.Waits.{waits_by_time, waits_once}
 use Rattle.slotmap_scheduler.proofs.Scheduler.len.Goals as goal
 
 pub returns : goal.returns
-returns g c = rw (← c.self.view_is) (c.len.ensures.value ∙ sym (len_is (timed c.self.inside.jobs).live c.self.inside.count c.self.invariant.order ∙ len-mapped unplaced c.self.inside.jobs.live))
+returns g c = record {
+  value = rw (← c.self.view_is) (c.len.ensures.value ∙ sym (len_is (timed c.self.inside.jobs).live c.self.inside.count c.self.invariant.order ∙ len-mapped unplaced c.self.inside.jobs.live));
+  live = rw (← c.self.view_is) (c.len.ensures.value ∙ sym (len-keys_of (timed c.self.inside.jobs).live ∙ len-mapped unplaced c.self.inside.jobs.live));
+  sorted = rw (← c.self.view_is) (waits_by_time (timed c.self.inside.jobs).live);
+  once = rw (← c.self.view_is) (waits_once (timed c.self.inside.jobs).live c.self.inside.count c.self.invariant.order);
+}

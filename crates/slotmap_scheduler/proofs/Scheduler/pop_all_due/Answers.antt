@@ -8,7 +8,7 @@ pub loop-job-init : goal.loop-job-init
 loop-job-init g c =
     let made = c.in_ok-reserve.ensures.ok in
     let len = c.in_ok-reserve.ensures.len in
-    let long = c.len.ensures in
+    let long = c.len.ensures.value in
     taking_start g.K.Key.data_of c.args.now _ _ _ c.in_ok-reserve.ensures.items (omega arith)
 
 pub loop-job-preserved : goal.loop-job-preserved
@@ -18,7 +18,7 @@ loop-job-preserved g c =
     let fits : IsOk c.push.result = c.push.ensures.succeeds (let room = t.room in let long = ap length popped.next.2 in omega arith) in
     let items = done c.push.result c.push.new.self.items (c.loop-job.due.items ++ c.in-Some.job ∷ []) c.loop-job.due.items fits c.push.ensures.items in
     let len = done c.push.result (vec_len c.push.new.self) (vec_len c.loop-job.due + 1) (vec_len c.loop-job.due) fits c.push.ensures.len in
-    taking_step g.K.Key.data_of c.args.now _ _ _ _ _ _ _ popped.next.0 t popped.next.1 popped.next.2 popped.for_good popped.stale popped.turns items len c.push.ensures.capacity
+    taking_step g.K.Key.data_of c.args.now _ _ _ _ _ _ _ popped.next.0 t popped.next.1 popped.next.2 popped.for_good popped.capacity popped.leaves popped.stale popped.turns items len c.push.ensures.capacity
 
 pub returns-clause-taken : goal.returns-clause-taken
-returns-clause-taken g c = rw c.in_default.ensures.unchanged (taking_end g.K.Key.data_of c.args.now _ _ _ _ c.loop-job.invariant c.in_default.ensures.none)
+returns-clause-taken g c = rw c.in_default.ensures.unchanged (taking_end g.K.Key.data_of c.args.now _ _ _ _ c.loop-job.invariant c.len.ensures.sorted c.in_default.ensures.none)

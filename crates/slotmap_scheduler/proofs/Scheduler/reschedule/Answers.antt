@@ -1,6 +1,6 @@
 use Rattle.std.proofs.Common.{◌∙◌}
 use Rattle.slotmap_scheduler.proofs.Common.{sym, none_of}
-use Rattle.slotmap_scheduler.proofs.Schedules.{turned_schedule, turned_waits, turned_handles}
+use Rattle.slotmap_scheduler.proofs.Schedules.{turned_schedule, turned_waits, turned_there, turned_others, turned_more, turned_handles}
 use Rattle.slotmap_scheduler.proofs.Seen.{seen_job, contains_seen, none_seen}
 use Rattle.slotmap_scheduler.proofs.Results.{some_is}
 use Rattle.slotmap_scheduler.proofs.Scheduler.reschedule.Goals as goal
@@ -19,6 +19,22 @@ returns-clause-moved g c before job seen =
     let j = some_is _ (sym c.contains_key.ensures.value ∙ c.if-not-contains_key.false) in
     let same = seen_job c.self.inside.jobs c.self.inside.count c.self.invariant.order c.inner-key.result j.0 j.1 before job (rw (← c.self.view_is, ← c.inner-key.ensures) at seen) in
     rw (← c.self.view_is, ← c.inner-key.ensures, ← same) (turned_waits c.self.inside.jobs c.self.inside.count c.self.inside.heap c.self.invariant c.inner-key.result j.0 j.1 c.args.time c.set_turn.new.jobs (c.set_turn.ensures.written j.0 j.1))
+
+pub returns-clause-there : goal.returns-clause-there
+returns-clause-there g c before job seen =
+    let j = some_is _ (sym c.contains_key.ensures.value ∙ c.if-not-contains_key.false) in
+    let same = seen_job c.self.inside.jobs c.self.inside.count c.self.invariant.order c.inner-key.result j.0 j.1 before job (rw (← c.self.view_is, ← c.inner-key.ensures) at seen) in
+    rw (← c.inner-key.ensures, ← same) (turned_there c.self.inside.jobs c.self.inside.count c.self.inside.heap c.self.invariant c.inner-key.result j.0 j.1 c.args.time c.set_turn.new.jobs (c.set_turn.ensures.written j.0 j.1))
+
+pub returns-clause-others : goal.returns-clause-others
+returns-clause-others g c =
+    let j = some_is _ (sym c.contains_key.ensures.value ∙ c.if-not-contains_key.false) in
+    rw (← c.self.view_is, ← c.inner-key.ensures) (turned_others c.self.inside.jobs c.self.inside.count c.self.inside.heap c.self.invariant c.inner-key.result j.0 j.1 c.args.time c.set_turn.new.jobs (c.set_turn.ensures.written j.0 j.1))
+
+pub returns-clause-as_many : goal.returns-clause-as_many
+returns-clause-as_many g c =
+    let j = some_is _ (sym c.contains_key.ensures.value ∙ c.if-not-contains_key.false) in
+    rw (← c.self.view_is) (turned_more c.self.inside.jobs c.self.inside.count c.self.inside.heap c.self.invariant c.inner-key.result j.0 j.1 c.args.time c.set_turn.new.jobs (c.set_turn.ensures.written j.0 j.1))
 
 pub returns-clause-waits : goal.returns-clause-waits
 returns-clause-waits g c =

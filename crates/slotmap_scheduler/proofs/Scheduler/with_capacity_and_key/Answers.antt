@@ -9,7 +9,7 @@ pub invariant_of-result : goal.invariant_of-result
 invariant_of-result g c =
     let new = c.in_ok-jobs.ensures.starts in
     let next = ap map.len new.next ∙ map.len-empty nat_cmp ℕ in
-    schedule_none c.in_ok-jobs.jobs new.live 0 c.in_ok-heap.heap c.in_ok-heap.ensures.len (omega arith)
+    schedule_none c.in_ok-jobs.jobs new.live 0 c.in_ok-heap.heap c.in_ok-jobs.ensures.valid c.in_ok-heap.ensures.len (omega arith)
 
 pub returns-clause-waiting : goal.returns-clause-waiting
 returns-clause-waiting g c = none_waits c.in_ok-jobs.jobs c.in_ok-jobs.ensures.starts.live

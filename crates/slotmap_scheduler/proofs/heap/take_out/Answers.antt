@@ -1,5 +1,5 @@
 use Rattle.std.proofs.Common.{◌≢◌, ◌+◌, ◌∙◌}
-use Rattle.slotmap_scheduler.proofs.Common.{vec_len, sym, ap, mapped-removes, unplaced}
+use Rattle.slotmap_scheduler.proofs.Common.{vec_len, sym, ap, mapped-removes, mapped-stays, unplaced}
 use Rattle.slotmap_scheduler.proofs.HeapPlaces.{in_heap, last_placed, last_heap, gap_within, gap_but, gap_live, gap_placed, place_written}
 use Rattle.slotmap_scheduler.proofs.Indexed.{left_indexed}
 use Rattle.slotmap_scheduler.proofs.heap.take_out.Goals as goal
@@ -18,6 +18,12 @@ returns-then-removed-len-clause-indexed g c =
     left_indexed c.args.jobs.now c.args.heap.now c.requires c.args.handle c.in_ok-removed.removed found c.remove.new.self c.swap_remove.new.self (returns-then-removed-len-clause-removes g c)
     (rw c.remove.ensures.live (last_placed c.args.jobs.now c.args.heap.now c.requires.placed c.args.handle c.in_ok-removed.removed found c.swap_remove.new.self by.len by.by_index end))
     (last_heap c.args.jobs.now c.args.heap.now c.requires.placed c.args.handle c.in_ok-removed.removed found c.swap_remove.new.self by.len by.by_index end c.requires.ordered) by.len
+
+pub returns-then-removed-len-clause-valid : goal.returns-then-removed-len-clause-valid
+returns-then-removed-len-clause-valid g c = mapped-stays unplaced _ _ c.remove.ensures.valid
+
+pub returns-in_err-removed-clause-valid : goal.returns-in_err-removed-clause-valid
+returns-in_err-removed-clause-valid g c = mapped-stays unplaced _ _ c.remove.ensures.valid
 
 pub index-requires : goal.index-requires
 index-requires g c =
@@ -45,6 +51,10 @@ pub returns-clause-removes : goal.returns-clause-removes
 returns-clause-removes g c =
     rw (c.settle.ensures.resettled.same, place_written c.remove.new.self c.index.result.now.handle c.index_mut.result.now c.in_ok-removed.removed.place c.index_mut.ensures.value)
     (mapped-removes unplaced _ _ c.args.handle c.in_ok-removed.ensures.removes)
+
+pub returns-clause-valid : goal.returns-clause-valid
+returns-clause-valid g c =
+    rw (c.settle.ensures.resettled.same, place_written c.remove.new.self c.index.result.now.handle c.index_mut.result.now c.in_ok-removed.removed.place c.index_mut.ensures.value) (mapped-stays unplaced _ _ c.remove.ensures.valid)
 
 pub returns-clause-indexed : goal.returns-clause-indexed
 returns-clause-indexed g c =
