@@ -7,11 +7,14 @@
 //! - Only live entities have components.
 //! - A call on one entity changes no component of another, and none of another kind.
 //! - A call that fails changes nothing, and returns what it was given.
+//! - If there is room for an entity, as after [`World::reserve`], it can't be refused, and the capacity
+//!   stays. Only [`World::spawn`] and `reserve` change the capacity for entities.
 //!
 //! The entities are in a `DenseSlotMap`, packed for iteration. The tables are nested pairs of
 //! secondary maps: a `SecondaryMap` for a kind that most entities have, a `SparseSecondaryMap` for a
 //! rare one. A call names the kind that it is about by a type: [`First`], [`Second`] and so on, best
-//! under a name of your own. Each call takes constant time, unless a table grows.
+//! under a name of your own. A call on one entity takes constant time, unless a table grows. A step of
+//! a join may pass many entities, and `clear`, `clone` and `retain_components` go through all slots.
 //!
 //! ```
 //! type Position = First;
@@ -30,7 +33,7 @@
 //! ```
 #![tactic(auto, using(slotmap::proofs::Callers::keys))]
 
-ghost use Rattle.std.specs.Prelude.{◌≡◌, ◌≢◌, ◌+◌, ◌≤◌, ◌↔◌, Some, None, IfOk, IsOk, OnErr, IfErr, IfSome, IfNone, IsTrue, true, false, zip, option_copied, option_map};
+ghost use Rattle.std.specs.Prelude.{◌≡◌, ◌≢◌, ◌+◌, ◌<◌, ◌≤◌, ◌↔◌, Some, None, IfOk, IsOk, OnErr, IfErr, IfSome, IfNone, IsTrue, true, false, zip, option_copied, option_map};
 ghost use Rattle.std.specs.FinMap as map;
 ghost use Rattle.std.specs.Option.{option_copied_mut};
 ghost use Rattle.std.specs.Borrow.{sem};
@@ -179,7 +182,8 @@ impl<K: Key, E: Drop, T: Tables<K>> World<K, E, T> {
 
     /// Adds an entity with no component, and returns its key, which no entity had before.
     ///
-    /// If the call fails, the error holds the value, and the world is unchanged.
+    /// If there is room, it can't fail, and the capacity stays. If the call fails, the error holds the
+    /// value, and the world is unchanged.
     ///
     /// ```
     /// let mut world: World<DefaultKey, u8, ()> = World::new(alloc)?;
@@ -196,6 +200,11 @@ impl<K: Key, E: Drop, T: Tables<K>> World<K, E, T> {
         // It is the last in the packed order.
         ensures order { IfOk result (λ key. Appends self.old.entities (K.data_of key) entity self.new.entities) }
 
+        // If there is room, it can't fail, and the capacity stays.
+        ensures room { 0 < self.old.entities.content.room → IsOk result }
+        ensures in_place { 0 < self.old.entities.content.room → self.new.entities.content.capacity ≡ self.old.entities.content.capacity }
+        ensures capacity { self.old.entities.content.capacity ≤ self.new.entities.content.capacity }
+
         // Why the call failed, and what that leaves.
         ensures err { IfErr result (Refuses self.old.entities.content entity) }
         ensures unchanged { OnErr result (Keeps self.old.entities.content self.new.entities.content) }
@@ -209,7 +218,7 @@ impl<K: Key, E: Drop, T: Tables<K>> World<K, E, T> {
     }
 
     /// Removes an entity with its components. It returns the entity's value and what it had in each
-    /// table, or `None` if it doesn't exist. The key is never used again.
+    /// table, or `None` if it doesn't exist. The key is never used again, and the capacity stays.
     ///
     /// ```
     /// let mut world: World<DefaultKey, u8, (SecondaryMap<DefaultKey, u32>, ())> = World::new(alloc)?;
@@ -229,6 +238,7 @@ impl<K: Key, E: Drop, T: Tables<K>> World<K, E, T> {
 
         // All else is as before.
         ensures leaves { Leaves self.old.entities.content self.new.entities.content }
+        ensures capacity { self.new.entities.content.capacity ≡ self.old.entities.content.capacity }
         ensures others { (q : KeyOf) → q ≢ K.data_of key → (T.has self.new.tables q ≡ T.has self.old.tables q) × (T.parts self.new.tables q ≡ T.parts self.old.tables q) }
         ensures gone { KeepsSpent self.old.entities.content self.new.entities.content }
         ensures unchanged { IfNone result (self.new ≡ self.old) }
@@ -237,7 +247,8 @@ impl<K: Key, E: Drop, T: Tables<K>> World<K, E, T> {
         Some((value, self.tables.remove(key)))
     }
 
-    /// Removes all entities and all components. The keys are never used again, and the room stays.
+    /// Removes all entities and all components. The keys are never used again. The capacity stays, and
+    /// no room is lost.
     ///
     /// ```
     /// let mut world: World<DefaultKey, u8, ()> = World::new(alloc)?;
@@ -249,6 +260,7 @@ impl<K: Key, E: Drop, T: Tables<K>> World<K, E, T> {
         ensures removed { self.new.entities.content.live ≡ map.empty }
         ensures empty { IsEmpty self.new.entities }
         ensures leaves { Leaves self.old.entities.content self.new.entities.content }
+        ensures capacity { self.new.entities.content.capacity ≡ self.old.entities.content.capacity }
         ensures for_good { (k : KeyOf) → IsLive self.old.entities.content k → IsSpent self.new.entities.content k }
         ensures tables { (q : KeyOf) → T.has self.new.tables q ≡ false }
     {
