@@ -31,9 +31,9 @@
 //!   gives `values` with those that it saw;
 //! - `iter N`, `keys N`, `values N`: the items of N steps, how many are left, and the rest, which
 //!   a clone of the iterator has to yield too; `drain N`, `into_iter N`: the same with no rest,
-//!   and the iterator is dropped then; `into_iter` takes a clone of the map apart; `for`: `for`
-//!   over `&map`. Of more than 1,000 items only the number is given, as `(1001)`. Items of a
-//!   sparse map are sorted; where they are some of all, their number is given;
+//!   and the iterator is dropped then; `into_iter` takes a clone apart, which the trait `Clone`
+//!   makes; `for`: `for` over `&map`. Of more than 1,000 items only the number is given, as
+//!   `(1001)`. Items of a sparse map are sorted; where they are some of all, their number is given;
 //! - `new`, `with_capacity N`, `with_hasher`, `with_capacity_and_hasher N`, `drop`, which is
 //!   `new`; `has_capacity N`: whether the capacity is N or more; `capacity_is_within N`: whether
 //!   it is N or less; `set_capacity N`, `try_set_capacity N` of `SecondaryMap`, `reserve N`,

@@ -21,9 +21,9 @@ impl<'a, M: Held<'a, H> + Secondary<DefaultKey, Number<'a>>, H: Copy> Maps<'a, M
         write_walked(reply, items, is_ordered, walked?)
     }
 
-    // So many steps of `into_iter` of a clone.
+    // So many steps of `into_iter` of a clone by the trait.
     fn take_some(&self, steps: usize) -> Result<Walked, Stop> {
-        self.map.copy()?.take_some(self.supply.alloc, steps)
+        self.map.clone()?.take_some(self.supply.alloc, steps)
     }
 
     /// The calls with no word.

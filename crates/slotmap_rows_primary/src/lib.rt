@@ -26,7 +26,7 @@
 //! | `iter N`, `keys N`, `values N` | the items of N steps, how many are left then, and these; a clone has to yield them too |
 //! | `for` | the pairs of `for` over `&map` |
 //! | `drain N` | the pairs of N steps, and how many are left as it is dropped |
-//! | `into_iter N`, `into_iter rest N` | the same of a clone of the map, or as at `iter` |
+//! | `into_iter N`, `into_iter rest N` | the same of a clone of the map by the trait `Clone`, or as at `iter` |
 //! | `drain_into`, `keys_into` | the pairs, or the keys |
 //! | `to_slots`, `from_slots SLOT ..`, `through_slots` | the list; the map of the list, or why the list fails; both |
 //! | `check_slots LIMIT SLOT ..` | `done`, or why the list fails |

@@ -55,13 +55,13 @@ impl<'a, M: Held<'a> + Primary<DefaultKey, Number<'a>>> Maps<'a, M> {
         Ok(write_keys(reply, &keys)?)
     }
 
-    // So many steps of `into_iter` of a clone.
+    // So many steps of `into_iter` of a clone by the trait.
     fn take_some(&self, steps: usize, reply: &mut String) -> Result<(), Stop> {
-        self.map.copy()?.take_some(steps, reply)
+        self.map.clone()?.take_some(steps, reply)
     }
 
     /// The same, and the rest.
     pub fn take_all(&self, steps: usize, reply: &mut String) -> Result<(), Stop> {
-        self.map.copy()?.take_all(steps, reply)
+        self.map.clone()?.take_all(steps, reply)
     }
 }
