@@ -6,4 +6,5 @@ pub mod cursors;
 pub mod forward;
 pub mod groups;
 pub mod heirs;
+pub mod room;
 pub mod timer;
