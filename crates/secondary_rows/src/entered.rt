@@ -5,7 +5,7 @@ use slotmap::{DefaultKey, Key, Secondary};
 use slotmap_rows::{Number, Stop, write_key, write_option, write_pair};
 use slotmap_rows_secondary::{Change, Given, Held, Pair, Put, Told};
 
-impl<'a, M: Held<'a, H> + Secondary<DefaultKey, Number<'a>>, H: Copy> Maps<'a, M, H> {
+impl<'a, M: Held<'a, H> + Secondary<DefaultKey, Number<'a>> + Clone, H: Copy> Maps<'a, M, H> {
     /// The calls on an entry.
     pub fn enter(&mut self, name: &str, key: DefaultKey, reply: &mut String) -> Result<(), Stop> {
         let change = match name {

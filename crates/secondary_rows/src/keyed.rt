@@ -5,7 +5,7 @@ use slotmap::{DefaultKey, OrPut, PutError, Secondary};
 use slotmap_rows::{Number, Outcome, Stop, Way, taken, write_option, write_put};
 use slotmap_rows_secondary::{Held, Pair};
 
-impl<'a, M: Held<'a, H> + Secondary<DefaultKey, Number<'a>>, H: Copy> Maps<'a, M, H> {
+impl<'a, M: Held<'a, H> + Secondary<DefaultKey, Number<'a>> + Clone, H: Copy> Maps<'a, M, H> {
     /// The calls on a key, or those on its entry.
     pub fn on_key(&mut self, name: &str, key: DefaultKey, reply: &mut String) -> Result<(), Stop> {
         let outcome = match name {

@@ -9,7 +9,7 @@ use slotmap_rows::{
 };
 use slotmap_rows_secondary::{Held, Keep, Pairs};
 
-impl<'a, M: Held<'a, H> + Secondary<DefaultKey, Number<'a>>, H: Copy> Maps<'a, M, H> {
+impl<'a, M: Held<'a, H> + Secondary<DefaultKey, Number<'a>> + Clone, H: Copy> Maps<'a, M, H> {
     /// The calls that are given a list of words.
     pub fn on_list(&mut self, name: &str, list: &[Word], reply: &mut String) -> Result<(), Stop> {
         match name {

@@ -5,7 +5,7 @@ use slotmap::{DefaultKey, Secondary};
 use slotmap_rows::{Number, Outcome, Stop};
 use slotmap_rows_secondary::{Held, Walked, write_walked};
 
-impl<'a, M: Held<'a, H> + Secondary<DefaultKey, Number<'a>>, H: Copy> Maps<'a, M, H> {
+impl<'a, M: Held<'a, H> + Secondary<DefaultKey, Number<'a>> + Clone, H: Copy> Maps<'a, M, H> {
     /// The iterators, or the other calls with a number.
     pub fn on_steps(&mut self, name: &str, number: u64, reply: &mut String) -> Result<(), Stop> {
         let steps = number as usize;

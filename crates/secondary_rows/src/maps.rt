@@ -14,7 +14,7 @@ pub struct Maps<'a, M, H> {
     pub other: Option<M>,
 }
 
-impl<'a, M: Held<'a, H> + Secondary<DefaultKey, Number<'a>>, H: Copy> Maps<'a, M, H> {
+impl<'a, M: Held<'a, H> + Secondary<DefaultKey, Number<'a>> + Clone, H: Copy> Maps<'a, M, H> {
     /// A new map.
     pub fn new(supply: Supply<'a>, hasher: H) -> Result<Maps<'a, M, H>, Stop> {
         Ok(Maps {
@@ -41,7 +41,7 @@ impl<'a, M: Held<'a, H> + Secondary<DefaultKey, Number<'a>>, H: Copy> Maps<'a, M
     }
 }
 
-impl<'a, M: Held<'a, H> + Secondary<DefaultKey, Number<'a>>, H: Copy + Drop> Subject
+impl<'a, M: Held<'a, H> + Secondary<DefaultKey, Number<'a>> + Clone, H: Copy + Drop> Subject
     for Maps<'a, M, H> {
     fn begin(&mut self) -> Result<(), Stop> {
         self.map = M::made(self.supply.alloc, self.hasher, None).map_err(|_| Stop::Memory)?;

@@ -5,7 +5,7 @@ use slotmap::{DefaultKey, Secondary};
 use slotmap_rows::{Number, Outcome, Stop, write_reserved};
 use slotmap_rows_secondary::Held;
 
-impl<'a, M: Held<'a, H> + Secondary<DefaultKey, Number<'a>>, H: Copy> Maps<'a, M, H> {
+impl<'a, M: Held<'a, H> + Secondary<DefaultKey, Number<'a>> + Clone, H: Copy> Maps<'a, M, H> {
     /// The calls with a number that are no iterator's.
     pub fn on_number(&mut self, name: &str, number: u64, reply: &mut String) -> Result<(), Stop> {
         let outcome = match name {

@@ -66,7 +66,7 @@ pub type Changed = Result<Option<Pair>, Stop>;
 
 /// What a map can do beside the calls of `Secondary`; `H` is its hasher. Each method makes the
 /// map's own call.
-pub trait Held<'a, H>: Clone + PartialEq + Drop {
+pub trait Held<'a, H>: PartialEq + Drop {
     /// Whether iterators go by ascending index. Else their order is open.
     const IS_ORDERED: bool;
 

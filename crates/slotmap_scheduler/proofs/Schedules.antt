@@ -158,9 +158,10 @@ module _ {T Z : Type 0} (jobs : Content (Job T)) (count : ℕ) (heap : Vec Entry
       turned_len : map.len (timed jobs').live ≡ map.len (timed jobs).live
       turned_len = ap (λ (c : Content (Turn × T)). map.len c.live) turned ∙ grind (arith, keys, had)
 
-      pub turned_there : job_of k (waiting_of (timed jobs').live) ≡ Some (time, j.job)
+      pub turned_there : job_of k (waiting_of (timed jobs').live) ≡ option_map {U = ℕ × T} (λ (due : ℕ × T). (time, due.1)) (job_of k (waiting_of (timed jobs).live))
       turned_there = job_is (timed jobs').live (count + 1) turned_order.0 k
           ∙ ap (option_map (λ (x : Turn × T). (x.0.0, x.1))) (ap (λ m. map.get m k) turned_live ∙ get-insert_here (map.remove (timed jobs).live k) k ((time, count), j.job))
+          ∙ sym (ap (option_map {U = ℕ × T} (λ (due : ℕ × T). (time, due.1))) (job_is (timed jobs).live count is.order k ∙ ap (option_map (λ (x : Turn × T). (x.0.0, x.1))) had))
 
       pub turned_others : (q : Key) → q ≢ k → job_of q (waiting_of (timed jobs').live) ≡ job_of q (waiting_of (timed jobs).live)
       turned_others q other = job_stays (timed jobs).live count is.order (timed jobs').live (count + 1) turned_order.0 q

@@ -166,8 +166,8 @@ impl<K: Key, T: Drop> Scheduler<K, T> {
         // The job waits under the same handle, with a new turn.
         ensures moved { (before : ℕ) (job : T) → job_of (K.data_of handle) self.old.waiting ≡ Some (before, job)
             → OnOk result (self.new.waiting ≡ in_turn (K.data_of handle, (time, job)) (without (K.data_of handle) self.old.waiting)) }
-        ensures there { (before : ℕ) (job : T) → job_of (K.data_of handle) self.old.waiting ≡ Some (before, job)
-            → OnOk result (job_of (K.data_of handle) self.new.waiting ≡ Some (time, job)) }
+        ensures there { OnOk result (job_of (K.data_of handle) self.new.waiting
+            ≡ option_map (λ due. (time, due.1)) (job_of (K.data_of handle) self.old.waiting)) }
         ensures others { (q : KeyOf) → q ≢ K.data_of handle → job_of q self.new.waiting ≡ job_of q self.old.waiting }
         ensures as_many { length self.new.waiting ≡ length self.old.waiting }
         ensures waits { OnOk result (is_some (job_of (K.data_of handle) self.old.waiting) ≡ true) }

@@ -1,6 +1,6 @@
-//! An entity that makes way for another one.
+//! Entities that make way for others.
 
-ghost use Rattle.std.specs.Prelude.{◌≡◌, ◌≢◌, Some, None, IfOk, false};
+ghost use Rattle.std.specs.Prelude.{◌≡◌, ◌≢◌, ◌≤◌, Some, None, IfOk, IsOk, false};
 ghost use Rattle.std.specs.FinMap as map;
 ghost use Rattle.slotmap.specs.Words.{IsLive};
 
@@ -20,4 +20,21 @@ pub fn reborn<T: Tables<DefaultKey>>(
 {
     world.despawn(key);
     world.spawn(entity)
+}
+
+/// Adds two entities, removes all, and adds two others. Where there is room for four, none is refused,
+/// and the capacity stays.
+pub fn fill_twice<T: Tables<DefaultKey>>(
+    world: &mut World<DefaultKey, u8, T>,
+) -> Result<(), InsertError<u8>>
+    requires { 4 ≤ world.old.entities.content.room }
+    ensures filled { IsOk result }
+    ensures capacity { world.new.entities.content.capacity ≡ world.old.entities.content.capacity }
+{
+    world.spawn(1)?;
+    world.spawn(2)?;
+    world.clear();
+    world.spawn(3)?;
+    world.spawn(4)?;
+    Ok(())
 }

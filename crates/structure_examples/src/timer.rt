@@ -70,13 +70,14 @@ pub fn fill_again(scheduler: &mut Scheduler<DefaultKey, u64>, time: u64)
     }
 }
 
-/// Makes a scheduler with room for two jobs, fills it, removes the jobs, and fills it again. Once
-/// there is a scheduler, this can't fail.
-pub fn fill_twice(alloc: Global) -> Result<bool, ReserveError>
-    ensures { IfOk result (λ filled. filled ≡ true) }
+/// Makes a scheduler with room for two jobs, fills it, and fills it again. Once there is a scheduler,
+/// this can't fail.
+pub fn fill_twice(alloc: Global) -> Result<Scheduler<DefaultKey, u64>, ReserveError>
+    ensures { IfOk result (λ scheduler. length scheduler.waiting ≡ 2) }
 {
-    let mut scheduler: Scheduler<DefaultKey, u64> = Scheduler::with_capacity(alloc, 2)?;
-    let filled = scheduler.schedule(5, 1).is_ok() && scheduler.schedule(7, 2).is_ok();
+    let mut scheduler = Scheduler::with_capacity(alloc, 2)?;
+    let _ = scheduler.schedule(5, 1);
+    let _ = scheduler.schedule(7, 2);
     fill_again(&mut scheduler, 9);
-    Ok(filled && scheduler.len() == 2)
+    Ok(scheduler)
 }

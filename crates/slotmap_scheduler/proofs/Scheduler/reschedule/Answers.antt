@@ -21,10 +21,9 @@ returns-clause-moved g c before job seen =
     rw (← c.self.view_is, ← c.inner-key.ensures, ← same) (turned_waits c.self.inside.jobs c.self.inside.count c.self.inside.heap c.self.invariant c.inner-key.result j.0 j.1 c.args.time c.set_turn.new.jobs (c.set_turn.ensures.written j.0 j.1))
 
 pub returns-clause-there : goal.returns-clause-there
-returns-clause-there g c before job seen =
+returns-clause-there g c =
     let j = some_is _ (sym c.contains_key.ensures.value ∙ c.if-not-contains_key.false) in
-    let same = seen_job c.self.inside.jobs c.self.inside.count c.self.invariant.order c.inner-key.result j.0 j.1 before job (rw (← c.self.view_is, ← c.inner-key.ensures) at seen) in
-    rw (← c.inner-key.ensures, ← same) (turned_there c.self.inside.jobs c.self.inside.count c.self.inside.heap c.self.invariant c.inner-key.result j.0 j.1 c.args.time c.set_turn.new.jobs (c.set_turn.ensures.written j.0 j.1))
+    rw (← c.self.view_is, ← c.inner-key.ensures) (turned_there c.self.inside.jobs c.self.inside.count c.self.inside.heap c.self.invariant c.inner-key.result j.0 j.1 c.args.time c.set_turn.new.jobs (c.set_turn.ensures.written j.0 j.1))
 
 pub returns-clause-others : goal.returns-clause-others
 returns-clause-others g c =
