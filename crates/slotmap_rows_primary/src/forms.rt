@@ -7,7 +7,7 @@ use crate::maps::Maps;
 use slotmap::{DefaultKey, Primary};
 use slotmap_rows::{Call, Mode, Number, Stop, keep_even};
 
-impl<'a, M: Held<'a> + Primary<DefaultKey, Number<'a>>> Maps<'a, M> {
+impl<'a, M: Held<'a> + Primary<DefaultKey, Number<'a>> + Clone> Maps<'a, M> {
     /// The calls with no word.
     pub fn on_bare(&mut self, call: &Call<'_>, reply: &mut String) -> Result<(), Stop> {
         let name = call.name;

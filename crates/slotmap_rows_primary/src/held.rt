@@ -8,7 +8,7 @@ use std::alloc::{AllocError, Global};
 /// What a map can do beside the calls of `Primary`. Each method makes the map's own call.
 ///
 /// (`Primary` is a bound of its own beside this one: as a trait above this one it stops the check of the maps' impls.)
-pub trait Held<'a>: Clone + Drop {
+pub trait Held<'a>: Drop {
     /// `new`, or `with_capacity`.
     fn made(alloc: Global, capacity: Option<usize>) -> Result<Self, ReserveError>;
 

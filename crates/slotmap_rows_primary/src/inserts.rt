@@ -30,7 +30,7 @@ pub fn make<'a>(supply: Supply<'a>, made: Made, key: DefaultKey) -> Result<Numbe
     }
 }
 
-impl<'a, M: Held<'a> + Primary<DefaultKey, Number<'a>>> Maps<'a, M> {
+impl<'a, M: Held<'a> + Primary<DefaultKey, Number<'a>> + Clone> Maps<'a, M> {
     /// `insert`.
     pub fn insert(&mut self, value: u64, reply: &mut String) -> Result<(), Stop> {
         match self.map.insert(self.supply.number(value)) {

@@ -7,7 +7,7 @@ use slotmap_rows::{
     Call, Number, Outcome, Stop, Way, taken, write_put, write_put_three, write_put_two,
 };
 
-impl<'a, M: Held<'a> + Primary<DefaultKey, Number<'a>>> Maps<'a, M> {
+impl<'a, M: Held<'a> + Primary<DefaultKey, Number<'a>> + Clone> Maps<'a, M> {
     /// The calls with a key.
     pub fn on_key(
         &mut self,

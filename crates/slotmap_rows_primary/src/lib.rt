@@ -66,7 +66,7 @@ use slotmap_rows::{File, Number, Stop};
 use std::io::Write;
 
 // Holds a map, on which each call is made, to the rows of a file: whether no result differs.
-fn hold_map<'a, M: Held<'a> + Primary<DefaultKey, Number<'a>>>(
+fn hold_map<'a, M: Held<'a> + Primary<DefaultKey, Number<'a>> + Clone>(
     file: File<'a, '_>,
     kind: &str,
     output: &mut impl Write,

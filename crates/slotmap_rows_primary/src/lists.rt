@@ -10,7 +10,7 @@ use slotmap::{
 use slotmap_rows::{Number, Slots, Stop, Supply, Word, read_slots, write_slots};
 use std::alloc::Global;
 
-impl<'a, M: Held<'a> + Primary<DefaultKey, Number<'a>>> Maps<'a, M> {
+impl<'a, M: Held<'a> + Primary<DefaultKey, Number<'a>> + Clone> Maps<'a, M> {
     /// The calls with a list of slots.
     pub fn on_list(&mut self, name: &str, list: &[Word], reply: &mut String) -> Result<(), Stop> {
         match name {

@@ -5,7 +5,7 @@ use crate::maps::Maps;
 use slotmap::{DefaultKey, Primary};
 use slotmap_rows::{Number, Stop, write_keys, write_pairs};
 
-impl<'a, M: Held<'a> + Primary<DefaultKey, Number<'a>>> Maps<'a, M> {
+impl<'a, M: Held<'a> + Primary<DefaultKey, Number<'a>> + Clone> Maps<'a, M> {
     /// The calls with no word that go over all pairs.
     pub fn on_pairs(&mut self, name: &str, reply: &mut String) -> Result<(), Stop> {
         match name {

@@ -13,7 +13,7 @@ pub struct Maps<'a, M> {
     pub other: Option<M>,
 }
 
-impl<'a, M: Held<'a> + Primary<DefaultKey, Number<'a>>> Maps<'a, M> {
+impl<'a, M: Held<'a> + Primary<DefaultKey, Number<'a>> + Clone> Maps<'a, M> {
     /// A new map.
     pub fn new(supply: Supply<'a>) -> Result<Maps<'a, M>, Stop> {
         Ok(Maps {
@@ -37,7 +37,7 @@ impl<'a, M: Held<'a> + Primary<DefaultKey, Number<'a>>> Maps<'a, M> {
     }
 }
 
-impl<'a, M: Held<'a> + Primary<DefaultKey, Number<'a>>> Subject for Maps<'a, M> {
+impl<'a, M: Held<'a> + Primary<DefaultKey, Number<'a>> + Clone> Subject for Maps<'a, M> {
     fn begin(&mut self) -> Result<(), Stop> {
         self.map = M::with_key(self.supply.alloc).map_err(|_| Stop::Memory)?;
         self.other = None;

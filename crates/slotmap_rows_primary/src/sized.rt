@@ -5,7 +5,7 @@ use crate::maps::Maps;
 use slotmap::{DefaultKey, Primary};
 use slotmap_rows::{Number, Outcome, Stop, write_reserved};
 
-impl<'a, M: Held<'a> + Primary<DefaultKey, Number<'a>>> Maps<'a, M> {
+impl<'a, M: Held<'a> + Primary<DefaultKey, Number<'a>> + Clone> Maps<'a, M> {
     /// The calls on the size of a map.
     pub fn on_size(&self, name: &str, reply: &mut String) -> Result<(), Stop> {
         let outcome = match name {
