@@ -326,9 +326,9 @@ def first_page(all_items):
         calls = calls_of(name, module_items(crate, "")[1])
         page.add(f"| [`{crate}::{name}`](api/{crate}.md) | {what} | [{len(calls)} calls](api/{crate}.md#{anchor_of(name)}) |")
     page.heading(2, "Words that callers import")
-    page.add("A clause has the word of its crate. A caller imports it from `Rattle.slotmap.specs.Words`, where these have another name, since",
-        "another crate has a word of that name:", "")
-    page.add("| In the clauses of | The word there | The caller's word |", "|---|---|---|")
+    page.add("A caller imports the words of clauses from `Rattle.slotmap.specs.Words`, under the names that they have there. Variants of replies and",
+        "commands have another name, since the types share names:", "")
+    page.add("| Of the type | The variant | The caller's word |", "|---|---|---|")
     page.add(*renamed_words())
     return page
 

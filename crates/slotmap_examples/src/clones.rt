@@ -1,8 +1,8 @@
 //! Maps whose values are cloned. The clone of a string has the same bytes, that of a number is equal.
 
-ghost use Rattle.std.specs.Prelude.{◌≡◌, ◌≢◌, IfOk, None, true, option_map, string_bytes};
+ghost use Rattle.std.specs.Prelude.{◌≡◌, ◌≢◌, IfOk, OnOk, None, true, option_map, string_bytes};
 ghost use Rattle.std.specs.FinMap as map;
-ghost use Rattle.slotmap.specs.Words.{Key as KeyOf, IsCopy, AreClones, get};
+ghost use Rattle.slotmap.specs.Words.{Key as KeyOf, IsCopy, AreClones, KeepsSpent, get};
 
 use slotmap::basic::IntoIter;
 use slotmap::{
@@ -35,6 +35,17 @@ pub fn copy_numbers<K: Key>(numbers: &SlotMap<K, u64>) -> Result<SlotMap<K, u64>
     ensures { IfOk result (IsCopy numbers.now) }
 {
     numbers.clone()
+}
+
+/// Makes a map a copy of another one: what is spent in that one is spent in the map then. What was
+/// spent in the map before may be returned again.
+pub fn take_over<K: Key>(
+    names: &mut SlotMap<K, String>,
+    source: &SlotMap<K, String>,
+) -> Result<(), AllocError>
+    ensures { OnOk result (KeepsSpent source.now names.new) }
+{
+    names.clone_from(source)
 }
 
 /// Copies a packed map of names: the same keys in the same order, each with the same name.

@@ -1,11 +1,11 @@
 //! What follows from the replies to a list of commands, by their positions: two keys differ, a
-//! removed key finds nothing, a detached key is bound again.
+//! removed key finds nothing, however it was removed, a detached key is bound again.
 
-ghost use Rattle.std.specs.Prelude.{◌≡◌, ◌≢◌, IfSome, Some, None, slice_get, true};
-ghost use Rattle.slotmap.specs.Words.{KeyReply, TakenReply, LookedReply, DoneReply};
+ghost use Rattle.std.specs.Prelude.{◌≡◌, ◌≢◌, IfSome, Some, None, slice_get, true, false};
+ghost use Rattle.slotmap.specs.Words.{KeyReply, TakenReply, LookedReply, DoneReply, FlagReply, IsLive};
 
 use slotmap::{
-    Command, DefaultKey, DetachCommand, Detaching, Primary, Reply, run_detaching_new, run_new,
+    Command, DefaultKey, DetachCommand, Detaching, Primary, Reply, run, run_detaching_new, run_new,
 };
 use std::alloc::Global;
 
@@ -93,6 +93,81 @@ pub fn look_for_removed<M: Primary<DefaultKey, u64> + Drop>(
     let _value = taken_at(&replies, 1)?;
     let seen = looked_at(&replies, 3)?;
     Some(seen)
+}
+
+fn reject(_key: DefaultKey, _value: &mut u64) -> bool
+    ensures { result ≡ false }
+{
+    false
+}
+
+/// Returns the reply at a position if it is `Done`.
+fn done_at(replies: &Replies, at: usize) -> Option<()>
+    ensures { IfSome result (λ done. slice_get replies.now.items at ≡ Some DoneReply) }
+{
+    match replies.get(at) {
+        Some(Reply::Done) => Some(()),
+        _ => None,
+    }
+}
+
+/// Returns whether a key is said to be live.
+fn flag_at(replies: &Replies, at: usize) -> Option<bool>
+    ensures { IfSome result (λ flag. slice_get replies.now.items at ≡ Some (FlagReply flag)) }
+{
+    match replies.get(at) {
+        Some(Reply::Flag(flag)) => Some(*flag),
+        _ => None,
+    }
+}
+
+/// A key that was live before a list of commands isn't found after a `Clear`.
+pub fn look_for_cleared<M: Primary<DefaultKey, u64>>(
+    alloc: Global,
+    map: &mut M,
+    key: DefaultKey,
+) -> Option<bool>
+    requires live { IsLive (M.content map.old) key }
+    ensures gone { IfSome result (λ flag. flag ≡ false) }
+{
+    let listed = vec![in alloc;
+        Command::Insert(5),
+        Command::Clear,
+        Command::Insert(7),
+        Command::Contains(key),
+    ];
+    let Ok(commands) = listed else {
+        return None;
+    };
+    let made: Result<Replies, _> = run(alloc, map, commands, look, keep, make);
+    let Ok(replies) = made else {
+        return None;
+    };
+    done_at(&replies, 1)?;
+    let flag = flag_at(&replies, 3)?;
+    Some(flag)
+}
+
+/// A key that `keep` rejects isn't found after a `Retain`.
+pub fn look_for_rejected<M: Primary<DefaultKey, u64>>(
+    alloc: Global,
+    map: &mut M,
+    key: DefaultKey,
+) -> Option<bool>
+    requires live { IsLive (M.content map.old) key }
+    ensures gone { IfSome result (λ flag. flag ≡ false) }
+{
+    let listed = vec![in alloc; Command::Retain, Command::Contains(key)];
+    let Ok(commands) = listed else {
+        return None;
+    };
+    let made: Result<Replies, _> = run(alloc, map, commands, look, reject, make);
+    let Ok(replies) = made else {
+        return None;
+    };
+    done_at(&replies, 0)?;
+    let flag = flag_at(&replies, 1)?;
+    Some(flag)
 }
 
 /// Returns the reply at a position.

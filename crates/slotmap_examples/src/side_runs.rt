@@ -7,8 +7,8 @@ ghost use Rattle.std.specs.List.{AllByRecursion};
 ghost use Rattle.slotmap.specs.Words.{HadMemory, JoinedOld, JoinedLooked, places};
 
 use slotmap::{
-    DefaultKey, JoinedCommand, JoinedReply, Primary, Secondary, SecondaryCommand, SecondaryReply,
-    run_joined, run_secondary,
+    DefaultKey, Detaching, JoinedCommand, JoinedDetachCommand, JoinedReply, Primary, Secondary,
+    SecondaryCommand, SecondaryReply, run_joined, run_joined_detaching, run_secondary,
 };
 use std::alloc::Global;
 
@@ -97,5 +97,36 @@ pub fn put_and_look<M: Primary<DefaultKey, u64>, S: Secondary<DefaultKey, u64>>(
     };
     let _before = replaced_at(&replies, 1)?;
     let seen = looked_at(&replies, 2)?;
+    Some(seen)
+}
+
+/// A value that is put under the first key is found there, though that key is detached and another
+/// one is removed meanwhile.
+pub fn put_and_detach<M: Detaching<DefaultKey, u64>, S: Secondary<DefaultKey, u64>>(
+    alloc: Global,
+    store: &mut M,
+    beside: &mut S,
+) -> Option<Option<u64>>
+    requires unused { places (M.content store.old) ≡ 0 }
+    requires empty { S.pairs beside.old ≡ map.empty }
+    ensures found { IfSome result (λ seen. seen ≡ Some 50) }
+{
+    let listed = vec![in alloc;
+        JoinedDetachCommand::Plain(JoinedCommand::Insert(5)),
+        JoinedDetachCommand::Plain(JoinedCommand::Insert(6)),
+        JoinedDetachCommand::Plain(JoinedCommand::Put(1, 50)),
+        JoinedDetachCommand::Detach(1),
+        JoinedDetachCommand::Plain(JoinedCommand::Remove(2)),
+        JoinedDetachCommand::Plain(JoinedCommand::Put(2, 60)),
+        JoinedDetachCommand::Plain(JoinedCommand::Look(1)),
+    ];
+    let Ok(commands) = listed else {
+        return None;
+    };
+    let Ok(replies) = run_joined_detaching(alloc, store, beside, commands, look) else {
+        return None;
+    };
+    let _before = replaced_at(&replies, 2)?;
+    let seen = looked_at(&replies, 6)?;
     Some(seen)
 }
