@@ -85,13 +85,15 @@ def family(kinds):
     return operations.FAMILIES[MAPS[kinds[0]].family]
 
 
+def both(few, many):
+    """A ratio of instructions at 1,000 slots, and in brackets at 100,000 where that is another figure."""
+    is_apart = many and max(few, many) > APART * min(few, many)
+    return f"**{few:.2f}**" + (f" ({many:.2f})" if is_apart else "")
+
+
 def costs(figures, kinds):
     """What each operation costs as a part of what it costs in Rust: instructions at 1,000 slots, in brackets at 100,000 where that
     is another figure; and then the time at each number of slots. The means are below."""
-
-    def both(few, many):
-        is_apart = many and max(few, many) > APART * min(few, many)
-        return f"**{few:.2f}**" + (f" ({many:.2f})" if is_apart else "")
 
     def cell(kind, operation):
         few, many = (figures.row("instructions", kind, operation.name, it) for it in (1_000, 100_000))
@@ -106,6 +108,29 @@ def costs(figures, kinds):
         spent = " · ".join(mean_text(figures.ratios("time", kind, it)) for it in TIMES)
         means.append(f"{both(mean(few), mean(many) if many else 0)} · {spent}" if few else "?")
     return table(["What", *[HEADS[it] for it in kinds]], [*rows, ["geometric mean", *means]])
+
+
+def layout(figures):
+    """A `SlotMap` beside the model of its layout, and the model beside the Rust crate's map. The product of both ratios is that of
+    the table of costs. The second is divided from the other two, whose runs alternate; times have too few digits for that."""
+
+    def cell(operation, ratio):
+        places = [("instructions", 1_000), ("instructions", 100_000), *[("time", it) for it in TIMES]]
+        rows = [[figures.row(measure, kind, operation, slots) for kind in ("columns", "basic")] for measure, slots in places]
+        few, many, *spent = [ratio(*it) if all(it) else 0 for it in rows]
+        return " · ".join([both(few, many) if few else "?", *[f"{it:.2f}" if it else "?" for it in spent]])
+
+    def of_the_port(model, _):
+        return model.ratio
+
+    def of_the_layout(model, crate):
+        return crate.ratio / model.ratio
+
+    rows = [
+        [it.title, cell(it.name, of_the_port), cell(it.name, of_the_layout)]
+        for it in operations.operations_of(MAPS["columns"])
+    ]
+    return table(["What", "here / the model", "the model / in Rust"], rows)
 
 
 def choices(figures, is_short):
@@ -243,6 +268,7 @@ TABLES = {
     "maps": lambda it: choices(it, True),
     "summary": summary,
     "primary": lambda it: costs(it, PRIMARY),
+    "layout": layout,
     "secondary": lambda it: costs(it, SECONDARY),
     "memory": memory,
     "memory-values": memory_values,

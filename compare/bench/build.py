@@ -98,7 +98,7 @@ def write_port(folder, crates):
         mirror(os.path.join(crates, name), os.path.join(folder, "crates", name))
     source = os.path.join(folder, "crates", LIBRARY, "src")
     for kind in operations.MAPS:
-        if kind.name != "folded":
+        if kind.name not in operations.AGAIN:
             write(os.path.join(source, f"{kind.name.replace('-', '_')}.rt"), source_of_map(kind))
     write(os.path.join(source, "operations.rt"), operations.source_of_enums())
     for name in ("lib", "numbers", "values"):

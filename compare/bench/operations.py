@@ -153,8 +153,14 @@ FAMILIES = {
 # The structures are compared with code of the usual form, written for the bench (driver/list.rs and its like).
 STRUCTURES = ["list", "graph", "scene", "scheduler"]
 
-# `folded` is the port's sparse map beside the Rust crate's with a hasher like the port's, and `stepped` a SecondaryMap in step with
-# a SlotMap.
+# What the model of a SlotMap has (driver/columns.rs).
+MODELLED = ["insert", "insert-room", "get-live", "get-stale", "contains", "churn"]
+
+# The rows of these maps have the port's side of others: `folded` is the port's sparse map beside the Rust crate's with a hasher
+# like the port's, and `columns` the port's SlotMap beside a model of its layout, three vectors in Rust.
+AGAIN = ["folded", "columns"]
+
+# `stepped` is a SecondaryMap in step with a SlotMap.
 MAPS = [
     Map("basic", 0, "SlotMap", "slotmap_basic", "Primary", ["disjoint", "iter-mut", "values-mut"]),
     Map("dense", 1, "DenseSlotMap", "slotmap_dense", "Primary", []),
@@ -170,6 +176,7 @@ MAPS = [
     Map("graph", 11, "Graph", "slotmap_graph", "Graph", []),
     Map("scene", 12, "Scene", "slotmap_scene", "Scene", []),
     Map("scheduler", 13, "Scheduler", "slotmap_scheduler", "Scheduler", []),
+    Map("columns", 14, "SlotMap", "slotmap_basic", "Primary", [it.name for it in PRIMARY if it.name not in MODELLED]),
 ]
 
 

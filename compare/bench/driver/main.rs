@@ -8,6 +8,7 @@
 //! and does ROUNDS rounds of it. So what one round costs is the difference of two runs, without set-up and start.
 
 mod clock;
+mod columns;
 mod folded;
 mod graph;
 mod list;
@@ -51,6 +52,7 @@ fn rust_bench(map: u32, operation: u32, n: u64, rounds: u64) -> Option<u64> {
         11 => Some(graph::workload(Graph::of_number(operation)?, n, rounds)),
         12 => Some(scene::workload(Scene::of_number(operation)?, n, rounds)),
         13 => Some(scheduler::workload(Scheduler::of_number(operation)?, n, rounds)),
+        14 => columns::workload(primary?, n, rounds),
         _ => None,
     }
 }
@@ -79,8 +81,13 @@ impl Work {
         let (map, operation) = (black_box(self.map), black_box(self.operation));
         let (n, rounds) = (black_box(self.n), black_box(rounds));
         if self.is_port {
-            // The port has one sparse map. It is compared with two of the crate's, which differ in their hashers.
-            let map = if map == 5 { 4 } else { map };
+            // The port has one sparse map and one `SlotMap`. The sparse map is compared with two of the crate's, which differ in
+            // their hashers, and the `SlotMap` with the crate's and with a model of its layout.
+            let map = match map {
+                5 => 4,
+                14 => 0,
+                _ => map,
+            };
             // SAFETY: the function takes any numbers.
             unsafe { port_bench(map, operation, n, rounds) }
         } else {
