@@ -1,7 +1,7 @@
 -- What a contract sees of a `Drain`.
 use Rattle.std.specs.FinMap as map
 use Rattle.slotmap_core.specs.Words.{Option, MutBor, Key, key_cmp, Content, KeepsLoan, NoneBelow, TakesPair, TakesFirst, EmptiesByIndex}
-use Rattle.slotmap_slots.specs.Ahead.{KnowsLiveKeys}
+use Rattle.slotmap_basic.specs.Ahead.{KnowsLiveKeys}
 use Rattle.slotmap_basic.specs.declared.drain.Drain.{Drain}
 
 module _ {K V : Type 0} where
@@ -15,8 +15,8 @@ module _ {K V : Type 0} where
 
   -- no key at an index before that of the drain is live, and it knows the live keys from there on
   pub record DrainCanStep (d : Drain K V) : Type 0 where
-    pub above : NoneBelow (drain_live d) d.odds.index
-    pub odds : KnowsLiveKeys d.map.now d.odds
+    pub above : NoneBelow (drain_live d) d.cursor.index
+    pub cursor : KnowsLiveKeys d.map.now d.cursor
 
   -- `next` took old to new, and yielded the item
   abbrev pub DrainSteps : (K → Key) → Drain K V → Option (K × V) → Drain K V → Type 0

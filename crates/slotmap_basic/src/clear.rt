@@ -25,7 +25,7 @@ impl<K: Key, V: Drop> SlotMap<K, V> {
         ensures order { FreesByIndex self.old self.new }
         ensures valid { StaysValid true self.old self.new }
     {
-        self.slots.clear_from(0);
+        self.clear_from(0);
     }
 
     /// Appends every live key to `out`, by ascending index.
@@ -46,8 +46,8 @@ impl<K: Key, V: Drop> SlotMap<K, V> {
         ensures valid { IsContent true self.now }
     {
         out.reserve(self.len())?;
-        let mut odds = self.slots.odds_from(0);
-        while let Some(key) = self.next_live(&mut odds) {
+        let mut cursor = self.cursor_from(0);
+        while let Some(key) = self.next_live(&mut cursor) {
             out.push_reserved(key);
         }
         Ok(())
@@ -76,8 +76,8 @@ impl<K: Key, V: Drop> SlotMap<K, V> {
         ensures valid { StaysValid true self.old self.new }
     {
         out.reserve(self.len())?;
-        let mut odds = self.slots.odds_from(0);
-        while let Some(key) = self.next_live(&mut odds) {
+        let mut cursor = self.cursor_from(0);
+        while let Some(key) = self.next_live(&mut cursor) {
             let value = self.take_live(key);
             out.push_reserved((key, value));
         }

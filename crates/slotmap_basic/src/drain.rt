@@ -5,8 +5,8 @@ ghost use Rattle.slotmap_core.specs.Words.{size, UpTo, IsContent, EmptiesByIndex
 ghost use Rattle.slotmap_basic.specs.Drain.{drain_loan, DrainCanStep, drain_live, DrainSteps};
 
 use crate::SlotMap;
+use crate::columns::OddCursor;
 use slotmap_core::keys::Key;
-use slotmap_slots::layout::Odds;
 use std::fmt;
 use std::iter::FusedIterator;
 
@@ -17,7 +17,7 @@ use std::iter::FusedIterator;
 pub struct Drain<'a, K: Key, V> {
     map: &'a mut SlotMap<K, V>,
     // Where the next occupied slot is looked for.
-    odds: Odds,
+    cursor: OddCursor,
 }
 
 impl<'a, K: Key, V: Drop> Drop for Drain<'a, K, V> {
@@ -25,8 +25,8 @@ impl<'a, K: Key, V: Drop> Drop for Drain<'a, K, V> {
         ensures ends { DrainCanStep self.entry → EmptiesByIndex (drain_loan self.entry).now self.exit.0.now }
         ensures valid { IsContent true self.exit.0.now }
     {
-        let Drain { map, odds } = self;
-        map.slots.clear_from(odds.index());
+        let Drain { map, cursor } = self;
+        map.clear_from(cursor.index());
     }
 }
 
@@ -42,7 +42,7 @@ impl<'a, K: Key, V: Drop> Iterator for Drain<'a, K, V> {
     #[inline(always)]
     fn next(&mut self) -> Option<(K, V)> {
         let map = &mut *self.map;
-        let key = map.next_live(&mut self.odds)?;
+        let key = map.next_live(&mut self.cursor)?;
         Some((key, map.take_live(key)))
     }
 
@@ -100,7 +100,7 @@ impl<K: Key, V: Drop> SlotMap<K, V> {
 
         ensures valid { IsContent true self.old }
     {
-        let odds = self.slots.odds_from(0);
-        Drain { map: self, odds }
+        let cursor = self.cursor_from(0);
+        Drain { map: self, cursor }
     }
 }

@@ -4,8 +4,8 @@ ghost use Rattle.std.specs.Prelude.{◌≡◌, ◌≤◌, length, Some, IfSome, 
 ghost use Rattle.slotmap_core.specs.Words.{YieldsFirstBy, item_count, at_most, UpTo, ClonesEqual, AreClones, ListsByIndex};
 
 use crate::SlotMap;
+use crate::columns::SlotIntoIter;
 use slotmap_core::keys::Key;
-use slotmap_slots::slots::SlotIntoIter;
 use std::alloc::AllocError;
 use std::fmt;
 use std::iter::FusedIterator;
@@ -133,7 +133,7 @@ impl<K: Key, V: Drop> IntoIterator for SlotMap<K, V> {
 
     fn into_iter(self) -> IntoIter<K, V> {
         IntoIter {
-            pairs: self.slots.into_iter(),
+            pairs: SlotIntoIter::over(self.slots),
             key_type: PhantomData,
         }
     }

@@ -5,8 +5,8 @@ ghost use Rattle.std.specs.Prelude.{◌≡◌, ◌≤◌, length, Some, IfSome, 
 ghost use Rattle.slotmap_core.specs.Words.{YieldsFirstBy, item_count, at_most, UpTo, IsContent, IsListing, IsKeyListing, IsValueListing, ListsByIndex};
 
 use crate::SlotMap;
+use crate::columns::SlotIter;
 use slotmap_core::keys::Key;
-use slotmap_slots::slots::SlotIter;
 use std::alloc::AllocError;
 use std::fmt;
 use std::iter::FusedIterator;
@@ -290,7 +290,7 @@ impl<K: Key, V> SlotMap<K, V> {
     {
         self.slots.note_valid();
         Iter {
-            pairs: self.slots.iter(),
+            pairs: SlotIter::over(&self.slots),
             key_type: PhantomData,
         }
     }

@@ -25,6 +25,7 @@ ghost use Rattle.slotmap_core.specs.Words.{IsContent, used, IsNew, RefusesCapaci
 mod access;
 mod clear;
 mod clone;
+mod columns;
 mod detach;
 mod drain;
 mod insert;
@@ -34,13 +35,14 @@ mod list;
 mod primary;
 mod remove;
 mod retain;
+mod search;
 
+use columns::Columns;
 pub use drain::Drain;
 pub use into_iter::IntoIter;
 pub use iter::{Iter, Keys, Values};
 use slotmap_core::errors::ReserveError;
 use slotmap_core::keys::{DefaultKey, Key};
-use slotmap_slots::layout::Columns;
 use slotmap_slots::slots::Slots;
 use std::alloc::Global;
 use std::fmt;

@@ -1,13 +1,11 @@
-//! Removals, and one step of an iteration over the slots.
+//! Removals.
 
 ghost use Rattle.std.specs.FinMap as map;
-ghost use Rattle.std.specs.Prelude.{◌≡◌, ◌+◌, ◌<◌, ◌≤◌, OnSome, IfNone, IfSome, Some, true};
-ghost use Rattle.slotmap_core.specs.Words.{Key as KeyOf, IsContent, IsLive, Removes, StaysValid};
-ghost use Rattle.slotmap_slots.specs.Ahead.{KnowsLiveKeys};
+ghost use Rattle.std.specs.Prelude.{◌≡◌, OnSome, IfNone, Some, true};
+ghost use Rattle.slotmap_core.specs.Words.{IsLive, Removes, StaysValid};
 
 use crate::SlotMap;
 use slotmap_core::keys::Key;
-use slotmap_slots::layout::Odds;
 
 impl<K: Key, V: Drop> SlotMap<K, V> {
     /// Removes a live key and returns its value, or `None` if the key isn't live.
@@ -39,22 +37,5 @@ impl<K: Key, V: Drop> SlotMap<K, V> {
         ensures valid { StaysValid true self.old self.new }
     {
         self.slots.take(key.data())
-    }
-
-    // Returns the next live key of a loop, by ascending index.
-    #[inline(always)]
-    pub(crate) fn next_live(&self, odds: &mut Odds) -> Option<K>
-        requires { KnowsLiveKeys self.now odds.old }
-        ensures live { IfSome result (λ key.
-            IsLive self.now (K.data_of key) × (odds.old.index ≤ (K.data_of key).index)) }
-        ensures first { IfSome result (λ key. (other : KeyOf) → IsLive self.now other →
-            odds.old.index ≤ other.index → (K.data_of key).index ≤ other.index) }
-        ensures on { IfSome result (λ key. odds.new.index ≡ (K.data_of key).index + 1) }
-        ensures none { IfNone result ((other : KeyOf) → IsLive self.now other → other.index < odds.old.index) }
-        ensures odds { KnowsLiveKeys self.now odds.new }
-        ensures valid { IsContent true self.now }
-    {
-        let data = self.slots.next_live(odds)?;
-        Some(K::from(data))
     }
 }

@@ -27,8 +27,8 @@ impl<K: Key, V: Drop> SlotMap<K, V> {
         ensures order { FreesByIndex self.old self.new }
         ensures valid { StaysValid true self.old self.new }
     {
-        let mut odds = self.slots.odds_from(0);
-        while let Some(key) = self.next_live(&mut odds) {
+        let mut cursor = self.cursor_from(0);
+        while let Some(key) = self.next_live(&mut cursor) {
             let stays = f(key, self.get_unchecked_mut(key));
             if !stays {
                 self.reject(key);

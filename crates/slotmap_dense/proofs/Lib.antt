@@ -14,3 +14,4 @@ pub mod CloneLemmas
 pub mod PositionLists
 pub mod LastKeyLemmas
 pub mod FromListLemmas
+pub mod RowLemmas

@@ -7,3 +7,4 @@ pub mod Drain
 pub mod IterMut
 pub mod Retain
 pub mod Pass
+pub mod Rows

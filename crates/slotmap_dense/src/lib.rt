@@ -33,15 +33,16 @@ mod list;
 mod primary;
 mod remove;
 mod retain;
+mod rows;
 mod slices;
 
 pub use drain::Drain;
 pub use into_iter::IntoIter;
 pub use iter::{Iter, Keys, Values};
 pub use iter_mut::{IterMut, ValuesMut};
+use rows::Rows;
 use slotmap_core::errors::ReserveError;
 use slotmap_core::keys::{DefaultKey, Key};
-use slotmap_slots::layout::Rows;
 use slotmap_slots::slots::Slots;
 use std::alloc::{AllocError, Global};
 use std::fmt;

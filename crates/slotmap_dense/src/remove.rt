@@ -8,8 +8,8 @@ ghost use Rattle.slotmap_dense.specs.Call.{StaysDense};
 ghost use Rattle.slotmap_dense.specs.Packed.{IsPacked, IsGapped};
 
 use crate::DenseSlotMap;
+use crate::rows::Rows;
 use slotmap_core::keys::Key;
-use slotmap_slots::layout::Rows;
 use slotmap_slots::slots::Slots;
 
 // Takes out the pair at a position whose key is no longer in the slots. The last pair moves to that

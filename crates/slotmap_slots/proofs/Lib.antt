@@ -1,12 +1,5 @@
-pub mod ColumnLemmas
-pub mod OddsLemmas
-pub mod NumberLemmas
-pub mod RowLemmas
 pub mod SlotLemmas
 pub mod SlotGrowth
 pub mod SlotClones
-pub mod IterClones
 pub mod SettledLemmas
 pub mod FromListLemmas
-pub mod AheadLemmas
-pub mod PairsLemmas

@@ -1,12 +1,12 @@
 -- What calls know of slots, by what the map holds.
--- For this crate alone.
+-- For this crate and for the layouts of the maps.
 use Rattle.std.specs.FinMap as map
 use Rattle.std.specs.FinSet as set
-use Rattle.std.proofs.Common.{◌≡◌, ◌≢◌, ◌+◌, ◌-◌, ◌<◌, ◌≤◌, ◌^◌, ◌%◌, ◌∷◌, ◌++◌, ℕ, zero, suc, true, List, [], length, set, slice_get, Some, is_some, refl, sym}
+use Rattle.std.proofs.Common.{◌≡◌, ◌≢◌, ◌+◌, ◌-◌, ◌<◌, ◌≤◌, ◌^◌, ◌∷◌, ◌++◌, ℕ, zero, suc, true, List, [], length, set, slice_get, Some, refl, sym}
 use Rattle.slotmap_core.proofs.Common.{Key, Content, IsContent, IsLive, IsDetached, places, used, most, MakesRoom, StaysValid, content_of_places, used_places}
-use Rattle.slotmap_core.proofs.Common.{ap, subst, ◌∙◌, arith, length-set, length_push, key, keeps}
-use Rattle.slotmap_slots.specs.Slot.{Slot, full, version_at, payload_at, NoneLive, with_payload, places_of, IsSound, vacancies, IsSettled, map_of}
-use Rattle.slotmap_slots.proofs.SlotLemmas.{Present, present, count_positive, live_slot, get-live_slot, rewritten, reattached, with_payload-is, valid, slots_fit, used_places-slots, free_below}
+use Rattle.slotmap_core.proofs.Common.{ap, subst, ◌∙◌, arith, length-set, length_push, keeps}
+use Rattle.slotmap_slots.specs.Slot.{Slot, full, payload_at, with_payload, places_of, IsSound, vacancies, IsSettled, map_of}
+use Rattle.slotmap_slots.proofs.SlotLemmas.{Present, present, count_positive, rewritten, reattached, with_payload-is, valid, slots_fit, used_places-slots, free_below}
 use Rattle.slotmap_slots.proofs.SlotGrowth.{PresentDetached, present_detached, some_free}
 
 module _ {P : Type 0} {slots : List (Slot P)} {fits head aside count : ℕ} (settled : IsSettled slots fits head aside count) {now : Content P}
@@ -56,16 +56,6 @@ module _ {P : Type 0} {slots : List (Slot P)} {fits head aside count : ℕ} (set
 
   pub settled_spare : fits < 2 ^ 32 → length slots < fits → 0 < now.room
   settled_spare limit spare = omega (arith, ap (λ c. c.room) (sym view), used_places-slots settled.sound)
-
-  -- an odd version is that of a live key
-  pub settled_live : (i v : ℕ) → version_at slots i ≡ Some v → v % 2 ≡ 1 → IsLive now (key i v)
-  settled_live i v found odd =
-      let there = live_slot settled.sound i v found odd in
-      ap (λ c. map.contains_key c.live (key i v)) (sym view) ∙ ap is_some (get-live_slot settled.sound (key i v) there.0 there.1)
-
-  -- no live key is between two indices if no version there is odd
-  pub settled_passed : (start end : ℕ) → NoneLive slots start end → (q : Key) → IsLive now q → start ≤ q.index → end ≤ q.index
-  settled_passed start end passed q is_live from = grind (arith, settled_present q is_live, passed q.index q.version from)
 
 -- what is held after a call that allocates nothing
 pub settled_stays : {P : Type 0} (slots : List (Slot P)) (fits head aside count : ℕ) → IsSettled slots fits head aside count → {now : Content P}

@@ -1,44 +1,12 @@
 -- Slots with clones of the payloads of others: they are as sound, and hold clones of what those hold.
 -- For this crate alone.
 use Rattle.std.specs.FinMap as map
-use Rattle.std.proofs.Common.{◌≡◌, ◌+◌, ◌-◌, ◌≤◌, ◌∷◌, ℕ, List, [], length, Option, None, Some, refl, sym, ap, ◌∙◌, arith}
-use Rattle.slotmap_core.proofs.Common.{AllZip, IsCloneOf, Content, IsCloneBy, IsPlaceClone, ArePlaceClones, live, content_of_places, keys_total, exact_keys}
-use Rattle.slotmap_core.proofs.Common.{mapped, zip_length, zip_left, zip_right, zip_self, same_len, clone_is_some, live-clones, IsStacked-clones}
+use Rattle.std.proofs.Common.{◌≡◌, ◌+◌, ◌-◌, ◌≤◌, ◌∷◌, ℕ, List, [], length, Some, refl, sym, ap, ◌∙◌, arith}
+use Rattle.slotmap_core.proofs.Common.{Content, IsCloneBy, IsPlaceClone, ArePlaceClones, live, content_of_places, keys_total, exact_keys}
+use Rattle.slotmap_core.proofs.Common.{mapped, zip_length, zip_left, zip_right, same_len, clone_is_some, live-clones, IsStacked-clones}
 use Rattle.slotmap_core.proofs.Common.{content-clones}
-use Rattle.slotmap_slots.specs.Columns.{zip_slots}
-use Rattle.slotmap_slots.specs.Slot.{Slot, usage_at, place_of, places_of, free_indices, IsFreeList, IsSlot, IsSound, IsSlotClone, AreSlotClones, IsSettled, vacancies, map_of}
-use Rattle.slotmap_slots.specs.Slot.{Use}
+use Rattle.slotmap_slots.specs.Slot.{Slot, Use, usage_at, place_of, places_of, free_indices, IsFreeList, IsSlot, IsSound, IsSlotClone, AreSlotClones, IsSettled, vacancies, map_of}
 use Rattle.slotmap_slots.proofs.SlotLemmas.{free_indices-stack, stacked_free}
-
--- clones of optional values, as the impl of `Clone` for them says it
-pub option_clones : {V : Type 0} (is_clone : V → V → Type 0) (R : Option V → Option V → Type 0) → ((w : V) → R None (Some w) → ⊥) → ((v : V) → R (Some v) None → ⊥)
-    → ((v w : V) → R (Some v) (Some w) → is_clone v w) → (xs ys : List (Option V)) → AllZip R xs ys → AllZip (IsCloneOf is_clone) xs ys
-option_clones is_clone R more less both [] [] all = tt
-option_clones is_clone R more less both [] (y ∷ ys) all = absurd all
-option_clones is_clone R more less both (x ∷ xs) [] all = absurd all
-option_clones {V} is_clone R more less both (x ∷ xs) (y ∷ ys) all = (one x y all.0, option_clones is_clone R more less both xs ys all.1)
-  where
-    one : (x y : Option V) → R x y → IsCloneOf is_clone x y
-    one x y r = grind arith
-
-module _ {P : Type 0} (is_clone : P → P → Type 0) where
-  -- slots in three vectors, the last of which has clones
-  pub zip-clones : (versions : List ℕ) (uses : List Use) (xs ys : List (Option P)) → AllZip (IsCloneOf is_clone) xs ys
-      → AreSlotClones is_clone (zip_slots versions uses xs) (zip_slots versions uses ys)
-  zip-clones [] uses xs ys all = tt
-  zip-clones (v ∷ versions) [] xs ys all = tt
-  zip-clones (v ∷ versions) (l ∷ uses) [] [] all = tt
-  zip-clones (v ∷ versions) (l ∷ uses) [] (y ∷ ys) all = absurd all
-  zip-clones (v ∷ versions) (l ∷ uses) (x ∷ xs) [] all = absurd all
-  zip-clones (v ∷ versions) (l ∷ uses) (x ∷ xs) (y ∷ ys) all = (record { version = refl; usage = refl; payload = all.0 }, zip-clones versions uses xs ys all.1)
-
-  -- the same slots, where each value is a clone of itself
-  pub clones-self : ((p : P) → is_clone p p) → (slots : List (Slot P)) → AreSlotClones is_clone slots slots
-  clones-self itself slots = zip_self (IsSlotClone is_clone) (λ s. record { version = refl; usage = refl; payload = own s.payload }) slots
-    where
-      own : (o : Option P) → IsCloneOf is_clone o o
-      own None = refl
-      own (Some p) = itself p
 
 -- a slot of another layout, and what it is to the outside
 module _ {P : Type 0} (is_clone : P → P → Type 0) where

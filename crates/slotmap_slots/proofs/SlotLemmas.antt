@@ -1,5 +1,5 @@
 -- How each change of one slot keeps the slots sound, and what the places become.
--- For this crate alone.
+-- For this crate and for the layouts of the maps.
 use Rattle.std.specs.FinMap as map
 use Rattle.std.proofs.Common.{◌==◌, ◌≡◌, ◌≢◌, ◌+◌, ◌-◌, ◌^◌, ◌<◌, ◌≤◌, ◌%◌, ◌∷◌, ◌++◌, ⊎_elim, true, false, cond, is_some, eqb-true, eq-eqb, ℕ, zero, suc, List}
 use Rattle.slotmap_core.specs.Words.{removed}

@@ -1,9 +1,4 @@
 pub mod Slot
 pub mod LayoutLends
 pub mod Numbers
-pub mod Columns
-pub mod Odds
-pub mod Ahead
-pub mod Rows
 pub mod SlotsLend
-pub mod Iter

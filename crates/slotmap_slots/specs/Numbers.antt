@@ -1,5 +1,5 @@
--- The number that a slot has beside its version. No public clause cites this module.
-use Rattle.std.specs.Prelude.{◌-◌, ◌^◌, ◌%◌, ◌==◌, ◌&&◌, if◌then◌else◌, ◌∷◌, ℕ, not, List, []}
+-- The number that a slot has beside its version. No public clause of a map cites this module.
+use Rattle.std.specs.Prelude.{◌-◌, ◌^◌, ◌%◌, ◌==◌, ◌&&◌, if◌then◌else◌, ℕ, not}
 use Rattle.slotmap_slots.specs.declared.layout.Use.{Use}
 use Rattle.slotmap_slots.specs.declared.layout.Use.TheVariants.{InUse, Free, Detached, Retired}
 
@@ -17,9 +17,3 @@ empty_use version number = if number == 2 ^ 32 - 1 then Detached else if version
 -- a slot is in use if and only if its version is odd, whatever its number
 abbrev pub use_of : ℕ → ℕ → Use
 use_of version number = if version % 2 == 1 then InUse else empty_use version number
-
--- the same for each slot
-abbrev pub uses_of : List ℕ → List ℕ → List Use
-uses_of [] numbers = []
-uses_of (v ∷ versions) [] = []
-uses_of (v ∷ versions) (n ∷ numbers) = use_of v n ∷ uses_of versions numbers

@@ -2,7 +2,7 @@
 use Rattle.std.specs.FinMap as map
 use Rattle.std.specs.Prelude.{◌≡◌, ◌≢◌, ◌↔◌, ◌+◌, ◌-◌, ◌%◌, ◌^◌, ◌<◌, ◌≤◌, ◌∷◌, ℕ, zero, suc, List, [], length, map as list_map, Option, Some, None, IsSome}
 use Rattle.slotmap_core.specs.Words.{option_map, option_and_then, slice_get, AllZip, IsCloneOf, Place, Live, Detached as DetachedPlace, Vacant}
-use Rattle.slotmap_core.specs.Words.{Retired as RetiredPlace, live, StackMap, IsStacked}
+use Rattle.slotmap_core.specs.Words.{Retired as RetiredPlace, live, StackMap, IsStacked, Content, content_of_places}
 pub use Rattle.slotmap_slots.specs.declared.layout.Use.{Use}
 pub use Rattle.slotmap_slots.specs.declared.layout.Use.TheVariants.{InUse, Free, Detached, Retired}
 
@@ -56,13 +56,6 @@ module _ {P : Type 0} where
   with_payload [] i p = []
   with_payload (s ∷ slots) zero p = record s { payload = Some p } ∷ slots
   with_payload (s ∷ slots) (suc i) p = s ∷ with_payload slots i p
-
-  abbrev pub versions_of : List (Slot P) → List ℕ
-  versions_of slots = list_map (λ s. s.version) slots
-
-  -- each slot from the one index to the other has an even version
-  abbrev pub NoneLive : List (Slot P) → ℕ → ℕ → Type 0
-  NoneLive slots start end = (i v : ℕ) → start ≤ i → i < end → version_at slots i ≡ Some v → v % 2 ≡ 0
 
 module _ {P : Type 0} (is_clone : P → P → Type 0) where
   -- the same version and use, with a clone of the payload
@@ -147,3 +140,12 @@ pub record IsSettled {P : Type 0} (slots : List (Slot P)) (fits first_vacant asi
   pub sound : IsSound slots first_vacant (vacancies slots aside_count live_count) live_count
   pub fewer : live_count + aside_count + 1 ≤ length slots
   pub holds : length slots ≤ fits
+
+-- these are the slots of a map that holds this, for some head of the free list and some numbers of slots
+pub record AreSlotsOf {P : Type 0} (slots : List (Slot P)) (c : Content P) : Type 0 where
+  pub fits : ℕ
+  pub first_vacant : ℕ
+  pub aside_count : ℕ
+  pub live_count : ℕ
+  pub settled : IsSettled slots fits first_vacant aside_count live_count
+  pub content : content_of_places (map_of slots first_vacant (vacancies slots aside_count live_count) (fits - 1)) ≡ c

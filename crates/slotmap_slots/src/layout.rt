@@ -7,15 +7,9 @@ ghost use Rattle.slotmap_slots.specs.LayoutLends.{lends_payload};
 
 use std::alloc::{AllocError, Global};
 
-mod columns;
 mod numbers;
-mod odds;
-mod rows;
 
-pub use columns::Columns;
-pub(crate) use columns::version_in;
-pub use odds::Odds;
-pub use rows::Rows;
+pub use numbers::{number_for, use_for};
 
 /// What a slot is used for.
 #[derive(Clone, Copy)]
@@ -32,8 +26,8 @@ pub enum Use {
 
 /// A list of slots in memory: each has a version, a use and, if it is in use, a payload.
 ///
-/// `Columns` keeps three vectors, `Rows` one. `Slots` says what a map means by its slots. A layout
-/// says only what each call does to the list.
+/// Each map has a layout of its own. `Slots` says what a map means by its slots. A layout says only
+/// what each call does to the list.
 pub trait Layout<P>: Sized {
     // The slots, from slot 0 on.
     ghost slots: { Self → List (Slot P) };

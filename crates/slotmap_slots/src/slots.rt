@@ -7,6 +7,7 @@
 ghost use Rattle.std.specs.FinMap as map;
 ghost use Rattle.std.specs.Prelude.{◌≡◌, ◌+◌, ◌<◌, ◌≤◌, ◌^◌, [], Some, IfOk, IfErr, IsOk, IsTrue, true};
 ghost use Rattle.slotmap_core.specs.Words.{IsContent, used, most, places, IsNew, RefusesCapacity, MakesRoom};
+ghost use Rattle.slotmap_slots.specs.Slot.{AreSlotsOf};
 
 use crate::layout::{Layout, Use};
 use slotmap_core::errors::ReserveError;
@@ -18,12 +19,8 @@ mod access;
 mod copy;
 mod detach;
 mod insert;
-mod iter;
 mod list;
 mod remove;
-mod search;
-
-pub use iter::{SlotIntoIter, SlotIter};
 
 /// The slots of a map. A contract sees them as what the map holds.
 #[derive(Drop)]
@@ -92,6 +89,21 @@ impl<P, L: Layout<P>> Slots<P, L> {
         ensures { IsContent true self.now }
     {
         let _ = &self.live_count;
+    }
+
+    /// Returns the slots as they lie in memory.
+    #[inline(always)]
+    pub fn layout(&self) -> &L
+        ensures { AreSlotsOf (L.slots result.now) self.now }
+    {
+        &self.layout
+    }
+
+    /// Returns the slots as they lie in memory, by value.
+    pub fn into_layout(self) -> L
+        ensures { AreSlotsOf (L.slots result) self }
+    {
+        self.layout
     }
 
     /// Returns the number of slots for which memory is allocated.

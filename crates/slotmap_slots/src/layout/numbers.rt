@@ -14,9 +14,9 @@ const DETACHED: u32 = 4294967295;
 // The number of a retired slot. Its version is 0, as that of the sentinel alone, whose number is 0.
 const RETIRED: u32 = 1;
 
-// Returns the number of a slot that isn't in use.
+/// Returns the number of a slot that isn't in use.
 #[inline(always)]
-pub(super) fn number_for(usage: Use) -> u32
+pub fn number_for(usage: Use) -> u32
     requires { usage ≢ InUse }
     ensures { result ≡ number_of usage }
 {
@@ -31,9 +31,9 @@ pub(super) fn number_for(usage: Use) -> u32
     }
 }
 
-// Returns what a slot with this version and this number is used for.
+/// Returns what a slot with this version and this number is used for.
 #[inline(always)]
-pub(super) fn use_for(version: u32, number: u32) -> Use
+pub fn use_for(version: u32, number: u32) -> Use
     ensures { result ≡ use_of version number }
 {
     if version % 2 == 1 {

@@ -1,14 +1,14 @@
 use Rattle.std.specs.FinMap as map
 use Rattle.std.proofs.Common.{◌∷◌, ◌++◌, [], length, map as list_map, refl, sym, ap, ◌∙◌, append_assoc, append-nil, arith}
 use Rattle.slotmap_core.proofs.Common.{map-append, none_live, entries_none, Swept-start, Swept-to, Swept-removed, first_entry, above_next}
-use Rattle.slotmap_slots.proofs.AheadLemmas.{odds_removed}
+use Rattle.slotmap_basic.proofs.AheadLemmas.{cursor_removed}
 use Rattle.slotmap_basic.proofs.SlotMap.drain_into.Goals as goal
 
 pub loop-key-init : goal.loop-key-init
 loop-key-init g c = record {
   swept = Swept-start c.args.self.now _ c.len.ensures.valid;
-  odds = rw c.self.view_is at c.odds_from-odds.ensures.odds;
-  above = λ q there. omega (arith, c.odds_from-odds.ensures.on);
+  cursor = c.cursor_from-cursor.ensures.cursor;
+  above = λ q there. omega (arith, c.cursor_from-cursor.ensures.on);
   pairs = [];
   pushed = c.reserve.ensures.items ∙ sym (append-nil c.args.out.now.items);
   listed = refl;
@@ -18,7 +18,7 @@ loop-key-init g c = record {
 pub push_reserved-requires : goal.push_reserved-requires
 push_reserved-requires g c =
     let at = c.loop-key in
-    let next = first_entry at.self at.invariant.swept.well at.odds.index
+    let next = first_entry at.self at.invariant.swept.well at.cursor.index
     (g.K.Key.data_of c.in-Some.key) c.in-Some.ensures.first c.take_live-value.result at.invariant.above c.take_live-value.ensures.value in
     omega (arith, at.invariant.room, ap length next)
 
@@ -31,13 +31,13 @@ loop-key-preserved g c =
     let found = c.in-Some.ensures.live in
     let removes = c.take_live-value.ensures.removes in
     let valid = c.take_live-value.ensures.valid in
-    let next = first_entry at.self at.invariant.swept.well at.odds.index key c.in-Some.ensures.first value at.invariant.above c.take_live-value.ensures.value
+    let next = first_entry at.self at.invariant.swept.well at.cursor.index key c.in-Some.ensures.first value at.invariant.above c.take_live-value.ensures.value
     ∙ ap (λ m. (key, value) ∷ map.entries m) (sym removes.live) in
     record {
       swept = rw c.in-Some.ensures.on (Swept-removed c.args.self.now at.self c.take_live-value.new.self key.index key
-          (Swept-to c.args.self.now at.self at.odds.index key.index at.invariant.swept found.1) found.0 refl removes valid.capacity valid.after);
-      odds = odds_removed at.self c.take_live-value.new.self c.next_live.new.odds c.next_live.ensures.odds at.invariant.swept.well key found.0 (omega (arith, c.in-Some.ensures.on)) removes;
-      above = rw (c.in-Some.ensures.on, removes.live) (above_next at.self at.invariant.swept.well at.odds.index key c.in-Some.ensures.first found.0 at.invariant.above);
+          (Swept-to c.args.self.now at.self at.cursor.index key.index at.invariant.swept found.1) found.0 refl removes valid.capacity valid.after);
+      cursor = cursor_removed at.self c.take_live-value.new.self c.next_live.new.cursor c.next_live.ensures.cursor at.invariant.swept.well key found.0 (omega (arith, c.in-Some.ensures.on)) removes;
+      above = rw (c.in-Some.ensures.on, removes.live) (above_next at.self at.invariant.swept.well at.cursor.index key c.in-Some.ensures.first found.0 at.invariant.above);
       pairs = at.invariant.pairs ++ (c.in-Some.key, value) ∷ [];
       pushed = c.push_reserved.ensures.items ∙ ap (λ xs. xs ++ (c.in-Some.key, value) ∷ []) at.invariant.pushed ∙ append_assoc c.args.out.now.items at.invariant.pairs ((c.in-Some.key, value) ∷ []);
       listed = simp (map-append, append_assoc) (at.invariant.listed ∙ ap (λ es. list_map (λ p. (data_of p.0, p.1)) at.invariant.pairs ++ es) next);

@@ -1,14 +1,14 @@
 use Rattle.std.specs.FinMap as map
 use Rattle.std.proofs.Common.{◌≡◌, ◌+◌, ◌-◌, ◌≤◌, ◌++◌, true, List, length, map as list_map, vec_len, vec_capacity}
 use Rattle.slotmap_core.proofs.Common.{places, NoneBelow, Swept}
-use Rattle.slotmap_slots.specs.Ahead.{KnowsLiveKeys}
+use Rattle.slotmap_basic.specs.Ahead.{KnowsLiveKeys}
 use Rattle.slotmap_basic.proofs.SlotMap.drain_into.Given as goal
 
 abbrev pub invariant-loop-key : goal.invariant-loop-key
 invariant-loop-key g l = record {
-  odds : KnowsLiveKeys l.self l.odds;
-  swept : Swept true l.fn.self l.self l.odds.index;
-  above : NoneBelow l.self.live l.odds.index;
+  cursor : KnowsLiveKeys l.self l.cursor;
+  swept : Swept true l.fn.self l.self l.cursor.index;
+  above : NoneBelow l.self.live l.cursor.index;
   pairs : List (g.row.K.Denot × g.row.V.Denot);
   pushed : l.out.items ≡ l.fn.out.items ++ pairs;
   listed : map.entries l.fn.self.live ≡ list_map (λ p. (g.K.Key.data_of p.0, p.1)) pairs ++ map.entries l.self.live;
@@ -16,4 +16,4 @@ invariant-loop-key g l = record {
 }
 
 abbrev pub decreases-loop-key : goal.decreases-loop-key
-decreases-loop-key g l = places l.fn.self + 1 - l.odds.index
+decreases-loop-key g l = places l.fn.self + 1 - l.cursor.index

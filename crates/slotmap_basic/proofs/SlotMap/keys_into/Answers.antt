@@ -6,9 +6,9 @@ use Rattle.slotmap_basic.proofs.SlotMap.keys_into.Goals as goal
 pub loop-key-init : goal.loop-key-init
 loop-key-init g c =
     let m = c.args.self.now.live in
-    let all : from_index c.odds_from-odds.result.index m ≡ m = rw (let first : c.odds_from-odds.result.index ≡ 0 = omega (arith, c.odds_from-odds.ensures.on) in first) (from_index-start m) in
+    let all : from_index c.cursor_from-cursor.result.index m ≡ m = rw (let first : c.cursor_from-cursor.result.index ≡ 0 = omega (arith, c.cursor_from-cursor.ensures.on) in first) (from_index-start m) in
     record {
-      odds = rw c.self.view_is at c.odds_from-odds.ensures.odds;
+      cursor = c.cursor_from-cursor.ensures.cursor;
       keys = [];
       pushed = c.reserve.ensures.items ∙ sym (append-nil c.args.out.now.items);
       listed = ap (λ n. map.keys n) (sym all);
@@ -19,7 +19,7 @@ pub push_reserved-requires : goal.push_reserved-requires
 push_reserved-requires g c =
     let found = c.in-Some.ensures.live in
     let value = some_is (map.get c.args.self.now.live (g.K.Key.data_of c.in-Some.key)) found.0 in
-    let next = next_entry c.args.self.now c.next_live.ensures.valid c.loop-key.odds.index (g.K.Key.data_of c.in-Some.key) c.in-Some.ensures.first value.0 found.1 value.1 in
+    let next = next_entry c.args.self.now c.next_live.ensures.valid c.loop-key.cursor.index (g.K.Key.data_of c.in-Some.key) c.in-Some.ensures.first value.0 found.1 value.1 in
     omega (arith, c.loop-key.invariant.room, ap length next)
 
 pub loop-key-preserved : goal.loop-key-preserved
@@ -29,9 +29,9 @@ loop-key-preserved g c =
     let key = g.K.Key.data_of c.in-Some.key in
     let found = c.in-Some.ensures.live in
     let value = some_is (map.get m key) found.0 in
-    let next = next_entry c.args.self.now c.next_live.ensures.valid at.odds.index key c.in-Some.ensures.first value.0 found.1 value.1 in
+    let next = next_entry c.args.self.now c.next_live.ensures.valid at.cursor.index key c.in-Some.ensures.first value.0 found.1 value.1 in
     record {
-      odds = c.next_live.ensures.odds;
+      cursor = c.next_live.ensures.cursor;
       keys = at.invariant.keys ++ c.in-Some.key ∷ [];
       pushed = c.push_reserved.ensures.items ∙ ap (λ xs. xs ++ c.in-Some.key ∷ []) at.invariant.pushed ∙ append_assoc c.args.out.now.items at.invariant.keys (c.in-Some.key ∷ []);
       listed = rw c.in-Some.ensures.on (simp (map-append, append_assoc) (at.invariant.listed ∙ ap (λ es. list_map g.K.Key.data_of at.invariant.keys ++ list_map (λ e. e.0) es) next));

@@ -1,17 +1,17 @@
 use Rattle.std.specs.FinMap as map
 use Rattle.std.proofs.Common.{◌≡◌, ◌+◌, ◌-◌, ◌≤◌, ◌++◌, List, length, map as list_map, vec_len, vec_capacity}
 use Rattle.slotmap_core.proofs.Common.{places, from_index}
-use Rattle.slotmap_slots.specs.Ahead.{KnowsLiveKeys}
+use Rattle.slotmap_basic.specs.Ahead.{KnowsLiveKeys}
 use Rattle.slotmap_basic.proofs.SlotMap.keys_into.Given as goal
 
 abbrev pub invariant-loop-key : goal.invariant-loop-key
 invariant-loop-key g l = record {
-  odds : KnowsLiveKeys l.self l.odds;
+  cursor : KnowsLiveKeys l.self l.cursor;
   keys : List g.row.K.Denot;
   pushed : l.out.items ≡ l.fn.out.items ++ keys;
-  listed : map.keys l.self.live ≡ list_map g.K.Key.data_of keys ++ map.keys (from_index l.odds.index l.self.live);
-  room : vec_len l.out + length (map.entries (from_index l.odds.index l.self.live)) ≤ vec_capacity l.out;
+  listed : map.keys l.self.live ≡ list_map g.K.Key.data_of keys ++ map.keys (from_index l.cursor.index l.self.live);
+  room : vec_len l.out + length (map.entries (from_index l.cursor.index l.self.live)) ≤ vec_capacity l.out;
 }
 
 abbrev pub decreases-loop-key : goal.decreases-loop-key
-decreases-loop-key g l = places l.fn.self + 1 - l.odds.index
+decreases-loop-key g l = places l.fn.self + 1 - l.cursor.index

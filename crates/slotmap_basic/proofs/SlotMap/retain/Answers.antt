@@ -1,16 +1,16 @@
 use Rattle.slotmap_core.proofs.Common.{IsContent, IsLive, with_value, true, ◌∙◌, arith, same_live, CallsAt-called}
-use Rattle.slotmap_slots.proofs.AheadLemmas.{odds_removed, odds_written}
+use Rattle.slotmap_basic.proofs.AheadLemmas.{cursor_removed, cursor_written}
 use Rattle.slotmap_basic.proofs.RetainLemmas.{Going-start, Going-may, Going-end, Going-kept, Going-dropped}
-use Rattle.slotmap_basic.proofs.SlotMap.retain.Goals.{After-odds_from-odds, After-f-stays}
+use Rattle.slotmap_basic.proofs.SlotMap.retain.Goals.{After-cursor_from-cursor, After-f-stays}
 use Rattle.slotmap_basic.proofs.SlotMap.retain.Goals as goal
 
-well : (g : _) (c : After-odds_from-odds g) → IsContent true c.args.self.now
-well g c = rw c.self.view_is at c.odds_from-odds.ensures.valid
+well : (g : _) (c : After-cursor_from-cursor g) → IsContent true c.args.self.now
+well g c = c.cursor_from-cursor.ensures.valid
 
 pub loop-key-init : goal.loop-key-init
 loop-key-init g c =
-    let start = c.odds_from-odds.ensures in
-    record { going = Going-start g.F.FnMut g.K.Key.data_of c.args.self.now c.args.f (well g (goal.at.loop-key-init g c).After-odds_from-odds) _ start.on; odds = rw c.self.view_is at start.odds }
+    let start = c.cursor_from-cursor.ensures in
+    record { going = Going-start g.F.FnMut g.K.Key.data_of c.args.self.now c.args.f (well g (goal.at.loop-key-init g c).After-cursor_from-cursor) _ start.on; cursor = start.cursor }
 
 pub f-stays-requires : goal.f-stays-requires
 f-stays-requires g c =
@@ -32,11 +32,11 @@ loop-key-preserved-then-not-stays g c =
     let removes = c.reject.ensures.removes in
     let valid = c.reject.ensures.valid in
     let is_live = still g (goal.at.loop-key-preserved-then-not-stays g c).After-f-stays in
-    let odds = odds_written at.self key c.f-stays.new.arg3 c.next_live.new.odds found.live.0 c.next_live.ensures.odds in
+    let cursor = cursor_written at.self key c.f-stays.new.arg3 c.next_live.new.cursor found.live.0 c.next_live.ensures.cursor in
     record {
-      going = rw found.on (Going-dropped g.F.FnMut g.K.Key.data_of c.args.self.now c.args.f at.invariant.going (well g (goal.at.loop-key-preserved-then-not-stays g c).After-odds_from-odds) _
+      going = rw found.on (Going-dropped g.F.FnMut g.K.Key.data_of c.args.self.now c.args.f at.invariant.going (well g (goal.at.loop-key-preserved-then-not-stays g c).After-cursor_from-cursor) _
           (CallsAt-called g.F.FnMut c.f-stays.ensures) found.live.1 found.first c.get_unchecked_mut.ensures.value c.if-not-stays.true c.reject.new.self removes valid.capacity valid.after);
-      odds = odds_removed (with_value at.self key c.f-stays.new.arg3) c.reject.new.self c.next_live.new.odds odds valid.before key is_live (omega (arith, found.on)) removes;
+      cursor = cursor_removed (with_value at.self key c.f-stays.new.arg3) c.reject.new.self c.next_live.new.cursor cursor valid.before key is_live (omega (arith, found.on)) removes;
     }
 
 pub loop-key-preserved : goal.loop-key-preserved
@@ -45,9 +45,9 @@ loop-key-preserved g c =
     let found = c.in-Some.ensures in
     let key = g.K.Key.data_of c.in-Some.key in
     record {
-      going = rw found.on (Going-kept g.F.FnMut g.K.Key.data_of c.args.self.now c.args.f at.invariant.going (well g (goal.at.loop-key-preserved g c).After-odds_from-odds) _ (CallsAt-called g.F.FnMut c.f-stays.ensures)
+      going = rw found.on (Going-kept g.F.FnMut g.K.Key.data_of c.args.self.now c.args.f at.invariant.going (well g (goal.at.loop-key-preserved g c).After-cursor_from-cursor) _ (CallsAt-called g.F.FnMut c.f-stays.ensures)
           found.live.1 found.first c.get_unchecked_mut.ensures.value c.if-not-stays.false);
-      odds = odds_written at.self key c.f-stays.new.arg3 c.next_live.new.odds found.live.0 c.next_live.ensures.odds;
+      cursor = cursor_written at.self key c.f-stays.new.arg3 c.next_live.new.cursor found.live.0 c.next_live.ensures.cursor;
     }
 
 pub returns-clause-retained : goal.returns-clause-retained

@@ -1,14 +1,14 @@
 use Rattle.std.proofs.Common.{◌+◌, ◌-◌}
 use Rattle.slotmap_core.proofs.Common.{places}
-use Rattle.slotmap_slots.specs.Ahead.{KnowsLiveKeys}
+use Rattle.slotmap_basic.specs.Ahead.{KnowsLiveKeys}
 use Rattle.slotmap_basic.proofs.RetainLemmas.{Going}
 use Rattle.slotmap_basic.proofs.SlotMap.retain.Given as goal
 
 abbrev pub invariant-loop-key : goal.invariant-loop-key
 invariant-loop-key g l = record {
-  going : Going g.F.FnMut g.K.Key.data_of l.fn.self l.fn.f l.self l.odds.index l.f;
-  odds : KnowsLiveKeys l.self l.odds;
+  going : Going g.F.FnMut g.K.Key.data_of l.fn.self l.fn.f l.self l.cursor.index l.f;
+  cursor : KnowsLiveKeys l.self l.cursor;
 }
 
 abbrev pub decreases-loop-key : goal.decreases-loop-key
-decreases-loop-key g l = places l.fn.self + 1 - l.odds.index
+decreases-loop-key g l = places l.fn.self + 1 - l.cursor.index

@@ -1,22 +1,22 @@
 use Rattle.std.specs.FinMap as map
 use Rattle.std.proofs.Common.{◌+◌, ◌∷◌, refl, sym, ap, ◌∙◌, arith}
 use Rattle.slotmap_core.proofs.Common.{NoneBelow, keys_total, exact_keys, len_removed, none_live, Empties-first, first_entry, above_next}
-use Rattle.slotmap_slots.proofs.AheadLemmas.{odds_removed}
+use Rattle.slotmap_basic.proofs.AheadLemmas.{cursor_removed}
 use Rattle.slotmap_basic.specs.Drain.{DrainCanStep}
 use Rattle.slotmap_basic.proofs.drain.DrainIterator.next.Goals as goal
 
-later : (g : _) (c : goal.After-take_live g) → NoneBelow c.take_live.new.self.live c.next_live.new.odds.index
+later : (g : _) (c : goal.After-take_live g) → NoneBelow c.take_live.new.self.live c.next_live.new.cursor.index
 later g c =
     let now = c.args.self.now.map.now in
     let key = g.K.Key.data_of c.in_ok-key.key in
-    let next = above_next now c.next_live.ensures.valid c.args.self.now.odds.index key c.in_ok-key.ensures.first c.in_ok-key.ensures.live.0 c.requires.above in
+    let next = above_next now c.next_live.ensures.valid c.args.self.now.cursor.index key c.in_ok-key.ensures.first c.in_ok-key.ensures.live.0 c.requires.above in
     rw (c.in_ok-key.ensures.on, c.take_live.ensures.removes.live) next
 
 -- the drain can go on
-goes_on : (g : _) (c : goal.After-take_live g) → DrainCanStep {K = g.row.K.Denot} (record { map = record c.args.self.now.map { now = c.take_live.new.self }; odds = c.next_live.new.odds })
+goes_on : (g : _) (c : goal.After-take_live g) → DrainCanStep {K = g.row.K.Denot} (record { map = record c.args.self.now.map { now = c.take_live.new.self }; cursor = c.next_live.new.cursor })
 goes_on g c = record {
   above = later g c;
-  odds = odds_removed c.args.self.now.map.now c.take_live.new.self c.next_live.new.odds c.next_live.ensures.odds c.next_live.ensures.valid (g.K.Key.data_of c.in_ok-key.key)
+  cursor = cursor_removed c.args.self.now.map.now c.take_live.new.self c.next_live.new.cursor c.next_live.ensures.cursor c.next_live.ensures.valid (g.K.Key.data_of c.in_ok-key.key)
       c.in_ok-key.ensures.live.0 (omega (arith, c.in_ok-key.ensures.on)) c.take_live.ensures.removes;
 }
 
@@ -24,7 +24,7 @@ pub returns-in_err-key-clause-steps : goal.returns-in_err-key-clause-steps
 returns-in_err-key-clause-steps g c =
     let now = c.args.self.now.map.now in
     let none = none_live now.live (λ q there. absurd (omega (arith, c.in_err-key.ensures.none q there, c.requires.above q there))) in
-    rw c.from_residual.ensures ((none, refl), (refl, λ end empties. empties), record { above = λ q there. absurd (omega (arith, c.in_err-key.ensures.none q there, c.requires.above q there)); odds = c.next_live.ensures.odds }, tt)
+    rw c.from_residual.ensures ((none, refl), (refl, λ end empties. empties), record { above = λ q there. absurd (omega (arith, c.in_err-key.ensures.none q there, c.requires.above q there)); cursor = c.next_live.ensures.cursor }, tt)
 
 pub returns-clause-steps : goal.returns-clause-steps
 returns-clause-steps g c =
@@ -42,7 +42,7 @@ returns-clause-steps g c =
             (λ q there. omega (arith, above q there, c.in_ok-key.ensures.on)) empties,
       ),
       goes_on g c,
-      first_entry now well c.args.self.now.odds.index key c.in_ok-key.ensures.first c.take_live.result c.requires.above value ∙ ap (λ m. (key, c.take_live.result) ∷ map.entries m) (sym removes.live),
+      first_entry now well c.args.self.now.cursor.index key c.in_ok-key.ensures.first c.take_live.result c.requires.above value ∙ ap (λ m. (key, c.take_live.result) ∷ map.entries m) (sym removes.live),
     )
 
 pub returns-clause-goes : goal.returns-clause-goes

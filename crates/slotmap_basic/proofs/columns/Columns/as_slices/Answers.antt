@@ -1,0 +1,6 @@
+use Rattle.slotmap_core.proofs.Common.{common_steps, arith}
+use Rattle.slotmap_basic.proofs.NumberLemmas.{uses-length}
+use Rattle.slotmap_basic.proofs.columns.Columns.as_slices.Goals as goal
+
+pub returns : goal.returns
+returns g c = grind (arith, common_steps, uses-length)

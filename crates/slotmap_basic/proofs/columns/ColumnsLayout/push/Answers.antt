@@ -1,0 +1,16 @@
+use Rattle.slotmap_core.proofs.Common.{common_steps, arith}
+use Rattle.slotmap_basic.proofs.ColumnLemmas.{slot_list, slot_list-push}
+use Rattle.slotmap_basic.proofs.NumberLemmas.{usage-in_use}
+use Rattle.slotmap_basic.proofs.columns.ColumnsLayout.push.Goals as goal
+
+pub returns-clause-pushed : goal.returns-clause-pushed
+returns-clause-pushed g c = grind (arith, common_steps, slot_list-push, usage-in_use)
+
+pub push_reserved-requires : goal.push_reserved-requires
+push_reserved-requires g c = grind (arith, slot_list)
+
+pub push_reserved-requires-2 : goal.push_reserved-requires-2
+push_reserved-requires-2 g c = grind (arith, slot_list)
+
+pub push_reserved-requires-3 : goal.push_reserved-requires-3
+push_reserved-requires-3 g c = grind (arith, slot_list)

@@ -1,0 +1,256 @@
+//! The odd versions of a vector of versions, found 64 at a time.
+
+ghost use Rattle.std.specs.Prelude.{◌≡◌, ◌≢◌, ◌+◌, ◌%◌, ◌<◌, ◌≤◌, ℕ, length, get_or, IfSome, IfNone};
+ghost use Rattle.slotmap_core.specs.Words.{bit_at};
+ghost use Rattle.slotmap_basic.specs.Columns.{AllEven, IsNextOdd};
+ghost use Rattle.slotmap_basic.specs.Odds.{AreOdd, AllOdd, IsFound, HasOdds, IsSeen, IsAhead};
+
+use std::simd::prelude::*;
+
+// How many versions are looked at together.
+const CHUNK: usize = 64;
+
+// The first chunk that is looked at begins at a multiple of this.
+const NEAR: usize = 16;
+
+// A bit for each lane that is odd.
+#[inline(always)]
+fn odd_lanes(lanes: u32x64) -> u64
+    ensures { (k : ℕ) → k < 64 → bit_at result k ≡ get_or lanes k 0 % 2 }
+{
+    let even = (lanes & u32x64::splat(1))
+        .simd_eq(u32x64::splat(0))
+        .to_bitmask();
+    !even
+}
+
+// A bit for each odd version of the chunk that begins at an index.
+#[inline(always)]
+fn bits_of_chunk(versions: &[u32], at: usize) -> u64
+    requires { at + 64 ≤ length versions.now }
+    ensures { AreOdd versions.now (at + 64) 0 result }
+{
+    odd_lanes(u32x64::from_slice(&versions[at..]))
+}
+
+// The same where the versions end before the chunk does.
+#[inline(never)]
+fn bits_of_tail(versions: &[u32], at: usize) -> u64
+    requires within { at ≤ length versions.now }
+    requires last { length versions.now < at + 64 }
+    ensures { AreOdd versions.now (at + 64) 0 result }
+{
+    let mut bits: u64 = 0;
+    let mut lane = 0;
+    while lane < versions.len() - at {
+        if versions[at + lane] % 2 == 1 {
+            bits = bits | (1 << lane);
+        }
+        lane += 1;
+    }
+    bits
+}
+
+// Returns the end of the first chunk from `start` on that has an odd version, and a bit for each of
+// them; or that of the last chunk, and 0.
+#[cold]
+#[inline(never)]
+fn next_chunk(versions: &[u32], start: usize) -> (usize, u64)
+    requires { start ≤ length versions.now }
+    ensures { IsFound versions.now start result.0 result.1 }
+{
+    let mut at = start;
+    while versions.len() - at >= CHUNK {
+        let bits = bits_of_chunk(versions, at);
+        if bits != 0 {
+            return (at + CHUNK, bits);
+        }
+        at += CHUNK;
+    }
+    (at + CHUNK, bits_of_tail(versions, at))
+}
+
+/// Where a loop over the odd versions is, by ascending index, and what is known of the versions
+/// ahead of it: a run of odd ones, or else what is left of a chunk of 64 versions.
+#[derive(Clone, Copy)]
+pub struct OddCursor {
+    // The next index to look at.
+    index: usize,
+    // The index after the run.
+    run_end: usize,
+    // The index after the chunk.
+    end: usize,
+    // A bit for each odd version of the chunk that wasn't passed.
+    bits: u64,
+}
+
+// Returns the lowest bit that is set.
+#[inline(always)]
+fn lowest(bits: u64) -> usize
+    requires { bits ≢ 0 }
+    ensures bound { result < 64 }
+    ensures set { bit_at bits result ≡ 1 }
+    ensures below { (k : ℕ) → k < result → bit_at bits k ≡ 0 }
+{
+    bits.trailing_zeros() as usize
+}
+
+// Returns the bits without the lowest. The lane is for the contract only, so no step waits for it.
+#[inline(always)]
+fn without_lowest(bits: u64, _lane: usize) -> u64
+    requires set { bit_at bits _lane ≡ 1 }
+    requires below { (k : ℕ) → k < _lane → bit_at bits k ≡ 0 }
+    ensures gone { bit_at result _lane ≡ 0 }
+    ensures kept { (k : ℕ) → k ≢ _lane → bit_at result k ≡ bit_at bits k }
+{
+    bits & bits.wrapping_sub(1)
+}
+
+// Takes the lowest bit. Returns what is ahead at its version.
+#[inline(always)]
+fn take_lowest(versions: &[u32], cursor: OddCursor) -> OddCursor
+    requires cursor { HasOdds versions.now cursor.end cursor.index cursor.bits }
+    requires some { cursor.bits ≢ 0 }
+    ensures next { IsNextOdd versions.now cursor.index result.index }
+    ensures run_end { result.run_end ≡ cursor.run_end }
+    ensures cursor { HasOdds versions.now result.end (result.index + 1) result.bits }
+{
+    let lane = lowest(cursor.bits);
+    let bits = without_lowest(cursor.bits, lane);
+    OddCursor {
+        index: cursor.end + lane - CHUNK,
+        bits,
+        ..cursor
+    }
+}
+
+// Returns the index after the odd versions from `at` on, up to the next multiple of `NEAR`.
+fn near_run(versions: &[u32], at: usize) -> usize
+    requires { at ≤ length versions.now }
+    ensures on { at ≤ result }
+    ensures near { result < at + 16 }
+    ensures odd { AllOdd versions.now at result }
+{
+    let mut run = at;
+    while run % NEAR != 0 && run < versions.len() && versions[run] % 2 == 1 {
+        run += 1;
+    }
+    run
+}
+
+// Looks for odd versions from `at` on. Returns the index after a chunk, and a bit for each of its odd
+// versions, or 0 if there are no more. If all bits are set, the index is that after a run. Up to the
+// next multiple of `NEAR` no chunk is looked at, so the first steps cost little.
+#[cold]
+#[inline(never)]
+fn look_ahead(versions: &[u32], at: usize) -> (usize, u64)
+    ensures { IsSeen versions.now at result.0 result.1 }
+{
+    if at >= versions.len() {
+        return (at, 0);
+    }
+    let run = near_run(versions, at);
+    if run > at {
+        return (run, u64::MAX);
+    }
+    next_chunk(versions, at)
+}
+
+// Returns what is ahead at the next odd version, or `None` if there is none. Within a run only the
+// index is tested. A chunk of odd versions alone is a run, so no step looks at a bit or a version
+// where no slot is vacant.
+#[inline(always)]
+fn at_next(versions: &[u32], cursor: OddCursor) -> Option<OddCursor>
+    requires { IsAhead versions.now cursor.run_end cursor.end cursor.index cursor.bits }
+    ensures next { IfSome result (λ found. IsNextOdd versions.now cursor.index found.index) }
+    ensures ahead { IfSome result (λ found. IsAhead versions.now found.run_end found.end (found.index + 1) found.bits) }
+    ensures none { IfNone result (AllEven versions.now cursor.index (length versions.now)) }
+{
+    if cursor.index < cursor.run_end {
+        return Some(cursor);
+    }
+    if cursor.bits != 0 {
+        return Some(take_lowest(versions, cursor));
+    }
+    let (end, bits) = look_ahead(versions, cursor.end);
+    if bits == u64::MAX {
+        let index = end.max(cursor.end + CHUNK) - CHUNK;
+        return Some(OddCursor {
+            index,
+            run_end: end,
+            end,
+            bits: 0,
+        });
+    }
+    if bits == 0 {
+        return None;
+    }
+    Some(take_lowest(
+        versions,
+        OddCursor {
+            end,
+            bits,
+            ..cursor
+        },
+    ))
+}
+
+impl OddCursor {
+    // Returns the cursor of a loop over the versions from an index on.
+    pub(crate) fn from(index: usize) -> OddCursor
+        ensures index { result.index ≡ index }
+        ensures run_end { result.run_end ≡ 0 }
+        ensures end { result.end ≡ index }
+        ensures bits { result.bits ≡ 0 }
+    {
+        OddCursor {
+            index,
+            run_end: 0,
+            end: index,
+            bits: 0,
+        }
+    }
+
+    // Returns the cursor of a loop over all slots: the first version, of the sentinel, is even.
+    pub(crate) fn of_all() -> OddCursor
+        ensures index { result.index ≡ 0 }
+        ensures run_end { result.run_end ≡ 0 }
+        ensures end { result.end ≡ 1 }
+        ensures bits { result.bits ≡ 0 }
+    {
+        OddCursor {
+            index: 0,
+            run_end: 0,
+            end: 1,
+            bits: 0,
+        }
+    }
+
+    /// Returns the next index to look at.
+    pub fn index(&self) -> usize
+        ensures { result ≡ self.now.index }
+    {
+        self.index
+    }
+
+    // Returns the next index with an odd version, or `None` if there is none.
+    #[inline(always)]
+    pub(crate) fn next(&mut self, versions: &[u32]) -> Option<usize>
+        requires { IsAhead versions.now self.old.run_end self.old.end self.old.index self.old.bits }
+        ensures next { IfSome result (IsNextOdd versions.now self.old.index) }
+        ensures on { IfSome result (λ found. self.new.index ≡ found + 1) }
+        ensures none { IfNone result (AllEven versions.now self.old.index (length versions.now)) }
+        ensures end { IfNone result (self.new.index ≡ length versions.now) }
+        ensures ahead { IsAhead versions.now self.new.run_end self.new.end self.new.index self.new.bits }
+    {
+        let Some(found) = at_next(versions, *self) else {
+            *self = OddCursor::from(versions.len());
+            return None;
+        };
+        *self = OddCursor {
+            index: found.index + 1,
+            ..found
+        };
+        Some(found.index)
+    }
+}

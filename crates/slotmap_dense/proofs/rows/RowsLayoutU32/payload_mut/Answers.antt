@@ -1,0 +1,6 @@
+use Rattle.slotmap_core.proofs.Common.{common_steps, arith}
+use Rattle.slotmap_dense.proofs.RowLemmas.{row-payload, row-with_payload}
+use Rattle.slotmap_dense.proofs.rows.RowsLayoutU32.payload_mut.Goals as goal
+
+pub returns : goal.returns
+returns c = grind (arith, common_steps, row-with_payload, row-payload)

@@ -1,0 +1,15 @@
+use Rattle.std.proofs.Common.{◌+◌, length, ap, arith}
+use Rattle.slotmap_core.proofs.Common.{length-map}
+use Rattle.slotmap_dense.specs.Rows.{slot_of_row}
+use Rattle.slotmap_dense.proofs.rows.RowsLayoutU32.reserve.Goals as goal
+
+pub returns-clause-room : goal.returns-clause-room
+returns-clause-room c =
+    let m = c.self.inside in
+    let len = ap (λ l. length l.slots) c.self.view_is in
+    c.fit_count-self-inside.ensures.greatest (length c.args.self.now.slots + c.args.additional) c.requires
+    (omega (arith, len, length-map m.rows.items slot_of_row, c.in_ok-reserve.ensures.ok, m.rows.ok.0))
+
+pub returns-clause-grows : goal.returns-clause-grows
+returns-clause-grows c =
+    rw (← c.self.view_is) (c.fit_count-self-inside.ensures.greatest c.self.inside.capacity c.self.invariant.0 (omega (arith, c.self.invariant.1, c.reserve.ensures.capacity)))

@@ -1,6 +1,0 @@
-use Rattle.slotmap_core.proofs.Common.{common_steps, arith}
-use Rattle.slotmap_slots.proofs.NumberLemmas.{uses-length}
-use Rattle.slotmap_slots.proofs.layout.columns.Columns.as_slices.Goals as goal
-
-pub returns : goal.returns
-returns g c = grind (arith, common_steps, uses-length)

@@ -1,9 +1,0 @@
-use Rattle.slotmap_core.proofs.Common.{ap}
-use Rattle.slotmap_slots.specs.Numbers.{uses_of}
-use Rattle.slotmap_slots.proofs.NumberLemmas.{uses-length}
-use Rattle.slotmap_slots.proofs.layout.columns.Columns.into_parts.Goals as goal
-
-pub returns : goal.returns
-returns g c =
-    let m = c.self.inside in
-    (uses_of m.versions.items m.numbers.items, uses-length m.versions.items m.numbers.items c.self.invariant.numbers_length, c.self.invariant.payloads_length, ap (λ l. l.slots) c.self.view_is)

@@ -1,9 +1,0 @@
-use Rattle.std.proofs.Common.{◌+◌, ◌-◌, ◌≤◌, length}
-use Rattle.slotmap_slots.proofs.OddsLemmas.{Below}
-use Rattle.slotmap_slots.proofs.layout.odds.bits_of_tail.Given as goal
-
-abbrev pub invariant-loop-lane : goal.invariant-loop-lane
-invariant-loop-lane l = (l.at + l.lane ≤ length l.versions) × Below l.versions l.at l.lane l.bits
-
-abbrev pub decreases-loop-lane : goal.decreases-loop-lane
-decreases-loop-lane l = length l.versions - l.lane

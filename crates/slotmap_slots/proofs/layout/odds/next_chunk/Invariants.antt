@@ -1,9 +1,0 @@
-use Rattle.std.proofs.Common.{◌-◌, ◌≤◌, length}
-use Rattle.slotmap_slots.specs.Columns.{AllEven}
-use Rattle.slotmap_slots.proofs.layout.odds.next_chunk.Given as goal
-
-abbrev pub invariant-loop-at : goal.invariant-loop-at
-invariant-loop-at l = (l.start ≤ l.at) × ((l.at ≤ length l.versions) × AllEven l.versions l.start l.at)
-
-abbrev pub decreases-loop-at : goal.decreases-loop-at
-decreases-loop-at l = length l.versions - l.at

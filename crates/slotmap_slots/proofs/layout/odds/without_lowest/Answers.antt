@@ -1,6 +1,0 @@
-use Rattle.slotmap_core.proofs.Common.{arith, common_steps}
-use Rattle.slotmap_slots.proofs.OddsLemmas.{lowest_gone, others_kept}
-use Rattle.slotmap_slots.proofs.layout.odds.without_lowest.Goals as goal
-
-pub returns : goal.returns
-returns c = grind (arith, common_steps, lowest_gone, others_kept)
