@@ -1,2 +1,3 @@
-pub mod Lends
+pub mod After
 pub mod Drain
+pub mod Lends
