@@ -34,7 +34,7 @@ GROUPS = [
     ("Looking up", ["contains_key", "get", "get_mut", "get_unchecked", "get_unchecked_mut", "replace"]),
     ("Several keys at once", ["can_replace", "replace_disjoint", "get_disjoint_mut", "get_disjoint_unchecked_mut"]),
     ("Removing", ["remove", "detach", "reattach", "retain", "clear", "drain", "drain_into", "keys_into"]),
-    ("Iterating", ["iter", "keys", "values", "iter_mut", "values_mut", "keys_as_slice", "values_as_slice",
+    ("Iterating", ["iter", "keys", "values", "next_after", "iter_mut", "values_mut", "keys_as_slice", "values_as_slice",
                    "as_slices", "values_as_mut_slice", "as_mut_slices"]),
     ("Pairs and lists of slots", ["extend", "extend_refs", "from_iter", "from_iter_with_hasher", "to_slots",
                                   "from_slots", "from_slots_with_hasher"]),

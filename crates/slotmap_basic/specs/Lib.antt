@@ -1,5 +1,6 @@
-pub mod Lends
+pub mod After
 pub mod Drain
+pub mod Lends
 pub mod Columns
 pub mod Odds
 pub mod Ahead

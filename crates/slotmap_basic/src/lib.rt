@@ -32,6 +32,7 @@ mod insert;
 mod into_iter;
 mod iter;
 mod list;
+mod next_after;
 mod primary;
 mod remove;
 mod retain;
