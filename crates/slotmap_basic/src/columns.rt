@@ -4,6 +4,7 @@ ghost use Rattle.std.specs.Prelude.{◌≡◌, ◌+◌, ◌<◌, ◌≤◌, ◌^
 ghost use Rattle.slotmap_basic.specs.Columns.{zip_slots, uses_of};
 ghost use Rattle.slotmap_slots.specs.declared.layout.Use.{Use as UseOf};
 
+use slotmap_core::limits::NULL_INDEX;
 use slotmap_core::sure::{sure, sure_mut};
 use slotmap_slots::layout::{CopyLayout, Layout, Use, number_for, use_for};
 use std::alloc::{AllocError, Global};
@@ -40,9 +41,6 @@ impl<P> Model for Columns<P> {
     ghost invariant = { λ m. IsColumns m.versions.items m.numbers.items m.payloads.items m.capacity (vec_capacity m.versions) (vec_capacity m.numbers) (vec_capacity m.payloads) };
 }
 
-// A slot is found in any of the vectors by its index alone.
-const LIMIT: usize = 4294967295;
-
 // With fewer slots than this the three vectors grow to four times their length, with more to twice.
 const FEW: usize = 512;
 
@@ -67,7 +65,7 @@ fn growth(len: usize, additional: usize) -> usize
 }
 
 impl<P> Columns<P> {
-    // Returns how many slots fit in each of these.
+    // Returns how many slots fit in each of these. None has the index of the null key.
     fn fit_count(versions: &Vec<u32>, numbers: &Vec<u32>, payloads: &Vec<Option<P>>) -> usize
         ensures limit { result < 2 ^ 32 }
         ensures versions_fit { result ≤ vec_capacity versions.now }
@@ -76,7 +74,7 @@ impl<P> Columns<P> {
         ensures greatest { (n : ℕ) → n < 2 ^ 32 → n ≤ vec_capacity versions.now → n ≤ vec_capacity numbers.now → n ≤ vec_capacity payloads.now → n ≤ result }
     {
         let others = numbers.capacity().min(payloads.capacity());
-        versions.capacity().min(others).min(LIMIT)
+        versions.capacity().min(others).min(NULL_INDEX)
     }
 
     // Returns the versions and the payloads.

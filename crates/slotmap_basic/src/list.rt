@@ -2,7 +2,7 @@
 
 ghost use Rattle.std.specs.FinMap as map;
 ghost use Rattle.std.specs.Prelude.{◌≡◌, IfOk, IsOk, IfErr, true, Some};
-ghost use Rattle.slotmap_core.specs.Words.{ClonesEqual, IsCloneOf, IsContent, start_live, start_stack, Key as KeyOf, ReadsAs, Accepts, RefusesStart, Writes};
+ghost use Rattle.slotmap_core.specs.Words.{ClonesEqual, IsCloneOf, IsContent, start_live, start_stack, Key as KeyOf, ReadsAs, Accepts, list_limit, RefusesStart, Writes};
 ghost use Rattle.slotmap_core.specs.Words.{WritesClones};
 
 use crate::SlotMap;
@@ -84,8 +84,8 @@ impl<K: Key, V: Drop> SlotMap<K, V> {
         ensures stack { IfOk result (λ made. made.stack ≡ Some (start_stack list.items)) }
 
         // The errors: the first one that applies is returned.
-        ensures accepted { IsOk result → Accepts list.items 4294967295 }
-        ensures err { IfErr result (RefusesStart list.items 4294967295) }
+        ensures accepted { IsOk result → Accepts list.items list_limit }
+        ensures err { IfErr result (RefusesStart list.items list_limit) }
     {
         Ok(SlotMap::over(Slots::from_slots(alloc, list)?))
     }

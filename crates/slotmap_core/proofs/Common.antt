@@ -35,7 +35,7 @@ pub use Rattle.slotmap_core.proofs.Contents.DrainingLemmas.{loan_along, lists_al
 pub use Rattle.slotmap_core.proofs.Contents.IndexLemmas.{from_index, get-remove_other, none_live, from_index-start, alone_at, NoneBelow-removed, from_index-end}
 pub use Rattle.slotmap_core.proofs.Contents.IndexLemmas.{NoneBelow-end, in_from}
 pub use Rattle.slotmap_core.proofs.Contents.LeaveLemmas.{same_live, Leaves-refl, Leaves-removed, Leaves-trans, Leaves-with_value, Leaves-removes}
-pub use Rattle.slotmap_core.proofs.Contents.OrderLemmas.{entries_none, entries_first}
+pub use Rattle.slotmap_core.proofs.Contents.OrderLemmas.{entries_none, entries_first, pushed_all_push, greater, put_last}
 pub use Rattle.slotmap_core.proofs.Contents.Retired.{in_retired}
 pub use Rattle.slotmap_core.proofs.Contents.StandsLemmas.{new_stands, Vacates, same_vacant, kept_stands, replaced_stands, detached_stands, reattached_stands}
 pub use Rattle.slotmap_core.proofs.Contents.StandsLemmas.{removed_stands, removed_vacant, left_stands, left_vacant, inserted_stands, inserted_vacant}
@@ -47,7 +47,7 @@ pub use Rattle.slotmap_core.proofs.ForCallers.Callers.{keys, inserted_fresh, ins
 pub use Rattle.slotmap_core.proofs.ForCallers.SecondaryCallers.{secondary}
 pub use Rattle.slotmap_core.proofs.ForCallers.SecondaryRuns.{run_seen_by, each_agrees}
 pub use Rattle.slotmap_core.proofs.ForCallers.SpentLemmas.{spent_insert, insert_not_spent, spent_remove, live_remove_spent, remove_spent, spent_detach}
-pub use Rattle.slotmap_core.proofs.FromList.AtKeysLemmas.{slot_vacant, in_contents, live_in, vacant_split, vacant_is}
+pub use Rattle.slotmap_core.proofs.FromList.AtKeysLemmas.{slot_vacant, in_contents, live_in, live_fits, vacant_split, vacant_is}
 pub use Rattle.slotmap_core.proofs.FromList.ReadsAsLemmas.{next_consistent, reads_as, first_taken}
 pub use Rattle.slotmap_core.proofs.FromList.StartFits.{starts-stack}
 pub use Rattle.slotmap_core.proofs.FromList.StartLemmas.{odd_of, even_where, vacant_place, start_places-push, length-start_places, start_place_at}
@@ -96,7 +96,7 @@ pub use Rattle.slotmap_core.proofs.Several.ReplaceLemmas.{Exchanging-step}
 pub use Rattle.slotmap_core.proofs.Several.RetainLemmas.{retained_none, retained_at}
 pub use Rattle.slotmap_core.proofs.Several.SeveralLemmas.{CanReplace-next, Exchanged, WriteLaws}
 pub use Rattle.slotmap_core.proofs.Several.VisitLemmas.{Visits, CallsAt-called, Visits-listed, Visits-stay, Visits-rest, Visits-start, Visits-call}
-pub use Rattle.slotmap_core.proofs.Several.VisitLemmas.{callable_on_each}
+pub use Rattle.slotmap_core.proofs.Several.VisitLemmas.{callable_on_each, seen_push}
 pub use Rattle.slotmap_core.specs.Words.{zip, swap_remove, All, filter, MatchOption, IsSomeAnd, nat_eq_equiv, unsigned_tied, nat_cmp_is, find, below_all}
 pub use Rattle.slotmap_core.specs.Words.{is_sorted, is_some-find, Mut, Takes, Called, HashMap, hash_map_len, spare, WritesThrough, hash_map_eq}
 pub use Rattle.slotmap_core.specs.Words.{hash_map_eq_from_get, get_from_hash_map_eq, bit_at, bit_not, YieldsFirstBy, MakesProgress, AllZip, FoldsTo}
@@ -114,7 +114,7 @@ pub use Rattle.slotmap_core.specs.Words.{places_after, no_places, reply_keys, Is
 pub use Rattle.slotmap_core.specs.Words.{RemovedForGood, DetachedNotReissued, DetachedReattaches, ReattachBinds, NeedsRoom, DetachNeedsRoom, ReserveHolds}
 pub use Rattle.slotmap_core.specs.Words.{gather, Vacant, Live, Place, Detached, Retired, live_entry, retired_entry, left_by, live_value, IsPlaceClone}
 pub use Rattle.slotmap_core.specs.Words.{ArePlaceClones, IsStacked, content_of_places, used_places, IsOn, IsVersion, HasVersion, StackMap, offer}
-pub use Rattle.slotmap_core.specs.Words.{vacant_version, IsOnce, filled, inserted, Accepts, AllFitBelow, RefusesStart, IsConsistent, vacant_slot, start_places}
+pub use Rattle.slotmap_core.specs.Words.{vacant_version, IsOnce, filled, inserted, Accepts, list_limit, side_list_limit, AllFitBelow, RefusesStart, IsConsistent, vacant_slot, start_places}
 pub use Rattle.slotmap_core.specs.Words.{StartsFrom, place_of_record, live_slot, retired_slot, is_vacant_version, Writes, AreRecordClones, records_of}
 pub use Rattle.slotmap_core.specs.Words.{IsRecordClone, record_of, empty_slot, Restores, Pairs, get, contains_key, value_at, bind, remove, entry, IsSecondary}
 pub use Rattle.slotmap_core.specs.Words.{put, vacant, no_entry, entry_at, is_null, occupied, RefusesPut, keyed_entry, Entry, given_secondary, LooksAt, Joined}

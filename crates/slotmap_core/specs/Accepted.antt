@@ -4,6 +4,14 @@ use Rattle.slotmap_core.specs.declared.serial.SlotRecord.{SlotRecord}
 use Rattle.slotmap_core.specs.declared.errors.SlotsError.{SlotsError}
 use Rattle.slotmap_core.specs.declared.errors.SlotsError.TheVariants.{TooMany, FirstNotEmpty, Inconsistent, Memory}
 
+-- a list that is read as a primary map has fewer slots than this
+abbrev pub list_limit : ℕ
+list_limit = 4294967295
+
+-- and one that is read as a secondary map fewer than this
+abbrev pub side_list_limit : ℕ
+side_list_limit = 4294967294
+
 module _ {V : Type 0} where
   -- there is a value if and only if the version is odd
   abbrev pub IsConsistent : SlotRecord V → Type 0

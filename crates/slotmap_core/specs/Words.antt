@@ -58,7 +58,7 @@ unfoldable pub use Rattle.slotmap_core.specs.Places.{live, detached, next}
 pub use Rattle.slotmap_core.specs.PlaceClones.{IsPlaceClone, ArePlaceClones}
 pub use Rattle.slotmap_core.specs.StackMap.{IsStacked, content_of_places, used_places, IsOn, IsVersion, HasVersion, StackMap, offer, vacant_version, IsOnce}
 pub use Rattle.slotmap_core.specs.StackMap.{filled, removed, inserted, detached_at, put_at}
-pub use Rattle.slotmap_core.specs.Accepted.{Accepts, AllFitBelow, RefusesStart, IsConsistent, AllConsistentBelow, RefusesList, HasEmptyFirst}
+pub use Rattle.slotmap_core.specs.Accepted.{list_limit, side_list_limit, Accepts, AllFitBelow, RefusesStart, IsConsistent, AllConsistentBelow, RefusesList, HasEmptyFirst}
 pub use Rattle.slotmap_core.specs.FromList.{vacant_slot, start_places, StartsFrom, place_of_record, live_slot, retired_slot, is_vacant_version, start_state}
 pub use Rattle.slotmap_core.specs.FromList.{last_issued, issued_slot}
 unfoldable pub use Rattle.slotmap_core.specs.FromList.{start_live, start_stack, start_next, start_retired, start_issued}

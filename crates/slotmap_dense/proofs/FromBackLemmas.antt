@@ -1,13 +1,9 @@
 -- What stays true while pairs are taken out from the back.
 use Rattle.std.specs.FinMap as map
 use Rattle.std.proofs.Common.{◌≡◌, ◌∷◌, ◌++◌, option_map, zip, ℕ, false, List, [], length, reverse, append_assoc, Option, Some, is_some, refl, sym, ap, ◌∙◌}
-use Rattle.slotmap_core.proofs.Common.{Key, Leaves, pushed, pushed_all, arith, nil_from_length, reverse-append, length-zip, Leaves-refl, Leaves-removed}
+use Rattle.slotmap_core.proofs.Common.{Key, Leaves, pushed, pushed_all, pushed_all_push, arith, nil_from_length, reverse-append, length-zip, Leaves-refl, Leaves-removed}
 use Rattle.slotmap_dense.specs.Dense.{Dense, IsDense, IsEmpty, TakesLast}
 use Rattle.slotmap_dense.proofs.SwapRemoveLemmas.{zip-push}
-
-pushed_all_push : (stack : List ℕ) (ks : List Key) (k : Key) → pushed_all stack (ks ++ k ∷ []) ≡ pushed (pushed_all stack ks) k
-pushed_all_push stack [] k = refl
-pushed_all_push stack (q ∷ ks) k = pushed_all_push (pushed stack q) ks k
 
 pub pushed_on : (ks : List Key) (k : Key) (o : Option (List ℕ))
     → option_map (λ stack. pushed stack k) (option_map (λ stack. pushed_all stack ks) o) ≡ option_map (λ stack. pushed_all stack (ks ++ k ∷ [])) o

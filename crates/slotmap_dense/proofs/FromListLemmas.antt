@@ -4,7 +4,7 @@ use Rattle.std.proofs.Common.{◌≡◌, ◌+◌, ◌<◌, ◌≤◌, ◌%◌, �
 use Rattle.slotmap_core.proofs.Common.{Key, Content, IsContent, gather, ReadsAs, start_live, live_slot, vacant_slot, retired_slot, start_next, start_retired}
 use Rattle.slotmap_core.proofs.Common.{start_stack, Accepts, RefusesStart, Some, is_some, refl, sym, ap, ◌∙◌, arith, nat_tests, length_push, length-map}
 use Rattle.slotmap_core.proofs.Common.{map_push, slice_get-map, slice_get_within, gather-push_put, gather-push_same, live_laws, some_is, live_in, found_within}
-use Rattle.slotmap_core.proofs.Common.{none_from, entries_none, reads_as, key}
+use Rattle.slotmap_core.proofs.Common.{list_limit, none_from, live_fits, entries_none, reads_as, key}
 use Rattle.slotmap_core.specs.declared.serial.SlotRecord.{SlotRecord}
 use Rattle.slotmap_core.specs.declared.errors.SlotsError.{SlotsError}
 use Rattle.slotmap_core.specs.declared.errors.SlotsError.TheVariants.{TooMany, FirstNotEmpty, Inconsistent, Memory}
@@ -15,9 +15,6 @@ use Rattle.slotmap_dense.proofs.LastKeyLemmas.{keys_last}
 
 -- what a list with one more record holds
 module _ {V : Type 0} (records : List (SlotRecord V)) (made : SlotRecord V) where
-  live_fits : (i : ℕ) (slot : SlotRecord V) (e : Key × V) → live_slot i slot ≡ Some e → e.0.index ≡ i
-  live_fits i slot e gives = grind (arith, nat_tests)
-
   contents-live : (v : V) → made.value ≡ Some v → made.version % 2 ≡ 1 → start_live (records ++ made ∷ []) ≡ map.insert (start_live records) (key (length records) made.version) v
   unfolding start_live
   contents-live v valued odd = gather-push_put live_laws (λ k. k.index) live_slot live_fits records made (key (length records) made.version, v) (grind (arith, nat_tests))
@@ -55,8 +52,8 @@ module _ {V : Type 0} (records : List (SlotRecord V)) (positions : List (SlotRec
   same_places = sym (length-map positions shape) ∙ ap length split.alike ∙ length-map records shape
 
   -- fewer keys and records were read than the list has, and the list is short
-  pub fewer_read : (list : List (SlotRecord V)) (left : ℕ) → length records + left ≡ length list → Accepts list 4294967295
-      → (length keys < 4294967295) × (length positions < 4294967295)
+  pub fewer_read : (list : List (SlotRecord V)) (left : ℕ) → length records + left ≡ length list → Accepts list list_limit
+      → (length keys < list_limit) × (length positions < list_limit)
   fewer_read list left counted accepted = omega (arith, accepted.short, split.fewer, same_places)
 
   more : (made : SlotRecord V) (p : SlotRecord ℕ) → shape p ≡ shape made → list_map shape (positions ++ p ∷ []) ≡ list_map shape (records ++ made ∷ [])

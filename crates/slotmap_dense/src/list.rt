@@ -2,7 +2,7 @@
 
 ghost use Rattle.std.specs.FinMap as map;
 ghost use Rattle.std.specs.Prelude.{◌≡◌, ◌<◌, ◌^◌, IfOk, IsOk, IfErr, IfSome, Some, false, length};
-ghost use Rattle.slotmap_core.specs.Words.{ClonesEqual, IsCloneOf, start_live, start_stack, Key as KeyOf, ReadsAs, Accepts, RefusesStart, Writes, WritesClones};
+ghost use Rattle.slotmap_core.specs.Words.{ClonesEqual, IsCloneOf, start_live, start_stack, Key as KeyOf, ReadsAs, Accepts, list_limit, RefusesStart, Writes, WritesClones};
 ghost use Rattle.slotmap_core.specs.Words.{IsRecordClone};
 ghost use Rattle.slotmap_dense.specs.Dense.{IsDense};
 ghost use Rattle.slotmap_dense.specs.Packed.{with_packed_value};
@@ -105,9 +105,9 @@ impl<K: Key, V: Drop> DenseSlotMap<K, V> {
     pub fn from_slots(alloc: Global, list: Vec<SlotRecord<V>>) -> Result<Self, SlotsError>
         ensures reads { IfOk result (λ made. ReadsAs false list.items made.content) }
         ensures stack { IfOk result (λ made. made.content.stack ≡ Some (start_stack list.items)) }
-        ensures accepted { IsOk result → Accepts list.items 4294967295 }
+        ensures accepted { IsOk result → Accepts list.items list_limit }
         ensures in_order { IfOk result (λ made. made.keys ≡ map.keys made.content.live) }
-        ensures err { IfErr result (RefusesStart list.items 4294967295) }
+        ensures err { IfErr result (RefusesStart list.items list_limit) }
         ensures valid { IfOk result IsDense }
     {
         check_slots(&list, LIST_LIMIT)?;

@@ -4,6 +4,7 @@ ghost use Rattle.std.specs.Prelude.{◌≡◌, ◌<◌, ◌≤◌, ◌^◌, ℕ,
 ghost use Rattle.slotmap_slots.specs.Slot.{FitsEmpty, empty};
 ghost use Rattle.slotmap_dense.specs.Rows.{slot_of_row};
 
+use slotmap_core::limits::NULL_INDEX;
 use slotmap_slots::layout::{CopyLayout, Layout, Use, number_for, use_for};
 use std::alloc::{AllocError, Global};
 use std::marker::Model;
@@ -38,16 +39,13 @@ impl Model for Rows {
     ghost invariant = { λ m. (m.capacity < 2 ^ 32) × (m.capacity ≤ vec_capacity m.rows) };
 }
 
-// At most this many slots are counted as fitting.
-const LIMIT: usize = 4294967295;
-
-// Returns how many slots are counted as fitting.
+// Returns how many slots fit. None has the index of the null key.
 fn fit_count(rows: &Vec<Row>) -> usize
     ensures limit { result < 2 ^ 32 }
     ensures fits { result ≤ vec_capacity rows.now }
     ensures greatest { (n : ℕ) → n < 2 ^ 32 → n ≤ vec_capacity rows.now → n ≤ result }
 {
-    rows.capacity().min(LIMIT)
+    rows.capacity().min(NULL_INDEX)
 }
 
 // Returns a row with no payload.

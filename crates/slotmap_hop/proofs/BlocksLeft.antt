@@ -1,7 +1,7 @@
 -- The blocks after several removals, one after the other.
 use Rattle.std.specs.FinMap as map
 use Rattle.std.proofs.Common.{◌≡◌, ◌+◌, ◌≤◌, ◌∷◌, ◌++◌, arith, ℕ, true, false, List, [], cond, map as list_map, Some, append_assoc, append-nil, is_some, refl}
-use Rattle.slotmap_core.proofs.Common.{sym, ap, ◌∙◌, Key, key_cmp, Visit, seen, Removes, from_index, Keyed-same, entries_none, next_entry, Visits}
+use Rattle.slotmap_core.proofs.Common.{sym, ap, ◌∙◌, Key, key_cmp, Visit, seen, seen_push, Removes, from_index, Keyed-same, entries_none, next_entry, Visits}
 use Rattle.slotmap_hop.specs.HopContent.{HopContent, IsHopContent, IsNextLive, blocks_without, blocks_without_all}
 use Rattle.slotmap_hop.specs.Retain.{dropped}
 
@@ -19,10 +19,6 @@ module _ {V : Type 0} where
   keys_none m none = ap (λ n. map.keys n) none ∙ ap (list_map (λ (e : Key × V). e.0)) entries_none
 
 module _ {K V : Type 0} (data_of : K → Key) where
-  seen_push : (xs : List (Visit K V)) (x : Visit K V) → seen data_of (xs ++ x ∷ []) ≡ seen data_of xs ++ (data_of x.key, x.before) ∷ []
-  seen_push [] x = refl
-  seen_push (y ∷ xs) x = ap (λ es. (data_of y.key, y.before) ∷ es) (seen_push xs x)
-
   dropped_push : (xs : List (Visit K V)) (x : Visit K V) → dropped data_of (xs ++ x ∷ []) ≡ dropped data_of xs ++ cond x.stays [] (data_of x.key ∷ [])
   dropped_push [] x = grind arith
   dropped_push (y ∷ xs) x = grind (arith, dropped_push xs x)
@@ -40,7 +36,7 @@ module _ {K V : Type 0} (data_of : K → Key) where
         let k = data_of x.key in
         let same : (q : Key) → index ≤ q.index → map.get old.content.live q ≡ map.get now.content.live q = λ q from. Keyed-same data_of old.content.live visits index now.content.live visited q from in
         let first = next_entry old.content well.valid index k (λ q there from. comes.2 q (sym (ap is_some (same q from)) ∙ there) from) x.before comes.1 (same k comes.1 ∙ found) in
-        rw (seen_push visits x, append_assoc, ← first) so_far.ascending
+        rw (seen_push data_of visits x, append_assoc, ← first) so_far.ascending
 
     -- the entry stays, and no block changes
     pub InOrder-kept : (new : HopContent V) → x.stays ≡ true → new.content.next ≡ now.content.next → new.blocks ≡ now.blocks → InOrder old (visits ++ x ∷ []) ((data_of x.key).index + 1) new

@@ -1,7 +1,7 @@
 //! Lists of slots: a map written out, and a map read back.
 
 ghost use Rattle.std.specs.Prelude.{◌≡◌, ◌<◌, ◌^◌, IfOk, IsOk, IfErr, true, Some, List, length};
-ghost use Rattle.slotmap_core.specs.Words.{start_live, is_vacant_version, ClonesEqual, IsCloneOf, Key, ReadsAs, Accepts, RefusesStart, Writes, WritesClones};
+ghost use Rattle.slotmap_core.specs.Words.{start_live, is_vacant_version, ClonesEqual, IsCloneOf, Key, ReadsAs, Accepts, list_limit, RefusesStart, Writes, WritesClones};
 ghost use Rattle.slotmap_core.specs.Words.{IsRecordClone};
 ghost use Rattle.slotmap_hop.specs.Blocks.{Ascend};
 ghost use Rattle.slotmap_hop.specs.HopContent.{IsHopContent};
@@ -127,8 +127,8 @@ impl<K: Key, V: Drop> HopSlotMap<K, V> {
         ensures valid { IfOk result IsHopContent }
 
         // The errors: the first one that applies is returned.
-        ensures accepted { IsOk result → Accepts list.items 4294967295 }
-        ensures err { IfErr result (RefusesStart list.items 4294967295) }
+        ensures accepted { IsOk result → Accepts list.items list_limit }
+        ensures err { IfErr result (RefusesStart list.items list_limit) }
     {
         check_slots(&list, LIST_LIMIT)?;
         let mut slots = Vec::with_capacity(alloc, list.len())?;

@@ -3,7 +3,7 @@ use Rattle.std.specs.FinMap as map
 use Rattle.std.proofs.Common.{◌≡◌, ◌+◌, ◌<◌, ◌%◌, ◌^◌, ◌∷◌, ◌++◌, nat_cmp, ℕ, List, [], length, map as list_map, slice_get, Option, None, Some, option_map, sym}
 use Rattle.slotmap_core.proofs.Common.{keyed, start_live, slot_pair, Accepts, AllFitBelow, is_some, true, refl, ap, subst, ◌∙◌, arith, slice_get_within}
 use Rattle.slotmap_core.proofs.Common.{slice_get_past, slice_get-map, length-map, map_push, nat_cmp_total, exact_unsigned, len_inserted, mapped}
-use Rattle.slotmap_core.proofs.Common.{gather-push_put, contents_by_place}
+use Rattle.slotmap_core.proofs.Common.{side_list_limit, gather-push_put, contents_by_place}
 use Rattle.slotmap_core.specs.declared.serial.SlotRecord.{SlotRecord}
 use Rattle.slotmap_secondary.specs.Slots.{Slot, Vacant, Occupied, pair_at, entry_in, pairs_of, IsSlotAt, IsSound}
 use Rattle.slotmap_secondary.proofs.SlotLemmas.{laws, entry_fits, get-pairs, pairs-push}
@@ -35,7 +35,7 @@ module _ {V : Type 0} where
   pub count_empty : (slots : List (Slot V)) → map.len (pairs_of (slots ++ Vacant 0 ∷ [])) ≡ map.len (pairs_of slots)
   count_empty slots = ap map.len (pairs-push slots)
 
-  module _ (list : List (SlotRecord V)) (accepted : Accepts list 4294967294) (fits : AllFitBelow list (length list)) where
+  module _ (list : List (SlotRecord V)) (accepted : Accepts list side_list_limit) (fits : AllFitBelow list (length list)) where
     -- what is read at an index is the record there
     record_at : (i : ℕ) (s : Slot V) → slice_get (read list) i ≡ Some s → (r : SlotRecord V) × (slice_get list i ≡ Some r) × (slot_from r.version r.value ≡ s)
     record_at i s at = mapped (λ r. slot_from r.version r.value) (slice_get list i) s (sym (slice_get-map (λ r. slot_from r.version r.value) list i) ∙ at)

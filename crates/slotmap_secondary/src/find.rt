@@ -8,9 +8,7 @@ ghost use Rattle.slotmap_secondary.specs.Content.{IsSideContent};
 use crate::SecondaryMap;
 use crate::slot::{Found, Slot};
 use slotmap_core::keys::{Key, KeyData};
-
-// The null key's index.
-pub(crate) const NULL_INDEX: usize = 4294967295;
+use slotmap_core::limits::NULL_INDEX;
 
 impl<K: Key, V: Drop> SecondaryMap<K, V> {
     ghost use Rattle.slotmap_secondary.specs.Found.{is_found};

@@ -2,7 +2,7 @@
 
 ghost use Rattle.std.specs.FinMap as map;
 ghost use Rattle.std.specs.Prelude.{◌≡◌, length, IfOk, IsOk, IfErr};
-ghost use Rattle.slotmap_core.specs.Words.{ClonesEqual, IsCloneOf, Key, get, keyed, start_live, Accepts, RefusesStart};
+ghost use Rattle.slotmap_core.specs.Words.{ClonesEqual, IsCloneOf, Key, get, keyed, start_live, Accepts, side_list_limit, RefusesStart};
 ghost use Rattle.slotmap_secondary.specs.Content.{IsSideContent};
 ghost use Rattle.slotmap_secondary.specs.Written.{Writes, WritesClones};
 
@@ -10,12 +10,10 @@ use crate::SecondaryMap;
 use crate::slot::Slot;
 use slotmap_core::errors::{OutOfMemory, SlotsError};
 use slotmap_core::keys::Key;
+use slotmap_core::limits::SIDE_LIST_LIMIT;
 use slotmap_core::serial::{SlotRecord, check_slots};
 use std::alloc::Global;
 use std::marker::PhantomData;
-
-// A list that is read as a map is shorter than this.
-const LIMIT: usize = 4294967294;
 
 impl<K: Key, V: Drop> SecondaryMap<K, V> {
     /// Returns the map as a list of slots, with clones of the values.
@@ -86,10 +84,10 @@ impl<K: Key, V: Drop> SecondaryMap<K, V> {
         ensures valid { IfOk result IsSideContent }
 
         // When it fails: the first error that applies.
-        ensures accepted { IsOk result → Accepts list.items 4294967294 }
-        ensures err { IfErr result (RefusesStart list.items 4294967294) }
+        ensures accepted { IsOk result → Accepts list.items side_list_limit }
+        ensures err { IfErr result (RefusesStart list.items side_list_limit) }
     {
-        check_slots(&list, LIMIT)?;
+        check_slots(&list, SIDE_LIST_LIMIT)?;
         let mut slots = Vec::with_capacity(alloc, list.len())?;
         let mut len = 0;
         let records = list.into_iter();

@@ -116,7 +116,7 @@ impl<K: Key, V: fmt::Debug, S: BuildHasher> fmt::Debug for SparseSecondaryMap<K,
 }
 
 // The number of indices that keys other than the null key have.
-const MOST_KEYS: usize = 4294967295;
+const MOST_PAIRS: usize = 4294967295;
 
 impl<K: Key, V: Drop> SparseSecondaryMap<K, V> {
     /// Makes an empty map with the default hasher.
@@ -209,7 +209,7 @@ impl<K: Key, V: Drop, S: BuildHasher + Drop> SparseSecondaryMap<K, V, S> {
         ensures err { IfErr result (RefusesRoom capacity) }
         ensures valid { IfOk result IsSparseContent }
     {
-        if capacity > MOST_KEYS {
+        if capacity > MOST_PAIRS {
             return Err(ReserveError::TooGreat);
         }
         Ok(SparseSecondaryMap {
@@ -279,7 +279,7 @@ impl<K: Key, V: Drop, S: BuildHasher + Drop> SparseSecondaryMap<K, V, S> {
         ensures makes_room { MakesRoom additional self.old result self.new }
         ensures valid { IsSparseContent self.new }
     {
-        if self.len().saturating_add(additional) > MOST_KEYS {
+        if self.len().saturating_add(additional) > MOST_PAIRS {
             return Err(ReserveError::TooGreat);
         }
         if additional <= self.capacity() - self.len() {

@@ -2,19 +2,17 @@
 
 ghost use Rattle.std.specs.FinMap as map;
 ghost use Rattle.std.specs.Prelude.{◌≡◌, ◌<◌, ◌≤◌, ◌^◌, ◌%◌, None, IfOk, OnOk, IsOk, IfErr, IsSome};
-ghost use Rattle.slotmap_core.specs.Words.{ClonesEqual, IsCloneOf, Key, null_key, get, keyed, start_live, Accepts, RefusesStart};
+ghost use Rattle.slotmap_core.specs.Words.{ClonesEqual, IsCloneOf, Key, null_key, get, keyed, start_live, Accepts, side_list_limit, RefusesStart};
 ghost use Rattle.slotmap_sparse.specs.Content.{IsSparseContent};
 ghost use Rattle.slotmap_sparse.specs.Written.{ReachesLargest, Writes, WritesClones, IsCloneSlot, with_slot};
 
 use crate::SparseSecondaryMap;
 use slotmap_core::errors::{OutOfMemory, SlotsError};
 use slotmap_core::keys::{Key, KeyData};
+use slotmap_core::limits::SIDE_LIST_LIMIT;
 use slotmap_core::serial::{SlotRecord, check_slots};
 use std::alloc::Global;
 use std::hash::{BuildHasher, BuildHasherDefault};
-
-// A list that is read as a map is shorter than this.
-const LIMIT: usize = 4294967294;
 
 impl<K: Key, V: Drop, S: BuildHasher + Drop> SparseSecondaryMap<K, V, S> {
     /// Returns the map as a list of slots, with clones of the values.
@@ -124,10 +122,10 @@ impl<K: Key, V: Drop, S: BuildHasher + Drop> SparseSecondaryMap<K, V, S> {
         ensures valid { IfOk result IsSparseContent }
 
         // When it fails: the first error that applies.
-        ensures accepted { IsOk result → Accepts list.items 4294967294 }
-        ensures err { IfErr result (RefusesStart list.items 4294967294) }
+        ensures accepted { IsOk result → Accepts list.items side_list_limit }
+        ensures err { IfErr result (RefusesStart list.items side_list_limit) }
     {
-        check_slots(&list, LIMIT)?;
+        check_slots(&list, SIDE_LIST_LIMIT)?;
         let mut made = SparseSecondaryMap::empty(alloc, hash_builder);
         let mut index = 0;
         let records = list.into_iter();
@@ -179,8 +177,8 @@ impl<K: Key, V: Drop> SparseSecondaryMap<K, V> {
         ensures valid { IfOk result IsSparseContent }
 
         // When it fails: the first error that applies.
-        ensures accepted { IsOk result → Accepts list.items 4294967294 }
-        ensures err { IfErr result (RefusesStart list.items 4294967294) }
+        ensures accepted { IsOk result → Accepts list.items side_list_limit }
+        ensures err { IfErr result (RefusesStart list.items side_list_limit) }
     {
         SparseSecondaryMap::from_slots_with_hasher(alloc, list, BuildHasherDefault::new())
     }

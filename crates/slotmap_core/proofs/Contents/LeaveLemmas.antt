@@ -55,11 +55,11 @@ module _ {V : Type 0} where
           (second.next i v).1 (inl ((first.next i v).1 (inr (k, has_left_if a b k (was_live a c k left) (λ there. absurd (true≢false (sym there ∙ gone))), other, index, version))))
 
   -- what is live once k is removed
-  pub get_left : (b c : Content V) (k : Key) → Removes b k c → (q : Key) → map.get c.live q ≡ cond (eq_by_cmp key_cmp q k) None (map.get b.live q)
-  get_left b c k removes q = ap (λ m. map.get m q) removes.live ∙ map.get-remove keys_total b.live k q
+  pub live-removed_at : (b c : Content V) (k : Key) → Removes b k c → (q : Key) → map.get c.live q ≡ cond (eq_by_cmp key_cmp q k) None (map.get b.live q)
+  live-removed_at b c k removes q = ap (λ m. map.get m q) removes.live ∙ map.get-remove keys_total b.live k q
 
   pub live_no_more : (b c : Content V) (k : Key) → Removes b k c → map.contains_key c.live k ≡ false
-  live_no_more b c k removes = ap is_some (get_left b c k removes k ∙ ap (λ t. cond t None (map.get b.live k)) (itself keys_total exact_keys k))
+  live_no_more b c k removes = ap is_some (live-removed_at b c k removes k ∙ ap (λ t. cond t None (map.get b.live k)) (itself keys_total exact_keys k))
 
   module _ (reuses : Bool) (b : Content V) (well : IsContent reuses b) (k : Key) (is_live : IsLive b k) (c : Content V) (removes : Removes b k c) where
     -- a removal removes one key
@@ -72,7 +72,7 @@ module _ {V : Type 0} where
             arith,
             ap (λ s. set.contains s q) removes.retired,
             set.contains-insert keys_total b.retired k q,
-            get_left b c k removes q,
+            live-removed_at b c k removes q,
             tied keys_total exact_keys q k,
             itself keys_total exact_keys k,
           );
@@ -81,7 +81,7 @@ module _ {V : Type 0} where
         λ h. ap (λ m. map.get m i) removes.next ∙ elim h [
           | inl there ↦ grind (arith, map.get-insert nat_cmp_total b.next k.index (next_version k) i, tied nat_cmp_total exact_unsigned i k.index, well.not_used_and_vacant k (inl (inl is_live)))
           | inr w ↦
-              grind (arith, get_left b c k removes w.0, tied keys_total exact_keys w.0 k, get_inserted nat_cmp_total exact_unsigned b.next k.index (next_version k))
+              grind (arith, live-removed_at b c k removes w.0, tied keys_total exact_keys w.0 k, get_inserted nat_cmp_total exact_unsigned b.next k.index (next_version k))
         ],
       );
       same_places = removed_places reuses b c well k is_live removes;

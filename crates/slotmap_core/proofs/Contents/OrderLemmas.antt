@@ -11,16 +11,16 @@ use Rattle.slotmap_core.specs.Words.{pushed_all, keys_left, FreesByIndex}
 use Rattle.slotmap_core.proofs.General.KeyLemmas.{keys_total, exact_keys, tied, itself}
 use Rattle.slotmap_core.proofs.General.Maps.{insert_same, or_right}
 use Rattle.slotmap_core.proofs.Contents.ContentLemmas.{some_is}
-use Rattle.slotmap_core.proofs.Contents.LeaveLemmas.{was_live, is_gone, same_live, get_left, live_no_more}
+use Rattle.slotmap_core.proofs.Contents.LeaveLemmas.{was_live, is_gone, same_live, live-removed_at, live_no_more}
 use Rattle.slotmap_core.proofs.Contents.IndexLemmas.{none_live}
 use Rattle.slotmap_core.proofs.General.ListingLemmas.{insert-remove}
 
-pushed_all_push : (stack : List ℕ) (ks : List Key) (k : Key) → pushed_all stack (ks ++ k ∷ []) ≡ pushed (pushed_all stack ks) k
+pub pushed_all_push : (stack : List ℕ) (ks : List Key) (k : Key) → pushed_all stack (ks ++ k ∷ []) ≡ pushed (pushed_all stack ks) k
 pushed_all_push stack [] k = refl
 pushed_all_push stack (x ∷ ks) k = pushed_all_push (pushed stack x) ks k
 
 -- a key of a larger index is larger
-greater : (k q : Key) → q.index < k.index → key_cmp k q ≡ Greater
+pub greater : (k q : Key) → q.index < k.index → key_cmp k q ≡ Greater
 greater k q less = ap (λ o. ordering_then o (nat_cmp k.version q.version)) (sym (nat_cmp_is k.index q.index Greater less))
 
 lesser : (k q : Key) → k.index < q.index → key_cmp k q ≡ Less
@@ -33,7 +33,7 @@ module _ {V : Type 0} where
   put_first k v (e ∷ es) below = grind (arith, below e.0, itself keys_total exact_keys e.0)
 
   -- an entry whose key is the largest is put at the end
-  put_last : (k : Key) (v : V) (es : List (Key × V)) → ((q : Key) → list_any (eq_by_cmp key_cmp q) (list_map (λ e. e.0) es) ≡ true → key_cmp k q ≡ Greater) → put key_cmp k v es ≡ es ++ (k, v) ∷ []
+  pub put_last : (k : Key) (v : V) (es : List (Key × V)) → ((q : Key) → list_any (eq_by_cmp key_cmp q) (list_map (λ e. e.0) es) ≡ true → key_cmp k q ≡ Greater) → put key_cmp k v es ≡ es ++ (k, v) ∷ []
   put_last k v [] above = refl
   put_last k v (e ∷ es) above = grind (arith, above e.0, itself keys_total exact_keys e.0, put_last k v es (λ q there. above q (or_right (eq_by_cmp key_cmp q e.0) _ there)))
 
@@ -76,7 +76,7 @@ module _ {V : Type 0} where
           let value = some_is (map.get a.live k) was_live in
           let stayed = map.retain_keys a.live (λ q. not (map.contains_key b.live q)) in
           let put_in : map.retain_keys a.live (λ q. not (map.contains_key c.live q)) ≡ map.insert stayed k value.0 = map.same_map keys_total exact_keys _ _ (λ q.
-          grind (arith, get-retained, map.get-insert keys_total stayed k value.0 q, get_left b c k removes q, tied keys_total exact_keys q k)) in
+          grind (arith, get-retained, map.get-insert keys_total stayed k value.0 q, live-removed_at b c k removes q, tied keys_total exact_keys q k)) in
           ap (λ n. map.keys n) put_in
           ∙ ap (λ es. list_map (λ (e : Key × V). e.0) es) (map.entries-insert keys_total stayed k value.0
           ∙ put_last k value.0 (map.entries stayed) (λ q there. greater k q (above q (listed_left a b q (map.contains_key-keys stayed q ∙ there)))))
@@ -92,7 +92,7 @@ module _ {V : Type 0} where
           let value = some_is (map.get a.live k) is_live in
           let stayed = map.retain_keys b.live (λ q. not (map.contains_key c.live q)) in
           let put_in : map.retain_keys a.live (λ q. not (map.contains_key c.live q)) ≡ map.insert stayed k value.0 = map.same_map keys_total exact_keys _ _ (λ q.
-          grind (arith, get-retained, map.get-insert keys_total stayed k value.0 q, get_left a b k removes q, tied keys_total exact_keys q k, live_no_more a b k removes, no_more k)) in
+          grind (arith, get-retained, map.get-insert keys_total stayed k value.0 q, live-removed_at a b k removes q, tied keys_total exact_keys q k, live_no_more a b k removes, no_more k)) in
           ap (λ n. map.keys n) put_in
           ∙ ap (λ es. list_map (λ (e : Key × V). e.0) es)
           (map.entries-insert keys_total stayed k value.0 ∙ put_first k value.0 (map.entries stayed)

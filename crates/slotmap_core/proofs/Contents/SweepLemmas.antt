@@ -7,7 +7,7 @@ use Rattle.slotmap_core.proofs.General.KeyLemmas.{keys_total, exact_keys, tied}
 use Rattle.slotmap_core.proofs.General.Maps.{in_after_remove}
 use Rattle.slotmap_core.proofs.Contents.IndexLemmas.{from_index, get_from, in_from, from_index-jump, from_index-take, alone_at, NoneBelow-removed}
 use Rattle.slotmap_core.proofs.Contents.ContentLemmas.{IsContent-with_value}
-use Rattle.slotmap_core.proofs.Contents.LeaveLemmas.{get_left, same_live, Leaves-refl, Leaves-trans, Leaves-with_value, Leaves-removes, Leaves-removed}
+use Rattle.slotmap_core.proofs.Contents.LeaveLemmas.{live-removed_at, same_live, Leaves-refl, Leaves-trans, Leaves-with_value, Leaves-removes, Leaves-removed}
 use Rattle.slotmap_core.proofs.Contents.OrderLemmas.{FreesByIndex-start, FreesByIndex-with_value, FreesByIndex-removed, FreesByIndex-first, entries_first}
 
 module _ {V : Type 0} where
@@ -51,7 +51,7 @@ module _ {V : Type 0} where
     order = FreesByIndex-removed old now new k swept.order (swept.leaves.no_more k is_live) is_live (λ q left. omega (arith, swept.below q left)) removes;
     capacity = capacity ∙ swept.capacity;
     well = well;
-    below = λ q left. grind (arith, swept.below q, get_left now new k removes q, tied keys_total exact_keys q k);
+    below = λ q left. grind (arith, swept.below q, live-removed_at now new k removes q, tied keys_total exact_keys q k);
   }
 
   -- what the rest ends as once the first key is removed, the whole ends as

@@ -6,11 +6,12 @@ use Rattle.std.specs.FinSet as set
 use Rattle.slotmap_core.specs.Key.{Key, key_cmp}
 use Rattle.slotmap_core.specs.Content.{Content, IsContent, IsLive}
 use Rattle.slotmap_core.specs.Transition.{Inserts, Removes, Keeps}
+pub use Rattle.slotmap_core.proofs.Contents.IndexLemmas.{get-remove_other}
 use Rattle.slotmap_core.proofs.Contents.UndoLemmas.{offer_unused, remove-insert_item}
 use Rattle.slotmap_core.proofs.General.KeyLemmas.{keys_total, exact_keys}
 use Rattle.slotmap_core.proofs.General.ListingLemmas.{insert-remove}
 use Rattle.slotmap_core.proofs.General.MapLaws.{remove_absent}
-use Rattle.slotmap_core.proofs.General.Maps.{none_of, get_inserted, get_removed, get_other, get_left, remove_inserted, in_inserted, still_in, left_in, false_of, len_inserted, len_removed, item_inserted}
+use Rattle.slotmap_core.proofs.General.Maps.{none_of, get_inserted, get_removed, get_other, remove_inserted, in_inserted, still_in, left_in, false_of, len_inserted, len_removed, item_inserted}
 
 module _ {V : Type 0} where
   -- what a map of keys has after a change
@@ -25,9 +26,6 @@ module _ {V : Type 0} where
 
   pub get-remove_here : (m : map.FinMap key_cmp V) (k : Key) → map.get (map.remove m k) k ≡ None
   get-remove_here = get_removed keys_total exact_keys
-
-  pub get-remove_other : (m : map.FinMap key_cmp V) (k q : Key) → q ≢ k → map.get (map.remove m k) q ≡ map.get m q
-  get-remove_other = get_left keys_total exact_keys
 
   pub remove_stale : (m : map.FinMap key_cmp V) (k : Key) → map.get m k ≡ None → map.remove m k ≡ m
   remove_stale m k none = remove_absent keys_total exact_keys m k none

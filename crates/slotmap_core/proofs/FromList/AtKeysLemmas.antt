@@ -34,7 +34,7 @@ module _ {V : Type 0} where
     pub value : slot.value ≡ Some v
     pub is : k ≡ key i slot.version
 
-  live_fits : (i : ℕ) (slot : SlotRecord V) (e : Key × V) → live_slot i slot ≡ Some e → e.0.index ≡ i
+  pub live_fits : (i : ℕ) (slot : SlotRecord V) (e : Key × V) → live_slot i slot ≡ Some e → e.0.index ≡ i
   live_fits i slot e gives = grind (arith, nat_tests)
 
   -- a live key's slot

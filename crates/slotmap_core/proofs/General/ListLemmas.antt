@@ -1,6 +1,6 @@
 -- Elements of a list by their index.
 -- For the crates of maps.
-use Rattle.std.proofs.Common.{◌≡◌, ◌≢◌, ℕ, zero, suc, ◌+◌, ◌<◌, ◌≤◌, option_map, List, [], ◌∷◌, ◌++◌, length, take, drop, slice_get, get_or, Option, Some, None, IfNone, Result, IsOk, IsErr, refl, sym, ap, subst, ◌∙◌, arith}
+use Rattle.std.proofs.Common.{◌≡◌, ◌≢◌, ℕ, zero, suc, ◌+◌, ◌<◌, option_map, List, [], ◌∷◌, ◌++◌, length, take, drop, slice_get, get_or, Option, Some, None, IfNone, Result, IsOk, IsErr, refl, sym, ap, subst, ◌∙◌, arith}
 use Rattle.std.proofs.lemmas.List.{take_more}
 use Rattle.std.proofs.lemmas.List.Elements.{AllZip-push}
 use Rattle.std.proofs.lemmas.Option.{same_Some, slice_get_within, slice_get_cases, slice_get_read, get_or_from_slice_get}
@@ -8,10 +8,6 @@ use Rattle.slotmap_core.specs.Words.{AllZip}
 
 pub found_within : {X : Type 0} (xs : List X) (i : ℕ) → i < length xs → (x : X) × (slice_get xs i ≡ Some x)
 found_within xs i within = grind (arith, slice_get_cases xs i)
-
--- an index at which a list has no element is past its end
-pub past_end : {X : Type 0} (xs : List X) (i : ℕ) → slice_get xs i ≡ None → length xs ≤ i
-past_end xs i none = grind (arith, slice_get_cases xs i)
 
 -- where a mapped option comes from
 pub mapped : {A B : Type 0} (f : A → B) (o : Option A) (b : B) → option_map f o ≡ Some b → (a : A) × (o ≡ Some a) × (f a ≡ b)

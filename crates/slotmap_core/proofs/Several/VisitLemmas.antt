@@ -16,7 +16,7 @@ pub CallsAt-called : {F K V : Type 0} (g : Mut F (K × (MutBor V × Unit {0})) (
 CallsAt-called g {f} {f'} {key} {shown} {left} {stays} called = record { shown = shown; shows = refl; left = left; leaves = refl; called = called }
 
 module _ {K V : Type 0} (data_of : K → Key) where
-  seen_push : (xs : List (Visit K V)) (x : Visit K V) → seen data_of (xs ++ x ∷ []) ≡ seen data_of xs ++ (data_of x.key, x.before) ∷ []
+  pub seen_push : (xs : List (Visit K V)) (x : Visit K V) → seen data_of (xs ++ x ∷ []) ≡ seen data_of xs ++ (data_of x.key, x.before) ∷ []
   seen_push [] x = refl
   seen_push (y ∷ xs) x = ap (λ es. (data_of y.key, y.before) ∷ es) (seen_push xs x)
 

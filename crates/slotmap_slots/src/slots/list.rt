@@ -2,7 +2,7 @@
 
 ghost use Rattle.std.specs.FinMap as map;
 ghost use Rattle.std.specs.Prelude.{◌≡◌, ◌<◌, ◌^◌, ◌↔◌, ◌%◌, ℕ, length, IfOk, IsOk, IfErr, IsSome, true, Some};
-ghost use Rattle.slotmap_core.specs.Words.{ClonesEqual, IsCloneOf, Key as KeyOf, start_live, start_stack, ReadsAs, Accepts, RefusesStart, Writes, WritesClones};
+ghost use Rattle.slotmap_core.specs.Words.{ClonesEqual, IsCloneOf, Key as KeyOf, start_live, start_stack, ReadsAs, Accepts, list_limit, RefusesStart, Writes, WritesClones};
 ghost use Rattle.slotmap_slots.specs.Slot.{version_at, payload_at};
 
 use super::Slots;
@@ -55,8 +55,8 @@ impl<P: Drop, L: Layout<P> + Drop> Slots<P, L> {
     pub fn from_slots(alloc: Global, list: Vec<SlotRecord<P>>) -> Result<Self, SlotsError>
         ensures reads { IfOk result (ReadsAs true list.items) }
         ensures stack { IfOk result (λ made. made.stack ≡ Some (start_stack list.items)) }
-        ensures accepted { IsOk result → Accepts list.items 4294967295 }
-        ensures err { IfErr result (RefusesStart list.items 4294967295) }
+        ensures accepted { IsOk result → Accepts list.items list_limit }
+        ensures err { IfErr result (RefusesStart list.items list_limit) }
     {
         check_slots(&list, LIST_LIMIT)?;
         let mut layout = L::with_capacity(alloc, list.len())?;

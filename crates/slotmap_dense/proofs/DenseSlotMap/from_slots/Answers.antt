@@ -1,14 +1,14 @@
 use Rattle.std.specs.FinMap as map
 use Rattle.std.proofs.Common.{◌≡◌, ◌+◌, ◌-◌, ◌^◌, ◌<◌, ◌∷◌, ◌++◌, [], length, map as list_map, Some, min, vec_capacity, refl, sym, ap, ◌∙◌, append_assoc, arith}
 use Rattle.slotmap_core.proofs.Common.{into_iter_items, Accepts, append-nil, add-one, length_push, length-map, nil_from_length, map-append, odd_of}
-use Rattle.slotmap_core.proofs.Common.{key_from-odd, key, next_consistent, common_steps}
+use Rattle.slotmap_core.proofs.Common.{list_limit, key_from-odd, key, next_consistent, common_steps}
 use Rattle.slotmap_dense.proofs.FromListLemmas.{AreSplit, AreSplit-start, AreSplit-live, AreSplit-none, same_places, fewer_read, refuses-positions, IsSound-split, reads-split, stack_alike}
 use Rattle.slotmap_dense.proofs.SettledLemmas.{dense_valid}
 use Rattle.slotmap_dense.proofs.DenseSlotMap.from_slots.Goals.{In_ok-check_slots, In-None}
 use Rattle.slotmap_dense.proofs.DenseSlotMap.from_slots.Goals.{in-Some-value+in_ok-push-in-Some-value+in_ok-push-in-Some-value-2, in-None-value}
 use Rattle.slotmap_dense.proofs.DenseSlotMap.from_slots.Goals as goal
 
-accepted : (g : _) (c : In_ok-check_slots g) → Accepts c.args.list.items 4294967295
+accepted : (g : _) (c : In_ok-check_slots g) → Accepts c.args.list.items list_limit
 accepted g c = rw c.deref.ensures.value at (c.in_ok-check_slots.ensures.ok.0 refl)
 
 -- all records were read
@@ -52,7 +52,7 @@ loop-slot-preserved g c =
     let rest = into_iter_items c.next.new.self in
     let accepted = accepted g (goal.at.loop-slot-preserved g c).In_ok-check_slots in
     let whole : at.yielded ++ slot ∷ rest ≡ c.args.list.items = ap (λ xs. at.yielded ++ xs) (sym steps.0) ∙ before.all in
-    let consistent = next_consistent c.args.list.items at.yielded rest slot 4294967295 accepted whole in
+    let consistent = next_consistent c.args.list.items at.yielded rest slot list_limit accepted whole in
     let shrinks : length (into_iter_items at.slot-iterator) ≡ length rest + 1 = ap length steps.0 ∙ sym (add-one _) in
     record {
       all = append_assoc at.yielded (slot ∷ []) rest ∙ whole;
@@ -90,7 +90,7 @@ returns-in_err-slots-clause-err g c = grind (arith, common_steps, refuses-positi
 pub invariant_of-result : goal.invariant_of-result
 invariant_of-result g c =
     let at = goal.at.invariant_of-result g c in
-    IsSound-split _ _ _ _ (split_all g at.In-None) 4294967295 (accepted g at.In_ok-check_slots) c.in_ok-slots.slots c.in_ok-slots.ensures.reads
+    IsSound-split _ _ _ _ (split_all g at.In-None) list_limit (accepted g at.In_ok-check_slots) c.in_ok-slots.slots c.in_ok-slots.ensures.reads
 
 pub returns-clause-valid : goal.returns-clause-valid
 returns-clause-valid g c = dense_valid g.K.Key.data_of c.in_ok-slots.slots c.loop-slot.keys c.loop-slot.values (invariant_of-result g c)
@@ -98,7 +98,7 @@ returns-clause-valid g c = dense_valid g.K.Key.data_of c.in_ok-slots.slots c.loo
 pub returns-clause-reads : goal.returns-clause-reads
 returns-clause-reads g c =
     let at = goal.at.returns-clause-reads g c in
-    reads-split _ _ _ _ (split_all g at.In-None) 4294967295 (accepted g at.In_ok-check_slots) c.in_ok-slots.slots c.in_ok-slots.ensures.reads
+    reads-split _ _ _ _ (split_all g at.In-None) list_limit (accepted g at.In_ok-check_slots) c.in_ok-slots.slots c.in_ok-slots.ensures.reads
     (min (vec_capacity c.loop-slot.keys) (vec_capacity c.loop-slot.values)) (returns-clause-valid g c).content
 
 pub returns-clause-stack : goal.returns-clause-stack

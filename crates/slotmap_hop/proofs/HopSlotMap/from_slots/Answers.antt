@@ -1,18 +1,18 @@
 use Rattle.std.proofs.Common.{◌≡◌, ◌∷◌, ◌++◌, [], length, true, refl, sym, ap, subst, ◌∙◌, arith}
-use Rattle.slotmap_core.proofs.Common.{into_iter_items, with_items_is, Accepts, AllFitBelow, reads_as, first_taken}
+use Rattle.slotmap_core.proofs.Common.{list_limit, into_iter_items, with_items_is, Accepts, AllFitBelow, reads_as, first_taken}
 use Rattle.slotmap_hop.proofs.SlotLemmas.{valid, same_length}
 use Rattle.slotmap_hop.proofs.FromListLemmas.{AreRead, AreRead-first, AreRead-vacant, AreRead-in_use, read_count, with_slot, can_open, IsSound-read, starts-read, reading_counted, reading_all, reading_on}
 use Rattle.slotmap_hop.proofs.HopSlotMap.from_slots.Goals.{In_ok-check_slots, In-None, After-push_reserved-in-loop-slot}
 use Rattle.std.proofs.lemmas.Grind.{common_steps}
 use Rattle.slotmap_hop.proofs.HopSlotMap.from_slots.Goals as goal
 
-accepted : (g : _) (c : In_ok-check_slots g) → Accepts c.args.list.items 4294967295
-accepted g c = subst (λ l. Accepts l 4294967295) c.deref.ensures.value (c.in_ok-check_slots.ensures.ok.0 refl)
+accepted : (g : _) (c : In_ok-check_slots g) → Accepts c.args.list.items list_limit
+accepted g c = subst (λ l. Accepts l list_limit) c.deref.ensures.value (c.in_ok-check_slots.ensures.ok.0 refl)
 
 pub loop-slot-init : goal.loop-slot-init
 loop-slot-init g c =
     let list = c.args.list in
-    let taken = first_taken list.items 4294967295 (accepted g (goal.at.loop-slot-init g c).In_ok-check_slots) _ c.next.result c.next.ensures.cases (c.into_iter-records.ensures.len ∙ list.ok.0) in
+    let taken = first_taken list.items list_limit (accepted g (goal.at.loop-slot-init g c).In_ok-check_slots) _ c.next.result c.next.ensures.cases (c.into_iter-records.ensures.len ∙ list.ok.0) in
     let rest = c.into_iter-slot-iterator.ensures.into_iter_gives in
     let made = c.in_ok-slots.ensures in
     let whole : taken.0 ∷ into_iter_items c.next.new.self ≡ list.items = sym taken.1 ∙ c.into_iter-records.ensures.rest in
@@ -58,7 +58,7 @@ loop-slot-preserved-then-is_vacant g c =
     let items = with_items_is m c.open_slot.new.slots (same_length _ _ _ _ after ∙ ap length (sym next) ∙ sym m.ok.0) in
     record {
       reading =
-          rw items (reading_on _ _ _ _ _ _ _ reading slot _ _ steps.0 steps.1 4294967295 accepts _ _ (omega arith)
+          rw items (reading_on _ _ _ _ _ _ _ reading slot _ _ steps.0 steps.1 list_limit accepts _ _ (omega arith)
           (λ consistent. AreRead-vacant _ _ _ _ reading.read slot consistent (omega arith) c.open_slot.new.slots (sym c.is_vacant.ensures ∙ c.if-is_vacant.true)
           c.open_slot.ensures.blocks.list joined after));
       room = omega (arith, at.invariant.room, steps.1, c.push_reserved-in-loop-slot.ensures.len, c.push_reserved-in-loop-slot.ensures.capacity);
@@ -76,7 +76,7 @@ loop-slot-preserved g c =
     let counted = reading_counted _ _ _ _ _ _ _ reading in
     record {
       reading =
-          rw next (reading_on _ _ _ _ _ _ _ reading slot _ _ steps.0 steps.1 4294967295 accepts _ _ (omega arith)
+          rw next (reading_on _ _ _ _ _ _ _ reading slot _ _ steps.0 steps.1 list_limit accepts _ _ (omega arith)
           (λ consistent. AreRead-in_use _ _ _ _ reading.read slot consistent (omega arith) (sym c.is_vacant.ensures ∙ c.if-is_vacant.false) (omega (arith, accepts.short, counted, steps.1))));
       room = omega (arith, at.invariant.room, steps.1, c.push_reserved-in-loop-slot.ensures.len, c.push_reserved-in-loop-slot.ensures.capacity);
     }
@@ -87,7 +87,7 @@ all_read g c = reading_all _ _ _ _ _ _ _ c.loop-slot.invariant.reading c.in-None
 pub invariant_of-result : goal.invariant_of-result
 invariant_of-result g c =
     let versions_fit = subst (λ l. AllFitBelow l (length l)) c.deref.ensures.value c.in_ok-check_slots.ensures.versions_fit in
-    IsSound-read c.args.list.items _ _ _ (all_read g (goal.at.invariant_of-result g c).In-None) 4294967295 (omega arith) (accepted g (goal.at.invariant_of-result g c).In_ok-check_slots) versions_fit
+    IsSound-read c.args.list.items _ _ _ (all_read g (goal.at.invariant_of-result g c).In-None) list_limit (omega arith) (accepted g (goal.at.invariant_of-result g c).In_ok-check_slots) versions_fit
 
 pub returns-clause-ascending : goal.returns-clause-ascending
 returns-clause-ascending g c = let read = all_read g (goal.at.returns-clause-ascending g c).In-None in rw (read_count _ _ _ _ read) at read.ascending
@@ -99,8 +99,8 @@ pub returns-clause-reads : goal.returns-clause-reads
 returns-clause-reads g c =
     let accepts = accepted g (goal.at.returns-clause-reads g c).In_ok-check_slots in
     let versions_fit = subst (λ l. AllFitBelow l (length l)) c.deref.ensures.value c.in_ok-check_slots.ensures.versions_fit in
-    reads_as c.args.list.items 4294967295 accepts true _
-    (starts-read c.args.list.items _ _ _ (all_read g (goal.at.returns-clause-reads g c).In-None) 4294967295 (omega arith) accepts versions_fit _)
+    reads_as c.args.list.items list_limit accepts true _
+    (starts-read c.args.list.items _ _ _ (all_read g (goal.at.returns-clause-reads g c).In-None) list_limit (omega arith) accepts versions_fit _)
     (returns-clause-valid g c).valid
 
 pub push_reserved-requires : goal.push_reserved-requires

@@ -1,5 +1,5 @@
 use Rattle.std.specs.FinMap as map
-use Rattle.slotmap_core.proofs.Common.{Accepts, refl, ap, subst, ◌∙◌, arith, length_push, slice_get_within, contents_by_place, Taking-next}
+use Rattle.slotmap_core.proofs.Common.{side_list_limit, Accepts, refl, ap, subst, ◌∙◌, arith, length_push, slice_get_within, contents_by_place, Taking-next}
 use Rattle.slotmap_core.proofs.Common.{Taking-here, Taking-end, common_steps}
 use Rattle.slotmap_sparse.proofs.FromListLemmas.{Read, Read-absent, Read-slot}
 use Rattle.slotmap_sparse.proofs.SparseSecondaryMap.from_slots_with_hasher.Goals as goal
@@ -9,7 +9,7 @@ loop-slot-init g c = grind (arith, common_steps, map.get-empty)
 
 pub read-requires-clause-odd : goal.read-requires-clause-odd
 read-requires-clause-odd g c some =
-    let accepted = subst (λ l. Accepts l 4294967294) c.deref.ensures.value (c.in_ok-check_slots.ensures.ok.0 refl) in
+    let accepted = subst (λ l. Accepts l side_list_limit) c.deref.ensures.value (c.in_ok-check_slots.ensures.ok.0 refl) in
     let here = Taking-here c.loop-slot.invariant.taking c.in-Some.ensures.steps.0 in
     (accepted.consistent _ c.in-Some.slot (slice_get_within c.args.list.items _ _ here) here).0 some
 
@@ -25,7 +25,7 @@ pub returns-clause-contents : goal.returns-clause-contents
 returns-clause-contents g c =
     let at = c.loop-slot in
     let list = c.args.list.items in
-    let accepted = subst (λ l. Accepts l 4294967294) c.deref.ensures.value (c.in_ok-check_slots.ensures.ok.0 refl) in
+    let accepted = subst (λ l. Accepts l side_list_limit) c.deref.ensures.value (c.in_ok-check_slots.ensures.ok.0 refl) in
     let read = subst (λ l. Read l at.made.pairs) (Taking-end at.invariant.taking c.in-None.ensures.steps.0) at.invariant.read in
     contents_by_place list at.made.pairs read (λ i slot here some. (accepted.consistent i slot (slice_get_within list i slot here) here).0 some)
 

@@ -1,6 +1,6 @@
 use Rattle.std.proofs.Common.{◌≡◌, ◌+◌, ◌∷◌, ◌++◌, [], Some, length, true, refl, sym, ap, subst, ◌∙◌, append_assoc, append-nil, length-append, arith}
 use Rattle.slotmap_core.proofs.Common.{into_iter_items, IsConsistent, Accepts, AllFitBelow, length_push, nil_from_length, starts-stack, odd_of, even_where}
-use Rattle.slotmap_core.proofs.Common.{next_consistent, first_taken, reads_as, common_steps}
+use Rattle.slotmap_core.proofs.Common.{list_limit, next_consistent, first_taken, reads_as, common_steps}
 use Rattle.slotmap_slots.specs.Slot.{full, empty, vacancies, Free, Retired}
 use Rattle.slotmap_slots.proofs.SlotLemmas.{valid, FitsEmpty-free, head_within}
 use Rattle.slotmap_slots.proofs.SettledLemmas.{vacancies-push}
@@ -8,12 +8,12 @@ use Rattle.slotmap_slots.proofs.FromListLemmas.{AreRead, AreRead-first, AreRead-
 use Rattle.slotmap_slots.proofs.slots.Slots.from_slots.Goals.{In_ok-check_slots, In-Some, In-None}
 use Rattle.slotmap_slots.proofs.slots.Slots.from_slots.Goals as goal
 
-accepted : (g : _) (c : In_ok-check_slots g) → Accepts c.args.list.items 4294967295
-accepted g c = subst (λ l. Accepts l 4294967295) c.deref.ensures.value (c.in_ok-check_slots.ensures.ok.0 refl)
+accepted : (g : _) (c : In_ok-check_slots g) → Accepts c.args.list.items list_limit
+accepted g c = subst (λ l. Accepts l list_limit) c.deref.ensures.value (c.in_ok-check_slots.ensures.ok.0 refl)
 
 pub loop-record-init : goal.loop-record-init
 loop-record-init g c =
-    let taken = first_taken c.args.list.items 4294967295 (accepted g (goal.at.loop-record-init g c).In_ok-check_slots) _ c.next.result c.next.ensures.cases (c.into_iter-records.ensures.len ∙ c.args.list.ok.0) in
+    let taken = first_taken c.args.list.items list_limit (accepted g (goal.at.loop-record-init g c).In_ok-check_slots) _ c.next.result c.next.ensures.cases (c.into_iter-records.ensures.len ∙ c.args.list.ok.0) in
     rw c.into_iter-record-iterator.ensures.into_iter_gives (record {
       first = taken.0;
       all = sym taken.1 ∙ c.into_iter-records.ensures.rest;
@@ -30,9 +30,9 @@ next g c =
     let at = c.loop-record in
     let made = c.in-Some.record in
     let rest = into_iter_items c.next-in-loop-record.new.self in
-    let accepts = subst (λ l. Accepts l 4294967295) c.deref.ensures.value (c.in_ok-check_slots.ensures.ok.0 refl) in
+    let accepts = subst (λ l. Accepts l list_limit) c.deref.ensures.value (c.in_ok-check_slots.ensures.ok.0 refl) in
     let whole : (at.invariant.first ∷ at.yielded) ++ made ∷ rest ≡ c.args.list.items = ap (λ xs. at.invariant.first ∷ at.yielded ++ xs) (sym c.in-Some.ensures.steps.0) ∙ at.invariant.all in
-    (next_consistent c.args.list.items (at.invariant.first ∷ at.yielded) rest made 4294967295 accepts whole, ap (λ xs. at.invariant.first ∷ xs) (append_assoc at.yielded (made ∷ []) rest) ∙ whole)
+    (next_consistent c.args.list.items (at.invariant.first ∷ at.yielded) rest made list_limit accepts whole, ap (λ xs. at.invariant.first ∷ xs) (append_assoc at.yielded (made ∷ []) rest) ∙ whole)
 
 pub loop-record-preserved-in-Some-value : goal.loop-record-preserved-in-Some-value
 loop-record-preserved-in-Some-value g c =
@@ -116,7 +116,7 @@ invariant_of-result g c =
     let steps = goal.at.invariant_of-result g c in
     let read = all_read g steps.In-None in
     record {
-      sound = IsSound-read c.args.list.items _ _ _ _ read.1 4294967295 (omega arith) (accepted g steps.In_ok-check_slots) read.0;
+      sound = IsSound-read c.args.list.items _ _ _ _ read.1 list_limit (omega arith) (accepted g steps.In_ok-check_slots) read.0;
       fewer = omega (arith, c.loop-record.invariant.few, c.loop-record.invariant.read.length_is);
       holds = omega (arith, c.loop-record.invariant.room);
     }
@@ -127,8 +127,8 @@ returns-clause-reads g c =
     let accepts = accepted g steps.In_ok-check_slots in
     let read = all_read g steps.In-None in
     let settled = invariant_of-result g c in
-    reads_as c.args.list.items 4294967295 accepts true _
-    (starts-stack c.args.list.items 4294967295 accepts _ read.1.places (free_indices-read c.args.list.items _ _ _ _ read.1 4294967295 (omega arith) accepts read.0))
+    reads_as c.args.list.items list_limit accepts true _
+    (starts-stack c.args.list.items list_limit accepts _ read.1.places (free_indices-read c.args.list.items _ _ _ _ read.1 list_limit (omega arith) accepts read.0))
     (valid settled.sound _ settled.holds)
 
 pub returns-clause-stack : goal.returns-clause-stack
