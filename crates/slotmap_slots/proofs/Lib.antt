@@ -3,3 +3,4 @@ pub mod SlotGrowth
 pub mod SlotClones
 pub mod SettledLemmas
 pub mod FromListLemmas
+pub mod ChangeLemmas

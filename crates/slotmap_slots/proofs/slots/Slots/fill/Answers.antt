@@ -1,44 +1,25 @@
-use Rattle.std.proofs.Common.{◌+◌, ◌-◌, ◌<◌, length, is_some, ap, sym, ◌∙◌, arith}
-use Rattle.slotmap_core.proofs.Common.{length_push, slice_get_within, same_Some, key}
-use Rattle.slotmap_slots.specs.Slot.{full, vacancies}
-use Rattle.slotmap_slots.proofs.SlotLemmas.{used_places-slots}
-use Rattle.slotmap_slots.proofs.SlotGrowth.{IsSound-pushed, inserts-pushed, none_free, some_free, top, top_read, top_next, top_version, offer-new, offer-top, filled_top, inserts-filled}
-use Rattle.slotmap_slots.proofs.SettledLemmas.{settled_stays, settled_room, settled_fits, vacancies-push, vacancies-set, settled-set}
+use Rattle.std.proofs.Common.{◌+◌, ◌<◌, length, is_some, ap, sym, ◌∙◌, arith}
+use Rattle.slotmap_core.proofs.Common.{slice_get_within, key}
+use Rattle.slotmap_slots.proofs.SlotGrowth.{none_free, top, top_read, top_next, top_version, offer-new, offer-top}
+use Rattle.slotmap_slots.proofs.SettledLemmas.{settled_room, settled_fits}
+use Rattle.slotmap_slots.proofs.ChangeLemmas.{filled_new, filled_first}
 use Rattle.slotmap_slots.proofs.slots.Slots.fill.Goals as goal
 
 pub push-requires-clause-room : goal.push-requires-clause-room
 push-requires-clause-room g c = omega (arith, (settled_room c.self.invariant c.self.view_is c.requires).1, none_free c.self.invariant.sound c.if-self-eq0.true)
 
 pub invariant_of-self : goal.invariant_of-self
-invariant_of-self g c =
-    let room = settled_room c.self.invariant c.self.view_is c.requires in
-    let all = used_places-slots c.self.invariant.sound in
-    let m = c.self.inside in
-    let longer = length_push (g.L.Layout.slots m.layout) (full 1 c.args.payload) in
-    let none = none_free c.self.invariant.sound c.if-self-eq0.true in
-    let slots = g.L.Layout.slots m.layout in
-    let free = vacancies-push slots (full 1 c.args.payload) (vacancies slots m.aside_count m.live_count) m.aside_count (m.live_count + 1) (omega (arith, c.self.invariant.fewer)) in
-    rw (c.push.ensures.pushed, c.push.ensures.same_room) (record {
-      sound = rw free (IsSound-pushed c.self.invariant.sound c.args.payload (omega (arith, room.0, none)));
-      fewer = omega (arith, c.self.invariant.fewer);
-      holds = omega (arith, room.1, none);
-    })
+invariant_of-self g c = rw (c.push.ensures.pushed, c.push.ensures.same_room) (filled_new c.self.invariant c.self.view_is c.if-self-eq0.true c.requires c.args.payload).settled
 
 pub returns-then-self-eq0-clause-value : goal.returns-then-self-eq0-clause-value
 returns-then-self-eq0-clause-value g c =
     c.exact.ensures ∙ ap (λ n. key n 1) c.len-index.ensures ∙ sym (ap (λ m. m.offer) (sym c.self.view_is) ∙ offer-new c.self.invariant.sound c.if-self-eq0.true)
 
 pub returns-then-self-eq0-clause-inserts : goal.returns-then-self-eq0-clause-inserts
-returns-then-self-eq0-clause-inserts g c =
-    let room = settled_room c.self.invariant c.self.view_is c.requires in
-    let m = c.self.inside in
-    let slots = g.L.Layout.slots m.layout in
-    let free = vacancies-push slots (full 1 c.args.payload) (vacancies slots m.aside_count m.live_count) m.aside_count (m.live_count + 1) (omega (arith, c.self.invariant.fewer)) in
-    rw (← c.self.view_is, c.push.ensures.pushed, c.push.ensures.same_room, free)
-    (inserts-pushed c.self.invariant.sound c.args.payload _ room.0 (none_free c.self.invariant.sound c.if-self-eq0.true))
+returns-then-self-eq0-clause-inserts g c = rw (c.push.ensures.pushed, c.push.ensures.same_room) (filled_new c.self.invariant c.self.view_is c.if-self-eq0.true c.requires c.args.payload).becomes
 
 pub returns-then-self-eq0-clause-valid : goal.returns-then-self-eq0-clause-valid
-returns-then-self-eq0-clause-valid g c = settled_stays _ _ _ _ _ c.self.invariant c.self.view_is _ _ _ _ _ (invariant_of-self g c) c.push.ensures.same_room
+returns-then-self-eq0-clause-valid g c = rw (c.push.ensures.pushed, c.push.ensures.same_room) (filled_new c.self.invariant c.self.view_is c.if-self-eq0.true c.requires c.args.payload).valid
 
 pub version-version-requires : goal.version-version-requires
 version-version-requires g c = slice_get_within _ _ _ (top c.self.invariant.sound c.if-self-eq0.false).there
@@ -70,11 +51,8 @@ exact-requires-2 g c =
 
 pub invariant_of-self-2 : goal.invariant_of-self-2
 invariant_of-self-2 g c =
-    let t = top c.self.invariant.sound c.if-self-eq0.false in
-    let read = top_read t c.version-version.ensures in
-    let next = same_Some _ _ (sym c.next_free-self-inside.ensures ∙ top_next t) in
-    rw (c.put.ensures.put, c.put.ensures.same_room, read, next)
-    (settled-set _ _ _ _ _ c.self.invariant _ _ (filled_top t c.args.payload).sound _ (omega (arith, some_free c.self.invariant.sound c.if-self-eq0.false)))
+    rw (c.put.ensures.put, c.put.ensures.same_room)
+    (filled_first c.self.invariant c.self.view_is c.if-self-eq0.false c.requires _ _ c.version-version.ensures c.next_free-self-inside.ensures c.args.payload).settled
 
 pub returns-clause-value : goal.returns-clause-value
 returns-clause-value g c =
@@ -83,15 +61,10 @@ returns-clause-value g c =
 
 pub returns-clause-inserts : goal.returns-clause-inserts
 returns-clause-inserts g c =
-    let t = top c.self.invariant.sound c.if-self-eq0.false in
-    let read = top_read t c.version-version.ensures in
-    let next = same_Some _ _ (sym c.next_free-self-inside.ensures ∙ top_next t) in
-    let room = settled_room c.self.invariant c.self.view_is c.requires in
-    let m = c.self.inside in
-    let slots = g.L.Layout.slots m.layout in
-    let free = vacancies-set slots m.first_vacant (full (t.version + 1) c.args.payload) (vacancies slots m.aside_count m.live_count - 1) m.aside_count
-    (m.live_count + 1) (omega (arith, some_free c.self.invariant.sound c.if-self-eq0.false)) in
-    rw (← c.self.view_is, c.put.ensures.put, c.put.ensures.same_room, read, next, free) (inserts-filled t c.args.payload _ room.0)
+    rw (c.put.ensures.put, c.put.ensures.same_room)
+    (filled_first c.self.invariant c.self.view_is c.if-self-eq0.false c.requires _ _ c.version-version.ensures c.next_free-self-inside.ensures c.args.payload).becomes
 
 pub returns-clause-valid : goal.returns-clause-valid
-returns-clause-valid g c = settled_stays _ _ _ _ _ c.self.invariant c.self.view_is _ _ _ _ _ (invariant_of-self-2 g c) c.put.ensures.same_room
+returns-clause-valid g c =
+    rw (c.put.ensures.put, c.put.ensures.same_room)
+    (filled_first c.self.invariant c.self.view_is c.if-self-eq0.false c.requires _ _ c.version-version.ensures c.next_free-self-inside.ensures c.args.payload).valid
