@@ -123,12 +123,8 @@ fn slot_value(alloc: Global, value: Value, version: u32) -> Result<Value, OutOfM
 ///
 /// - JSON that isn't an array fails with `Shape`. An empty array never fails.
 /// - Room for the whole list is allocated first, which can fail with `Memory`.
-/// - The elements are read in order. The first that fails ends the call with its error.
-/// - In an element `version` is read first: a whole number from 0 to 4294967295, or the element
-///   fails with `Shape`.
-/// - A `value` that is null or absent is no value. Any other is read by `g`, and may fail as `g`
-///   does.
-/// - Other members are ignored.
+/// - The elements are read in order, each by [`slot_from_value`]. The first that fails ends the call
+///   with its error.
 ///
 /// `g` is called at most once for each element.
 ///
@@ -161,7 +157,22 @@ where
     Ok(slots)
 }
 
-fn slot_from_value<V: Drop, G: Fn(&Value) -> Result<V, JsonError>>(
+/// Reads the record of a slot from JSON, with `g` for its value.
+///
+/// - `version` is read first: a whole number from 0 to 4294967295, or the call fails with `Shape`.
+/// - A `value` that is null or absent is no value. Any other is read by `g`, and may fail as `g`
+///   does.
+/// - Other members are ignored.
+///
+/// It costs two look-ups among the members, and at most one call of `g`.
+///
+/// ```
+/// let value = Value::from_str(alloc, "{\"value\":7,\"version\":1}")?;
+/// let slot = slot_from_value(&value, &|value: &Value| value.as_u64().ok_or(JsonError::Shape))?;
+/// assert_eq!(rt; slot.version, 1);
+/// assert_eq!(rt; slot.value, Some(7));
+/// ```
+pub fn slot_from_value<V: Drop, G: Fn(&Value) -> Result<V, JsonError>>(
     element: &Value,
     g: &G,
 ) -> Result<SlotRecord<V>, JsonError>

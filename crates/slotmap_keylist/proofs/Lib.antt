@@ -5,7 +5,6 @@ pub mod Linking
 pub mod MapKeys
 pub mod Mapped
 pub mod NotNull
-pub mod Searched
 pub mod Segments
 pub mod Shown
 pub mod Splicing

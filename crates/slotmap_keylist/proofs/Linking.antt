@@ -32,15 +32,6 @@ pub last_in : (ks : List Key) (l : Key) → last_or ks None ≡ Some l → 0 < t
 last_in [] l is = absurd (cc)
 last_in (k ∷ ks) l is = last_of k ks l is
 
--- a list with a last key
-pub split_last : (ks : List Key) (l : Key) → last_or ks None ≡ Some l → (rest : List Key) × (ks ≡ rest ++ l ∷ [])
-split_last [] l is = absurd (cc)
-split_last (k ∷ ks) l is = by k ks is
-  where
-    by : (k : Key) (ks : List Key) → last_or ks (Some k) ≡ Some l → (rest : List Key) × (k ∷ ks ≡ rest ++ l ∷ [])
-    by k [] is = ([], ap (λ q. q ∷ []) (same_Some k l is))
-    by k (q ∷ ks) is = let later = by q ks is in (k ∷ later.0, ap (λ xs. k ∷ xs) later.1)
-
 pub none_last : (ks : List Key) → last_or ks None ≡ None → ks ≡ []
 none_last [] is = refl
 none_last (k ∷ ks) is = by k ks is

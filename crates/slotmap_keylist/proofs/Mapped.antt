@@ -125,15 +125,6 @@ module _ {V W : Type 0} (f : V → W) where
     pub mapped-stays : StaysValid true old new → StaysValid true (map_content f old) (map_content f new)
     mapped-stays valid = record { before = content-mapped old true valid.before; after = content-mapped new true valid.after; capacity = valid.capacity }
 
-    -- a removal, whatever it returns
-    pub mapped-removal : (k : Key) (answer : Option V) → OnSome answer (Removes old k new) → OnSome (option_map f answer) (Removes (map_content f old) k (map_content f new))
-    mapped-removal k None removes = tt
-    mapped-removal k (Some v) removes = mapped-removes k removes
-
-    pub mapped-unchanged : (answer : Option V) → IfNone answer (new ≡ old) → IfNone (option_map f answer) (map_content f new ≡ map_content f old)
-    mapped-unchanged None is = ap (map_content f) is
-    mapped-unchanged (Some v) is = tt
-
     pub mapped-leaves : Leaves old new → Leaves (map_content f old) (map_content f new)
     mapped-leaves = shown_leaves old new _ _ (contains-mapped old.live) (len-mapped old.live) (contains-mapped new.live) (len-mapped new.live)
 

@@ -6,8 +6,7 @@
 //! them, stand in `specs` and `proofs`.
 #![tactic(auto, using(slotmap::proofs::Callers::keys))]
 
-ghost use Rattle.std.specs.Prelude.{◌≡◌, ◌≤◌, None, not};
-ghost use Rattle.std.specs.List.{count_by, filter};
+ghost use Rattle.std.specs.Prelude.{◌≡◌, None};
 
 pub use key_or_null::KeyOrNull;
 use slotmap::{DefaultKey, Key};
@@ -60,29 +59,6 @@ impl<K> Link<K> {
         Link {
             prev: None,
             next: None,
-        }
-    }
-}
-
-/// Takes an item out of a list in which it appears at most once. Those behind it move up.
-///
-/// It is searched from the back: time linear in the number of items from it on.
-///
-/// ```
-/// let mut list = vec![in alloc; 1, 2, 3]?;
-/// take_out(&mut list, 2);
-/// assert_eq!(rt; list.as_slice(), [1, 3].as_slice());
-/// ```
-pub fn take_out<T: Copy + PartialEq>(list: &mut Vec<T>, item: T)
-    requires { count_by (λ x. T.eq x item) list.old.items ≤ 1 }
-    ensures { list.new.items ≡ filter (λ x. not (T.eq x item)) list.old.items }
-{
-    let mut end = list.len();
-    while end > 0 {
-        end -= 1;
-        if list[end] == item {
-            list.remove(end);
-            return;
         }
     }
 }

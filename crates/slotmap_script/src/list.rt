@@ -8,6 +8,7 @@ use slotmap_core::keys::DefaultKey;
 use slotmap_core::serial::SlotRecord;
 use slotmap_dense::DenseSlotMap;
 use slotmap_hop::HopSlotMap;
+use slotmap_json::slot_from_value;
 use std::alloc::Global;
 use std::io;
 use std::io::Write;
@@ -132,7 +133,7 @@ impl<'de> Deserialize<'de> for SlotList {
                 break;
             }
             let record: Value = Deserialize::deserialize(alloc, from)?;
-            let Some(slot) = read_slot(&record) else {
+            let Ok(slot) = slot_from_value(&record, &read_value) else {
                 return Err(from.invalid());
             };
             if slots.push(slot).is_err() {
@@ -143,15 +144,9 @@ impl<'de> Deserialize<'de> for SlotList {
     }
 }
 
-// Reads one record as `slots_from_value` reads each element of an array: a value that is null or absent is none, and
-// other members are ignored.
-fn read_slot(record: &Value) -> Option<SlotRecord<i32>> {
-    let version = u32::try_from(record.get("version")?.as_u64()?).ok()?;
-    let value = match record.get("value") {
-        Some(value) if !value.is_null() => Some(i32::try_from(value.as_i64()?).ok()?),
-        _ => None,
-    };
-    Some(SlotRecord { value, version })
+fn read_value(value: &Value) -> Result<i32, JsonError> {
+    let number = value.as_i64().ok_or(JsonError::Shape)?;
+    i32::try_from(number).map_err(|_| JsonError::Shape)
 }
 
 /// Writes why a map wasn't read.
