@@ -21,8 +21,7 @@ pub record Lifts {D E K V : Type 0} (a : Holding D K V) (b : Holding E K V) (lif
   pub shows : (d : D) (p : ℕ) (key : K) (v : V) → Holds d → a.Shows d p key v → b.Shows (lift d) p key v
   pub puts : (d : D) (p : ℕ) (key : K) (v w : V) → Holds d → a.Shows d p key v → lift (a.put d p key w) ≡ b.put (lift d) p key w
   pub still : (d : D) (p : ℕ) (key : K) (v w : V) → Holds d → a.Shows d p key v → Holds (a.put d p key w)
-  pub moves : (p : ℕ) (key : K) (stays : Bool) → a.next p key stays ≡ b.next p key stays
-  pub ends : (d : D) (p end : ℕ) → Holds d → a.IsEnd d p end → b.IsEnd (lift d) p end
+  pub counts : (d : D) → Holds d → b.count (lift d) ≡ a.count d
 
 module _ {F D E K V : Type 0} (a : Holding D K V) (b : Holding E K V) (lift : D → E) (Holds : D → Type 0) (lifts : Lifts a b lift Holds)
     (g : Mut F (K × (MutBor V × Unit {0})) (Bool × (MutBor V × Unit {0}))) where
@@ -37,7 +36,7 @@ module _ {F D E K V : Type 0} (a : Holding D K V) (b : Holding E K V) (lift : D 
   kept-lift (x ∷ xs) s t holds run =
       let one = calls-lift s run.0 x holds run.1.calls in
       let rest = kept-lift xs run.0 t one.1 run.2 in
-      ((lifted run.0, record { calls = one.0; stays = run.1.stays }, rest.0), rest.1)
+      ((lifted run.0, record { calls = one.0; stays = run.1.stays; on = run.1.on }, rest.0), rest.1)
 
   pub passes-lift : (s t : Stage F D) → Holds s.held → Passes a g s t → Passes b g (lifted s) (lifted t) × Holds t.held
   passes-lift s t holds passes =
@@ -48,13 +47,13 @@ module _ {F D E K V : Type 0} (a : Holding D K V) (b : Holding E K V) (lift : D 
             visits = passes.visits;
             last = lifted passes.last;
             kept = kept.0;
-            ends = inl (record { ended = lifts.ends passes.last.held passes.last.position t.position kept.1 done.ended; held = ap lift done.held; closure = done.closure });
+            ends = inl (record { past = rw (lifts.counts passes.last.held kept.1) done.past; same = ap lifted done.same });
           },
-          subst Holds (sym done.held) kept.1,
+          subst (λ u. Holds u.held) (sym done.same) kept.1,
         )
         | inr one ↦
             let call = calls-lift passes.last t one.visit kept.1 one.calls in
-            (record { visits = passes.visits; last = lifted passes.last; kept = kept.0; ends = inr (record { visit = one.visit; calls = call.0; leaves = one.leaves }) }, call.1)
+            (record { visits = passes.visits; last = lifted passes.last; kept = kept.0; ends = inr (record { visit = one.visit; calls = call.0; leaves = one.leaves; here = one.here }) }, call.1)
       ]
 
   pub may-lift : (s : Stage F D) → Holds s.held → MayPass b g (lifted s) → MayPass a g s
@@ -78,11 +77,11 @@ module _ {K V : Type 0} (data_of : K → Key) where
   -- a call of the closure for what was read
   pub calls-read : {F : Type 0} (g : Mut F (K × (MutBor V × Unit {0})) (Bool × (MutBor V × Unit {0}))) (keys : List K) (v : V) {values : List V} {p q : ℕ}
       {key : K} {f f' : F} {shown left : MutBor V} {stays : Bool} → p < length keys → length values ≡ length keys → key ≡ get_or keys p key
-      → shown.now ≡ get_or values p v → q ≡ cond stays (p + 1) p → Called g f (key, (shown, tt)) (stays, (left, tt)) f'
+      → shown.now ≡ get_or values p v → Called g f (key, (shown, tt)) (stays, (left, tt)) f'
       → Calls (beside data_of (list_map data_of keys)) g (stage p values f) (record { key = key; before = shown.now; after = left.now; stays = stays }) (stage q (set values p left.now) f')
-  calls-read g keys v {values} {p} {q} {key} within same key_is is moves called =
+  calls-read g keys v {values} {p} {q} {key} within same key_is is called =
       let shows = shows-read keys values p key v within same key_is in
-      record { shows = (shows.0, shows.1 ∙ ap Some (sym is)); written = refl; moves = moves; called = CallsAt-called g called }
+      record { shows = (shows.0, shows.1 ∙ ap Some (sym is)); written = refl; called = CallsAt-called g called }
 
   -- the values beside the keys of a map are those of the map
   pub Lifts-values : (slots : Content ℕ) (keys : List Key) (spare : ℕ)
@@ -94,8 +93,7 @@ module _ {K V : Type 0} (data_of : K → Key) where
     );
     puts = λ values p key v w sound shows. dense-written slots keys values sound spare (data_of key) p w (sound.packed.names p (data_of key) shows.0);
     still = λ values p key v w sound shows. IsSound-other slots slots keys values (set values p w) sound sound.well refl (length-set values p w);
-    moves = λ p key stays. refl;
-    ends = λ values p end sound ended. ended;
+    counts = λ values sound. refl;
   }
 
 module _ {F K V : Type 0} (g : Mut F (K × (MutBor V × Unit {0})) (Bool × (MutBor V × Unit {0}))) (data_of : K → Key) where
@@ -143,18 +141,16 @@ module _ {F K V : Type 0} (g : Mut F (K × (MutBor V × Unit {0})) (Bool × (Mut
       }
 
       -- the pair stays
-      pub Going-kept : x.stays ≡ true → Going t
-      Going-kept stays =
-          let moved : t.position ≡ s.position + 1 = calls.moves ∙ ap (λ b. cond b (s.position + 1) s.position) stays in
+      pub Going-kept : x.stays ≡ true → t.position ≡ s.position + 1 → Going t
+      Going-kept stays moved =
           let same : stage (s.position + 1) written t.closure ≡ t = λ j. stage (sym moved j) (sym calls.written j) t.closure in
           subst Going same (one_more (s.position + 1) written was leaves_written refl (calls.shows.0.next x.after) (rw stays refl)
           (SoFar-kept data_of old s.held going.visits s.position going.so_far x calls.shows.0.stands written stays refl refl))
 
       -- the pair is removed, and the last one moves to its position
-      pub Going-dropped : x.stays ≡ false → (new : Dense V) → LeavesFrom t.held t.position k new → IsDense new → new.content.capacity ≡ t.held.content.capacity
+      pub Going-dropped : x.stays ≡ false → t.position ≡ s.position → (new : Dense V) → LeavesFrom t.held t.position k new → IsDense new → new.content.capacity ≡ t.held.content.capacity
           → Going (stage t.position new t.closure)
-      Going-dropped stays new leaves_from well capacity =
-          let here : t.position ≡ s.position = calls.moves ∙ ap (λ b. cond b (s.position + 1) s.position) stays in
+      Going-dropped stays here new leaves_from well capacity =
           let gone : LeavesFrom written s.position k new = rw (calls.written, here) at leaves_from in
           let leaves = Leaves-removed false written.content was.content k (same_live s.held.content k x.after calls.shows.0.is_live k ∙ calls.shows.0.is_live)
           new.content gone.removes old.content leaves_written in
@@ -165,7 +161,7 @@ module _ {F K V : Type 0} (g : Mut F (K × (MutBor V × Unit {0})) (Bool × (Mut
     -- calls that keep their pairs
     Going-along : (xs : List (Visit K V)) (s t : Stage F (Dense V)) → Going s → FoldsTo (Stays (packed_order data_of) g) s xs t → Going t
     Going-along [] s t going run = subst Going run going
-    Going-along (x ∷ xs) s t going run = Going-along xs run.0 t (Going-kept s run.0 x going run.1.calls run.1.stays) run.2
+    Going-along (x ∷ xs) s t going run = Going-along xs run.0 t (Going-kept s run.0 x going run.1.calls run.1.stays run.1.on) run.2
 
     -- the closure may be called for what is to come
     pub Going-may : CallableOnEach g data_of first old.content.live → (s : Stage F (Dense V)) → Going s → MayPass (packed_order data_of) g s
@@ -189,12 +185,9 @@ module _ {F K V : Type 0} (g : Mut F (K × (MutBor V × Unit {0})) (Bool × (Mut
       pub packed : RetainsPacked g data_of first old t.held
       pub leaves : Leaves old.content t.held.content
 
-    rejected_at : (s t : Stage F (Dense V)) (one : Rejects (packed_order data_of) g s t) → t.position ≡ s.position
-    rejected_at s t one = one.calls.moves ∙ ap (λ b. cond b (s.position + 1) s.position) one.leaves
-
     -- its pair is at the position
     pub Rejected-stands : (t : Stage F (Dense V)) (rejected : Rejected t) → slice_get t.held.keys t.position ≡ Some (data_of rejected.rejects.visit.key)
-    Rejected-stands t rejected = grind (arith, rejected_at)
+    Rejected-stands t rejected = grind (arith, rejected.rejects.here)
 
     module _ (s t : Stage F (Dense V)) (going : Going s) (passes : Passes (packed_order data_of) g s t) where
       last_going : Going passes.last
@@ -203,19 +196,17 @@ module _ {F K V : Type 0} (g : Mut F (K × (MutBor V × Unit {0})) (Bool × (Mut
       -- the position is that of a pair
       pub Going-rejected : t.position < length t.held.keys → Rejected t
       Going-rejected within = elim passes.ends [
-        | inl done ↦ absurd (omega (arith, done.ended.0, done.ended.1, ap (λ d. length d.keys) done.held))
+        | inl done ↦ absurd (omega (arith, done.past, ap (λ u. u.position) done.same, ap (λ u. length u.held.keys) done.same))
         | inr one ↦ record { last = passes.last; going = last_going; rejects = one }
       ]
 
       -- all pairs were visited
       past_end : length t.held.keys ≤ t.position → Going t
       past_end past = elim passes.ends [
-        | inl done ↦
-            let same : passes.last ≡ t = λ j. stage (sym done.ended.1 j) (sym done.held j) (sym done.closure j) in
-            subst Going same last_going
+        | inl done ↦ subst Going (sym done.same) last_going
         | inr one ↦
             let within = slice_get_within passes.last.held.keys passes.last.position (data_of one.visit.key) one.calls.shows.0.stands in
-            absurd (omega (arith, rejected_at passes.last t one, ap (λ d. length d.keys) one.calls.written))
+            absurd (omega (arith, one.here, ap (λ d. length d.keys) one.calls.written))
       ]
 
       pub Going-end : length t.held.keys ≤ t.position → Ended t

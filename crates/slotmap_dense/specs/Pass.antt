@@ -1,6 +1,6 @@
 -- A pass of a closure over the pairs of a dense map, up to the first one that it rejects. No public clause cites this module.
 use Rattle.std.specs.FinMap as map
-use Rattle.std.specs.Prelude.{◌≡◌, ◌≤◌, ◌⊎◌, ◌+◌, if◌then◌else◌, ℕ, Bool, true, false, List, length, Some, slice_get, slice_set}
+use Rattle.std.specs.Prelude.{◌≡◌, ◌≤◌, ◌⊎◌, ◌+◌, ℕ, Bool, true, false, List, length, Some, slice_get, slice_set}
 use Rattle.slotmap_core.specs.Words.{Mut, Takes, MutBor, FoldsTo, Key, Visit, CallsAt}
 use Rattle.slotmap_dense.specs.Dense.{Dense, with_value_of}
 use Rattle.slotmap_dense.specs.Rest.{Comes}
@@ -21,35 +21,33 @@ pub record Holding (D K V : Type 0) : Type 1 where
   pub Shows : D → ℕ → K → V → Type 0
   -- the same with another value for this pair
   pub put : D → ℕ → K → V → D
-  -- the position from which to go on if this pair stays, or that of the pair if it is rejected
-  pub next : ℕ → K → Bool → ℕ
-  -- there is no pair from a position on; the second position is the end
-  pub IsEnd : D → ℕ → ℕ → Type 0
+  -- how many pairs there are
+  pub count : D → ℕ
 
 module _ {F D K V : Type 0} (holding : Holding D K V) (g : Mut F (K × (MutBor V × Unit {0})) (Bool × (MutBor V × Unit {0}))) where
   -- a call for the first pair from the position on
   pub record Calls (s : Stage F D) (x : Visit K V) (t : Stage F D) : Type 0 where
     pub shows : holding.Shows s.held s.position x.key x.before
     pub written : t.held ≡ holding.put s.held s.position x.key x.after
-    pub moves : t.position ≡ holding.next s.position x.key x.stays
     pub called : CallsAt g s.closure x t.closure
 
   -- a call that keeps its pair
   pub record Stays (s : Stage F D) (x : Visit K V) (t : Stage F D) : Type 0 where
     pub calls : Calls s x t
     pub stays : x.stays ≡ true
+    pub on : t.position ≡ s.position + 1
 
   -- there is no pair left to call for
   pub record Ends (s t : Stage F D) : Type 0 where
-    pub ended : holding.IsEnd s.held s.position t.position
-    pub held : t.held ≡ s.held
-    pub closure : t.closure ≡ s.closure
+    pub past : holding.count s.held ≤ s.position
+    pub same : t ≡ s
 
   -- a call that rejects its pair
   pub record Rejects (s t : Stage F D) : Type 0 where
     pub visit : Visit K V
     pub calls : Calls s visit t
     pub leaves : visit.stays ≡ false
+    pub here : t.position ≡ s.position
 
   -- the calls from s on keep their pairs, up to the end or to one that rejects its pair
   pub record Passes (s t : Stage F D) : Type 0 where
@@ -69,8 +67,7 @@ module _ {K V : Type 0} (data_of : K → Key) where
   beside keys = record {
     Shows = λ values p key v. (slice_get keys p ≡ Some (data_of key)) × (slice_get values p ≡ Some v);
     put = λ values p key v. slice_set values p v;
-    next = λ p key stays. if stays then p + 1 else p;
-    IsEnd = λ values p end. (length keys ≤ p) × (end ≡ p);
+    count = λ values. length keys;
   }
 
   -- a dense map in packed order
@@ -78,6 +75,5 @@ module _ {K V : Type 0} (data_of : K → Key) where
   packed_order = record {
     Shows = λ d p key v. Comes d p (data_of key) × (map.get d.content.live (data_of key) ≡ Some v);
     put = λ d p key v. with_value_of d (data_of key) v;
-    next = λ p key stays. if stays then p + 1 else p;
-    IsEnd = λ d p end. (length d.keys ≤ p) × (end ≡ p);
+    count = λ d. length d.keys;
   }

@@ -29,7 +29,7 @@ loop-position-preserved g c =
     let leaves = c.take_at.ensures.leaves _ (Rejected-stands g.F.FnMut g.K.Key.data_of c.args.self.now c.args.f _ rejected) in
     record {
       going = Going-dropped g.F.FnMut g.K.Key.data_of c.args.self.now c.args.f rejected.last _ rejected.rejects.visit rejected.going rejected.rejects.calls
-          rejected.rejects.leaves c.take_at.new.self leaves c.take_at.ensures.valid.after c.take_at.ensures.valid.capacity;
+          rejected.rejects.leaves rejected.rejects.here c.take_at.new.self leaves c.take_at.ensures.valid.after c.take_at.ensures.valid.capacity;
       within = omega (arith, within, c.take_at.ensures.fewer);
     }
 

@@ -1,4 +1,4 @@
-use Rattle.std.proofs.Common.{◌∷◌, ◌++◌, ◌≡◌, [], inl, inr, length, map as list_map, refl, sym, ◌∙◌, arith}
+use Rattle.std.proofs.Common.{◌∷◌, ◌++◌, ◌≡◌, [], inl, inr, length, map as list_map, refl, sym, ap, ◌∙◌, arith}
 use Rattle.slotmap_core.proofs.Common.{FoldsTo-push, length-map, length-set}
 use Rattle.slotmap_dense.specs.Pass.{Stays, stage, beside}
 use Rattle.slotmap_dense.proofs.PassLemmas.{shows-read, calls-read}
@@ -22,8 +22,9 @@ returns-then-not-f-clause-passes g c =
       kept = at.invariant.kept;
       ends = inr (record {
         visit = _;
-        calls = calls-read g.K.Key.data_of g.F.FnMut c.args.keys.now _ c.loop-position-test.true at.invariant.same_length c.index-keys-position.is refl (rw c.if-not-f.true refl) c.f.ensures;
+        calls = calls-read g.K.Key.data_of g.F.FnMut c.args.keys.now _ c.loop-position-test.true at.invariant.same_length c.index-keys-position.is refl c.f.ensures;
         leaves = c.if-not-f.true;
+        here = refl;
       });
     }
 
@@ -33,8 +34,9 @@ loop-position-preserved g c =
     record {
       visits = at.invariant.visits ++ _ ∷ [];
       kept = FoldsTo-push (Stays (beside g.K.Key.data_of (list_map g.K.Key.data_of c.args.keys.now)) g.F.FnMut) _ at.invariant.visits _ _ _ at.invariant.kept (record {
-        calls = calls-read g.K.Key.data_of g.F.FnMut c.args.keys.now _ c.loop-position-test.true at.invariant.same_length c.index-keys-position.is refl (rw c.if-not-f.false refl) c.f.ensures;
+        calls = calls-read g.K.Key.data_of g.F.FnMut c.args.keys.now _ c.loop-position-test.true at.invariant.same_length c.index-keys-position.is refl c.f.ensures;
         stays = c.if-not-f.false;
+        on = refl;
       });
       same_length = length-set at.values at.position c.f.new.arg3 ∙ at.invariant.same_length;
     }
@@ -47,5 +49,5 @@ returns-clause-passes g c =
       visits = at.invariant.visits;
       last = stage at.position at.values at.f;
       kept = at.invariant.kept;
-      ends = inl (record { ended = (omega (arith, c.loop-position-test.false, length-map c.args.keys.now g.K.Key.data_of), sym past); held = refl; closure = refl });
+      ends = inl (record { past = omega (arith, c.loop-position-test.false, length-map c.args.keys.now g.K.Key.data_of); same = ap (λ p. stage p at.values at.f) (sym past) });
     }
