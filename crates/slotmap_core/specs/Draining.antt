@@ -6,7 +6,7 @@ use Rattle.std.specs.FinMap as map
 use Rattle.slotmap_core.specs.Key.{Key, key_cmp}
 use Rattle.slotmap_core.specs.Listing.{IsListingBut}
 
--- Old and new hold the same loan of a map. What the map that new has ends as, that of old ends as too
+-- Old and new hold the same loan of a map: its final value, as new sees it, is also its final value as old sees it
 module _ {D C E : Type 0} (loan : D → MutBor C) (Ends : C → E → Type 0) where
   abbrev pub KeepsLoan : D → D → Type 0
   KeepsLoan old new = ((loan new).ghost_name ≡ (loan old).ghost_name) × ((end : E) → Ends (loan new).now end → Ends (loan old).now end)
