@@ -1,8 +1,9 @@
 #!/usr/bin/env python3
 # tests/one_meaning.py [--check]
 #
-# Lists the names of files, and the words that specs/ declare, that stand twice in the repository and aren't known to have one meaning. The lists
-# below give for each name or word that stands twice the meaning that all its places have. The status is 0 if nothing is listed.
+# Lists the names of files, and the words that specs/ declare, that stand twice in the repository and aren't known to have one meaning. So it does with
+# the lemmas of one name in one crate, and with a lemma that is proved in two files. The lists below give for each that stands twice the meaning
+# that all its places have. The status is 0 if nothing is listed.
 import collections
 import glob
 import os
@@ -69,6 +70,18 @@ WORDS = {
     'Nodes IsChain Unlinks Relinks IsWalk follow with_link with_next with_prev link_in ends_in ends_of first_or last_or': 'what is linked both ways: nodes, slots, or the keys of a list',
 }
 
+# Lemmas that other files cite, of one name in one crate
+LEMMA_NAMES = {
+    'detached full inserts no_memory reattach_served removed': 'that command of a run, and of a joined run',
+    'listed_once not_found taken goes_up put_len stands': 'the same of two models of a structure or a map',
+}
+
+# Lemmas of one name and one statement in two files
+PROVED_TWICE = {
+    'dropped_push slots_equal': 'of words that each map has for itself',
+    'first second some_is last_some': 'a line of logic that a structure proves for itself',
+}
+
 
 def known(table):
     return {name for names in table for name in names.split()}
@@ -99,11 +112,46 @@ def repeated_words():
     return [f'{word}: {", ".join(places)}' for word, places in sorted(found.items()) if len(places) > 1 and word not in known(WORDS)]
 
 
+def lemmas():
+    """The lemmas of all crates: crate, name, statement, whether other files may cite it, and place. Fields of records are none."""
+    declared = re.compile(r"^( *)(pub )?([A-Za-z][\w'\-]*) : (.*)$")
+    for path in sorted(glob.glob(f'{TOP}/crates/*/proofs/**/[A-Z]*.antt', recursive=True)):
+        if '/out/' in path or os.path.basename(path) in ('Answers.antt', 'Invariants.antt', 'Lib.antt', 'Common.antt'):
+            continue
+        with open(path, encoding='utf-8') as file:
+            lines = file.read().split('\n')
+        for number, line in enumerate(lines):
+            match = declared.match(line)
+            if match:
+                indent, pub, name, statement = match.groups()
+                rest = number + 1
+                while rest < len(lines) and lines[rest].startswith(indent + '    '):
+                    statement += ' ' + lines[rest].strip()
+                    rest += 1
+                if rest < len(lines) and re.match(rf'{indent}(unfolding|{re.escape(name)}) ', lines[rest]):
+                    yield relative(path).split('/')[1], name, ' '.join(statement.split()), bool(pub), f'{relative(path)}:{number + 1}'
+
+
+def repeated_lemmas():
+    cited, proved = collections.defaultdict(list), collections.defaultdict(list)
+    for crate, name, statement, pub, place in lemmas():
+        if pub:
+            cited[crate, name].append(place)
+        proved[name, statement].append(place)
+    faults = [f'two lemmas of {crate}: {name}: {", ".join(places)}' for (crate, name), places in sorted(cited.items()) if len(places) > 1 and name not in known(LEMMA_NAMES)]
+    for (name, statement), places in sorted(proved.items()):
+        files = {place.split(':')[0] for place in places}
+        if len(files) > 1 and len(statement) > 25 and name not in known(PROVED_TWICE):
+            faults.append(f'a lemma that is proved twice: {name}: {", ".join(places)}')
+    return faults
+
+
 def main():
     faults = [f'two files of src/: {x}' for x in repeated_files('*/src/**/*.rt', known(SOURCES))]
     faults += [f'two files of proofs/: {x}' for x in repeated_files('*/proofs/**/[A-Z]*.antt', known(LEMMAS))]
     faults += [f'two files of specs/: {x}' for x in repeated_files('*/specs/*.antt', known(SPECS))]
     faults += [f'two declarations: {x}' for x in repeated_words()]
+    faults += repeated_lemmas()
     for fault in faults:
         print(fault)
     if faults:

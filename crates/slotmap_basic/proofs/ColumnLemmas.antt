@@ -20,14 +20,14 @@ module _ {P : Type 0} where
   zip-at (w ∷ vs) (m ∷ ls) (y ∷ xs) (suc i) v l x at_v at_l at_x = zip-at vs ls xs i v l x at_v at_l at_x
   zip-at vs ls xs i v l x at_v at_l at_x = absurd (cc)
 
-  pub zip-reads : (vs : List ℕ) (ls : List Use) (xs : List (Option P)) (i : ℕ) → length ls ≡ length vs → length xs ≡ length vs
+  zip-reads : (vs : List ℕ) (ls : List Use) (xs : List (Option P)) (i : ℕ) → length ls ≡ length vs → length xs ≡ length vs
       → (version_at (zip_slots vs ls xs) i ≡ slice_get vs i) × (usage_at (zip_slots vs ls xs) i ≡ slice_get ls i) × (payload_at (zip_slots vs ls xs) i ≡ option_and_then (λ x. x) (slice_get xs i))
   zip-reads [] [] [] i same_l same_x = (refl, refl, refl)
   zip-reads (v ∷ vs) (l ∷ ls) (x ∷ xs) zero same_l same_x = (refl, refl, refl)
   zip-reads (v ∷ vs) (l ∷ ls) (x ∷ xs) (suc i) same_l same_x = zip-reads vs ls xs i (omega arith) (omega arith)
   zip-reads vs ls xs i same_l same_x = absurd (omega arith)
 
-  pub zip-versions : (vs : List ℕ) (ls : List Use) (xs : List (Option P)) → length ls ≡ length vs → length xs ≡ length vs → versions_of (zip_slots vs ls xs) ≡ vs
+  zip-versions : (vs : List ℕ) (ls : List Use) (xs : List (Option P)) → length ls ≡ length vs → length xs ≡ length vs → versions_of (zip_slots vs ls xs) ≡ vs
   zip-versions [] ls xs same_l same_x = refl
   zip-versions (v ∷ vs) (l ∷ ls) (x ∷ xs) same_l same_x = ap (λ ws. v ∷ ws) (zip-versions vs ls xs (omega arith) (omega arith))
   zip-versions (v ∷ vs) ls xs same_l same_x = absurd (omega arith)

@@ -98,17 +98,17 @@ module _ {V : Type 0} (is_clone : V → V → Type 0) where
 
   module _ (slots copies : List (Slot V)) (zip : AreSlotClones is_clone slots copies) where
     -- an iterator at the same place
-    pub left_cloned : (place : ℕ) → AreClones is_clone (pairs_left slots place) (pairs_left copies place)
-    left_cloned place = pairs-cloned place (drop place (places_of slots)) (drop place (places_of copies)) (zip_drop _ place _ _ (places-cloned is_clone slots copies zip))
+    pub left_cloned : (index : ℕ) → AreClones is_clone (pairs_left slots index) (pairs_left copies index)
+    left_cloned index = pairs-cloned index (drop index (places_of slots)) (drop index (places_of copies)) (zip_drop _ index _ _ (places-cloned is_clone slots copies zip))
 
-    pub IsIter-cloned : (reads place left : ℕ) → IsIter slots reads place left → IsIter copies reads place left
-    IsIter-cloned reads place left iterates = record {
+    pub IsIter-cloned : (reads index left : ℕ) → IsIter slots reads index left → IsIter copies reads index left
+    IsIter-cloned reads index left iterates = record {
       stands = record {
         vacant = iterates.stands.vacant;
         elems = iterates.stands.elems;
         sound = IsSound-cloned is_clone slots copies zip iterates.stands.vacant iterates.stands.elems iterates.stands.sound;
-        at_front = subst (λ es. vacant_at es place ≡ true → Begins (vacant_at es) place) (sym (all_links-cloned is_clone slots copies zip)) iterates.stands.at_front;
+        at_front = subst (λ es. vacant_at es index ≡ true → Begins (vacant_at es) index) (sym (all_links-cloned is_clone slots copies zip)) iterates.stands.at_front;
       };
-      counted = iterates.counted ∙ sym (zip_length _ _ _ (left_cloned place));
+      counted = iterates.counted ∙ sym (zip_length _ _ _ (left_cloned index));
       passed = iterates.passed;
     }

@@ -118,9 +118,9 @@ module _ {V : Type 0} (read : List (SlotRecord V)) (slots : List (Slot V)) (vaca
     pub AreRead-in_use : is_vacant_version slot.version ≡ false → length slots + 1 < 2 ^ 32 → AreRead (read ++ slot ∷ []) (with_slot slot) vacant (elems + slot.version % 2)
     AreRead-in_use other fits =
         let none : vacant_slot (length read) slot ≡ None = grind arith in
-        let place : place_in (read_slot slot.version slot.value) ≡ place_of_record slot = grind (arith, vacant_is slot.version, even_where slot consistent) in
+        let index : place_in (read_slot slot.version slot.value) ≡ place_of_record slot = grind (arith, vacant_is slot.version, even_where slot consistent) in
         let stack = rw none at (start_stack-push read slot) in
-        let pushed = places_with slot ∙ ap (λ p. places_of slots ++ p ∷ []) place in
+        let pushed = places_with slot ∙ ap (λ p. places_of slots ++ p ∷ []) index in
         more (with_slot slot) vacant (list_with slot fits)
         (subst (λ (b : Blocks). Ascend 1 b.others (length slots + 1)) (sym (blocks_with slot)) (ascend_on 1 (blocks_of (all_links slots)).others (length slots) are.ascending))
         pushed (omega (arith, ap length stack, are.counted))

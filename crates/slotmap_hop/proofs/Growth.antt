@@ -48,16 +48,16 @@ module _ {V : Type 0} (slots : List (Slot V)) (vacant elems : ℕ) (sound : IsSo
     pub slot : Slot V
     pub there : slice_get slots (next_place slots) ≡ Some slot
     pub within : next_place slots < length slots
-    pub place : slice_get (places_of slots) (next_place slots) ≡ Some (Vacant (version_in slot + 1))
+    pub index : slice_get (places_of slots) (next_place slots) ≡ Some (Vacant (version_in slot + 1))
     pub version : IsVersion (version_in slot + 1)
 
   pub back_slot : Back
   back_slot =
       let s = vacant_slot slots (next_place slots) (back_vacant slots vacant elems sound) in
-      record { slot = s.0; there = s.1; within = s.2; place = s.3; version = sound.stacked.versions (next_place slots) (Vacant (version_in s.0 + 1)) s.3 }
+      record { slot = s.0; there = s.1; within = s.2; index = s.3; version = sound.stacked.versions (next_place slots) (Vacant (version_in s.0 + 1)) s.3 }
 
   pub offer-back : 0 < next_place slots → offer_at (places_of slots) (next_place slots) ≡ key (next_place slots) (version_in back_slot.slot + 1)
-  offer-back some = grind (arith, back_slot.place)
+  offer-back some = grind (arith, back_slot.index)
 
   -- a new place
   abbrev pub pushed_slots : V → List (Slot V)
@@ -94,11 +94,11 @@ module _ {V : Type 0} (slots : List (Slot V)) (vacant elems : ℕ) (sound : IsSo
   sound-filled new w some list after =
       let i = next_place slots in
       let n = version_in back_slot.slot + 1 in
-      let on = sound.stacked.complete i n some back_slot.place in
-      IsSound-set slots vacant elems sound new i (Vacant n) (Live n w) back_slot.place (λ v e. absurd (cc)) list after (list_without sound.stack i)
-      (IsStacked-filled (places_of slots) i (list_without sound.stack i) n w (IsStacked-first (places_of slots) sound.stack i sound.stacked on) back_slot.place) _ _
+      let on = sound.stacked.complete i n some back_slot.index in
+      IsSound-set slots vacant elems sound new i (Vacant n) (Live n w) back_slot.index (λ v e. absurd (cc)) list after (list_without sound.stack i)
+      (IsStacked-filled (places_of slots) i (list_without sound.stack i) n w (IsStacked-first (places_of slots) sound.stack i sound.stacked on) back_slot.index) _ _
       (omega (arith, length_removed sound.stack i on, sound.counted))
-      (omega (arith, len-live-set (places_of slots) i (Vacant n) (Live n w) back_slot.place, sound.elems_live))
+      (omega (arith, len-live-set (places_of slots) i (Vacant n) (Live n w) back_slot.index, sound.elems_live))
 
   pub inserts-filled : (new : List (Slot V)) (c d : ℕ) (w : V) → 0 < next_place slots → used_places (places_of slots) < most → c ≤ d
       → places_of new ≡ set (places_of slots) (next_place slots) (Live (version_in back_slot.slot + 1) w)
@@ -109,7 +109,7 @@ module _ {V : Type 0} (slots : List (Slot V)) (vacant elems : ℕ) (sound : IsSo
 
   -- an insert adds a place just if none is vacant
   pub none_offered : vacant ≡ 0 → next_place slots ≡ 0
-  none_offered none = grind (arith, length_removed sound.stack (next_place slots), sound.stacked.complete (next_place slots) (version_in back_slot.slot + 1), back_slot.place, sound.counted)
+  none_offered none = grind (arith, length_removed sound.stack (next_place slots), sound.stacked.complete (next_place slots) (version_in back_slot.slot + 1), back_slot.index, sound.counted)
 
   pub some_offered : vacant ≢ 0 → 0 < next_place slots
   some_offered some = grind (arith, none_left)

@@ -75,9 +75,9 @@ module _ {V : Type 0} (slots : List (Slot V)) where
   stands_on i j stands front = record { vacant = stands.vacant; elems = stands.elems; sound = stands.sound; at_front = front }
 
 -- a vacant slot is left at the end of its block
-hop_to_back : {V : Type 0} (place : ℕ) (s : Slot V) → is_vacant (links_in s) ≡ true → NamesApart place (links_in s) → place ≤ end_in place (links_in s)
-    → hop_in place s ≡ end_in place (links_in s)
-hop_to_back place s vacant apart ordered = grind arith
+hop_to_back : {V : Type 0} (index : ℕ) (s : Slot V) → is_vacant (links_in s) ≡ true → NamesApart index (links_in s) → index ≤ end_in index (links_in s)
+    → hop_in index s ≡ end_in index (links_in s)
+hop_to_back index s vacant apart ordered = grind arith
 
 pub none_here : {V : Type 0} (s : Slot V) → is_some (value_in s) ≡ false → value_in s ≡ None
 none_here s is = grind arith
@@ -85,60 +85,60 @@ none_here s is = grind arith
 module _ {V : Type 0} (slots : List (Slot V)) (reads0 start : ℕ) where
   -- a search for the first live slot that began at `start`, with this number of reads, has come to a place: it passed no live
   -- key
-  pub record OnTheWay (reads place : ℕ) : Type 0 where
-    pub stands : StandsAt slots place
-    pub same : pairs_left slots start ≡ pairs_left slots place
-    pub none : (q : Key) → map.contains_key (live (places_of slots)) q ≡ true → start ≤ q.index → place ≤ q.index
+  pub record OnTheWay (reads index : ℕ) : Type 0 where
+    pub stands : StandsAt slots index
+    pub same : pairs_left slots start ≡ pairs_left slots index
+    pub none : (q : Key) → map.contains_key (live (places_of slots)) q ≡ true → start ≤ q.index → index ≤ q.index
     -- the retired places on the way
     pub gone : List Key
-    pub still : retired_left slots start ≡ gone ++ retired_left slots place
-    pub below : All (λ k. k.index < place) gone
-    pub few_vacant : vacant_at (all_links slots) place ≡ true → reads ≤ reads0 + 2 * length gone
+    pub still : retired_left slots start ≡ gone ++ retired_left slots index
+    pub below : All (λ k. k.index < index) gone
+    pub few_vacant : vacant_at (all_links slots) index ≡ true → reads ≤ reads0 + 2 * length gone
     pub few : reads ≤ reads0 + 2 * length gone + 1
-    pub passed : reads + start ≤ reads0 + place
+    pub passed : reads + start ≤ reads0 + index
     pub begun : reads0 ≤ reads
     pub before : reads0 ≤ start
 
   pub way_begins : CanGoOn slots reads0 start → OnTheWay reads0 start
   way_begins can = grind arith
 
-  module _ {reads place : ℕ} (way : OnTheWay reads place) where
+  module _ {reads index : ℕ} (way : OnTheWay reads index) where
     -- after all places nothing is left
-    pub way_ends : length slots ≤ place → FindsNone slots start
+    pub way_ends : length slots ≤ index → FindsNone slots start
     way_ends past = grind (arith, drop_all, length-places, live_at, slice_get_within)
 
     -- what is left lies ahead
-    pub way_inside : 0 < length (pairs_left slots start) → place < length slots
-    way_inside some = grind (arith, λ (past : length slots ≤ place). ap length (way_ends past).none)
+    way_inside : 0 < length (pairs_left slots start) → index < length slots
+    way_inside some = grind (arith, λ (past : length slots ≤ index). ap length (way_ends past).none)
 
-    pub way_room : place < length slots → reads + 1 < 2 ^ 64
+    way_room : index < length slots → reads + 1 < 2 ^ 64
     way_room inside = omega (arith, inside, way.passed, way.before, slots_fit slots _ _ way.stands.sound)
 
   -- a block that begins at a place is skipped in one step
-  pub record Hops (reads place back : ℕ) : Type 0 where
+  pub record Hops (reads index back : ℕ) : Type 0 where
     pub on : OnTheWay reads (back + 1)
     pub within : back < length slots
-    pub onward : place ≤ back
+    pub onward : index ≤ back
 
   -- a search that has come to this place reads the slot there
-  module _ {reads place : ℕ} {s : Slot V} (way : OnTheWay reads place) (found : slice_get slots place ≡ Some s) where
-    way_hops : is_vacant (links_in s) ≡ true → Hops (reads + 1) place (hop_in place s)
+  module _ {reads index : ℕ} {s : Slot V} (way : OnTheWay reads index) (found : slice_get slots index ≡ Some s) where
+    way_hops : is_vacant (links_in s) ≡ true → Hops (reads + 1) index (hop_in index s)
     way_hops vacant =
         let v = vacant_at (all_links slots) in
-        let free : (v place ≡ true) × (links_at (all_links slots) place ≡ links_in s) = grind (arith, slot_cases slots place, found) in
-        let back = end_at (all_links slots) place in
-        let block : IsBlock v place back = block_here slots place way.stands free.0 in
-        let is_back : hop_in place s ≡ back = hop_to_back place s vacant (rw free.1 at (way.stands.sound.linked.linked.apart place)) (rw free.1 at block.ordered) ∙ ap (end_in place) (sym free.1) in
-        let past = past_block slots place back block in
+        let free : (v index ≡ true) × (links_at (all_links slots) index ≡ links_in s) = grind (arith, slot_cases slots index, found) in
+        let back = end_at (all_links slots) index in
+        let block : IsBlock v index back = block_here slots index way.stands free.0 in
+        let is_back : hop_in index s ≡ back = hop_to_back index s vacant (rw free.1 at (way.stands.sound.linked.linked.apart index)) (rw free.1 at block.ordered) ∙ ap (end_in index) (sym free.1) in
+        let past = past_block slots index back block in
         let few = way.few_vacant free.0 in
         rw is_back (record {
           on = record {
-            stands = stands_on slots place (back + 1) way.stands (λ again. clash v (back + 1) again block.ends);
+            stands = stands_on slots index (back + 1) way.stands (λ again. clash v (back + 1) again block.ends);
             same = way.same ∙ past.0;
             none = λ q there from. (let live = live_at (places_of slots) q there in grind (arith, way.none q there from, block.inside q.index, slot_cases slots q.index));
             gone = way.gone;
             still = way.still ∙ ap (λ ks. way.gone ++ ks) past.1;
-            below = All-weaker (λ k. k.index < place) (λ k. k.index < back + 1) (λ k low. omega (arith, block.ordered)) way.gone way.below;
+            below = All-weaker (λ k. k.index < index) (λ k. k.index < back + 1) (λ k low. omega (arith, block.ordered)) way.gone way.below;
             few_vacant = λ again. clash v (back + 1) again block.ends;
             few = omega (arith, few);
             passed = omega (arith, way.passed, block.ordered);
@@ -149,39 +149,39 @@ module _ {V : Type 0} (slots : List (Slot V)) (reads0 start : ℕ) where
           onward = block.ordered;
         })
 
-    here : (slice_get (places_of slots) place ≡ Some (place_in s)) × HasVersion (place_in s) × ((v : ℕ) → place_in s ≢ Detached v)
-    here = let is = place_at slots place s found in (is, way.stands.sound.stacked.versions place _ is, λ v e. way.stands.sound.none_detached place v (is ∙ ap Some e))
+    here : (slice_get (places_of slots) index ≡ Some (place_in s)) × HasVersion (place_in s) × ((v : ℕ) → place_in s ≢ Detached v)
+    here = let is = place_at slots index s found in (is, way.stands.sound.stacked.versions index _ is, λ v e. way.stands.sound.none_detached index v (is ∙ ap Some e))
 
     -- a retired slot is passed
-    way_passes : (version unused nowhere : ℕ) → s ≡ Retired version unused nowhere → Hops (reads + 1) place place
+    way_passes : (version unused nowhere : ℕ) → s ≡ Retired version unused nowhere → Hops (reads + 1) index index
     way_passes version unused nowhere is =
-        let spent : slice_get (places_of slots) place ≡ Some RetiredPlace = grind (arith, here, is) in
-        let more = length-append way.gone (key place last_version ∷ []) in
+        let spent : slice_get (places_of slots) index ≡ Some RetiredPlace = grind (arith, here, is) in
+        let more = length-append way.gone (key index last_version ∷ []) in
         record {
           on = record {
-            stands = stands_on slots place (place + 1) way.stands (λ _. begins_after (vacant_at (all_links slots)) place (place_not_vacant slots place RetiredPlace spent (λ n e. absurd (cc))));
-            same = way.same ∙ left-on slots pairs_from place RetiredPlace spent;
+            stands = stands_on slots index (index + 1) way.stands (λ _. begins_after (vacant_at (all_links slots)) index (place_not_vacant slots index RetiredPlace spent (λ n e. absurd (cc))));
+            same = way.same ∙ left-on slots pairs_from index RetiredPlace spent;
             none = λ q there from. (let live = live_at (places_of slots) q there in grind (arith, way.none q there from));
-            gone = way.gone ++ key place last_version ∷ [];
-            still = way.still ∙ ap (λ ks. way.gone ++ ks) (left-on slots retired_from place RetiredPlace spent)
-                ∙ sym (append_assoc way.gone (key place last_version ∷ []) (retired_left slots (place + 1)));
+            gone = way.gone ++ key index last_version ∷ [];
+            still = way.still ∙ ap (λ ks. way.gone ++ ks) (left-on slots retired_from index RetiredPlace spent)
+                ∙ sym (append_assoc way.gone (key index last_version ∷ []) (retired_left slots (index + 1)));
             below =
-                All-push (λ k. k.index < place + 1) way.gone (key place last_version)
-                (All-weaker (λ k. k.index < place) (λ k. k.index < place + 1) (λ k low. omega arith) way.gone way.below) (omega arith);
+                All-push (λ k. k.index < index + 1) way.gone (key index last_version)
+                (All-weaker (λ k. k.index < index) (λ k. k.index < index + 1) (λ k low. omega arith) way.gone way.below) (omega arith);
             few_vacant = λ vacant. omega (arith, way.few, more);
             few = omega (arith, way.few, more);
             passed = omega (arith, way.passed);
             begun = omega (arith, way.begun);
             before = way.before;
           };
-          within = omega (arith, slice_get_within slots place s found);
+          within = omega (arith, slice_get_within slots index s found);
           onward = omega arith;
         }
 
-    pub way_on : value_in s ≡ None → Hops (reads + 1) place (hop_in place s)
+    pub way_on : value_in s ≡ None → Hops (reads + 1) index (hop_in index s)
     way_on none = by s refl none
       where
-        by : (t : Slot V) → s ≡ t → value_in t ≡ None → Hops (reads + 1) place (hop_in place s)
+        by : (t : Slot V) → s ≡ t → value_in t ≡ None → Hops (reads + 1) index (hop_in index s)
         by (Occupied version value) is none = absurd (cc)
         by (Single version next prev) is none = way_hops (ap (λ t. is_vacant (links_in t)) is)
         by (Front version next back) is none = way_hops (ap (λ t. is_vacant (links_in t)) is)
@@ -189,27 +189,27 @@ module _ {V : Type 0} (slots : List (Slot V)) (reads0 start : ℕ) where
         by (Retired version unused nowhere) is none = rw is (way_passes version unused nowhere is)
 
     -- a slot with a value is what the search looks for
-    pub way_finds : is_some (value_in s) ≡ true → FindsSlot slots start place s × ReadsOnTheWay slots reads0 start (reads + 1) place
+    pub way_finds : is_some (value_in s) ≡ true → FindsSlot slots start index s × ReadsOnTheWay slots reads0 start (reads + 1) index
     way_finds live =
         let slot : (version : ℕ) × (x : V) × (s ≡ Occupied version x) = occupied s live in
         let version = slot.0 in
         let x = slot.1 in
         let is = slot.2 in
         let live_there = here.0 ∙ ap (λ slot. Some (place_in slot)) is in
-        let gone = way.still ∙ ap (λ ks. way.gone ++ ks) (left-on slots retired_from place (Live version x) live_there) in (
+        let gone = way.still ∙ ap (λ ks. way.gone ++ ks) (left-on slots retired_from index (Live version x) live_there) in (
           record {
             version = version;
             value = x;
             is = is;
-            finds = record { there = live_there; first = way.same ∙ left-on slots pairs_from place (Live version x) live_there; least = way.none };
+            finds = record { there = live_there; first = way.same ∙ left-on slots pairs_from index (Live version x) live_there; least = way.none };
           },
           record {
             gone = way.gone;
             still = gone;
             before = way.below;
-            after = above place (place + 1) (drop (place + 1) (places_of slots)) (omega arith);
+            after = above index (index + 1) (drop (index + 1) (places_of slots)) (omega arith);
             some = omega (arith, way.begun);
-            few = omega (arith, way.few, ap length gone, length-append way.gone (retired_left slots (place + 1)));
+            few = omega (arith, way.few, ap length gone, length-append way.gone (retired_left slots (index + 1)));
             passed = omega (arith, way.passed);
           },
         )
@@ -217,25 +217,25 @@ module _ {V : Type 0} (slots : List (Slot V)) (reads0 start : ℕ) where
   -- a walk from there is now at a place
   pub record IsAt (now : Counted V) : Type 0 where
     pub kept : now.slots ≡ slots
-    pub way : OnTheWay now.reads now.place
+    pub way : OnTheWay now.reads now.index
 
   module _ {now : Counted V} (at : IsAt now) where
-    pub may_read : 0 < length (pairs_left slots start) → (now.place < length now.slots) × (now.reads + 1 < 2 ^ 64)
+    pub may_read : 0 < length (pairs_left slots start) → (now.index < length now.slots) × (now.reads + 1 < 2 ^ 64)
     may_read some = let inside = way_inside at.way some in (rw at.kept inside, way_room at.way inside)
 
     module _ {new : Counted V} {s : Slot V} (read : IsRead now s new) where
       pub finds_here : is_some (value_in s) ≡ true
-          → FindsSlot slots start new.place s × (new.slots ≡ slots) × ReadsOnTheWay slots reads0 start new.reads new.place
+          → FindsSlot slots start new.index s × (new.slots ≡ slots) × ReadsOnTheWay slots reads0 start new.reads new.index
       finds_here live =
           let finds = way_finds at.way (rw at.kept at read.value) live in
-          rw (read.place, read.reads) (finds.0, read.slots ∙ at.kept, finds.1)
+          rw (read.index, read.reads) (finds.0, read.slots ∙ at.kept, finds.1)
 
-      leaves : value_in s ≡ None → Hops new.reads now.place (hop_in now.place s)
+      leaves : value_in s ≡ None → Hops new.reads now.index (hop_in now.index s)
       leaves none = rw read.reads (way_on at.way (rw at.kept at read.value) none)
 
-      pub may_leave : value_in s ≡ None → hop_in new.place s < length new.slots
-      may_leave none = rw (read.place, read.slots, at.kept) (leaves none).within
+      pub may_leave : value_in s ≡ None → hop_in new.index s < length new.slots
+      may_leave none = rw (read.index, read.slots, at.kept) (leaves none).within
 
-      pub left_here : value_in s ≡ None → {next : Counted V} → GoesTo new (hop_in new.place s + 1) next
-          → IsAt next × (length next.slots - next.place < length now.slots - now.place)
+      pub left_here : value_in s ≡ None → {next : Counted V} → GoesTo new (hop_in new.index s + 1) next
+          → IsAt next × (length next.slots - next.index < length now.slots - now.index)
       left_here none {next} goes = grind (arith, leaves)

@@ -31,14 +31,14 @@ module _ {V : Type 0} where
   unfolding retired
   retired-listed ps = (set-retired_from 0 ps, sym (len-retired_from 0 ps))
 
-module _ {V : Type 0} {slots : List (Slot V)} {reads place left : ℕ} (iterates : IsIter slots reads place left) where
-  pub can_go_on : CanGoOn slots reads place
+module _ {V : Type 0} {slots : List (Slot V)} {reads index left : ℕ} (iterates : IsIter slots reads index left) where
+  pub can_go_on : CanGoOn slots reads index
   can_go_on = record { stands = iterates.stands; passed = iterates.passed }
 
-  pub left_none : left ≡ 0 → pairs_left slots place ≡ []
-  left_none none = nil_from_length (pairs_left slots place) (omega (arith, iterates.counted))
+  pub left_none : left ≡ 0 → pairs_left slots index ≡ []
+  left_none none = nil_from_length (pairs_left slots index) (omega (arith, iterates.counted))
 
-  module _ {found version : ℕ} {value : V} {reads' : ℕ} (finds : FindsLive slots place found version value) (way : ReadsOnTheWay slots reads place reads' found) where
+  module _ {found version : ℕ} {value : V} {reads' : ℕ} (finds : FindsLive slots index found version value) (way : ReadsOnTheWay slots reads index reads' found) where
     pub iter_on : IsIter slots reads' (found + 1) (left - 1)
     iter_on = grind (arith, stands_on, begins_after, place_not_vacant)
 

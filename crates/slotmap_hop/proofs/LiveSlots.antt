@@ -15,7 +15,7 @@ use Rattle.slotmap_hop.proofs.SlotLemmas.{key_is, vacant_slot, place_not_vacant,
 -- the slot of a live place
 live_slot : {V : Type 0} (slots : List (Slot V)) (i v : ℕ) (x : V) → slice_get (places_of slots) i ≡ Some (Live v x)
     → (i < length slots) × (slice_get slots i ≡ Some (Occupied v x))
-live_slot slots i v x place = grind (arith, slot_cases slots i)
+live_slot slots i v x index = grind (arith, slot_cases slots i)
 
 module _ {V : Type 0} (slots : List (Slot V)) (vacant elems : ℕ) (sound : IsSound slots vacant elems) where
   pub contains-version : (k : Key) (s : Slot V) → IsKey k → slice_get slots k.index ≡ Some s → (version_in s == k.version) ≡ map.contains_key (live (places_of slots)) k
@@ -30,7 +30,7 @@ pub record Present {V : Type 0} (slots : List (Slot V)) (lives : map.FinMap key_
   pub value : V
   pub found : slice_get slots i ≡ Some (Occupied v value)
   pub within : i < length slots
-  pub place : slice_get (places_of slots) i ≡ Some (Live v value)
+  pub index : slice_get (places_of slots) i ≡ Some (Live v value)
   pub key_is_at : k ≡ key i v
   pub gives : map.get lives k ≡ Some value
 
@@ -51,16 +51,16 @@ module _ {V : Type 0} {slots : List (Slot V)} {lives : map.FinMap key_cmp V} {k 
 
 -- the slot of a live key
 
-module _ {V : Type 0} (slots : List (Slot V)) (vacant elems : ℕ) (sound : IsSound slots vacant elems) (i v : ℕ) (x : V) (place : slice_get (places_of slots) i ≡ Some (Live v x)) where
+module _ {V : Type 0} (slots : List (Slot V)) (vacant elems : ℕ) (sound : IsSound slots vacant elems) (i v : ℕ) (x : V) (index : slice_get (places_of slots) i ≡ Some (Live v x)) where
   pub live_within : i < length slots
-  live_within = (live_slot slots i v x place).0
+  live_within = (live_slot slots i v x index).0
 
   -- its index and version are those of a key
   pub live_key : IsKey (key i v)
-  live_key = let fits = slots_fit slots vacant elems sound in key_is (omega (arith, live_within)) (sound.stacked.versions i (Live v x) place)
+  live_key = let fits = slots_fit slots vacant elems sound in key_is (omega (arith, live_within)) (sound.stacked.versions i (Live v x) index)
 
   pub elems_positive : 1 ≤ elems
-  elems_positive = omega (arith, len-live-set (places_of slots) i (Live v x) Retired place, sound.elems_live)
+  elems_positive = omega (arith, len-live-set (places_of slots) i (Live v x) Retired index, sound.elems_live)
 
   pub vacant_below : vacant + 1 < 2 ^ 32
   vacant_below = grind (arith, total, length-places, elems_positive, slots_fit)
@@ -70,34 +70,34 @@ module _ {V : Type 0} (slots : List (Slot V)) (vacant elems : ℕ) (sound : IsSo
 
   -- the value that was taken out
   pub value_is : (y : V) → value_at slots i ≡ Some y → Some x ≡ Some y
-  value_is y is = sym (ap (option_and_then value_in) (live_slot slots i v x place).1) ∙ is
+  value_is y is = sym (ap (option_and_then value_in) (live_slot slots i v x index).1) ∙ is
 
   -- the slot becomes vacant
   pub sound-freed : (new : List (Slot V)) → HasBlockList (all_links new) → places_of new ≡ set (places_of slots) i (Vacant (v + 1 + 1)) → v ≢ last_version → IsSound new (vacant + 1) (elems - 1)
   sound-freed new list after other =
-      let version = sound.stacked.versions i (Live v x) place in
-      IsSound-set slots vacant elems sound new i (Live v x) (Vacant (v + 1 + 1)) place (λ u e. absurd (cc)) list after (i ∷ sound.stack)
-      (IsStacked-freed (places_of slots) sound.stack sound.stacked i v (v + 1 + 1) x place (omega (arith, version.0, version.1), omega (arith, version.1)) (omega (arith, version.1))) _ _
+      let version = sound.stacked.versions i (Live v x) index in
+      IsSound-set slots vacant elems sound new i (Live v x) (Vacant (v + 1 + 1)) index (λ u e. absurd (cc)) list after (i ∷ sound.stack)
+      (IsStacked-freed (places_of slots) sound.stack sound.stacked i v (v + 1 + 1) x index (omega (arith, version.0, version.1), omega (arith, version.1)) (omega (arith, version.1))) _ _
       (omega (arith, sound.counted))
-      (omega (arith, len-live-set (places_of slots) i (Live v x) (Vacant (v + 1 + 1)) place, sound.elems_live))
+      (omega (arith, len-live-set (places_of slots) i (Live v x) (Vacant (v + 1 + 1)) index, sound.elems_live))
 
   -- the slot is retired
   pub sound-retired : (new : List (Slot V)) → all_links new ≡ all_links slots → places_of new ≡ set (places_of slots) i Retired → IsSound new vacant (elems - 1)
   sound-retired new same after =
-      IsSound-set slots vacant elems sound new i (Live v x) Retired place (λ u e. absurd (cc)) (subst HasBlockList (sym same) sound.linked) after sound.stack
-      (IsStacked-kept (places_of slots) sound.stack sound.stacked i (Live v x) Retired place (λ n e. absurd (cc)) (λ n e. absurd (cc)) tt) _ _ sound.counted
-      (omega (arith, len-live-set (places_of slots) i (Live v x) Retired place, sound.elems_live))
+      IsSound-set slots vacant elems sound new i (Live v x) Retired index (λ u e. absurd (cc)) (subst HasBlockList (sym same) sound.linked) after sound.stack
+      (IsStacked-kept (places_of slots) sound.stack sound.stacked i (Live v x) Retired index (λ n e. absurd (cc)) (λ n e. absurd (cc)) tt) _ _ sound.counted
+      (omega (arith, len-live-set (places_of slots) i (Live v x) Retired index, sound.elems_live))
 
 -- another value is written to a live slot
 module _ {V : Type 0} (slots : List (Slot V)) (vacant elems : ℕ) (sound : IsSound slots vacant elems) (i v : ℕ) (x : V)
-    (place : slice_get (places_of slots) i ≡ Some (Live v x)) (u : ℕ) (same : u ≡ v) (w : V) where
+    (index : slice_get (places_of slots) i ≡ Some (Live v x)) (u : ℕ) (same : u ≡ v) (w : V) where
   abbrev pub rewritten : List (Slot V)
   rewritten = set slots i (Occupied u w)
 
   all_links-rewritten : all_links rewritten ≡ all_links slots
   all_links-rewritten =
       let old : Slot V = Occupied v x in
-      let read = get_or_from_slice_get slots i old old (live_slot slots i v x place).1 in
+      let read = get_or_from_slice_get slots i old old (live_slot slots i v x index).1 in
       map-set_same (λ (s : Slot V). links_in s) slots i _ old (sym (ap links_in read))
 
   places-rewritten : places_of rewritten ≡ set (places_of slots) i (Live v w)
@@ -105,9 +105,9 @@ module _ {V : Type 0} (slots : List (Slot V)) (vacant elems : ℕ) (sound : IsSo
 
   pub sound-rewritten : IsSound rewritten vacant elems
   sound-rewritten =
-      IsSound-set slots vacant elems sound rewritten i (Live v x) (Live v w) place (λ u e. absurd (cc)) (subst HasBlockList (sym all_links-rewritten) sound.linked) places-rewritten sound.stack
-      (IsStacked-kept (places_of slots) sound.stack sound.stacked i (Live v x) (Live v w) place (λ n e. absurd (cc)) (λ n e. absurd (cc)) (sound.stacked.versions i (Live v x) place)) _ _ sound.counted
-      (omega (arith, len-live-set (places_of slots) i (Live v x) (Live v w) place, sound.elems_live))
+      IsSound-set slots vacant elems sound rewritten i (Live v x) (Live v w) index (λ u e. absurd (cc)) (subst HasBlockList (sym all_links-rewritten) sound.linked) places-rewritten sound.stack
+      (IsStacked-kept (places_of slots) sound.stack sound.stacked i (Live v x) (Live v w) index (λ n e. absurd (cc)) (λ n e. absurd (cc)) (sound.stacked.versions i (Live v x) index)) _ _ sound.counted
+      (omega (arith, len-live-set (places_of slots) i (Live v x) (Live v w) index, sound.elems_live))
 
   same_offer : offer_at (set (places_of slots) i (Live v w)) (next_place slots) ≡ offer_at (places_of slots) (next_place slots)
   same_offer =
@@ -117,6 +117,6 @@ module _ {V : Type 0} (slots : List (Slot V)) (vacant elems : ℕ) (sound : IsSo
   pub content-rewritten : (c : ℕ) → hop_content rewritten c ≡ hop_with_value (hop_content slots c) (key i v) w
   content-rewritten c =
       let ordered = in_order slots vacant elems sound in
-      let all = content-written (ordered_map slots vacant elems sound c) ordered.ordered (key i v) x place w in
+      let all = content-written (ordered_map slots vacant elems sound c) ordered.ordered (key i v) x index w in
       let offers = same_offer in
       rw (places-rewritten, all_links-rewritten) (λ j. record { content = record (all j) { offer = offers j; stack = None }; blocks = blocks_of (all_links slots) })

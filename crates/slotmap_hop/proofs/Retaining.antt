@@ -23,7 +23,7 @@ module _ {F K V : Type 0} (g : Mut F (K × (MutBor V × Unit {0})) (Bool × (Mut
   -- the same, where the index of the next key is known
   abbrev pub RetainingAt : HopContent V → Option ℕ → F → Type 0
   RetainingAt now None f' = Retaining now None f'
-  RetainingAt now (Some place) f' = HasKeyAt now.content place × ((k : K) → IsLive now.content (data_of k) → (data_of k).index ≡ place → Retaining now (Some k) f')
+  RetainingAt now (Some index) f' = HasKeyAt now.content index × ((k : K) → IsLive now.content (data_of k) → (data_of k).index ≡ index → Retaining now (Some k) f')
 
   retaining_at : (now : HopContent V) (i : ℕ) (next : Option ℕ) (f' : F) → IsNextPlace now.content i next
       → ((found : Option K) → IsNextLive data_of now.content i found → Retaining now found f') → RetainingAt now next f'
@@ -99,7 +99,7 @@ module _ {F K V : Type 0} (g : Mut F (K × (MutBor V × Unit {0})) (Bool × (Mut
     pub retaining_dropped_at : (new : HopContent V) (next : Option ℕ) → IsNextPlace written.content ((data_of x.key).index + 1) next → x.stays ≡ false → Removes written.content (data_of x.key) new.content
         → new.blocks ≡ blocks_without written (data_of x.key) → StaysHop written new → RetainingAt new next f''
     retaining_dropped_at new None comes stays removes blocks keeps = retaining_dropped new stays removes blocks keeps None comes
-    retaining_dropped_at new (Some place) comes stays removes blocks keeps =
+    retaining_dropped_at new (Some index) comes stays removes blocks keeps =
         let k = data_of x.key in
         let there = comes.0 in
         let other = get-remove_other written.content.live k there.0 (λ same. absurd (omega (arith, comes.1, there.2, ap (λ q. q.index) same))) in (

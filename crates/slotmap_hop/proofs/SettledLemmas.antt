@@ -20,7 +20,7 @@ module _ {K V : Type 0} (m : Inside K V) {now : HopContent V} (view : hop_conten
   held k i v at of is_live = present m.slots.items now.content.live (ap (λ m. m.content.live) view) k i v at of is_live
 
   -- what room means for the vector
-  pub held_room : 0 < now.content.room → (used_places (places_of m.slots.items) < most) × (length m.slots.items < vec_capacity m.slots - 1 + 1 + m.vacant_count)
+  held_room : 0 < now.content.room → (used_places (places_of m.slots.items) < most) × (length m.slots.items < vec_capacity m.slots - 1 + 1 + m.vacant_count)
   held_room room = let same = ap (λ m. m.content.room) view in (omega (arith, taken_slots _ _ _ sound), omega (arith, taken_slots _ _ _ sound))
 
   stays : (new : List (Slot V)) (vacant elems : ℕ) → length new ≡ length m.slots.items → IsSound (with_items m.slots new).items vacant elems
@@ -45,10 +45,10 @@ module _ {K V : Type 0} (m : Inside K V) {now : HopContent V} (view : hop_conten
         let size = same_length m.slots.items new i p after in
         let items = with_items_is m.slots new (size ∙ sym m.slots.ok.0) in
         let sound_after = subst (λ xs. IsSound xs vacant (m.live_count - 1)) (sym items) sound_new in
-        let removes = removes-slots _ _ _ sound new c (key i v) _ found.place (after ∙ ap (set (places_of m.slots.items) i) left) in
+        let removes = removes-slots _ _ _ sound new c (key i v) _ found.index (after ∙ ap (set (places_of m.slots.items) i) left) in
         record {
           sound_after = sound_after;
-          value = found.gives ∙ value_is _ _ _ sound i v found.value found.place x read;
+          value = found.gives ∙ value_is _ _ _ sound i v found.value found.index x read;
           removes = rw (← view, found.key_is_at) (subst (λ xs. Removes (hop_content m.slots.items c).content (key i v) (hop_content xs c).content) (sym items) removes);
           blocks = rw (← view, found.key_is_at) (ap (λ xs. blocks_of (all_links xs)) items ∙ blocks);
           valid = stays new vacant (m.live_count - 1) size sound_after;
@@ -57,12 +57,12 @@ module _ {K V : Type 0} (m : Inside K V) {now : HopContent V} (view : hop_conten
     -- it was the last key of its slot
     pub took_last : v ≡ last_version → all_links new ≡ all_links m.slots.items → places_of new ≡ set (places_of m.slots.items) i Retired → Took k x new m.vacant_count
     took_last last same after =
-        took Retired m.vacant_count after (grind (arith, nat_tests)) (sound-retired _ _ _ sound i v _ found.place new same after) (ap blocks_of same ∙ rw (eq-eqb v last_version last) refl)
+        took Retired m.vacant_count after (grind (arith, nat_tests)) (sound-retired _ _ _ sound i v _ found.index new same after) (ap blocks_of same ∙ rw (eq-eqb v last_version last) refl)
 
     pub took_other : v ≢ last_version → HasBlockList (all_links new) → blocks_of (all_links new) ≡ vacated (vacant_at (all_links m.slots.items)) (blocks_of (all_links m.slots.items)) i
         → places_of new ≡ set (places_of m.slots.items) i (Vacant (v + 1 + 1)) → Took k x new (m.vacant_count + 1)
     took_other other list blocks after =
-        took (Vacant (v + 1 + 1)) (m.vacant_count + 1) after (grind (arith, nat_tests)) (sound-freed _ _ _ sound i v _ found.place new list after other)
+        took (Vacant (v + 1 + 1)) (m.vacant_count + 1) after (grind (arith, nat_tests)) (sound-freed _ _ _ sound i v _ found.index new list after other)
         (blocks ∙ rw (ne_eqb v last_version other) (ap (λ f. vacated f (blocks_of (all_links m.slots.items)) i) (sym (same_counts _ _ _ sound (vec_capacity m.slots - 1)))))
 
   -- the place of the next insert if no slot is vacant: a new one
@@ -83,18 +83,18 @@ module _ {K V : Type 0} (m : Inside K V) {now : HopContent V} (view : hop_conten
       record { none = at; below = held.0; fits = fits; holds = omega (arith, held.1, m.slots.ok.0, taken_slots _ _ _ sound); is_key = key_is fits (omega arith, refl); offers = offers }
 
   -- the place of the next insert, if a slot is vacant, and what calls read there
-  module _ (some : m.vacant_count ≢ 0) {place : ℕ} (is : place ≡ next_place m.slots.items) where
-    pub back_within : place < length m.slots.items
+  module _ (some : m.vacant_count ≢ 0) {index : ℕ} (is : index ≡ next_place m.slots.items) where
+    pub back_within : index < length m.slots.items
     back_within = omega (arith, is, (back_slot _ _ _ sound).within)
 
-    module _ {read : Slot V} (is_read : read ≡ get_or m.slots.items place read) where
+    module _ {read : Slot V} (is_read : read ≡ get_or m.slots.items index read) where
       read_is : read ≡ (back_slot _ _ _ sound).slot
-      read_is = let back = back_slot _ _ _ sound in same_read m.slots.items place read back.slot is_read (rw is back.there)
+      read_is = let back = back_slot _ _ _ sound in same_read m.slots.items index read back.slot is_read (rw is back.there)
 
-      pub back_key : IsKey (key place (version_in read + 1))
+      pub back_key : IsKey (key index (version_in read + 1))
       back_key = rw read_is (key_is (omega (arith, back_within, slots_fit _ _ _ sound)) (back_slot _ _ _ sound).version)
 
-      pub offered_back : now.content.offer ≡ key place (version_in read + 1)
+      pub offered_back : now.content.offer ≡ key index (version_in read + 1)
       offered_back = rw (is, read_is) (ap (λ m. m.content.offer) (sym view) ∙ offer-back _ _ _ sound (some_offered _ _ _ sound some))
 
       -- it was filled, and the vector has these slots now
@@ -104,7 +104,7 @@ module _ {K V : Type 0} (m : Inside K V) {now : HopContent V} (view : hop_conten
         pub valid : StaysHop now (hop_content (with_items m.slots new).items (vec_capacity m.slots - 1))
 
       pub filled : (x : V) (given new : List (Slot V)) → given ≡ m.slots.items → 0 < now.content.room → HasBlockList (all_links new)
-          → places_of new ≡ set (places_of given) place (Live (version_in read + 1) x) → Filled x new
+          → places_of new ≡ set (places_of given) index (Live (version_in read + 1) x) → Filled x new
       filled x given new seen room list places =
           let c = vec_capacity m.slots - 1 in
           let back = back_slot _ _ _ sound in

@@ -18,12 +18,12 @@ look_begins slots vacant elems sound start c may =
     record { stands = record { vacant = vacant; elems = elems; sound = sound; at_front = λ _ left next. grind arith }; passed = omega arith }
 
 -- what a search finds is the next place
-pub place_comes : {V : Type 0} (slots : List (Slot V)) (c start : ℕ) (next : Option ℕ) → IfSome next (λ place. FindsPlace slots start place) → IfNone next (FindsNone slots start)
+pub place_comes : {V : Type 0} (slots : List (Slot V)) (c start : ℕ) (next : Option ℕ) → IfSome next (λ index. FindsPlace slots start index) → IfNone next (FindsNone slots start)
     → IsNextPlace (hop_content slots c).content start next
 place_comes slots c start None found none = none.below
-place_comes slots c start (Some place) found none =
+place_comes slots c start (Some index) found none =
     let finds = found.3 in
-    ((key place found.1, ap is_some (get-live_at (places_of slots) (key place found.1) place _ refl finds.there), refl), found.0, finds.least)
+    ((key index found.1, ap is_some (get-live_at (places_of slots) (key index found.1) index _ refl finds.there), refl), found.0, finds.least)
 
 -- the measure by which a loop over the live keys ends
 abbrev pub indices_left : {K : Type 0} → (K → Key) → Option K → ℕ
@@ -32,7 +32,7 @@ indices_left data_of (Some k) = 2 ^ 32 - (data_of k).index
 
 abbrev pub places_left : Option ℕ → ℕ
 places_left None = 0
-places_left (Some place) = 2 ^ 32 - place
+places_left (Some index) = 2 ^ 32 - index
 
 -- a loop over the live keys that finds the next key before it removes the present one
 module _ {K V : Type 0} (data_of : K → Key) where

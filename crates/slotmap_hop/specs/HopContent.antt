@@ -63,12 +63,12 @@ module _ {V : Type 0} where
 
   -- some live key has this index
   abbrev pub HasKeyAt : Content V → ℕ → Type 0
-  HasKeyAt c place = (k : Key) × IsLive c k × (k.index ≡ place)
+  HasKeyAt c index = (k : Key) × IsLive c k × (k.index ≡ index)
 
   -- the smallest index of a live key from i on, or none if no live key has such an index
   abbrev pub IsNextPlace : Content V → ℕ → Option ℕ → Type 0
   IsNextPlace c i None = (q : Key) → IsLive c q → q.index < i
-  IsNextPlace c i (Some place) = HasKeyAt c place × (i ≤ place) × ((q : Key) → IsLive c q → i ≤ q.index → place ≤ q.index)
+  IsNextPlace c i (Some index) = HasKeyAt c index × (i ≤ index) × ((q : Key) → IsLive c q → i ≤ q.index → index ≤ q.index)
 
   -- an iterator may be at this place: at place 0, or directly after a place that isn't vacant
   abbrev pub MayStand : Content V → ℕ → Type 0

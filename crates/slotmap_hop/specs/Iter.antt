@@ -29,20 +29,20 @@ pub record StartsIter {V : Type 0} (m : HopContent V) (it : HopIter (Key × V)) 
 -- a place among slots, and how often one of them was read
 pub record Counted (V : Type 0) : Type 0 where
   pub slots : List (Slot V)
-  pub place : ℕ
+  pub index : ℕ
   pub reads : ℕ
 
 -- the slot at a place is read
 pub record IsRead {V : Type 0} (old : Counted V) (slot : Slot V) (new : Counted V) : Type 0 where
-  pub value : slice_get old.slots old.place ≡ Some slot
+  pub value : slice_get old.slots old.index ≡ Some slot
   pub slots : new.slots ≡ old.slots
-  pub place : new.place ≡ old.place
+  pub index : new.index ≡ old.index
   pub reads : new.reads ≡ old.reads + 1
 
 -- another place follows
 pub record GoesTo {V : Type 0} (old : Counted V) (to : ℕ) (new : Counted V) : Type 0 where
   pub slots : new.slots ≡ old.slots
-  pub place : new.place ≡ to
+  pub index : new.index ≡ to
   pub reads : new.reads ≡ old.reads
 
 -- a step that yields the item of this index reads one or two slots, and at most two more for each retired place that it passes
@@ -75,44 +75,44 @@ module _ {V : Type 0} where
   retired_left slots i = gather [] (λ ks e. e.0 ∷ ks) retired_entry i (drop i (places_of slots))
 
   -- the slots are sound; the place is in use, at the front of a block, or after the last one
-  pub record StandsAt (slots : List (Slot V)) (place : ℕ) : Type 0 where
+  pub record StandsAt (slots : List (Slot V)) (index : ℕ) : Type 0 where
     pub vacant : ℕ
     pub elems : ℕ
     pub sound : IsSound slots vacant elems
-    pub at_front : vacant_at (all_links slots) place ≡ true → Begins (vacant_at (all_links slots)) place
+    pub at_front : vacant_at (all_links slots) index ≡ true → Begins (vacant_at (all_links slots)) index
 
   -- a well formed iterator at this place: it has read no more slots than it has passed
-  pub record IsIter (slots : List (Slot V)) (reads place left : ℕ) : Type 0 where
-    pub stands : StandsAt slots place
-    pub counted : left ≡ length (pairs_left slots place)
-    pub passed : reads ≤ place
+  pub record IsIter (slots : List (Slot V)) (reads index left : ℕ) : Type 0 where
+    pub stands : StandsAt slots index
+    pub counted : left ≡ length (pairs_left slots index)
+    pub passed : reads ≤ index
 
   -- the search for the next live slot may go on from this place
-  pub record CanGoOn (slots : List (Slot V)) (reads place : ℕ) : Type 0 where
-    pub stands : StandsAt slots place
-    pub passed : reads ≤ place
+  pub record CanGoOn (slots : List (Slot V)) (reads index : ℕ) : Type 0 where
+    pub stands : StandsAt slots index
+    pub passed : reads ≤ index
 
   -- there is no live slot from this place on
-  pub record FindsNone (slots : List (Slot V)) (place : ℕ) : Type 0 where
-    pub none : pairs_left slots place ≡ []
-    pub below : (k : Key) → map.contains_key (live (places_of slots)) k ≡ true → k.index < place
+  pub record FindsNone (slots : List (Slot V)) (index : ℕ) : Type 0 where
+    pub none : pairs_left slots index ≡ []
+    pub below : (k : Key) → map.contains_key (live (places_of slots)) k ≡ true → k.index < index
 
-  -- the first live slot from `place` on is `found`, with this version and value
-  pub record FindsLive (slots : List (Slot V)) (place found version : ℕ) (value : V) : Type 0 where
+  -- the first live slot from `index` on is `found`, with this version and value
+  pub record FindsLive (slots : List (Slot V)) (index found version : ℕ) (value : V) : Type 0 where
     pub there : slice_get (places_of slots) found ≡ Some (Live version value)
-    pub first : pairs_left slots place ≡ (record { index = found; version = version }, value) ∷ pairs_left slots (found + 1)
-    pub least : (k : Key) → map.contains_key (live (places_of slots)) k ≡ true → place ≤ k.index → found ≤ k.index
+    pub first : pairs_left slots index ≡ (record { index = found; version = version }, value) ∷ pairs_left slots (found + 1)
+    pub least : (k : Key) → map.contains_key (live (places_of slots)) k ≡ true → index ≤ k.index → found ≤ k.index
 
-  -- the first live slot from `place` on is `found`; it is this slot
-  pub record FindsSlot (slots : List (Slot V)) (place found : ℕ) (slot : Slot V) : Type 0 where
+  -- the first live slot from `index` on is `found`; it is this slot
+  pub record FindsSlot (slots : List (Slot V)) (index found : ℕ) (slot : Slot V) : Type 0 where
     pub version : ℕ
     pub value : V
     pub is : slot ≡ Occupied version value
-    pub finds : FindsLive slots place found version value
+    pub finds : FindsLive slots index found version value
 
-  -- the first live slot from `place` on is `found`
+  -- the first live slot from `index` on is `found`
   abbrev pub FindsPlace : List (Slot V) → ℕ → ℕ → Type 0
-  FindsPlace slots place found = (place ≤ found) × (version : ℕ) × (value : V) × FindsLive slots place found version value
+  FindsPlace slots index found = (index ≤ found) × (version : ℕ) × (value : V) × FindsLive slots index found version value
 
   -- a step to the next live key, whose slot is this one
   pub record StepsOn (old new : HopIter (Key × V)) (key : Key) (slot : Slot V) : Type 0 where
@@ -123,12 +123,12 @@ module _ {V : Type 0} where
     pub reads : ReadsFew key.index old new
 
   -- the number of reads on the way from one place to the live slot that was found
-  pub record ReadsOnTheWay (slots : List (Slot V)) (reads place reads' found : ℕ) : Type 0 where
+  pub record ReadsOnTheWay (slots : List (Slot V)) (reads index reads' found : ℕ) : Type 0 where
     -- the retired places on the way
     pub gone : List Key
-    pub still : retired_left slots place ≡ gone ++ retired_left slots (found + 1)
+    pub still : retired_left slots index ≡ gone ++ retired_left slots (found + 1)
     pub before : All (λ k. k.index < found) gone
     pub after : All (λ k. found < k.index) (retired_left slots (found + 1))
     pub some : reads + 1 ≤ reads'
-    pub few : reads' + 2 * length (retired_left slots (found + 1)) ≤ reads + 2 * length (retired_left slots place) + 2
-    pub passed : reads' + place ≤ reads + found + 1
+    pub few : reads' + 2 * length (retired_left slots (found + 1)) ≤ reads + 2 * length (retired_left slots index) + 2
+    pub passed : reads' + index ≤ reads + found + 1

@@ -163,7 +163,7 @@ impl<K: Key, V: Drop> HopSlotMap<K, V> {
         ensures valid { StaysHop self.old self.new }
     {
         match self.get_mut(key) {
-            Some(place) => Ok(mem::replace(place, value)),
+            Some(stored) => Ok(mem::replace(stored, value)),
             None => Err(value),
         }
     }

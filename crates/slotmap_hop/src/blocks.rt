@@ -36,16 +36,16 @@ fn relink<V>(slots: &mut [Slot<V>], before: u32, after: u32, to: u32, from: u32)
 
 // Neither neighbour is vacant: a new block, at the end of the list.
 #[inline(always)]
-fn start_block<V>(slots: &mut [Slot<V>], place: u32) -> Links
-    requires can { CanVacate (all_links slots.old) place }
-    requires left { vacant_at (all_links slots.old) (place - 1) ≡ false }
-    requires right { vacant_at (all_links slots.old) (place + 1) ≡ false }
-    ensures blocks { HasBlocks (slice_set (all_links slots.new) place (Some result)) (vacated_alone (blocks_of (all_links slots.old)) place) }
+fn start_block<V>(slots: &mut [Slot<V>], index: u32) -> Links
+    requires can { CanVacate (all_links slots.old) index }
+    requires left { vacant_at (all_links slots.old) (index - 1) ≡ false }
+    requires right { vacant_at (all_links slots.old) (index + 1) ≡ false }
+    ensures blocks { HasBlocks (slice_set (all_links slots.new) index (Some result)) (vacated_alone (blocks_of (all_links slots.old)) index) }
     ensures places { places_of slots.new ≡ places_of slots.old }
 {
     let back = back_of(slots, 0);
     let last = prev_of(slots, back);
-    relink(slots, last, 0, place, place);
+    relink(slots, last, 0, index, index);
     Links::Single {
         next: 0,
         prev: last,
@@ -54,54 +54,54 @@ fn start_block<V>(slots: &mut [Slot<V>], place: u32) -> Links
 
 // Only the left neighbour is vacant: its block grows to the right.
 #[inline(always)]
-fn grow_right<V: Drop>(slots: &mut [Slot<V>], place: u32) -> Links
-    requires can { CanVacate (all_links slots.old) place }
-    requires left { vacant_at (all_links slots.old) (place - 1) ≡ true }
-    requires right { vacant_at (all_links slots.old) (place + 1) ≡ false }
-    ensures blocks { HasBlocks (slice_set (all_links slots.new) place (Some result)) (vacated_after (blocks_of (all_links slots.old)) place) }
+fn grow_right<V: Drop>(slots: &mut [Slot<V>], index: u32) -> Links
+    requires can { CanVacate (all_links slots.old) index }
+    requires left { vacant_at (all_links slots.old) (index - 1) ≡ true }
+    requires right { vacant_at (all_links slots.old) (index + 1) ≡ false }
+    ensures blocks { HasBlocks (slice_set (all_links slots.new) index (Some result)) (vacated_after (blocks_of (all_links slots.old)) index) }
     ensures places { places_of slots.new ≡ places_of slots.old }
 {
-    let front = front_of(slots, place - 1);
-    let prev = prev_of(slots, place - 1);
-    name_back(slots, front, place);
+    let front = front_of(slots, index - 1);
+    let prev = prev_of(slots, index - 1);
+    name_back(slots, front, index);
     Links::Back { front, prev }
 }
 
 // Only the right neighbour is vacant: its block grows to the left, and keeps its position in the list.
 #[inline(always)]
-fn grow_left<V: Drop>(slots: &mut [Slot<V>], place: u32) -> Links
-    requires can { CanVacate (all_links slots.old) place }
-    requires left { vacant_at (all_links slots.old) (place - 1) ≡ false }
-    requires right { vacant_at (all_links slots.old) (place + 1) ≡ true }
-    ensures blocks { HasBlocks (slice_set (all_links slots.new) place (Some result)) (vacated_before (blocks_of (all_links slots.old)) place) }
+fn grow_left<V: Drop>(slots: &mut [Slot<V>], index: u32) -> Links
+    requires can { CanVacate (all_links slots.old) index }
+    requires left { vacant_at (all_links slots.old) (index - 1) ≡ false }
+    requires right { vacant_at (all_links slots.old) (index + 1) ≡ true }
+    ensures blocks { HasBlocks (slice_set (all_links slots.new) index (Some result)) (vacated_before (blocks_of (all_links slots.old)) index) }
     ensures places { places_of slots.new ≡ places_of slots.old }
 {
-    let next = next_of(slots, place + 1);
-    let back = back_of(slots, place + 1);
+    let next = next_of(slots, index + 1);
+    let back = back_of(slots, index + 1);
     let prev = prev_of(slots, back);
-    relink(slots, prev, next, place, place);
-    name_front(slots, back, place, prev);
+    relink(slots, prev, next, index, index);
+    name_front(slots, back, index, prev);
     Links::Front { next, back }
 }
 
 // Both neighbours are vacant: the block to the right leaves the list, and the one to the left gets its
 // slots.
 #[inline(always)]
-fn merge<V: Drop>(slots: &mut [Slot<V>], place: u32) -> Links
-    requires can { CanVacate (all_links slots.old) place }
-    requires left { vacant_at (all_links slots.old) (place - 1) ≡ true }
-    requires right { vacant_at (all_links slots.old) (place + 1) ≡ true }
-    ensures blocks { HasBlocks (slice_set (all_links slots.new) place (Some result)) (vacated_between (blocks_of (all_links slots.old)) place) }
+fn merge<V: Drop>(slots: &mut [Slot<V>], index: u32) -> Links
+    requires can { CanVacate (all_links slots.old) index }
+    requires left { vacant_at (all_links slots.old) (index - 1) ≡ true }
+    requires right { vacant_at (all_links slots.old) (index + 1) ≡ true }
+    ensures blocks { HasBlocks (slice_set (all_links slots.new) index (Some result)) (vacated_between (blocks_of (all_links slots.old)) index) }
     ensures places { places_of slots.new ≡ places_of slots.old }
 {
-    let after = next_of(slots, place + 1);
-    let back = back_of(slots, place + 1);
+    let after = next_of(slots, index + 1);
+    let back = back_of(slots, index + 1);
     let before = prev_of(slots, back);
     relink(slots, before, after, after, before);
 
     // The front and the link are read only now, since the two blocks may be neighbours in the list too.
-    let front = front_of(slots, place - 1);
-    let prev = prev_of(slots, place - 1);
+    let front = front_of(slots, index - 1);
+    let prev = prev_of(slots, index - 1);
     name_back(slots, front, back);
     name_front(slots, back, front, prev);
     Links::Single { next: 0, prev: 0 }
@@ -109,48 +109,48 @@ fn merge<V: Drop>(slots: &mut [Slot<V>], place: u32) -> Links
 
 // Gives a slot this version and these links, and returns what it was.
 #[inline(always)]
-fn give<V: Drop>(slots: &mut [Slot<V>], place: u32, version: u32, links: Links) -> Slot<V>
-    requires { place < length slots.old }
-    ensures { Gives slots.old slots.new place version links result }
+fn give<V: Drop>(slots: &mut [Slot<V>], index: u32, version: u32, links: Links) -> Slot<V>
+    requires { index < length slots.old }
+    ensures { Gives slots.old slots.new index version links result }
 {
-    mem::replace(&mut slots[place as usize], linked_slot(version, links))
+    mem::replace(&mut slots[index as usize], linked_slot(version, links))
 }
 
 // Gives a slot that isn't vacant this version. It joins the blocks. Returns what it was. Each case has
 // a write of its own, since it knows the kind of the links.
 #[inline(always)]
-fn vacate<V: Drop>(slots: &mut [Slot<V>], place: u32, version: u32) -> Slot<V>
-    requires can { CanVacate (all_links slots.old) place }
-    ensures { Vacates slots.old slots.new place version result }
+fn vacate<V: Drop>(slots: &mut [Slot<V>], index: u32, version: u32) -> Slot<V>
+    requires can { CanVacate (all_links slots.old) index }
+    ensures { Vacates slots.old slots.new index version result }
 {
     // An index of 64 bits serves for the slot and for its neighbours.
-    let index = place as usize;
-    let left = is_vacant(slots, index - 1);
-    if is_vacant_after(slots, index) {
+    let at = index as usize;
+    let left = is_vacant(slots, at - 1);
+    if is_vacant_after(slots, at) {
         if left {
-            let links = merge(slots, place);
-            return give(slots, place, version, links);
+            let links = merge(slots, index);
+            return give(slots, index, version, links);
         }
-        let links = grow_left(slots, place);
-        return give(slots, place, version, links);
+        let links = grow_left(slots, index);
+        return give(slots, index, version, links);
     }
     if left {
-        let links = grow_right(slots, place);
-        return give(slots, place, version, links);
+        let links = grow_right(slots, index);
+        return give(slots, index, version, links);
     }
-    let links = start_block(slots, place);
-    give(slots, place, version, links)
+    let links = start_block(slots, index);
+    give(slots, index, version, links)
 }
 
 // Takes the value out of a live slot, and gives the slot this version. The slot joins the blocks.
 #[inline(always)]
-pub(crate) fn free_slot<V: Drop>(slots: &mut [Slot<V>], place: u32, version: u32) -> V
-    requires can { CanFree slots.old place }
-    ensures blocks { HasBlocks (all_links slots.new) (vacated (vacant_at (all_links slots.old)) (blocks_of (all_links slots.old)) place) }
-    ensures value { value_at slots.old place ≡ Some result }
-    ensures places { places_of slots.new ≡ slice_set (places_of slots.old) place (VacantPlace (version + 1)) }
+pub(crate) fn free_slot<V: Drop>(slots: &mut [Slot<V>], index: u32, version: u32) -> V
+    requires can { CanFree slots.old index }
+    ensures blocks { HasBlocks (all_links slots.new) (vacated (vacant_at (all_links slots.old)) (blocks_of (all_links slots.old)) index) }
+    ensures value { value_at slots.old index ≡ Some result }
+    ensures places { places_of slots.new ≡ slice_set (places_of slots.old) index (VacantPlace (version + 1)) }
 {
-    match vacate(slots, place, version) {
+    match vacate(slots, index, version) {
         Slot::Occupied(_, value) => value,
         _ => {
             rule_out(true);
@@ -161,23 +161,23 @@ pub(crate) fn free_slot<V: Drop>(slots: &mut [Slot<V>], place: u32, version: u32
 
 // Gives this version to a slot without a value, which joins the blocks. A map is built from a list
 // by these steps.
-pub(crate) fn open_slot<V: Drop>(slots: &mut [Slot<V>], place: u32, version: u32)
-    requires can { CanVacate (all_links slots.old) place }
-    ensures blocks { HasBlocks (all_links slots.new) (vacated (vacant_at (all_links slots.old)) (blocks_of (all_links slots.old)) place) }
-    ensures places { places_of slots.new ≡ slice_set (places_of slots.old) place (VacantPlace (version + 1)) }
+pub(crate) fn open_slot<V: Drop>(slots: &mut [Slot<V>], index: u32, version: u32)
+    requires can { CanVacate (all_links slots.old) index }
+    ensures blocks { HasBlocks (all_links slots.new) (vacated (vacant_at (all_links slots.old)) (blocks_of (all_links slots.old)) index) }
+    ensures places { places_of slots.new ≡ slice_set (places_of slots.old) index (VacantPlace (version + 1)) }
 {
-    vacate(slots, place, version);
+    vacate(slots, index, version);
 }
 
 // Takes the value out of a live slot and retires the slot. It joins no block.
-pub(crate) fn retire<V>(slots: &mut [Slot<V>], place: u32) -> V
-    requires inside { place < length slots.old }
-    requires live { IsSome (value_at slots.old place) }
+pub(crate) fn retire<V>(slots: &mut [Slot<V>], index: u32) -> V
+    requires inside { index < length slots.old }
+    requires live { IsSome (value_at slots.old index) }
     ensures all_links { all_links slots.new ≡ all_links slots.old }
-    ensures value { value_at slots.old place ≡ Some result }
-    ensures places { places_of slots.new ≡ slice_set (places_of slots.old) place RetiredPlace }
+    ensures value { value_at slots.old index ≡ Some result }
+    ensures places { places_of slots.new ≡ slice_set (places_of slots.old) index RetiredPlace }
 {
-    match mem::replace(&mut slots[place as usize], retired_slot(0)) {
+    match mem::replace(&mut slots[index as usize], retired_slot(0)) {
         Slot::Occupied(_, value) => value,
         _ => {
             rule_out(true);
@@ -187,12 +187,12 @@ pub(crate) fn retire<V>(slots: &mut [Slot<V>], place: u32) -> V
 }
 
 // Puts a value into a slot, under this version.
-fn put<V: Drop>(slots: &mut [Slot<V>], place: u32, version: u32, value: V)
-    requires inside { place < length slots.old }
-    ensures all_links { all_links slots.new ≡ slice_set (all_links slots.old) place None }
-    ensures places { places_of slots.new ≡ slice_set (places_of slots.old) place (LivePlace version value) }
+fn put<V: Drop>(slots: &mut [Slot<V>], index: u32, version: u32, value: V)
+    requires inside { index < length slots.old }
+    ensures all_links { all_links slots.new ≡ slice_set (all_links slots.old) index None }
+    ensures places { places_of slots.new ≡ slice_set (places_of slots.old) index (LivePlace version value) }
 {
-    slots[place as usize] = Slot::Occupied(version, value);
+    slots[index as usize] = Slot::Occupied(version, value);
 }
 
 // Takes the back from the first block, whose front and back these are: as soon as that slot isn't

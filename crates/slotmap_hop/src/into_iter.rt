@@ -32,7 +32,7 @@ pub struct IntoIter<K, V> {
     // A slot whose value was yielded counts as retired.
     slots: Vec<Slot<V>>,
     // The slot to read next: a live or retired one, the first one of a block, or the end.
-    place: usize,
+    index: usize,
     // How many values are still to come.
     left: usize,
     keys: PhantomData<K>,
@@ -44,9 +44,9 @@ impl<K, V> Model for IntoIter<K, V> {
 
     ghost Value = { List (Key × V) };
 
-    ghost view = { λ it. pairs_left it.slots.items it.place };
+    ghost view = { λ it. pairs_left it.slots.items it.index };
 
-    ghost invariant = { λ it. IsIter it.slots.items 0 it.place it.left };
+    ghost invariant = { λ it. IsIter it.slots.items 0 it.index it.left };
 }
 
 impl<K, V> IntoIter<K, V> {
@@ -85,7 +85,7 @@ impl<K, V: Clone> IntoIter<K, V> {
     {
         Ok(IntoIter {
             slots: clone_slots(&self.slots)?,
-            place: self.place,
+            index: self.index,
             left: self.left,
             keys: PhantomData,
         })
@@ -112,13 +112,13 @@ impl<K: Key, V: Drop> Iterator for IntoIter<K, V> {
         if self.left == 0 {
             return None;
         }
-        let mut counted = CountedSlots::new(self.slots.as_slice(), self.place);
-        let (place, slot) = next_live(&mut counted);
+        let mut counted = CountedSlots::new(self.slots.as_slice(), self.index);
+        let (index, slot) = next_live(&mut counted);
         let version = slot.version();
         self.left -= 1;
-        self.place = place + 1;
-        let key = K::from(KeyData::exact(place as u32, version));
-        let value = retire(self.slots.as_mut_slice(), place as u32);
+        self.index = index + 1;
+        let key = K::from(KeyData::exact(index as u32, version));
+        let value = retire(self.slots.as_mut_slice(), index as u32);
         Some((key, value))
     }
 
@@ -162,7 +162,7 @@ impl<K: Key, V: Drop> IntoIterator for HopSlotMap<K, V> {
         let back = back_of(slots.as_slice(), 0);
         IntoIter {
             slots,
-            place: back as usize + 1,
+            index: back as usize + 1,
             left: live_count as usize,
             keys: PhantomData,
         }

@@ -40,36 +40,36 @@ impl<'a, K, V> Model for Iter<'a, K, V> {
 
     ghost Value = { HopIter (Key × V) };
 
-    ghost view = { λ it. record { rest = pairs_left it.counted.slots it.counted.place; retired = retired_left it.counted.slots it.counted.place; reads = it.counted.reads } };
+    ghost view = { λ it. record { rest = pairs_left it.counted.slots it.counted.index; retired = retired_left it.counted.slots it.counted.index; reads = it.counted.reads } };
 
-    ghost invariant = { λ it. IsIter it.counted.slots it.counted.reads it.counted.place it.left };
+    ghost invariant = { λ it. IsIter it.counted.slots it.counted.reads it.counted.index it.left };
 }
 
 // The next live slot from the place on, which is then the place. All iterators find their slots here.
 // Since there is one, no place is compared with the end. Unless a slot is retired, there are two tests
 // and no loop: so a loop over the items has none within.
 pub(crate) fn next_live<'a, V>(counted: &mut CountedSlots<'a, V>) -> (usize, &'a Slot<V>)
-    requires can { CanGoOn counted.old.slots counted.old.reads counted.old.place }
-    requires some { 0 < length (pairs_left counted.old.slots counted.old.place) }
-    ensures found { FindsSlot counted.old.slots counted.old.place result.0 result.1.now }
+    requires can { CanGoOn counted.old.slots counted.old.reads counted.old.index }
+    requires some { 0 < length (pairs_left counted.old.slots counted.old.index) }
+    ensures found { FindsSlot counted.old.slots counted.old.index result.0 result.1.now }
     ensures slots { counted.new.slots ≡ counted.old.slots }
-    ensures place { counted.new.place ≡ result.0 }
-    ensures reads { ReadsOnTheWay counted.old.slots counted.old.reads counted.old.place counted.new.reads result.0 }
+    ensures index { counted.new.index ≡ result.0 }
+    ensures reads { ReadsOnTheWay counted.old.slots counted.old.reads counted.old.index counted.new.reads result.0 }
 {
     let first = counted.read();
     if first.is_live() {
-        return (counted.place(), first);
+        return (counted.index(), first);
     }
     counted.hop(first);
     let second = counted.read();
     if second.is_live() {
-        return (counted.place(), second);
+        return (counted.index(), second);
     }
     counted.hop(second);
     loop {
         let slot = counted.read();
         if slot.is_live() {
-            return (counted.place(), slot);
+            return (counted.index(), slot);
         }
         counted.hop(slot);
     }
@@ -144,10 +144,10 @@ impl<'a, K: Key, V> Iter<'a, K, V> {
         if self.left == 0 {
             return None;
         }
-        let (place, slot) = next_live(&mut self.counted);
+        let (index, slot) = next_live(&mut self.counted);
         self.counted.pass();
         self.left -= 1;
-        let key = K::from(KeyData::exact(place as u32, slot.version()));
+        let key = K::from(KeyData::exact(index as u32, slot.version()));
         Some((key, slot))
     }
 }

@@ -16,17 +16,17 @@ use slotmap_core::keys::{Key, KeyData};
 // The first live slot from this one on. The loops over a map that changes find their slots here.
 fn find_live<V>(slots: &[Slot<V>], start: u32) -> Option<u32>
     requires { CanGoOn slots.now 0 start }
-    ensures found { IfSome result (λ place. FindsPlace slots.now start place) }
+    ensures found { IfSome result (λ index. FindsPlace slots.now start index) }
     ensures none { IfNone result (FindsNone slots.now start) }
 {
-    let mut place = start as usize;
-    while place < slots.len() {
-        let slot = &slots[place];
+    let mut index = start as usize;
+    while index < slots.len() {
+        let slot = &slots[index];
         if slot.is_live() {
-            return Some(place as u32);
+            return Some(index as u32);
         }
         // A vacant slot is the front of a block here.
-        place = slot.hop(place) + 1;
+        index = slot.hop(index) + 1;
     }
     None
 }
@@ -43,12 +43,12 @@ impl<K: Key, V: Drop> HopSlotMap<K, V> {
     }
 
     // Returns the live key of this index.
-    pub(crate) fn key_at(&self, place: u32) -> K
-        requires { HasKeyAt self.now.content place }
+    pub(crate) fn key_at(&self, index: u32) -> K
+        requires { HasKeyAt self.now.content index }
         ensures live { IsLive self.now.content (K.data_of result) }
-        ensures index { (K.data_of result).index ≡ place }
+        ensures index { (K.data_of result).index ≡ index }
     {
-        K::from(KeyData::exact(place, self.slots[place as usize].version()))
+        K::from(KeyData::exact(index, self.slots[index as usize].version()))
     }
 
     // Returns the live key with the smallest index from this one on.
@@ -57,8 +57,8 @@ impl<K: Key, V: Drop> HopSlotMap<K, V> {
         ensures comes { IsNextLive K.data_of self.now.content start result }
         ensures valid { IsHopContent self.now }
     {
-        let place = self.first_place(start)?;
-        Some(self.key_at(place))
+        let index = self.first_place(start)?;
+        Some(self.key_at(index))
     }
 
     // Returns the live key after this one, which is the first one. There are others, so its search
@@ -73,8 +73,8 @@ impl<K: Key, V: Drop> HopSlotMap<K, V> {
         self.note_valid();
         let start = key.data().idx() as usize + 1;
         let mut counted = CountedSlots::new(self.slots.as_slice(), start);
-        let (place, slot) = next_live(&mut counted);
-        K::from(KeyData::exact(place as u32, slot.version()))
+        let (index, slot) = next_live(&mut counted);
+        K::from(KeyData::exact(index as u32, slot.version()))
     }
 
     /// Calls a closure once for each live key, and removes the keys for which it returns `false`.
@@ -100,12 +100,12 @@ impl<K: Key, V: Drop> HopSlotMap<K, V> {
         ensures valid { StaysHop self.old self.new }
     {
         let mut next = self.first_place(0);
-        while let Some(place) = next {
-            let key = self.key_at(place);
+        while let Some(index) = next {
+            let key = self.key_at(index);
             let stays = f(key, self.get_unchecked_mut(key));
             // The slot after this one is looked for first, because a removal may join blocks. From
             // the key its index would wait for the version, which a key is packed with.
-            next = self.first_place(place + 1);
+            next = self.first_place(index + 1);
             if !stays {
                 self.take_live(key);
             }

@@ -70,10 +70,10 @@ pub vacancies-push : {P : Type 0} (slots : List (Slot P)) (s : Slot P) (free asi
 vacancies-push slots s free aside count all = omega (arith, length_push slots s)
 
 -- one slot is written
-pub vacancies-set : {P : Type 0} (slots : List (Slot P)) (i : ℕ) (s : Slot P) (free aside count : ℕ) → count + aside + free + 1 ≡ length slots → vacancies (set slots i s) aside count ≡ free
+vacancies-set : {P : Type 0} (slots : List (Slot P)) (i : ℕ) (s : Slot P) (free aside count : ℕ) → count + aside + free + 1 ≡ length slots → vacancies (set slots i s) aside count ≡ free
 vacancies-set slots i s free aside count all = omega (arith, length-set slots i s)
 
-pub settled-set : {P : Type 0} (slots : List (Slot P)) (fits head aside count : ℕ) → IsSettled slots fits head aside count
+settled-set : {P : Type 0} (slots : List (Slot P)) (fits head aside count : ℕ) → IsSettled slots fits head aside count
     → (i : ℕ) (s : Slot P) {head2 free2 count2 : ℕ} → IsSound (set slots i s) head2 free2 count2
     → (aside2 : ℕ) → count2 + aside2 + free2 + 1 ≡ length slots → IsSettled (set slots i s) fits head2 aside2 count2
 settled-set slots fits head aside count settled i s {head2} {free2} {count2} sound aside2 all = grind (arith, vacancies-set, length-set)

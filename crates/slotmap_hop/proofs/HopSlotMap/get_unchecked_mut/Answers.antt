@@ -16,7 +16,7 @@ rule_out-requires g c = let found = found g (goal.at.rule_out-requires g c).Afte
 pub invariant_of-self-lent : goal.invariant_of-self-lent
 invariant_of-self-lent g c w =
     let found = found g (goal.at.invariant_of-self-lent g c).After-self in
-    rw c.in-Occupied.is (sound-rewritten _ _ _ c.self.invariant _ _ _ found.place _ (version_read found _ c.index_mut.ensures.value _ _ c.in-Occupied.is) w)
+    rw c.in-Occupied.is (sound-rewritten _ _ _ c.self.invariant _ _ _ found.index _ (version_read found _ c.index_mut.ensures.value _ _ c.in-Occupied.is) w)
 
 pub returns : goal.returns
 returns g c =
@@ -24,6 +24,6 @@ returns g c =
     let version = version_read found _ c.index_mut.ensures.value _ _ c.in-Occupied.is in
     let value = read_gives found _ c.index_mut.ensures.value _ _ c.in-Occupied.is in
     rw c.in-Occupied.is ((
-      (refl, λ w. rw (← c.self.view_is, found.key_is_at) (content-rewritten _ _ _ c.self.invariant _ _ _ found.place _ version w _)),
+      (refl, λ w. rw (← c.self.view_is, found.key_is_at) (content-rewritten _ _ _ c.self.invariant _ _ _ found.index _ version w _)),
       record { writes_back = tt; valid = well_formed c.self.inside c.self.view_is c.self.invariant; value = value },
     ))

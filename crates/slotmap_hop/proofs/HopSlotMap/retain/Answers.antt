@@ -6,7 +6,7 @@ use Rattle.slotmap_hop.proofs.HopSlotMap.retain.Goals as goal
 pub loop-next-init : goal.loop-next-init
 loop-next-init g c = retaining_starts_at g.F.FnMut g.K.Key.data_of c.args.self.now c.args.f _ c.first_place-next.ensures.valid c.first_place-next.ensures.comes
 
-at_place : (g : _) (c : In-Some g) → RetainingAt g.F.FnMut g.K.Key.data_of c.args.self.now c.args.f c.loop-next.self (Some c.in-Some.place) c.loop-next.f
+at_place : (g : _) (c : In-Some g) → RetainingAt g.F.FnMut g.K.Key.data_of c.args.self.now c.args.f c.loop-next.self (Some c.in-Some.index) c.loop-next.f
 at_place g c = rw c.in-Some.is at c.loop-next.invariant
 
 pub key_at-key-requires : goal.key_at-key-requires
@@ -52,8 +52,8 @@ returns-clause-valid g c =
     let sweep = (ended g (goal.at.returns-clause-valid g c).In_default).sweep in
     record { before = c.first_place-next.ensures.valid; after = sweep.valid; capacity = sweep.swept.capacity }
 
-pub overflow_add-place : goal.overflow_add-place
-overflow_add-place g c = grind (arith, common_steps)
+pub overflow_add-index : goal.overflow_add-index
+overflow_add-index g c = grind (arith, common_steps)
 
 pub first_place-next-requires-in-Some : goal.first_place-next-requires-in-Some
 first_place-next-requires-in-Some g c = grind (arith, common_steps)

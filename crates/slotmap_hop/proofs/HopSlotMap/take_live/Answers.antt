@@ -10,11 +10,11 @@ found g c =
     (c.version-version.ensures.value ∙ ap (λ k. k.version) c.data-data.ensures.value) c.requires
 
 pub overflow_sub-self : goal.overflow_sub-self
-overflow_sub-self g c = elems_positive _ _ _ c.self.invariant _ _ _ (found g (goal.at.overflow_sub-self g c).After-self).place
+overflow_sub-self g c = elems_positive _ _ _ c.self.invariant _ _ _ (found g (goal.at.overflow_sub-self g c).After-self).index
 
 pub retire-requires : goal.retire-requires
 retire-requires g c =
-    let can = can_free _ _ _ c.self.invariant _ _ _ (found g (goal.at.retire-requires g c).After-self).place in
+    let can = can_free _ _ _ c.self.invariant _ _ _ (found g (goal.at.retire-requires g c).After-self).index in
     rw c.as_mut_slice.ensures.value (record { inside = can.inside; live = can.live })
 
 last : (g : _) (c : After-retire g) → Present c.self.inside.slots.items c.args.self.now.content.live (g.K.Key.data_of c.args.key) c.idx-index.result c.version-version.result
@@ -34,11 +34,11 @@ returns-then-version g c =
     record { value = took.value; removes = took.removes; blocks = took.blocks; valid = took.valid }
 
 pub overflow_add-self : goal.overflow_add-self
-overflow_add-self g c = omega (arith, vacant_below _ _ _ c.self.invariant _ _ _ (found g (goal.at.overflow_add-self g c).After-self).place)
+overflow_add-self g c = omega (arith, vacant_below _ _ _ c.self.invariant _ _ _ (found g (goal.at.overflow_add-self g c).After-self).index)
 
 pub free_slot-requires : goal.free_slot-requires
 free_slot-requires g c =
-    record { can = rw c.as_mut_slice-2.ensures.value (can_free _ _ _ c.self.invariant _ _ _ (found g (goal.at.free_slot-requires g c).After-self).place) }
+    record { can = rw c.as_mut_slice-2.ensures.value (can_free _ _ _ c.self.invariant _ _ _ (found g (goal.at.free_slot-requires g c).After-self).index) }
 
 other : (g : _) (c : After-free_slot g) → Present c.self.inside.slots.items c.args.self.now.content.live (g.K.Key.data_of c.args.key) c.idx-index.result c.version-version.result
     → Took c.self.inside c.self.view_is c.self.invariant (g.K.Key.data_of c.args.key) c.free_slot.result c.free_slot.new.slots (c.self.inside.vacant_count + 1)

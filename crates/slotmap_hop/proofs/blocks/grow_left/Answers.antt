@@ -7,7 +7,7 @@ use Rattle.slotmap_hop.proofs.Taking.{first}
 use Rattle.slotmap_hop.proofs.blocks.grow_left.Goals as goal
 use Rattle.slotmap_hop.proofs.blocks.grow_left.Goals.{After-prev_of-prev}
 
-prev : (g : _) (c : After-prev_of-prev g) → c.prev_of-prev.result ≡ prev_at (all_links c.args.slots.now) (c.args.place + 1)
+prev : (g : _) (c : After-prev_of-prev g) → c.prev_of-prev.result ≡ prev_at (all_links c.args.slots.now) (c.args.index + 1)
 prev g c = prev_is c.requires.can c.requires.right c.back_of-back.ensures c.prev_of-prev.ensures
 
 pub relink-requires-clause-after : goal.relink-requires-clause-after

@@ -7,11 +7,11 @@ use Rattle.slotmap_hop.proofs.Taking.{first}
 use Rattle.slotmap_hop.proofs.blocks.merge.Goals as goal
 use Rattle.slotmap_hop.proofs.blocks.merge.Goals.{After-prev_of-before, After-front_of-front}
 
-before : (g : _) (c : After-prev_of-before g) → c.prev_of-before.result ≡ prev_at (all_links c.args.slots.now) (c.args.place + 1)
+before : (g : _) (c : After-prev_of-before g) → c.prev_of-before.result ≡ prev_at (all_links c.args.slots.now) (c.args.index + 1)
 before g c = prev_is c.requires.can c.requires.right c.back_of-back.ensures c.prev_of-before.ensures
 
-front : (g : _) (c : After-front_of-front g) → c.front_of-front.result ≡ end_at (all_links c.args.slots.now) (c.args.place - 1)
-front g c = c.front_of-front.ensures ∙ ends_kept c.relink.ensures.ends (c.args.place - 1)
+front : (g : _) (c : After-front_of-front g) → c.front_of-front.result ≡ end_at (all_links c.args.slots.now) (c.args.index - 1)
+front g c = c.front_of-front.ensures ∙ ends_kept c.relink.ensures.ends (c.args.index - 1)
 
 front_there : (g : _) (c : After-front_of-front g) → vacant_at (all_links c.relink.new.slots) c.front_of-front.result ≡ true
 front_there g c = rw (flags_kept c.relink.ensures.ends) (front_ready c.requires.can c.requires.left (front g c))
@@ -20,10 +20,10 @@ pub relink-requires-clause-after : goal.relink-requires-clause-after
 relink-requires-clause-after g c = rw c.next_of-after.ensures (after_head c.requires.can c.requires.right)
 
 pub front_of-front-requires : goal.front_of-front-requires
-front_of-front-requires g c = rw (tails_kept c.relink.ensures.ends (c.args.place - 1)) (left_tails c.requires.can c.requires.left)
+front_of-front-requires g c = rw (tails_kept c.relink.ensures.ends (c.args.index - 1)) (left_tails c.requires.can c.requires.left)
 
 pub prev_of-prev-requires : goal.prev_of-prev-requires
-prev_of-prev-requires g c = rw (tails_kept c.relink.ensures.ends (c.args.place - 1)) (left_tails c.requires.can c.requires.left)
+prev_of-prev-requires g c = rw (tails_kept c.relink.ensures.ends (c.args.index - 1)) (left_tails c.requires.can c.requires.left)
 
 pub name_back-requires : goal.name_back-requires
 name_back-requires g c =

@@ -3,10 +3,10 @@ use Rattle.slotmap_hop.proofs.HoppingLemmas.{IsAt, way_begins, may_read, finds_h
 use Rattle.slotmap_hop.proofs.iter.next_live.Goals.{Start, After-hop}
 use Rattle.slotmap_hop.proofs.iter.next_live.Goals as goal
 
-first : (g : _) (c : Start g) → IsAt c.args.counted.now.slots c.args.counted.now.reads c.args.counted.now.place c.args.counted.now
+first : (g : _) (c : Start g) → IsAt c.args.counted.now.slots c.args.counted.now.reads c.args.counted.now.index c.args.counted.now
 first g c = record { kept = refl; way = way_begins _ _ _ c.requires.can }
 
-second : (g : _) (c : After-hop g) → IsAt c.args.counted.now.slots c.args.counted.now.reads c.args.counted.now.place c.hop.new.self
+second : (g : _) (c : After-hop g) → IsAt c.args.counted.now.slots c.args.counted.now.reads c.args.counted.now.index c.hop.new.self
 second g c = (left_here _ _ _ (first g (goal.at.After-hop g c).Start) c.read-first.ensures (none_here _ (sym c.is_live.ensures ∙ c.if-is_live.false)) c.hop.ensures).0
 
 pub read-first-requires : goal.read-first-requires
@@ -15,7 +15,7 @@ read-first-requires g c = grind (arith, common_steps, may_read)
 pub returns-then-is_live : goal.returns-then-is_live
 returns-then-is_live g c =
     let finds = finds_here _ _ _ (first g (goal.at.returns-then-is_live g c).Start) c.read-first.ensures (sym c.is_live.ensures ∙ c.if-is_live.true) in
-    rw c.place.ensures (record { found = finds.0; slots = finds.1; place = refl; reads = finds.2 })
+    rw c.index.ensures (record { found = finds.0; slots = finds.1; index = refl; reads = finds.2 })
 
 pub hop-requires : goal.hop-requires
 hop-requires g c =
@@ -30,7 +30,7 @@ read-second-requires g c =
 pub returns-then-is_live-2 : goal.returns-then-is_live-2
 returns-then-is_live-2 g c =
     let finds = finds_here _ _ _ (second g (goal.at.returns-then-is_live-2 g c).After-hop) c.read-second.ensures (sym c.is_live-2.ensures ∙ c.if-is_live-2.true) in
-    rw c.place-then-is_live-2.ensures (record { found = finds.0; slots = finds.1; place = refl; reads = finds.2 })
+    rw c.index-then-is_live-2.ensures (record { found = finds.0; slots = finds.1; index = refl; reads = finds.2 })
 
 pub hop-requires-2 : goal.hop-requires-2
 hop-requires-2 g c =
@@ -47,7 +47,7 @@ read-slot-requires g c = grind (arith, common_steps, may_read)
 pub returns-then-is_live-3 : goal.returns-then-is_live-3
 returns-then-is_live-3 g c =
     let finds = finds_here _ _ _ c.loop-counted.invariant c.read-slot.ensures (sym c.is_live-in-loop-counted.ensures ∙ c.if-is_live-3.true) in
-    rw c.place-then-is_live-3.ensures (record { found = finds.0; slots = finds.1; place = refl; reads = finds.2 })
+    rw c.index-then-is_live-3.ensures (record { found = finds.0; slots = finds.1; index = refl; reads = finds.2 })
 
 pub hop-requires-in-loop-counted : goal.hop-requires-in-loop-counted
 hop-requires-in-loop-counted g c =

@@ -1,8 +1,8 @@
 use Rattle.slotmap_core.proofs.Common.{arith, common_steps}
 use Rattle.slotmap_hop.proofs.counted.CountedSlots.hop.Goals as goal
 
-pub overflow_add-place : goal.overflow_add-place
-overflow_add-place g c = grind (arith, common_steps)
+pub overflow_add-index : goal.overflow_add-index
+overflow_add-index g c = grind (arith, common_steps)
 
 pub invariant_of-self : goal.invariant_of-self
 invariant_of-self g c = grind (arith, common_steps)

@@ -4,31 +4,31 @@ use Rattle.slotmap_hop.proofs.LiveSlots.{live_key, live_within}
 use Rattle.slotmap_hop.proofs.Iterators.{can_go_on, iter_on, left_none}
 use Rattle.slotmap_hop.proofs.iter.Iter.step.Goals as goal
 
-pub next_live-place-requires-clause-can : goal.next_live-place-requires-clause-can
-next_live-place-requires-clause-can g c = can_go_on c.self.invariant
+pub next_live-index-requires-clause-can : goal.next_live-index-requires-clause-can
+next_live-index-requires-clause-can g c = can_go_on c.self.invariant
 
-pub overflow_cast-place : goal.overflow_cast-place
-overflow_cast-place g c = omega (arith, (live_key _ _ _ c.self.invariant.stands.sound _ _ _ c.next_live-place.ensures.found.finds.there).index_fits)
+pub overflow_cast-index : goal.overflow_cast-index
+overflow_cast-index g c = omega (arith, (live_key _ _ _ c.self.invariant.stands.sound _ _ _ c.next_live-index.ensures.found.finds.there).index_fits)
 
 pub exact-requires : goal.exact-requires
 exact-requires g c =
-    let found = c.next_live-place.ensures.found in
+    let found = c.next_live-index.ensures.found in
     rw (c.version.ensures ∙ ap version_in found.is) (live_key _ _ _ c.self.invariant.stands.sound _ _ _ found.finds.there)
 
 pub invariant_of-self : goal.invariant_of-self
 invariant_of-self g c =
-    let found = c.next_live-place.ensures in
+    let found = c.next_live-index.ensures in
     let pass = c.pass.ensures in
-    rw (pass.slots, pass.place, pass.reads, found.place, found.slots) (iter_on c.self.invariant found.found.finds found.reads)
+    rw (pass.slots, pass.index, pass.reads, found.index, found.slots) (iter_on c.self.invariant found.found.finds found.reads)
 
 pub pass-requires : goal.pass-requires
 pass-requires g c =
-    let found = c.next_live-place.ensures in
-    rw (found.place, found.slots) (live_within _ _ _ c.self.invariant.stands.sound _ _ _ found.found.finds.there)
+    let found = c.next_live-index.ensures in
+    rw (found.index, found.slots) (live_within _ _ _ c.self.invariant.stands.sound _ _ _ found.found.finds.there)
 
 pub returns-clause-some : goal.returns-clause-some
 returns-clause-some g c =
-    let found = c.next_live-place.ensures in
+    let found = c.next_live-index.ensures in
     let pass = c.pass.ensures in
     let way = found.reads in
     let is_key = live_key _ _ _ c.self.invariant.stands.sound _ _ _ found.found.finds.there in
@@ -38,8 +38,8 @@ returns-clause-some g c =
       version = found.found.version;
       value = found.found.value;
       is = found.found.is;
-      rest = ap (λ w. w.rest) (sym c.self.view_is) ∙ found.found.finds.first ∙ rw (is, pass.slots, pass.place, found.place, found.slots) refl;
-      reads = rw (is, pass.slots, pass.place, pass.reads, found.place, found.slots, ← c.self.view_is) (record { passed = way.gone; still = way.still; before = way.before; after = way.after; some = way.some; few = way.few });
+      rest = ap (λ w. w.rest) (sym c.self.view_is) ∙ found.found.finds.first ∙ rw (is, pass.slots, pass.index, found.index, found.slots) refl;
+      reads = rw (is, pass.slots, pass.index, pass.reads, found.index, found.slots, ← c.self.view_is) (record { passed = way.gone; still = way.still; before = way.before; after = way.after; some = way.some; few = way.few });
     }
 
 pub returns-then-self-eq0-clause-none : goal.returns-then-self-eq0-clause-none
