@@ -287,12 +287,14 @@ fn refused_moves(scene: &mut Family, top: NodeKey, child: NodeKey) -> [Result<()
 fn refuses_moves_well(alloc: Global) -> Result<bool, Fail> {
     let (mut scene, top, first, _) = family(alloc)?;
     let refused = refused_moves(&mut scene, top, first);
-    Ok(refused
-        == [
-            Err(MoveError::Cycle),
-            Err(MoveError::GoneSibling),
-            Err(MoveError::Same),
-        ])
+    Ok(
+        refused
+            == [
+                Err(MoveError::Cycle),
+                Err(MoveError::GoneSibling),
+                Err(MoveError::Same),
+            ],
+    )
 }
 
 #[test]

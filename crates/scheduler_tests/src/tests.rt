@@ -110,7 +110,11 @@ fn copies(rt: HostRuntime) -> Result<(), Fail> {
 // The next due job with its time, then the next one whenever it is due, and how many are left.
 fn popped_with_times(
     jobs: &mut Jobs,
-) -> (Option<(u64, NodeKey, u64)>, Option<(u64, NodeKey, u64)>, usize) {
+) -> (
+    Option<(u64, NodeKey, u64)>,
+    Option<(u64, NodeKey, u64)>,
+    usize,
+) {
     (jobs.pop_due_with_time(25), jobs.pop_next(), jobs.len())
 }
 
