@@ -170,3 +170,26 @@ fn retains(rt: HostRuntime) -> Result<(), Fail> {
     assert!(rt; retains_well(rt.alloc())?);
     Ok(())
 }
+
+// Writes the values at both ends.
+fn write_ends(list: &mut List) {
+    if let Some(value) = list.front_mut() {
+        *value = 8;
+    }
+    if let Some(value) = list.back_mut() {
+        *value = 9;
+    }
+}
+
+fn writes_ends_well(alloc: Global) -> Result<bool, Fail> {
+    let (mut list, _, _) = pair(alloc)?;
+    write_ends(&mut list);
+    let counted = (list.cursors().len(), list.values().len());
+    Ok(counted == (2, 2) && shows(&list, alloc, [8, 9].as_slice())?)
+}
+
+#[test]
+fn writes_ends(rt: HostRuntime) -> Result<(), Fail> {
+    assert!(rt; writes_ends_well(rt.alloc())?);
+    Ok(())
+}

@@ -2,7 +2,7 @@
 
 use slotmap::NodeKey;
 use slotmap_scene::world::Offset;
-use slotmap_scene::{AddError, ReparentError, Scene};
+use slotmap_scene::{AddError, MoveError, ReparentError, Scene};
 use std::alloc::Global;
 use std::error::Error;
 use std::test::Fail;
@@ -43,6 +43,19 @@ fn errors_of_moves(rt: HostRuntime) -> Result<(), Fail> {
         )?
     );
     assert!(rt; reads(alloc, &ReparentError::Cycle, below, "Cycle")?);
+    Ok(())
+}
+
+#[test]
+fn errors_beside_a_sibling(rt: HostRuntime) -> Result<(), Fail> {
+    let alloc = rt.alloc();
+    let gone = "the sibling is gone, or a root";
+    let same = "the sibling is the node itself";
+    let below = "the sibling is below the node";
+    assert!(rt; reads(alloc, &MoveError::GoneNode, "the node is gone", "GoneNode")?);
+    assert!(rt; reads(alloc, &MoveError::GoneSibling, gone, "GoneSibling")?);
+    assert!(rt; reads(alloc, &MoveError::Same, same, "Same")?);
+    assert!(rt; reads(alloc, &MoveError::Cycle, below, "Cycle")?);
     Ok(())
 }
 

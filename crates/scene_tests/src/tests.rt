@@ -1,7 +1,7 @@
 //! Calls on their happy path. A function `.._well` says whether the calls of its test return what they should.
 
 use slotmap::NodeKey;
-use slotmap_scene::Scene;
+use slotmap_scene::{MoveError, Scene};
 use std::alloc::Global;
 use std::test::Fail;
 
@@ -229,5 +229,90 @@ fn copies_well(alloc: Global) -> Result<bool, Fail> {
 #[test]
 fn copies(rt: HostRuntime) -> Result<(), Fail> {
     assert!(rt; copies_well(rt.alloc())?);
+    Ok(())
+}
+
+type Around = (Option<NodeKey>, Option<NodeKey>);
+
+// The first and the last child of a node.
+fn end_children(scene: &Family, node: NodeKey) -> Around {
+    (scene.first_child(node), scene.last_child(node))
+}
+
+// The siblings in front of a node and behind it.
+fn both_siblings(scene: &Family, node: NodeKey) -> Around {
+    (scene.prev_sibling(node), scene.next_sibling(node))
+}
+
+fn siblings_one_by_one_well(alloc: Global) -> Result<bool, Fail> {
+    let (scene, top, first, second) = family(alloc)?;
+    let ends = end_children(&scene, top) == (Some(first), Some(second));
+    let beside = both_siblings(&scene, second) == (Some(first), None);
+    Ok(ends && beside && both_siblings(&scene, top) == (None, None))
+}
+
+#[test]
+fn siblings_one_by_one(rt: HostRuntime) -> Result<(), Fail> {
+    assert!(rt; siblings_one_by_one_well(rt.alloc())?);
+    Ok(())
+}
+
+// Moves the second child before the first one, and then the first one behind the other again.
+fn move_beside(scene: &mut Family, first: NodeKey, second: NodeKey) -> (bool, bool) {
+    let before = scene.move_before(second, first).is_ok();
+    (before, scene.move_after(second, first).is_ok())
+}
+
+fn moves_beside_well(alloc: Global) -> Result<bool, Fail> {
+    let (mut scene, top, first, second) = family(alloc)?;
+    let moved = move_beside(&mut scene, first, second);
+    Ok(moved == (true, true) && end_children(&scene, top) == (Some(first), Some(second)))
+}
+
+#[test]
+fn moves_beside(rt: HostRuntime) -> Result<(), Fail> {
+    assert!(rt; moves_beside_well(rt.alloc())?);
+    Ok(())
+}
+
+// Why the root can't be moved beside a child, or a child beside the root or beside itself.
+fn refused_moves(scene: &mut Family, top: NodeKey, child: NodeKey) -> [Result<(), MoveError>; 3] {
+    [
+        scene.move_before(top, child),
+        scene.move_after(child, top),
+        scene.move_before(child, child),
+    ]
+}
+
+fn refuses_moves_well(alloc: Global) -> Result<bool, Fail> {
+    let (mut scene, top, first, _) = family(alloc)?;
+    let refused = refused_moves(&mut scene, top, first);
+    Ok(
+        refused
+            == [
+                Err(MoveError::Cycle),
+                Err(MoveError::GoneSibling),
+                Err(MoveError::Same),
+            ],
+    )
+}
+
+#[test]
+fn refuses_moves(rt: HostRuntime) -> Result<(), Fail> {
+    assert!(rt; refuses_moves_well(rt.alloc())?);
+    Ok(())
+}
+
+fn moves_to_the_ends_well(alloc: Global) -> Result<bool, Fail> {
+    let (mut scene, top, first, second) = family(alloc)?;
+    let moved = scene.move_to_front(second) && !scene.move_to_front(top);
+    let turned = end_children(&scene, top) == (Some(second), Some(first));
+    let back = scene.move_to_back(second);
+    Ok(moved && turned && back && end_children(&scene, top) == (Some(first), Some(second)))
+}
+
+#[test]
+fn moves_to_the_ends(rt: HostRuntime) -> Result<(), Fail> {
+    assert!(rt; moves_to_the_ends_well(rt.alloc())?);
     Ok(())
 }

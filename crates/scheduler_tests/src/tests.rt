@@ -106,3 +106,62 @@ fn copies(rt: HostRuntime) -> Result<(), Fail> {
     assert!(rt; copies_well(rt.alloc())?);
     Ok(())
 }
+
+// The next due job with its time, then the next one whenever it is due, and how many are left.
+fn popped_with_times(
+    jobs: &mut Jobs,
+) -> (
+    Option<(u64, NodeKey, u64)>,
+    Option<(u64, NodeKey, u64)>,
+    usize,
+) {
+    (jobs.pop_due_with_time(25), jobs.pop_next(), jobs.len())
+}
+
+fn pops_with_times_well(alloc: Global) -> Result<bool, Fail> {
+    let (mut jobs, tea, bell) = pair(alloc)?;
+    Ok(popped_with_times(&mut jobs) == (Some((20, bell, 2)), Some((30, tea, 1)), 0))
+}
+
+#[test]
+fn pops_with_times(rt: HostRuntime) -> Result<(), Fail> {
+    assert!(rt; pops_with_times_well(rt.alloc())?);
+    Ok(())
+}
+
+// What is due at 25, and which job still waits.
+fn takes_only_what_is_due_well(alloc: Global) -> Result<bool, Fail> {
+    let (mut jobs, tea, bell) = pair(alloc)?;
+    let mut taken = Vec::new(alloc);
+    jobs.pop_all_due(25, &mut taken)?;
+    Ok(taken.as_slice() == [(bell, 2)].as_slice() && jobs.peek() == Some((30, tea)))
+}
+
+#[test]
+fn takes_only_what_is_due(rt: HostRuntime) -> Result<(), Fail> {
+    assert!(rt; takes_only_what_is_due_well(rt.alloc())?);
+    Ok(())
+}
+
+// The times of the jobs in their order, as digits of one number, and how many jobs there were.
+fn times_in_order(jobs: Jobs) -> (u64, usize) {
+    let all = jobs.into_iter();
+    let count = all.len();
+    let mut times: u64 = 0;
+    for (_, time, _) in all {
+        times = times.wrapping_mul(100).wrapping_add(time);
+    }
+    (times, count)
+}
+
+fn goes_by_time_well(alloc: Global) -> Result<bool, Fail> {
+    let (jobs, _, _) = pair(alloc)?;
+    let counted = (jobs.keys().len(), jobs.values().len());
+    Ok((counted, times_in_order(jobs)) == ((2, 2), (2030, 2)))
+}
+
+#[test]
+fn goes_by_time(rt: HostRuntime) -> Result<(), Fail> {
+    assert!(rt; goes_by_time_well(rt.alloc())?);
+    Ok(())
+}

@@ -4,6 +4,7 @@ pub mod Callers
 pub mod Chains
 pub mod Draining
 pub mod Elements
+pub mod Ends
 pub mod Iterated
 pub mod Looks
 pub mod Moving

@@ -87,6 +87,16 @@ module _ {T : Type 0} where
   with_value_at k v [] = []
   with_value_at k v (e ∷ es) = cond (eq_by_cmp key_cmp k e.0) ((e.0, v) ∷ es) (e ∷ with_value_at k v es)
 
+  -- the list once the value at the front was written, or that at the back
+  abbrev pub with_first : T → List (Key × T) → List (Key × T)
+  with_first v [] = []
+  with_first v (e ∷ es) = (e.0, v) ∷ es
+
+  abbrev pub with_last : T → List (Key × T) → List (Key × T)
+  with_last v [] = []
+  with_last v (e ∷ []) = (e.0, v) ∷ []
+  with_last v (e ∷ f ∷ es) = e ∷ with_last v (f ∷ es)
+
   -- the first element and the rest, or that there is none
   abbrev pub TakesFront : List (Key × T) → Option (Key × T) → List (Key × T) → Type 0
   TakesFront old None new = (old ≡ []) × (new ≡ [])

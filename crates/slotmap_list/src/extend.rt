@@ -1,6 +1,6 @@
 //! Many values at once: of an iterator, or of another list.
 
-ghost use Rattle.std.specs.Prelude.{◌≡◌, ◌+◌, ◌≤◌, [], List, IsOk, IfOk, OnOk, IfErr, OnErr, IfSome, IsSome, Some, length, map as list_map};
+ghost use Rattle.std.specs.Prelude.{◌≡◌, ◌+◌, ◌≤◌, [], List, IsOk, IfOk, OnOk, IfErr, OnErr, IfSome, IsSome, Some, None, length, map as list_map};
 ghost use Rattle.std.specs.Iterator.{IsFinite, Drains, YieldsThen};
 ghost use Rattle.slotmap.specs.Words.{Key as KeyOf, IsSpent, Keeps, KeepsSpent, Leaves, RefusesCapacity, used};
 ghost use Rattle.std.specs.FinMap as map;
@@ -17,7 +17,7 @@ impl<K: Key, T: Drop> StableList<K, T> {
     /// If a value can't be added, the error holds it. It is `Full` if the list then has as many elements
     /// as a map can hold, counting those whose slots are retired, else `Memory`. The values before it are
     /// then in the list, and the rest of the iterator is dropped. It can't fail while the values fit into
-    /// the room, and the capacity stays then. The iterator has to end. It takes constant time a value,
+    /// the room or the vacant slots, and the capacity stays then. The iterator has to end. It takes constant time a value,
     /// unless a vector grows. In Rust this is the trait `Extend`.
     ///
     /// ```
@@ -36,6 +36,7 @@ impl<K: Key, T: Drop> StableList<K, T> {
 
         // It can't fail while the values fit into the room, and the capacity stays then.
         ensures room { OnErr result (self.old.cursors.room + length self.old.elements ≤ length self.new.elements) }
+        ensures reuses { OnErr result (map.len self.old.cursors.next + length self.old.elements ≤ length self.new.elements) }
         ensures in_place { OnOk result (length self.new.elements ≤ self.old.cursors.room + length self.old.elements
             → self.new.cursors.capacity ≡ self.old.cursors.capacity) }
         ensures gone { KeepsSpent self.old.cursors self.new.cursors }
@@ -52,8 +53,9 @@ impl<K: Key, T: Drop> StableList<K, T> {
     ///
     /// If a value can't be added, there is no list. The values before it are dropped, and so is the
     /// rest of the iterator. The error holds that value. It is `Full` if there were as many values
-    /// before it as a map can hold, 4294967294, else `Memory`. It is `None` if not even an empty list
-    /// could be made. The iterator has to end. In Rust this is `FromIterator`.
+    /// before it as a map can hold, 4294967294, else `Memory`. It is `None` only if the iterator has no
+    /// value, and not even an empty list can be made. The iterator has to end. It takes constant time a
+    /// value, unless a vector grows. In Rust this is `FromIterator`.
     ///
     /// ```
     /// let list: StableList<Cursor, u64> = StableList::from_iter(alloc, vec![in alloc; 1, 2]?).unwrap();
@@ -71,9 +73,13 @@ impl<K: Key, T: Drop> StableList<K, T> {
             × Drains I.IntoIter.next_gives it values × (list_map (λ e. e.1) list.elements ≡ values)) }
         ensures err { IfErr result (λ error. IfSome error (λ back. (it : I.IntoIter) × (values : List T) × (rest : I.IntoIter)
             × I.into_iter_gives iter it × YieldsThen I.IntoIter.next_gives it values (Some (refused back)) rest × FullAfter (length values) back)) }
+        ensures none { IfErr result (λ error. error ≡ None → (it : I.IntoIter) × I.into_iter_gives iter it × Drains I.IntoIter.next_gives it []) }
     {
         let Ok(mut list) = StableList::with_key(alloc) else {
-            return Err(None);
+            let Some(value) = iter.into_iter().next() else {
+                return Err(None);
+            };
+            return Err(Some(PushError::Memory(value)));
         };
         match list.extend(iter) {
             Ok(()) => Ok(list),

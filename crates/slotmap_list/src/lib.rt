@@ -12,9 +12,13 @@
 //!   loses room or changes the capacity.
 //! - An iterator yields the elements from front to back, or from back to front.
 //!
-//! Each call takes constant time, except for `to_vec` and `clear`. These take time linear in the number
-//! of elements, or in that of the most elements that there were at once. A push or an insert may have
-//! to grow the vectors of the map, and takes constant time on average.
+//! A call takes constant time, with these exceptions:
+//!
+//! - `to_vec`, `retain`, `extend`, `from_iter` and dropping a `Drain` take time linear in the number of
+//!   elements that they pass or add, and `append` in that of the other list's elements.
+//! - `clear` and `clone` take time linear in the number of slots: that of the most elements that there
+//!   were at once.
+//! - A push or an insert may have to grow the vectors of the map, and takes constant time on average.
 //!
 //! ```
 //! let mut list = StableList::new(alloc)?;

@@ -1,6 +1,6 @@
 //! Moves of an element within its list, and writes of its value.
 
-ghost use Rattle.std.specs.Prelude.{◌≡◌, true, false, IsTrue, is_some, if◌then◌else◌};
+ghost use Rattle.std.specs.Prelude.{◌≡◌, ◌-◌, true, false, IsTrue, is_some, if◌then◌else◌, length, slice_get, map as list_map};
 ghost use Rattle.std.specs.Borrow.{sem};
 ghost use Rattle.std.specs.Option.{option_copied_mut};
 ghost use Rattle.slotmap_list.specs.Sequence.{value_of, moved_to_front, moved_to_back, moved_after, moved_before, are_two, Swaps};
@@ -22,7 +22,7 @@ fn place_before(next: Option<DefaultKey>) -> Place
 }
 
 impl<K: Key, T: Drop> StableList<K, T> {
-    ghost use Rattle.slotmap_list.specs.Lends.{lends_element};
+    ghost use Rattle.slotmap_list.specs.Lends.{lends_element, lends_first, lends_last};
 
     /// Returns a mutable reference to the value of a cursor, or `None` if it isn't in the list.
     ///
@@ -41,6 +41,54 @@ impl<K: Key, T: Drop> StableList<K, T> {
         ensures value { option_copied_mut result ≡ value_of (K.data_of cursor) self.old.elements }
     {
         match self.nodes.get_mut(inner(cursor)) {
+            Some(node) => Some(&mut node.value),
+            None => None,
+        }
+    }
+
+    /// Returns a mutable reference to the value at the front, or `None` if the list is empty.
+    ///
+    /// Constant time.
+    ///
+    /// ```
+    /// let mut list = StableList::new(alloc)?;
+    /// list.push_back(1)?;
+    /// list.push_back(2)?;
+    /// if let Some(value) = list.front_mut() {
+    ///     *value = 5;
+    /// }
+    /// assert_eq!(rt; list.to_vec(alloc)?.as_slice(), [5, 2].as_slice());
+    /// ```
+    pub fn front_mut(&mut self) -> Option<&mut T>
+        ensures* writes_back { sem 𝓛 (lends_first K.row T.row self.entry result) }
+        ensures value { option_copied_mut result ≡ slice_get (list_map (λ e. e.1) self.old.elements) 0 }
+    {
+        let key = self.first.get().unwrap_or(DefaultKey::null());
+        match self.nodes.get_mut(key) {
+            Some(node) => Some(&mut node.value),
+            None => None,
+        }
+    }
+
+    /// Returns a mutable reference to the value at the back, or `None` if the list is empty.
+    ///
+    /// Constant time.
+    ///
+    /// ```
+    /// let mut list = StableList::new(alloc)?;
+    /// list.push_back(1)?;
+    /// list.push_back(2)?;
+    /// if let Some(value) = list.back_mut() {
+    ///     *value = 5;
+    /// }
+    /// assert_eq!(rt; list.to_vec(alloc)?.as_slice(), [1, 5].as_slice());
+    /// ```
+    pub fn back_mut(&mut self) -> Option<&mut T>
+        ensures* writes_back { sem 𝓛 (lends_last K.row T.row self.entry result) }
+        ensures value { option_copied_mut result ≡ slice_get (list_map (λ e. e.1) self.old.elements) (length self.old.elements - 1) }
+    {
+        let key = self.last.get().unwrap_or(DefaultKey::null());
+        match self.nodes.get_mut(key) {
             Some(node) => Some(&mut node.value),
             None => None,
         }

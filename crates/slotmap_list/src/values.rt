@@ -6,6 +6,7 @@ ghost use Rattle.std.specs.Iterator.{YieldsFirstBy, YieldsLastBy, item_count, at
 use crate::StableList;
 use crate::iter::Iter;
 use slotmap::Key;
+use std::iter::FusedIterator;
 use std::marker::Model;
 
 /// An iterator over the cursors of a list, from both ends: see [`StableList::cursors`].
@@ -59,6 +60,14 @@ impl<'a, K: Key, T: Drop> DoubleEndedIterator for Cursors<'a, K, T> {
     }
 }
 
+impl<'a, K: Key, T: Drop> ExactSizeIterator for Cursors<'a, K, T> {
+    fn len(&self) -> usize {
+        self.elements.len()
+    }
+}
+
+impl<'a, K: Key, T: Drop> FusedIterator for Cursors<'a, K, T> {}
+
 /// An iterator over the values of a list, from both ends: see [`StableList::values`].
 ///
 /// A contract sees it as the list of the values that it will still yield, from front to back.
@@ -108,6 +117,14 @@ impl<'a, K: Key, T: Drop> DoubleEndedIterator for Values<'a, K, T> {
         }
     }
 }
+
+impl<'a, K: Key, T: Drop> ExactSizeIterator for Values<'a, K, T> {
+    fn len(&self) -> usize {
+        self.elements.len()
+    }
+}
+
+impl<'a, K: Key, T: Drop> FusedIterator for Values<'a, K, T> {}
 
 impl<K: Key, T: Drop> StableList<K, T> {
     /// Returns the value at the front, or `None` if the list is empty.

@@ -2,6 +2,8 @@ pub mod Callers
 pub mod Climbs
 pub mod Descending
 pub mod Moved
+pub mod Neighbours
+pub mod Offsets
 pub mod Removals
 pub mod Showing
 pub mod Weaving

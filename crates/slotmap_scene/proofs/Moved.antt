@@ -11,11 +11,11 @@ use Rattle.slotmap_keylist.proofs.Alone.{len_alike}
 use Rattle.slotmap_keylist.proofs.Shown.{shown_spent}
 use Rattle.slotmap_keylist.specs.Changed.{changed}
 use Rattle.slotmap_keylist.specs.declared.Link.{Link}
-use Rattle.slotmap_keylist.specs.Linked.{last_or, link_between}
+use Rattle.slotmap_keylist.specs.Linked.{first_or, last_or, link_between}
 use Rattle.slotmap_keylist.proofs.Linking.{in_midst}
 use Rattle.slotmap_scene.specs.Node.{Node, Nodes}
 use Rattle.slotmap_scene.specs.Climb.{has_node, parent_in, parent_of, IsWithin, lacks_node, StepsTo, with_parent}
-use Rattle.slotmap_scene.specs.Family.{is_parent, children_in, children_of, AreListed, IsMoved, IsScene, IsNodeClone, with_value, with_children_in, with_children_of, IsNewChild, as_last_child, as_root, child, forgets, value_of, without_child, around, beside_first, placed}
+use Rattle.slotmap_scene.specs.Family.{is_parent, children_in, children_of, AreListed, IsMoved, IsScene, IsNodeClone, with_value, with_children_in, with_children_of, IsNewChild, as_child, as_root, child, forgets, value_of, without_child, around, beside_first, placed}
 use Rattle.slotmap_scene.proofs.Climbs.{tree_moved, tree_same, parent_there}
 use Rattle.slotmap_scene.specs.declared.tree.Side.{Side}
 use Rattle.slotmap_scene.specs.declared.tree.Side.TheVariants.{Before, After}
@@ -191,30 +191,34 @@ module _ {T : Type 0} where
     scene_out live = scene_moved nodes (as_root nodes k) scene k None (λ ks. ks ++ k ∷ []) (moved_out (λ ks. ks ++ k ∷ [])) (λ x ks. times_pushed x ks k)
         (λ q other. hung_keys None q) (hung_keys None k ∙ live) (λ p is. absurd (cc))
 
-    -- or the last child of p
-    module _ (p : Key) (live : has_node nodes k) (there : has_node nodes p) where
-      abbrev push : Node T → Node T
-      push n = record n { children = n.children ++ k ∷ [] }
+    -- or a child of p, put among its children
+    module _ (p : Key) (live : has_node nodes k) (there : has_node nodes p) (put : List Key → List Key) where
+      abbrev join : Node T → Node T
+      join n = record n { children = put n.children }
 
-      pub moved_below : IsMoved nodes (as_last_child nodes k p) k (Some p) (λ ks. ks ++ k ∷ [])
-      moved_below = record {
-        parent_is = changed_keeps (hung (Some p)) p push parent_in (λ n. refl) k
+      pub moved_among : IsMoved nodes (as_child nodes k p put) k (Some p) put
+      moved_among = record {
+        parent_is = changed_keeps (hung (Some p)) p join parent_in (λ n. refl) k
             ∙ changed_gives left k (hang (Some p)) parent_in (λ _. Some p) (λ n. refl) (left_of is_some (λ b. b) refl (λ n. refl) k ∙ live);
-        parents = λ q other. changed_keeps (hung (Some p)) p push parent_in (λ n. refl) q ∙ hung_parents (Some p) q other;
-        children_are = λ q is. (let at : p ≡ q = cc in rw (← at) (changed_gives (hung (Some p)) p push children_in (λ ks. ks ++ k ∷ []) (λ n. refl) (hung_keys (Some p) p ∙ there)
-            ∙ ap (λ ks. ks ++ k ∷ []) (hung_children (Some p) p)));
-        other_children = λ q other. ap children_in (changed_other (hung (Some p)) p push q (λ at. other (ap Some (sym at)))) ∙ hung_children (Some p) q;
+        parents = λ q other. changed_keeps (hung (Some p)) p join parent_in (λ n. refl) q ∙ hung_parents (Some p) q other;
+        children_are = λ q is. (let at : p ≡ q = cc in rw (← at) (changed_gives (hung (Some p)) p join children_in put (λ n. refl) (hung_keys (Some p) p ∙ there)
+            ∙ ap put (hung_children (Some p) p)));
+        other_children = λ q other. ap children_in (changed_other (hung (Some p)) p join q (λ at. other (ap Some (sym at)))) ∙ hung_children (Some p) q;
       }
 
-      pub values_below : (q : Key) → value_of (as_last_child nodes k p) q ≡ value_of nodes q
-      values_below q = changed_keeps (hung (Some p)) p push (option_map (λ n. n.value)) (λ n. refl) q ∙ hung_values (Some p) q
+      pub values_among : (q : Key) → value_of (as_child nodes k p put) q ≡ value_of nodes q
+      values_among q = changed_keeps (hung (Some p)) p join (option_map (λ n. n.value)) (λ n. refl) q ∙ hung_values (Some p) q
 
-      pub pushed_keys : (q : Key) → map.contains_key (as_last_child nodes k p) q ≡ map.contains_key nodes q
-      pushed_keys q = changed_keeps (hung (Some p)) p push is_some (λ n. refl) q ∙ hung_keys (Some p) q
+      pub keys_among : (q : Key) → map.contains_key (as_child nodes k p put) q ≡ map.contains_key nodes q
+      keys_among q = changed_keeps (hung (Some p)) p join is_some (λ n. refl) q ∙ hung_keys (Some p) q
 
-      pub scene_below : (IsWithin nodes p k → ⊥) → IsScene (as_last_child nodes k p)
-      scene_below out = scene_moved nodes (as_last_child nodes k p) scene k (Some p) (λ ks. ks ++ k ∷ []) moved_below (λ x ks. times_pushed x ks k)
-          (λ q other. pushed_keys q) (pushed_keys k ∙ live) (λ q is. (let at : p ≡ q = cc in rw (← at) (there, out)))
+      pub scene_among : ((x : Key) (ks : List Key) → times x (put ks) ≡ times x ks + same k x) → (IsWithin nodes p k → ⊥) → IsScene (as_child nodes k p put)
+      scene_among more out = scene_moved nodes (as_child nodes k p put) scene k (Some p) put moved_among more
+          (λ q other. keys_among q) (keys_among k ∙ live) (λ q is. (let at : p ≡ q = cc in rw (← at) (there, out)))
+
+    -- a sibling of another one is still there once
+    pub hung_sibling : (p s : Key) → k ≢ s → parent_of nodes s ≡ Some p → times s (children_of (hung (Some p)) p) ≡ 1
+    hung_sibling p s apart own = ap (times s) (hung_children (Some p) p) ∙ times_without k s (children_of nodes p) (λ at. apart (sym at)) ∙ listed_once nodes scene.listed p s own
 
   -- a key that no node has
   module _ (nodes : Nodes T) (scene : IsScene nodes) (k : Key) (fresh : lacks_node nodes k) where
@@ -345,6 +349,10 @@ module _ {T : Type 0} (old mid : Content (Node T)) (scene : IsScene old.live) (k
     pub child_spent : KeepsSpent old mid → KeepsSpent old new
     child_spent keeps k spent = rw put (spent_alike mid _ (filled_keeps mid.live f is_some (λ n. refl) (Some p)) k (keeps k spent))
 
+-- a key that is put in front of others
+pub times_put : (x k : Key) (ks : List Key) → times x (k ∷ ks) ≡ times x ks + same k x
+times_put x k ks = omega (arith, times_first x k ks)
+
 module _ (side : Side) (s k : Key) where
   pub times_placed : (x : Key) (ks : List Key) → times x (placed side s k ks) ≡ times x ks + same k x
   times_placed x [] = let first = times_first x k [] in omega arith
@@ -376,6 +384,10 @@ module _ {T : Type 0} (nodes : Nodes T) (p : Key) where
   -- the place behind all children
   pub last_place : (l : Option Key) → l ≡ last_or (children_of nodes p) None → IsPlace nodes p (record { prev = l; next = None }) (children_of nodes p) []
   last_place l is = record { list = sym (append-nil (children_of nodes p)); link = ap (λ o. record { prev = o; next = None }) is }
+
+  -- the place in front of all children
+  pub first_place : (f : Option Key) → f ≡ first_or (children_of nodes p) None → IsPlace nodes p (record { prev = None; next = f }) [] (children_of nodes p)
+  first_place f is = record { list = refl; link = ap (λ o. record { prev = None; next = o }) is }
 
   -- and the one beside a child
   pub side_place : (side : Side) (s : Key) (b a : List Key) (l : Link Key) → children_of nodes p ≡ b ++ s ∷ a → l ≡ link_between (around side b s a).0 (around side b s a).1 → IsPlace nodes p l (around side b s a).0 (around side b s a).1

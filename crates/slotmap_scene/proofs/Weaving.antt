@@ -1,7 +1,6 @@
 -- What a change of links does to the links of each node and the lists that they make then.
-use Rattle.std.proofs.Common.{◌≡◌, ◌≢◌, ℕ, true, cond, Option, Some, None, is_some, refl, sym, ap, ◌∙◌, inl, inr, ◌+◌, ◌-◌, ◌<◌, ◌≤◌, ◌⊎◌, List, [], ◌∷◌, ◌++◌, length, length-append, subst, arith, append_assoc, append-nil}
+use Rattle.std.proofs.Common.{◌≡◌, ◌≢◌, ℕ, true, cond, Option, Some, None, is_some, refl, sym, ap, ◌∙◌, inl, inr, ◌+◌, ◌-◌, ◌<◌, ◌≤◌, ◌⊎◌, List, [], ◌∷◌, ◌++◌, length, length-append, subst, arith}
 use Rattle.std.proofs.Math.Nat.{eq-zero-or-pos}
-use Rattle.std.proofs.lemmas.Option.{same_Some}
 use Rattle.std.specs.FinMap as map
 use Rattle.slotmap.specs.Words.{Key}
 use Rattle.slotmap.proofs.Callers.{same_or_other}
@@ -12,7 +11,7 @@ use Rattle.slotmap_keylist.specs.KeyLists.{is_key, times}
 use Rattle.slotmap_keylist.specs.Splice.{with_next as next_written, with_prev as prev_written, own}
 use Rattle.slotmap_keylist.proofs.Changed.{changed_gives, changed_keeps, changed_other}
 use Rattle.slotmap_keylist.proofs.Counts.{is_itself, is_other, one_itself, one_other, times_first, times_joined, no_more_than}
-use Rattle.slotmap_keylist.specs.Linked.{first_or, last_or, link_between, ends_of as ends_of_list, AreLinked, AreApart, IsListed, Relinks, follow}
+use Rattle.slotmap_keylist.specs.Linked.{first_or, last_or, link_between, ends_of as ends_of_list, AreLinked, AreApart, IsListed, Relinks}
 use Rattle.slotmap_keylist.proofs.Linking.{first_or-append, last_or-append, first_in, last_in, in_midst, followed_is, linked_put, linked_taken}
 use Rattle.slotmap_keylist.proofs.Splicing.{spliced, spliced_own, two_neighbours}
 use Rattle.slotmap_scene.specs.declared.links.LinkedNode.{LinkedNode}

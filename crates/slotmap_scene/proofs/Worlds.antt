@@ -11,7 +11,7 @@ use Rattle.slotmap_scene.specs.Node.{Node, Nodes}
 use Rattle.slotmap_scene.specs.Climb.{has_node, lacks_node, parent_of, parent_in, ClimbsTo, IsTree, IsWithin}
 use Rattle.slotmap_scene.specs.Family.{IsMoved, IsNewChild, value_of, child}
 use Rattle.slotmap_scene.proofs.Climbs.{parent_there}
-use Rattle.slotmap_scene.specs.WorldValue.{IsPathFrom, IsPathUp, world_along, IsWorld, CallsAt, FoldsUp, CallableUp}
+use Rattle.slotmap_scene.specs.WorldValue.{IsPathFrom, IsPathUp, world_along, IsWorld, IsComposed, Joins, CallsAt, FoldsUp, CallableUp}
 
 module _ {T : Type 0} (nodes : Nodes T) where
   -- the node at k, in front of a path from its parent
@@ -77,7 +77,7 @@ module _ {T : Type 0} (nodes : Nodes T) where
   world_is under k w (Some v) world some none = ap Some (one_world under k v w some world)
 
 -- what is done from the node up, done from the root down
-module _ {T : Type 0} (under : T → T → T) (joins : (a b c : T) → under (under a b) c ≡ under a (under b c)) where
+module _ {T : Type 0} (under : T → T → T) (joins : Joins under) where
   fold_under : (v p : T) (above : List T) → fold under (under v p) above ≡ under v (fold under p above)
   fold_under v p [] = refl
   fold_under v p (q ∷ above) = ap (λ x. fold under x above) (joins v p q) ∙ fold_under v (under p q) above
@@ -133,27 +133,42 @@ module _ {F A T : Type 0} (g : Mut F (A × (Bor T × Unit {0})) A) (nodes : Node
       pub folding_end : node.parent ≡ None → FoldsUp g nodes from f₀ start next
       folding_end is = record { values = folding.below ++ node.value ∷ []; path = folding.path (node.value ∷ []) (root_path nodes at node there is); last = f'; calls = folded_here }
 
--- a fold by the closure that puts each value under the next one
-module _ {F T : Type 0} (g : Mut F (T × (Bor T × Unit {0})) T) (under : T → T → T)
-    (puts : (f f' : F) (v p w : T) → CallsAt g (f, v) p (f', w) → w ≡ under v p) where
-  folded : (above : List T) (f last : F) (v w : T) → FoldsTo (CallsAt g) (f, v) above (last, w) → w ≡ fold under v above
+-- a fold by the closure that puts what there is so far under the transform of the next value
+module _ {F T W : Type 0} (g : Mut F (W × (Bor T × Unit {0})) W) (under : W → W → W) (of : T → W)
+    (puts : (f f' : F) (v : W) (p : T) (w : W) → CallsAt g (f, v) p (f', w) → w ≡ under v (of p)) where
+  folded : (above : List T) (f last : F) (v w : W) → FoldsTo (CallsAt g) (f, v) above (last, w) → w ≡ fold (λ so_far p. under so_far (of p)) v above
   folded [] f last v w calls = sym (ap (λ s. s.1) calls)
   folded (p ∷ above) f last v w calls =
-      folded above calls.0.0 last calls.0.1 w calls.2 ∙ ap (λ x. fold under x above) (puts f calls.0.0 v p calls.0.1 calls.1)
+      folded above calls.0.0 last calls.0.1 w calls.2 ∙ ap (λ x. fold (λ so_far q. under so_far (of q)) x above) (puts f calls.0.0 v p calls.0.1 calls.1)
 
-  module _ (joins : (a b c : T) → under (under a b) c ≡ under a (under b c)) (nodes : Nodes T) (k p : Key) (node : Node T)
-      (there : map.get nodes k ≡ Some node) (up : node.parent ≡ Some p) where
-    world_of_fold : (f : F) (w : T) → FoldsUp g nodes p f node.value w → IsWorld under nodes k w
-    world_of_fold f w folds = record {
+  module _ (nodes : Nodes T) (k p : Key) (node : Node T) (there : map.get nodes k ≡ Some node) (up : node.parent ≡ Some p) where
+    pub composed_of_folds : (f : F) (result : Option W) → IfSome result (FoldsUp g nodes p f (of node.value)) → IfSome result (IsComposed under of nodes k)
+    composed_of_folds f None folds = tt
+    composed_of_folds f (Some w) folds = record {
       own = node.value;
       above = folds.values;
       path = child_path nodes k p node there up folds.values folds.path;
-      made = folded folds.values f folds.last node.value w folds.calls ∙ fold_world under joins node.value folds.values;
+      made = folded folds.values f folds.last (of node.value) w folds.calls;
     }
 
-    pub world_of_folds : (f : F) (result : Option T) → IfSome result (FoldsUp g nodes p f node.value) → IfSome result (IsWorld under nodes k)
-    world_of_folds f None folds = tt
-    world_of_folds f (Some w) folds = world_of_fold f w folds
+-- a root is where its own transform says
+pub composed_root : {T W : Type 0} (nodes : Nodes T) (under : W → W → W) (of : T → W) (k : Key) (node : Node T) → map.get nodes k ≡ Some node → node.parent ≡ None → IsComposed under of nodes k (of node.value)
+composed_root nodes under of k node there top = record { own = node.value; above = []; path = root_path nodes k node there top; made = refl }
+
+-- where transforms join, it doesn't matter in which order they are put together
+pub joined_world : {T : Type 0} (nodes : Nodes T) (under : T → T → T) (k : Key) (result : Option T) → IfSome result (IsComposed under (λ v. v) nodes k) → Joins under → IfSome result (IsWorld under nodes k)
+joined_world nodes under k None composed joins = tt
+joined_world nodes under k (Some w) composed joins = record {
+  own = composed.own;
+  above = composed.above;
+  path = composed.path;
+  made = composed.made ∙ fold_world under joins composed.own composed.above;
+}
+
+pub joined_of_folds : {F T : Type 0} (g : Mut F (T × (Bor T × Unit {0})) T) (under : T → T → T) → ((f f' : F) (v p w : T) → CallsAt g (f, v) p (f', w) → w ≡ under v p)
+    → (nodes : Nodes T) (k p : Key) (node : Node T) → map.get nodes k ≡ Some node → node.parent ≡ Some p → (f : F) (result : Option T) → IfSome result (FoldsUp g nodes p f node.value)
+    → Joins under → IfSome result (IsWorld under nodes k)
+joined_of_folds g under puts nodes k p node there up f result folds = joined_world nodes under k result (composed_of_folds g under (λ v. v) puts nodes k p node there up f result folds)
 
 -- where there is no parent, there is no node
 module _ {T : Type 0} (nodes : Nodes T) (k p : Key) (node : Node T) (there : map.get nodes k ≡ Some node) (up : node.parent ≡ Some p) where

@@ -8,6 +8,16 @@ use Rattle.slotmap_scene.specs.declared.tree.Side.{Side}
 use Rattle.slotmap_scene.specs.declared.tree.Side.TheVariants.{Before, After}
 use Rattle.slotmap_keylist.specs.Changed.{changed, changed_in}
 use Rattle.slotmap_keylist.specs.KeyLists.{is_key, same, times, without}
+use Rattle.slotmap_keylist.specs.Linked.{first_or}
+
+-- the key behind k in a list, and the one in front of it, or another where there is none
+abbrev pub behind : Key → List Key → Option Key
+behind k [] = None
+behind k (q ∷ qs) = cond (is_key q k) (first_or qs None) (behind k qs)
+
+abbrev pub in_front : Option Key → Key → List Key → Option Key
+in_front other k [] = None
+in_front other k (q ∷ qs) = cond (is_key q k) other (in_front (Some q) k qs)
 
 -- 1 if p is the parent, else 0
 abbrev pub is_parent : Option Key → Key → ℕ
@@ -38,6 +48,14 @@ module _ {T : Type 0} where
   -- the children of k, in order; a removed node has none
   abbrev pub children_of : Nodes T → Key → List Key
   children_of nodes k = children_in (map.get nodes k)
+
+  -- the children of a node's parent; a root has no siblings
+  abbrev pub children_under : Nodes T → Option Key → List Key
+  children_under nodes None = []
+  children_under nodes (Some p) = children_of nodes p
+
+  abbrev pub siblings_of : Nodes T → Key → List Key
+  siblings_of nodes k = children_under nodes (parent_of nodes k)
 
   -- each node appears exactly once in its parent's list of children, and in no other
   abbrev pub AreListed : Nodes T → Type 0
@@ -101,9 +119,13 @@ module _ {T : Type 0} where
   abbrev pub as_root : Nodes T → Key → Nodes T
   as_root nodes k = with_parent (without_child nodes (parent_of nodes k) k) k None
 
+  -- k is put among the children of p, and no other node has it as a child
+  abbrev pub as_child : Nodes T → Key → Key → (List Key → List Key) → Nodes T
+  as_child nodes k p put = with_children_of (with_parent (without_child nodes (parent_of nodes k) k) k (Some p)) (Some p) put
+
   -- k is the last child of p, and no other node has it as a child
   abbrev pub as_last_child : Nodes T → Key → Key → Nodes T
-  as_last_child nodes k p = with_child (with_parent (without_child nodes (parent_of nodes k) k) k (Some p)) p k
+  as_last_child nodes k p = as_child nodes k p (λ ks. ks ++ k ∷ [])
 
   -- k has this parent, is put among its children, and is no other node's child; all other nodes have the same parent and the same children
   pub record IsMoved (old new : Nodes T) (k : Key) (parent : Option Key) (put : List Key → List Key) : Type 0 where

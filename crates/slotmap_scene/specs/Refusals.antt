@@ -1,5 +1,5 @@
 -- When a node isn't added or moved.
-use Rattle.std.specs.Prelude.{◌≡◌, None, IsSome}
+use Rattle.std.specs.Prelude.{◌≡◌, ◌≢◌, None, IsSome}
 use Rattle.slotmap.specs.Words.{Key, Content, LacksRoom, used, most}
 use Rattle.slotmap.specs.declared.InsertError.{InsertError}
 use Rattle.slotmap.specs.declared.InsertError.TheVariants as insert
@@ -8,6 +8,8 @@ use Rattle.slotmap_scene.specs.declared.AddError.{AddError}
 use Rattle.slotmap_scene.specs.declared.AddError.TheVariants.{Gone, Full, Memory}
 use Rattle.slotmap_scene.specs.declared.ReparentError.{ReparentError}
 use Rattle.slotmap_scene.specs.declared.ReparentError.TheVariants as move
+use Rattle.slotmap_scene.specs.declared.MoveError.{MoveError}
+use Rattle.slotmap_scene.specs.declared.MoveError.TheVariants as beside
 use Rattle.slotmap_scene.specs.Climb.{has_node, lacks_node, parent_of, IsWithin}
 
 -- `Full` if and only if the limit is reached, else `Memory`, where no room was promised; the error holds the value
@@ -37,3 +39,11 @@ module _ {T : Type 0} where
   RefusesParent nodes k parent move.GoneNode = lacks_node nodes k
   RefusesParent nodes k parent move.GoneParent = has_node nodes k × lacks_node nodes parent
   RefusesParent nodes k parent move.Cycle = has_node nodes k × has_node nodes parent × IsWithin nodes parent k
+
+  -- `GoneNode` if there is no such node, `GoneSibling` if the sibling has no parent, `Same` if the two are one; `Cycle` if and only if the
+  -- sibling is below the node
+  abbrev pub RefusesMove : Nodes T → Key → Key → MoveError → Type 0
+  RefusesMove nodes k s beside.GoneNode = lacks_node nodes k
+  RefusesMove nodes k s beside.GoneSibling = has_node nodes k × (parent_of nodes s ≡ None)
+  RefusesMove nodes k s beside.Same = has_node nodes k × IsSome (parent_of nodes s) × (k ≡ s)
+  RefusesMove nodes k s beside.Cycle = has_node nodes k × IsSome (parent_of nodes s) × (k ≢ s) × IsWithin nodes s k

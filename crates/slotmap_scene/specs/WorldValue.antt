@@ -2,7 +2,7 @@
 use Rattle.std.specs.Prelude.{◌≡◌, Option, Some, None, List, [], ◌∷◌, ◌++◌, ⊤}
 use Rattle.std.specs.Fn.{Mut, Called, Takes}
 use Rattle.std.specs.Borrow.{Bor}
-use Rattle.std.specs.List.{FoldsTo}
+use Rattle.std.specs.List.{FoldsTo, fold}
 use Rattle.slotmap.specs.Words.{Key}
 use Rattle.slotmap_scene.specs.Node.{Nodes}
 use Rattle.slotmap_scene.specs.Climb.{parent_of}
@@ -31,6 +31,17 @@ module _ {T : Type 0} where
     pub above : List T
     pub path : IsPathUp nodes k (own ∷ above)
     pub made : w ≡ world_along under own above
+
+-- of three in a row, it doesn't matter which two are put together first
+abbrev pub Joins : {W : Type 0} → (W → W → W) → Type 0
+Joins {W} under = (a b c : W) → under (under a b) c ≡ under a (under b c)
+
+-- w is put together on the way up from k: first the transform of its own value under that of its parent, then the result under the next one up
+pub record IsComposed {T W : Type 0} (under : W → W → W) (of : T → W) (nodes : Nodes T) (k : Key) (w : W) : Type 0 where
+  pub own : T
+  pub above : List T
+  pub path : IsPathUp nodes k (own ∷ above)
+  pub made : w ≡ fold (λ so_far v. under so_far (of v)) (of own) above
 
 module _ {F A T : Type 0} (g : Mut F (A × (Bor T × Unit {0})) A) where
   -- a call at a value, which takes the closure from one state to another, and what there is so far to its result

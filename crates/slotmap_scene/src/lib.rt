@@ -7,8 +7,9 @@
 //! - Each node appears exactly once in its parent's list of children, and in no other.
 //! - [`Scene::descendants`] lists the nodes below a node, each once: depth-first, in the order of the
 //!   children.
-//! - [`Scene::reparent`] moves a node with its subtree, as the last child of its new parent. It is
-//!   refused exactly if a node doesn't exist or the move would make a cycle.
+//! - [`Scene::reparent`] moves a node with its subtree, as the last child of its new parent, and
+//!   [`Scene::move_before`] and [`Scene::move_after`] to a place beside a sibling. A move is refused
+//!   exactly if a node doesn't exist or the move would make a cycle.
 //! - [`Scene::remove`] removes a node with its subtree, and no other node. Their keys are never used
 //!   again.
 //! - A call that fails changes nothing, and returns what it was given. It uses up no key.
@@ -19,8 +20,9 @@
 //!
 //! A call takes constant time, unless the map of the nodes grows, with these exceptions:
 //!
-//! - [`Scene::depth`] and [`Scene::is_within`] take time linear in the number of nodes above the node,
-//!   and [`Scene::reparent`] in the number of those above the new parent.
+//! - [`Scene::depth`], [`Scene::fold_up`], [`Scene::world`] and [`Scene::is_within`] take time linear in
+//!   the number of nodes above the node. So do [`Scene::reparent`], [`Scene::move_before`] and
+//!   [`Scene::move_after`] in the number of those above the new place.
 //! - [`Scene::remove`] takes time linear in the number of nodes that it removes, and
 //!   [`Scene::descendants`] in the number of those that it lists.
 //! - [`Scene::clear`] and [`Scene::clone`] take time linear in the number of slots. So do all steps of
@@ -71,6 +73,7 @@ mod insert;
 mod iter;
 mod links;
 mod nodes;
+mod siblings;
 mod tree;
 pub mod world;
 
@@ -138,6 +141,23 @@ pub enum ReparentError {
     GoneParent,
     /// The new parent is the node itself, or below it.
     #[error("the new parent is below the node")]
+    Cycle,
+}
+
+/// A node was not moved beside another one. The scene is unchanged.
+#[derive(Clone, Copy, Debug, Drop, PartialEq, Eq, Error)]
+pub enum MoveError {
+    /// The node doesn't exist.
+    #[error("the node is gone")]
+    GoneNode,
+    /// The sibling doesn't exist, or is a root.
+    #[error("the sibling is gone, or a root")]
+    GoneSibling,
+    /// The sibling is the node itself.
+    #[error("the sibling is the node itself")]
+    Same,
+    /// The sibling is below the node.
+    #[error("the sibling is below the node")]
     Cycle,
 }
 

@@ -1,12 +1,12 @@
 //! The trees of the nodes: a node becomes a child or a root, and a tree is removed.
 
-ghost use Rattle.std.specs.Prelude.{◌≡◌, ◌++◌, ◌∷◌, [], List, Some, None, option_map};
+ghost use Rattle.std.specs.Prelude.{◌≡◌, ◌≢◌, ◌++◌, ◌∷◌, [], List, Some, None, option_map};
 ghost use Rattle.std.specs.FinMap as map;
 ghost use Rattle.slotmap.specs.Words.{Key as KeyOf, KeepsSpent, Leaves};
 ghost use Rattle.slotmap_keylist.specs.KeyLists.{times};
 ghost use Rattle.slotmap_keylist.specs.Linked.{link_between};
 ghost use Rattle.slotmap_scene.specs.Climb.{IsWithin, has_node, lacks_node, parent_of};
-ghost use Rattle.slotmap_scene.specs.Family.{IsMoved, IsScene, around, as_last_child, as_root, children_of, forgets, placed, value_of, with_child, with_children_in, without_child};
+ghost use Rattle.slotmap_scene.specs.Family.{IsMoved, IsScene, around, as_child, as_last_child, as_root, children_of, forgets, placed, value_of, with_child, with_children_in, without_child};
 
 use crate::family::Nodes;
 use crate::links::LinkedNode;
@@ -21,6 +21,17 @@ pub(crate) enum Side {
 }
 
 impl<T: Drop> Nodes<T> {
+    // Puts a node that is in no list in front of the children of another one.
+    pub fn attach_first(&mut self, node: DefaultKey, parent: DefaultKey)
+        requires node { has_node self.old.live node }
+        requires parent { has_node self.old.live parent }
+        requires alone { (p : KeyOf) → times node (children_of self.old.live p) ≡ 0 }
+        ensures { self.new ≡ record self.old { live = with_children_in self.old.live parent (map.get self.old.live parent) (λ ks. node ∷ ks) } }
+    {
+        let next = self.first(parent);
+        self.put_between(parent, node, Link { prev: None, next });
+    }
+
     // Puts a node that is in no list behind the children of another one.
     pub fn attach(&mut self, node: DefaultKey, parent: DefaultKey)
         requires node { has_node self.old.live node }
@@ -109,6 +120,48 @@ impl<T: Drop> Nodes<T> {
         self.leave(node);
         self.set_parent(node, Some(parent));
         self.attach(node, parent);
+    }
+
+    // Makes a node the first child of another one, which isn't below it.
+    pub fn move_first(&mut self, node: DefaultKey, parent: DefaultKey)
+        requires node { has_node self.old.live node }
+        requires parent { has_node self.old.live parent }
+        requires no_cycle { IsWithin self.old.live parent node → ⊥ }
+        requires scene { IsScene self.old.live }
+        ensures moved { self.new ≡ record self.old { live = as_child self.old.live node parent (λ ks. node ∷ ks) } }
+        ensures trees { IsMoved self.old.live self.new.live node (Some parent) (λ ks. node ∷ ks) }
+        ensures values { (k : KeyOf) → value_of self.new.live k ≡ value_of self.old.live k }
+        ensures scene { IsScene self.new.live }
+        ensures stale { KeepsSpent self.old self.new }
+    {
+        self.leave(node);
+        self.set_parent(node, Some(parent));
+        self.attach_first(node, parent);
+    }
+
+    // Puts a node among the children of a parent, which isn't below it, right before another of them, or
+    // right behind it.
+    pub fn move_beside(
+        &mut self,
+        node: DefaultKey,
+        side: Side,
+        sibling: DefaultKey,
+        parent: DefaultKey,
+    )
+        requires node { has_node self.old.live node }
+        requires sibling { parent_of self.old.live sibling ≡ Some parent }
+        requires apart { node ≢ sibling }
+        requires no_cycle { IsWithin self.old.live parent node → ⊥ }
+        requires scene { IsScene self.old.live }
+        ensures moved { self.new ≡ record self.old { live = as_child self.old.live node parent (placed side sibling node) } }
+        ensures trees { IsMoved self.old.live self.new.live node (Some parent) (placed side sibling node) }
+        ensures values { (k : KeyOf) → value_of self.new.live k ≡ value_of self.old.live k }
+        ensures scene { IsScene self.new.live }
+        ensures stale { KeepsSpent self.old self.new }
+    {
+        self.leave(node);
+        self.set_parent(node, Some(parent));
+        self.attach_beside(node, side, sibling, parent);
     }
 
     // Removes a node that has no children, and takes it out of the list of its parent.

@@ -1,14 +1,18 @@
 //! Values that are composed along the path from a node to its root, as transforms in a scene graph.
 //!
 //! [`Scene::fold_up`] folds a closure along the values from a node up to its root. [`Scene::world`]
-//! returns a node's value in the coordinates of its root, where the values are [`Transform`]s. What is
+//! returns a node's value in the coordinates of its root, where the values are [`Transform`]s. Where a
+//! value has a transform among other things, [`Scene::world_transform`] returns that one. What is
 //! proved of them:
 //!
 //! - The closure is called once for each value from the node's own to the root's, in that order.
-//! - The result of `world` is the node's own value composed with its ancestors', up to the root.
+//! - The result of `world` and `world_transform` is the node's own transform composed with its
+//!   ancestors', up to the root, each under the next one up. So it is for floats too.
+//! - Where it doesn't matter which two of three transforms are composed first, the result is also the
+//!   node's own transform under that of its parent in the coordinates of the root.
 //! - They return `None` exactly if the node doesn't exist.
 //!
-//! Both take time linear in the number of nodes above the one that they are given. Neither fails
+//! They take time linear in the number of nodes above the one that they are given. None of them fails
 //! for memory.
 //!
 //! ```
@@ -22,7 +26,7 @@
 
 ghost use Rattle.std.specs.Prelude.{◌≡◌, IfSome, IfNone};
 ghost use Rattle.slotmap_scene.specs.Climb.{lacks_node};
-ghost use Rattle.slotmap_scene.specs.WorldValue.{CallableUp, FoldsUp, IsWorld};
+ghost use Rattle.slotmap_scene.specs.WorldValue.{CallableUp, FoldsUp, IsComposed, IsWorld, Joins};
 
 use crate::Scene;
 use slotmap::Key;
@@ -30,7 +34,8 @@ use slotmap_keylist::{inner, outer};
 
 /// A value that is given in the coordinates of a parent, as a position or a rotation is.
 ///
-/// An implementation proves that `a.under(b)` under `c` is `a` under `b.under(c)`.
+/// No law is asked of it, so floats can be transforms. Where `a.under(b)` under `c` is `a` under
+/// `b.under(c)`, [`Scene::world`] says more.
 pub trait Transform: Copy {
     /// The first value, in the coordinates in which the second one is given.
     ghost under: { Self → Self → Self };
@@ -44,9 +49,19 @@ pub trait Transform: Copy {
     /// ```
     fn under(&self, parent: &Self) -> Self
         ensures { result ≡ under self.now parent.now };
+}
 
-    /// Of three in a row, it doesn't matter which two are put together first.
-    ghost joins: { (a b c : Self) → under (under a b) c ≡ under a (under b c) };
+/// A value that has a transform among other things: a node that has a name too, for example.
+pub trait HasTransform {
+    /// The type of the transform.
+    type Transform: Transform;
+
+    /// The transform of a value.
+    ghost transform_of: { Self → Self.Transform };
+
+    /// Returns the transform of this value.
+    fn transform(&self) -> Self::Transform
+        ensures { result ≡ transform_of self.now };
 }
 
 /// A shift along two axes. Sums wrap around.
@@ -59,11 +74,9 @@ pub struct Offset {
 }
 
 impl Transform for Offset {
-    ghost use Rattle.slotmap_scene.specs.Offset.{shifted, shifted_joins};
+    ghost use Rattle.slotmap_scene.specs.Offset.{shifted};
 
     ghost under = { shifted };
-
-    ghost joins = { shifted_joins };
 
     fn under(&self, parent: &Offset) -> Offset {
         Offset {
@@ -124,7 +137,8 @@ impl<K: Key, T: Transform> Scene<K, T> {
     /// assert_eq!(rt; arm.world(hand), Some(Offset { x: 8, y: -4 }));
     /// ```
     pub fn world(&self, node: K) -> Option<T>
-        ensures some { IfSome result (IsWorld T.under self.now.live (K.data_of node)) }
+        ensures some { IfSome result (IsComposed T.under (λ v. v) self.now.live (K.data_of node)) }
+        ensures joined { Joins T.under → IfSome result (IsWorld T.under self.now.live (K.data_of node)) }
         ensures none { IfNone result (lacks_node self.now.live (K.data_of node)) }
     {
         let own = self.nodes.get(inner(node))?;
@@ -135,6 +149,28 @@ impl<K: Key, T: Transform> Scene<K, T> {
                 outer::<K>(parent),
                 local,
                 |below, above| below.under(above),
+            ),
+        }
+    }
+}
+
+impl<K: Key, T: HasTransform + Drop> Scene<K, T> {
+    /// Returns the transform of a node in the coordinates of its root.
+    ///
+    /// This is the transform of the node's own value composed with its ancestors', up to the root. It
+    /// returns `None` exactly if the node doesn't exist. Linear in the number of nodes above.
+    pub fn world_transform(&self, node: K) -> Option<T::Transform>
+        ensures some { IfSome result (IsComposed T.Transform.under T.transform_of self.now.live (K.data_of node)) }
+        ensures none { IfNone result (lacks_node self.now.live (K.data_of node)) }
+    {
+        let own = self.nodes.get(inner(node))?;
+        let local = own.value.transform();
+        match own.parent {
+            None => Some(local),
+            Some(parent) => self.fold_up(
+                outer::<K>(parent),
+                local,
+                |below: T::Transform, above| below.under(&above.transform()),
             ),
         }
     }

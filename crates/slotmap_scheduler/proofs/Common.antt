@@ -3,7 +3,7 @@ pub use Rattle.std.proofs.Common.{ap, append-nil, append_assoc, arith, Bool, Bor
 pub use Rattle.std.proofs.Common.{option_copied, refl, Result, rules, set as list_set, Some, subst, suc, sym, T, true, vec_len, zero, ℕ}
 pub use Rattle.std.proofs.lemmas.Bool.Decides.{nat_tests}
 pub use Rattle.std.proofs.lemmas.Cmp.{on_total, then_total}
-pub use Rattle.std.proofs.lemmas.List.{get_or-append_right, get_or_append_left, get_or-set_other, get_or-set_same, get_or_read_under, length-map, length-set, map_push, nil_from_length}
+pub use Rattle.std.proofs.lemmas.List.{get_or-append_right, get_or_append_left, get_or-set_other, get_or-set_same, get_or_read_under, length-append, length-map, length-set, map_push, nil_from_length}
 pub use Rattle.std.proofs.lemmas.List.Edits.{Swapped}
 pub use Rattle.std.proofs.lemmas.List.Elements.{All-cons, All-from_recursion, All-head, All-map, All-nil, All-push, All-tail, same_from_all_zip}
 pub use Rattle.std.proofs.lemmas.Map.Lookups.{CmpEqualImpliesEq, exact_pairs, exact_unsigned}

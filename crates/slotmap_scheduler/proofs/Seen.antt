@@ -1,8 +1,8 @@
 -- What a scheduler's user sees, by what its map holds.
 use Rattle.std.proofs.Common.{◌≡◌, ◌<◌, [], ◌∷◌, ◌∙◌}
 use Rattle.slotmap_scheduler.proofs.Common.{ℕ, false, List, Bor, Option, Some, None, is_some, option_copied, length, refl, sym, ap, arith, list_map, slice_get, Vec, All}
-use Rattle.slotmap_scheduler.proofs.Common.{option_map, find, length-map, slice_get-get_or, Key, key_cmp, Content, keys_total, exact_keys, itself, get-mapped, len-mapped, Job}
-use Rattle.slotmap_scheduler.proofs.Common.{Entry, Waiting, job_of, without, ListsJobs, shown, Turn, waiting_of, InOrder, precedes, no_entry, turn_at, heap_entry, unplaced, timed}
+use Rattle.slotmap_scheduler.proofs.Common.{option_map, find, length-map, slice_get-get_or, Key, key_cmp, Content, get-mapped, len-mapped, Job}
+use Rattle.slotmap_scheduler.proofs.Common.{Entry, job_of, without, ListsJobs, shown, Turn, waiting_of, InOrder, precedes, no_entry, turn_at, heap_entry, unplaced, timed}
 use Rattle.slotmap_scheduler.proofs.Common.{IsSchedule}
 use Rattle.std.specs.FinMap as map
 use Rattle.slotmap_scheduler.proofs.Order.{job_is, len_is, waits_first, none_due, none_wait}
@@ -86,8 +86,3 @@ module _ {T : Type 0} (jobs : Content (Job T)) (count : ℕ) (is : InOrder (time
     same = λ k. find-shown (map.entries jobs.live) k ∙ ap (option_map (λ (j : Job T). (j.turn.0, j.job))) (sym (map.get-entries jobs.live k)) ∙ sym (seen_is jobs count is k);
     count = length-map (map.entries jobs.live) shown ∙ sym (map.len-entries jobs.live) ∙ sym (len_is (timed jobs).live count is ∙ len-mapped unplaced jobs.live);
   }
-
--- the first job that waits, as it was returned
-pub popped : {T : Type 0} (k : Key) (time : ℕ) (first : T) (ws : Waiting T) → ws ≡ (k, (time, first)) ∷ without k ws → (job : T) → Some job ≡ option_map (λ (due : ℕ × T). due.1) (job_of k ws)
-    → ws ≡ (k, (time, job)) ∷ without k ws
-popped k time first ws is job returned = grind (arith, itself keys_total exact_keys k)

@@ -1,5 +1,5 @@
 -- The jobs of a scheduler in another order, and those that are due.
-use Rattle.std.specs.Prelude.{◌≡◌, ℕ, ◌<◌, ◌≤◌, ◌++◌, nat_lt, cond, List, [], ◌∷◌, length, map as list_map}
+use Rattle.std.specs.Prelude.{◌≡◌, ℕ, ◌≤◌, ◌++◌, nat_lt, cond, List, [], ◌∷◌, length, map as list_map}
 use Rattle.std.specs.List.{All}
 use Rattle.slotmap.specs.Words.{Key}
 use Rattle.slotmap_scheduler.specs.declared.Job.{Job}
@@ -33,13 +33,12 @@ module _ {T : Type 0} where
   abbrev pub Due : {K : Type 0} → (K → Key) → List (Key × (ℕ × T)) → List (K × T) → Type 0
   Due data_of waiting taken = list_map {B = Key × T} (λ e. (e.0, e.1.1)) waiting ≡ list_map {B = Key × T} (λ e. (data_of e.0, e.1)) taken
 
-  -- the first jobs, those that are due, were taken out and added to a list; no other is due
+  -- the first jobs, which are due, were taken out and added to a list
   pub record TakesDue {K : Type 0} (data_of : K → Key) (now : ℕ) (old : Waiting T) (items all : List (K × T)) (new : Waiting T) : Type 0 where
     pub first : Waiting T
     pub taken : List (K × T)
     pub waited : old ≡ first ++ new
     pub due : All (λ e. e.1.0 ≤ now) first
     pub sorted : IsByTime first
-    pub later : All (λ e. now < e.1.0) new
     pub returned : Due data_of first taken
     pub added : all ≡ items ++ taken

@@ -1,11 +1,11 @@
 //! The calls that change which jobs wait, and in which order.
 
-ghost use Rattle.std.specs.Prelude.{◌≡◌, ◌≢◌, ℕ, ◌+◌, ◌<◌, ◌≤◌, ◌∷◌, [], Some, None, IfOk, OnOk, IfErr, OnErr, IfSome, OnSome, IfNone, IsOk, is_some, true, option_map, length, vec_len, vec_capacity};
+ghost use Rattle.std.specs.Prelude.{◌≡◌, ◌≢◌, ℕ, ◌+◌, ◌<◌, ◌≤◌, ◌∷◌, [], Some, None, IfOk, OnOk, IfErr, OnErr, IfSome, OnSome, IfNone, IsOk, IsTrue, is_some, true, false, option_map, length, vec_len, vec_capacity};
 ghost use Rattle.std.specs.List.{All};
 ghost use Rattle.std.specs.FinMap as map;
 ghost use Rattle.slotmap.specs.Words.{Key as KeyOf, IsContent, MakesRoom, Inserts, Removes, Keeps, Leaves, IsSpent, KeepsSpent, RefusesCapacity, used};
 ghost use Rattle.slotmap_scheduler.specs.Schedule.{job_of, in_turn, without, last_turn, IsOnce, IsByTime, RefusesJob, RefusesMove};
-ghost use Rattle.slotmap_scheduler.specs.Listed.{TakesDue};
+ghost use Rattle.slotmap_scheduler.specs.Listed.{TakesDue, due_at};
 
 use crate::heap::{make_room, put_in, set_turn, take_out};
 use crate::{RescheduleError, ScheduleError, Scheduler};
@@ -215,11 +215,93 @@ impl<K: Key, T: Drop> Scheduler<K, T> {
         Some((next.turn.0, outer(next.handle)))
     }
 
+    /// Removes the next job, whenever it is due, and returns it with its time and its handle. It is
+    /// never returned again, and its handle is never used again.
+    ///
+    /// Of the jobs that wait it is the one of the least time, and of those of that time the one that
+    /// was scheduled first. `None` means that no job waits. The capacity stays. It takes time
+    /// logarithmic in the number of jobs.
+    ///
+    /// ```
+    /// let mut scheduler: Scheduler<DefaultKey, &str> = Scheduler::new(alloc)?;
+    /// scheduler.schedule(30, "tea")?;
+    /// let bell = scheduler.schedule(20, "bell")?;
+    /// assert_eq!(rt; scheduler.pop_next(), Some((20, bell, "bell")));
+    /// assert_eq!(rt; scheduler.len(), 1);
+    /// ```
+    pub fn pop_next(&mut self) -> Option<(u64, K, T)>
+        // The first job that waits is taken out. None that is left is due before it.
+        ensures next { IfSome result (λ due. (self.old.waiting ≡ (K.data_of due.1, (due.0, due.2)) ∷ self.new.waiting)
+            × All (λ e. due.0 ≤ e.1.0) self.new.waiting) }
+        ensures sorted { IsByTime self.old.waiting }
+        ensures once { IsOnce self.old.waiting }
+        ensures handles { IfSome result (λ due. Removes self.old.handles (K.data_of due.1) self.new.handles) }
+        ensures turns { self.new.turns ≡ self.old.turns }
+
+        // None waits.
+        ensures none { IfNone result (self.old.waiting ≡ []) }
+        ensures unchanged { IfNone result (self.new ≡ self.old) }
+
+        // The capacity stays, and no room is lost.
+        ensures capacity { self.new.handles.capacity ≡ self.old.handles.capacity }
+        ensures leaves { Leaves self.old.handles self.new.handles }
+
+        // What never comes again.
+        ensures for_good { IfSome result (λ due. IsSpent self.new.handles (K.data_of due.1)) }
+        ensures stale { KeepsSpent self.old.handles self.new.handles }
+    {
+        let (time, handle) = self.peek()?;
+        let job = self.cancel(handle).unwrap();
+        Some((time, handle, job))
+    }
+
+    /// Removes the next job, if it is due at `now`, and returns it with its time and its handle. It is
+    /// never returned again, and its handle is never used again.
+    ///
+    /// It is [`Scheduler::pop_due`] with the time for which the job was scheduled. It takes time
+    /// logarithmic in the number of jobs.
+    ///
+    /// ```
+    /// let mut scheduler: Scheduler<DefaultKey, &str> = Scheduler::new(alloc)?;
+    /// let bell = scheduler.schedule(20, "bell")?;
+    /// assert!(rt; scheduler.pop_due_with_time(19).is_none());
+    /// assert_eq!(rt; scheduler.pop_due_with_time(25), Some((20, bell, "bell")));
+    /// ```
+    pub fn pop_due_with_time(&mut self, now: u64) -> Option<(u64, K, T)>
+        // The first job that waits is taken out, and was due. None that is left is due before it.
+        ensures due { IfSome result (λ due. due.0 ≤ now) }
+        ensures next { IfSome result (λ due. (self.old.waiting ≡ (K.data_of due.1, (due.0, due.2)) ∷ self.new.waiting)
+            × All (λ e. due.0 ≤ e.1.0) self.new.waiting) }
+        ensures sorted { IsByTime self.old.waiting }
+        ensures once { IsOnce self.old.waiting }
+        ensures handles { IfSome result (λ due. Removes self.old.handles (K.data_of due.1) self.new.handles) }
+        ensures turns { self.new.turns ≡ self.old.turns }
+
+        // None is due.
+        ensures none { IfNone result (All (λ e. now < e.1.0) self.old.waiting) }
+        ensures unchanged { IfNone result (self.new ≡ self.old) }
+
+        // The capacity stays, and no room is lost.
+        ensures capacity { self.new.handles.capacity ≡ self.old.handles.capacity }
+        ensures leaves { Leaves self.old.handles self.new.handles }
+
+        // What never comes again.
+        ensures for_good { IfSome result (λ due. IsSpent self.new.handles (K.data_of due.1)) }
+        ensures stale { KeepsSpent self.old.handles self.new.handles }
+    {
+        let (time, _) = self.peek()?;
+        if time > now {
+            return None;
+        }
+        self.pop_next()
+    }
+
     /// Removes the next job, if it is due at `now`, and returns it with its handle. It is never
     /// returned again, and its handle is never used again.
     ///
     /// Of the jobs that wait it is the one of the least time, and of those of that time the one that
-    /// was scheduled first. `None` means that no job is due. The capacity stays.
+    /// was scheduled first. `None` means that no job is due. The capacity stays. It takes time
+    /// logarithmic in the number of jobs. [`Scheduler::pop_due_with_time`] returns the job's time too.
     ///
     /// ```
     /// let mut scheduler: Scheduler<DefaultKey, &str> = Scheduler::new(alloc)?;
@@ -249,20 +331,28 @@ impl<K: Key, T: Drop> Scheduler<K, T> {
         ensures for_good { IfSome result (λ due. IsSpent self.new.handles (K.data_of due.0)) }
         ensures stale { KeepsSpent self.old.handles self.new.handles }
     {
-        let (time, handle) = self.peek()?;
-        if time > now {
-            return None;
-        }
-        let job = self.cancel(handle).unwrap();
+        let (_, handle, job) = self.pop_due_with_time(now)?;
         Some((handle, job))
     }
 
-    /// Removes all jobs that are due at `now`, and adds them to a vector with their handles, in their
+    // Whether a job is due.
+    fn has_due(&self, now: u64) -> bool
+        ensures some { IsTrue result → 0 < length (due_at now self.now.waiting) }
+        ensures none { result ≡ false → All (λ e. now < e.1.0) self.now.waiting }
+    {
+        match self.peek() {
+            Some((time, _)) => time <= now,
+            None => false,
+        }
+    }
+
+    /// Removes the jobs that are due at `now`, and adds them to a vector with their handles, in their
     /// order. Their handles are never used again.
     ///
-    /// Room for all jobs that wait is made in the vector first. So if the call fails, nothing has
-    /// changed. Where the vector has that room, the call succeeds. The scheduler's capacity stays. It
-    /// takes time logarithmic in the number of jobs for each job that is due.
+    /// The vector grows only for jobs that are due, so where it has room for these, the call succeeds.
+    /// If memory runs out, the call stops before the next job: the jobs before that one are in the
+    /// vector, and the others wait. No job is lost. The scheduler's capacity stays. It takes time
+    /// logarithmic in the number of jobs for each job that is due.
     ///
     /// ```
     /// let mut scheduler: Scheduler<DefaultKey, &str> = Scheduler::new(alloc)?;
@@ -273,8 +363,9 @@ impl<K: Key, T: Drop> Scheduler<K, T> {
     /// assert_eq!(rt; due.as_slice(), [(bell, "bell"), (tea, "tea")].as_slice());
     /// ```
     pub fn pop_all_due(&mut self, now: u64, due: &mut Vec<(K, T)>) -> Result<(), AllocError>
-        // The first jobs that wait are taken out, those that are due.
-        ensures taken { OnOk result (TakesDue K.data_of now self.old.waiting due.old.items due.new.items self.new.waiting) }
+        // The first jobs that wait are taken out, and were due: all that were, if the call succeeds.
+        ensures taken { TakesDue K.data_of now self.old.waiting due.old.items due.new.items self.new.waiting }
+        ensures none_left { OnOk result (All (λ e. now < e.1.0) self.new.waiting) }
         ensures sorted { IsByTime self.old.waiting }
         ensures once { IsOnce self.old.waiting }
         ensures turns { self.new.turns ≡ self.old.turns }
@@ -283,17 +374,20 @@ impl<K: Key, T: Drop> Scheduler<K, T> {
         ensures capacity { self.new.handles.capacity ≡ self.old.handles.capacity }
         ensures leaves { Leaves self.old.handles self.new.handles }
 
-        // When the call succeeds, and what a failing one leaves.
-        ensures had_room { vec_len due.old + length self.old.waiting ≤ vec_capacity due.old → IsOk result }
-        ensures unchanged { OnErr result (self.new ≡ self.old) }
-        ensures same_items { OnErr result (due.new.items ≡ due.old.items) }
+        // It fails only where the vector is full, and a job that is due still waits.
+        ensures had_room { vec_len due.old + length (due_at now self.old.waiting) ≤ vec_capacity due.old → IsOk result }
+        ensures full { OnErr result (vec_capacity due.new ≤ vec_len due.new) }
+        ensures next_due { OnErr result (0 < length (due_at now self.new.waiting)) }
 
         // What never comes again.
         ensures for_good { (k : KeyOf) → is_some (job_of k self.old.waiting) ≡ true → job_of k self.new.waiting ≡ None → IsSpent self.new.handles k }
         ensures stale { KeepsSpent self.old.handles self.new.handles }
     {
-        due.reserve(self.len())?;
-        while let Some(job) = self.pop_due(now) {
+        // Reads the scheduler, which says that its jobs are in order, each handle once.
+        let _ = self.len();
+        while self.has_due(now) {
+            due.reserve(1)?;
+            let job = self.pop_due(now).unwrap();
             let _ = due.push(job);
         }
         Ok(())

@@ -115,6 +115,14 @@ impl<'a, K: Key, T: Drop> Iterator for Keys<'a, K, T> {
     }
 }
 
+impl<'a, K: Key, T: Drop> ExactSizeIterator for Keys<'a, K, T> {
+    fn len(&self) -> usize {
+        self.jobs.len()
+    }
+}
+
+impl<'a, K: Key, T: Drop> FusedIterator for Keys<'a, K, T> {}
+
 /// An iterator over the jobs that wait: see [`Scheduler::values`].
 ///
 /// A contract sees it as the list of the jobs that it will still yield.
@@ -153,6 +161,14 @@ impl<'a, K: Key, T: Drop> Iterator for Values<'a, K, T> {
         self.jobs.size_hint()
     }
 }
+
+impl<'a, K: Key, T: Drop> ExactSizeIterator for Values<'a, K, T> {
+    fn len(&self) -> usize {
+        self.jobs.len()
+    }
+}
+
+impl<'a, K: Key, T: Drop> FusedIterator for Values<'a, K, T> {}
 
 impl<K: Key, T: Drop> Scheduler<K, T> {
     /// Returns an iterator over the jobs that wait, each with its handle and its time, by ascending

@@ -14,8 +14,10 @@
 //!   only grow. The other calls lose no room.
 //!
 //! The jobs are in a `SlotMap`, and their turns in a heap in a `Vec`; each job has its place in the
-//! heap. So `schedule`, `reschedule`, `cancel` and `pop_due` take time logarithmic in the number of
-//! jobs. `peek`, `get`, `due`, `len` and the like take constant time.
+//! heap. So `schedule`, `reschedule`, `cancel` and the calls that pop a job take time logarithmic in the
+//! number of jobs, unless a vector grows, and `pop_all_due` that for each job that is due. `clear`,
+//! `clone` and all steps of `iter`, `keys` or `values` together take time linear in the number of
+//! slots. `peek`, `get`, `due`, `len` and the like take constant time.
 //!
 //! ```
 //! let mut scheduler: Scheduler<DefaultKey, &str> = Scheduler::new(alloc)?;
@@ -37,9 +39,11 @@ ghost use Rattle.slotmap_scheduler.specs.Schedule.{job_of, IsOnce, IsByTime};
 mod calls;
 mod clone;
 mod heap;
+mod into_iter;
 mod iter;
 
 use heap::{Entry, Jobs};
+pub use into_iter::IntoIter;
 pub use iter::{Iter, Keys, Values};
 use slotmap::{DefaultKey, Key, ReserveError, SlotMap};
 use slotmap_keylist::inner;

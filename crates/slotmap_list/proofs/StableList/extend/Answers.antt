@@ -1,7 +1,8 @@
 use Rattle.std.proofs.Common.{is_err, ◌≡◌, ◌≤◌, ◌+◌, ◌∷◌, [], length, length-append, ap, sym, subst, ◌∙◌, arith, rules}
 use Rattle.slotmap.specs.Words.{KeepsSpent, used}
 use Rattle.slotmap_list.specs.Additions.{Adds, refused}
-use Rattle.slotmap_list.proofs.Adding.{Adds-push, no_room, refused_is, full_after, used_kept}
+use Rattle.std.specs.FinMap as map
+use Rattle.slotmap_list.proofs.Adding.{Adds-push, no_room, refused_is, full_after, used_kept, vacant_less}
 use Rattle.slotmap_list.proofs.StableList.extend.Goals as goal
 
 pub loop-value-preserved : goal.loop-value-preserved
@@ -13,6 +14,8 @@ loop-value-preserved g c =
     (let before = at.invariant.2.used in omega (arith, long, c.in_default.ensures.used)) in
     let room : c.args.self.now.cursors.room + length c.args.self.now.elements ≤ c.push_back.new.self.cursors.room + length c.push_back.new.self.elements =
     omega (arith, long, at.invariant.2.room, c.in_default.ensures.cursors.room) in
+    let vacant : map.len c.args.self.now.cursors.next + length c.args.self.now.elements ≤ map.len c.push_back.new.self.cursors.next + length c.push_back.new.self.elements =
+    omega (arith, long, at.invariant.2.vacant, vacant_less at.self.cursors c.push_back.new.self.cursors (g.K.Key.data_of c.in_default.field-0) tt c.in_default.ensures.cursors) in
     let in_place : length c.push_back.new.self.elements ≤ c.args.self.now.cursors.room + length c.args.self.now.elements → c.push_back.new.self.cursors.capacity ≡ c.args.self.now.cursors.capacity = λ fits.
     c.push_back.ensures.in_place (omega (arith, long, at.invariant.2.room)) ∙ at.invariant.2.in_place (omega (arith, long)) in
     let gone : KeepsSpent c.args.self.now.cursors c.push_back.new.self.cursors = λ k spent. c.push_back.ensures.gone k (at.invariant.2.gone k spent) in
@@ -45,3 +48,8 @@ pub returns-in-Err-clause-room : goal.returns-in-Err-clause-room
 returns-in-Err-clause-room g c =
     let none = no_room c.loop-value.self.cursors.room c.push_back.result (ap is_err c.in-Err.is) c.push_back.ensures.room in
     omega (arith, none, c.loop-value.invariant.2.room, ap length c.in-Err.ensures.unchanged)
+
+pub returns-in-Err-clause-reuses : goal.returns-in-Err-clause-reuses
+returns-in-Err-clause-reuses g c =
+    let none = no_room (map.len c.loop-value.self.cursors.next) c.push_back.result (ap is_err c.in-Err.is) c.push_back.ensures.reuses in
+    omega (arith, none, c.loop-value.invariant.2.vacant, ap length c.in-Err.ensures.unchanged)

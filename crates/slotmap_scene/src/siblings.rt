@@ -1,0 +1,244 @@
+//! The children and the siblings of a node one by one, and moves among them.
+
+ghost use Rattle.std.specs.Prelude.{◌≡◌, ◌↔◌, ◌++◌, ◌∷◌, [], Some, None, IfErr, OnOk, OnErr, IsSome, IsTrue, false, option_map};
+ghost use Rattle.slotmap.specs.Words.{Key as KeyOf, KeepsSpent};
+ghost use Rattle.slotmap_keylist.specs.Linked.{first_or, last_or};
+ghost use Rattle.slotmap_scene.specs.declared.tree.Side.TheVariants.{Before, After};
+ghost use Rattle.slotmap_scene.specs.Climb.{IsWithin, has_node, parent_of};
+ghost use Rattle.slotmap_scene.specs.Family.{IsMoved, as_child, as_last_child, behind, children_of, in_front, placed, siblings_of, value_of};
+ghost use Rattle.slotmap_scene.specs.Refusals.{RefusesMove};
+
+use crate::tree::Side;
+use crate::{MoveError, Scene};
+use slotmap::{DefaultKey, Key};
+use slotmap_keylist::{inner, outer};
+
+impl<K: Key, T: Drop> Scene<K, T> {
+    /// Returns the key of the first child of a node, or `None` if it has none or doesn't exist, in
+    /// constant time.
+    ///
+    /// ```
+    /// let mut scene: Scene<DefaultKey, &str> = Scene::new(alloc)?;
+    /// let car = scene.add_root("car")?;
+    /// let wheel = scene.add_child(car, "wheel")?;
+    /// scene.add_child(car, "door")?;
+    /// assert_eq!(rt; scene.first_child(car), Some(wheel));
+    /// assert_eq!(rt; scene.first_child(wheel), None);
+    /// ```
+    pub fn first_child(&self, node: K) -> Option<K>
+        ensures { option_map K.data_of result ≡ first_or (children_of self.now.live (K.data_of node)) None }
+    {
+        Some(outer(self.nodes.first(inner(node))?))
+    }
+
+    /// Returns the key of the last child of a node, or `None` if it has none or doesn't exist, in
+    /// constant time.
+    ///
+    /// ```
+    /// let mut scene: Scene<DefaultKey, &str> = Scene::new(alloc)?;
+    /// let car = scene.add_root("car")?;
+    /// scene.add_child(car, "wheel")?;
+    /// let door = scene.add_child(car, "door")?;
+    /// assert_eq!(rt; scene.last_child(car), Some(door));
+    /// ```
+    pub fn last_child(&self, node: K) -> Option<K>
+        ensures { option_map K.data_of result ≡ last_or (children_of self.now.live (K.data_of node)) None }
+    {
+        Some(outer(self.nodes.last(inner(node))?))
+    }
+
+    /// Returns the key of the sibling behind a node, or `None` if the node is the last child, a root or
+    /// doesn't exist, in constant time.
+    ///
+    /// ```
+    /// let mut scene: Scene<DefaultKey, &str> = Scene::new(alloc)?;
+    /// let car = scene.add_root("car")?;
+    /// let wheel = scene.add_child(car, "wheel")?;
+    /// let door = scene.add_child(car, "door")?;
+    /// assert_eq!(rt; scene.next_sibling(wheel), Some(door));
+    /// assert_eq!(rt; scene.next_sibling(door), None);
+    /// ```
+    pub fn next_sibling(&self, node: K) -> Option<K>
+        ensures { option_map K.data_of result ≡ behind (K.data_of node) (siblings_of self.now.live (K.data_of node)) }
+    {
+        let node = inner(node);
+        self.parent_key(node)?;
+        Some(outer(self.nodes.link(node).next?))
+    }
+
+    /// Returns the key of the sibling in front of a node, or `None` if the node is the first child, a
+    /// root or doesn't exist, in constant time.
+    ///
+    /// ```
+    /// let mut scene: Scene<DefaultKey, &str> = Scene::new(alloc)?;
+    /// let car = scene.add_root("car")?;
+    /// let wheel = scene.add_child(car, "wheel")?;
+    /// let door = scene.add_child(car, "door")?;
+    /// assert_eq!(rt; scene.prev_sibling(door), Some(wheel));
+    /// assert_eq!(rt; scene.prev_sibling(wheel), None);
+    /// ```
+    pub fn prev_sibling(&self, node: K) -> Option<K>
+        ensures { option_map K.data_of result ≡ in_front None (K.data_of node) (siblings_of self.now.live (K.data_of node)) }
+    {
+        let node = inner(node);
+        self.parent_key(node)?;
+        Some(outer(self.nodes.link(node).prev?))
+    }
+
+    // Moves a node to this side of another one, among the children of its parent.
+    fn move_beside(
+        &mut self,
+        node: DefaultKey,
+        side: Side,
+        sibling: DefaultKey,
+    ) -> Result<(), MoveError>
+        ensures moved { OnOk result ((p : KeyOf) → parent_of self.old.live sibling ≡ Some p
+            → self.new ≡ record self.old { live = as_child self.old.live node p (placed side sibling node) }) }
+        ensures trees { OnOk result ((p : KeyOf) → parent_of self.old.live sibling ≡ Some p
+            → IsMoved self.old.live self.new.live node (Some p) (placed side sibling node)) }
+        ensures values { (k : KeyOf) → value_of self.new.live k ≡ value_of self.old.live k }
+        ensures nodes { OnOk result (has_node self.old.live node × IsSome (parent_of self.old.live sibling)) }
+        ensures no_cycle { OnOk result (IsWithin self.old.live sibling node → ⊥) }
+        ensures stale { KeepsSpent self.old self.new }
+        ensures err { IfErr result (RefusesMove self.old.live node sibling) }
+        ensures unchanged { OnErr result (self.new ≡ self.old) }
+    {
+        if !self.nodes.contains_key(node) {
+            return Err(MoveError::GoneNode);
+        }
+        let Some(parent) = self.parent_key(sibling) else {
+            return Err(MoveError::GoneSibling);
+        };
+        if node == sibling {
+            return Err(MoveError::Same);
+        }
+        if self.is_within(outer(sibling), outer(node)) {
+            return Err(MoveError::Cycle);
+        }
+        self.nodes.move_beside(node, side, sibling, parent);
+        Ok(())
+    }
+
+    /// Moves a node with its subtree to the place right before another one, among the children of that
+    /// one's parent.
+    ///
+    /// It fails exactly if the node doesn't exist, if the sibling is a root or doesn't exist, or if the
+    /// sibling is the node or below it. The scene is then unchanged. The capacity stays. It takes time
+    /// linear in the number of nodes above the sibling.
+    ///
+    /// ```
+    /// let mut scene: Scene<DefaultKey, &str> = Scene::new(alloc)?;
+    /// let car = scene.add_root("car")?;
+    /// let wheel = scene.add_child(car, "wheel")?;
+    /// let door = scene.add_child(car, "door")?;
+    /// assert!(rt; scene.move_before(door, wheel).is_ok());
+    /// assert_eq!(rt; scene.first_child(car), Some(door));
+    /// assert_eq!(rt; scene.move_before(car, wheel), Err(MoveError::Cycle));
+    /// ```
+    pub fn move_before(&mut self, node: K, sibling: K) -> Result<(), MoveError>
+        ensures moved { OnOk result ((p : KeyOf) → parent_of self.old.live (K.data_of sibling) ≡ Some p
+            → self.new ≡ record self.old { live = as_child self.old.live (K.data_of node) p (placed Before (K.data_of sibling) (K.data_of node)) }) }
+        ensures trees { OnOk result ((p : KeyOf) → parent_of self.old.live (K.data_of sibling) ≡ Some p
+            → IsMoved self.old.live self.new.live (K.data_of node) (Some p) (placed Before (K.data_of sibling) (K.data_of node))) }
+        ensures values { (k : KeyOf) → value_of self.new.live k ≡ value_of self.old.live k }
+        ensures nodes { OnOk result (has_node self.old.live (K.data_of node) × IsSome (parent_of self.old.live (K.data_of sibling))) }
+        ensures no_cycle { OnOk result (IsWithin self.old.live (K.data_of sibling) (K.data_of node) → ⊥) }
+        ensures stale { KeepsSpent self.old self.new }
+        ensures err { IfErr result (RefusesMove self.old.live (K.data_of node) (K.data_of sibling)) }
+        ensures unchanged { OnErr result (self.new ≡ self.old) }
+    {
+        self.move_beside(inner(node), Side::Before, inner(sibling))
+    }
+
+    /// Moves a node with its subtree to the place right behind another one, among the children of that
+    /// one's parent.
+    ///
+    /// It fails exactly if the node doesn't exist, if the sibling is a root or doesn't exist, or if the
+    /// sibling is the node or below it. The scene is then unchanged. The capacity stays. It takes time
+    /// linear in the number of nodes above the sibling.
+    ///
+    /// ```
+    /// let mut scene: Scene<DefaultKey, &str> = Scene::new(alloc)?;
+    /// let car = scene.add_root("car")?;
+    /// let wheel = scene.add_child(car, "wheel")?;
+    /// let door = scene.add_child(car, "door")?;
+    /// assert!(rt; scene.move_after(wheel, door).is_ok());
+    /// assert_eq!(rt; scene.last_child(car), Some(wheel));
+    /// assert_eq!(rt; scene.move_after(wheel, car), Err(MoveError::GoneSibling));
+    /// ```
+    pub fn move_after(&mut self, node: K, sibling: K) -> Result<(), MoveError>
+        ensures moved { OnOk result ((p : KeyOf) → parent_of self.old.live (K.data_of sibling) ≡ Some p
+            → self.new ≡ record self.old { live = as_child self.old.live (K.data_of node) p (placed After (K.data_of sibling) (K.data_of node)) }) }
+        ensures trees { OnOk result ((p : KeyOf) → parent_of self.old.live (K.data_of sibling) ≡ Some p
+            → IsMoved self.old.live self.new.live (K.data_of node) (Some p) (placed After (K.data_of sibling) (K.data_of node))) }
+        ensures values { (k : KeyOf) → value_of self.new.live k ≡ value_of self.old.live k }
+        ensures nodes { OnOk result (has_node self.old.live (K.data_of node) × IsSome (parent_of self.old.live (K.data_of sibling))) }
+        ensures no_cycle { OnOk result (IsWithin self.old.live (K.data_of sibling) (K.data_of node) → ⊥) }
+        ensures stale { KeepsSpent self.old self.new }
+        ensures err { IfErr result (RefusesMove self.old.live (K.data_of node) (K.data_of sibling)) }
+        ensures unchanged { OnErr result (self.new ≡ self.old) }
+    {
+        self.move_beside(inner(node), Side::After, inner(sibling))
+    }
+
+    /// Makes a node the first child of its parent, and returns whether it has one.
+    ///
+    /// A root stays where it is. It takes constant time. It can't fail, and the capacity stays.
+    ///
+    /// ```
+    /// let mut scene: Scene<DefaultKey, &str> = Scene::new(alloc)?;
+    /// let car = scene.add_root("car")?;
+    /// scene.add_child(car, "wheel")?;
+    /// let door = scene.add_child(car, "door")?;
+    /// assert!(rt; scene.move_to_front(door));
+    /// assert_eq!(rt; scene.first_child(car), Some(door));
+    /// assert!(rt; !scene.move_to_front(car));
+    /// ```
+    pub fn move_to_front(&mut self, node: K) -> bool
+        ensures which { IsTrue result ↔ IsSome (parent_of self.old.live (K.data_of node)) }
+        ensures moved { (p : KeyOf) → parent_of self.old.live (K.data_of node) ≡ Some p
+            → self.new ≡ record self.old { live = as_child self.old.live (K.data_of node) p (λ ks. K.data_of node ∷ ks) } }
+        ensures trees { (p : KeyOf) → parent_of self.old.live (K.data_of node) ≡ Some p
+            → IsMoved self.old.live self.new.live (K.data_of node) (Some p) (λ ks. K.data_of node ∷ ks) }
+        ensures values { (k : KeyOf) → value_of self.new.live k ≡ value_of self.old.live k }
+        ensures stale { KeepsSpent self.old self.new }
+        ensures unchanged { result ≡ false → self.new ≡ self.old }
+    {
+        let node = inner(node);
+        let Some(parent) = self.parent_key(node) else {
+            return false;
+        };
+        self.nodes.move_first(node, parent);
+        true
+    }
+
+    /// Makes a node the last child of its parent, and returns whether it has one.
+    ///
+    /// A root stays where it is. It takes constant time. It can't fail, and the capacity stays.
+    ///
+    /// ```
+    /// let mut scene: Scene<DefaultKey, &str> = Scene::new(alloc)?;
+    /// let car = scene.add_root("car")?;
+    /// let wheel = scene.add_child(car, "wheel")?;
+    /// scene.add_child(car, "door")?;
+    /// assert!(rt; scene.move_to_back(wheel));
+    /// assert_eq!(rt; scene.last_child(car), Some(wheel));
+    /// ```
+    pub fn move_to_back(&mut self, node: K) -> bool
+        ensures which { IsTrue result ↔ IsSome (parent_of self.old.live (K.data_of node)) }
+        ensures moved { (p : KeyOf) → parent_of self.old.live (K.data_of node) ≡ Some p
+            → self.new ≡ record self.old { live = as_last_child self.old.live (K.data_of node) p } }
+        ensures trees { (p : KeyOf) → parent_of self.old.live (K.data_of node) ≡ Some p
+            → IsMoved self.old.live self.new.live (K.data_of node) (Some p) (λ ks. ks ++ K.data_of node ∷ []) }
+        ensures values { (k : KeyOf) → value_of self.new.live k ≡ value_of self.old.live k }
+        ensures stale { KeepsSpent self.old self.new }
+        ensures unchanged { result ≡ false → self.new ≡ self.old }
+    {
+        let node = inner(node);
+        let Some(parent) = self.parent_key(node) else {
+            return false;
+        };
+        self.nodes.move_below(node, parent);
+        true
+    }
+}
