@@ -7,4 +7,6 @@ mod floats;
 #[cfg(test)]
 mod messages;
 #[cfg(test)]
+mod shown;
+#[cfg(test)]
 mod tests;

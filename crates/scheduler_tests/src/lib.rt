@@ -5,4 +5,6 @@
 #[cfg(test)]
 mod messages;
 #[cfg(test)]
+mod shown;
+#[cfg(test)]
 mod tests;

@@ -1,6 +1,6 @@
 -- The ends of the edges of a list, one after the other.
 use Rattle.std.proofs.Common.{◌≡◌, ◌+◌, ◌<◌, ◌≤◌, ◌∷◌, ◌++◌, ◌∙◌}
-use Rattle.slotmap_graph.proofs.Common.{ℕ, true, false, cond, Option, Some, None, is_some, List, [], length, get_or, take, option_map, refl, sym, ap, arith}
+use Rattle.slotmap_graph.proofs.Common.{ℕ, suc, true, false, cond, Option, Some, None, is_some, List, [], length, get_or, take, option_map, refl, sym, ap, arith}
 use Rattle.slotmap_graph.proofs.Common.{append-nil, append_assoc, nat_eq, option_or, cons_option, find, fold, same_Some, take_more, take_all, take-append-le}
 use Rattle.slotmap_graph.proofs.Common.{filter_map-append, find-append, fold-append, Key, is_key, times, one_itself, times_first, times_joined, SeenEdge, Edges}
 use Rattle.slotmap_graph.proofs.Common.{ListsEdges, from, to, GoesOn, HasEdge, IsBreadthFirst, arrives_at, ends_along, goes_to, marked}
@@ -20,6 +20,16 @@ walked_in passed ahead rest all x so_far next =
 
 pub walked : (passed ahead all : List Key) → passed ++ ahead ≡ all → ahead ≡ [] → passed ≡ all
 walked passed ahead all so_far none = sym (append-nil passed) ∙ ap (λ l. passed ++ l) (sym none) ∙ so_far
+
+-- each edge has one end at most
+module _ {E : Type 0} (end : SeenEdge E → Key) (edges : Edges E) where
+  one_end : (o : Option Key) (ends : List Key) (n : ℕ) → length ends ≤ n → length (cons_option o ends) ≤ suc n
+  one_end None ends n less = omega (arith, less)
+  one_end (Some k) ends n less = omega (arith, less)
+
+  pub ends_less : (ks : List Key) → length (ends_along end edges ks) ≤ length ks
+  ends_less [] = omega arith
+  ends_less (k ∷ ks) = one_end (option_map end (map.get edges k)) (ends_along end edges ks) (length ks) (ends_less ks)
 
 -- the next edge of a walk along the edges of a node
 module _ {E : Type 0} (end : SeenEdge E → Key) (edges : Edges E) (node : Key) (all : List Key) (lists : ListsEdges end edges node all) (passed ahead rest : List Key) (x : Key) (so_far : passed ++ ahead ≡ all) (next : ahead ≡ x ∷ rest) where

@@ -315,6 +315,14 @@ pub into_none : {E : Type 0} (edges : Edges E) (k : Key) (js ks rest : List Key)
 into_none edges k js ks rest out none lists None step = none_touches edges k js ks out none lists step.0
 into_none edges k js ks rest out none lists (Some x) step = tt
 
+-- a node that no edge touches has no edge in its lists
+module _ {E : Type 0} (edges : Edges E) (k : Key) (untouched : (x : Key) (e : SeenEdge E) → map.get edges x ≡ Some e → touches k e ≡ false) (ks : List Key) where
+  pub none_from : ListsEdges from edges k ks → ks ≡ []
+  none_from lists = nothing_listed from edges k ks lists (λ x e there at. let none = untouched x e there in let h : is_key e.from k ≡ true = rw at (is_itself k) in let t : touches k e ≡ true = ap (λ b. b || is_key e.to k) h in absurd (cc))
+
+  pub none_to : ListsEdges to edges k ks → ks ≡ []
+  none_to lists = nothing_listed to edges k ks lists (λ x e there at. let none = untouched x e there in let h : is_key e.to k ≡ true = rw at (is_itself k) in let t : touches k e ≡ true = grind arith in absurd (cc))
+
 -- a node goes that no edge touches
 module _ {N E : Type 0} (nodes : Content (Node N)) (edges : map.FinMap key_cmp (Edge E)) (graph : IsGraph nodes edges) (k : Key)
     (untouched : (x : Key) (e : SeenEdge E) → map.get (map_values seen_edge edges) x ≡ Some e → touches k e ≡ false) (new : Content (Node N)) (is : new.live ≡ map.remove nodes.live k) where

@@ -127,7 +127,7 @@ RefusesEdge nodes edges from to e (Gone back) = ((IsLive nodes from × IsLive no
 RefusesEdge nodes edges from to e (Full back) = IsLive nodes from × IsLive nodes to × (used edges ≡ most) × (back ≡ e)
 RefusesEdge nodes edges from to e (Memory back) = IsLive nodes from × IsLive nodes to × LacksRoom edges × (back ≡ e)
 
--- `TooGreat` only if more nodes or more edges are asked for than a map can hold
+-- `TooGreat` exactly if more nodes or more edges are asked for than a map can hold
 abbrev pub RefusesEither : ℕ → ℕ → ReserveError → Type 0
 RefusesEither nodes edges reserve.TooGreat = (most < nodes) ⊎ (most < edges)
-RefusesEither nodes edges reserve.Memory = nodes ≤ most
+RefusesEither nodes edges reserve.Memory = (nodes ≤ most) × (edges ≤ most)

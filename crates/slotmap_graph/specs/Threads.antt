@@ -45,6 +45,9 @@ module _ {E : Type 0} where
   abbrev pub seen_edge : Edge E → SeenEdge E
   seen_edge e = record { from = e.from; to = e.to; value = e.value }
 
+  abbrev pub with_seen : Key × Edge E → Key × SeenEdge E
+  with_seen e = (e.0, seen_edge e.1)
+
   -- where an edge that is listed in this direction belongs
   abbrev pub end : Direction → SeenEdge E → Key
   end Out = from

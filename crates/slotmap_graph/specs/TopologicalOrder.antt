@@ -1,5 +1,5 @@
 -- An order of the nodes in which each edge goes forward.
-use Rattle.std.specs.Prelude.{◌≡◌, ℕ, ◌+◌, ◌<◌, ◌≤◌, Some, List, [], ◌∷◌, ◌++◌, length, nat_eq, if◌then◌else◌}
+use Rattle.std.specs.Prelude.{◌≡◌, ℕ, ◌+◌, ◌<◌, ◌≤◌, Option, Some, None, List, [], ◌∷◌, ◌++◌, length, nat_eq, if◌then◌else◌}
 use Rattle.std.specs.FinMap as map
 use Rattle.slotmap.specs.Words.{Key, IsBeside, IsLive, Pairs, get}
 use Rattle.slotmap_keylist.specs.KeyLists.{times}
@@ -24,6 +24,11 @@ module _ {E : Type 0} (edges : Edges E) where
   abbrev pub RefusesOrder : OrderError → Type 0
   RefusesOrder (Cycle k) = ClosesCycle k
   RefusesOrder Memory = Unit {0}
+
+-- the edge in the error, if there is one
+abbrev pub edge_in : OrderError → Option Key
+edge_in (Cycle k) = Some k
+edge_in Memory = None
 
 -- the edges that go out of these nodes
 abbrev pub edges_out : ByNode → List Key → List Key

@@ -197,7 +197,7 @@ impl<K: Key, N: Drop, E: Drop> Graph<K, N, E> {
     }
 
     /// Removes every edge from a node or to it, and no other. Their keys are spent for good. The room
-    /// and the capacity stay.
+    /// and the capacity stay. It takes time linear in their number.
     ///
     /// ```
     /// let mut graph: Graph<NodeKey, &str, u64> = Graph::new(alloc)?;
@@ -214,6 +214,8 @@ impl<K: Key, N: Drop, E: Drop> Graph<K, N, E> {
         ensures capacity { self.new.edges.capacity ≡ self.old.edges.capacity }
         ensures out { (k : KeyOf) → edges_at self.new.out k ≡ filter (map.contains_key self.new.edges.live) (edges_at self.old.out k) }
         ensures into { (k : KeyOf) → edges_at self.new.into k ≡ filter (map.contains_key self.new.edges.live) (edges_at self.old.into k) }
+        ensures none_out { edges_at self.new.out (K.data_of node) ≡ [] }
+        ensures none_into { edges_at self.new.into (K.data_of node) ≡ [] }
         ensures nodes { self.new.nodes ≡ self.old.nodes }
         ensures gone { KeepsSpent self.old.edges self.new.edges }
     {
@@ -224,7 +226,7 @@ impl<K: Key, N: Drop, E: Drop> Graph<K, N, E> {
 
     /// Removes a node, and every edge from it or to it. It returns the node's value, or `None` if
     /// the node doesn't exist. The key of the node and those of its edges are never used again. The
-    /// room and the capacity stay.
+    /// room and the capacity stay. It takes time linear in the number of its edges.
     ///
     /// ```
     /// let mut graph: Graph<NodeKey, &str, u64> = Graph::new(alloc)?;
@@ -279,6 +281,10 @@ impl<K: Key, N: Drop, E: Drop> Graph<K, N, E> {
         ensures edges_capacity { self.new.edges.capacity ≡ self.old.edges.capacity }
         ensures for_good { (k : KeyOf) → IsLive self.old.nodes k → IsSpent self.new.nodes k }
         ensures edges_for_good { (k : KeyOf) → IsLive self.old.edges k → IsSpent self.new.edges k }
+        ensures gone { KeepsSpent self.old.nodes self.new.nodes }
+        ensures edges_gone { KeepsSpent self.old.edges self.new.edges }
+        ensures out { (k : KeyOf) → edges_at self.new.out k ≡ [] }
+        ensures into { (k : KeyOf) → edges_at self.new.into k ≡ [] }
     {
         self.nodes.clear();
         self.edges.clear();

@@ -12,12 +12,20 @@
 //!   loses room or changes a capacity.
 //!
 //! Each node has a list of its outgoing edges, and one of its incoming edges. They are links between
-//! the edges: there are two maps, one of nodes and one of edges, and nothing else is allocated. So a
-//! call takes constant time, unless a map grows, with these exceptions:
+//! the edges: there are two maps, one of nodes and one of edges. So a call takes constant time, unless
+//! a map grows, with these exceptions:
 //!
 //! - [`Graph::neighbours`] and [`Graph::find_edge`] take time linear in the number of edges from the
 //!   node.
-//! - [`Graph::remove_node`] takes time linear in the number of the node's edges.
+//! - [`Graph::remove_node`] and [`Graph::remove_edges_of`] take time linear in the number of the node's
+//!   edges.
+//! - [`Graph::reachable`] takes time linear in the number of nodes that it finds and of their edges, and
+//!   in the largest index of one of them.
+//! - [`Graph::topological_order`], [`Graph::clear`] and [`Graph::clone`] take time linear in the number
+//!   of slots of nodes and edges.
+//!
+//! Memory is asked for only by the calls that make a graph, reserve room, add or copy, and by those that
+//! take an `alloc`.
 //!
 //! ```
 //! let mut graph: Graph<NodeKey, &str, u64> = Graph::new(alloc)?;
@@ -32,7 +40,7 @@
 //! ```
 #![tactic(auto, using(slotmap::proofs::Callers::keys, slotmap_keylist::proofs::Mapped::mapped))]
 
-ghost use Rattle.std.specs.Prelude.{◌≡◌, ◌+◌, ◌≤◌, Some, None, IfOk, IfErr, IsOk, IfSome, length, option_copied, option_map, map as list_map, true};
+ghost use Rattle.std.specs.Prelude.{◌≡◌, ◌+◌, ◌≤◌, Some, None, IfOk, IfErr, IsOk, IfSome, IsTrue, ◌↔◌, length, option_copied, option_map, map as list_map, true};
 ghost use Rattle.std.specs.FinMap as map;
 ghost use Rattle.std.specs.Borrow.{sem};
 ghost use Rattle.std.specs.Option.{option_copied_mut};
@@ -42,24 +50,31 @@ ghost use Rattle.slotmap_graph.specs.Threads.{end, lists_of};
 
 mod change;
 mod clone;
+mod debug;
 mod edge_key;
+mod index;
 mod iter;
 mod links;
+mod neighbours;
 mod order;
+mod references;
 mod search;
 
 use crate::links::{Direction, Edges, Nodes, list_ends};
 pub use edge_key::EdgeKey;
 pub use iter::EdgesAt;
+pub use neighbours::Neighbours;
 pub use order::OrderError;
+pub use references::EdgeReferences;
 use slotmap::basic::Keys;
 use slotmap::{DefaultKey, Key, NodeKey, ReserveError, SlotMap};
 use slotmap_keylist::{Ends, Link, outer};
 use std::alloc::Global;
-use std::fmt;
 use std::marker::{Model, PhantomData};
-use std::ops::Index;
 use thiserror::Error;
+
+// How many keys a map holds at most.
+const MOST: usize = 4_294_967_294;
 
 /// A node with its value, and the ends of the lists of its edges.
 #[derive(Drop)]
@@ -156,8 +171,8 @@ impl<K: Key, N: Drop, E: Drop> Graph<K, N, E> {
     /// Makes a graph with no node and with room for so many nodes and edges, with any type of keys of
     /// nodes.
     ///
-    /// It fails with `TooGreat` if one of the two is over 4294967294, and with `Memory` if memory runs
-    /// out.
+    /// It fails with `TooGreat` if one of the two is over 4294967294, and else with `Memory` if memory
+    /// runs out.
     ///
     /// ```
     /// let graph: Graph<DefaultKey, &str, u64> = Graph::with_capacity_and_key(alloc, 2, 4)?;
@@ -174,6 +189,9 @@ impl<K: Key, N: Drop, E: Drop> Graph<K, N, E> {
         ensures edge_room { IfOk result (λ graph. edges ≤ graph.edges.room) }
         ensures err { IfErr result (RefusesEither nodes edges) }
     {
+        if edges > MOST {
+            return Err(ReserveError::TooGreat);
+        }
         let nodes = SlotMap::with_capacity_and_key(alloc, nodes)?;
         let edges = SlotMap::with_capacity_and_key(alloc, edges)?;
         Ok(Graph { nodes, edges })
@@ -253,6 +271,18 @@ impl<K: Key, N: Drop, E: Drop> Graph<K, N, E> {
         ensures { result ≡ map.len self.now.nodes.live }
     {
         self.nodes.len()
+    }
+
+    /// Returns whether there is no node, and so no edge, in constant time.
+    ///
+    /// ```
+    /// let graph: Graph<NodeKey, &str, u64> = Graph::new(alloc)?;
+    /// assert!(rt; graph.is_empty());
+    /// ```
+    pub fn is_empty(&self) -> bool
+        ensures nodes { IsTrue result ↔ (map.len self.now.nodes.live ≡ 0) }
+    {
+        self.node_count() == 0
     }
 
     /// Returns the number of edges, in constant time.
@@ -457,43 +487,5 @@ impl<K: Key, N: Drop, E: Drop> Graph<K, N, E> {
         ensures { result ≡ length (edges_at self.now.into (K.data_of node)) }
     {
         self.edges_to(node).len()
-    }
-}
-
-/// `graph[node]` is the value of a node. The caller proves that the node exists.
-impl<K: Key, N: Drop, E: Drop> Index<K> for Graph<K, N, E> {
-    type Output = N;
-
-    ghost can_index = { λ graph node. IsLive graph.nodes (K.data_of node) };
-
-    ghost index_gives = { λ graph node value. map.get graph.nodes.live (K.data_of node) ≡ Some value };
-
-    fn index(&self, node: K) -> &N {
-        &self.nodes[node].value
-    }
-}
-
-impl<N: fmt::Debug> fmt::Debug for Node<N> {
-    fn fmt<W: fmt::Write>(&self, f: &mut fmt::Formatter<W>) -> fmt::Result {
-        self.value.fmt(f)
-    }
-}
-
-impl<E: fmt::Debug> fmt::Debug for Edge<E> {
-    fn fmt<W: fmt::Write>(&self, f: &mut fmt::Formatter<W>) -> fmt::Result {
-        f.debug_struct("Edge")
-            .field("from", &self.from)
-            .field("to", &self.to)
-            .field("value", &self.value)
-            .finish()
-    }
-}
-
-impl<K: Key, N: fmt::Debug, E: fmt::Debug> fmt::Debug for Graph<K, N, E> {
-    fn fmt<W: fmt::Write>(&self, f: &mut fmt::Formatter<W>) -> fmt::Result {
-        f.debug_struct("Graph")
-            .field("nodes", &self.nodes)
-            .field("edges", &self.edges)
-            .finish()
     }
 }

@@ -4,10 +4,10 @@ ghost use Rattle.std.specs.Prelude.{◌≡◌, ◌<◌, ◌++◌, [], ◌∷◌,
 ghost use Rattle.slotmap.specs.Words.{Key as KeyOf, IsContent, IsLive};
 ghost use Rattle.slotmap_keylist.specs.KeyLists.{is_key, times, without};
 ghost use Rattle.slotmap_keylist.specs.Splice.{own, with_next, with_prev};
-ghost use Rattle.slotmap_graph.specs.Threads.{IsThreaded, KeepsEdges, Rethreads, ends_in, edge_link, link_in, listed, node_ends, with_ends, with_link};
+ghost use Rattle.slotmap_graph.specs.Threads.{IsThreaded, KeepsEdges, Rethreads, ends_in, edge_link, end, link_in, listed, node_ends, seen_edge, turned, with_ends, with_link};
 
 use crate::{Edge, EdgeKey, Node};
-use slotmap::{Key, SlotMap};
+use slotmap::{DefaultKey, Key, SlotMap};
 use slotmap_keylist::{Ends, Link};
 
 // Which edges of a node a list has: those that begin there, or those that end there.
@@ -43,6 +43,16 @@ impl<N> Node<N> {
 }
 
 impl<E> Edge<E> {
+    // Where it leads from a node in whose list of this direction it is.
+    pub(crate) fn far_end(&self, direction: Direction) -> DefaultKey
+        ensures { result ≡ end (turned direction) (seen_edge self.now) }
+    {
+        match direction {
+            Direction::Out => self.to,
+            Direction::Into => self.from,
+        }
+    }
+
     // Its neighbours in one of its two lists.
     pub(crate) fn link(&self, direction: Direction) -> Link<EdgeKey>
         ensures { result ≡ edge_link direction self.now }

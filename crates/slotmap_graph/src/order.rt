@@ -4,7 +4,7 @@ ghost use Rattle.std.specs.Prelude.{◌≡◌, ◌≢◌, ◌-◌, ◌+◌, ◌<
 ghost use Rattle.std.specs.FinMap as map;
 ghost use Rattle.slotmap.specs.Words.{Key as KeyOf, IsContent, IsLive, get, contains_key};
 ghost use Rattle.slotmap_keylist.specs.KeyLists.{times};
-ghost use Rattle.slotmap_graph.specs.TopologicalOrder.{AllPassed, ClosesCycle, ComesFromLeft, Counting, GoesForward, HasCycle, IsLeft, RefusesOrder, Sorting, edges_out};
+ghost use Rattle.slotmap_graph.specs.TopologicalOrder.{AllPassed, ClosesCycle, ComesFromLeft, Counting, GoesForward, HasCycle, IsLeft, RefusesOrder, Sorting, edge_in, edges_out};
 ghost use Rattle.slotmap_graph.specs.Parts.{IsJoined, PutsAlone, edges_at};
 
 use crate::search::{mark, none_seen};
@@ -27,6 +27,27 @@ pub enum OrderError {
     /// The allocation fails.
     #[error("out of memory")]
     Memory,
+}
+
+impl OrderError {
+    /// Returns the edge that closes a cycle, or `None` if memory ran out.
+    ///
+    /// ```
+    /// let mut graph: Graph<NodeKey, &str, u64> = Graph::new(alloc)?;
+    /// let a = graph.add_node("a")?;
+    /// let own = graph.add_edge(a, a, 5)?;
+    /// if let Err(error) = graph.topological_order(alloc) {
+    ///     assert_eq!(rt; error.edge(), Some(own));
+    /// }
+    /// ```
+    pub fn edge(&self) -> Option<EdgeKey>
+        ensures { result ≡ edge_in self.now }
+    {
+        match self {
+            OrderError::Cycle(edge) => Some(*edge),
+            OrderError::Memory => None,
+        }
+    }
 }
 
 impl From<AllocError> for OrderError {

@@ -24,9 +24,9 @@ use std::marker::Model;
 /// assert_eq!(rt; elements.next(), Some((one, 1)));
 /// assert_eq!(rt; elements.next(), None);
 /// ```
-#[derive(Debug, Drop)]
+#[derive(Drop)]
 pub struct IntoIter<K, T> {
-    list: StableList<K, T>,
+    pub(crate) list: StableList<K, T>,
 }
 
 impl<K, T> Model for IntoIter<K, T> {

@@ -49,6 +49,7 @@ use thiserror::Error;
 mod add;
 mod clone;
 mod cursor;
+mod debug;
 mod drain;
 mod extend;
 mod into_iter;
@@ -67,7 +68,7 @@ use links::{Neighbour, Nodes};
 pub use values::{Cursors, Values};
 
 // An element's value, with the keys of its neighbours.
-#[derive(Debug, Drop)]
+#[derive(Drop)]
 struct Node<T> {
     value: T,
     prev: Neighbour,
@@ -78,7 +79,7 @@ struct Node<T> {
 ///
 /// A clause sees `elements`, the list of the cursors with their values, from front to back, and
 /// `cursors`, by which it says that a cursor is never used again.
-#[derive(Debug, Drop)]
+#[derive(Drop)]
 pub struct StableList<K, T> {
     nodes: Nodes<T>,
     first: Neighbour,

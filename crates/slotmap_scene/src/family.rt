@@ -22,7 +22,7 @@ use std::alloc::Global;
 use std::marker::Model;
 use std::ops::Index;
 
-#[derive(Debug, Drop)]
+#[derive(Drop)]
 pub(crate) struct Nodes<T> {
     pub(crate) map: LinkedNodes<T>,
 }

@@ -68,6 +68,7 @@ mod below;
 mod children;
 mod climb;
 mod clone;
+mod debug;
 mod family;
 mod insert;
 mod iter;
@@ -82,7 +83,7 @@ pub mod world;
 /// A clause sees the content of the map of the nodes. Its `live` is the finite map from the keys to the
 /// nodes, each with its value, its parent and its children, and `IsSpent` says which keys are never used
 /// again.
-#[derive(Debug, Drop)]
+#[derive(Drop)]
 pub struct Scene<K, T> {
     alloc: Global,
     nodes: Nodes<T>,

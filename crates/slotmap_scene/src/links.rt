@@ -12,7 +12,7 @@ use slotmap_keylist::{Ends, Link};
 
 // A node: its value, the key of its parent, the two ends of the list of its children, and its neighbours
 // in such a list. A root has no parent.
-#[derive(Debug, Drop)]
+#[derive(Drop)]
 pub(crate) struct LinkedNode<T> {
     pub value: T,
     pub parent: Option<DefaultKey>,

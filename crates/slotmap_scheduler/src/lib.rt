@@ -38,6 +38,7 @@ ghost use Rattle.slotmap_scheduler.specs.Schedule.{job_of, IsOnce, IsByTime};
 
 mod calls;
 mod clone;
+mod debug;
 mod heap;
 mod into_iter;
 mod iter;
@@ -54,7 +55,7 @@ use thiserror::Error;
 
 // A job that waits: its time and its number among all that were scheduled, and its place in the
 // heap.
-#[derive(Debug, Drop)]
+#[derive(Drop)]
 struct Job<T> {
     turn: (u64, u64),
     place: usize,
@@ -66,7 +67,7 @@ struct Job<T> {
 /// A clause sees `waiting`, which has each handle with its time and its job, in the order in which
 /// they will be returned; `handles`, by which it says which handles are never used again; and
 /// `turns`, how many turns were given out.
-#[derive(Debug, Drop)]
+#[derive(Drop)]
 pub struct Scheduler<K, T> {
     jobs: Jobs<T>,
     // The turns of the jobs, none before the one above it.

@@ -1,5 +1,5 @@
 use Rattle.std.proofs.Common.{◌∙◌}
-use Rattle.slotmap_graph.proofs.Common.{true, ap, is_some, key_cmp, left_spent, map_values, mapped-empty, mapped-leaves, mapped-live, spent-mapped, Node, Edge}
+use Rattle.slotmap_graph.proofs.Common.{true, ap, is_some, key_cmp, left_spent, map_values, mapped-empty, mapped-leaves, mapped-live, spent-mapped, spent_leaves, Node, Edge}
 use Rattle.slotmap_graph.proofs.Common.{node_value, seen_edge}
 use Rattle.std.specs.FinMap as map
 use Rattle.slotmap_graph.proofs.GraphSteps.{graph_empty}
@@ -29,3 +29,9 @@ pub returns-clause-edges_for_good : goal.returns-clause-edges_for_good
 returns-clause-edges_for_good g c k live =
     let none = ap (λ m. map.contains_key m k) c.clear-2.ensures.empty ∙ ap is_some (map.get-empty {X = Edge g.row.E.Denot} key_cmp k) in
     spent-mapped seen_edge _ k (left_spent c.self.inside.edges c.clear-2.new.self true c.clear-2.ensures.valid.before k c.clear-2.ensures.leaves (mapped-live seen_edge c.self.inside.edges k (rw (← c.self.view_is) at live)) none)
+
+pub returns-clause-gone : goal.returns-clause-gone
+returns-clause-gone g c = rw (← c.self.view_is) (spent_leaves _ _ (mapped-leaves node_value _ _ c.clear.ensures.leaves))
+
+pub returns-clause-edges_gone : goal.returns-clause-edges_gone
+returns-clause-edges_gone g c = rw (← c.self.view_is) (spent_leaves _ _ (mapped-leaves seen_edge _ _ c.clear-2.ensures.leaves))

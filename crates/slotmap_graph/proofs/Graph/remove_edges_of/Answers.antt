@@ -2,6 +2,7 @@ use Rattle.std.proofs.Common.{◌∙◌}
 use Rattle.slotmap_graph.proofs.Common.{is_some, refl, ap, arith, option_map, keys_total, exact_keys, len_removed, of_some, leaves_none, leaves_in_turn}
 use Rattle.slotmap_graph.proofs.Common.{edges_at, from, to, value}
 use Rattle.slotmap_graph.proofs.Thinned.{thinned_start, thinned_step, thinned_end, thinned_spent, thin_step, thin_end}
+use Rattle.slotmap_graph.proofs.GraphSteps.{none_from, none_to}
 use Rattle.slotmap_graph.proofs.Graph.remove_edges_of.Goals as goal
 
 pub loop-edge-init : goal.loop-edge-init
@@ -51,3 +52,9 @@ returns-clause-leaves g c = c.loop-edge.invariant.leaves
 
 pub returns-clause-capacity : goal.returns-clause-capacity
 returns-clause-capacity g c = c.loop-edge.invariant.capacity
+
+pub returns-clause-none_out : goal.returns-clause-none_out
+returns-clause-none_out g c = none_from c.loop-edge.self.edges.live (g.K.Key.data_of c.args.node) c.in_default.ensures.none _ (c.in_default.ensures.out (g.K.Key.data_of c.args.node))
+
+pub returns-clause-none_into : goal.returns-clause-none_into
+returns-clause-none_into g c = none_to c.loop-edge.self.edges.live (g.K.Key.data_of c.args.node) c.in_default.ensures.none _ (c.in_default.ensures.into (g.K.Key.data_of c.args.node))

@@ -1,0 +1,114 @@
+//! The iterator over the neighbours of a node.
+
+ghost use Rattle.std.specs.Prelude.{◌≡◌};
+ghost use Rattle.std.specs.Iterator.{YieldsFirstBy, item_count};
+ghost use Rattle.slotmap_graph.specs.Parts.{edges_at, from, to};
+ghost use Rattle.slotmap_graph.specs.Search.{ends_along};
+
+use crate::links::{Direction, Edges};
+use crate::{EdgesAt, Graph};
+use slotmap::Key;
+use slotmap_keylist::outer;
+use std::iter::FusedIterator;
+use std::marker::{Model, PhantomData};
+
+/// An iterator over the neighbours of a node, one for each of its outgoing edges or of its incoming
+/// ones: see [`Graph::neighbours_from`] and [`Graph::neighbours_to`].
+///
+/// A contract sees it as the list of the keys that it will still yield. After its end it yields
+/// nothing. Each step takes constant time, and none needs memory.
+#[derive(Drop)]
+pub struct Neighbours<'a, K, E> {
+    edges: &'a Edges<E>,
+    direction: Direction,
+    keys: EdgesAt<'a, E>,
+    key_type: PhantomData<K>,
+}
+
+impl<'a, K, E> Model for Neighbours<'a, K, E> {
+    ghost use Rattle.std.specs.Prelude.{List};
+    ghost use Rattle.slotmap.specs.Words.{Key};
+
+    ghost Value = { List Key };
+
+    ghost use Rattle.slotmap_keylist.specs.Mapped.{map_values};
+    ghost use Rattle.slotmap_graph.specs.Search.{ends_along};
+    ghost use Rattle.slotmap_graph.specs.Threads.{end, seen_edge, turned};
+
+    ghost view = { λ it. ends_along (end (turned it.direction)) (map_values seen_edge it.edges.now.live) it.keys };
+}
+
+impl<'a, K: Key, E: Drop> Iterator for Neighbours<'a, K, E> {
+    type Item = K;
+
+    ghost next_gives = { YieldsFirstBy K.data_of (λ rest. rest) };
+
+    ghost remaining = { item_count (λ rest. rest) };
+
+    fn next(&mut self) -> Option<K> {
+        while let Some(key) = self.keys.next() {
+            if let Some(edge) = self.edges.get(key) {
+                return Some(outer(edge.far_end(self.direction)));
+            }
+        }
+        None
+    }
+
+    fn size_hint(&self) -> (usize, Option<usize>) {
+        (0, Some(self.keys.len()))
+    }
+}
+
+impl<'a, K: Key, E: Drop> FusedIterator for Neighbours<'a, K, E> {}
+
+impl<K: Key, N: Drop, E: Drop> Graph<K, N, E> {
+    /// Returns an iterator over the nodes where this node's outgoing edges end, one for each edge, in the
+    /// order of [`Graph::edges_from`].
+    ///
+    /// Constant time. It needs no memory. A removed node has none.
+    ///
+    /// ```
+    /// let mut graph: Graph<NodeKey, &str, u64> = Graph::new(alloc)?;
+    /// let a = graph.add_node("a")?;
+    /// let b = graph.add_node("b")?;
+    /// graph.add_edge(a, b, 5)?;
+    /// let mut nodes = graph.neighbours_from(a);
+    /// assert_eq!(rt; nodes.next(), Some(b));
+    /// assert_eq!(rt; nodes.next(), None);
+    /// ```
+    pub fn neighbours_from(&self, node: K) -> Neighbours<'_, K, E>
+        ensures { result ≡ ends_along to self.now.edges.live (edges_at self.now.out (K.data_of node)) }
+    {
+        Neighbours {
+            edges: &self.edges,
+            direction: Direction::Out,
+            keys: self.edges_from(node),
+            key_type: PhantomData,
+        }
+    }
+
+    /// Returns an iterator over the nodes where this node's incoming edges begin, one for each edge, in
+    /// the order of [`Graph::edges_to`].
+    ///
+    /// Constant time. It needs no memory. A removed node has none.
+    ///
+    /// ```
+    /// let mut graph: Graph<NodeKey, &str, u64> = Graph::new(alloc)?;
+    /// let a = graph.add_node("a")?;
+    /// let b = graph.add_node("b")?;
+    /// graph.add_edge(a, b, 5)?;
+    /// let mut nodes = graph.neighbours_to(b);
+    /// assert_eq!(rt; nodes.next(), Some(a));
+    /// assert_eq!(rt; nodes.next(), None);
+    /// ```
+    pub fn neighbours_to(&self, node: K) -> Neighbours<'_, K, E>
+        ensures { result ≡ ends_along from self.now.edges.live (edges_at self.now.into (K.data_of node)) }
+    {
+        Neighbours {
+            edges: &self.edges,
+            direction: Direction::Into,
+            keys: self.edges_to(node),
+            key_type: PhantomData,
+        }
+    }
+}
