@@ -236,7 +236,9 @@ def copy_repository(folder):
     libraries = [
         line.split(":")[0].split()[0]
         for line in lines
-        if ":" in line and os.path.exists(os.path.join(TOP, "crates", line.split(":")[0].split()[0], "src/lib.rt"))
+        if ":" in line
+        and " staticlib" not in line.split(":")[0]
+        and os.path.exists(os.path.join(TOP, "crates", line.split(":")[0].split()[0], "src/lib.rt"))
     ]
     lines.append(f"doc_examples: {' '.join(libraries)} serde_json thiserror")
     with open(os.path.join(folder, "crates.txt"), "w", encoding="utf-8") as file:

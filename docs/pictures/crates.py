@@ -26,6 +26,7 @@ CRATES = {
     "slotmap_run": (6, 2, "runs of commands"),
     "slotmap_rows": (0.5, 3, "reads rows of tests"),
     "slotmap": (2, 3, "the library to use: all names"),
+    "slotmap_c": (3.5, 3, "SlotMap for C"),
     "slotrun": (5, 3, "program: runs scripts"),
     "primary_rows": (0.5, 4, "checks the primary maps"),
     "secondary_rows": (2.2, 4, "checks the secondary maps"),
@@ -37,7 +38,7 @@ CRATES = {
     "slotdemo": (5.5, 5, "program: a demonstration"),
 }
 COLORS = {
-    "slotmap": BLUE, "slotrun": ORANGE, "primary_rows": GREEN, "secondary_rows": RED, "joined_rows": SOFT, STRUCTURES: BLUE,
+    "slotmap": BLUE, "slotmap_c": BLUE, "slotrun": ORANGE, "primary_rows": GREEN, "secondary_rows": RED, "joined_rows": SOFT, STRUCTURES: BLUE,
     "slotmap_examples": BLUE, "structure_examples": SOFT, "slotdemo": ORANGE,
     TESTS: GREEN,
 }
@@ -92,7 +93,7 @@ picture.text(22, 38, "The crates: an arrow points to a crate that is used", 18, 
 
 
 def width_of(name):
-    return 6 * PITCH + 146 if name == "slotmap_core" else PITCH + 146 if name == "slotmap_slots" else 244 if CRATES[name][1] >= 3 and name != "slotmap_rows" else 146
+    return 6 * PITCH + 146 if name == "slotmap_core" else PITCH + 146 if name == "slotmap_slots" else 244 if CRATES[name][1] >= 3 and name not in ("slotmap_rows", "slotmap_c") else 146
 
 
 def middle_of(name):
@@ -107,7 +108,7 @@ def drop(name, to, shift, bus, color):
 
 
 # Two crates that use the same ones have a level and a shift each, so that their lines keep apart.
-LEVELS = {"slotmap": (30, -12), "slotrun": (52, 12), "primary_rows": (28, -12), "secondary_rows": (48, 4), "joined_rows": (38, 20), STRUCTURES: (58, 36), "slotmap_examples": (18, -99), "structure_examples": (46, -30), "slotdemo": (32, 0), TESTS: (8, 60)}
+LEVELS = {"slotmap": (30, -12), "slotmap_c": (16, 30), "slotrun": (52, 12), "primary_rows": (28, -12), "secondary_rows": (48, 4), "joined_rows": (38, 20), STRUCTURES: (58, 36), "slotmap_examples": (18, -99), "structure_examples": (46, -30), "slotdemo": (32, 0), TESTS: (8, 60)}
 for name in uses:
     for to in sorted(uses[name], key=lambda it: CRATES[it][0]):
         if to == "slotmap_core":

@@ -1,0 +1,131 @@
+/* slotmap.h: a slot map from keys to values of 64 bits.
+ *
+ * The map makes a key for each value that is inserted. Insertion, look-up and removal take constant time. A removed key is
+ * never found again: its slot is reused under a newer key. Keys and values are uint64_t. A value is a number, an index or a
+ * pointer, as you like. What the calls do is proved: docs/C.md says what that covers.
+ *
+ * What the caller owes; nothing checks it:
+ * 1. A slotmap_t begins as SLOTMAP_INIT, or as zeros. No other code writes to it, and no copy of an open one is used.
+ * 2. No pointer is NULL. An `out` pointer leads to an initialised variable. No two arguments of a call overlap.
+ * 3. An array has as many elements as the number after it says. With 0 elements its pointer still isn't NULL.
+ * 4. One call at a time uses a slotmap_t. Calls of two threads on it are ordered, as by a lock or a join.
+ * 5. No call is made from a signal handler, or from the forked child of a process with threads.
+ *
+ * All else is answered: any number may be passed as a key, and a closed slotmap_t reads as an empty map. A call that can fail
+ * returns a status. Where it fails, it leaves its `out` variables and the map as they were.
+ */
+#ifndef SLOTMAP_H
+#define SLOTMAP_H
+
+#include <stdbool.h>
+#include <stddef.h>
+#include <stdint.h>
+
+#ifdef __cplusplus
+extern "C" {
+#endif
+
+/* A handle: open, with a map, or closed. `at` is for the library alone; it is null in a closed handle. */
+typedef struct slotmap {
+    void *at;
+} slotmap_t;
+
+/* A closed handle: slotmap_t map = SLOTMAP_INIT; */
+#define SLOTMAP_INIT {0}
+
+/* What a call returns. */
+typedef uint32_t slotmap_status;
+
+enum {
+    SLOTMAP_OK = 0,           /* the call did what it is for */
+    SLOTMAP_FULL = 1,         /* so many keys are over the limit of 4294967294 */
+    SLOTMAP_NO_MEMORY = 2,    /* memory ran out */
+    SLOTMAP_CLOSED = 3,       /* the handle is closed */
+    SLOTMAP_OPEN = 4,         /* the handle is open already */
+    SLOTMAP_NOT_LIVE = 5,     /* the key isn't live: removed, detached, or never one of this map */
+    SLOTMAP_NOT_DETACHED = 6, /* the key isn't detached */
+    SLOTMAP_NO_MORE = 7       /* no live key comes later */
+};
+
+/* No map returns this number as a key. From it slotmap_next begins. */
+#define SLOTMAP_START UINT64_C(0)
+
+/* ---- The map as a whole ---- */
+
+/* Opens a closed handle with an empty map.
+ * SLOTMAP_OK, SLOTMAP_NO_MEMORY, or SLOTMAP_OPEN, which changes nothing. */
+slotmap_status slotmap_new(slotmap_t *map);
+
+/* Frees the map and closes the handle. On a closed handle it does nothing. */
+void slotmap_free(slotmap_t *map);
+
+/* Opens the closed handle `copy` with a copy of the map. It has the same keys and values, and will return the same new keys.
+ * Linear in the number of slots.
+ * SLOTMAP_OK, SLOTMAP_NO_MEMORY, SLOTMAP_CLOSED if `map` is closed, or SLOTMAP_OPEN if `copy` is open. */
+slotmap_status slotmap_clone(slotmap_t *map, slotmap_t *copy);
+
+/* Returns the number of live keys. */
+size_t slotmap_len(slotmap_t *map);
+
+/* Returns the number of slots for which memory is allocated: those of live, detached, vacant and retired keys together. */
+size_t slotmap_capacity(slotmap_t *map);
+
+/* Reserves room for `additional` more keys: the next `additional` calls of slotmap_insert and slotmap_reattach can't fail for
+ * want of memory. Linear in the number of slots if the map grows.
+ * SLOTMAP_OK, SLOTMAP_FULL, SLOTMAP_NO_MEMORY or SLOTMAP_CLOSED. */
+slotmap_status slotmap_reserve(slotmap_t *map, size_t additional);
+
+/* Removes every live key. The capacity stays, and detached keys stay detached. Linear in the number of slots. */
+void slotmap_clear(slotmap_t *map);
+
+/* ---- One key ---- */
+
+/* Inserts a value, and writes its new key. The slot freed last is reused; then the call can't fail. Constant time, unless the
+ * map grows.
+ * SLOTMAP_OK, SLOTMAP_FULL, SLOTMAP_NO_MEMORY or SLOTMAP_CLOSED. */
+slotmap_status slotmap_insert(slotmap_t *map, uint64_t value, uint64_t *key_out);
+
+/* Returns whether the key is live. Constant time, as are the calls below. */
+bool slotmap_contains(slotmap_t *map, uint64_t key);
+
+/* Writes the value of a live key.
+ * SLOTMAP_OK or SLOTMAP_NOT_LIVE. */
+slotmap_status slotmap_get(slotmap_t *map, uint64_t key, uint64_t *value_out);
+
+/* Sets the value of a live key, and writes the value that it had.
+ * SLOTMAP_OK or SLOTMAP_NOT_LIVE. */
+slotmap_status slotmap_set(slotmap_t *map, uint64_t key, uint64_t value, uint64_t *old_out);
+
+/* Removes a live key, and writes its value. The slot is reused under a newer key. Once its last key, of version 4294967295, is
+ * removed, it is retired and never used again.
+ * SLOTMAP_OK or SLOTMAP_NOT_LIVE. */
+slotmap_status slotmap_remove(slotmap_t *map, uint64_t key, uint64_t *value_out);
+
+/* Takes the value of a live key out, and writes it. The key is detached then: it isn't live, and its slot is kept.
+ * SLOTMAP_OK or SLOTMAP_NOT_LIVE. */
+slotmap_status slotmap_detach(slotmap_t *map, uint64_t key, uint64_t *value_out);
+
+/* Binds a detached key to a value again. The call needs no memory.
+ * SLOTMAP_OK or SLOTMAP_NOT_DETACHED. */
+slotmap_status slotmap_reattach(slotmap_t *map, uint64_t key, uint64_t value);
+
+/* ---- All keys ---- */
+
+/* Writes the live key with the least index above that of `key`, and its value. The index is the low half of a key. So `key`
+ * can be any number, and the map may change between two calls:
+ *
+ *     uint64_t key = SLOTMAP_START, value = 0;
+ *     while (slotmap_next(&map, key, &key, &value) == SLOTMAP_OK) { .. }
+ *
+ * Here `key` is passed by value and as an `out`, which is no overlap. Linear in the number of slots that it passes over.
+ * SLOTMAP_OK or SLOTMAP_NO_MORE. */
+slotmap_status slotmap_next(slotmap_t *map, uint64_t key, uint64_t *key_out, uint64_t *value_out);
+
+/* Writes the first live keys and their values, by ascending index, as far as both arrays go. Returns how many it wrote. */
+size_t slotmap_list(slotmap_t *map, uint64_t *keys, size_t keys_len, uint64_t *values, size_t values_len);
+
+#ifdef __cplusplus
+}
+#endif
+
+#endif

@@ -1,0 +1,184 @@
+/* Every call of slotmap.h, as C99 and as C++: what it returns, what it writes, and what it leaves alone. */
+#include "check.h"
+#include "slotmap.h"
+
+#define NULL_KEY UINT64_C(0x1ffffffff)
+#define UNWRITTEN UINT64_C(77)
+
+enum { COUNT = 1000, TURNS = 1000000 };
+
+static uint64_t keys[COUNT], listed[COUNT + 5], values[COUNT + 5];
+
+/* A closed handle reads as an empty map, and no call opens it but slotmap_new and slotmap_clone. */
+static void check_closed(slotmap_t *map)
+{
+    uint64_t out = UNWRITTEN, key = UNWRITTEN;
+    slotmap_t other = SLOTMAP_INIT;
+    CHECK(slotmap_len(map) == 0 && slotmap_capacity(map) == 0);
+    CHECK(slotmap_reserve(map, 5) == SLOTMAP_CLOSED);
+    CHECK(slotmap_insert(map, 1, &out) == SLOTMAP_CLOSED);
+    CHECK(!slotmap_contains(map, UINT64_C(0x100000001)));
+    CHECK(slotmap_get(map, UINT64_C(0x100000001), &out) == SLOTMAP_NOT_LIVE);
+    CHECK(slotmap_set(map, UINT64_C(0x100000001), 5, &out) == SLOTMAP_NOT_LIVE);
+    CHECK(slotmap_remove(map, UINT64_C(0x100000001), &out) == SLOTMAP_NOT_LIVE);
+    CHECK(slotmap_detach(map, UINT64_C(0x100000001), &out) == SLOTMAP_NOT_LIVE);
+    CHECK(slotmap_reattach(map, UINT64_C(0x100000001), 5) == SLOTMAP_NOT_DETACHED);
+    CHECK(slotmap_next(map, SLOTMAP_START, &key, &out) == SLOTMAP_NO_MORE);
+    CHECK(slotmap_list(map, listed, 2, values, 2) == 0);
+    CHECK(slotmap_clone(map, &other) == SLOTMAP_CLOSED && other.at == NULL);
+    slotmap_clear(map);
+    slotmap_free(map);
+    CHECK(out == UNWRITTEN && key == UNWRITTEN && map->at == NULL);
+}
+
+/* A key is the first of its slot, then the second, and a stale one is never found. */
+static void check_keys(slotmap_t *map)
+{
+    uint64_t a = 0, b = 0, c = 0, out = UNWRITTEN;
+    CHECK(slotmap_insert(map, 10, &a) == SLOTMAP_OK && a == UINT64_C(0x100000001));
+    CHECK(slotmap_insert(map, 20, &b) == SLOTMAP_OK && b == UINT64_C(0x100000002));
+    CHECK(slotmap_len(map) == 2 && slotmap_capacity(map) >= 2);
+    CHECK(slotmap_contains(map, a) && slotmap_contains(map, b));
+    CHECK(slotmap_get(map, a, &out) == SLOTMAP_OK && out == 10);
+    CHECK(slotmap_set(map, a, 11, &out) == SLOTMAP_OK && out == 10);
+    CHECK(slotmap_get(map, a, &out) == SLOTMAP_OK && out == 11);
+    CHECK(slotmap_remove(map, a, &out) == SLOTMAP_OK && out == 11);
+    out = UNWRITTEN;
+    CHECK(!slotmap_contains(map, a));
+    CHECK(slotmap_get(map, a, &out) == SLOTMAP_NOT_LIVE && slotmap_set(map, a, 5, &out) == SLOTMAP_NOT_LIVE);
+    CHECK(slotmap_remove(map, a, &out) == SLOTMAP_NOT_LIVE && slotmap_detach(map, a, &out) == SLOTMAP_NOT_LIVE);
+    CHECK(out == UNWRITTEN);
+    CHECK(slotmap_insert(map, 30, &c) == SLOTMAP_OK && c == UINT64_C(0x300000001));
+    CHECK(slotmap_get(map, a, &out) == SLOTMAP_NOT_LIVE && slotmap_get(map, c, &out) == SLOTMAP_OK && out == 30);
+    CHECK(!slotmap_contains(map, SLOTMAP_START) && !slotmap_contains(map, UINT64_MAX) && !slotmap_contains(map, NULL_KEY));
+    /* an even version is read as the odd one after it, as KeyData::from_ffi does */
+    CHECK(slotmap_contains(map, UINT64_C(0x200000001)) && !slotmap_contains(map, UINT64_C(0x400000001)));
+    CHECK(slotmap_new(map) == SLOTMAP_OPEN && slotmap_len(map) == 2);
+}
+
+/* A detached key keeps its slot, and is bound again. */
+static void check_detached(slotmap_t *map)
+{
+    uint64_t a = 0, b = 0, out = 0;
+    CHECK(slotmap_insert(map, 1, &a) == SLOTMAP_OK);
+    CHECK(slotmap_reattach(map, a, 2) == SLOTMAP_NOT_DETACHED);
+    CHECK(slotmap_detach(map, a, &out) == SLOTMAP_OK && out == 1);
+    CHECK(!slotmap_contains(map, a) && slotmap_len(map) == 0);
+    slotmap_clear(map);
+    CHECK(slotmap_insert(map, 3, &b) == SLOTMAP_OK && (uint32_t)b != (uint32_t)a);
+    CHECK(slotmap_reattach(map, a, 2) == SLOTMAP_OK && slotmap_get(map, a, &out) == SLOTMAP_OK && out == 2);
+    CHECK(slotmap_reattach(map, a, 4) == SLOTMAP_NOT_DETACHED && slotmap_reattach(map, NULL_KEY, 4) == SLOTMAP_NOT_DETACHED);
+    CHECK(slotmap_len(map) == 2);
+}
+
+/* Room is reserved up to the limit, and then inserts allocate nothing. */
+static void check_room(slotmap_t *map)
+{
+    uint64_t key = 0;
+    size_t capacity, i;
+    CHECK(slotmap_reserve(map, (size_t)1 << 40) == SLOTMAP_FULL);
+    CHECK(slotmap_reserve(map, (size_t)4294967295u) == SLOTMAP_FULL);
+    CHECK(slotmap_reserve(map, SIZE_MAX) == SLOTMAP_FULL);
+    CHECK(slotmap_reserve(map, COUNT) == SLOTMAP_OK);
+    capacity = slotmap_capacity(map);
+    for (i = 0; i < COUNT; i++)
+        CHECK(slotmap_insert(map, i, &key) == SLOTMAP_OK);
+    CHECK(slotmap_capacity(map) == capacity);
+    slotmap_clear(map);
+    CHECK(slotmap_len(map) == 0 && slotmap_capacity(map) == capacity && !slotmap_contains(map, key));
+}
+
+/* A million removals and inserts over a thousand keys, with a look-up of each stale key. */
+static void check_turns(slotmap_t *map)
+{
+    uint64_t out = 0;
+    unsigned i, at;
+    for (i = 0; i < COUNT; i++)
+        CHECK(slotmap_insert(map, i, &keys[i]) == SLOTMAP_OK);
+    for (i = 0; i < TURNS; i++) {
+        uint64_t stale;
+        at = (unsigned)((uint64_t)i * 2654435761u % COUNT);
+        stale = keys[at];
+        CHECK(slotmap_remove(map, stale, &out) == SLOTMAP_OK);
+        CHECK(slotmap_insert(map, i, &keys[at]) == SLOTMAP_OK);
+        CHECK(!slotmap_contains(map, stale) && keys[at] != stale);
+    }
+    CHECK(slotmap_len(map) == COUNT);
+}
+
+/* slotmap_next and slotmap_list agree, by ascending index, also while the map changes. */
+static void check_walk(slotmap_t *map)
+{
+    uint64_t key = SLOTMAP_START, value = 0, out = 0;
+    size_t i, count = 0;
+    listed[COUNT] = values[COUNT] = UNWRITTEN;
+    CHECK(slotmap_list(map, listed, COUNT + 5, values, COUNT + 5) == COUNT);
+    CHECK(listed[COUNT] == UNWRITTEN && values[COUNT] == UNWRITTEN);
+    while (slotmap_next(map, key, &key, &value) == SLOTMAP_OK) {
+        CHECK(key == listed[count] && value == values[count]);
+        CHECK(slotmap_get(map, key, &out) == SLOTMAP_OK && out == value);
+        CHECK(count == 0 || (uint32_t)listed[count - 1] < (uint32_t)key);
+        count++;
+    }
+    CHECK(count == COUNT && key == listed[COUNT - 1]);
+    CHECK(slotmap_next(map, NULL_KEY, &key, &value) == SLOTMAP_NO_MORE);
+    CHECK(slotmap_next(map, UINT64_MAX, &key, &value) == SLOTMAP_NO_MORE);
+    values[3] = listed[3] = UNWRITTEN;
+    CHECK(slotmap_list(map, listed, 3, values, COUNT) == 3 && slotmap_list(map, listed, COUNT, values, 0) == 0);
+    CHECK(values[3] == UNWRITTEN && listed[3] == UNWRITTEN);
+    /* every second key is removed as the walk stands on it */
+    for (key = SLOTMAP_START, i = 0; slotmap_next(map, key, &key, &value) == SLOTMAP_OK; i++)
+        if (i % 2 == 0)
+            CHECK(slotmap_remove(map, key, &out) == SLOTMAP_OK);
+    CHECK(i == COUNT && slotmap_len(map) == COUNT / 2);
+}
+
+/* A copy has the same keys and values, returns the same new keys, and lives apart. */
+static void check_clone(slotmap_t *map)
+{
+    slotmap_t copy = SLOTMAP_INIT;
+    uint64_t key = SLOTMAP_START, value = 0, other = 0, new_key = 0, new_other = 0;
+    CHECK(slotmap_clone(map, &copy) == SLOTMAP_OK);
+    CHECK(slotmap_clone(map, &copy) == SLOTMAP_OPEN);
+    CHECK(slotmap_len(&copy) == slotmap_len(map));
+    while (slotmap_next(map, key, &key, &value) == SLOTMAP_OK)
+        CHECK(slotmap_get(&copy, key, &other) == SLOTMAP_OK && other == value);
+    CHECK(slotmap_insert(map, 1, &new_key) == SLOTMAP_OK && slotmap_insert(&copy, 2, &new_other) == SLOTMAP_OK);
+    CHECK(new_key == new_other);
+    slotmap_free(&copy);
+    CHECK(slotmap_get(map, new_key, &value) == SLOTMAP_OK && value == 1);
+}
+
+static void with_new(void (*check)(slotmap_t *))
+{
+    slotmap_t map = SLOTMAP_INIT;
+    CHECK(slotmap_new(&map) == SLOTMAP_OK && map.at != NULL);
+    CHECK(slotmap_len(&map) == 0);
+    check(&map);
+    slotmap_free(&map);
+    CHECK(map.at == NULL);
+}
+
+static void check_all_keys(slotmap_t *map)
+{
+    check_turns(map);
+    check_walk(map);
+    check_clone(map);
+}
+
+int main(void)
+{
+    slotmap_t map = SLOTMAP_INIT;
+    static slotmap_t zeros;
+    check_closed(&map);
+    check_closed(&zeros);
+    with_new(check_keys);
+    with_new(check_detached);
+    with_new(check_room);
+    with_new(check_all_keys);
+    CHECK(slotmap_new(&map) == SLOTMAP_OK);
+    slotmap_free(&map);
+    check_closed(&map);
+    printf("calls: %llu checks\n", checks);
+    return 0;
+}

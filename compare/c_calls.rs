@@ -1,0 +1,192 @@
+//! Random calls on the map of the archive, through the C interface, and on a `SlotMap` of the Rust crate: each result is
+//! compared. See c-calls.sh.
+
+#[path = "../c/slotmap.rs"]
+mod port;
+
+use slotmap::{DefaultKey, Key, KeyData, SlotMap};
+
+/// A random number generator: xorshift64*.
+struct Random(u64);
+
+impl Random {
+    fn next(&mut self) -> u64 {
+        self.0 ^= self.0 >> 12;
+        self.0 ^= self.0 << 25;
+        self.0 ^= self.0 >> 27;
+        self.0.wrapping_mul(0x2545_F491_4F6C_DD1D)
+    }
+
+    fn below(&mut self, bound: usize) -> usize {
+        (self.next() % bound as u64) as usize
+    }
+}
+
+fn key(number: u64) -> DefaultKey {
+    DefaultKey::from(KeyData::from_ffi(number))
+}
+
+fn number(key: DefaultKey) -> u64 {
+    key.data().as_ffi()
+}
+
+struct Both {
+    port: port::SlotMap,
+    rust: SlotMap<DefaultKey, u64>,
+    random: Random,
+    // Keys that were returned, and those of them that are detached now.
+    known: Vec<u64>,
+    detached: Vec<u64>,
+    // How many keys may be live.
+    most: usize,
+}
+
+impl Both {
+    fn new(seed: u64) -> Both {
+        let mut random = Random(seed.wrapping_mul(0x9E37_79B9_7F4A_7C15) | 1);
+        let most = [4, 40, 400, 4000][random.below(4)];
+        let port = port::SlotMap::new().unwrap();
+        Both { port, rust: SlotMap::new(), random, known: vec![0], detached: Vec::new(), most }
+    }
+
+    /// A key of this map, live or stale, most often one of the last; or any number, often one near to such a key.
+    fn some_key(&mut self) -> u64 {
+        let recent = self.known.len().min(2 * self.most);
+        let known = self.known[self.known.len() - 1 - self.random.below(recent)];
+        match self.random.below(16) {
+            0 => self.random.next(),
+            1 => known ^ (1 << self.random.below(64)),
+            2 => self.known[self.random.below(self.known.len())],
+            _ => known,
+        }
+    }
+
+    fn insert(&mut self) {
+        let value = self.random.next();
+        let made = self.port.insert(value).unwrap();
+        assert_eq!(made, number(self.rust.insert(value)), "insert");
+        self.known.push(made);
+    }
+
+    fn detach(&mut self) {
+        let at = self.some_key();
+        let value = self.port.detach(at);
+        assert_eq!(value, self.rust.detach(key(at)), "detach {at:#x}");
+        if value.is_some() {
+            self.detached.push(number(key(at)));
+        }
+    }
+
+    /// The crate panics where the key isn't detached, so there the port is asked alone.
+    fn reattach(&mut self) {
+        let value = self.random.next();
+        if self.random.below(3) > 0 && !self.detached.is_empty() {
+            let at = self.detached.swap_remove(self.random.below(self.detached.len()));
+            assert_eq!(self.port.reattach(at, value), Ok(()), "reattach {at:#x}");
+            self.rust.reattach(key(at), value);
+        } else {
+            let at = self.some_key();
+            if !self.detached.contains(&number(key(at))) {
+                assert_eq!(self.port.reattach(at, value), Err(port::Status(6)), "reattach {at:#x}");
+            }
+        }
+    }
+
+    fn next_after(&mut self) {
+        let at = self.some_key();
+        let after = at as u32;
+        let next = self.rust.iter().find(|(it, _)| number(*it) as u32 > after);
+        assert_eq!(self.port.next_after(at), next.map(|(it, value)| (number(it), *value)), "next {at:#x}");
+    }
+
+    fn list(&mut self) {
+        let rust: Vec<(u64, u64)> = self.rust.iter().map(|(it, value)| (number(it), *value)).collect();
+        let len = self.random.below(rust.len() + 2);
+        let (mut keys, mut values) = (vec![7; len], vec![7; len + 1]);
+        let count = self.port.list(&mut keys, &mut values);
+        assert_eq!(count, len.min(rust.len()), "list of {len}");
+        for i in 0..len + 1 {
+            let (key, value) = if i < count { rust[i] } else { (7, 7) };
+            assert!(values[i] == value && (i == len || keys[i] == key), "list of {len} at {i}");
+        }
+    }
+
+    fn walk(&mut self) {
+        let mut at = 0;
+        for (it, value) in &self.rust {
+            assert_eq!(self.port.next_after(at), Some((number(it), *value)), "walk at {at:#x}");
+            at = number(it);
+        }
+        assert_eq!(self.port.next_after(at), None, "walk's end");
+    }
+
+    fn remove(&mut self) {
+        let at = self.some_key();
+        assert_eq!(self.port.remove(at), self.rust.remove(key(at)), "remove {at:#x}");
+    }
+
+    fn rare(&mut self) {
+        match self.random.below(6) {
+            0 => {
+                self.port.clear();
+                self.rust.clear();
+            }
+            1 => {
+                self.port = self.port.try_clone().unwrap();
+                self.rust = self.rust.clone();
+            }
+            2 => self.port.reserve(self.random.below(100)).unwrap(),
+            3 => assert!(self.port.capacity() >= self.rust.len(), "capacity"),
+            4 => self.list(),
+            _ => self.walk(),
+        }
+    }
+
+    fn call(&mut self) {
+        let full = self.rust.len() + self.detached.len() >= self.most;
+        match self.random.below(40) {
+            0..10 if !full => self.insert(),
+            0..20 => self.remove(),
+            20..24 => {
+                let at = self.some_key();
+                assert_eq!(self.port.get(at), self.rust.get(key(at)).copied(), "get {at:#x}");
+            }
+            24..28 => {
+                let (at, value) = (self.some_key(), self.random.next());
+                let old = self.rust.get_mut(key(at)).map(|place| std::mem::replace(place, value));
+                assert_eq!(self.port.set(at, value), old, "set {at:#x}");
+            }
+            28..31 => {
+                let at = self.some_key();
+                assert_eq!(self.port.contains(at), self.rust.contains_key(key(at)), "contains {at:#x}");
+            }
+            31..34 => self.detach(),
+            34..37 => self.reattach(),
+            37..39 => self.next_after(),
+            _ if self.random.below(self.most) < 4 => self.rare(),
+            _ => assert_eq!(self.port.len(), self.rust.len(), "len"),
+        }
+    }
+}
+
+fn main() {
+    let mut words = std::env::args().skip(1).map(|it| it.parse::<u64>().expect("a number"));
+    let calls = words.next().unwrap_or(1_000_000);
+    let seed = words.next().unwrap_or(1);
+    const TURN: u64 = 10_000;
+    let mut made = 0;
+    let mut map = 0;
+    while made < calls {
+        let mut both = Both::new(seed + map);
+        for call in 0..TURN.min(calls - made) {
+            let panicked = std::panic::catch_unwind(std::panic::AssertUnwindSafe(|| both.call()));
+            if panicked.is_err() {
+                eprintln!("c_calls: seed {}, call {call}", seed + map);
+                std::process::exit(1);
+            }
+        }
+        made += TURN.min(calls - made);
+        map += 1;
+    }
+    println!("SlotMap: {made} calls on {map} maps, seeds {seed} to {}: no difference", seed + map - 1);
+}

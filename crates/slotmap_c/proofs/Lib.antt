@@ -1,0 +1,3 @@
+pub mod ArrayLemmas
+pub mod ClosedLemmas
+pub mod Values

@@ -1,0 +1,139 @@
+-- How handles and boxes that were taken apart lie in the machine, for the proofs by hand. Assumes `Logic`.
+--     one_value, fits_one, tells      a value of any type is one machine value, of the type's layout
+--     word, pair                      the machine value of a handle, and of a pointer beside an allocator
+--     handle_out, handle_in           a handle is its word and what it holds
+--     testable                        the pointer of an open handle can be compared with null
+--     unboxed_out, unboxed_in         a box that was taken apart is its pair, the block and the allocator
+--     tuple_out                       so is the tuple that the library takes it apart into
+use Rattle.std.proofs.Common.{◌≡◌, ℕ, List, [], ◌∷◌, ◌++◌, refl, ap, subst, lit<}
+use mathlib.Core.Bool.{Bool, true, false, ◌&&◌}
+use lib.Dec.{T}
+use seplogic.Ra.Ura.{Ura}
+use mir.Syntax.{Ty, tcons, tnil, ty_ptr, ty_struct}
+use mir.Raw.{raw as bare}
+use mir.Val.{Val, vstruct, vcons, vnil, of_list, has_ty, WT}
+use base.Logic.{via, snd∗, guard_i}
+use types.Logic.{Logic, sem}
+use contract.Monad.{fact_use}
+use types.Kit.{Item, Goal, Seq, Step, step, ‵, ◌$◌, use1, given, learn, move, drop, fsplit, fjoin, fpick, fpack, rewrite, feq_i, feq_l}
+use denote.RattleType.{RattleType, Valss}
+use denote.Builtin.{RawPtr}
+use denote.Laws.{Is, Typed, shows}
+use denote.Memory.{lone}
+use denote.Param.{layout}
+use denote.Param.Laws.{Laws}
+use denote.RawPtr.{Ptr, block_ptr, null_ptr, ptr_val, Testable}
+use denote.Steps.{nothing, peeks, only}
+use denote.Struct.Struct.{within}
+use denote.Struct.Owning.{shape}
+use denote.Struct.Tuple.{Tuple}
+use Rattle.core.specs.declared.alloc.Allocator.{Ghosts}
+use Rattle.std_alloc.specs.Box.Ownership.{box_owns}
+use Rattle.core.specs.Ptr.{points_to}
+use Rattle.std.proofs.GlobalToken.{dealloc_token-Testable}
+use Rattle.slotmap_core.specs.Words.{Content}
+use Rattle.slotmap_c.specs.Held.{Map, held, may_free}
+use Rattle.slotmap_c.specs.contracts.handle.Handle as handle
+use Rattle.slotmap_c.specs.contracts.unboxed.Unboxed as unboxed
+
+pub and_true : (x : Bool) → T x → T (x && true)
+and_true true t = tt
+and_true false t = absurd t
+
+abbrev pub Fits : Ty → Val → Type 0
+Fits τ v = T (has_ty τ v) × WT v
+
+of_one : (τ : Ty) (vs : List Val) → Typed (τ ∷ []) vs → (v : Val) × ((vs ≡ v ∷ []) × Fits τ v)
+of_one τ [] typed = absurd typed
+of_one τ (v ∷ []) typed = (v, (refl, typed.0))
+of_one τ (v ∷ w ∷ vs) typed = absurd typed.1
+
+pub one_value : {M : Type 1} {𝓤 : Ura M} (𝓛 : Logic 𝓤) (R : RattleType) → Laws R → (x : R.Denot) (vs : List Val) → Is R x vs
+    → (v : Val) × ((vs ≡ v ∷ []) × Fits (layout R) v)
+one_value 𝓛 R L x vs is = of_one (layout R) vs (subst (λ (τs : List Ty). Typed τs vs) L.one ((L.lawful 𝓛).typed x vs is))
+
+pub fits_one : {M : Type 1} {𝓤 : Ura M} (𝓛 : Logic 𝓤) (R : RattleType) → Laws R → (x : R.Denot) (v : Val) → Is R x (v ∷ []) → Fits (layout R) v
+fits_one 𝓛 R L x v is = (subst (λ (τs : List Ty). Typed τs (v ∷ [])) L.one ((L.lawful 𝓛).typed x (v ∷ []) is)).0
+
+abbrev pub word : Ptr → Val
+word p = vstruct (vcons (ptr_val p) vnil)
+
+abbrev pub pair : Ptr → Val → Val
+pair p h = vstruct (vcons (ptr_val p) (vcons h vnil))
+
+pub ptr_fits : (p : Ptr) → Fits ty_ptr (ptr_val p)
+ptr_fits (block_ptr b o) = (tt, tt)
+ptr_fits null_ptr = (tt, record { fits = lit< tt })
+
+pub word_fits : (p : Ptr) → Fits (ty_struct [] (tcons ty_ptr tnil)) (word p)
+word_fits (block_ptr b o) = (tt, (tt, tt))
+word_fits null_ptr = (tt, (record { fits = lit< tt }, tt))
+
+abbrev pub Row : RattleType
+Row = handle.the_row
+
+module _ {M : Type 1} {𝓤 : Ura M} {𝓛 : Logic 𝓤} {K : Type 0} {Γ : List (Item 𝓤)} {G : Goal 𝓤 𝓛.H} where
+  pub handle_out : K → (h : Row.Denot) (vs : List Val) → (vs ≡ word h.at ∷ [] → Seq K 𝓛 (‵ (held h.at h.is_open h.map) ∷ Γ) G)
+      → Seq K 𝓛 (‵ (Row.own_val h vs) ∷ Γ) G
+  handle_out t h vs next =
+      fsplit t $ fpick t (λ parts. fsplit t $ feq_l t (λ whole. fsplit t $ feq_l t (λ first. drop t $
+      next (subst (λ (us : List Val). vs ≡ vstruct (of_list (us ++ [])) ∷ []) first whole))))
+
+  pub handle_in : K → (h : Row.Denot) → Step K 𝓛 (‵ (Row.own_val h (word h.at ∷ [])) ∷ Γ) G (‵ (held h.at h.is_open h.map) ∷ Γ) G
+  handle_in t h = step (λ s.
+      nothing t $ feq_i t (List Val) (ptr_val h.at ∷ []) (ptr_val h.at ∷ []) refl $ fjoin t $
+      feq_i t (List Val) (word h.at ∷ []) (word h.at ∷ []) refl $ fjoin t $
+      fpack t (Valss (RawPtr ∷ [])) (within (shape handle.the_type) (h.at, tt) (word h.at ∷ [])) (ptr_val h.at ∷ [], tt) $ fjoin t $ s)
+
+module _ {M : Type 1} {𝓤 : Ura M} {𝓛 : Logic 𝓤} {K : Type 0} {Γ : List (Item 𝓤)} {G : Goal 𝓤 𝓛.H} where
+  -- the pointer of an open handle can be compared with null
+  pub testable : K → (p : Ptr) (m : Content ℕ) → (Testable p → Seq K 𝓛 (‵ (held p true m) ∷ Γ) G) → Seq K 𝓛 (‵ (held p true m) ∷ Γ) G
+  testable t p m next = let τ : Ty = bare (lone Map.mir) in
+      use1 𝓛 (given (Testable p) (‵ (held p true m))) (fact_use 𝓤 (Testable p)
+      (via 𝓤 (sem 𝓛 (may_free τ p)) (snd∗ 𝓤 (sem 𝓛 (points_to Map p m)) (sem 𝓛 (may_free τ p)))
+      (dealloc_token-Testable 𝓛 (record { memory = record { seal = tt } }) τ p))
+      (λ may. guard_i 𝓤 (Testable p) (sem 𝓛 (held p true m)) may)) $ learn t next
+
+  -- what is owned of a value tells that it is one machine value
+  pub tells : K → (R : RattleType) → Laws R → (x : R.Denot) (vs : List Val)
+      → ((v : Val) → vs ≡ v ∷ [] → Fits (layout R) v → Seq K 𝓛 (‵ (R.own_val x (v ∷ [])) ∷ Γ) G) → Seq K 𝓛 (‵ (R.own_val x vs) ∷ Γ) G
+  tells t R L x vs next = peeks t R (Is R) (shows 𝓛 R) x vs (λ is. let one = one_value 𝓛 R L x vs is in
+      rewrite t 0 (λ (us : List Val). ‵ (R.own_val x us)) one.1.0 refl $ next one.0 one.1.0 one.1.1)
+
+module _ (R A : RattleType) (L : Laws A) (g : Ghosts A.Denot) where
+  abbrev pub Unboxed : RattleType
+  Unboxed = unboxed.the_row R A g
+
+  pub pair_fits : (p : Ptr) (a : Val) → Fits (layout A) a → Fits (ty_struct [] (tcons ty_ptr (tcons (layout A) tnil))) (pair p a)
+  pair_fits (block_ptr b o) a fits = (and_true (has_ty (layout A) a) fits.0, (tt, (fits.1, tt)))
+  pair_fits null_ptr a fits = (and_true (has_ty (layout A) a) fits.0, (record { fits = lit< tt }, (fits.1, tt)))
+
+  module _ {M : Type 1} {𝓤 : Ura M} {𝓛 : Logic 𝓤} {K : Type 0} {Γ : List (Item 𝓤)} {G : Goal 𝓤 𝓛.H} where
+    pub unboxed_out : K → (u : Unboxed.Denot) (vs : List Val)
+        → ((a : Val) → vs ≡ pair u.pointer a ∷ [] → Fits (layout A) a
+        → Seq K 𝓛 (‵ (box_owns (g.dealloc_token u.alloc) R u.pointer u.held) ∷ ‵ (A.own_val u.alloc (a ∷ [])) ∷ Γ) G)
+        → Seq K 𝓛 (‵ (Unboxed.own_val u vs) ∷ Γ) G
+    unboxed_out t u vs next =
+        fsplit t $ fpick t (λ parts. fsplit t $ feq_l t (λ whole. fsplit t $ feq_l t (λ first. fsplit t $
+        tells t A L u.alloc parts.1.0 (λ a second fits. move t (1 ∷ []) $ drop t $ move t (1 ∷ []) $
+        next a (subst (λ (us : List Val). vs ≡ vstruct (of_list (ptr_val u.pointer ∷ (us ++ []))) ∷ []) second
+        (subst (λ (us : List Val). vs ≡ vstruct (of_list (us ++ (parts.1.0 ++ []))) ∷ []) first whole)) fits))))
+
+    pub unboxed_in : K → (u : Unboxed.Denot) (a : Val)
+        → Step K 𝓛 (‵ (Unboxed.own_val u (pair u.pointer a ∷ [])) ∷ Γ) G
+        (‵ (box_owns (g.dealloc_token u.alloc) R u.pointer u.held) ∷ ‵ (A.own_val u.alloc (a ∷ [])) ∷ Γ) G
+    unboxed_in t u a = step (λ s. let v : Val = pair u.pointer a in
+        nothing t $ move t (2 ∷ 0 ∷ []) $ fjoin t $ feq_i t (List Val) (ptr_val u.pointer ∷ []) (ptr_val u.pointer ∷ []) refl $ fjoin t $
+        feq_i t (List Val) (v ∷ []) (v ∷ []) refl $ fjoin t $
+        fpack t (Valss (RawPtr ∷ A ∷ [])) (within (shape (unboxed.the_type R A g)) (u.pointer, (u.alloc, tt)) (v ∷ []))
+        (ptr_val u.pointer ∷ [], (a ∷ [], tt)) $ fjoin t $ s)
+
+    -- the pair that a box was taken apart into
+    pub tuple_out : K → (r : Ptr × A.Denot) (v : Val)
+        → ((a : Val) → v ≡ pair r.0 a → Fits (layout A) a → Seq K 𝓛 (‵ (A.own_val r.1 (a ∷ [])) ∷ Γ) G)
+        → Seq K 𝓛 (‵ ((Tuple (RawPtr ∷ A ∷ [])).own_val r (v ∷ [])) ∷ Γ) G
+    tuple_out t r v next =
+        fpick t (λ parts. fsplit t $ feq_l t (λ whole. fsplit t $ feq_l t (λ first. fsplit t $
+        tells t A L r.1 parts.1.0 (λ a second fits. move t (1 ∷ []) $ drop t $
+        next a (ap only (subst (λ (us : List Val). v ∷ [] ≡ vstruct (of_list (ptr_val r.0 ∷ (us ++ []))) ∷ []) second
+        (subst (λ (us : List Val). v ∷ [] ≡ vstruct (of_list (us ++ (parts.1.0 ++ []))) ∷ []) first whole))) fits))))

@@ -1,0 +1,99 @@
+//! A handle: a map behind a pointer, or none.
+
+ghost use Rattle.std.specs.Prelude.{◌≡◌, ℕ, Bool, true, false, IfSome, IfNone};
+ghost use Rattle.std.specs.Coded.{coded_ℕ, coded_bool};
+ghost use Rattle.slotmap_core.specs.Words.{Content, content_code};
+ghost use Rattle.slotmap_c.specs.Held.{held, nothing};
+
+use crate::unboxed::Unboxed;
+use slotmap_basic::SlotMap;
+use slotmap_core::keys::DefaultKey;
+use std::alloc::Global;
+use std::marker::Model;
+use std::{mem, ptr};
+
+pub(crate) type Map = SlotMap<DefaultKey, u64>;
+
+/// A handle: open, with a map, or closed. A closed one shows an empty map.
+///
+/// It can't be dropped: an open one would leak its map.
+#[repr(C)]
+pub struct Handle {
+    // The map of an open handle, or null.
+    at: *mut u8,
+    pub ghost is_open: { Bool } by { coded_bool },
+    pub ghost map: { Content ℕ } by { content_code coded_ℕ },
+}
+
+impl Model for Handle {
+    ghost also_owns = { λ h. held h.at h.is_open h.map };
+}
+
+unsafe impl Send for Handle {}
+
+impl Handle {
+    /// Makes a closed handle.
+    pub(crate) fn closed() -> Handle
+        ensures open { result.is_open ≡ false }
+        ensures map { result.map ≡ nothing }
+    {
+        Handle {
+            at: ptr::null_mut(),
+        }
+    }
+
+    /// Lets a closed handle go.
+    pub(crate) fn end(self)
+        requires { self.is_open ≡ false }
+    {
+        let Handle { at: _ } = self;
+    }
+
+    fn of_unboxed(inside: Unboxed<Map, Global>) -> Handle
+        ensures open { result.is_open ≡ true }
+        ensures map { result.map ≡ inside.held }
+    {
+        let Unboxed { pointer, alloc: _ } = inside;
+        Handle {
+            at: pointer as *mut u8,
+        }
+    }
+
+    fn into_unboxed(self, alloc: Global) -> Option<Unboxed<Map, Global>>
+        ensures some { IfSome result (λ unboxed. (self.is_open ≡ true) × (unboxed.held ≡ self.map)) }
+        ensures none { IfNone result ((self.is_open ≡ false) × (self.map ≡ nothing)) }
+    {
+        let Handle { at } = self;
+        if at.is_null() {
+            return None;
+        }
+        Some(Unboxed {
+            pointer: at as *mut Map,
+            alloc,
+        })
+    }
+
+    /// Takes the map out of the handle, which is closed then.
+    #[inline(always)]
+    pub(crate) fn take(&mut self, alloc: Global) -> Option<Box<Map, Global>>
+        ensures some { IfSome result (λ inside. (self.old.is_open ≡ true) × (inside.value ≡ self.old.map)) }
+        ensures none { IfNone result ((self.old.is_open ≡ false) × (self.old.map ≡ nothing)) }
+        ensures open { self.new.is_open ≡ false }
+        ensures map { self.new.map ≡ nothing }
+    {
+        match mem::replace(self, Handle::closed()).into_unboxed(alloc) {
+            Some(unboxed) => Some(unboxed.into_box()),
+            None => None,
+        }
+    }
+
+    /// Puts a map into the closed handle.
+    #[inline(always)]
+    pub(crate) fn put(&mut self, inside: Box<Map, Global>)
+        requires { self.old.is_open ≡ false }
+        ensures open { self.new.is_open ≡ true }
+        ensures map { self.new.map ≡ inside.value }
+    {
+        mem::replace(self, Handle::of_unboxed(Unboxed::of(inside))).end();
+    }
+}

@@ -1,0 +1,83 @@
+//! The calls that go from one live key to the next.
+
+ghost use Rattle.std.specs.FinMap as map;
+ghost use Rattle.std.specs.Prelude.{◌≡◌, length, min, map as list_map};
+ghost use Rattle.slotmap_core.specs.Words.{ffi};
+ghost use Rattle.slotmap_c.specs.Calls.{key_of, NextSays, ListsFirst};
+
+use crate::handle::{Handle, Map};
+use crate::keyed::key;
+use crate::status::{NO_MORE, OK};
+use slotmap_core::keys::Key;
+use std::alloc::Global;
+
+/// Writes the live key with the least index above that of a key, and its value.
+#[unsafe(no_mangle)]
+pub extern "C" fn slotmap_next(
+    alloc: Global,
+    this: &mut Handle,
+    number: u64,
+    key_out: &mut u64,
+    value_out: &mut u64,
+) -> u32
+    ensures says { NextSays this.old.map (key_of number).index result key_out.old key_out.new value_out.old value_out.new }
+    ensures open { this.new.is_open ≡ this.old.is_open }
+    ensures map { this.new.map ≡ this.old.map }
+{
+    let Some(inside) = this.take(alloc) else {
+        return NO_MORE;
+    };
+    match inside.next_after(Some(key(number))) {
+        Some((found, value)) => {
+            *key_out = found.data().as_ffi();
+            *value_out = *value;
+            this.put(inside);
+            OK
+        }
+        None => {
+            this.put(inside);
+            NO_MORE
+        }
+    }
+}
+
+// Writes the live keys and their values, by ascending index, as far as both arrays go.
+fn list(inside: &Map, keys: &mut [u64], values: &mut [u64]) -> usize
+    ensures count { result ≡ min (min (length keys.old) (length values.old)) (map.len inside.now.live) }
+    ensures keys { ListsFirst result (list_map (λ pair. ffi pair.0) (map.entries inside.now.live)) keys.old keys.new }
+    ensures values { ListsFirst result (list_map (λ pair. pair.1) (map.entries inside.now.live)) values.old values.new }
+{
+    let mut count = 0;
+    for (key, value) in inside.iter() {
+        if count >= keys.len() || count >= values.len() {
+            break;
+        }
+        keys[count] = key.data().as_ffi();
+        values[count] = *value;
+        count += 1;
+    }
+    count
+}
+
+/// Writes the live keys and their values, by ascending index, as far as both arrays go, and returns
+/// how many it wrote.
+#[unsafe(no_mangle)]
+pub extern "C" fn slotmap_list(
+    alloc: Global,
+    this: &mut Handle,
+    keys: &mut [u64],
+    values: &mut [u64],
+) -> usize
+    ensures count { result ≡ min (min (length keys.old) (length values.old)) (map.len this.old.map.live) }
+    ensures keys { ListsFirst result (list_map (λ pair. ffi pair.0) (map.entries this.old.map.live)) keys.old keys.new }
+    ensures values { ListsFirst result (list_map (λ pair. pair.1) (map.entries this.old.map.live)) values.old values.new }
+    ensures open { this.new.is_open ≡ this.old.is_open }
+    ensures map { this.new.map ≡ this.old.map }
+{
+    let Some(inside) = this.take(alloc) else {
+        return 0;
+    };
+    let count = list(&inside, keys, values);
+    this.put(inside);
+    count
+}

@@ -1,0 +1,178 @@
+//! The calls for one key.
+
+ghost use Rattle.std.specs.FinMap as map;
+ghost use Rattle.std.specs.Prelude.{◌≡◌, ◌≢◌, ◌<◌, true, false};
+ghost use Rattle.slotmap_core.specs.Words.{Removes, Detaches, StaysValid, MayGrow, with_value};
+ghost use Rattle.slotmap_c.specs.Calls.{key_of, InsertSays, FindSays, ReattachSays};
+ghost use Rattle.slotmap_c.specs.Status.{ok};
+
+use crate::handle::Handle;
+use crate::status::{CLOSED, FULL, NO_MEMORY, NOT_DETACHED, NOT_LIVE, OK};
+use slotmap_core::errors::InsertError;
+use slotmap_core::keys::{DefaultKey, Key, KeyData};
+use std::alloc::Global;
+
+/// Returns the key that a number stands for.
+#[inline(always)]
+pub(crate) fn key(number: u64) -> DefaultKey
+    ensures { result ≡ key_of number }
+{
+    DefaultKey::from(KeyData::from_ffi(number))
+}
+
+// Writes a value that was found.
+#[inline(always)]
+fn found(value: Option<u64>, out: &mut u64) -> u32
+    ensures { FindSays value result out.old out.new }
+{
+    match value {
+        Some(value) => {
+            *out = value;
+            OK
+        }
+        None => NOT_LIVE,
+    }
+}
+
+/// Inserts a value, and writes the number of its new key.
+#[unsafe(no_mangle)]
+pub extern "C" fn slotmap_insert(alloc: Global, this: &mut Handle, value: u64, out: &mut u64) -> u32
+    ensures says { InsertSays this.old.is_open this.old.map value result out.old out.new this.new.map }
+    ensures reuses { this.old.is_open ≡ true → 0 < map.len this.old.map.next → result ≡ ok }
+    ensures valid { this.old.is_open ≡ true → MayGrow true this.old.map (result ≢ ok) this.new.map }
+    ensures open { this.new.is_open ≡ this.old.is_open }
+{
+    let Some(mut inside) = this.take(alloc) else {
+        return CLOSED;
+    };
+    let made = inside.insert(value);
+    this.put(inside);
+    match made {
+        Ok(key) => {
+            *out = key.data().as_ffi();
+            OK
+        }
+        Err(InsertError::Full(_)) => FULL,
+        Err(InsertError::Memory(_)) => NO_MEMORY,
+    }
+}
+
+/// Returns whether a key is live.
+#[unsafe(no_mangle)]
+pub extern "C" fn slotmap_contains(alloc: Global, this: &mut Handle, number: u64) -> bool
+    ensures value { result ≡ map.contains_key this.old.map.live (key_of number) }
+    ensures open { this.new.is_open ≡ this.old.is_open }
+    ensures map { this.new.map ≡ this.old.map }
+{
+    let Some(inside) = this.take(alloc) else {
+        return false;
+    };
+    let is_live = inside.contains_key(key(number));
+    this.put(inside);
+    is_live
+}
+
+/// Writes the value of a live key.
+#[unsafe(no_mangle)]
+pub extern "C" fn slotmap_get(alloc: Global, this: &mut Handle, number: u64, out: &mut u64) -> u32
+    ensures says { FindSays (map.get this.old.map.live (key_of number)) result out.old out.new }
+    ensures open { this.new.is_open ≡ this.old.is_open }
+    ensures map { this.new.map ≡ this.old.map }
+{
+    let Some(inside) = this.take(alloc) else {
+        return NOT_LIVE;
+    };
+    let value = match inside.get(key(number)) {
+        Some(value) => Some(*value),
+        None => None,
+    };
+    this.put(inside);
+    found(value, out)
+}
+
+/// Sets the value of a live key, and writes the value that it had.
+#[unsafe(no_mangle)]
+pub extern "C" fn slotmap_set(
+    alloc: Global,
+    this: &mut Handle,
+    number: u64,
+    value: u64,
+    out: &mut u64,
+) -> u32
+    ensures says { FindSays (map.get this.old.map.live (key_of number)) result out.old out.new }
+    ensures replaces { result ≡ ok → this.new.map ≡ with_value this.old.map (key_of number) value }
+    ensures unchanged { result ≢ ok → this.new.map ≡ this.old.map }
+    ensures valid { this.old.is_open ≡ true → StaysValid true this.old.map this.new.map }
+    ensures open { this.new.is_open ≡ this.old.is_open }
+{
+    let Some(mut inside) = this.take(alloc) else {
+        return NOT_LIVE;
+    };
+    let before = inside.replace(key(number), value);
+    this.put(inside);
+    found(before.ok(), out)
+}
+
+/// Removes a live key, and writes its value.
+#[unsafe(no_mangle)]
+pub extern "C" fn slotmap_remove(
+    alloc: Global,
+    this: &mut Handle,
+    number: u64,
+    out: &mut u64,
+) -> u32
+    ensures says { FindSays (map.get this.old.map.live (key_of number)) result out.old out.new }
+    ensures removes { result ≡ ok → Removes this.old.map (key_of number) this.new.map }
+    ensures unchanged { result ≢ ok → this.new.map ≡ this.old.map }
+    ensures live { this.new.map.live ≡ map.remove this.old.map.live (key_of number) }
+    ensures valid { this.old.is_open ≡ true → StaysValid true this.old.map this.new.map }
+    ensures open { this.new.is_open ≡ this.old.is_open }
+{
+    let Some(mut inside) = this.take(alloc) else {
+        return NOT_LIVE;
+    };
+    let value = inside.remove(key(number));
+    this.put(inside);
+    found(value, out)
+}
+
+/// Takes out the value of a live key, whose slot is kept, and writes it.
+#[unsafe(no_mangle)]
+pub extern "C" fn slotmap_detach(
+    alloc: Global,
+    this: &mut Handle,
+    number: u64,
+    out: &mut u64,
+) -> u32
+    ensures says { FindSays (map.get this.old.map.live (key_of number)) result out.old out.new }
+    ensures detaches { result ≡ ok → Detaches this.old.map (key_of number) this.new.map }
+    ensures unchanged { result ≢ ok → this.new.map ≡ this.old.map }
+    ensures live { this.new.map.live ≡ map.remove this.old.map.live (key_of number) }
+    ensures valid { this.old.is_open ≡ true → StaysValid true this.old.map this.new.map }
+    ensures open { this.new.is_open ≡ this.old.is_open }
+{
+    let Some(mut inside) = this.take(alloc) else {
+        return NOT_LIVE;
+    };
+    let value = inside.detach(key(number));
+    this.put(inside);
+    found(value, out)
+}
+
+/// Binds a detached key to a value again.
+#[unsafe(no_mangle)]
+pub extern "C" fn slotmap_reattach(alloc: Global, this: &mut Handle, number: u64, value: u64) -> u32
+    ensures says { ReattachSays this.old.map (key_of number) value result this.new.map }
+    ensures valid { this.old.is_open ≡ true → StaysValid true this.old.map this.new.map }
+    ensures open { this.new.is_open ≡ this.old.is_open }
+{
+    let Some(mut inside) = this.take(alloc) else {
+        return NOT_DETACHED;
+    };
+    let bound = inside.reattach(key(number), value);
+    this.put(inside);
+    match bound {
+        Ok(()) => OK,
+        Err(_) => NOT_DETACHED,
+    }
+}

@@ -1,0 +1,118 @@
+//! The calls, as C makes them, with ample memory.
+
+use crate::handle::Handle;
+use crate::iterating::{slotmap_list, slotmap_next};
+use crate::keyed::{
+    slotmap_contains, slotmap_detach, slotmap_get, slotmap_insert, slotmap_reattach,
+    slotmap_remove, slotmap_set,
+};
+use crate::status::{CLOSED, NO_MORE, NOT_DETACHED, NOT_LIVE, OK, OPEN};
+use crate::whole::{
+    slotmap_capacity, slotmap_clear, slotmap_clone, slotmap_free, slotmap_len, slotmap_new,
+    slotmap_reserve,
+};
+use std::alloc::Global;
+
+const FIRST: u64 = 0x1_0000_0001;
+
+fn keyed_well(alloc: Global, map: &mut Handle) -> bool {
+    let (mut a, mut c, mut out) = (0, 0, 0);
+    let inserted = slotmap_insert(alloc, map, 10, &mut a);
+    let set = slotmap_set(alloc, map, a, 11, &mut out);
+    let well = (inserted, a, set, out) == (OK, FIRST, OK, 10);
+    let removed = slotmap_remove(alloc, map, a, &mut out);
+    let again = slotmap_insert(alloc, map, 20, &mut c);
+    let well = well && (removed, out, again, c) == (OK, 11, OK, 0x3_0000_0001);
+    let stale = slotmap_get(alloc, map, a, &mut out);
+    let well = well && (stale, out, slotmap_contains(alloc, map, a)) == (NOT_LIVE, 11, false);
+    let live = slotmap_get(alloc, map, c, &mut out);
+    well && (live, out, slotmap_contains(alloc, map, c)) == (OK, 20, true)
+}
+
+fn detached_well(alloc: Global, map: &mut Handle) -> bool {
+    let (mut a, mut out) = (0, 0);
+    let inserted = slotmap_insert(alloc, map, 10, &mut a);
+    let detached = slotmap_detach(alloc, map, a, &mut out);
+    slotmap_clear(alloc, map);
+    let well = (inserted, detached, out, slotmap_len(alloc, map)) == (OK, OK, 10, 0);
+    let bound = slotmap_reattach(alloc, map, a, 12);
+    let again = slotmap_reattach(alloc, map, a, 13);
+    let got = slotmap_get(alloc, map, a, &mut out);
+    well && (bound, again, got, out) == (OK, NOT_DETACHED, OK, 12)
+}
+
+fn listed_well(alloc: Global, map: &mut Handle) -> bool {
+    let (mut a, mut b, mut value) = (0, 0, 0);
+    let first = slotmap_insert(alloc, map, 10, &mut a);
+    let second = slotmap_insert(alloc, map, 20, &mut b);
+    let (mut keys, mut values) = ([0; 3], [0; 3]);
+    let count = slotmap_list(alloc, map, &mut keys, &mut values);
+    let well = (first, second, count) == (OK, OK, 2) && (keys, values) == ([a, b, 0], [10, 20, 0]);
+    let mut key = 0;
+    let next = slotmap_next(alloc, map, 0, &mut key, &mut value);
+    let well = well && (next, key, value) == (OK, a, 10);
+    let next = slotmap_next(alloc, map, a, &mut key, &mut value);
+    let last = slotmap_next(alloc, map, b, &mut key, &mut value);
+    well && (next, last, key, value) == (OK, NO_MORE, b, 20)
+}
+
+fn whole_well(alloc: Global, map: &mut Handle, copy: &mut Handle) -> bool {
+    let (mut a, mut out) = (0, 0);
+    let inserted = slotmap_insert(alloc, map, 10, &mut a);
+    let cloned = slotmap_clone(alloc, map, copy);
+    let again = slotmap_clone(alloc, map, copy);
+    let got = slotmap_get(alloc, copy, a, &mut out);
+    let well = (inserted, cloned, again, got) == (OK, OK, OPEN, OK) && out == 10;
+    let reserved = slotmap_reserve(alloc, map, 5);
+    let opened = slotmap_new(alloc, map);
+    well && (reserved, opened, slotmap_capacity(alloc, map) >= 6) == (OK, OPEN, true)
+}
+
+fn closed_well(alloc: Global, map: &mut Handle, copy: &mut Handle) -> bool {
+    let mut out = 7;
+    let inserted = slotmap_insert(alloc, map, 10, &mut out);
+    let reserved = slotmap_reserve(alloc, map, 1);
+    let cloned = slotmap_clone(alloc, map, copy);
+    let well = (inserted, reserved, cloned, out) == (CLOSED, CLOSED, CLOSED, 7);
+    let got = slotmap_get(alloc, map, FIRST, &mut out);
+    slotmap_free(alloc, map);
+    well && (got, out, slotmap_len(alloc, map)) == (NOT_LIVE, 7, 0)
+}
+
+#[test]
+fn calls_for_one_key(rt: HostRuntime) {
+    let alloc = rt.alloc();
+    let mut map = Handle::closed();
+    let made = slotmap_new(alloc, &mut map);
+    let well = keyed_well(alloc, &mut map);
+    slotmap_clear(alloc, &mut map);
+    let well = well && detached_well(alloc, &mut map);
+    slotmap_free(alloc, &mut map);
+    map.end();
+    assert_eq!(rt; (made, well), (OK, true));
+}
+
+#[test]
+fn calls_for_all_keys(rt: HostRuntime) {
+    let alloc = rt.alloc();
+    let mut map = Handle::closed();
+    let made = slotmap_new(alloc, &mut map);
+    let well = listed_well(alloc, &mut map);
+    slotmap_free(alloc, &mut map);
+    map.end();
+    assert_eq!(rt; (made, well), (OK, true));
+}
+
+#[test]
+fn handles_open_and_closed(rt: HostRuntime) {
+    let alloc = rt.alloc();
+    let (mut map, mut copy) = (Handle::closed(), Handle::closed());
+    let well = closed_well(alloc, &mut map, &mut copy);
+    let made = slotmap_new(alloc, &mut map);
+    let well = well && whole_well(alloc, &mut map, &mut copy);
+    slotmap_free(alloc, &mut map);
+    slotmap_free(alloc, &mut copy);
+    map.end();
+    copy.end();
+    assert_eq!(rt; (made, well), (OK, true));
+}
