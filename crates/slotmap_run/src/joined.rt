@@ -8,8 +8,7 @@ ghost use Rattle.slotmap_core.specs.declared.joined.JoinedDetachCommand.TheVaria
 ghost use Rattle.slotmap_run.specs.Replies.{joined_reattach_reply_of};
 ghost use Rattle.slotmap_run.specs.Ties.{JoinServed};
 
-use crate::given::GivenLook;
-use crate::serves::{Serves, note_valid, run_all};
+use crate::serves::{GivenLook, Serves, note_valid, run_all};
 use slotmap_core::errors::{InsertError, PutError, ReattachError};
 use slotmap_core::joined::{JoinedCommand, JoinedDetachCommand, JoinedReply};
 use slotmap_core::keys::Key;

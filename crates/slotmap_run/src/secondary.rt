@@ -4,8 +4,7 @@ ghost use Rattle.std.specs.Prelude.{◌≡◌, IfOk, IfErr, OnErr};
 ghost use Rattle.slotmap_core.specs.Words.{AllByRecursion, Run, given_secondary, HadMemory, Shows, seen_by, EachAgrees};
 ghost use Rattle.slotmap_core.specs.SecondaryStep.{SideStep};
 
-use crate::given::GivenLook;
-use crate::serves::{Serves, run_all};
+use crate::serves::{GivenLook, Serves, run_all};
 use slotmap_core::errors::PutError;
 use slotmap_core::keys::Key;
 use slotmap_core::secondary::{Secondary, SecondaryCommand, SecondaryReply};

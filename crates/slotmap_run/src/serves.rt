@@ -22,6 +22,12 @@ pub(crate) trait Serves<Map, Command, Reply> {
         ensures ready { (left : ℕ) → ready self.now map.old (left + 1) → ready self.now map.new left };
 }
 
+// The closure that a run on a secondary map is given, alone or beside a primary map.
+#[derive(Drop)]
+pub(crate) struct GivenLook<L> {
+    pub(crate) look: L,
+}
+
 // Runs the commands in order. There is room for the replies.
 fn serve_all<Map, Command, Reply, S>(
     server: &S,

@@ -1,5 +1,5 @@
 -- What is at the index of a key in a secondary map, what a change leaves there, and that only keys are in it.
--- For the crates of maps and callers.
+-- For the crates of maps, runs and callers.
 use Rattle.std.proofs.Common.{◌≡◌, ◌≢◌, ℕ, ◌+◌, ◌-◌, ◌^◌, ◌<◌, true, false, nat_eq, eqb-true, eq-eqb, if◌then◌else◌, Option, Some, None, is_some, refl, sym, ap, ◌∙◌, inl, inr, arith, nat_cmp}
 use Rattle.std.proofs.lemmas.Grind.{common_steps}
 use Rattle.std.proofs.lemmas.Map.Lookups.{exact_unsigned}
