@@ -1,5 +1,5 @@
 -- What callers of a list cite: which value each cursor has after a call.
-use Rattle.std.proofs.Common.{◌≡◌, ◌≢◌, List, [], ◌∷◌, Some, None, IsSome, refl, arith}
+use Rattle.std.proofs.Common.{◌≡◌, ◌≢◌, List, [], ◌∷◌, ◌++◌, Some, None, IsSome, refl, arith}
 use Rattle.slotmap.specs.Words.{Key}
 use Rattle.slotmap.proofs.Callers.{keys_total, exact_keys, itself, tied}
 use Rattle.slotmap_list.specs.Sequence.{value_of, put_after, put_before, without}
@@ -23,9 +23,24 @@ module _ {T : Type 0} where
     put_before_other [] q other = refl
     put_before_other (e ∷ es) q other = grind (arith, put_before_other es q other, other_key q x.0 other)
 
+  module _ (x : Key × T) where
+    pub pushed_here : (es : List (Key × T)) → value_of x.0 es ≡ None → value_of x.0 (es ++ x ∷ []) ≡ Some x.1
+    pushed_here [] none = grind (arith, itself keys_total exact_keys x.0)
+    pushed_here (e ∷ es) none = grind (arith, pushed_here es)
+
+    pub pushed_other : (es : List (Key × T)) (q : Key) → q ≢ x.0 → value_of q (es ++ x ∷ []) ≡ value_of q es
+    pushed_other [] q other = grind (arith, other_key q x.0 other)
+    pushed_other (e ∷ es) q other = grind (arith, pushed_other es q other)
+
+    pub first_here : (es : List (Key × T)) → value_of x.0 (x ∷ es) ≡ Some x.1
+    first_here es = grind (arith, itself keys_total exact_keys x.0)
+
+    pub first_other : (es : List (Key × T)) (q : Key) → q ≢ x.0 → value_of q (x ∷ es) ≡ value_of q es
+    first_other es q other = grind (arith, other_key q x.0 other)
+
   pub without_other : (k : Key) (es : List (Key × T)) (q : Key) → q ≢ k → value_of q (without k es) ≡ value_of q es
   without_other k [] q other = refl
   without_other k (e ∷ es) q other = grind (arith, without_other k es q other, tied keys_total exact_keys k e.0, other_key q e.0)
 
 -- for `using`
-pub ruleset cursors = (put_after_here, put_after_other, put_before_here, put_before_other, without_other)
+pub ruleset cursors = (put_after_here, put_after_other, put_before_here, put_before_other, without_other, pushed_here, pushed_other, first_here, first_other)

@@ -6,8 +6,10 @@ pub mod Draining
 pub mod Elements
 pub mod Ends
 pub mod Iterated
+pub mod Keeping
 pub mod Looks
 pub mod Moving
+pub mod Onward
 pub mod Pops
 pub mod Putting
 pub mod Rows

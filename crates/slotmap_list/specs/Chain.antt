@@ -1,5 +1,5 @@
 -- How a list is kept in a map of nodes.
-use Rattle.std.specs.Prelude.{◌≡◌, ℕ, zero, suc, true, List, [], ◌∷◌, length, Option, Some, None, IsSome, IfSome}
+use Rattle.std.specs.Prelude.{◌≡◌, ◌≤◌, ℕ, zero, suc, true, List, [], ◌∷◌, length, Option, Some, None, IsSome, IfSome}
 use Rattle.std.specs.FinMap as map
 use Rattle.slotmap.specs.Words.{Key, key_cmp}
 use Rattle.slotmap_keylist.specs.Changed.{changed}
@@ -94,3 +94,11 @@ module _ {T : Type 0} where
     pub left_is : left ≡ length ahead
     pub first_is : first ≡ first_or ahead next
     pub last_is : last ≡ last_or ahead prev
+
+  -- these elements, from `prev` to the back, are those that an iterator from a cursor has left
+  pub record IsRest (nodes : Nodes T) (at : Option Key) : Type 0 where
+    pub prev : Option Key
+    pub ahead : List (Key × T)
+    pub nodes_are : AreNodes nodes prev ahead None
+    pub few : length ahead ≤ map.len nodes
+    pub at_is : at ≡ first_or ahead None

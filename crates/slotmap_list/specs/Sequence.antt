@@ -45,6 +45,11 @@ module _ {T : Type 0} where
   key_before other k [] = None
   key_before other k (e ∷ es) = cond (eq_by_cmp key_cmp k e.0) other (key_before (Some e.0) k es)
 
+  -- the elements from k on; where k isn't there, none
+  abbrev pub from_key : Key → List (Key × T) → List (Key × T)
+  from_key k [] = []
+  from_key k (e ∷ es) = cond (eq_by_cmp key_cmp k e.0) (e ∷ es) (from_key k es)
+
   -- the list with an element after k
   abbrev pub put_after : Key → Key × T → List (Key × T) → List (Key × T)
   put_after k x [] = []

@@ -56,6 +56,7 @@ mod into_iter;
 mod iter;
 mod links;
 mod moves;
+mod rest;
 mod retain;
 mod take;
 mod values;
@@ -65,6 +66,7 @@ pub use drain::Drain;
 pub use into_iter::IntoIter;
 pub use iter::Iter;
 use links::{Neighbour, Nodes};
+pub use rest::IterFrom;
 pub use values::{Cursors, Values};
 
 // An element's value, with the keys of its neighbours.

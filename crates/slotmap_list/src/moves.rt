@@ -1,9 +1,10 @@
 //! Moves of an element within its list, and writes of its value.
 
-ghost use Rattle.std.specs.Prelude.{◌≡◌, ◌-◌, true, false, IsTrue, is_some, if◌then◌else◌, length, slice_get, map as list_map};
+ghost use Rattle.std.specs.Prelude.{◌≡◌, ◌-◌, Some, None, true, false, IsTrue, is_some, if◌then◌else◌, length, slice_get, map as list_map};
 ghost use Rattle.std.specs.Borrow.{sem};
 ghost use Rattle.std.specs.Option.{option_copied_mut};
-ghost use Rattle.slotmap_list.specs.Sequence.{value_of, moved_to_front, moved_to_back, moved_after, moved_before, are_two, Swaps};
+ghost use Rattle.slotmap.specs.Words.{Key as KeyOf};
+ghost use Rattle.slotmap_list.specs.Sequence.{value_of, first_or, last_or, moved_to_front, moved_to_back, moved_after, moved_before, are_two, Swaps};
 ghost use Rattle.slotmap_list.specs.Neighbours.{is_move, moved_to, before_or_back};
 
 use crate::StableList;
@@ -100,6 +101,8 @@ impl<K: Key, T: Drop> StableList<K, T> {
     pub fn move_to_front(&mut self, cursor: K) -> bool
         ensures which { result ≡ is_some (value_of (K.data_of cursor) self.old.elements) }
         ensures moved { self.new ≡ record self.old { elements = moved_to_front (K.data_of cursor) self.old.elements } }
+        ensures first { IsTrue result → first_or self.new.elements None ≡ Some (K.data_of cursor) }
+        ensures values { (q : KeyOf) → value_of q self.new.elements ≡ value_of q self.old.elements }
     {
         self.move_to(inner(cursor), Place::Front)
     }
@@ -110,6 +113,8 @@ impl<K: Key, T: Drop> StableList<K, T> {
     pub fn move_to_back(&mut self, cursor: K) -> bool
         ensures which { result ≡ is_some (value_of (K.data_of cursor) self.old.elements) }
         ensures moved { self.new ≡ record self.old { elements = moved_to_back (K.data_of cursor) self.old.elements } }
+        ensures last { IsTrue result → last_or self.new.elements None ≡ Some (K.data_of cursor) }
+        ensures values { (q : KeyOf) → value_of q self.new.elements ≡ value_of q self.old.elements }
     {
         self.move_to(inner(cursor), Place::Back)
     }
@@ -122,6 +127,7 @@ impl<K: Key, T: Drop> StableList<K, T> {
         ensures which { result ≡ are_two (K.data_of cursor) (K.data_of other) self.old.elements }
         ensures moved { self.new ≡ record self.old
             { elements = if result then moved_after (K.data_of cursor) (K.data_of other) self.old.elements else self.old.elements } }
+        ensures values { (q : KeyOf) → value_of q self.new.elements ≡ value_of q self.old.elements }
     {
         self.move_to(inner(cursor), Place::Beside(Side::After, inner(other)))
     }
@@ -143,6 +149,7 @@ impl<K: Key, T: Drop> StableList<K, T> {
         ensures which { result ≡ are_two (K.data_of cursor) (K.data_of other) self.old.elements }
         ensures moved { self.new ≡ record self.old
             { elements = if result then moved_before (K.data_of cursor) (K.data_of other) self.old.elements else self.old.elements } }
+        ensures values { (q : KeyOf) → value_of q self.new.elements ≡ value_of q self.old.elements }
     {
         self.move_to(inner(cursor), Place::Beside(Side::Before, inner(other)))
     }
@@ -167,6 +174,7 @@ impl<K: Key, T: Drop> StableList<K, T> {
     pub fn swap(&mut self, cursor: K, other: K) -> bool
         ensures which { result ≡ are_two (K.data_of cursor) (K.data_of other) self.old.elements }
         ensures swaps { IsTrue result → Swaps self.old.elements (K.data_of cursor) (K.data_of other) self.new.elements }
+        ensures values { (q : KeyOf) → value_of q self.new.elements ≡ value_of q self.old.elements }
         ensures cursors { self.new.cursors ≡ self.old.cursors }
         ensures unchanged { result ≡ false → self.new ≡ self.old }
     {
@@ -184,6 +192,7 @@ impl<K: Key, T: Drop> StableList<K, T> {
     fn exchange(&mut self, cursor: DefaultKey, other: DefaultKey)
         requires { are_two cursor other self.old.elements ≡ true }
         ensures swaps { Swaps self.old.elements cursor other self.new.elements }
+        ensures values { (q : KeyOf) → value_of q self.new.elements ≡ value_of q self.old.elements }
         ensures cursors { self.new.cursors ≡ self.old.cursors }
     {
         let next = self.after(cursor);
@@ -195,6 +204,7 @@ impl<K: Key, T: Drop> StableList<K, T> {
     fn move_to(&mut self, cursor: DefaultKey, place: Place) -> bool
         ensures which { result ≡ is_move cursor place self.old.elements }
         ensures moved { self.new ≡ record self.old { elements = moved_to place cursor self.old.elements } }
+        ensures values { (q : KeyOf) → value_of q self.new.elements ≡ value_of q self.old.elements }
     {
         if !self.can_move(cursor, &place) {
             return false;

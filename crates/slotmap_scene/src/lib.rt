@@ -172,6 +172,22 @@ impl<T: Drop> Scene<DefaultKey, T> {
     {
         Scene::with_key(alloc)
     }
+
+    /// Makes a scene with no node and with room for `capacity` nodes, with the default type of keys.
+    ///
+    /// It fails with `TooGreat` if `capacity` is over 4294967294, and with `Memory` if memory runs out.
+    ///
+    /// ```
+    /// let scene: Scene<DefaultKey, &str> = Scene::with_capacity(alloc, 2)?;
+    /// assert!(rt; scene.capacity() >= 2);
+    /// ```
+    pub fn with_capacity(alloc: Global, capacity: usize) -> Result<Self, ReserveError>
+        ensures empty { IfOk result IsNew }
+        ensures room { IfOk result (λ scene. capacity ≤ scene.room) }
+        ensures err { IfErr result (RefusesCapacity capacity) }
+    {
+        Scene::with_capacity_and_key(alloc, capacity)
+    }
 }
 
 impl<K: Key, T: Drop> Scene<K, T> {

@@ -1,8 +1,8 @@
 //! Callers of a list, each proved only from its contracts.
 
-ghost use Rattle.std.specs.Prelude.{◌≡◌, ◌≢◌, Some, None, IfSome, IfNone, IfOk, OnOk, OnErr};
+ghost use Rattle.std.specs.Prelude.{◌≡◌, ◌≢◌, IsSome, Some, None, IfSome, IfNone, IfOk, OnOk, OnErr};
 ghost use Rattle.slotmap.specs.Words.{Key as KeyOf, IsSpent};
-ghost use Rattle.slotmap_list.specs.Sequence.{value_of};
+ghost use Rattle.slotmap_list.specs.Sequence.{first_or, value_of};
 
 use slotmap_list::{Cursor, PlaceError, StableList};
 
@@ -36,4 +36,15 @@ pub fn renew(
     let key = list.insert_after(cursor, value)?;
     list.remove(cursor);
     Ok(key)
+}
+
+/// Returns the value of a cursor, and moves its element to the front, as a cache does with what was
+/// used last. All elements keep their values.
+pub fn touch(list: &mut StableList<Cursor, u64>, cursor: Cursor) -> Option<u64>
+    ensures value { result ≡ value_of cursor list.old.elements }
+    ensures front { IsSome result → first_or list.new.elements None ≡ Some cursor }
+    ensures values { (q : KeyOf) → value_of q list.new.elements ≡ value_of q list.old.elements }
+{
+    list.move_to_front(cursor);
+    list.get(cursor).copied()
 }

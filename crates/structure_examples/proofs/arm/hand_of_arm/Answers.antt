@@ -4,6 +4,7 @@ use Rattle.std.proofs.Math.IntN.{ℤ, ◌+ℤ◌, +ℤ_assoc}
 use Rattle.std.proofs.lemmas.Int.{int_wrap-add_right}
 use Rattle.slotmap_scene.specs.Offset.{shifted}
 use Rattle.slotmap_scene.specs.WorldValue.{IsWorld}
+use Rattle.slotmap_scene.proofs.Offsets.{shifted_joins}
 use Rattle.slotmap_scene.proofs.Worlds.{world_added_root, world_added_child, world_is}
 use Rattle.structure_examples.proofs.arm.hand_of_arm.Goals as goal
 
@@ -19,5 +20,5 @@ returns c =
     subst (λ m. IsWorld shifted m c.in_ok-upper.upper c.args.shoulder) (sym upper.adds.live) (world_added_root _ _ c.args.shoulder shifted) in
     let at_lower = world_added_child _ _ _ _ lower.gains lower.fresh shifted _ at_upper in
     let at_tip = world_added_child _ _ _ _ tip.gains tip.fresh shifted _ at_lower in
-    world_is _ shifted _ _ _ at_tip c.world.ensures.some c.world.ensures.none
+    world_is _ shifted _ _ _ at_tip (c.world.ensures.joined shifted_joins) c.world.ensures.none
     ∙ (λ i. Some (record { x = wrap_three c.args.hand.x c.args.elbow.x c.args.shoulder.x i; y = wrap_three c.args.hand.y c.args.elbow.y c.args.shoulder.y i }))
