@@ -1,8 +1,8 @@
 #!/usr/bin/env bash
 # tests/memory.sh [PROGRAM ..]
 #
-# Runs the programs primary_rows, secondary_rows, joined_rows, slotrun and slotdemo with refused memory, or those that are named. Each program
-# runs once for each of its requests for memory, with this request refused alone, and once with all from it on refused.
+# Runs the programs primary_rows, secondary_rows, joined_rows, slotrun, slotdemo and structures_at_size with refused memory, or those that
+# are named. Each program runs once for each of its requests for memory, with this request refused alone, and once with all from it on refused.
 #
 # - A row program with one refused request prints what it prints without, and ends with status 0: the refused call left
 #   all as it was, and was made once more. Only the number of calls made twice may be 1 once. Where memory for the
@@ -12,6 +12,9 @@
 # - `slotrun` prints what it prints without, up to a line that says `memory`, or `no script` at the end. Where one request
 #   was refused, the other lines are then those of the script without the refused line.
 # - `slotdemo`, whose five structures do without a second try, prints what it prints without, or stops on the way with status 1.
+# - `structures_at_size`, which makes each call of the five structures that may ask for memory, at 10 elements, does so too. What it prints
+#   without is what `expected.py` says. Where `StableList::from_iter` is refused a value, it prints this value in a last line. This has to
+#   happen, and a value below 10 comes back each time.
 #
 # Row files with a call that is repeated over 1,000 times are left out, and the hundred lists, which ask for memory as often. So
 # are the random rows of secondary_rows, which count drops after an `extend`: it keeps the pairs before the fault, and is called
@@ -114,6 +117,14 @@ check_demo() {
     [[ $status = 1 && $text = "$seen"* ]] || fault "it has to print the same, or to stop on the way with status 1" "$1" "$case/full"
 }
 export -f check_demo
+
+# check_sizes OUT: what structures_at_size printed, but for a value that a list was refused.
+check_sizes() {
+    sed '/^  refused: [0-9]$/d' "$1" >"$1.rest"
+    cmp -s "$1" "$1.rest" || echo "$refused" >>"$case/refused"
+    check_demo "$1.rest"
+}
+export -f check_sizes
 
 # enter_case CASE: what runs, and where.
 enter_case() {
@@ -278,7 +289,20 @@ try_slotrun() {
     done
 }
 
-[ $# -gt 0 ] || set -- primary_rows secondary_rows joined_rows slotrun slotdemo
+# try_sizes: the calls of the five structures at 10 elements.
+try_sizes() {
+    local folder=$top/crates/structures_at_size
+    "$folder/out/structures_at_size" 10 >"$scratch/sizes"
+    python3 "$folder/expected.py" 10 | diff "$scratch/sizes" - || exit 1
+    try_case check_sizes "$top" "$folder/out/structures_at_size" 10 /dev/null 0
+    if ! cat "$scratch"/case.*/refused >"$scratch/refused"; then
+        echo "fault: structures_at_size 10 never prints the value that a list was refused"
+        exit 1
+    fi
+    echo "structures_at_size: a list's refused value came back in $(wc -l <"$scratch/refused") runs"
+}
+
+[ $# -gt 0 ] || set -- primary_rows secondary_rows joined_rows slotrun slotdemo structures_at_size
 for program in "$@"; do
     if [ ! -x "$top/crates/$program/out/$program" ]; then
         echo "memory.sh: crates/$program/out/$program isn't built: run \`rt run\` in crates/$program first" >&2
@@ -294,6 +318,7 @@ cases=0
 for program in "$@"; do
     case $program in
         slotrun) try_slotrun ;;
+        structures_at_size) try_sizes ;;
         slotdemo) try_case check_demo "$top" "$top/crates/slotdemo/out/slotdemo" "" /dev/null 0 ;;
         *)
             check_rooms "$program"

@@ -20,6 +20,7 @@ SOURCES = {
     ' '.join(CALLS): 'that call of a map; for primary and secondary, of the trait',
     'call maps keyed many sized held lists runs kinds walks steps replies stop script': 'that part of a program that reads rows or scripts, or of a run',
     'commands errors keys joined json clones scheduler packed': 'that subject: its definition, its tests, or an example of it',
+    'debug shown': 'the text of a type in a debugger, or its tests',
     'messages': 'what the errors of a structure say, and the debug texts of its types',
     'links search rows': 'links of nodes or slots; a search along them; rows of a layout or of a file',
 }

@@ -11,7 +11,7 @@ from svg import BLUE, FOLDER, GREEN, INK, ORANGE, RED, SOFT, Picture, fitted
 # The five structures stand as one: each uses slotmap alone.
 STRUCTURES = "five structures"
 # So do the crates of their tests.
-TESTS = "five crates of tests"
+TESTS = "their tests"
 MEMBERS = {"slotmap_list", "slotmap_keylist", "slotmap_graph", "slotmap_entities", "slotmap_scene", "slotmap_scheduler"}
 # Where each crate is: its column and row, and what it has.
 CRATES = {
@@ -34,7 +34,7 @@ CRATES = {
     STRUCTURES: (5.5, 4, "list, graph, entities, scene, scheduler"),
     "slotmap_examples": (2.2, 5, "callers of the maps"),
     "structure_examples": (3.85, 5, "callers of the structures"),
-    TESTS: (0.55, 5, "list_tests .. scheduler_tests"),
+    TESTS: (0.55, 5, "list_tests .. structures_at_size"),
     "slotdemo": (5.5, 5, "program: a demonstration"),
 }
 COLORS = {
@@ -50,7 +50,7 @@ HEIGHT = 56
 LIBRARIES = {
     "slotmap_rows_primary": "primary_rows", "slotmap_rows_secondary": "secondary_rows", "json_tests": "slotmap_json",
     "slotmap_script": "slotrun", "script_tests": "slotrun",
-    **{f"{name}_tests": TESTS for name in ("list", "graph", "entities", "scene", "scheduler")},
+    **{f"{name}_tests": TESTS for name in ("list", "graph", "entities", "scene", "scheduler")}, "structures_at_size": TESTS,
 }
 
 

@@ -3,6 +3,8 @@
 #![tactic(auto, using(slotmap::proofs::Callers::keys))]
 
 #[cfg(test)]
+mod iterators;
+#[cfg(test)]
 mod messages;
 #[cfg(test)]
 mod tests;

@@ -3,6 +3,7 @@
 
 pub mod arm;
 pub mod cursors;
+pub mod cycles;
 pub mod forward;
 pub mod groups;
 pub mod heirs;

@@ -1,0 +1,450 @@
+#!/usr/bin/env python3
+"""Prints what structures_at_size prints for the sizes that are named, as `python3 expected.py 1000 100000 >stdout` does.
+
+It is a model in plain Python, of lists, dictionaries and heapq, and shares nothing with the program but its random
+numbers, its sum, and the order of its calls.
+"""
+
+import heapq
+import sys
+from collections import OrderedDict, deque
+
+MASK = 2**64 - 1
+
+
+class Random:
+    def __init__(self, seed):
+        self.state = seed
+
+    def draw(self):
+        self.state = (self.state * 6364136223846793005 + 1442695040888963407) & MASK
+        return self.state >> 33
+
+    def pick(self, items):
+        return items[self.draw() % len(items)]
+
+
+def tell(what, numbers):
+    count, value = 0, 14695981039346656037
+    for number in numbers:
+        count += 1
+        value = ((value ^ number) * 1099511628211) & MASK
+    print(f"  {what}: {count} numbers, {value}")
+
+
+def both_ends(values):
+    """The values from both ends in turn."""
+    rest = deque(values)
+    while rest:
+        yield rest.popleft()
+        if rest:
+            yield rest.pop()
+
+
+def list_part(size):
+    print(" list")
+    random = Random(1)
+
+    # An element is known by the number of the push or insert that made it.
+    order = OrderedDict()
+    for number in range(size):
+        order[number] = None
+        order.move_to_end(number, last=number % 2 == 0)
+    cursors = list(range(size))
+    tell("pushed", order)
+    for turn in range(size):
+        order.move_to_end(random.pick(cursors), last=turn % 2 == 1)
+    order = list(order)
+    backwards = []
+    for at in range(len(order) - 1, -1, -1):
+        backwards += order[at : at + 2]
+    tell("moved to the ends", backwards)
+
+    turns = min(size, 1000)
+    for turn in range(turns):
+        at = order.index(random.pick(cursors))
+        number = size + turn
+        order.insert(at + 1 if number % 2 == 0 else at, number)
+    tell("inserted", order)
+    moves = []
+    for turn in range(turns):
+        one, other = random.pick(cursors), random.pick(cursors)
+        moves.append(int(one != other))
+        if one == other:
+            continue
+        if turn % 3 == 2:
+            i, j = order.index(one), order.index(other)
+            order[i], order[j] = other, one
+        else:
+            order.remove(one)
+            order.insert(order.index(other) + (1 if turn % 3 == 0 else 0), one)
+    tell("moves", moves)
+    written = set(cursors)
+    value = {number: number + (number in written) for number in order}
+    tell("moved and written", [value[number] for number in order])
+
+    order = [number for number in order if value[number] % 3 != 0]
+    tell("retained", [value[number] for number in order])
+    live = dict.fromkeys(order)
+    removed = []
+    for _ in range(size // 2):
+        number = random.pick(cursors)
+        if number in live:
+            del live[number]
+            removed.append(value[number])
+    tell("removed", removed)
+    left = [value[number] for number in live]
+    tell("left", left)
+    tell("cleared", [])
+    tell("copied", both_ends(left))
+
+    made = list(range(size)) * 2
+    tell("appended", made * 2)
+    tell("popped", both_ends(made * 2))
+    tell("drained", [])
+    tell("drained", range(size))
+
+
+class Graph:
+    def __init__(self):
+        self.value, self.edges, self.out, self.into = {}, {}, {}, {}
+        self.next_edge = 0
+
+    def add_node(self, node):
+        self.value[node], self.out[node], self.into[node] = node, {}, {}
+
+    def add_edge(self, start, end, value):
+        edge = self.next_edge
+        self.next_edge += 1
+        self.edges[edge] = [start, end, value]
+        self.out[start][edge] = self.into[end][edge] = None
+        return edge
+
+    def remove_edge(self, edge):
+        start, end, value = self.edges.pop(edge)
+        del self.out[start][edge], self.into[end][edge]
+        return value
+
+    def remove_node(self, node):
+        for edge in set(self.out[node]) | set(self.into[node]):
+            self.remove_edge(edge)
+        del self.out[node], self.into[node]
+        return self.value.pop(node)
+
+    def ends_of(self, node):
+        return [self.edges[edge][1] for edge in self.out[node]]
+
+    def reachable(self, node):
+        found, ahead = {node: None}, deque([node])
+        while ahead:
+            for end in self.ends_of(ahead.popleft()):
+                if end not in found:
+                    found[end] = None
+                    ahead.append(end)
+        return list(found)
+
+    def seen(self, nodes):
+        for node in nodes:
+            if node in self.value:
+                yield self.value[node]
+                yield len(self.out[node])
+                for edges in self.out[node], self.into[node]:
+                    for edge in edges:
+                        yield self.edges[edge][2]
+
+
+def graph_part(size):
+    print(" graph")
+    random = Random(2)
+    graph, nodes, hub = Graph(), range(size), size
+    for node in nodes:
+        graph.add_node(node)
+    for node in nodes[1:]:
+        graph.add_edge(node, node - 1, node)
+    for value in range(size):
+        a, b = random.pick(nodes), random.pick(nodes)
+        if a != b:
+            graph.add_edge(max(a, b), min(a, b), value)
+    graph.add_node(hub)
+    for node in nodes:
+        graph.add_edge(hub, node, node)
+    tell("built", graph.seen(nodes))
+    tell("edges", [number for edge in graph.edges.values() for number in edge])
+
+    for node in hub, nodes[-1]:
+        tell("neighbours", graph.ends_of(node))
+        tell("beside", graph.ends_of(node) + [graph.edges[edge][0] for edge in graph.into[node]])
+        tell("reachable", graph.reachable(node))
+    # A path leads through all nodes, so that they have one order.
+    order = range(size, -1, -1)
+    tell("in order", order)
+    tell("in a cycle", [size, 1])
+    tell("in order", order)
+    tell("found", [random.pick(nodes) for _ in range(10)])
+
+    graph.next_edge += 1
+    edges = list(graph.edges)
+    for node in nodes:
+        graph.value[node] += 1
+    for edge in edges:
+        graph.edges[edge][2] *= 2
+    removed = []
+    for _ in range(size):
+        edge = random.pick(edges)
+        if edge in graph.edges:
+            removed.append(graph.remove_edge(edge))
+    tell("removed edges", removed)
+    removed = []
+    for _ in range(size // 2):
+        node = random.pick(nodes)
+        if node in graph.value:
+            removed.append(graph.remove_node(node))
+    tell("removed nodes", removed + [len(graph.edges)])
+    left = list(graph.seen(nodes))
+    tell("left", left)
+    for edge in list(graph.out[hub]):
+        graph.remove_edge(edge)
+    tell("without the hub", graph.seen(nodes))
+    tell("cleared", [0, 0])
+    tell("copied", left)
+
+
+class Scene:
+    def __init__(self):
+        self.value, self.parent, self.children = {}, {}, {}
+
+    def add(self, node, parent, value):
+        """A new last child; with no parent a root."""
+        self.value[node], self.parent[node], self.children[node] = value, parent, []
+        if parent is not None:
+            self.children[parent].append(node)
+
+    def above(self, node):
+        above = []
+        while self.parent[node] is not None:
+            node = self.parent[node]
+            above.append(node)
+        return above
+
+    def below(self, node):
+        below, ahead = [], list(reversed(self.children[node]))
+        while ahead:
+            below.append(ahead.pop())
+            ahead += reversed(self.children[below[-1]])
+        return below
+
+    def move(self, node, parent):
+        if self.parent[node] is not None:
+            self.children[self.parent[node]].remove(node)
+        self.parent[node] = parent
+        if parent is not None:
+            self.children[parent].append(node)
+
+    def remove(self, root):
+        gone = [root] + self.below(root)
+        self.move(root, None)
+        for node in gone:
+            del self.parent[node], self.children[node]
+        value = [self.value.pop(node) for node in gone]
+        return value[0]
+
+    def seen(self):
+        """By the order in which they were added, since no slot was used twice."""
+        for node, value in self.value.items():
+            yield value
+            yield len(self.children[node])
+
+
+def wide_part(size):
+    """The children of one node, as an OrderedDict while they are moved to the end."""
+    random = Random(3)
+    nodes = [("child", number) for number in range(1, size + 1)]
+    value = {node: node[1] for node in nodes}
+    # What was inserted beside each child: before it, and behind it.
+    before, behind = {}, {}
+    for number in range(size):
+        at = random.pick(nodes)
+        new = ("new", number)
+        value[new] = number
+        if number % 2 == 0:
+            behind.setdefault(at, []).insert(0, new)
+        else:
+            before.setdefault(at, []).append(new)
+    order = OrderedDict()
+    for node in nodes:
+        for one in before.get(node, []) + [node] + behind.get(node, []):
+            order[one] = None
+    tell("children", [value[node] for node in reversed(order)])
+    turns = size // 2
+    for _ in range(turns):
+        order.move_to_end(random.pick(nodes))
+    tell("moved", [value[node] for node in reversed(order)])
+    roots = {random.pick(nodes) for _ in range(turns)}
+    tell("roots", [0] + sorted(value[node] for node in roots))
+    tell("wide", [value[node] for node in order if node not in roots])
+
+
+def deep_part(size):
+    down = range(1, size + 1)
+    tell("deep", down)
+    total = 0
+    for number in range(size, -1, -1):
+        total = (total * 31 + number) & MASK
+    tell("above", list(range(size - 1, -1, -1)) + [size, total])
+    tell("removed", [])
+    tell("copied", down)
+    counts = []
+    for number in range(size + 1):
+        counts += [number, int(number < size)]
+    tell("all of the copy", counts)
+
+
+def chance_part(size):
+    random = Random(4)
+    scene, nodes = Scene(), [0]
+    scene.add(0, None, 0)
+    for number in range(1, size + 1):
+        scene.add(number, random.pick(nodes), number)
+        nodes.append(number)
+    tell("by chance", scene.below(0))
+    moves = []
+    for _ in range(size):
+        node, parent = random.pick(nodes), random.pick(nodes)
+        can = node != parent and node not in scene.above(parent)
+        moves.append(int(can))
+        if can:
+            scene.move(node, parent)
+    tell("moves", moves)
+    tell("moved", scene.seen())
+    for node in nodes:
+        scene.value[node] += 1
+    removed = []
+    for _ in range(5):
+        node = random.pick(nodes)
+        if node in scene.value:
+            removed.append(scene.remove(node))
+    tell("removed", removed + [len(scene.value)])
+    tell("left", scene.seen())
+    tell("cleared", [])
+
+
+def scene_part(size):
+    print(" scene")
+    wide_part(size)
+    deep_part(size)
+    chance_part(size)
+    print(f"  world: {1 + 3 * size}, {2 - 4 * size}")
+
+
+class Jobs:
+    """Jobs by their numbers. What waits in the heap and isn't the newest turn of its job is passed over."""
+
+    def __init__(self):
+        self.heap, self.turn, self.value, self.count = [], {}, {}, 0
+
+    def put(self, job, time):
+        self.turn[job] = (time, self.count)
+        heapq.heappush(self.heap, (time, self.count, job))
+        self.count += 1
+
+    def next(self):
+        while self.heap and self.turn.get(self.heap[0][2]) != self.heap[0][:2]:
+            heapq.heappop(self.heap)
+        return self.heap[0] if self.heap else None
+
+    def pop(self, now):
+        if self.next() is None or self.next()[0] > now:
+            return None
+        job = heapq.heappop(self.heap)[2]
+        del self.turn[job]
+        return self.value.pop(job)
+
+    def seen(self):
+        for job in sorted(self.turn):
+            yield self.turn[job][0]
+            yield self.value[job]
+
+
+def schedule_all(jobs, handles, random, first, count):
+    for job in range(first, first + count):
+        jobs.value[job] = job
+        jobs.put(job, random.draw() % 1000)
+        handles.append(job)
+
+
+def all_due(jobs, now):
+    due = []
+    while (value := jobs.pop(now)) is not None:
+        due.append(value)
+    return due
+
+
+def scheduler_part(size):
+    print(" scheduler")
+    random, jobs, handles = Random(5), Jobs(), []
+    schedule_all(jobs, handles, random, 0, size)
+    tell("scheduled", jobs.seen())
+    for _ in range(size):
+        job = random.pick(handles)
+        jobs.put(job, random.draw() % 1000)
+    tell("moves", [1] * size)
+    cancelled = []
+    for _ in range(size // 4):
+        job = random.pick(handles)
+        if jobs.turn.pop(job, None) is not None:
+            cancelled.append(jobs.value.pop(job))
+    tell("cancelled", cancelled)
+    for job in jobs.value:
+        jobs.value[job] += 1
+    tell("written", jobs.seen())
+    due = []
+    while (value := jobs.pop(250)) is not None:
+        due.append(value)
+        if jobs.next() is not None:
+            due.append(jobs.next()[0])
+    tell("due", due)
+    schedule_all(jobs, handles, random, size, size // 2)
+    tell("all due", all_due(jobs, 500))
+    tell("left", jobs.seen())
+    tell("cleared", [])
+    tell("copied", all_due(jobs, 1000))
+
+
+def world_part(size):
+    print(" world")
+    random = Random(6)
+    keys = range(size)
+    # The entities in packed order, where each of them is, and their components.
+    packed, place = list(keys), {key: key for key in keys}
+    first = {key: key * 2 for key in keys if key % 2 == 0}
+    second = {key: key * 3 for key in keys if key % 3 == 0}
+
+    def tell_all(packed):
+        tell("entities", packed)
+        tell("first components", [first[key] for key in packed if key in first])
+        tell("second components", [second[key] for key in packed if key in second])
+        pairs = [(first[key], second[key]) for key in packed if key in first and key in second]
+        tell("both", [component for pair in pairs for component in pair])
+
+    tell_all(packed)
+    despawned = []
+    for _ in range(size // 2):
+        key = random.pick(keys)
+        if key in place:
+            despawned.append(key)
+            at, last = place.pop(key), packed.pop()
+            if last != key:
+                packed[at], place[last] = last, at
+            first.pop(key, None), second.pop(key, None)
+    tell("despawned", despawned)
+    detached = [second.pop(key, None) for key in (random.pick(keys) for _ in range(size // 2))]
+    tell("detached", [component for component in detached if component is not None])
+    first = {key: value + 1 for key, value in first.items() if (value + 1) % 4 != 0}
+    tell_all([])
+    tell_all(packed)
+
+
+for word in sys.argv[1:]:
+    print(f"{word} elements")
+    for part in list_part, graph_part, scene_part, scheduler_part, world_part:
+        part(int(word))
