@@ -2,10 +2,11 @@
  *
  * The map makes a key for each value that is inserted. Insertion, look-up and removal take constant time. A removed key is
  * never found again: its slot is reused under a newer key. Keys and values are uint64_t. A value is a number, an index or a
- * pointer, as you like. What the calls do is proved: docs/C.md says what that covers.
+ * pointer, as you like. A side table, at the end of this file, has further values under the keys of a map. What the calls do is
+ * proved: docs/C.md says what that covers.
  *
  * What the caller owes; nothing checks it:
- * 1. A slotmap_t begins as SLOTMAP_INIT, or as zeros. No other code writes to it, and no copy of an open one is used.
+ * 1. A slotmap_t, as a slotmap_side_t, begins as SLOTMAP_INIT, or as zeros. No other code writes to it, and no copy of an open one is used.
  * 2. No pointer is NULL. An `out` pointer leads to an initialised variable. No two arguments of a call overlap.
  * 3. An array has as many elements as the number after it says. With 0 elements its pointer still isn't NULL.
  * 4. One call at a time uses a slotmap_t. Calls of two threads on it are ordered, as by a lock or a join.
@@ -42,9 +43,10 @@ enum {
     SLOTMAP_NO_MEMORY = 2,    /* memory ran out */
     SLOTMAP_CLOSED = 3,       /* the handle is closed */
     SLOTMAP_OPEN = 4,         /* the handle is open already */
-    SLOTMAP_NOT_LIVE = 5,     /* the key isn't live: removed, detached, or never one of this map */
+    SLOTMAP_NOT_LIVE = 5,     /* the key isn't live, or isn't in the side table */
     SLOTMAP_NOT_DETACHED = 6, /* the key isn't detached */
-    SLOTMAP_NO_MORE = 7       /* no live key comes later */
+    SLOTMAP_NO_MORE = 7,      /* no live key comes later */
+    SLOTMAP_NO_ENTRY = 8      /* the key is null, or older than the one at its index of a side table */
 };
 
 /* No map returns this number as a key. From it slotmap_next begins. */
@@ -123,6 +125,57 @@ slotmap_status slotmap_next(slotmap_t *map, uint64_t key, uint64_t *key_out, uin
 
 /* Writes the first live keys and their values, by ascending index, as far as both arrays go. Returns how many it wrote. */
 size_t slotmap_list(slotmap_t *map, uint64_t *keys, size_t keys_len, uint64_t *values, size_t values_len);
+
+/* ---- Side tables ----
+ *
+ * A side table has further values under the keys of a map. It has one value for each index, that of the newest key which it was
+ * given: a put under a newer key takes the place of an older one, never the reverse. So a value under a removed key is never
+ * found again. To go over a table, go over the keys of the map. The caller owes the same as for a map. */
+
+typedef struct slotmap_side {
+    void *at;
+} slotmap_side_t;
+
+/* Opens a closed handle with an empty table.
+ * SLOTMAP_OK, SLOTMAP_NO_MEMORY or SLOTMAP_OPEN. */
+slotmap_status slotmap_side_new(slotmap_side_t *side);
+
+/* Frees the table and closes the handle. On a closed handle it does nothing. */
+void slotmap_side_free(slotmap_side_t *side);
+
+/* Opens the closed handle `copy` with a copy of the table. Linear in the number of slots.
+ * SLOTMAP_OK, SLOTMAP_NO_MEMORY, SLOTMAP_CLOSED if `side` is closed, or SLOTMAP_OPEN if `copy` is open. */
+slotmap_status slotmap_side_clone(slotmap_side_t *side, slotmap_side_t *copy);
+
+/* Returns the number of keys. */
+size_t slotmap_side_len(slotmap_side_t *side);
+
+/* Returns the largest index for which memory is allocated. */
+size_t slotmap_side_capacity(slotmap_side_t *side);
+
+/* Allocates memory for each index up to `capacity`: a put at such an index can't fail for want of memory. With the capacity of a
+ * map that holds for all its keys.
+ * SLOTMAP_OK, SLOTMAP_FULL if `capacity` is over 4294967294, SLOTMAP_NO_MEMORY or SLOTMAP_CLOSED. */
+slotmap_status slotmap_side_reserve(slotmap_side_t *side, size_t capacity);
+
+/* Removes all keys. The capacity stays. Linear in the number of slots. */
+void slotmap_side_clear(slotmap_side_t *side);
+
+/* Puts a value under a key, in place of the value of this key or of an older one at its index. Constant time, unless the table
+ * grows.
+ * SLOTMAP_OK, SLOTMAP_NO_ENTRY, SLOTMAP_NO_MEMORY or SLOTMAP_CLOSED. */
+slotmap_status slotmap_side_put(slotmap_side_t *side, uint64_t key, uint64_t value);
+
+/* Returns whether the key has a value. Constant time, as are the calls below. */
+bool slotmap_side_contains(slotmap_side_t *side, uint64_t key);
+
+/* Writes the value of a key.
+ * SLOTMAP_OK or SLOTMAP_NOT_LIVE. */
+slotmap_status slotmap_side_get(slotmap_side_t *side, uint64_t key, uint64_t *value_out);
+
+/* Removes a key, and writes its value.
+ * SLOTMAP_OK or SLOTMAP_NOT_LIVE. */
+slotmap_status slotmap_side_remove(slotmap_side_t *side, uint64_t key, uint64_t *value_out);
 
 #ifdef __cplusplus
 }

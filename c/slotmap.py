@@ -2,7 +2,7 @@
 
 import ctypes
 
-OK, FULL, NO_MEMORY, CLOSED, OPEN, NOT_LIVE, NOT_DETACHED, NO_MORE = range(8)
+OK, FULL, NO_MEMORY, CLOSED, OPEN, NOT_LIVE, NOT_DETACHED, NO_MORE, NO_ENTRY = range(9)
 U64, SIZE = ctypes.c_uint64, ctypes.c_size_t
 
 
@@ -31,14 +31,27 @@ def load(path):
         ("reattach", ctypes.c_uint32, [U64, U64]),
         ("next", ctypes.c_uint32, [U64, out, out]),
         ("list", SIZE, [out, SIZE, out, SIZE]),
+        ("side_new", ctypes.c_uint32, []),
+        ("side_free", None, []),
+        ("side_clone", ctypes.c_uint32, [handle]),
+        ("side_len", SIZE, []),
+        ("side_capacity", SIZE, []),
+        ("side_reserve", ctypes.c_uint32, [SIZE]),
+        ("side_clear", None, []),
+        ("side_put", ctypes.c_uint32, [U64, U64]),
+        ("side_contains", ctypes.c_bool, [U64]),
+        ("side_get", ctypes.c_uint32, [U64, out]),
+        ("side_remove", ctypes.c_uint32, [U64, out]),
     ]:
         call = getattr(library, "slotmap_" + name)
         call.restype, call.argtypes = result, [handle, *parameters]
     return library
 
 
-class SlotMap:
-    """A map. Use it in a `with` block, or call `free`. A call on a freed map reads an empty one."""
+class Table:
+    """What a map and a side table share. Use one in a `with` block, or call `free`. A freed one reads as empty."""
+
+    prefix = "slotmap_"
 
     def __init__(self, library):
         self.library, self.handle, self.out = library, Handle(), U64()
@@ -56,19 +69,16 @@ class SlotMap:
     def __contains__(self, key):
         return self.call("contains", key)
 
-    def __iter__(self):
-        """The live keys with their values, by ascending index. The map may change meanwhile."""
-        key, value = U64(), U64()
-        while self.call("next", key, ctypes.byref(key), ctypes.byref(value)) == OK:
-            yield key.value, value.value
+    def __getitem__(self, key):
+        return self.written("get", key)
 
     def call(self, name, *arguments):
-        return getattr(self.library, "slotmap_" + name)(ctypes.byref(self.handle), *arguments)
+        return getattr(self.library, self.prefix + name)(ctypes.byref(self.handle), *arguments)
 
     def checked(self, name, *arguments):
         status = self.call(name, *arguments)
         if status != OK:
-            raise (KeyError if status in (NOT_LIVE, NOT_DETACHED) else MemoryError)(f"slotmap_{name}: status {status}")
+            raise (KeyError if status in (NOT_LIVE, NOT_DETACHED, NO_ENTRY) else MemoryError)(f"{self.prefix}{name}: status {status}")
 
     def written(self, name, *arguments):
         self.checked(name, *arguments, ctypes.byref(self.out))
@@ -78,7 +88,7 @@ class SlotMap:
         self.call("free")
 
     def clone(self):
-        copy = object.__new__(SlotMap)
+        copy = object.__new__(type(self))
         copy.library, copy.handle, copy.out = self.library, Handle(), U64()
         self.checked("clone", ctypes.byref(copy.handle))
         return copy
@@ -86,23 +96,30 @@ class SlotMap:
     def capacity(self):
         return self.call("capacity")
 
-    def reserve(self, additional):
-        self.checked("reserve", additional)
+    def reserve(self, count):
+        self.checked("reserve", count)
 
     def clear(self):
         self.call("clear")
 
+    def remove(self, key):
+        return self.written("remove", key)
+
+
+class SlotMap(Table):
+    """A map, which makes a key for each value."""
+
+    def __iter__(self):
+        """The live keys with their values, by ascending index. The map may change meanwhile."""
+        key, value = U64(), U64()
+        while self.call("next", key, ctypes.byref(key), ctypes.byref(value)) == OK:
+            yield key.value, value.value
+
     def insert(self, value):
         return self.written("insert", value)
 
-    def __getitem__(self, key):
-        return self.written("get", key)
-
     def set(self, key, value):
         return self.written("set", key, value)
-
-    def remove(self, key):
-        return self.written("remove", key)
 
     def detach(self, key):
         return self.written("detach", key)
@@ -116,3 +133,12 @@ class SlotMap:
         keys, values = (U64 * (count + 1))(), (U64 * (count + 1))()
         written = self.call("list", keys, count, values, count)
         return list(zip(keys[:written], values[:written]))
+
+
+class Side(Table):
+    """A side table: further values under the keys of a map."""
+
+    prefix = "slotmap_side_"
+
+    def __setitem__(self, key, value):
+        self.checked("put", key, value)

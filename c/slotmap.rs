@@ -8,7 +8,20 @@ mod ffi {
         pub at: *mut c_void,
     }
 
+    // A map's handle and a side table's are alike.
     extern "C" {
+        pub fn slotmap_side_new(side: &mut Handle) -> u32;
+        pub fn slotmap_side_free(side: &mut Handle);
+        pub fn slotmap_side_clone(side: &mut Handle, copy: &mut Handle) -> u32;
+        pub fn slotmap_side_len(side: &mut Handle) -> usize;
+        pub fn slotmap_side_capacity(side: &mut Handle) -> usize;
+        pub fn slotmap_side_reserve(side: &mut Handle, capacity: usize) -> u32;
+        pub fn slotmap_side_clear(side: &mut Handle);
+        pub fn slotmap_side_put(side: &mut Handle, key: u64, value: u64) -> u32;
+        pub fn slotmap_side_contains(side: &mut Handle, key: u64) -> bool;
+        pub fn slotmap_side_get(side: &mut Handle, key: u64, value: &mut u64) -> u32;
+        pub fn slotmap_side_remove(side: &mut Handle, key: u64, value: &mut u64) -> u32;
+
         pub fn slotmap_new(map: &mut Handle) -> u32;
         pub fn slotmap_free(map: &mut Handle);
         pub fn slotmap_clone(map: &mut Handle, copy: &mut Handle) -> u32;
@@ -127,5 +140,68 @@ impl SlotMap {
 impl Drop for SlotMap {
     fn drop(&mut self) {
         unsafe { ffi::slotmap_free(&mut self.0) }
+    }
+}
+
+/// A side table: values under the keys of a map.
+pub struct Side(ffi::Handle);
+
+// It is proved that the handle may go to another thread.
+unsafe impl Send for Side {}
+
+#[allow(dead_code)]
+impl Side {
+    pub fn new() -> Result<Side, Status> {
+        let mut side = Side(ffi::Handle { at: std::ptr::null_mut() });
+        checked(unsafe { ffi::slotmap_side_new(&mut side.0) })?;
+        Ok(side)
+    }
+
+    pub fn try_clone(&mut self) -> Result<Side, Status> {
+        let mut copy = Side(ffi::Handle { at: std::ptr::null_mut() });
+        checked(unsafe { ffi::slotmap_side_clone(&mut self.0, &mut copy.0) })?;
+        Ok(copy)
+    }
+
+    pub fn len(&mut self) -> usize {
+        unsafe { ffi::slotmap_side_len(&mut self.0) }
+    }
+
+    pub fn capacity(&mut self) -> usize {
+        unsafe { ffi::slotmap_side_capacity(&mut self.0) }
+    }
+
+    pub fn reserve(&mut self, capacity: usize) -> Result<(), Status> {
+        checked(unsafe { ffi::slotmap_side_reserve(&mut self.0, capacity) })
+    }
+
+    pub fn clear(&mut self) {
+        unsafe { ffi::slotmap_side_clear(&mut self.0) }
+    }
+
+    pub fn put(&mut self, key: u64, value: u64) -> Result<(), Status> {
+        checked(unsafe { ffi::slotmap_side_put(&mut self.0, key, value) })
+    }
+
+    pub fn contains(&mut self, key: u64) -> bool {
+        unsafe { ffi::slotmap_side_contains(&mut self.0, key) }
+    }
+
+    pub fn get(&mut self, key: u64) -> Option<u64> {
+        let mut value = 0;
+        checked(unsafe { ffi::slotmap_side_get(&mut self.0, key, &mut value) }).ok()?;
+        Some(value)
+    }
+
+    pub fn remove(&mut self, key: u64) -> Option<u64> {
+        let mut value = 0;
+        checked(unsafe { ffi::slotmap_side_remove(&mut self.0, key, &mut value) }).ok()?;
+        Some(value)
+    }
+}
+
+impl Drop for Side {
+    fn drop(&mut self) {
+        unsafe { ffi::slotmap_side_free(&mut self.0) }
     }
 }

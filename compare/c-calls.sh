@@ -1,10 +1,10 @@
 #!/usr/bin/env bash
 # c-calls.sh SOURCE [CALLS [SEED]]
 #
-# Makes random calls on maps of the archive crates/slotmap_c/out/libslotmap_c.a, through the C interface, and the same calls on
-# maps of the Rust crate slotmap 1.1.1, whose folder SOURCE has src/lib.rs. Each result is compared: a million calls, or CALLS.
-# Each ten thousand are made on a new map, with a seed of its own, from SEED or 1 on. The first difference is printed with
-# its seed and the number of its call, and the status is then 1.
+# Makes random calls on maps and side tables of the archive crates/slotmap_c/out/libslotmap_c.a, through the C interface, and the
+# same calls on those of the Rust crate slotmap 1.1.1, whose folder SOURCE has src/lib.rs. Each result is compared: of a million
+# calls of each kind of map, or CALLS. Each ten thousand are made on a new map, with a seed of its own, from SEED or 1 on. The
+# first difference is printed with its seed and the number of its call, and the status is then 1.
 #
 # It needs rustc and a C compiler, and the archive, which `rt lib` in crates/slotmap_c builds.
 set -euo pipefail

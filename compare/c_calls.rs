@@ -1,10 +1,11 @@
-//! Random calls on the map of the archive, through the C interface, and on a `SlotMap` of the Rust crate: each result is
-//! compared. See c-calls.sh.
+//! Random calls on maps and side tables of the archive, through the C interface, and on a `SlotMap` and a `SecondaryMap` of the
+//! Rust crate: each result is compared. See c-calls.sh.
 
 #[path = "../c/slotmap.rs"]
 mod port;
 
-use slotmap::{DefaultKey, Key, KeyData, SlotMap};
+use slotmap::{DefaultKey, Key, KeyData, SecondaryMap, SlotMap};
+use std::panic::{AssertUnwindSafe, catch_unwind};
 
 /// A random number generator: xorshift64*.
 struct Random(u64);
@@ -169,24 +170,126 @@ impl Both {
     }
 }
 
+struct Beside {
+    port: port::Side,
+    rust: SecondaryMap<DefaultKey, u64>,
+    random: Random,
+    // A map and its keys, live or stale.
+    map: SlotMap<DefaultKey, u64>,
+    known: Vec<u64>,
+    most: usize,
+}
+
+impl Beside {
+    fn new(seed: u64) -> Beside {
+        let mut random = Random(seed.wrapping_mul(0x9E37_79B9_7F4A_7C15) | 1);
+        let most = [4, 40, 400, 4000][random.below(4)];
+        let port = port::Side::new().unwrap();
+        Beside { port, rust: SecondaryMap::new(), random, map: SlotMap::new(), known: vec![1 << 32 | 1], most }
+    }
+
+    /// A key of the map, live or stale, most often one of the last; or, for a look-up alone, any number.
+    fn some_key(&mut self, any: bool) -> u64 {
+        let recent = self.known.len().min(2 * self.most);
+        let known = self.known[self.known.len() - 1 - self.random.below(recent)];
+        match self.random.below(16) {
+            0 if any => self.random.next(),
+            1 if any => known ^ (1 << self.random.below(64)),
+            2 => self.known[self.random.below(self.known.len())],
+            _ => known,
+        }
+    }
+
+    /// A put without effect is `None` in the crate and a status in the port. The null key is of no index there.
+    fn put(&mut self) {
+        let (at, value) = (self.some_key(false), self.random.next());
+        self.rust.insert(key(at), value);
+        let has_entry = self.rust.contains_key(key(at));
+        let expected = if has_entry { Ok(()) } else { Err(port::Status(8)) };
+        assert_eq!(self.port.put(at, value), expected, "put {at:#x}");
+        assert_eq!(self.port.put(8589934591, value), Err(port::Status(8)), "put of the null key");
+    }
+
+    fn change_keys(&mut self) {
+        if self.map.len() < self.most && self.random.below(3) > 0 {
+            self.known.push(number(self.map.insert(0)));
+        } else {
+            let at = self.some_key(false);
+            self.map.remove(key(at));
+        }
+    }
+
+    fn compare_all(&mut self) {
+        for at in 0..self.known.len() {
+            let at = self.known[at];
+            assert_eq!(self.port.get(at), self.rust.get(key(at)).copied(), "get of all at {at:#x}");
+        }
+    }
+
+    fn rare(&mut self) {
+        match self.random.below(5) {
+            0 => {
+                self.port.clear();
+                self.rust.clear();
+            }
+            1 => {
+                self.port = self.port.try_clone().unwrap();
+                self.rust = self.rust.clone();
+            }
+            2 => {
+                let capacity = self.random.below(1000);
+                self.port.reserve(capacity).unwrap();
+                assert!(self.port.capacity() >= capacity, "capacity");
+            }
+            _ => self.compare_all(),
+        }
+    }
+
+    fn call(&mut self) {
+        match self.random.below(40) {
+            0..12 => self.put(),
+            12..20 => {
+                let at = self.some_key(true);
+                assert_eq!(self.port.get(at), self.rust.get(key(at)).copied(), "get {at:#x}");
+            }
+            20..24 => {
+                let at = self.some_key(true);
+                assert_eq!(self.port.contains(at), self.rust.contains_key(key(at)), "contains {at:#x}");
+            }
+            24..28 => {
+                let at = self.some_key(true);
+                assert_eq!(self.port.remove(at), self.rust.remove(key(at)), "remove {at:#x}");
+            }
+            28..39 => self.change_keys(),
+            _ if self.random.below(self.most) < 4 => self.rare(),
+            _ => assert_eq!(self.port.len(), self.rust.len(), "len"),
+        }
+    }
+}
+
+/// Makes so many calls, each ten thousand of them on a new map with a seed of its own.
+fn make_calls<T>(name: &str, calls: u64, seed: u64, new: fn(u64) -> T, call: fn(&mut T)) {
+    const TURN: u64 = 10_000;
+    let (mut made, mut maps) = (0, 0);
+    while made < calls {
+        let mut both = new(seed + maps);
+        let turn = TURN.min(calls - made);
+        for at in 0..turn {
+            if catch_unwind(AssertUnwindSafe(|| call(&mut both))).is_err() {
+                eprintln!("c_calls: {name}, seed {}, call {at}", seed + maps);
+                std::process::exit(1);
+            }
+        }
+        made += turn;
+        maps += 1;
+    }
+    println!("{name}: {made} calls on {maps} maps, seeds {seed} to {}: no difference", seed + maps - 1);
+}
+
 fn main() {
     let mut words = std::env::args().skip(1).map(|it| it.parse::<u64>().expect("a number"));
     let calls = words.next().unwrap_or(1_000_000);
     let seed = words.next().unwrap_or(1);
-    const TURN: u64 = 10_000;
-    let mut made = 0;
-    let mut map = 0;
-    while made < calls {
-        let mut both = Both::new(seed + map);
-        for call in 0..TURN.min(calls - made) {
-            let panicked = std::panic::catch_unwind(std::panic::AssertUnwindSafe(|| both.call()));
-            if panicked.is_err() {
-                eprintln!("c_calls: seed {}, call {call}", seed + map);
-                std::process::exit(1);
-            }
-        }
-        made += TURN.min(calls - made);
-        map += 1;
-    }
-    println!("SlotMap: {made} calls on {map} maps, seeds {seed} to {}: no difference", seed + map - 1);
+    make_calls("SlotMap", calls, seed, Both::new, Both::call);
+    make_calls("SecondaryMap", calls, seed, Beside::new, Beside::call);
 }

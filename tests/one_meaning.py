@@ -21,6 +21,7 @@ SOURCES = {
     'call maps keyed many sized held lists runs kinds walks steps replies stop script': 'that part of a program that reads rows or scripts, or of a run',
     'commands errors keys joined json clones scheduler packed': 'that subject: its definition, its tests, or an example of it',
     'debug shown': 'the text of a type in a debugger, or its tests',
+    'handle': 'a handle for C: of a map, or of a side table',
     'messages': 'what the errors of a structure say, and the debug texts of its types',
     'links search rows': 'links of nodes or slots; a search along them; rows of a layout or of a file',
 }
@@ -35,6 +36,7 @@ LEMMAS = {
     'IterLemmas': 'iterators',
     'Results': 'what clauses say of results',
     'RetainLemmas': '`retain`',
+    'Send': 'a type may go to another thread',
     'SettledLemmas': 'what calls know of slots between calls, by what the map holds',
     'SlotLemmas': 'the slots of a map in memory',
     'WellFormed': 'a map stays well formed',

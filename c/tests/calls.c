@@ -149,6 +149,36 @@ static void check_clone(slotmap_t *map)
     CHECK(slotmap_get(map, new_key, &value) == SLOTMAP_OK && value == 1);
 }
 
+/* A side table keeps the newest key of each index. */
+static void check_side(slotmap_t *map)
+{
+    slotmap_side_t side = SLOTMAP_INIT, copy = SLOTMAP_INIT;
+    uint64_t a = 0, b = 0, c = 0, out = UNWRITTEN;
+    CHECK(slotmap_insert(map, 1, &a) == SLOTMAP_OK && slotmap_insert(map, 2, &b) == SLOTMAP_OK);
+    CHECK(slotmap_side_put(&side, a, 5) == SLOTMAP_CLOSED && slotmap_side_len(&side) == 0);
+    CHECK(slotmap_side_get(&side, a, &out) == SLOTMAP_NOT_LIVE && slotmap_side_remove(&side, a, &out) == SLOTMAP_NOT_LIVE);
+    CHECK(!slotmap_side_contains(&side, a) && slotmap_side_capacity(&side) == 0 && slotmap_side_reserve(&side, 0) == SLOTMAP_CLOSED);
+    CHECK(slotmap_side_clone(&side, &copy) == SLOTMAP_CLOSED && copy.at == NULL && out == UNWRITTEN);
+    slotmap_side_clear(&side);
+    slotmap_side_free(&side);
+    CHECK(slotmap_side_new(&side) == SLOTMAP_OK && slotmap_side_new(&side) == SLOTMAP_OPEN);
+    CHECK(slotmap_side_put(&side, a, 5) == SLOTMAP_OK && slotmap_side_put(&side, b, 6) == SLOTMAP_OK);
+    CHECK(slotmap_side_put(&side, a, 7) == SLOTMAP_OK && slotmap_side_get(&side, a, &out) == SLOTMAP_OK && out == 7);
+    CHECK(slotmap_remove(map, a, &out) == SLOTMAP_OK && slotmap_insert(map, 3, &c) == SLOTMAP_OK && (uint32_t)c == (uint32_t)a);
+    CHECK(!slotmap_side_contains(&side, c) && slotmap_side_put(&side, c, 8) == SLOTMAP_OK && !slotmap_side_contains(&side, a));
+    CHECK(slotmap_side_put(&side, a, 9) == SLOTMAP_NO_ENTRY && slotmap_side_put(&side, NULL_KEY, 9) == SLOTMAP_NO_ENTRY);
+    CHECK(slotmap_side_get(&side, c, &out) == SLOTMAP_OK && out == 8 && slotmap_side_len(&side) == 2);
+    CHECK(slotmap_side_reserve(&side, SIZE_MAX) == SLOTMAP_FULL && slotmap_side_reserve(&side, 1000) == SLOTMAP_OK);
+    CHECK(slotmap_side_capacity(&side) >= 1000);
+    CHECK(slotmap_side_clone(&side, &copy) == SLOTMAP_OK && slotmap_side_clone(&side, &copy) == SLOTMAP_OPEN);
+    CHECK(slotmap_side_remove(&side, c, &out) == SLOTMAP_OK && out == 8 && !slotmap_side_contains(&side, c));
+    slotmap_side_clear(&side);
+    CHECK(slotmap_side_len(&side) == 0 && slotmap_side_len(&copy) == 2 && slotmap_side_contains(&copy, b));
+    slotmap_side_free(&copy);
+    slotmap_side_free(&side);
+    CHECK(side.at == NULL && copy.at == NULL);
+}
+
 static void with_new(void (*check)(slotmap_t *))
 {
     slotmap_t map = SLOTMAP_INIT;
@@ -175,6 +205,7 @@ int main(void)
     with_new(check_keys);
     with_new(check_detached);
     with_new(check_room);
+    with_new(check_side);
     with_new(check_all_keys);
     CHECK(slotmap_new(&map) == SLOTMAP_OK);
     slotmap_free(&map);

@@ -37,4 +37,17 @@ with slotmap.SlotMap(library) as names:
     assert len(names) == 0 and len(copy) == 100
     copy.free()
     assert len(copy) == 0 and fails(MemoryError, copy.insert, 1) and list(copy) == copy.items() == []
+with slotmap.SlotMap(library) as names, slotmap.Side(library) as ages:
+    a = names.insert(1)
+    ages[a] = 5
+    assert (ages[a], a in ages, len(ages), names.remove(a)) == (5, True, 1, 1)
+    c = names.insert(2)
+    ages[c] = 6
+    assert (ages[c], a in ages, len(ages)) == (6, False, 1) and fails(KeyError, ages.__setitem__, a, 7)
+    ages.reserve(100)
+    older = ages.clone()
+    assert ages.remove(c) == 6 and fails(KeyError, ages.remove, c) and older[c] == 6 and ages.capacity() >= 100
+    older.clear()
+    assert len(older) == len(ages) == 0
+    older.free()
 print("calls of slotmap.py: ok")

@@ -3,7 +3,7 @@
 #[path = "../slotmap.rs"]
 mod slotmap;
 
-use slotmap::{SlotMap, Status};
+use slotmap::{Side, SlotMap, Status};
 
 fn keyed(map: &mut SlotMap) -> Result<(), Status> {
     let a = map.insert(10)?;
@@ -40,10 +40,28 @@ fn whole(map: &mut SlotMap) -> Result<(), Status> {
     Ok(())
 }
 
+fn beside(map: &mut SlotMap) -> Result<(), Status> {
+    let mut side = Side::new()?;
+    let a = map.insert(1)?;
+    side.put(a, 5)?;
+    assert_eq!((side.get(a), side.contains(a), side.len()), (Some(5), true, 1));
+    map.remove(a);
+    let c = map.insert(2)?;
+    side.put(c, 6)?;
+    assert_eq!((side.put(a, 7), side.get(a), side.get(c)), (Err(Status(8)), None, Some(6)));
+    side.reserve(100)?;
+    let mut copy = side.try_clone()?;
+    assert_eq!((side.remove(c), side.remove(c), side.capacity() >= 100), (Some(6), None, true));
+    copy.clear();
+    assert_eq!((side.len(), copy.len()), (0, 0));
+    Ok(())
+}
+
 fn main() -> Result<(), Status> {
     let mut map = SlotMap::new()?;
     keyed(&mut map)?;
     whole(&mut map)?;
+    beside(&mut map)?;
     println!("calls of slotmap.rs: ok");
     Ok(())
 }

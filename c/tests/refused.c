@@ -22,7 +22,7 @@ void *__wrap_realloc(void *old, size_t size)
     return left-- == 0 ? NULL : __real_realloc(old, size);
 }
 
-static unsigned refused_new, refused_insert, refused_reserve, refused_clone;
+static unsigned refused_new, refused_insert, refused_reserve, refused_clone, refused_side;
 
 static void fill(slotmap_t *map, uint64_t *keys)
 {
@@ -63,6 +63,32 @@ static void copy(slotmap_t *map, slotmap_t *other)
     CHECK(status == SLOTMAP_OK);
 }
 
+static void beside(uint64_t *keys)
+{
+    slotmap_side_t side = SLOTMAP_INIT;
+    uint64_t value = 0;
+    unsigned i;
+    slotmap_status status = slotmap_side_new(&side);
+    if (status == SLOTMAP_NO_MEMORY) {
+        refused_side++;
+        CHECK(side.at == NULL);
+        status = slotmap_side_new(&side);
+    }
+    CHECK(status == SLOTMAP_OK);
+    for (i = 0; i < COUNT; i++) {
+        status = slotmap_side_put(&side, keys[i], i);
+        if (status == SLOTMAP_NO_MEMORY) {
+            refused_side++;
+            CHECK(slotmap_side_len(&side) == i && !slotmap_side_contains(&side, keys[i]));
+            status = slotmap_side_put(&side, keys[i], i);
+        }
+        CHECK(status == SLOTMAP_OK);
+    }
+    for (i = 0; i < COUNT; i++)
+        CHECK(slotmap_side_get(&side, keys[i], &value) == SLOTMAP_OK && value == i);
+    slotmap_side_free(&side);
+}
+
 static void run(void)
 {
     slotmap_t map = SLOTMAP_INIT, other = SLOTMAP_INIT;
@@ -82,6 +108,7 @@ static void run(void)
         CHECK(slotmap_get(&map, keys[i], &value) == SLOTMAP_OK && value == i * 3u);
         CHECK(slotmap_get(&other, keys[i], &value) == SLOTMAP_OK && value == i * 3u);
     }
+    beside(keys);
     slotmap_free(&map);
     slotmap_free(&other);
 }
@@ -95,8 +122,8 @@ int main(void)
         if (left >= 0)
             break;
     }
-    CHECK(refused_new + refused_insert + refused_reserve + refused_clone == (unsigned)refuse);
-    printf("refused: %ld allocations, of new %u, insert %u, reserve %u, clone %u; %llu checks\n",
-           refuse, refused_new, refused_insert, refused_reserve, refused_clone, checks);
+    CHECK(refused_new + refused_insert + refused_reserve + refused_clone + refused_side == (unsigned)refuse);
+    printf("refused: %ld allocations, of new %u, insert %u, reserve %u, clone %u, side tables %u; %llu checks\n",
+           refuse, refused_new, refused_insert, refused_reserve, refused_clone, refused_side, checks);
     return 0;
 }

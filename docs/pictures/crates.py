@@ -26,7 +26,7 @@ CRATES = {
     "slotmap_run": (6, 2, "runs of commands"),
     "slotmap_rows": (0.5, 3, "reads rows of tests"),
     "slotmap": (2, 3, "the library to use: all names"),
-    "slotmap_c": (3.5, 3, "SlotMap for C"),
+    "slotmap_c": (3.5, 3, "two maps for C"),
     "slotrun": (5, 3, "program: runs scripts"),
     "primary_rows": (0.5, 4, "checks the primary maps"),
     "secondary_rows": (2.2, 4, "checks the secondary maps"),

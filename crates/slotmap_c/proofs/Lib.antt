@@ -1,3 +1,5 @@
 pub mod ArrayLemmas
 pub mod ClosedLemmas
+pub mod SideLemmas
+pub mod SideValues
 pub mod Values

@@ -2,10 +2,10 @@
 --     one_value, fits_one, tells      a value of any type is one machine value, of the type's layout
 --     word, pair                      the machine value of a handle, and of a pointer beside an allocator
 --     handle_out, handle_in           a handle is its word and what it holds
---     testable                        the pointer of an open handle can be compared with null
+--     testable                        a pointer whose block may be freed can be compared with null
 --     unboxed_out, unboxed_in         a box that was taken apart is its pair, the block and the allocator
 --     tuple_out                       so is the tuple that the library takes it apart into
-use Rattle.std.proofs.Common.{◌≡◌, ℕ, List, [], ◌∷◌, ◌++◌, refl, ap, subst, lit<}
+use Rattle.std.proofs.Common.{◌≡◌, List, [], ◌∷◌, ◌++◌, refl, ap, subst, lit<}
 use mathlib.Core.Bool.{Bool, true, false, ◌&&◌}
 use lib.Dec.{T}
 use seplogic.Ra.Ura.{Ura}
@@ -31,8 +31,7 @@ use Rattle.core.specs.declared.alloc.Allocator.{Ghosts}
 use Rattle.std_alloc.specs.Box.Ownership.{box_owns}
 use Rattle.core.specs.Ptr.{points_to}
 use Rattle.std.proofs.GlobalToken.{dealloc_token-Testable}
-use Rattle.slotmap_core.specs.Words.{Content}
-use Rattle.slotmap_c.specs.Held.{Map, held, may_free}
+use Rattle.slotmap_c.specs.Held.{held, may_free}
 use Rattle.slotmap_c.specs.contracts.handle.Handle as handle
 use Rattle.slotmap_c.specs.contracts.unboxed.Unboxed as unboxed
 
@@ -86,13 +85,14 @@ module _ {M : Type 1} {𝓤 : Ura M} {𝓛 : Logic 𝓤} {K : Type 0} {Γ : List
       fpack t (Valss (RawPtr ∷ [])) (within (shape handle.the_type) (h.at, tt) (word h.at ∷ [])) (ptr_val h.at ∷ [], tt) $ fjoin t $ s)
 
 module _ {M : Type 1} {𝓤 : Ura M} {𝓛 : Logic 𝓤} {K : Type 0} {Γ : List (Item 𝓤)} {G : Goal 𝓤 𝓛.H} where
-  -- the pointer of an open handle can be compared with null
-  pub testable : K → (p : Ptr) (m : Content ℕ) → (Testable p → Seq K 𝓛 (‵ (held p true m) ∷ Γ) G) → Seq K 𝓛 (‵ (held p true m) ∷ Γ) G
-  testable t p m next = let τ : Ty = bare (lone Map.mir) in
-      use1 𝓛 (given (Testable p) (‵ (held p true m))) (fact_use 𝓤 (Testable p)
-      (via 𝓤 (sem 𝓛 (may_free τ p)) (snd∗ 𝓤 (sem 𝓛 (points_to Map p m)) (sem 𝓛 (may_free τ p)))
+  -- a pointer whose block may be freed can be compared with null
+  pub testable : K → (R : RattleType) (p : Ptr) (x : R.Denot) → (Testable p → Seq K 𝓛 (‵ (box_owns may_free R p x) ∷ Γ) G)
+      → Seq K 𝓛 (‵ (box_owns may_free R p x) ∷ Γ) G
+  testable t R p x next = let τ : Ty = bare (lone R.mir) in
+      use1 𝓛 (given (Testable p) (‵ (box_owns may_free R p x))) (fact_use 𝓤 (Testable p)
+      (via 𝓤 (sem 𝓛 (may_free τ p)) (snd∗ 𝓤 (sem 𝓛 (points_to R p x)) (sem 𝓛 (may_free τ p)))
       (dealloc_token-Testable 𝓛 (record { memory = record { seal = tt } }) τ p))
-      (λ may. guard_i 𝓤 (Testable p) (sem 𝓛 (held p true m)) may)) $ learn t next
+      (λ may. guard_i 𝓤 (Testable p) (sem 𝓛 (box_owns may_free R p x)) may)) $ learn t next
 
   -- what is owned of a value tells that it is one machine value
   pub tells : K → (R : RattleType) → Laws R → (x : R.Denot) (vs : List Val)

@@ -1,3 +1,5 @@
 pub mod Calls
 pub mod Held
+pub mod Side
+pub mod SideCalls
 pub mod Status

@@ -32,3 +32,7 @@ not_detached = 6
 -- no live key comes later
 abbrev pub no_more : ℕ
 no_more = 7
+
+-- the key is null, or older than the one at its index
+abbrev pub no_entry_found : ℕ
+no_entry_found = 8

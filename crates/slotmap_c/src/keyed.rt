@@ -20,9 +20,9 @@ pub(crate) fn key(number: u64) -> DefaultKey
     DefaultKey::from(KeyData::from_ffi(number))
 }
 
-// Writes a value that was found.
+/// Writes a value that was found.
 #[inline(always)]
-fn found(value: Option<u64>, out: &mut u64) -> u32
+pub(crate) fn found(value: Option<u64>, out: &mut u64) -> u32
     ensures { FindSays value result out.old out.new }
 {
     match value {

@@ -8,6 +8,7 @@
 mod handle;
 mod iterating;
 mod keyed;
+mod side;
 mod status;
 #[cfg(test)]
 mod tests;

@@ -23,3 +23,6 @@ pub(crate) const NOT_DETACHED: u32 = 6;
 
 /// No live key comes later.
 pub(crate) const NO_MORE: u32 = 7;
+
+/// The key is null, or older than the one at its index.
+pub(crate) const NO_ENTRY: u32 = 8;

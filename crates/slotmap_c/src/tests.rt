@@ -6,7 +6,12 @@ use crate::keyed::{
     slotmap_contains, slotmap_detach, slotmap_get, slotmap_insert, slotmap_reattach,
     slotmap_remove, slotmap_set,
 };
-use crate::status::{CLOSED, NO_MORE, NOT_DETACHED, NOT_LIVE, OK, OPEN};
+use crate::side::handle::SideHandle;
+use crate::side::{
+    slotmap_side_contains, slotmap_side_free, slotmap_side_get, slotmap_side_len, slotmap_side_new,
+    slotmap_side_put, slotmap_side_remove,
+};
+use crate::status::{CLOSED, NO_ENTRY, NO_MORE, NOT_DETACHED, NOT_LIVE, OK, OPEN};
 use crate::whole::{
     slotmap_capacity, slotmap_clear, slotmap_clone, slotmap_free, slotmap_len, slotmap_new,
     slotmap_reserve,
@@ -79,6 +84,18 @@ fn closed_well(alloc: Global, map: &mut Handle, copy: &mut Handle) -> bool {
     well && (got, out, slotmap_len(alloc, map)) == (NOT_LIVE, 7, 0)
 }
 
+fn side_well(alloc: Global, side: &mut SideHandle) -> bool {
+    let (newer, mut out) = (0x3_0000_0001, 0);
+    let first = slotmap_side_put(alloc, side, FIRST, 5);
+    let second = slotmap_side_put(alloc, side, newer, 6);
+    let older = slotmap_side_put(alloc, side, FIRST, 7);
+    let well = (first, second, older, slotmap_side_len(alloc, side)) == (OK, OK, NO_ENTRY, 1);
+    let stale = slotmap_side_get(alloc, side, FIRST, &mut out);
+    let well = well && (stale, out) == (NOT_LIVE, 0);
+    let removed = slotmap_side_remove(alloc, side, newer, &mut out);
+    well && (removed, out, slotmap_side_contains(alloc, side, newer)) == (OK, 6, false)
+}
+
 #[test]
 fn calls_for_one_key(rt: HostRuntime) {
     let alloc = rt.alloc();
@@ -114,5 +131,16 @@ fn handles_open_and_closed(rt: HostRuntime) {
     slotmap_free(alloc, &mut copy);
     map.end();
     copy.end();
+    assert_eq!(rt; (made, well), (OK, true));
+}
+
+#[test]
+fn calls_of_a_side_table(rt: HostRuntime) {
+    let alloc = rt.alloc();
+    let mut side = SideHandle::closed();
+    let made = slotmap_side_new(alloc, &mut side);
+    let well = side_well(alloc, &mut side);
+    slotmap_side_free(alloc, &mut side);
+    side.end();
     assert_eq!(rt; (made, well), (OK, true));
 }

@@ -99,7 +99,7 @@ module _ {M : Type 1} {𝓤 : Ura M} (𝓛 : Logic 𝓤) (𝓜 : Model 𝓤 𝓛
   walks (block_ptr b o) true m opened is =
       let p : Ptr = block_ptr b o in let u : U.Denot = record { pointer = p; alloc = z.0.3.1.0; held = m } in
       let pair_is = pair_fits Map A the_row_laws ghosts p a fits in
-      qed 𝓛 (‵ (held p true m) ∷ ‵ (A.own_val z.0.3.1.0 (a ∷ [])) ∷ raw tokens ∷ []) ∵ testable ! p m (λ may.
+      qed 𝓛 (‵ (held p true m) ∷ ‵ (A.own_val z.0.3.1.0 (a ∷ [])) ∷ raw tokens ∷ []) ∵ testable ! Map p m (λ may.
       enter ! C Λ code.function (word p ∷ a ∷ []) Post $ alloc_all ! (λ l. pass_all ! refl (word_fits p, (fits, tt)) $
       sets ! (of_opd ! (get_in ! (fld ! refl (stop !)) (sub ! 0 refl (whole !)))) refl (ptr_fits p) $
       sets ! (bin ! (get ! refl) (lit ! tt) (tests_null p may)) refl (tt, tt) $

@@ -1,0 +1,247 @@
+//! The calls of a side table: values of 64 bits under the keys of a map.
+
+ghost use Rattle.std.specs.FinMap as map;
+ghost use Rattle.std.specs.Prelude.{◌≡◌, ◌≢◌, ◌≤◌, true, false};
+ghost use Rattle.slotmap_core.specs.Words.{get, contains_key, remove};
+ghost use Rattle.slotmap_secondary.specs.Content.{IsSideContent};
+ghost use Rattle.slotmap_c.specs.Calls.{key_of, FindSays};
+ghost use Rattle.slotmap_c.specs.Side.{no_side};
+ghost use Rattle.slotmap_c.specs.SideCalls.{SideOpensWith, SideNewSays, SideCloneSays, SideReserveSays, PutSays, SidePutSays};
+ghost use Rattle.slotmap_c.specs.Status.{ok};
+
+use crate::keyed::{found, key};
+use crate::status::{CLOSED, FULL, NO_ENTRY, NO_MEMORY, OK, OPEN};
+use slotmap_core::errors::ReserveError;
+use slotmap_core::keys::DefaultKey;
+use std::alloc::Global;
+
+pub(crate) mod handle;
+
+use handle::{Side, SideHandle};
+
+// Opens a closed handle with a side table.
+fn opens(alloc: Global, this: &mut SideHandle, made: Side) -> u32
+    requires { this.old.is_open ≡ false }
+    ensures { SideOpensWith made this.old.side result this.new.is_open this.new.side }
+{
+    match Box::new(alloc, made) {
+        Ok(inside) => {
+            this.put(inside);
+            OK
+        }
+        Err(_) => NO_MEMORY,
+    }
+}
+
+/// Makes an empty side table in a closed handle.
+#[unsafe(no_mangle)]
+pub extern "C" fn slotmap_side_new(alloc: Global, this: &mut SideHandle) -> u32
+    ensures says { SideNewSays this.old.is_open this.old.side result this.new.is_open this.new.side }
+    ensures valid { result ≡ ok → IsSideContent this.new.side }
+{
+    if let Some(inside) = this.take(alloc) {
+        this.put(inside);
+        return OPEN;
+    }
+    match Side::new(alloc) {
+        Ok(made) => opens(alloc, this, made),
+        Err(_) => NO_MEMORY,
+    }
+}
+
+/// Frees the table of an open handle, which is closed then. A closed handle stays closed.
+#[unsafe(no_mangle)]
+pub extern "C" fn slotmap_side_free(alloc: Global, this: &mut SideHandle)
+    ensures open { this.new.is_open ≡ false }
+    ensures side { this.new.side ≡ no_side }
+{
+    let _inside = this.take(alloc);
+}
+
+/// Makes a copy of an open handle's table in a closed handle.
+#[unsafe(no_mangle)]
+pub extern "C" fn slotmap_side_clone(
+    alloc: Global,
+    this: &mut SideHandle,
+    copy: &mut SideHandle,
+) -> u32
+    ensures says { SideCloneSays this.old.is_open this.old.side copy.old.is_open copy.old.side result copy.new.is_open copy.new.side }
+    ensures valid { result ≡ ok → IsSideContent copy.new.side }
+    ensures open { this.new.is_open ≡ this.old.is_open }
+    ensures side { this.new.side ≡ this.old.side }
+{
+    let Some(inside) = this.take(alloc) else {
+        return CLOSED;
+    };
+    if let Some(other) = copy.take(alloc) {
+        copy.put(other);
+        this.put(inside);
+        return OPEN;
+    }
+    let made = Side::clone(&inside);
+    this.put(inside);
+    match made {
+        Ok(made) => opens(alloc, copy, made),
+        Err(_) => NO_MEMORY,
+    }
+}
+
+/// Returns the number of keys.
+#[unsafe(no_mangle)]
+pub extern "C" fn slotmap_side_len(alloc: Global, this: &mut SideHandle) -> usize
+    ensures value { result ≡ map.len this.old.side.pairs }
+    ensures open { this.new.is_open ≡ this.old.is_open }
+    ensures side { this.new.side ≡ this.old.side }
+{
+    let Some(inside) = this.take(alloc) else {
+        return 0;
+    };
+    let len = inside.len();
+    this.put(inside);
+    len
+}
+
+/// Returns the largest index for which memory is allocated.
+#[unsafe(no_mangle)]
+pub extern "C" fn slotmap_side_capacity(alloc: Global, this: &mut SideHandle) -> usize
+    ensures value { result ≡ this.old.side.capacity }
+    ensures open { this.new.is_open ≡ this.old.is_open }
+    ensures side { this.new.side ≡ this.old.side }
+{
+    let Some(inside) = this.take(alloc) else {
+        return 0;
+    };
+    let capacity = inside.capacity();
+    this.put(inside);
+    capacity
+}
+
+/// Allocates memory for each index up to `capacity`.
+#[unsafe(no_mangle)]
+pub extern "C" fn slotmap_side_reserve(alloc: Global, this: &mut SideHandle, capacity: usize) -> u32
+    ensures says { SideReserveSays this.old.is_open this.old.side capacity result this.new.side }
+    ensures keeps { this.new.side ≡ record this.old.side { capacity = this.new.side.capacity } }
+    ensures unchanged { result ≢ ok → this.new.side ≡ this.old.side }
+    ensures valid { this.old.is_open ≡ true → IsSideContent this.new.side }
+    ensures open { this.new.is_open ≡ this.old.is_open }
+{
+    let Some(mut inside) = this.take(alloc) else {
+        return CLOSED;
+    };
+    let made = inside.set_capacity(capacity);
+    this.put(inside);
+    match made {
+        Ok(()) => OK,
+        Err(ReserveError::TooGreat) => FULL,
+        Err(ReserveError::Memory) => NO_MEMORY,
+    }
+}
+
+/// Removes all keys.
+#[unsafe(no_mangle)]
+pub extern "C" fn slotmap_side_clear(alloc: Global, this: &mut SideHandle)
+    ensures empty { this.new.side ≡ record this.old.side { pairs = map.empty } }
+    ensures valid { this.old.is_open ≡ true → IsSideContent this.new.side }
+    ensures open { this.new.is_open ≡ this.old.is_open }
+{
+    if let Some(mut inside) = this.take(alloc) {
+        inside.clear();
+        this.put(inside);
+    }
+}
+
+// Puts a value under a key that has an entry.
+fn put(inside: &mut Side, key: DefaultKey, value: u64) -> u32
+    ensures says { PutSays inside.old key value result inside.new }
+    ensures valid { IsSideContent inside.new }
+{
+    match inside.insert(key, value) {
+        Ok(_) => {
+            if inside.contains_key(key) {
+                OK
+            } else {
+                NO_ENTRY
+            }
+        }
+        Err(_) => NO_MEMORY,
+    }
+}
+
+/// Puts a value under a key, in place of the value of this key or of an older one at its index.
+#[unsafe(no_mangle)]
+pub extern "C" fn slotmap_side_put(
+    alloc: Global,
+    this: &mut SideHandle,
+    number: u64,
+    value: u64,
+) -> u32
+    ensures says { SidePutSays this.old.is_open this.old.side (key_of number) value result this.new.side }
+    ensures valid { this.old.is_open ≡ true → IsSideContent this.new.side }
+    ensures open { this.new.is_open ≡ this.old.is_open }
+{
+    let Some(mut inside) = this.take(alloc) else {
+        return CLOSED;
+    };
+    let status = put(&mut inside, key(number), value);
+    this.put(inside);
+    status
+}
+
+/// Returns whether a key has a value.
+#[unsafe(no_mangle)]
+pub extern "C" fn slotmap_side_contains(alloc: Global, this: &mut SideHandle, number: u64) -> bool
+    ensures value { result ≡ contains_key this.old.side.pairs (key_of number) }
+    ensures open { this.new.is_open ≡ this.old.is_open }
+    ensures side { this.new.side ≡ this.old.side }
+{
+    let Some(inside) = this.take(alloc) else {
+        return false;
+    };
+    let is_there = inside.contains_key(key(number));
+    this.put(inside);
+    is_there
+}
+
+/// Writes the value of a key.
+#[unsafe(no_mangle)]
+pub extern "C" fn slotmap_side_get(
+    alloc: Global,
+    this: &mut SideHandle,
+    number: u64,
+    out: &mut u64,
+) -> u32
+    ensures says { FindSays (get this.old.side.pairs (key_of number)) result out.old out.new }
+    ensures open { this.new.is_open ≡ this.old.is_open }
+    ensures side { this.new.side ≡ this.old.side }
+{
+    let Some(inside) = this.take(alloc) else {
+        return found(None, out);
+    };
+    let value = match inside.get(key(number)) {
+        Some(value) => Some(*value),
+        None => None,
+    };
+    this.put(inside);
+    found(value, out)
+}
+
+/// Removes a key, and writes its value.
+#[unsafe(no_mangle)]
+pub extern "C" fn slotmap_side_remove(
+    alloc: Global,
+    this: &mut SideHandle,
+    number: u64,
+    out: &mut u64,
+) -> u32
+    ensures says { FindSays (get this.old.side.pairs (key_of number)) result out.old out.new }
+    ensures removes { this.new.side ≡ record this.old.side { pairs = remove this.old.side.pairs (key_of number) } }
+    ensures valid { this.old.is_open ≡ true → IsSideContent this.new.side }
+    ensures open { this.new.is_open ≡ this.old.is_open }
+{
+    let Some(mut inside) = this.take(alloc) else {
+        return found(None, out);
+    };
+    let value = inside.remove(key(number));
+    this.put(inside);
+    found(value, out)
+}

@@ -1,0 +1,99 @@
+//! The handle of a side table: a table behind a pointer, or none.
+
+ghost use Rattle.std.specs.Prelude.{◌≡◌, ℕ, Bool, true, false, IfSome, IfNone};
+ghost use Rattle.std.specs.Coded.{coded_ℕ, coded_bool};
+ghost use Rattle.slotmap_secondary.specs.Content.{SideContent, side_code};
+ghost use Rattle.slotmap_c.specs.Side.{side_held, no_side};
+
+use crate::unboxed::Unboxed;
+use slotmap_core::keys::DefaultKey;
+use slotmap_secondary::SecondaryMap;
+use std::alloc::Global;
+use std::marker::Model;
+use std::{mem, ptr};
+
+pub(crate) type Side = SecondaryMap<DefaultKey, u64>;
+
+/// A handle: open, with a side table, or closed. A closed one shows an empty table.
+///
+/// It can't be dropped: an open one would leak its table.
+#[repr(C)]
+pub struct SideHandle {
+    // The table of an open handle, or null.
+    at: *mut u8,
+    pub ghost is_open: { Bool } by { coded_bool },
+    pub ghost side: { SideContent ℕ } by { side_code coded_ℕ },
+}
+
+impl Model for SideHandle {
+    ghost also_owns = { λ h. side_held h.at h.is_open h.side };
+}
+
+unsafe impl Send for SideHandle {}
+
+impl SideHandle {
+    /// Makes a closed handle.
+    pub(crate) fn closed() -> SideHandle
+        ensures open { result.is_open ≡ false }
+        ensures side { result.side ≡ no_side }
+    {
+        SideHandle {
+            at: ptr::null_mut(),
+        }
+    }
+
+    /// Lets a closed handle go.
+    pub(crate) fn end(self)
+        requires { self.is_open ≡ false }
+    {
+        let SideHandle { at: _ } = self;
+    }
+
+    fn of_unboxed(inside: Unboxed<Side, Global>) -> SideHandle
+        ensures open { result.is_open ≡ true }
+        ensures side { result.side ≡ inside.held }
+    {
+        let Unboxed { pointer, alloc: _ } = inside;
+        SideHandle {
+            at: pointer as *mut u8,
+        }
+    }
+
+    fn into_unboxed(self, alloc: Global) -> Option<Unboxed<Side, Global>>
+        ensures some { IfSome result (λ unboxed. (self.is_open ≡ true) × (unboxed.held ≡ self.side)) }
+        ensures none { IfNone result ((self.is_open ≡ false) × (self.side ≡ no_side)) }
+    {
+        let SideHandle { at } = self;
+        if at.is_null() {
+            return None;
+        }
+        Some(Unboxed {
+            pointer: at as *mut Side,
+            alloc,
+        })
+    }
+
+    /// Takes the table out of the handle, which is closed then.
+    #[inline(always)]
+    pub(crate) fn take(&mut self, alloc: Global) -> Option<Box<Side, Global>>
+        ensures some { IfSome result (λ inside. (self.old.is_open ≡ true) × (inside.value ≡ self.old.side)) }
+        ensures none { IfNone result ((self.old.is_open ≡ false) × (self.old.side ≡ no_side)) }
+        ensures open { self.new.is_open ≡ false }
+        ensures side { self.new.side ≡ no_side }
+    {
+        match mem::replace(self, SideHandle::closed()).into_unboxed(alloc) {
+            Some(unboxed) => Some(unboxed.into_box()),
+            None => None,
+        }
+    }
+
+    /// Puts a table into the closed handle.
+    #[inline(always)]
+    pub(crate) fn put(&mut self, inside: Box<Side, Global>)
+        requires { self.old.is_open ≡ false }
+        ensures open { self.new.is_open ≡ true }
+        ensures side { self.new.side ≡ inside.value }
+    {
+        mem::replace(self, SideHandle::of_unboxed(Unboxed::of(inside))).end();
+    }
+}
