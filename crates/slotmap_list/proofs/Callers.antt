@@ -43,4 +43,7 @@ module _ {T : Type 0} where
   without_other k (e ∷ es) q other = grind (arith, without_other k es q other, tied keys_total exact_keys k e.0, other_key q e.0)
 
 -- for `using`
-pub ruleset cursors = (put_after_here, put_after_other, put_before_here, put_before_other, without_other, pushed_here, pushed_other, first_here, first_other)
+pub ruleset cursors = (put_after_here, put_after_other, put_before_here, put_before_other, without_other)
+
+-- the same of pushes and pops
+pub ruleset ends = (pushed_here, pushed_other, first_here, first_other)

@@ -42,8 +42,8 @@ module _ {T : Type 0} where
 
   -- `GoneNode` if there is no such node, `GoneSibling` if the sibling has no parent, `Same` if the two are one; `Cycle` if and only if the
   -- sibling is below the node
-  abbrev pub RefusesMove : Nodes T → Key → Key → MoveError → Type 0
-  RefusesMove nodes k s beside.GoneNode = lacks_node nodes k
-  RefusesMove nodes k s beside.GoneSibling = has_node nodes k × (parent_of nodes s ≡ None)
-  RefusesMove nodes k s beside.Same = has_node nodes k × IsSome (parent_of nodes s) × (k ≡ s)
-  RefusesMove nodes k s beside.Cycle = has_node nodes k × IsSome (parent_of nodes s) × (k ≢ s) × IsWithin nodes s k
+  abbrev pub RefusesBeside : Nodes T → Key → Key → MoveError → Type 0
+  RefusesBeside nodes k s beside.GoneNode = lacks_node nodes k
+  RefusesBeside nodes k s beside.GoneSibling = has_node nodes k × (parent_of nodes s ≡ None)
+  RefusesBeside nodes k s beside.Same = has_node nodes k × IsSome (parent_of nodes s) × (k ≡ s)
+  RefusesBeside nodes k s beside.Cycle = has_node nodes k × IsSome (parent_of nodes s) × (k ≢ s) × IsWithin nodes s k

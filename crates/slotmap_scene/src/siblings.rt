@@ -6,7 +6,7 @@ ghost use Rattle.slotmap_keylist.specs.Linked.{first_or, last_or};
 ghost use Rattle.slotmap_scene.specs.declared.tree.Side.TheVariants.{Before, After};
 ghost use Rattle.slotmap_scene.specs.Climb.{IsWithin, has_node, parent_of};
 ghost use Rattle.slotmap_scene.specs.Family.{IsMoved, as_child, as_last_child, behind, children_of, in_front, placed, siblings_of, value_of};
-ghost use Rattle.slotmap_scene.specs.Refusals.{RefusesMove};
+ghost use Rattle.slotmap_scene.specs.Refusals.{RefusesBeside};
 
 use crate::tree::Side;
 use crate::{MoveError, Scene};
@@ -100,7 +100,7 @@ impl<K: Key, T: Drop> Scene<K, T> {
         ensures nodes { OnOk result (has_node self.old.live node × IsSome (parent_of self.old.live sibling)) }
         ensures no_cycle { OnOk result (IsWithin self.old.live sibling node → ⊥) }
         ensures stale { KeepsSpent self.old self.new }
-        ensures err { IfErr result (RefusesMove self.old.live node sibling) }
+        ensures err { IfErr result (RefusesBeside self.old.live node sibling) }
         ensures unchanged { OnErr result (self.new ≡ self.old) }
     {
         if !self.nodes.contains_key(node) {
@@ -144,7 +144,7 @@ impl<K: Key, T: Drop> Scene<K, T> {
         ensures nodes { OnOk result (has_node self.old.live (K.data_of node) × IsSome (parent_of self.old.live (K.data_of sibling))) }
         ensures no_cycle { OnOk result (IsWithin self.old.live (K.data_of sibling) (K.data_of node) → ⊥) }
         ensures stale { KeepsSpent self.old self.new }
-        ensures err { IfErr result (RefusesMove self.old.live (K.data_of node) (K.data_of sibling)) }
+        ensures err { IfErr result (RefusesBeside self.old.live (K.data_of node) (K.data_of sibling)) }
         ensures unchanged { OnErr result (self.new ≡ self.old) }
     {
         self.move_beside(inner(node), Side::Before, inner(sibling))
@@ -175,7 +175,7 @@ impl<K: Key, T: Drop> Scene<K, T> {
         ensures nodes { OnOk result (has_node self.old.live (K.data_of node) × IsSome (parent_of self.old.live (K.data_of sibling))) }
         ensures no_cycle { OnOk result (IsWithin self.old.live (K.data_of sibling) (K.data_of node) → ⊥) }
         ensures stale { KeepsSpent self.old self.new }
-        ensures err { IfErr result (RefusesMove self.old.live (K.data_of node) (K.data_of sibling)) }
+        ensures err { IfErr result (RefusesBeside self.old.live (K.data_of node) (K.data_of sibling)) }
         ensures unchanged { OnErr result (self.new ≡ self.old) }
     {
         self.move_beside(inner(node), Side::After, inner(sibling))

@@ -164,12 +164,12 @@ impl<K: Key, T: HasTransform + Drop> Scene<K, T> {
         ensures none { IfNone result (lacks_node self.now.live (K.data_of node)) }
     {
         let own = self.nodes.get(inner(node))?;
-        let local = own.value.transform();
+        let start = own.value.transform();
         match own.parent {
-            None => Some(local),
+            None => Some(start),
             Some(parent) => self.fold_up(
                 outer::<K>(parent),
-                local,
+                start,
                 |below: T::Transform, above| below.under(&above.transform()),
             ),
         }
