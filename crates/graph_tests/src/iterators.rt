@@ -59,10 +59,8 @@ fn all_edges(rt: HostRuntime) -> Result<(), Fail> {
 
 // The ends of the edge that stands in the way of an order.
 fn in_the_way(graph: &Small, alloc: Global) -> Option<(NodeKey, NodeKey)> {
-    match graph.topological_order(alloc) {
-        Ok(_) => None,
-        Err(error) => graph.edge_ends(error.edge()?),
-    }
+    let error = graph.topological_order(alloc).err()?;
+    graph.edge_ends(error.edge()?)
 }
 
 fn edge_of_an_error_well(alloc: Global) -> Result<bool, Fail> {

@@ -2,7 +2,7 @@
 
 ghost use Rattle.std.specs.Prelude.{◌≡◌, None, IfSome};
 ghost use Rattle.std.specs.FinMap as map;
-ghost use Rattle.slotmap_graph.specs.TopologicalOrder.{ClosesCycle};
+ghost use Rattle.slotmap_graph.specs.TopologicalOrder.{ClosesCycle, HasCycle};
 
 use slotmap::NodeKey;
 use slotmap_graph::{EdgeKey, Graph};
@@ -15,12 +15,24 @@ pub fn cut(graph: &mut Graph<NodeKey, u64, u64>, alloc: Global) -> Option<EdgeKe
     ensures gone { IfSome result (λ edge. map.get graph.new.edges.live edge ≡ None) }
     ensures nodes { graph.new.nodes ≡ graph.old.nodes }
 {
+    let edge = graph.topological_order(alloc).err()?.edge()?;
+    graph.remove_edge(edge);
+    Some(edge)
+}
+
+/// Returns how many nodes there are if they have an order in which each edge goes forward. Else it removes
+/// an edge that closes a cycle, unless memory runs out.
+pub fn sort(graph: &mut Graph<NodeKey, u64, u64>, alloc: Global) -> Option<usize>
+    ensures acyclic { IfSome result (λ _. HasCycle graph.old.edges.live → ⊥) }
+    ensures nodes { graph.new.nodes ≡ graph.old.nodes }
+{
     match graph.topological_order(alloc) {
-        Ok(_) => None,
+        Ok(order) => Some(order.len()),
         Err(error) => {
-            let edge = error.edge()?;
-            graph.remove_edge(edge);
-            Some(edge)
+            if let Some(edge) = error.edge() {
+                graph.remove_edge(edge);
+            }
+            None
         }
     }
 }
