@@ -77,12 +77,14 @@ WORDS = {
 LEMMA_NAMES = {
     'detached full inserts no_memory reattach_served removed': 'that command of a run, and of a joined run',
     'listed_once not_found taken goes_up put_len stands': 'the same of two models of a structure or a map',
+    'closed_spec end_spec into_unboxed_spec of_unboxed_spec send': 'that function of each handle for C, by the name that the checker wants',
 }
 
 # Lemmas of one name and one statement in two files
 PROVED_TWICE = {
     'dropped_push slots_equal': 'of words that each map has for itself',
     'first second some_is last_some': 'a line of logic that a structure proves for itself',
+    'closed_spec end_spec into_unboxed_spec of_unboxed_spec': 'that function of each handle for C, by the name that the checker wants',
 }
 
 
