@@ -60,6 +60,11 @@ pub trait HasTransform {
     ghost transform_of: { Self → Self.Transform };
 
     /// Returns the transform of this value.
+    ///
+    /// ```
+    /// let hand = Offset { x: 3, y: -4 };
+    /// assert_eq!(rt; HasTransform::transform(&hand), hand);
+    /// ```
     fn transform(&self) -> Self::Transform
         ensures { result ≡ transform_of self.now };
 }
@@ -83,6 +88,17 @@ impl Transform for Offset {
             x: self.x.wrapping_add(parent.x),
             y: self.y.wrapping_add(parent.y),
         }
+    }
+}
+
+/// An offset is its own transform.
+impl HasTransform for Offset {
+    type Transform = Offset;
+
+    ghost transform_of = { λ offset. offset };
+
+    fn transform(&self) -> Offset {
+        *self
     }
 }
 
@@ -159,6 +175,13 @@ impl<K: Key, T: HasTransform + Drop> Scene<K, T> {
     ///
     /// This is the transform of the node's own value composed with its ancestors', up to the root. It
     /// returns `None` exactly if the node doesn't exist. Linear in the number of nodes above.
+    ///
+    /// ```
+    /// let mut arm: Scene<DefaultKey, Offset> = Scene::new(alloc)?;
+    /// let elbow = arm.add_root(Offset { x: 5, y: 0 })?;
+    /// let hand = arm.add_child(elbow, Offset { x: 3, y: -4 })?;
+    /// assert_eq!(rt; arm.world_transform(hand), Some(Offset { x: 8, y: -4 }));
+    /// ```
     pub fn world_transform(&self, node: K) -> Option<T::Transform>
         ensures some { IfSome result (IsComposed T.Transform.under T.transform_of self.now.live (K.data_of node)) }
         ensures none { IfNone result (lacks_node self.now.live (K.data_of node)) }
