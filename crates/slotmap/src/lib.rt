@@ -59,7 +59,9 @@ pub use slotmap_core::secondary::{NoEntry, OrPut, Secondary, SecondaryCommand, S
 pub use slotmap_core::serial::{SlotRecord, check_slots};
 pub use slotmap_dense::DenseSlotMap;
 pub use slotmap_hop::HopSlotMap;
-pub use slotmap_json::{key_from_value, key_to_value, slot_from_value, slots_from_value, slots_to_value};
+pub use slotmap_json::{
+    key_from_value, key_to_value, slot_from_value, slots_from_value, slots_to_value,
+};
 pub use slotmap_run::joined::{run_joined, run_joined_detaching};
 pub use slotmap_run::primary::{run, run_detaching, run_detaching_new, run_new};
 pub use slotmap_run::secondary::run_secondary;
