@@ -193,3 +193,24 @@ fn writes_ends(rt: HostRuntime) -> Result<(), Fail> {
     assert!(rt; writes_ends_well(rt.alloc())?);
     Ok(())
 }
+
+// The values from a cursor on, as digits of one number.
+fn digits_from(list: &List, cursor: NodeKey) -> u64 {
+    let mut digits: u64 = 0;
+    for (_, value) in list.iter_from(cursor) {
+        digits = digits.wrapping_mul(10).wrapping_add(*value);
+    }
+    digits
+}
+
+fn goes_on_from_a_cursor_well(alloc: Global) -> Result<bool, Fail> {
+    let (mut list, one, two) = pair(alloc)?;
+    list.push_back(3)?;
+    Ok((digits_from(&list, one), digits_from(&list, two)) == (123, 23))
+}
+
+#[test]
+fn goes_on_from_a_cursor(rt: HostRuntime) -> Result<(), Fail> {
+    assert!(rt; goes_on_from_a_cursor_well(rt.alloc())?);
+    Ok(())
+}
