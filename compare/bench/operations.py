@@ -45,6 +45,7 @@ PRIMARY = [
     Operation("get-mut", "GetMut", "`get_mut`, and a write", each),
     Operation("index", "Index", "`contains_key`, then `map[key]`", each),
     Operation("disjoint", "Disjoint", "`get_disjoint_mut` of two keys, and their exchange", each),
+    Operation("replace-disjoint", "ReplaceDisjoint", "`replace_disjoint` of two keys, in Rust by `get_disjoint_mut`", each),
     Operation("churn", "Churn", "a removal and an insert", each),
     Operation("mix", "Mix", "half look-ups, a quarter inserts, a quarter removals", each),
     Operation("detach", "Detach", "`detach` and at once `reattach`", each),
@@ -85,6 +86,8 @@ SECONDARY = [
     Operation("entry", "Entry", "`entry` of a present key, and `or_insert`", each),
     Operation("entry-new", "EntryNew", "`entry` of an absent key, and `or_insert`", each),
     Operation("iter", "Iter", "a step of `iter`", each),
+    Operation("iter-half", "IterHalf", "a step of `iter`, a random half of the keys present", half),
+    Operation("iter-tenth", "IterTenth", "a step of `iter`, a random 1 in 10 present", tenth),
     Operation("values", "Values", "a step of `values`", each),
     Operation("keys", "Keys", "a step of `keys`", each),
     Operation("retain-all", "RetainAll", "`retain` that keeps all, for each key", each),
@@ -92,6 +95,8 @@ SECONDARY = [
     Operation("drain", "Drain", "`drain`, for each key, and an insert", each),
     Operation("clone", "Clone", "`clone`, for each key", each),
     Operation("clone-remove", "CloneRemove", "`clone`, and a removal of each key", each),
+    Operation("extend", "Extend", "`extend_refs` of an empty map, for each pair", each),
+    Operation("equal", "Equal", "`==` of a map and its clone, for each key", each),
 ]
 
 # The types of values, and what the tables call them.
@@ -139,6 +144,13 @@ SCHEDULER = [
     Operation("postpone", "Postpone", "`reschedule`", each),
 ]
 
+WORLD = [
+    Operation("build", "Build", "`spawn`, and half an `attach`", each),
+    Operation("read", "Read", "`component` of a random entity, half without", each),
+    Operation("join", "Join", "an entity of `with`, half of all", half),
+    Operation("churn", "Churn", "`despawn`, `spawn` and half an `attach`", each),
+]
+
 FAMILIES = {
     "Primary": PRIMARY,
     "Secondary": SECONDARY,
@@ -148,10 +160,11 @@ FAMILIES = {
     "Graph": GRAPH,
     "Scene": SCENE,
     "Scheduler": SCHEDULER,
+    "World": WORLD,
 }
 
-# The structures are compared with code of the usual form, written for the bench (driver/list.rs and its like).
-STRUCTURES = ["list", "graph", "scene", "scheduler"]
+# The structures are compared with hand-written versions, written for the bench (driver/list.rs and its like).
+STRUCTURES = ["list", "graph", "scene", "scheduler", "world"]
 
 # What the model of a SlotMap has (driver/columns.rs).
 MODELLED = ["insert", "insert-room", "get-live", "get-stale", "contains", "churn"]
@@ -176,6 +189,7 @@ MAPS = [
     Map("graph", 11, "Graph", "slotmap_graph", "Graph", []),
     Map("scene", 12, "Scene", "slotmap_scene", "Scene", []),
     Map("scheduler", 13, "Scheduler", "slotmap_scheduler", "Scheduler", []),
+    Map("world", 15, "World", "slotmap_entities", "World", []),
     Map("columns", 14, "SlotMap", "slotmap_basic", "Primary", [it.name for it in PRIMARY if it.name not in MODELLED]),
 ]
 

@@ -21,8 +21,9 @@ mod shuffler;
 mod stepped;
 mod value;
 mod valued;
+mod world;
 
-use operations::{Graph, List, Primary, Scene, Scheduler, Secondary, Stepped};
+use operations::{Graph, List, Primary, Scene, Scheduler, Secondary, Stepped, World};
 use std::hint::black_box;
 use std::process::ExitCode;
 
@@ -53,6 +54,7 @@ fn rust_bench(map: u32, operation: u32, n: u64, rounds: u64) -> Option<u64> {
         12 => Some(scene::workload(Scene::of_number(operation)?, n, rounds)),
         13 => Some(scheduler::workload(Scheduler::of_number(operation)?, n, rounds)),
         14 => columns::workload(primary?, n, rounds),
+        15 => world::workload(World::of_number(operation)?, n, rounds),
         _ => None,
     }
 }

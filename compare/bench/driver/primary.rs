@@ -41,6 +41,19 @@ macro_rules! primary_map {
                 sum.0
             }
 
+            /// Gives each two neighbours in the list new values.
+            fn replace_all<const AT: u32>(map: &mut Map<AT>, keys: &mut [DefaultKey], round: u64) -> u64 {
+                let mut sum = Sum::default();
+                for at in 1..keys.len() {
+                    let value = at as u64 ^ round;
+                    if let Some([first, second]) = map.get_disjoint_mut([keys[at - 1], keys[at]]) {
+                        sum.add(std::mem::replace(first, Value(value)).0);
+                        sum.add(std::mem::replace(second, Value(value ^ 1)).0);
+                    }
+                }
+                sum.0
+            }
+
             fn bump_all<const AT: u32>(map: &mut Map<AT>, keys: &[DefaultKey]) -> u64 {
                 let mut sum = Sum::default();
                 for key in keys {
@@ -299,6 +312,7 @@ macro_rules! primary_map {
                     Primary::DetachAll => shuffled::<24>(n, rounds, $detach_all?),
                     Primary::ContainsStale => half_stale::<25>(n, rounds),
                     Primary::Disjoint => shuffled::<26>(n, rounds, $dense::disjoint()?),
+                    Primary::ReplaceDisjoint => shuffled::<36>(n, rounds, replace_all),
                     Primary::Mix => mix_all::<27>(n, rounds),
                     Primary::IterFull => thinned::<9>(n, rounds, 0, false, walk),
                     Primary::IterMost => thinned::<28>(n, rounds, n / 10, false, walk),

@@ -159,6 +159,43 @@ macro_rules! secondary_map {
                 sum.0
             }
 
+            /// Iteration over a map from which so many random keys are gone.
+            fn thinned<const AT: u32>(n: u64, rounds: u64, gone: u64) -> u64 {
+                let (_primary, mut keys) = primary_map(n);
+                let mut map = Map::<AT>::default();
+                put_all(&mut map, &keys, 0);
+                Shuffler::new().shuffle(&mut keys);
+                remove_all(&mut map, &keys[..gone as usize]);
+                let mut sum = Sum::default();
+                for _ in 0..rounds {
+                    sum.add(walk(&map));
+                }
+                sum.0
+            }
+
+            fn extended<const AT: u32>(n: u64, rounds: u64) -> u64 {
+                let mut primary = SlotMap::with_capacity(n as usize);
+                for i in 0..n {
+                    primary.insert(Value::<AT>(i));
+                }
+                let mut sum = Sum::default();
+                for _ in 0..rounds {
+                    let mut map: Map<AT> = Map::default();
+                    map.extend(primary.iter());
+                    sum.add(black_box(map).len() as u64);
+                }
+                sum.0
+            }
+
+            /// Compares a map with its clone, which is equal.
+            fn equal<const AT: u32>(n: u64, rounds: u64) -> u64 {
+                let (_primary, keys) = primary_map(n);
+                let mut map = Map::<AT>::default();
+                put_all(&mut map, &keys, 0);
+                let copy = map.clone();
+                (0..rounds).map(|_| (black_box(&copy) == black_box(&map)) as u64).sum()
+            }
+
             /// Look-ups of the half of the keys that is gone.
             fn absent<const AT: u32>(n: u64, rounds: u64) -> u64 {
                 let (_primary, mut keys) = primary_map(n);
@@ -200,6 +237,10 @@ macro_rules! secondary_map {
                     // Without the black box the compiler leaves the whole clone out.
                     Secondary::Clone => shuffled::<15>(n, rounds, |map, _, _| black_box(map.clone()).len() as u64),
                     Secondary::CloneRemove => shuffled::<16>(n, rounds, |map, keys, _| remove_all(&mut map.clone(), keys)),
+                    Secondary::IterHalf => thinned::<17>(n, rounds, n / 2),
+                    Secondary::IterTenth => thinned::<18>(n, rounds, n / 10 * 9),
+                    Secondary::Extend => extended::<19>(n, rounds),
+                    Secondary::Equal => equal::<20>(n, rounds),
                 }
             }
         }

@@ -4,7 +4,7 @@ use slotmap::{DefaultKey, Key};
 
 /// A number of 64 bits. Each operation has a type of its own, `AT`, so the crate's code is compiled for it alone, and
 /// the compiler may inline each call as in a program that makes it once.
-#[derive(Clone, Copy)]
+#[derive(Clone, Copy, PartialEq)]
 pub struct Value<const AT: u32>(pub u64);
 
 impl<const AT: u32> Value<AT> {
