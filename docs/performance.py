@@ -54,6 +54,7 @@ def read(path):
 class Figures:
     def __init__(self):
         self.rows = results.read(FIGURES)
+        operations.leave_out_unmeasured(self.rows)
 
     def row(self, measure, kind, operation, slots):
         return self.rows.get((measure, kind, operation, slots))

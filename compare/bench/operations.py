@@ -45,7 +45,7 @@ PRIMARY = [
     Operation("get-mut", "GetMut", "`get_mut`, and a write", each),
     Operation("index", "Index", "`contains_key`, then `map[key]`", each),
     Operation("disjoint", "Disjoint", "`get_disjoint_mut` of two keys, and their exchange", each),
-    Operation("replace-disjoint", "ReplaceDisjoint", "`replace_disjoint` of two keys, in Rust by `get_disjoint_mut`", each),
+    Operation("replace-disjoint", "ReplaceDisjoint", "`replace_disjoint` of two keys", each),
     Operation("churn", "Churn", "a removal and an insert", each),
     Operation("mix", "Mix", "half look-ups, a quarter inserts, a quarter removals", each),
     Operation("detach", "Detach", "`detach` and at once `reattach`", each),
@@ -196,6 +196,13 @@ MAPS = [
 
 def operations_of(kind):
     return [it for it in FAMILIES[kind.family] if it.name not in kind.lacks]
+
+
+def leave_out_unmeasured(rows):
+    """Leaves the operations of which the file of results has no row out of the lists, for the pages."""
+    seen = {(it.family, operation) for _, kind, operation, _ in rows for it in MAPS if it.name == kind}
+    for family, listed in FAMILIES.items():
+        listed[:] = [it for it in listed if (family, it.name) in seen]
 
 
 def source_of_enums():

@@ -94,6 +94,7 @@ def draw(name, title, names, shown):
 
 def main():
     rows = results.read(os.path.join(FOLDER, "../../compare/bench/results.tsv"))
+    operations.leave_out_unmeasured(rows)
     primary = ratios_of(rows, ["basic", "dense", "hop"])
     secondary = ratios_of(rows, ["secondary", "sparse", "folded"])
     title = "Instructions of an operation, divided by those of the Rust crate"
