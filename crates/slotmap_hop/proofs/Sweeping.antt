@@ -1,6 +1,7 @@
 -- A loop over the live keys of a map, which skips vacant places.
 use Rattle.std.specs.FinMap as map
-use Rattle.std.proofs.Common.{◌∷◌, ◌≡◌, ◌↔◌, ◌+◌, ◌-◌, ◌<◌, ◌≤◌, ◌^◌, ℕ, true, Option, Some, None, IfSome, IfNone, is_some, List, refl, sym, ap, ◌∙◌, arith}
+use Rattle.std.proofs.Common.{◌∷◌, ◌≡◌, ◌↔◌, ◌+◌, ◌-◌, ◌<◌, ◌≤◌, ◌^◌, ℕ, true, Option, Some, None, IfSome, IfNone, is_some}
+use Rattle.std.proofs.Common.{List, refl, sym, ap, ◌∙◌, arith}
 use Rattle.slotmap_core.proofs.Common.{Key, Content, IsLive, NoneBelow, Removes, with_value, NoneBelow-end, get-remove_other, in_after_remove, len_removed}
 use Rattle.slotmap_core.proofs.Common.{some_entry, keys_total, exact_keys, first_entry, above_next, Swept, Swept-start, Swept-to, Swept-on, Swept-next}
 use Rattle.slotmap_core.proofs.Common.{Swept-removed, key, get-live_at, same_live, remove-insert}
@@ -12,7 +13,8 @@ use Rattle.slotmap_hop.proofs.BlocksLeft.{blocks_taken, keys_first, keys_none}
 use Rattle.slotmap_hop.proofs.WellFormed.{IsHopContent-with_value}
 
 -- a search may begin where an iterator may be
-pub look_begins : {V : Type 0} (slots : List (Slot V)) (vacant elems : ℕ) → IsSound slots vacant elems → (start c : ℕ) → MayStand (hop_content slots c).content start → CanGoOn slots 0 start
+pub look_begins : {V : Type 0} (slots : List (Slot V)) (vacant elems : ℕ) → IsSound slots vacant elems → (start c : ℕ)
+    → MayStand (hop_content slots c).content start → CanGoOn slots 0 start
 look_begins slots vacant elems sound start c may =
     let same = ap (λ f. f (start - 1)) (same_counts slots vacant elems sound c) in
     record { stands = record { vacant = vacant; elems = elems; sound = sound; at_front = λ _ left next. grind arith }; passed = omega arith }

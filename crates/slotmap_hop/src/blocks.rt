@@ -116,29 +116,36 @@ fn give<V: Drop>(slots: &mut [Slot<V>], index: u32, version: u32, links: Links) 
     mem::replace(&mut slots[index as usize], linked_slot(version, links))
 }
 
-// Gives a slot that isn't vacant this version. It joins the blocks. Returns what it was. Each case has
-// a write of its own, since it knows the kind of the links.
+// Makes the links of vacant slots ready for one more, by the case that its neighbours decide.
 #[inline(always)]
-fn vacate<V: Drop>(slots: &mut [Slot<V>], index: u32, version: u32) -> Slot<V>
+fn make_ready<V: Drop>(slots: &mut [Slot<V>], index: u32) -> Links
     requires can { CanVacate (all_links slots.old) index }
-    ensures { Vacates slots.old slots.new index version result }
+    ensures blocks { HasBlocks (slice_set (all_links slots.new) index (Some result)) (vacated (vacant_at (all_links slots.old)) (blocks_of (all_links slots.old)) index) }
+    ensures places { places_of slots.new ≡ places_of slots.old }
 {
     // An index of 64 bits serves for the slot and for its neighbours.
     let at = index as usize;
     let left = is_vacant(slots, at - 1);
     if is_vacant_after(slots, at) {
         if left {
-            let links = merge(slots, index);
-            return give(slots, index, version, links);
+            return merge(slots, index);
         }
-        let links = grow_left(slots, index);
-        return give(slots, index, version, links);
+        return grow_left(slots, index);
     }
     if left {
-        let links = grow_right(slots, index);
-        return give(slots, index, version, links);
+        return grow_right(slots, index);
     }
-    let links = start_block(slots, index);
+    start_block(slots, index)
+}
+
+// Gives a slot that isn't vacant this version. It joins the blocks. Returns what it was. All cases
+// share one write, so that a large value is moved once.
+#[inline(always)]
+fn vacate<V: Drop>(slots: &mut [Slot<V>], index: u32, version: u32) -> Slot<V>
+    requires can { CanVacate (all_links slots.old) index }
+    ensures { Vacates slots.old slots.new index version result }
+{
+    let links = make_ready(slots, index);
     give(slots, index, version, links)
 }
 
@@ -187,6 +194,7 @@ pub(crate) fn retire<V>(slots: &mut [Slot<V>], index: u32) -> V
 }
 
 // Puts a value into a slot, under this version.
+#[inline(always)]
 fn put<V: Drop>(slots: &mut [Slot<V>], index: u32, version: u32, value: V)
     requires inside { index < length slots.old }
     ensures all_links { all_links slots.new ≡ slice_set (all_links slots.old) index None }
@@ -220,6 +228,8 @@ fn drop_back<V: Drop>(slots: &mut [Slot<V>], front: u32, back: u32)
 }
 
 // Puts a value into the back of the first block, under this version. These are its front and its back.
+// Inlined, so that a large value is moved once.
+#[inline(always)]
 pub(crate) fn fill_back<V: Drop>(
     slots: &mut [Slot<V>],
     front: u32,
