@@ -1,6 +1,6 @@
 -- The blocks after several removals, one after the other.
 use Rattle.std.specs.FinMap as map
-use Rattle.std.proofs.Common.{◌≡◌, ◌+◌, ◌≤◌, ◌∷◌, ◌++◌, arith, ℕ, true, false, List, [], cond, map as list_map, Some, append_assoc, append-nil, is_some, refl}
+use Rattle.std.proofs.Common.{◌≡◌, ◌+◌, ◌≤◌, ◌∷◌, ◌++◌, arith, ℕ, true, false, List, [], cond, map as list_map, Some, append_assoc, append-nil, is_some}
 use Rattle.slotmap_core.proofs.Common.{sym, ap, ◌∙◌, Key, key_cmp, Visit, seen, seen_push, Removes, from_index, Keyed-same, entries_none, next_entry, Visits}
 use Rattle.slotmap_hop.specs.HopContent.{HopContent, IsHopContent, IsNextLive, blocks_without, blocks_without_all}
 use Rattle.slotmap_hop.specs.Retain.{dropped}

@@ -49,11 +49,10 @@ impl<K: Key, V: Drop> HopSlotMap<K, V> {
         self.live_count -= 1;
         let slots = self.slots.as_mut_slice();
         let value = retire(slots, index);
-        if version == u32::MAX {
-            return value;
+        if version < u32::MAX {
+            self.vacant_count += 1;
+            join(slots, index, version + 1);
         }
-        self.vacant_count += 1;
-        join(slots, index, version + 1);
         value
     }
 }

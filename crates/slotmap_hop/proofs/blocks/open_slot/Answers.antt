@@ -20,7 +20,8 @@ join-requires-clause-can g c =
 
 pub join-requires-clause-empty : goal.join-requires-clause-empty
 join-requires-clause-empty g c =
-    ap (option_and_then value_in) (slice_get-set_same c.args.slots.now c.args.index c.retired_slot.result (inside g (goal.at.join-requires-clause-empty g c).After-retired_slot)) ∙ ap value_in c.retired_slot.ensures
+    let inside = inside g (goal.at.join-requires-clause-empty g c).After-retired_slot in
+    ap (option_and_then value_in) (slice_get-set_same c.args.slots.now c.args.index c.retired_slot.result inside) ∙ ap value_in c.retired_slot.ensures
 
 pub returns-clause-blocks : goal.returns-clause-blocks
 returns-clause-blocks g c = rw (same_links g (goal.at.returns-clause-blocks g c).After-retired_slot) at c.join.ensures.blocks
