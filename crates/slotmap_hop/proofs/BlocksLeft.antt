@@ -1,6 +1,6 @@
 -- The blocks after several removals, one after the other.
 use Rattle.std.specs.FinMap as map
-use Rattle.std.proofs.Common.{◌≡◌, ◌+◌, ◌≤◌, ◌∷◌, ◌++◌, arith, ℕ, true, false, List, [], cond, map as list_map, Some, append_assoc, append-nil, is_some, refl}
+use Rattle.std.proofs.Common.{◌≡◌, ◌+◌, ◌≤◌, ◌∷◌, ◌++◌, arith, ℕ, true, false, List, [], cond, map as list_map, Some, append_assoc, append-nil, is_some}
 use Rattle.slotmap_core.proofs.Common.{sym, ap, ◌∙◌, Key, key_cmp, Visit, seen, seen_push, Removes, from_index, Keyed-same, entries_none, next_entry, Visits}
 use Rattle.slotmap_hop.specs.HopContent.{HopContent, IsHopContent, IsNextLive, blocks_without, blocks_without_all}
 use Rattle.slotmap_hop.specs.Retain.{dropped}
@@ -34,12 +34,14 @@ module _ {K V : Type 0} (data_of : K → Key) where
     next_seen : map.entries old.content.live ≡ seen data_of (visits ++ x ∷ []) ++ map.entries (from_index ((data_of x.key).index + 1) old.content.live)
     next_seen =
         let k = data_of x.key in
-        let same : (q : Key) → index ≤ q.index → map.get old.content.live q ≡ map.get now.content.live q = λ q from. Keyed-same data_of old.content.live visits index now.content.live visited q from in
+        let same : (q : Key) → index ≤ q.index → map.get old.content.live q ≡ map.get now.content.live q =
+        λ q from. Keyed-same data_of old.content.live visits index now.content.live visited q from in
         let first = next_entry old.content well.valid index k (λ q there from. comes.2 q (sym (ap is_some (same q from)) ∙ there) from) x.before comes.1 (same k comes.1 ∙ found) in
         rw (seen_push data_of visits x, append_assoc, ← first) so_far.ascending
 
     -- the entry stays, and no block changes
-    pub InOrder-kept : (new : HopContent V) → x.stays ≡ true → new.content.next ≡ now.content.next → new.blocks ≡ now.blocks → InOrder old (visits ++ x ∷ []) ((data_of x.key).index + 1) new
+    pub InOrder-kept : (new : HopContent V) → x.stays ≡ true → new.content.next ≡ now.content.next → new.blocks ≡ now.blocks
+        → InOrder old (visits ++ x ∷ []) ((data_of x.key).index + 1) new
     InOrder-kept new stays next blocks = grind (arith, next_seen, dropped_push, append-nil)
 
     -- the key is removed

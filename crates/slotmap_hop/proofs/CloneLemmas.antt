@@ -5,7 +5,7 @@ use Rattle.slotmap_core.proofs.Common.{same_from_all_zip, ClonesEqual, AreClones
 use Rattle.slotmap_core.proofs.Common.{Retired as RetiredPlace, live, keys_total, exact_keys, zip_length, zip_drop, same_len, clone_is_some, detached-clones}
 use Rattle.slotmap_core.proofs.Common.{retired-clones, next-clones, live-clones, length-clones, cloned_at, vacant_there, IsStacked-clones}
 use Rattle.slotmap_hop.specs.Slots.{Slot}
-use Rattle.slotmap_hop.specs.declared.links.Slot.TheVariants.{Occupied, Single, Front, Back, Retired}
+use Rattle.slotmap_hop.specs.Slots.{SingleState, FrontState, BackState, Retired, Occupied, Empty}
 use Rattle.slotmap_hop.specs.Blocks.{Begins}
 use Rattle.slotmap_hop.specs.Links.{vacant_at, HasBlockList}
 use Rattle.slotmap_hop.specs.Iter.{pairs_left, IsIter}
@@ -19,10 +19,10 @@ module _ {V : Type 0} (is_clone : V → V → Type 0) where
 
   place_cloned : (s copy : Slot V) → IsSlotClone is_clone s copy → IsPlaceClone is_clone (place_in s) (place_in copy)
   place_cloned (Occupied version value) copy is = (is.0, ap place_in is.1, is.2)
-  place_cloned (Single version next prev) copy is = ap place_in is
-  place_cloned (Front version next back) copy is = ap place_in is
-  place_cloned (Back version front prev) copy is = ap place_in is
-  place_cloned (Retired version unused nowhere) copy is = rw is (retired_same version)
+  place_cloned (Empty SingleState version next prev) copy is = ap place_in is
+  place_cloned (Empty FrontState version next back) copy is = ap place_in is
+  place_cloned (Empty BackState version front prev) copy is = ap place_in is
+  place_cloned (Empty Retired version unused nowhere) copy is = rw is (retired_same version)
     where
       retired_same : (version : ℕ) → IsPlaceClone is_clone (retired_place version) (retired_place version)
       retired_same version = grind arith

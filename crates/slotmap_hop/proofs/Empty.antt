@@ -1,13 +1,12 @@
 -- A map with no key: slot 0 alone.
 use Rattle.std.proofs.Common.{◌∷◌, ⊎_elim, ℕ, List, [], arith}
 use Rattle.slotmap_core.proofs.Common.{at_push, IsStacked-sentinel, live-sentinel}
-use Rattle.slotmap_hop.specs.Slots.{Slot, all_links, IsSound}
-use Rattle.slotmap_hop.specs.declared.links.Slot.TheVariants.{Single}
+use Rattle.slotmap_hop.specs.Slots.{Slot, SingleState, Empty, all_links, IsSound}
 use Rattle.slotmap_hop.specs.Links.{is_front, NamesApart, links_at, vacant_at, end_at, ListsOnce, NamesEnds}
 use Rattle.slotmap_hop.proofs.Circle.{shut}
 
 abbrev pub sentinel_alone : (V : Type 0) → List (Slot V)
-sentinel_alone V = Single 0 0 0 ∷ []
+sentinel_alone V = Empty SingleState 0 0 0 ∷ []
 
 module _ (V : Type 0) where
   listed-new : ListsOnce (is_front (vacant_at (all_links (sentinel_alone V)))) []

@@ -27,7 +27,8 @@ module _ {f f' : ℕ → Bool} (fs : List ℕ) (i : ℕ) where
   once_removed : ListsOnce f fs → 0 < i → f i ≡ true → f' i ≡ false → ((x : ℕ) → x ≢ i → f' x ≡ f x) → ListsOnce f' (list_without fs i)
   once_removed once positive was now others x = grind (arith, once i, once x, others x, occurs-removed fs i x)
 
-  once_replaced : (j : ℕ) → 0 < i → 0 < j → ListsOnce f fs → f i ≡ true → f' i ≡ false → f j ≡ false → f' j ≡ true → ((x : ℕ) → x ≢ i → x ≢ j → f' x ≡ f x) → ListsOnce f' (replaced fs i j)
+  once_replaced : (j : ℕ) → 0 < i → 0 < j → ListsOnce f fs → f i ≡ true → f' i ≡ false → f j ≡ false → f' j ≡ true
+      → ((x : ℕ) → x ≢ i → x ≢ j → f' x ≡ f x) → ListsOnce f' (replaced fs i j)
   once_replaced j positive other once was now was_not now_is others x = grind (arith, once i, once x, others x, occurs-replaced fs i j x)
 
 module _ {v v' : ℕ → Bool} {i : ℕ} (fs : List ℕ) (change : Turns v v' i true) (positive : 0 < i) where

@@ -1,6 +1,7 @@
 -- What an insert makes of sound slots, and what stays when one place changes.
 use Rattle.std.specs.FinMap as map
-use Rattle.std.proofs.Common.{◌≡◌, ◌≢◌, ◌+◌, ◌-◌, ◌^◌, ◌<◌, ◌≤◌, ◌∷◌, ◌++◌, ⊎_elim, ℕ, List, [], length, set, slice_get, Some, sym, ap, subst, ◌∙◌, arith}
+use Rattle.std.proofs.Common.{◌≡◌, ◌≢◌, ◌+◌, ◌-◌, ◌^◌, ◌<◌, ◌≤◌, ◌∷◌, ◌++◌, ⊎_elim, ℕ, List, [], length, set}
+use Rattle.std.proofs.Common.{slice_get, Some, sym, ap, subst, ◌∙◌, arith}
 use Rattle.slotmap_core.proofs.Common.{map-append, Key, most, Removes, Inserts, Place, Live, Detached, Vacant, live, left_by, content_of_places, used_places}
 use Rattle.slotmap_core.proofs.Common.{filled, IsVersion, IsStacked, key, len-live-set, len-live-push, IsStacked-filled, IsStacked-pushed, removes, inserts}
 use Rattle.slotmap_core.proofs.Common.{at_set, at_push}
@@ -66,7 +67,8 @@ module _ {V : Type 0} (slots : List (Slot V)) (vacant elems : ℕ) (sound : IsSo
   places-pushed : (w : V) → places_of (pushed_slots w) ≡ places_of slots ++ Live 1 w ∷ []
   places-pushed w = map-append (λ (s : Slot V). place_in s) slots (Occupied 1 w ∷ [])
 
-  pub blocks-pushed : (w : V) → length slots + 1 < 2 ^ 32 → next_place slots ≡ 0 → HasBlockList (all_links (pushed_slots w)) × (blocks_of (all_links (pushed_slots w)) ≡ shorter (blocks_of (all_links slots)))
+  pub blocks-pushed : (w : V) → length slots + 1 < 2 ^ 32 → next_place slots ≡ 0
+      → HasBlockList (all_links (pushed_slots w)) × (blocks_of (all_links (pushed_slots w)) ≡ shorter (blocks_of (all_links slots)))
   blocks-pushed w fits none = grind (arith, map-append, HasBlockList-pushed, length-all_links, blocks_pushed, shorter_none)
 
   pub sound-pushed : (w : V) → length slots + 1 < 2 ^ 32 → next_place slots ≡ 0 → IsSound (pushed_slots w) vacant (elems + 1)

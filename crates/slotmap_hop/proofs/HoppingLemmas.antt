@@ -1,12 +1,13 @@
 -- A search for the next live place skips a block of vacant places in one step.
 use Rattle.std.proofs.lemmas.List.{append_assoc, length-append}
 use Rattle.std.specs.FinMap as map
-use Rattle.std.proofs.Common.{◌≡◌, ◌≢◌, ◌+◌, ◌-◌, ◌*◌, ◌<◌, ◌≤◌, ◌^◌, ◌∷◌, ◌++◌, ℕ, zero, suc, true, false, List, [], length, drop, slice_get, Some, None}
+use Rattle.std.proofs.Common.{◌≡◌, ◌≢◌, ◌+◌, ◌-◌, ◌*◌, ◌<◌, ◌≤◌, ◌^◌, ◌∷◌, ◌++◌, ℕ, zero, suc, true, false, List}
+use Rattle.std.proofs.Common.{[], length, drop, slice_get, Some, None}
 use Rattle.slotmap_core.proofs.Common.{is_some, refl, sym, ap, ◌∙◌, arith, slice_get_within, get_or_from_slice_get, drop_more, drop_all, All-nil, All-cons}
 use Rattle.slotmap_core.proofs.Common.{All-push, All-weaker, All, Key, last_version, Place, Live, Detached, Vacant, Retired as RetiredPlace, live, live_entry}
 use Rattle.slotmap_core.proofs.Common.{retired_entry, gather, HasVersion, live_at, key, get-live_at}
 use Rattle.slotmap_hop.specs.Slots.{Slot, value_in, links_in, hop_in, place_in, all_links, places_of}
-use Rattle.slotmap_hop.specs.declared.links.Slot.TheVariants.{Occupied, Single, Front, Back, Retired}
+use Rattle.slotmap_hop.specs.Slots.{SingleState, FrontState, BackState, Retired, Occupied, Empty}
 use Rattle.slotmap_hop.specs.Blocks.{Begins, IsBlock}
 use Rattle.slotmap_hop.specs.Links.{is_vacant, end_in, NamesApart, vacant_at, links_at, end_at}
 use Rattle.slotmap_hop.specs.Iter.{pairs_left, retired_left, StandsAt, CanGoOn, FindsNone, FindsSlot, ReadsOnTheWay, Counted, IsRead, GoesTo}
@@ -40,7 +41,8 @@ module _ {V : Type 0} (slots : List (Slot V)) where
       ap (from i) (drop_more ps i p (slice_get_within ps i p found) ∙ ap (λ y. y ∷ drop (i + 1) ps) (get_or_from_slice_get ps i p p found))
 
   -- a sequence of vacant places holds nothing
-  skip : (k i j : ℕ) → i + k ≡ j → ((x : ℕ) → i ≤ x → x < j → vacant_at (all_links slots) x ≡ true) → (pairs_left slots i ≡ pairs_left slots j) × (retired_left slots i ≡ retired_left slots j)
+  skip : (k i j : ℕ) → i + k ≡ j → ((x : ℕ) → i ≤ x → x < j → vacant_at (all_links slots) x ≡ true)
+      → (pairs_left slots i ≡ pairs_left slots j) × (retired_left slots i ≡ retired_left slots j)
   skip zero i j on vacant = let same : i ≡ j = omega arith in rw same (refl, refl)
   skip (suc k) i j on vacant =
       let here = vacant_slot slots i (vacant i (omega arith) (omega arith)) in
@@ -64,7 +66,8 @@ module _ {V : Type 0} (slots : List (Slot V)) where
   not_live_on i RetiredPlace found other = left-on pairs_from i RetiredPlace found
 
   -- nor do places before the first live one
-  pub skip_to : (n i j : ℕ) → i + n ≡ j → j < length slots → ((q : Key) → map.contains_key (live (places_of slots)) q ≡ true → i ≤ q.index → j ≤ q.index) → pairs_left slots i ≡ pairs_left slots j
+  pub skip_to : (n i j : ℕ) → i + n ≡ j → j < length slots
+      → ((q : Key) → map.contains_key (live (places_of slots)) q ≡ true → i ≤ q.index → j ≤ q.index) → pairs_left slots i ≡ pairs_left slots j
   skip_to zero i j on inside none = let same : i ≡ j = omega arith in rw same refl
   skip_to (suc n) i j on inside none =
       let here = place_there slots i (omega arith) in
@@ -128,7 +131,8 @@ module _ {V : Type 0} (slots : List (Slot V)) (reads0 start : ℕ) where
         let free : (v index ≡ true) × (links_at (all_links slots) index ≡ links_in s) = grind (arith, slot_cases slots index, found) in
         let back = end_at (all_links slots) index in
         let block : IsBlock v index back = block_here slots index way.stands free.0 in
-        let is_back : hop_in index s ≡ back = hop_to_back index s vacant (rw free.1 at (way.stands.sound.linked.linked.apart index)) (rw free.1 at block.ordered) ∙ ap (end_in index) (sym free.1) in
+        let apart = rw free.1 at (way.stands.sound.linked.linked.apart index) in
+        let is_back : hop_in index s ≡ back = hop_to_back index s vacant apart (rw free.1 at block.ordered) ∙ ap (end_in index) (sym free.1) in
         let past = past_block slots index back block in
         let few = way.few_vacant free.0 in
         rw is_back (record {
@@ -153,7 +157,7 @@ module _ {V : Type 0} (slots : List (Slot V)) (reads0 start : ℕ) where
     here = let is = place_at slots index s found in (is, way.stands.sound.stacked.versions index _ is, λ v e. way.stands.sound.none_detached index v (is ∙ ap Some e))
 
     -- a retired slot is passed
-    way_passes : (version unused nowhere : ℕ) → s ≡ Retired version unused nowhere → Hops (reads + 1) index index
+    way_passes : (version unused nowhere : ℕ) → s ≡ Empty Retired version unused nowhere → Hops (reads + 1) index index
     way_passes version unused nowhere is =
         let spent : slice_get (places_of slots) index ≡ Some RetiredPlace = grind (arith, here, is) in
         let more = length-append way.gone (key index last_version ∷ []) in
@@ -183,10 +187,10 @@ module _ {V : Type 0} (slots : List (Slot V)) (reads0 start : ℕ) where
       where
         by : (t : Slot V) → s ≡ t → value_in t ≡ None → Hops (reads + 1) index (hop_in index s)
         by (Occupied version value) is none = absurd (cc)
-        by (Single version next prev) is none = way_hops (ap (λ t. is_vacant (links_in t)) is)
-        by (Front version next back) is none = way_hops (ap (λ t. is_vacant (links_in t)) is)
-        by (Back version front prev) is none = way_hops (ap (λ t. is_vacant (links_in t)) is)
-        by (Retired version unused nowhere) is none = rw is (way_passes version unused nowhere is)
+        by (Empty SingleState version next prev) is none = way_hops (ap (λ t. is_vacant (links_in t)) is)
+        by (Empty FrontState version next back) is none = way_hops (ap (λ t. is_vacant (links_in t)) is)
+        by (Empty BackState version front prev) is none = way_hops (ap (λ t. is_vacant (links_in t)) is)
+        by (Empty Retired version unused nowhere) is none = rw is (way_passes version unused nowhere is)
 
     -- a slot with a value is what the search looks for
     pub way_finds : is_some (value_in s) ≡ true → FindsSlot slots start index s × ReadsOnTheWay slots reads0 start (reads + 1) index

@@ -1,8 +1,8 @@
 -- What an iterator that skips blocks has yet to yield, at its start and after each step.
 use Rattle.std.specs.FinMap as map
 use Rattle.std.specs.FinSet as set
-use Rattle.std.proofs.Common.{◌≡◌, ◌+◌, ◌-◌, ◌<◌, ◌≤◌, ◌∷◌, ℕ, true, List, [], length, drop, set, ◌∙◌, refl, sym, ap, subst, arith}
-use Rattle.slotmap_core.proofs.Common.{slice_get_within, nil_from_length, drop-set-lt, Key, key_cmp, Place, Live, Retired, live, retired_entry, gather, live_at}
+use Rattle.std.proofs.Common.{◌≡◌, ◌+◌, ◌-◌, ◌≤◌, ◌∷◌, ℕ, true, List, [], length, drop, set, ◌∙◌, refl, sym, ap, subst, arith}
+use Rattle.slotmap_core.proofs.Common.{nil_from_length, drop-set-lt, key_cmp, Place, Retired, live, retired_entry, gather}
 use Rattle.slotmap_core.proofs.Common.{retired_fits, detached_laws, len-add, entries-live}
 use Rattle.slotmap_core.specs.Places.{retired}
 use Rattle.slotmap_hop.specs.Slots.{Slot, all_links, places_of, hop_content, IsSound}
@@ -12,10 +12,10 @@ use Rattle.slotmap_hop.specs.Iter.{pairs_left, retired_left, IsIter, CanGoOn, Fi
 use Rattle.slotmap_hop.proofs.BlockLemmas.{clash, begins_after}
 use Rattle.slotmap_hop.proofs.Circle.{block_at}
 use Rattle.slotmap_hop.proofs.Vacating.{zero_in_circle}
-use Rattle.slotmap_hop.proofs.SlotReads.{length-places, slot_within}
+use Rattle.slotmap_hop.proofs.SlotReads.{slot_within}
 use Rattle.slotmap_hop.proofs.SlotLemmas.{place_not_vacant}
 use Rattle.slotmap_hop.proofs.LiveSlots.{sound-retired}
-use Rattle.slotmap_hop.proofs.HoppingLemmas.{pairs_from, retired_from, past_block, stands_on, left-on, skip_to}
+use Rattle.slotmap_hop.proofs.HoppingLemmas.{pairs_from, retired_from, past_block, stands_on}
 
 module _ {V : Type 0} where
   set-retired_from : (j : ℕ) (ps : List (Place V)) → set.from_list (retired_from j ps) ≡ gather (set.empty {R = key_cmp}) (λ s e. set.insert s e.0) retired_entry j ps
@@ -58,20 +58,6 @@ module _ {V : Type 0} {slots : List (Slot V)} {reads index left : ℕ} (iterates
         counted = iter_on.counted ∙ ap length (sym pairs-taken);
         passed = omega arith;
       }
-
--- the place of a live key is inside
-pub key_within : {V : Type 0} (slots : List (Slot V)) (k : Key) → map.contains_key (live (places_of slots)) k ≡ true → k.index + 1 ≤ length slots
-key_within slots k there = let at = live_at (places_of slots) k there in omega (arith, slice_get_within (places_of slots) k.index _ at.1, length-places slots)
-
--- another key is live beside the first one
-pub more_left : {V : Type 0} (slots : List (Slot V)) (k : Key) → map.contains_key (live (places_of slots)) k ≡ true
-    → ((q : Key) → map.contains_key (live (places_of slots)) q ≡ true → k.index ≤ q.index) → 1 < map.len (live (places_of slots)) → 0 < length (pairs_left slots (k.index + 1))
-more_left slots k there least more =
-    let ps = places_of slots in
-    let at = live_at ps k there in
-    let inside : k.index < length slots = omega (arith, key_within slots k there) in
-    let first = skip_to slots k.index 0 k.index (omega arith) inside (λ q lives low. least q lives) ∙ left-on slots pairs_from k.index (Live k.version at.0) at.1 in
-    omega (arith, ap length first, ap length (entries-live ps), map.len-entries (live ps), more)
 
 module _ {V : Type 0} (slots : List (Slot V)) (vacant elems : ℕ) (sound : IsSound slots vacant elems) where
   -- an iterator starts after the block of place 0

@@ -1,10 +1,12 @@
 -- A slot joins the blocks by one write, after the links of the others were made ready for it.
-use Rattle.std.proofs.Common.{◌≡◌, ◌≢◌, ◌+◌, ◌-◌, ◌<◌, ◌≤◌, ◌∷◌, ◌++◌, Option, Some, cond, eqb, ℕ, true, false, List, [], length, map, set, refl, sym, ap, ◌∙◌}
+use Rattle.std.proofs.Common.{◌≡◌, ◌≢◌, ◌+◌, ◌-◌, ◌<◌, ◌≤◌, ◌∷◌, ◌++◌, Option, Some, cond, eqb, ℕ, true, false, List, []}
+use Rattle.std.proofs.Common.{length, map, set, refl, sym, ap, ◌∙◌}
 use Rattle.slotmap_core.proofs.Common.{arith, map-set, length-map}
 use Rattle.slotmap_hop.specs.declared.links.Links.{Links}
 use Rattle.slotmap_hop.specs.declared.links.Links.TheVariants.{Single, Front, Back}
 use Rattle.slotmap_hop.specs.Blocks.{IsBlock, vacated_alone, vacated_before, vacated_after, vacated_between}
-use Rattle.slotmap_hop.specs.Links.{is_vacant, has_next, has_prev, next_in, prev_in, end_in, vacant_at, links_at, next_at, held_at, prev_at, end_at, occurs, list_without, replaced, fronts_of, blocks_of}
+use Rattle.slotmap_hop.specs.Links.{is_vacant, has_next, has_prev, next_in, prev_in, end_in, vacant_at, links_at, next_at, held_at, prev_at, end_at, occurs}
+use Rattle.slotmap_hop.specs.Links.{list_without, replaced, fronts_of, blocks_of}
 use Rattle.slotmap_hop.specs.Links.{Redirects, Puts, Unlinks, TakesOver, KeepsEnds, HasBlockList, HasBlocks, CanVacate, IsHead}
 use Rattle.slotmap_hop.proofs.Chain.{in_removed, next_occurs, prev_occurs, IsChain-removed, IsChain-replaced, IsChain-appended}
 use Rattle.slotmap_hop.proofs.BlockLemmas.{IsBlock-front, begins_at, joined}

@@ -16,6 +16,7 @@ pub mod Growth
 pub mod LiveSlots
 pub mod WellFormed
 pub mod SettledLemmas
+pub mod Runs
 pub mod RoomLemmas
 pub mod HoppingLemmas
 pub mod Iterators

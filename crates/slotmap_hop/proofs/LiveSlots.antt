@@ -1,6 +1,7 @@
 -- The slot of a live key: what a look-up, a removal or a write knows of it, and makes of it.
 use Rattle.std.specs.FinMap as map
-use Rattle.std.proofs.Common.{◌≡◌, ◌≢◌, ◌+◌, ◌-◌, ◌^◌, ◌<◌, ◌≤◌, ◌==◌, ◌∷◌, option_and_then, ℕ, true, false, List, length, set, slice_get, get_or, Some, None}
+use Rattle.std.proofs.Common.{◌≡◌, ◌≢◌, ◌+◌, ◌-◌, ◌^◌, ◌<◌, ◌≤◌, ◌==◌, ◌∷◌, option_and_then, ℕ, true, false, List}
+use Rattle.std.proofs.Common.{length, set, slice_get, get_or, Some, None}
 use Rattle.slotmap_core.proofs.Common.{is_some, sym, ap, subst, ◌∙◌, arith, nat_tests, slice_get_past, get_or_from_slice_get, map-set_same, length-set, Key}
 use Rattle.slotmap_core.proofs.Common.{IsKey, key_cmp, last_version, Live, Vacant, Retired, live, live_value, slice_get-set_other, key, get-live, get-live_at}
 use Rattle.slotmap_core.proofs.Common.{len-live-set, total, live_at, not_first, IsStacked-kept, IsStacked-freed, content-written, same_read}
@@ -73,7 +74,8 @@ module _ {V : Type 0} (slots : List (Slot V)) (vacant elems : ℕ) (sound : IsSo
   value_is y is = sym (ap (option_and_then value_in) (live_slot slots i v x index).1) ∙ is
 
   -- the slot becomes vacant
-  pub sound-freed : (new : List (Slot V)) → HasBlockList (all_links new) → places_of new ≡ set (places_of slots) i (Vacant (v + 1 + 1)) → v ≢ last_version → IsSound new (vacant + 1) (elems - 1)
+  pub sound-freed : (new : List (Slot V)) → HasBlockList (all_links new) → places_of new ≡ set (places_of slots) i (Vacant (v + 1 + 1))
+      → v ≢ last_version → IsSound new (vacant + 1) (elems - 1)
   sound-freed new list after other =
       let version = sound.stacked.versions i (Live v x) index in
       IsSound-set slots vacant elems sound new i (Live v x) (Vacant (v + 1 + 1)) index (λ u e. absurd (cc)) list after (i ∷ sound.stack)
@@ -106,7 +108,8 @@ module _ {V : Type 0} (slots : List (Slot V)) (vacant elems : ℕ) (sound : IsSo
   pub sound-rewritten : IsSound rewritten vacant elems
   sound-rewritten =
       IsSound-set slots vacant elems sound rewritten i (Live v x) (Live v w) index (λ u e. absurd (cc)) (subst HasBlockList (sym all_links-rewritten) sound.linked) places-rewritten sound.stack
-      (IsStacked-kept (places_of slots) sound.stack sound.stacked i (Live v x) (Live v w) index (λ n e. absurd (cc)) (λ n e. absurd (cc)) (sound.stacked.versions i (Live v x) index)) _ _ sound.counted
+      (IsStacked-kept (places_of slots) sound.stack sound.stacked i (Live v x) (Live v w) index (λ n e. absurd (cc)) (λ n e. absurd (cc))
+      (sound.stacked.versions i (Live v x) index)) _ _ sound.counted
       (omega (arith, len-live-set (places_of slots) i (Live v x) (Live v w) index, sound.elems_live))
 
   same_offer : offer_at (set (places_of slots) i (Live v w)) (next_place slots) ≡ offer_at (places_of slots) (next_place slots)

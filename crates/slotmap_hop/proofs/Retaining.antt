@@ -96,7 +96,8 @@ module _ {F K V : Type 0} (g : Mut F (K × (MutBor V × Unit {0})) (Bool × (Mut
           written new stays refl refl removes blocks;
     }
 
-    pub retaining_dropped_at : (new : HopContent V) (next : Option ℕ) → IsNextPlace written.content ((data_of x.key).index + 1) next → x.stays ≡ false → Removes written.content (data_of x.key) new.content
+    pub retaining_dropped_at : (new : HopContent V) (next : Option ℕ) → IsNextPlace written.content ((data_of x.key).index + 1) next → x.stays ≡ false
+        → Removes written.content (data_of x.key) new.content
         → new.blocks ≡ blocks_without written (data_of x.key) → StaysHop written new → RetainingAt new next f''
     retaining_dropped_at new None comes stays removes blocks keeps = retaining_dropped new stays removes blocks keeps None comes
     retaining_dropped_at new (Some index) comes stays removes blocks keeps =

@@ -2,7 +2,8 @@
 use mathlib.Core.Path.{fun_ext}
 use Rattle.std.specs.FinMap as map
 use Rattle.std.specs.FinSet as set
-use Rattle.std.proofs.Common.{◌≡◌, ◌≢◌, ◌+◌, ◌^◌, ◌<◌, ◌≤◌, ◌==◌, ◌||◌, ◌∷◌, ◌++◌, inl, ℕ, zero, suc, Bool, true, false, eqb, List, [], length, set, slice_get}
+use Rattle.std.proofs.Common.{◌≡◌, ◌≢◌, ◌+◌, ◌^◌, ◌<◌, ◌≤◌, ◌==◌, ◌||◌, ◌∷◌, ◌++◌, inl, ℕ, zero, suc, Bool, true}
+use Rattle.std.proofs.Common.{false, eqb, List, [], length, set, slice_get}
 use Rattle.slotmap_core.proofs.Common.{Option, Some, refl, sym, ap, subst, arith, cond, nat_tests, length-set, IsKey, key_cmp, IsContent, places, Place, Vacant}
 use Rattle.slotmap_core.proofs.Common.{detached, next, StackMap, content_of_places, offer, used_places, filled, IsVersion, IsStacked, key, contains-detached}
 use Rattle.slotmap_core.proofs.Common.{get-next_at, vacant_at as next_found, total, IsContent-stacked, keys_total, exact_keys}
@@ -42,7 +43,8 @@ none_vacant es [] linked none i here =
 -- slots as links and as places
 
 module _ {V : Type 0} (slots : List (Slot V)) (i : ℕ) where
-  pub vacant_slot : vacant_at (all_links slots) i ≡ true → (s : Slot V) × (slice_get slots i ≡ Some s) × (i < length slots) × (slice_get (places_of slots) i ≡ Some (Vacant (version_in s + 1)))
+  pub vacant_slot : vacant_at (all_links slots) i ≡ true
+      → (s : Slot V) × (slice_get slots i ≡ Some s) × (i < length slots) × (slice_get (places_of slots) i ≡ Some (Vacant (version_in s + 1)))
   vacant_slot vacant = grind (arith, slot_cases slots i)
 
   place_vacant : (n : ℕ) → slice_get (places_of slots) i ≡ Some (Vacant n) → vacant_at (all_links slots) i ≡ true
@@ -51,7 +53,8 @@ module _ {V : Type 0} (slots : List (Slot V)) (i : ℕ) where
   pub place_not_vacant : (p : Place V) → slice_get (places_of slots) i ≡ Some p → ((n : ℕ) → p ≢ Vacant n) → vacant_at (all_links slots) i ≡ false
   place_not_vacant p found other = grind (arith, slot_cases slots i, other)
 
-counts_are : {V : Type 0} (slots : List (Slot V)) → vacant_at (all_links slots) 0 ≡ true → (i : ℕ) → ((i == 0) || map.contains_key (next (places_of slots)) i) ≡ vacant_at (all_links slots) i
+counts_are : {V : Type 0} (slots : List (Slot V)) → vacant_at (all_links slots) 0 ≡ true → (i : ℕ)
+    → ((i == 0) || map.contains_key (next (places_of slots)) i) ≡ vacant_at (all_links slots) i
 counts_are slots sentinel zero = sym sentinel
 counts_are slots sentinel (suc i) = grind (arith, nat_tests, slot_cases slots (suc i), get-next_at (places_of slots) (suc i), next_found (places_of slots) (suc i))
 

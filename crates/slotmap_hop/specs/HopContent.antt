@@ -1,9 +1,10 @@
 -- The model of a `HopSlotMap`: a content, and the blocks that its vacant places form.
 use Rattle.std.specs.FinMap as map
 use Rattle.std.specs.FinSet as set
-use Rattle.std.specs.Prelude.{◌≡◌, ◌⊎◌, ◌+◌, ◌-◌, ◌<◌, ◌≤◌, if◌then◌else◌, ◌==◌, ◌||◌, ◌∷◌, ℕ, refl, Bool, true, false, Option, Some, None, List, []}
+use Rattle.std.specs.Prelude.{◌≡◌, ◌⊎◌, ◌+◌, ◌-◌, ◌<◌, ◌≤◌, if◌then◌else◌, ◌==◌, ◌||◌, ◌∷◌, ℕ, zero, suc, refl, Bool, true}
+use Rattle.std.specs.Prelude.{false, Option, Some, None, List, []}
 use Rattle.slotmap_core.specs.Words.{nat_cmp, Coded, code_by, coded×, Key, is_last, Content, content_code, IsContent, IsLive, used, places, most, freed}
-use Rattle.slotmap_core.specs.Words.{with_value, MakesRoom, with_values}
+use Rattle.slotmap_core.specs.Words.{with_value, MakesRoom, with_values, Removes}
 use Rattle.slotmap_hop.specs.Blocks.{Blocks, coded_blocks, HasMaximalBlocks, vacated, offer_place}
 
 pub record HopContent (V : Type 0) : Type 0 where
@@ -80,6 +81,16 @@ module _ {V : Type 0} where
     pub after : IsHopContent new
     pub capacity : new.content.capacity ≡ old.content.capacity
 
+  -- the live key of this index was removed
+  pub record RemovesAt (old : HopContent V) (index : ℕ) (new : HopContent V) : Type 0 where
+    pub key : Key
+    pub value : V
+    pub at : key.index ≡ index
+    pub had : map.get old.content.live key ≡ Some value
+    pub removes : Removes old.content key new.content
+    pub blocks : new.blocks ≡ blocks_without old key
+    pub valid : StaysHop old new
+
   -- A call that may allocate room for one more key: the map was and is well formed, and no capacity is lost. If there is room
   -- already, the capacity stays
   pub record GrowsHop (old new : HopContent V) : Type 0 where
@@ -94,3 +105,8 @@ module _ {V : Type 0} where
     pub blocks : new.blocks ≡ old.blocks
     pub before : IsHopContent old
     pub after : IsHopContent new
+
+  -- the live keys of so many adjacent indices from this one on were removed, one after the other
+  abbrev pub RemovesRun : HopContent V → ℕ → ℕ → HopContent V → Type 0
+  RemovesRun old index zero new = new ≡ old
+  RemovesRun old index (suc n) new = (mid : HopContent V) × RemovesAt old index mid × RemovesRun mid (index + 1) n new

@@ -2,16 +2,16 @@
 
 #![tactic(auto, using(crate::proofs::Joining::ready, crate::proofs::Taking::first))]
 
-ghost use Rattle.std.specs.Prelude.{◌≡◌, ◌+◌, ◌-◌, ◌<◌, true, false, length, Some, None, IsSome, slice_set};
+ghost use Rattle.std.specs.Prelude.{◌≡◌, ◌+◌, ◌-◌, ◌<◌, ◌^◌, true, false, length, Some, None, IsSome, slice_get, slice_set};
 ghost use Rattle.slotmap_core.specs.Words.{Live as LivePlace, Vacant as VacantPlace, Retired as RetiredPlace};
 ghost use Rattle.slotmap_hop.specs.Blocks.{vacated, vacated_alone, vacated_before, vacated_after, vacated_between, shorter};
-ghost use Rattle.slotmap_hop.specs.Links.{vacant_at, has_next, links_at, next_at, prev_at, end_at, CanVacate, HasBlockList, HasBlocks, IsHead, blocks_of};
+ghost use Rattle.slotmap_hop.specs.Links.{vacant_at, has_next, links_at, next_at, prev_at, held_at, end_at, CanVacate, HasBlockList, HasBlocks, IsHead, blocks_of};
 ghost use Rattle.slotmap_hop.specs.Links.{Redirects, KeepsEnds};
-ghost use Rattle.slotmap_hop.specs.Slots.{all_links, places_of, value_at, CanFree, Gives, Vacates};
+ghost use Rattle.slotmap_hop.specs.Slots.{all_links, places_of, value_at, CanFree, Frees, FreesUpTo};
 
 use crate::links::{
-    Links, Slot, back_of, front_of, is_vacant, is_vacant_after, linked_slot, name_back, name_front,
-    next_of, prev_of, retired_slot, set_links, set_next, set_prev,
+    Links, Slot, State, back_of, front_of, is_live_after, is_vacant, is_vacant_after, link,
+    name_back, name_front, next_of, prev_of, retired_slot, set_links, set_next, set_prev,
 };
 use slotmap_core::sure::rule_out;
 use std::mem;
@@ -54,7 +54,7 @@ fn start_block<V>(slots: &mut [Slot<V>], index: u32) -> Links
 
 // Only the left neighbour is vacant: its block grows to the right.
 #[inline(always)]
-fn grow_right<V: Drop>(slots: &mut [Slot<V>], index: u32) -> Links
+fn grow_right<V>(slots: &mut [Slot<V>], index: u32) -> Links
     requires can { CanVacate (all_links slots.old) index }
     requires left { vacant_at (all_links slots.old) (index - 1) ≡ true }
     requires right { vacant_at (all_links slots.old) (index + 1) ≡ false }
@@ -69,7 +69,7 @@ fn grow_right<V: Drop>(slots: &mut [Slot<V>], index: u32) -> Links
 
 // Only the right neighbour is vacant: its block grows to the left, and keeps its position in the list.
 #[inline(always)]
-fn grow_left<V: Drop>(slots: &mut [Slot<V>], index: u32) -> Links
+fn grow_left<V>(slots: &mut [Slot<V>], index: u32) -> Links
     requires can { CanVacate (all_links slots.old) index }
     requires left { vacant_at (all_links slots.old) (index - 1) ≡ false }
     requires right { vacant_at (all_links slots.old) (index + 1) ≡ true }
@@ -87,7 +87,7 @@ fn grow_left<V: Drop>(slots: &mut [Slot<V>], index: u32) -> Links
 // Both neighbours are vacant: the block to the right leaves the list, and the one to the left gets its
 // slots.
 #[inline(always)]
-fn merge<V: Drop>(slots: &mut [Slot<V>], index: u32) -> Links
+fn merge<V>(slots: &mut [Slot<V>], index: u32) -> Links
     requires can { CanVacate (all_links slots.old) index }
     requires left { vacant_at (all_links slots.old) (index - 1) ≡ true }
     requires right { vacant_at (all_links slots.old) (index + 1) ≡ true }
@@ -107,56 +107,31 @@ fn merge<V: Drop>(slots: &mut [Slot<V>], index: u32) -> Links
     Links::Single { next: 0, prev: 0 }
 }
 
-// Gives a slot this version and these links, and returns what it was.
+// Gives a slot that isn't vacant and has no value this version. It joins the blocks. Each case has a
+// write of its own, since it knows the kind of the links.
 #[inline(always)]
-fn give<V: Drop>(slots: &mut [Slot<V>], index: u32, version: u32, links: Links) -> Slot<V>
-    requires { index < length slots.old }
-    ensures { Gives slots.old slots.new index version links result }
-{
-    mem::replace(&mut slots[index as usize], linked_slot(version, links))
-}
-
-// Gives a slot that isn't vacant this version. It joins the blocks. Returns what it was. Each case has
-// a write of its own, since it knows the kind of the links.
-#[inline(always)]
-fn vacate<V: Drop>(slots: &mut [Slot<V>], index: u32, version: u32) -> Slot<V>
+pub(crate) fn join<V>(slots: &mut [Slot<V>], index: u32, version: u32)
     requires can { CanVacate (all_links slots.old) index }
-    ensures { Vacates slots.old slots.new index version result }
+    requires empty { value_at slots.old index ≡ None }
+    ensures blocks { HasBlocks (all_links slots.new) (vacated (vacant_at (all_links slots.old)) (blocks_of (all_links slots.old)) index) }
+    ensures places { places_of slots.new ≡ slice_set (places_of slots.old) index (VacantPlace (version + 1)) }
 {
     // An index of 64 bits serves for the slot and for its neighbours.
     let at = index as usize;
-    let left = is_vacant(slots, at - 1);
     if is_vacant_after(slots, at) {
-        if left {
+        if is_vacant(slots, at - 1) {
             let links = merge(slots, index);
-            return give(slots, index, version, links);
+            return link(slots, index, version, links);
         }
         let links = grow_left(slots, index);
-        return give(slots, index, version, links);
+        return link(slots, index, version, links);
     }
-    if left {
+    if is_vacant(slots, at - 1) {
         let links = grow_right(slots, index);
-        return give(slots, index, version, links);
+        return link(slots, index, version, links);
     }
     let links = start_block(slots, index);
-    give(slots, index, version, links)
-}
-
-// Takes the value out of a live slot, and gives the slot this version. The slot joins the blocks.
-#[inline(always)]
-pub(crate) fn free_slot<V: Drop>(slots: &mut [Slot<V>], index: u32, version: u32) -> V
-    requires can { CanFree slots.old index }
-    ensures blocks { HasBlocks (all_links slots.new) (vacated (vacant_at (all_links slots.old)) (blocks_of (all_links slots.old)) index) }
-    ensures value { value_at slots.old index ≡ Some result }
-    ensures places { places_of slots.new ≡ slice_set (places_of slots.old) index (VacantPlace (version + 1)) }
-{
-    match vacate(slots, index, version) {
-        Slot::Occupied(_, value) => value,
-        _ => {
-            rule_out(true);
-            unreachable!()
-        }
-    }
+    link(slots, index, version, links);
 }
 
 // Gives this version to a slot without a value, which joins the blocks. A map is built from a list
@@ -166,10 +141,13 @@ pub(crate) fn open_slot<V: Drop>(slots: &mut [Slot<V>], index: u32, version: u32
     ensures blocks { HasBlocks (all_links slots.new) (vacated (vacant_at (all_links slots.old)) (blocks_of (all_links slots.old)) index) }
     ensures places { places_of slots.new ≡ slice_set (places_of slots.old) index (VacantPlace (version + 1)) }
 {
-    vacate(slots, index, version);
+    slots[index as usize] = retired_slot(0);
+    join(slots, index, version);
 }
 
-// Takes the value out of a live slot and retires the slot. It joins no block.
+// Takes the value out of a live slot and retires the slot. It joins no block yet. The value is taken
+// before all else, so that a large one is moved once.
+#[inline(always)]
 pub(crate) fn retire<V>(slots: &mut [Slot<V>], index: u32) -> V
     requires inside { index < length slots.old }
     requires live { IsSome (value_at slots.old index) }
@@ -186,7 +164,54 @@ pub(crate) fn retire<V>(slots: &mut [Slot<V>], index: u32) -> V
     }
 }
 
+// Frees a live slot, whose value is dropped. Its left neighbour is the back of a block with this front,
+// and holds this link to the block before.
+#[inline(always)]
+fn free_after<V: Drop>(slots: &mut [Slot<V>], index: u32, version: u32, front: u32, prev: u32)
+    requires can { CanFree slots.old index }
+    requires version { (x : V) × (slice_get (places_of slots.old) index ≡ Some (LivePlace version x)) }
+    requires other { version + 1 < 2 ^ 32 }
+    requires left { vacant_at (all_links slots.old) (index - 1) ≡ true }
+    requires right { vacant_at (all_links slots.old) (index + 1) ≡ false }
+    requires front { front ≡ end_at (all_links slots.old) (index - 1) }
+    requires prev { prev ≡ held_at (all_links slots.old) (index - 1) }
+    ensures frees { Frees slots.old slots.new index }
+    ensures back { links_at (all_links slots.new) index ≡ Some (Links.Back front prev) }
+{
+    name_back(slots, front, index);
+    slots[index as usize] = Slot::Empty(State::Back, version + 1, front, prev);
+}
+
+// Frees adjacent live slots from this one on, and drops their values, up to the last one of them, whose
+// index is returned. If the slot before them is vacant, each goes to its block, and no link is read
+// twice. If it isn't, none is freed, nor is one from the last key of a slot on.
+#[inline(always)]
+pub(crate) fn free_run<V: Drop>(slots: &mut [Slot<V>], start: u32) -> u32
+    requires { CanFree slots.old start }
+    ensures { FreesUpTo slots.old start result slots.new }
+{
+    if !is_live_after(slots, start as usize) {
+        return start;
+    }
+    if !is_vacant(slots, start as usize - 1) {
+        return start;
+    }
+    let front = front_of(slots, start - 1);
+    let prev = prev_of(slots, start - 1);
+    let mut index = start;
+    while is_live_after(slots, index as usize) {
+        let version = slots[index as usize].version();
+        if version == u32::MAX {
+            return index;
+        }
+        free_after(slots, index, version, front, prev);
+        index += 1;
+    }
+    index
+}
+
 // Puts a value into a slot, under this version.
+#[inline(always)]
 fn put<V: Drop>(slots: &mut [Slot<V>], index: u32, version: u32, value: V)
     requires inside { index < length slots.old }
     ensures all_links { all_links slots.new ≡ slice_set (all_links slots.old) index None }
@@ -198,7 +223,7 @@ fn put<V: Drop>(slots: &mut [Slot<V>], index: u32, version: u32, value: V)
 // Takes the back from the first block, whose front and back these are: as soon as that slot isn't
 // vacant, the blocks are right.
 #[inline(always)]
-fn drop_back<V: Drop>(slots: &mut [Slot<V>], front: u32, back: u32)
+fn drop_back<V>(slots: &mut [Slot<V>], front: u32, back: u32)
     requires sound { HasBlockList (all_links slots.old) }
     requires positive { 0 < back }
     requires first { front ≡ next_at (all_links slots.old) 0 }
@@ -220,6 +245,8 @@ fn drop_back<V: Drop>(slots: &mut [Slot<V>], front: u32, back: u32)
 }
 
 // Puts a value into the back of the first block, under this version. These are its front and its back.
+// Inlined, so that a large value is moved once.
+#[inline(always)]
 pub(crate) fn fill_back<V: Drop>(
     slots: &mut [Slot<V>],
     front: u32,

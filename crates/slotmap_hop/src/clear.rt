@@ -1,11 +1,12 @@
 //! The calls that empty a map, and those that append what it holds to a vector.
 
 ghost use Rattle.std.specs.FinMap as map;
-ghost use Rattle.std.specs.Prelude.{◌≡◌, ◌+◌, ◌<◌, ◌++◌, Some, OnOk, OnErr, List, map as list_map};
+ghost use Rattle.std.specs.Prelude.{◌≡◌, ◌+◌, ◌-◌, ◌<◌, ◌≤◌, ◌++◌, Some, OnOk, OnErr, List, map as list_map};
 ghost use Rattle.slotmap_core.specs.Words.{Leaves, FreesByIndex};
-ghost use Rattle.slotmap_hop.specs.HopContent.{IsHopContent, StaysHop, blocks_without_all};
+ghost use Rattle.slotmap_hop.specs.HopContent.{IsHopContent, HasKeyAt, RemovesRun, StaysHop, blocks_without_all};
 
 use crate::HopSlotMap;
+use crate::blocks::free_run;
 use slotmap_core::errors::OutOfMemory;
 use slotmap_core::keys::Key;
 
@@ -27,15 +28,32 @@ impl<K: Key, V: Drop> HopSlotMap<K, V> {
         ensures blocks { self.new.blocks ≡ blocks_without_all self.old (map.keys self.old.content.live) }
         ensures valid { StaysHop self.old self.new }
     {
-        let Some(mut key) = self.first_live(0) else {
-            return;
-        };
-        while self.len() > 1 {
-            let next = self.live_after(key);
+        let mut next = self.first_place(0);
+        while let Some(start) = next {
+            let index = self.clear_run(start);
+            let key = self.key_at(index);
+            // The slot after this one is looked for first, because the removal may join blocks.
+            next = self.first_place(index + 1);
             self.take_live(key);
-            key = next;
         }
-        self.take_live(key);
+    }
+
+    // Removes the live keys of adjacent indices from this one on, up to the last one of them, whose
+    // index is returned.
+    #[inline(always)]
+    fn clear_run(&mut self, start: u32) -> u32
+        requires { HasKeyAt self.old.content start }
+        ensures on { start ≤ result }
+        ensures run { RemovesRun self.old start (result - start) self.new }
+        ensures there { HasKeyAt self.new.content result }
+        ensures valid { IsHopContent self.new }
+    {
+        let index = free_run(self.slots.as_mut_slice(), start);
+        let count = index - start;
+        self.live_count -= count;
+        self.vacant_count += count;
+        self.note_valid();
+        index
     }
 
     /// Appends every live key to `out`, by ascending index.

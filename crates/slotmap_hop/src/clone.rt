@@ -17,10 +17,7 @@ fn clone_slot<V: Clone>(slot: &Slot<V>) -> Result<Slot<V>, AllocError>
 {
     match slot {
         Slot::Occupied(version, value) => Ok(Slot::Occupied(*version, value.clone()?)),
-        Slot::Single(version, next, prev) => Ok(Slot::Single(*version, *next, *prev)),
-        Slot::Front(version, next, back) => Ok(Slot::Front(*version, *next, *back)),
-        Slot::Back(version, front, prev) => Ok(Slot::Back(*version, *front, *prev)),
-        Slot::Retired(version, unused, nowhere) => Ok(Slot::Retired(*version, *unused, *nowhere)),
+        Slot::Empty(state, version, one, other) => Ok(Slot::Empty(*state, *version, *one, *other)),
     }
 }
 

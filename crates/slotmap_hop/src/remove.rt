@@ -6,7 +6,7 @@ ghost use Rattle.slotmap_core.specs.Words.{IsLive, Removes};
 ghost use Rattle.slotmap_hop.specs.HopContent.{StaysHop, blocks_without};
 
 use crate::HopSlotMap;
-use crate::blocks::{free_slot, retire};
+use crate::blocks::{join, retire};
 use slotmap_core::keys::Key;
 
 impl<K: Key, V: Drop> HopSlotMap<K, V> {
@@ -47,10 +47,12 @@ impl<K: Key, V: Drop> HopSlotMap<K, V> {
         let index = data.idx();
         let version = data.version();
         self.live_count -= 1;
-        if version == u32::MAX {
-            return retire(self.slots.as_mut_slice(), index);
+        let slots = self.slots.as_mut_slice();
+        let value = retire(slots, index);
+        if version < u32::MAX {
+            self.vacant_count += 1;
+            join(slots, index, version + 1);
         }
-        self.vacant_count += 1;
-        free_slot(self.slots.as_mut_slice(), index, version + 1)
+        value
     }
 }

@@ -8,8 +8,6 @@ ghost use Rattle.slotmap_hop.specs.Retain.{RetainsByIndex};
 ghost use Rattle.slotmap_hop.specs.Iter.{CanGoOn, FindsPlace, FindsNone};
 
 use crate::HopSlotMap;
-use crate::counted::CountedSlots;
-use crate::iter::next_live;
 use crate::links::Slot;
 use slotmap_core::keys::{Key, KeyData};
 
@@ -59,22 +57,6 @@ impl<K: Key, V: Drop> HopSlotMap<K, V> {
     {
         let index = self.first_place(start)?;
         Some(self.key_at(index))
-    }
-
-    // Returns the live key after this one, which is the first one. There are others, so its search
-    // needs no test for the end.
-    pub(crate) fn live_after(&self, key: K) -> K
-        requires first { IsNextLive K.data_of self.now.content 0 (Some key) }
-        requires stands { MayStand self.now.content ((K.data_of key).index + 1) }
-        requires others { 1 < map.len self.now.content.live }
-        ensures comes { IsNextLive K.data_of self.now.content ((K.data_of key).index + 1) (Some result) }
-        ensures valid { IsHopContent self.now }
-    {
-        self.note_valid();
-        let start = key.data().idx() as usize + 1;
-        let mut counted = CountedSlots::new(self.slots.as_slice(), start);
-        let (index, slot) = next_live(&mut counted);
-        K::from(KeyData::exact(index as u32, slot.version()))
     }
 
     /// Calls a closure once for each live key, and removes the keys for which it returns `false`.

@@ -1,46 +1,62 @@
-use Rattle.slotmap_core.proofs.Common.{None, arith}
-use Rattle.slotmap_hop.proofs.Sweeping.{Clearing, clearing_starts, clearing_removed, none_after, clearing_ends, clearing_blocks}
-use Rattle.slotmap_hop.proofs.HopSlotMap.clear.Goals.{In_default, After-take_live-2}
+use Rattle.std.proofs.Common.{◌≡◌, ◌+◌, ◌-◌, Some, sym, subst, arith}
+use Rattle.slotmap_core.proofs.Common.{Key, None, common_steps}
+use Rattle.slotmap_hop.specs.HopContent.{HasKeyAt}
+use Rattle.slotmap_hop.proofs.Sweeping.{Clearing, ClearingAt, clearing_starts_at, clearing_run, clearing_removed_at, clearing_ends, clearing_blocks}
+use Rattle.slotmap_hop.proofs.HopSlotMap.clear.Goals.{In-Some, In_default, After-clear_run-index, After-key_at-key}
 use Rattle.slotmap_hop.proofs.HopSlotMap.clear.Goals as goal
 
-pub loop-self-init : goal.loop-self-init
-loop-self-init g c = clearing_starts g.K.Key.data_of c.args.self.now _ c.first_live.ensures.valid (rw c.in-Some.is at c.first_live.ensures.comes)
+pub loop-next-init : goal.loop-next-init
+loop-next-init g c = clearing_starts_at c.args.self.now _ c.first_place-next.ensures.valid c.first_place-next.ensures.comes
 
-pub loop-self-preserved : goal.loop-self-preserved
-loop-self-preserved g c =
+at_place : (g : _) (c : In-Some g) → ClearingAt c.args.self.now c.loop-next.self (Some c.in-Some.start)
+at_place g c = rw c.in-Some.is at c.loop-next.invariant
+
+pub clear_run-index-requires : goal.clear_run-index-requires
+clear_run-index-requires g c = (at_place g (goal.at.clear_run-index-requires g c).In-Some).0
+
+-- the last key of the run is left
+at_last : (g : _) (c : After-clear_run-index g) → ClearingAt c.args.self.now c.loop-next.self (Some c.in-Some.start)
+    → ClearingAt c.args.self.now c.clear_run-index.new.self (Some c.clear_run-index.result)
+at_last g c at =
+    let ran = c.clear_run-index.ensures in
+    let up : c.in-Some.start + (c.clear_run-index.result - c.in-Some.start) ≡ c.clear_run-index.result = omega (arith, ran.on) in
+    subst (λ j. ClearingAt c.args.self.now c.clear_run-index.new.self (Some j)) up
+    (clearing_run c.args.self.now (c.clear_run-index.result - c.in-Some.start) c.in-Some.start c.loop-next.self c.clear_run-index.new.self at ran.run
+    (subst (λ j. HasKeyAt c.clear_run-index.new.self.content j) (sym up) ran.there))
+
+pub loop-next-preserved : goal.loop-next-preserved
+loop-next-preserved g c =
+    let at = goal.at.loop-next-preserved g c in
+    let last = at_last g at.After-clear_run-index (at_place g at.In-Some) in
+    let key = c.key_at-key.ensures in
+    let comes = rw (← key.index) at c.first_place-next-in-Some.ensures.comes in
     let took = c.take_live.ensures in
-    (clearing_removed g.K.Key.data_of c.args.self.now c.loop-self.self c.take_live.new.self c.loop-self.key c.take_live.result _ c.loop-self.invariant
-    c.live_after-next.ensures.comes took.value took.removes took.blocks took.valid).0
+    clearing_removed_at c.args.self.now c.clear_run-index.new.self c.take_live.new.self (g.K.Key.data_of c.key_at-key.result) c.take_live.result _
+    (last.1 (g.K.Key.data_of c.key_at-key.result) key.live key.index) comes took.value took.removes took.blocks took.valid
 
--- no key is live
-none : (g : _) (c : In_default g) → Clearing g.K.Key.data_of c.args.self.now c.args.self.now None
-none g c = clearing_starts g.K.Key.data_of c.args.self.now _ c.first_live.ensures.valid (rw c.in_default.is at c.first_live.ensures.comes)
-
-pub returns-in_default-clause-empty : goal.returns-in_default-clause-empty
-returns-in_default-clause-empty g c = clearing_ends g.K.Key.data_of _ _ (none g (goal.at.returns-in_default-clause-empty g c).In_default)
-
-pub returns-in_default-clause-order : goal.returns-in_default-clause-order
-returns-in_default-clause-order g c = (none g (goal.at.returns-in_default-clause-order g c).In_default).sweep.swept.order
-
-pub returns-in_default-clause-blocks : goal.returns-in_default-clause-blocks
-returns-in_default-clause-blocks g c = clearing_blocks g.K.Key.data_of _ _ (none g (goal.at.returns-in_default-clause-blocks g c).In_default)
-
--- the last key was removed
-ended : (g : _) (c : After-take_live-2 g) → Clearing g.K.Key.data_of c.args.self.now c.take_live-2.new.self None
-ended g c =
-    let took = c.take_live-2.ensures in
-    let last = none_after g.K.Key.data_of c.loop-self.self c.loop-self.key c.loop-self.invariant.sweep.comes.0 (omega (arith, c.loop-self-test.false, c.len.ensures.value)) in
-    (clearing_removed g.K.Key.data_of c.args.self.now c.loop-self.self c.take_live-2.new.self c.loop-self.key c.take_live-2.result _ c.loop-self.invariant last
-    took.value took.removes took.blocks took.valid).0
+-- all keys were removed
+ended : (g : _) (c : In_default g) → Clearing (λ (k : Key). k) c.args.self.now c.loop-next.self None
+ended g c = rw c.in_default.is at c.loop-next.invariant
 
 pub returns-clause-empty : goal.returns-clause-empty
-returns-clause-empty g c = clearing_ends g.K.Key.data_of _ _ (ended g (goal.at.returns-clause-empty g c).After-take_live-2)
+returns-clause-empty g c = clearing_ends (λ (k : Key). k) _ _ (ended g (goal.at.returns-clause-empty g c).In_default)
 
 pub returns-clause-leaves : goal.returns-clause-leaves
-returns-clause-leaves g c = (ended g (goal.at.returns-clause-leaves g c).After-take_live-2).sweep.swept.leaves
+returns-clause-leaves g c = (ended g (goal.at.returns-clause-leaves g c).In_default).sweep.swept.leaves
 
 pub returns-clause-order : goal.returns-clause-order
-returns-clause-order g c = (ended g (goal.at.returns-clause-order g c).After-take_live-2).sweep.swept.order
+returns-clause-order g c = (ended g (goal.at.returns-clause-order g c).In_default).sweep.swept.order
 
 pub returns-clause-blocks : goal.returns-clause-blocks
-returns-clause-blocks g c = clearing_blocks g.K.Key.data_of _ _ (ended g (goal.at.returns-clause-blocks g c).After-take_live-2)
+returns-clause-blocks g c = clearing_blocks (λ (k : Key). k) _ _ (ended g (goal.at.returns-clause-blocks g c).In_default)
+
+pub returns-clause-valid : goal.returns-clause-valid
+returns-clause-valid g c =
+    let sweep = (ended g (goal.at.returns-clause-valid g c).In_default).sweep in
+    record { before = c.first_place-next.ensures.valid; after = sweep.valid; capacity = sweep.swept.capacity }
+
+pub overflow_add-index : goal.overflow_add-index
+overflow_add-index g c = grind (arith, common_steps)
+
+pub first_place-next-requires-in-Some : goal.first_place-next-requires-in-Some
+first_place-next-requires-in-Some g c = grind (arith, common_steps)

@@ -7,7 +7,9 @@ rule_out-requires g c =
     grind (arith, occupied_read c.args.slots.now c.args.index c.index-slots-index.result c.requires.inside c.requires.live, c.in_default.not-Occupied)
 
 pub returns-clause-all_links : goal.returns-clause-all_links
-returns-clause-all_links g c = rw (c.replace.ensures.after, c.retired_slot.ensures) (all_links_retired c.args.slots.now c.args.index c.index-slots-index.result _ _ 0 0 0 (sym c.replace.ensures.value ∙ c.in-Occupied.is))
+returns-clause-all_links g c =
+    rw (c.replace.ensures.after, c.retired_slot.ensures)
+    (all_links_retired c.args.slots.now c.args.index c.index-slots-index.result _ _ 0 0 0 (sym c.replace.ensures.value ∙ c.in-Occupied.is))
 
 pub returns-clause-value : goal.returns-clause-value
 returns-clause-value g c = value_read c.args.slots.now c.args.index c.index-slots-index.result _ _ c.requires.inside (sym c.replace.ensures.value ∙ c.in-Occupied.is)

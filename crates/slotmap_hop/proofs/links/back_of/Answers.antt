@@ -5,12 +5,6 @@ use Rattle.slotmap_hop.proofs.links.back_of.Goals as goal
 pub bounds-slots-front : goal.bounds-slots-front
 bounds-slots-front g c = leads_within c.args.slots.now c.args.front c.requires
 
-pub returns-in-Front : goal.returns-in-Front
-returns-in-Front g c = grind (arith, common_steps)
-
-pub returns-in-Single : goal.returns-in-Single
-returns-in-Single g c = grind (arith, common_steps)
-
 pub rule_out-requires : goal.rule_out-requires
 rule_out-requires g c = grind (arith, common_steps)
 

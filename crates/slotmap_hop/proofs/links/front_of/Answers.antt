@@ -5,12 +5,6 @@ use Rattle.slotmap_hop.proofs.links.front_of.Goals as goal
 pub bounds-slots-back : goal.bounds-slots-back
 bounds-slots-back g c = tails_within c.args.slots.now c.args.back c.requires
 
-pub returns-in-Back : goal.returns-in-Back
-returns-in-Back g c = grind (arith, common_steps)
-
-pub returns-in-Single : goal.returns-in-Single
-returns-in-Single g c = grind (arith, common_steps)
-
 pub rule_out-requires : goal.rule_out-requires
 rule_out-requires g c = grind (arith, common_steps)
 

@@ -1,15 +1,12 @@
-use Rattle.slotmap_core.proofs.Common.{arith, common_steps}
-use Rattle.slotmap_hop.proofs.SlotReads.{leads_within}
+use Rattle.slotmap_core.proofs.Common.{sym, ◌∙◌, arith, common_steps}
+use Rattle.slotmap_hop.proofs.SlotReads.{leads_within, next_read}
 use Rattle.slotmap_hop.proofs.links.next_of.Goals as goal
 
 pub bounds-slots-front : goal.bounds-slots-front
 bounds-slots-front g c = leads_within c.args.slots.now c.args.front c.requires
 
-pub returns-in-Front : goal.returns-in-Front
-returns-in-Front g c = grind (arith, common_steps)
-
-pub returns-in-Single : goal.returns-in-Single
-returns-in-Single g c = grind (arith, common_steps)
+pub returns : goal.returns
+returns g c = next_read c.args.slots.now c.args.front c.index-slots-front.result _ _ _ _ c.requires (sym c.index-slots-front.is ∙ c.in-Empty.is)
 
 pub rule_out-requires : goal.rule_out-requires
 rule_out-requires g c = grind (arith, common_steps)

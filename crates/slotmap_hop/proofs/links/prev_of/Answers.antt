@@ -1,15 +1,12 @@
-use Rattle.slotmap_core.proofs.Common.{arith, common_steps}
-use Rattle.slotmap_hop.proofs.SlotReads.{tails_within}
+use Rattle.slotmap_core.proofs.Common.{sym, ◌∙◌, arith, common_steps}
+use Rattle.slotmap_hop.proofs.SlotReads.{tails_within, prev_read}
 use Rattle.slotmap_hop.proofs.links.prev_of.Goals as goal
 
 pub bounds-slots-back : goal.bounds-slots-back
 bounds-slots-back g c = tails_within c.args.slots.now c.args.back c.requires
 
-pub returns-in-Back : goal.returns-in-Back
-returns-in-Back g c = grind (arith, common_steps)
-
-pub returns-in-Single : goal.returns-in-Single
-returns-in-Single g c = grind (arith, common_steps)
+pub returns : goal.returns
+returns g c = prev_read c.args.slots.now c.args.back c.index-slots-back.result _ _ _ _ c.requires (sym c.index-slots-back.is ∙ c.in-Empty.is)
 
 pub rule_out-requires : goal.rule_out-requires
 rule_out-requires g c = grind (arith, common_steps)

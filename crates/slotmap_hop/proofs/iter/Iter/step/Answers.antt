@@ -39,7 +39,8 @@ returns-clause-some g c =
       value = found.found.value;
       is = found.found.is;
       rest = ap (λ w. w.rest) (sym c.self.view_is) ∙ found.found.finds.first ∙ rw (is, pass.slots, pass.index, found.index, found.slots) refl;
-      reads = rw (is, pass.slots, pass.index, pass.reads, found.index, found.slots, ← c.self.view_is) (record { passed = way.gone; still = way.still; before = way.before; after = way.after; some = way.some; few = way.few });
+      reads = rw (is, pass.slots, pass.index, pass.reads, found.index, found.slots, ← c.self.view_is)
+          (record { passed = way.gone; still = way.still; before = way.before; after = way.after; some = way.some; few = way.few });
     }
 
 pub returns-then-self-eq0-clause-none : goal.returns-then-self-eq0-clause-none
