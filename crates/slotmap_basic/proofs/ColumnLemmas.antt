@@ -1,9 +1,9 @@
 -- Three vectors as one list of slots.
-use Rattle.std.proofs.Common.{◌≡◌, ◌<◌, ◌≤◌, ◌%◌, ◌∷◌, ◌++◌, ℕ, zero, suc, List, [], length, set, slice_get, get_or, Option, None, Some, IsSome, refl, sym, ap}
-use Rattle.slotmap_core.proofs.Common.{option_and_then, subst, ◌∙◌, arith, get_or_default_zero, slice_get_read, slice_get_past}
+use Rattle.std.proofs.Common.{◌≡◌, ◌<◌, ◌≤◌, ◌%◌, ◌∷◌, ◌++◌, ℕ, zero, suc, List, [], length, set, slice_get, get_or, Option, None, Some, IsSome, refl, sym, ap, ◌↔◌, Bool, IsTrue}
+use Rattle.slotmap_core.proofs.Common.{option_and_then, subst, ◌∙◌, arith, get_or_default_zero, slice_get_read, slice_get_past, same_Some}
 use Rattle.slotmap_slots.specs.Slot.{SlotList, version_at, usage_at, next_at, next_of, payload_at, with_payload}
 use Rattle.slotmap_slots.specs.declared.layout.Use.{Use}
-use Rattle.slotmap_slots.specs.declared.layout.Use.TheVariants.{InUse}
+use Rattle.slotmap_slots.specs.declared.layout.Use.TheVariants.{InUse, Detached}
 use Rattle.slotmap_basic.specs.Columns.{zip_slots, IsColumns, versions_of, uses_of}
 use Rattle.slotmap_slots.specs.Numbers.{use_of}
 use Rattle.slotmap_basic.proofs.NumberLemmas.{free_is, uses-length, uses-at, uses-set, uses-put, uses-push}
@@ -130,6 +130,18 @@ slot_list-known vs ns xs same_n same_x =
           let next = zip-next vs ls xs i same_l same_x ∙ ap (option_and_then next_of) (at i v n within (sym (get_or_default_zero vs i v within)) read) in
           next ∙ free_is v n (subst IsSome next some),
     )
+
+-- what the number at an even version tells
+pub detached_at : {P : Type 0} (vs ns : List ℕ) (xs : List (Option P)) → length ns ≡ length vs → length xs ≡ length vs → (i n : ℕ) (r : Bool)
+    → i < length vs → n ≡ get_or ns i n → ((v : ℕ) → version_at (zip_slots vs (uses_of vs ns) xs) i ≡ Some v → v % 2 ≡ 0)
+    → ((v : ℕ) → v % 2 ≡ 0 → IsTrue r ↔ use_of v n ≡ Detached) → IsTrue r ↔ usage_at (zip_slots vs (uses_of vs ns) xs) i ≡ Some Detached
+detached_at vs ns xs same_n same_x i n r within read even marks =
+    let known = slot_list-known vs ns xs same_n same_x in
+    let v = get_or vs i 0 in
+    let read_v = sym (get_or_default_zero vs i v within) in
+    let used = known.5 i v n within read_v read in
+    let is = marks v (even v (known.3 i v within read_v)) in
+    (λ t. used ∙ ap Some (is.0 t), λ there. is.1 (same_Some _ _ (sym used ∙ there)))
 
 -- one more slot, and one that is put to use
 module _ {P : Type 0} (vs ns : List ℕ) (xs : List (Option P)) where

@@ -8,7 +8,7 @@ pub loop-key-init : goal.loop-key-init
 loop-key-init g c = record {
   swept = Swept-start c.args.self.now _ c.len.ensures.valid;
   cursor = c.cursor_from-cursor.ensures.cursor;
-  above = λ q there. omega (arith, c.cursor_from-cursor.ensures.on);
+  above = λ q there. c.cursor_from-cursor.ensures.on q there (omega arith);
   pairs = [];
   pushed = c.reserve.ensures.items ∙ sym (append-nil c.args.out.now.items);
   listed = refl;

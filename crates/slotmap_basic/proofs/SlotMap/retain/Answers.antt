@@ -10,7 +10,7 @@ well g c = c.cursor_from-cursor.ensures.valid
 pub loop-key-init : goal.loop-key-init
 loop-key-init g c =
     let start = c.cursor_from-cursor.ensures in
-    record { going = Going-start g.F.FnMut g.K.Key.data_of c.args.self.now c.args.f (well g (goal.at.loop-key-init g c).After-cursor_from-cursor) _ start.on; cursor = start.cursor }
+    record { going = Going-start g.F.FnMut g.K.Key.data_of c.args.self.now c.args.f (well g (goal.at.loop-key-init g c).After-cursor_from-cursor) _ (λ q there. start.on q there (omega arith)); cursor = start.cursor }
 
 pub f-stays-requires : goal.f-stays-requires
 f-stays-requires g c =
