@@ -64,11 +64,15 @@ module _ {P : Type 0} {slots : List (Slot P)} {now : Content P} (shows : AreSlot
   pub passed_over : (start end : ℕ) → NoneLive slots start end → (q : Key) → IsLive now q → start ≤ q.index → end ≤ q.index
   passed_over start end passed q is_live from = grind (arith, settled_present shows.settled shows.content q is_live, passed q.index q.version from)
 
+  -- the version at the index of a live key
+  pub live_version : (k : Key) → IsLive now k → version_at slots k.index ≡ Some k.version
+  live_version k is_live = ap (option_map (λ s. s.version)) (settled_present shows.settled shows.content k is_live).there
+
   -- where a key is live the version is odd
   odd_there : (k : Key) → IsLive now k → get_or (versions_of slots) k.index 0 % 2 ≡ 1
   odd_there k is_live =
-      let there = settled_present shows.settled shows.content k is_live in
-      ap (λ x. x % 2) (get_or_from_slice_get (versions_of slots) k.index _ 0 (version-at slots k.index ∙ ap (option_map (λ s. s.version)) there.there)) ∙ there.odd
+      ap (λ x. x % 2) (get_or_from_slice_get (versions_of slots) k.index _ 0 (version-at slots k.index ∙ live_version k is_live))
+      ∙ (settled_present shows.settled shows.content k is_live).odd
 
   -- and where it is odd a key is live
   live_there : (i : ℕ) → get_or (versions_of slots) i 0 % 2 ≡ 1 → (k : Key) × IsLive now k × (k.index ≡ i)

@@ -23,7 +23,7 @@ returns-clause-cursor g c =
     let slots = c.layout.result.now.slots in
     let long = versions-length slots ∙ count g at in
     cursor_of_slots (shows g at) c.of_slots.result (c.of_slots.ensures.ahead (versions_of slots) (omega (arith, long)) (λ full i from below.
-        full_slots (shows g at) (omega (arith, full, long, c.len.ensures.value, ap (λ m. map.len m.live) c.self.view_is)) i from (omega (arith, below, long))))
+    full_slots (shows g at) (omega (arith, full, long, c.len.ensures.value, ap (λ m. map.len m.live) c.self.view_is)) i from (omega (arith, below, long))))
 
 pub returns-clause-from : goal.returns-clause-from
 returns-clause-from g c = λ k is_live from.
