@@ -1,5 +1,6 @@
 -- What a loop over the live keys of a map knows of those ahead of it.
-use Rattle.std.proofs.Common.{◌≡◌, ◌+◌, ◌%◌, ◌^◌, ◌<◌, ◌≤◌, ◌↔◌, ℕ, true, List, length, get_or, Some, is_some, slice_get, option_map, refl, sym, ap, ◌∙◌, arith}
+use Rattle.std.proofs.Common.{◌≡◌, ◌+◌, ◌%◌, ◌^◌, ◌<◌, ◌≤◌, ◌↔◌}
+use Rattle.std.proofs.Common.{ℕ, true, List, length, get_or, Some, is_some, slice_get, option_map, refl, sym, ap, ◌∙◌, arith}
 use Rattle.slotmap_core.proofs.Common.{Key, Content, IsContent, IsLive, places, key, Removes, with_value, length-map, slice_get-map}
 use Rattle.slotmap_core.proofs.Common.{get_or_from_slice_get, slice_get-get_or, keys_total, get-remove_other, same_live, removed_places}
 use native.Mathlib.Decide.{dec_lt}
@@ -93,7 +94,8 @@ module _ {P : Type 0} {slots : List (Slot P)} {now : Content P} (shows : AreSlot
   same_odd x y to back = grind (arith, dec_lt)
 
   pub ahead_of_slots : (cursor : OddCursor) → KnowsLiveKeys now cursor → IsAhead (versions_of slots) cursor.run_end cursor.end cursor.index cursor.bits
-  ahead_of_slots cursor of = ahead_same of.versions (versions_of slots) cursor.run_end cursor.end cursor.index cursor.bits of.ahead (omega (arith, of.all, versions-length slots, count_of_slots)) (λ i from.
+  ahead_of_slots cursor of = ahead_same of.versions (versions_of slots) cursor.run_end cursor.end cursor.index cursor.bits of.ahead
+      (omega (arith, of.all, versions-length slots, count_of_slots)) (λ i from.
       same_odd _ _
       (λ odd. let found = live_there i odd in ap (λ j. get_or of.versions j 0 % 2) (sym found.2) ∙ of.live found.0 found.1 (omega (arith, from, found.2)))
       (λ odd. let found = of.odd i from odd in ap (λ j. get_or (versions_of slots) j 0 % 2) (sym found.2) ∙ odd_there found.0 found.1))

@@ -1,5 +1,6 @@
 -- Three vectors as one list of slots.
-use Rattle.std.proofs.Common.{◌≡◌, ◌<◌, ◌≤◌, ◌%◌, ◌∷◌, ◌++◌, ℕ, zero, suc, List, [], length, set, slice_get, get_or, Option, None, Some, IsSome, refl, sym, ap, ◌↔◌, Bool, IsTrue}
+use Rattle.std.proofs.Common.{◌≡◌, ◌<◌, ◌≤◌, ◌%◌, ◌∷◌, ◌++◌}
+use Rattle.std.proofs.Common.{ℕ, zero, suc, List, [], length, set, slice_get, get_or, Option, None, Some, IsSome, refl, sym, ap, ◌↔◌, Bool, IsTrue}
 use Rattle.slotmap_core.proofs.Common.{option_and_then, subst, ◌∙◌, arith, get_or_default_zero, slice_get_read, slice_get_past, same_Some}
 use Rattle.slotmap_slots.specs.Slot.{SlotList, version_at, usage_at, next_at, next_of, payload_at, with_payload}
 use Rattle.slotmap_slots.specs.declared.layout.Use.{Use}
@@ -21,7 +22,8 @@ module _ {P : Type 0} where
   zip-at vs ls xs i v l x at_v at_l at_x = absurd (cc)
 
   zip-reads : (vs : List ℕ) (ls : List Use) (xs : List (Option P)) (i : ℕ) → length ls ≡ length vs → length xs ≡ length vs
-      → (version_at (zip_slots vs ls xs) i ≡ slice_get vs i) × (usage_at (zip_slots vs ls xs) i ≡ slice_get ls i) × (payload_at (zip_slots vs ls xs) i ≡ option_and_then (λ x. x) (slice_get xs i))
+      → (version_at (zip_slots vs ls xs) i ≡ slice_get vs i) × (usage_at (zip_slots vs ls xs) i ≡ slice_get ls i)
+      × (payload_at (zip_slots vs ls xs) i ≡ option_and_then (λ x. x) (slice_get xs i))
   zip-reads [] [] [] i same_l same_x = (refl, refl, refl)
   zip-reads (v ∷ vs) (l ∷ ls) (x ∷ xs) zero same_l same_x = (refl, refl, refl)
   zip-reads (v ∷ vs) (l ∷ ls) (x ∷ xs) (suc i) same_l same_x = zip-reads vs ls xs i (omega arith) (omega arith)
@@ -42,7 +44,8 @@ module _ {P : Type 0} where
   zip-within_free (v ∷ vs) (l ∷ ls) (x ∷ xs) (suc i) some = omega (arith, zip-within_free vs ls xs i some)
   zip-within_free vs ls xs i some = absurd (cc)
 
-  zip-next : (vs : List ℕ) (ls : List Use) (xs : List (Option P)) (i : ℕ) → length ls ≡ length vs → length xs ≡ length vs → next_at (zip_slots vs ls xs) i ≡ option_and_then next_of (slice_get ls i)
+  zip-next : (vs : List ℕ) (ls : List Use) (xs : List (Option P)) (i : ℕ) → length ls ≡ length vs → length xs ≡ length vs
+      → next_at (zip_slots vs ls xs) i ≡ option_and_then next_of (slice_get ls i)
   zip-next [] [] [] i same_l same_x = refl
   zip-next (v ∷ vs) (l ∷ ls) (x ∷ xs) zero same_l same_x = refl
   zip-next (v ∷ vs) (l ∷ ls) (x ∷ xs) (suc i) same_l same_x = zip-next vs ls xs i (omega arith) (omega arith)

@@ -104,21 +104,24 @@ module _ {V : Type 0} (vs : List ℕ) (xs : List (Option V)) (i left : ℕ) (ite
       by (Some x) placed = absurd (even (placed.0 refl))
 
   -- at an odd version the next pair is yielded, also by an iterator with an earlier start
-  comes : (start : ℕ) → pairs_left i vs xs ≡ pairs_left start vs xs → (v : ℕ) (o : Option V) → slice_get vs i ≡ Some v → slice_get xs i ≡ Some o → v % 2 ≡ 1 → Next vs xs start left i
+  comes : (start : ℕ) → pairs_left i vs xs ≡ pairs_left start vs xs → (v : ℕ) (o : Option V) → slice_get vs i ≡ Some v → slice_get xs i ≡ Some o
+      → v % 2 ≡ 1 → Next vs xs start left i
   comes start same v None at_v at_x odd = let some = (iterates.placed i v None (omega arith) at_v at_x).1 odd in absurd (cc)
   comes start same v (Some x) at_v at_x odd =
       grind (arith, left-found v (Some x) at_v at_x, later (left - 1) (omega (arith, iterates.counted, ap length (left-found v (Some x) at_v at_x))), slice_get_within vs i v at_v)
 
 -- if there are as many pairs as places, each place has a value
 module _ {V : Type 0} where
-  all_some : (i : ℕ) (vs : List ℕ) (xs : List (Option V)) → length vs ≤ length (pairs_from i vs xs) → (j : ℕ) (o : Option V) → j < length vs → slice_get xs j ≡ Some o → IsSome o
+  all_some : (i : ℕ) (vs : List ℕ) (xs : List (Option V)) → length vs ≤ length (pairs_from i vs xs) → (j : ℕ) (o : Option V) → j < length vs
+      → slice_get xs j ≡ Some o → IsSome o
   all_some i (v ∷ vs) (None ∷ xs) full j o below at = absurd (omega (arith, full, length-pairs (i + 1) vs xs))
   all_some i (v ∷ vs) (Some x ∷ xs) full zero o below at = grind arith
   all_some i (v ∷ vs) (Some x ∷ xs) full (suc j) o below at = all_some (i + 1) vs xs (omega (arith, full)) j o (omega (arith, below)) at
   all_some i vs [] full j o below at = absurd (cc)
   all_some i [] xs full j o below at = absurd (omega (arith, below))
 
-  rest_some : (vs : List ℕ) (xs : List (Option V)) → length vs ≤ length (pairs_left 1 vs xs) + 1 → (j : ℕ) (o : Option V) → 1 ≤ j → j < length vs → slice_get xs j ≡ Some o → IsSome o
+  rest_some : (vs : List ℕ) (xs : List (Option V)) → length vs ≤ length (pairs_left 1 vs xs) + 1 → (j : ℕ) (o : Option V) → 1 ≤ j → j < length vs
+      → slice_get xs j ≡ Some o → IsSome o
   rest_some (v ∷ vs) (x ∷ xs) full (suc j) o from below at = all_some 1 vs xs (omega (arith, full)) j o (omega (arith, below)) at
   rest_some vs xs full zero o from below at = absurd (omega (arith, from))
   rest_some vs [] full j o from below at = absurd (cc)
@@ -203,7 +206,8 @@ pub next_on : {V : Type 0} {vs : List ℕ} {xs : List (Option V)} {i left : ℕ}
     → {end : ℕ} → IsNextOdd seen i end → end < length seen → Next vs xs i left end
 next_on {V} {vs} {xs} {i} {left} iterates {seen} whole {end} found there =
     let stop : i + (end - i) ≡ end = omega (arith, found.on) in
-    let past = pass_all vs xs left (end - i) i iterates (omega (arith, ap length whole, found.on, found.within)) (λ j v from below at. found.passed j v from (omega (arith, found.on)) (ap (λ vs. slice_get vs j) whole ∙ at)) in
+    let past = pass_all vs xs left (end - i) i iterates (omega (arith, ap length whole, found.on, found.within))
+    (λ j v from below at. found.passed j v from (omega (arith, found.on)) (ap (λ vs. slice_get vs j) whole ∙ at)) in
     let to : IsIter vs xs end left × (pairs_left end vs xs ≡ pairs_left i vs xs) = subst (λ m. IsIter vs xs m left × (pairs_left m vs xs ≡ pairs_left i vs xs)) stop past in
     let version = found_within vs end (omega (arith, there, ap length whole)) in
     let value = found_within xs end (omega (arith, slice_get_within vs end version.0 version.1, iterates.values_length)) in
@@ -217,7 +221,8 @@ pub ends_at : {V : Type 0} {vs : List ℕ} {xs : List (Option V)} {i left : ℕ}
     → {end : ℕ} → end ≡ length seen → (pairs_left i vs xs ≡ []) × IsIter vs xs end left × (pairs_left end vs xs ≡ [])
 ends_at {V} {vs} {xs} {i} {left} iterates {seen} whole within even {end} at =
     let stop : i + (length vs - i) ≡ end = omega (arith, within, at, ap length whole) in
-    let past = pass_all vs xs left (length vs - i) i iterates (omega (arith, within, ap length whole)) (λ j v from below read. even j v from (omega (arith, within, ap length whole)) (ap (λ vs. slice_get vs j) whole ∙ read)) in
+    let past = pass_all vs xs left (length vs - i) i iterates (omega (arith, within, ap length whole))
+    (λ j v from below read. even j v from (omega (arith, within, ap length whole)) (ap (λ vs. slice_get vs j) whole ∙ read)) in
     let to : IsIter vs xs end left × (pairs_left end vs xs ≡ pairs_left i vs xs) = subst (λ m. IsIter vs xs m left × (pairs_left m vs xs ≡ pairs_left i vs xs)) stop past in
     let none : pairs_left end vs xs ≡ [] = ap (λ vs. pairs_from end vs (drop end xs)) (drop_all end vs (omega (arith, at, ap length whole))) in
     (sym to.1 ∙ none, to.0, none)

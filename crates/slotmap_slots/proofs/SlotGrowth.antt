@@ -2,7 +2,8 @@
 -- For this crate alone.
 use Rattle.std.specs.FinMap as map
 use Rattle.std.specs.FinSet as set
-use Rattle.std.proofs.Common.{◌==◌, ◌≡◌, ◌≢◌, ◌+◌, ◌-◌, ◌^◌, ◌<◌, ◌∷◌, ◌++◌, ◌↔◌, ⊎_elim, Bool, IsTrue, true, false, ℕ, List, [], length, set, slice_get, Some, None, refl}
+use Rattle.std.proofs.Common.{◌==◌, ◌≡◌, ◌≢◌, ◌+◌, ◌-◌, ◌^◌, ◌<◌, ◌∷◌, ◌++◌, ◌↔◌}
+use Rattle.std.proofs.Common.{⊎_elim, Bool, IsTrue, true, false, ℕ, List, [], length, set, slice_get, Some, None, refl}
 use Rattle.slotmap_core.proofs.Common.{Key, most, Inserts, Live, Detached as DetachedPlace, Vacant, live, detached, content_of_places, offer, vacant_version}
 use Rattle.slotmap_core.proofs.Common.{used_places, inserted, IsOn, IsVersion, IsStacked, option_map, option_and_then, sym, ap, subst, ◌∙◌, inl, arith, inserts}
 use Rattle.slotmap_core.proofs.Common.{eq-zero-or-pos, length-map, map_push, slice_get_within, same_Some, found_within, mapped, false_of, at_push, key}
@@ -114,7 +115,8 @@ module _ {P : Type 0} {slots : List (Slot P)} {head free count : ℕ} {sound : I
       (IsStacked-filled (places_of slots) head t.rest (t.version + 1) w top_stacked top_place)
 
   pub inserts-filled : (w : P) (c : ℕ) → used_places (places_of slots) < most
-      → Inserts (content_of_places (map_of slots head free c)) (offer (places_of slots) (free_indices slots free head)) w (content_of_places (map_of (set slots head (full (t.version + 1) w)) t.next (free - 1) c))
+      → Inserts (content_of_places (map_of slots head free c)) (offer (places_of slots) (free_indices slots free head)) w
+      (content_of_places (map_of (set slots head (full (t.version + 1) w)) t.next (free - 1) c))
   inserts-filled w c below =
       let after = (filled_top w).map_is c ∙ sym (ap (λ vs. inserted (record { places = places_of slots; vacant = vs; capacity = c }) (offer (places_of slots) vs) w) free_indices-top
       ∙ ap (λ p. record { places = set (places_of slots) head (Live (vacant_version p) w); vacant = t.rest; capacity = c }) top_place) in

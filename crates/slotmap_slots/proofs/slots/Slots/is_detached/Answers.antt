@@ -30,7 +30,8 @@ returns-then-version-clause-valid g c = settled_valid c.self.invariant c.self.vi
 pub returns-clause-value : goal.returns-clause-value
 returns-clause-value g c =
     let same : version_before c.version.result ≡ c.args.key.version = omega (arith, c.if-version.false, c.version-2.ensures.value, c.version.type_inv, c.version-2.type_inv) in
-    rw (← c.self.view_is) (detached-at c.self.invariant.sound c.args.key _ (found g (goal.at.returns-clause-value g c).After-version-2) same c.is_detached.result (rw c.idx-index.ensures.value at c.is_detached.ensures))
+    rw (← c.self.view_is) (detached-at c.self.invariant.sound c.args.key _ (found g (goal.at.returns-clause-value g c).After-version-2) same c.is_detached.result
+    (rw c.idx-index.ensures.value at c.is_detached.ensures))
 
 pub returns-clause-valid : goal.returns-clause-valid
 returns-clause-valid g c = settled_valid c.self.invariant c.self.view_is

@@ -5,13 +5,15 @@ use Rattle.slotmap_basic.proofs.columns.pairs.SlotIntoIter.copy.Goals as goal
 
 pub invariant_of-result : goal.invariant_of-result
 invariant_of-result g c =
-    let xs : AllZip (IsCloneOf g.P.Clone.is_clone) c.self.inside.payloads.items c.in_ok-clone-2.field-0.items = option_clones _ _ (λ w r. r) (λ v r. r) (λ v w r. r) _ _ c.in_ok-clone-2.ensures.cases.0 in
+    let xs : AllZip (IsCloneOf g.P.Clone.is_clone) c.self.inside.payloads.items c.in_ok-clone-2.field-0.items =
+    option_clones _ _ (λ w r. r) (λ v r. r) (λ v w r. r) _ _ c.in_ok-clone-2.ensures.cases.0 in
     let vs : c.in_ok-clone.field-0.items ≡ c.self.inside.versions.items = same_from_all_zip _ _ _ c.in_ok-clone.ensures.cases.0 (λ x y r. r) in
     rw vs (IsIter-clones g.P.Clone.is_clone _ _ _ xs _ _ c.self.invariant.0, c.self.invariant.1)
 
 pub returns-clause-clones : goal.returns-clause-clones
 returns-clause-clones g c =
-    let xs : AllZip (IsCloneOf g.P.Clone.is_clone) c.self.inside.payloads.items c.in_ok-clone-2.field-0.items = option_clones _ _ (λ w r. r) (λ v r. r) (λ v w r. r) _ _ c.in_ok-clone-2.ensures.cases.0 in
+    let xs : AllZip (IsCloneOf g.P.Clone.is_clone) c.self.inside.payloads.items c.in_ok-clone-2.field-0.items =
+    option_clones _ _ (λ w r. r) (λ v r. r) (λ v w r. r) _ _ c.in_ok-clone-2.ensures.cases.0 in
     let vs : c.in_ok-clone.field-0.items ≡ c.self.inside.versions.items = same_from_all_zip _ _ _ c.in_ok-clone.ensures.cases.0 (λ x y r. r) in
     rw (vs, ← c.self.view_is) (pairs_left-clones g.P.Clone.is_clone _ _ _ xs c.self.inside.cursor.index)
 

@@ -13,8 +13,11 @@ behind g c = omega (arith, c.of_slots-cursor.ensures.index, (starts g c).some)
 pub invariant_of-result : goal.invariant_of-result
 invariant_of-result g c =
     let at = (goal.at.invariant_of-result g c).After-of_slots-cursor in
-    let all = starts g at in
-    (rw (behind g at) all.iterates, c.of_slots-cursor.ensures.ahead c.into_parts-versions.result.0.items (omega (arith, c.len.ensures)) (λ full i from below. all.odd (omega (arith, full, c.len.ensures)) i from (omega (arith, below, c.len.ensures))))
+    let all = starts g at in (
+      rw (behind g at) all.iterates,
+      c.of_slots-cursor.ensures.ahead c.into_parts-versions.result.0.items (omega (arith, c.len.ensures))
+          (λ full i from below. all.odd (omega (arith, full, c.len.ensures)) i from (omega (arith, below, c.len.ensures))),
+    )
 
 pub returns : goal.returns
 returns g c = rw (behind g c) (starts g c).yields
