@@ -32,8 +32,9 @@ next g c =
     let made = c.in-Some.record in
     let rest = into_iter_items c.next-in-loop-record.new.self in
     let accepts = subst (λ l. Accepts l list_limit) c.deref.ensures.value (c.in_ok-check_slots.ensures.ok.0 refl) in
-    let whole : (at.invariant.first ∷ at.yielded) ++ made ∷ rest ≡ c.args.list.items = ap (λ xs. at.invariant.first ∷ at.yielded ++ xs) (sym c.in-Some.ensures.steps.0) ∙ at.invariant.all in (
-      next_consistent c.args.list.items (at.invariant.first ∷ at.yielded) rest made list_limit accepts whole,
+    let seen = at.invariant.first ∷ at.yielded in
+    let whole : seen ++ made ∷ rest ≡ c.args.list.items = ap (λ xs. seen ++ xs) (sym c.in-Some.ensures.steps.0) ∙ at.invariant.all in (
+      next_consistent c.args.list.items seen rest made list_limit accepts whole,
       ap (λ xs. at.invariant.first ∷ xs) (append_assoc at.yielded (made ∷ []) rest) ∙ whole,
     )
 
