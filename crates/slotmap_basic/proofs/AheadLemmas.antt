@@ -1,5 +1,6 @@
 -- What a loop over the live keys of a map knows of those ahead of it.
-use Rattle.std.proofs.Common.{◌≡◌, ◌+◌, ◌%◌, ◌^◌, ◌<◌, ◌≤◌, ◌↔◌, ℕ, true, List, length, get_or, Some, is_some, slice_get, option_map, refl, sym, ap, ◌∙◌, inl, arith}
+use Rattle.std.proofs.Common.{◌≡◌, ◌+◌, ◌%◌, ◌^◌, ◌<◌, ◌≤◌, ◌↔◌}
+use Rattle.std.proofs.Common.{ℕ, true, List, length, get_or, Some, is_some, slice_get, option_map, refl, sym, ap, ◌∙◌, arith}
 use Rattle.slotmap_core.proofs.Common.{Key, Content, IsContent, IsLive, places, key, Removes, with_value, length-map, slice_get-map}
 use Rattle.slotmap_core.proofs.Common.{get_or_from_slice_get, slice_get-get_or, keys_total, get-remove_other, same_live, removed_places}
 use native.Mathlib.Decide.{dec_lt}
@@ -9,7 +10,7 @@ use Rattle.slotmap_basic.specs.Columns.{AllEven, IsNextOdd, versions_of, NoneLiv
 use Rattle.slotmap_basic.specs.Odds.{IsAhead}
 use Rattle.slotmap_slots.specs.Slot.{Slot, version_at, AreSlotsOf}
 use Rattle.slotmap_basic.specs.declared.columns.odds.OddCursor.{OddCursor}
-use Rattle.slotmap_basic.proofs.OddsLemmas.{odd_within, ahead_same, ahead_start, ahead_behind, odds_start}
+use Rattle.slotmap_basic.proofs.OddsLemmas.{odd_within, ahead_same}
 use Rattle.slotmap_slots.proofs.SlotLemmas.{live_slot, get-live_slot}
 use Rattle.slotmap_slots.proofs.SettledLemmas.{settled_valid, settled_places, settled_fits, settled_present}
 
@@ -64,11 +65,15 @@ module _ {P : Type 0} {slots : List (Slot P)} {now : Content P} (shows : AreSlot
   pub passed_over : (start end : ℕ) → NoneLive slots start end → (q : Key) → IsLive now q → start ≤ q.index → end ≤ q.index
   passed_over start end passed q is_live from = grind (arith, settled_present shows.settled shows.content q is_live, passed q.index q.version from)
 
+  -- the version at the index of a live key
+  pub live_version : (k : Key) → IsLive now k → version_at slots k.index ≡ Some k.version
+  live_version k is_live = ap (option_map (λ s. s.version)) (settled_present shows.settled shows.content k is_live).there
+
   -- where a key is live the version is odd
   odd_there : (k : Key) → IsLive now k → get_or (versions_of slots) k.index 0 % 2 ≡ 1
   odd_there k is_live =
-      let there = settled_present shows.settled shows.content k is_live in
-      ap (λ x. x % 2) (get_or_from_slice_get (versions_of slots) k.index _ 0 (version-at slots k.index ∙ ap (option_map (λ s. s.version)) there.there)) ∙ there.odd
+      ap (λ x. x % 2) (get_or_from_slice_get (versions_of slots) k.index _ 0 (version-at slots k.index ∙ live_version k is_live))
+      ∙ (settled_present shows.settled shows.content k is_live).odd
 
   -- and where it is odd a key is live
   live_there : (i : ℕ) → get_or (versions_of slots) i 0 % 2 ≡ 1 → (k : Key) × IsLive now k × (k.index ≡ i)
@@ -89,18 +94,8 @@ module _ {P : Type 0} {slots : List (Slot P)} {now : Content P} (shows : AreSlot
   same_odd x y to back = grind (arith, dec_lt)
 
   pub ahead_of_slots : (cursor : OddCursor) → KnowsLiveKeys now cursor → IsAhead (versions_of slots) cursor.run_end cursor.end cursor.index cursor.bits
-  ahead_of_slots cursor of = ahead_same of.versions (versions_of slots) cursor.run_end cursor.end cursor.index cursor.bits of.ahead (omega (arith, of.all, versions-length slots, count_of_slots)) (λ i from.
+  ahead_of_slots cursor of = ahead_same of.versions (versions_of slots) cursor.run_end cursor.end cursor.index cursor.bits of.ahead
+      (omega (arith, of.all, versions-length slots, count_of_slots)) (λ i from.
       same_odd _ _
       (λ odd. let found = live_there i odd in ap (λ j. get_or of.versions j 0 % 2) (sym found.2) ∙ of.live found.0 found.1 (omega (arith, from, found.2)))
       (λ odd. let found = of.odd i from odd in ap (λ j. get_or (versions_of slots) j 0 % 2) (sym found.2) ∙ odd_there found.0 found.1))
-
-  -- before the first step of a loop over all slots: the sentinel's version is even
-  pub ahead_at_start : IsAhead (versions_of slots) 0 1 0 0
-  ahead_at_start = ahead_start (versions_of slots) (omega (arith, versions-length slots, count_of_slots))
-      (elim (dec_lt 0 (get_or (versions_of slots) 0 0 % 2)) [
-        | yes p ↦ absurd (let found = live_there 0 (omega arith) in omega (arith, found.2, (valid_of_slots.within found.0 (inl (inl found.1))).0))
-        | no p ↦ omega arith
-      ])
-
-  pub ahead_from : (index : ℕ) → index ≤ length slots → IsAhead (versions_of slots) 0 index index 0
-  ahead_from index within = ahead_behind _ _ _ _ _ (omega arith) (odds_start (versions_of slots) index (omega (arith, within, versions-length slots)))

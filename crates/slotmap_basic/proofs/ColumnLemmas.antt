@@ -1,9 +1,10 @@
 -- Three vectors as one list of slots.
-use Rattle.std.proofs.Common.{◌≡◌, ◌<◌, ◌≤◌, ◌%◌, ◌∷◌, ◌++◌, ℕ, zero, suc, List, [], length, set, slice_get, get_or, Option, None, Some, IsSome, refl, sym, ap}
-use Rattle.slotmap_core.proofs.Common.{option_and_then, subst, ◌∙◌, arith, get_or_default_zero, slice_get_read, slice_get_past}
+use Rattle.std.proofs.Common.{◌≡◌, ◌<◌, ◌%◌, ◌∷◌, ◌++◌}
+use Rattle.std.proofs.Common.{ℕ, zero, suc, List, [], length, set, slice_get, get_or, Option, Some, IsSome, refl, sym, ap, ◌↔◌, Bool, IsTrue}
+use Rattle.slotmap_core.proofs.Common.{option_and_then, subst, ◌∙◌, arith, get_or_default_zero, slice_get_read, same_Some}
 use Rattle.slotmap_slots.specs.Slot.{SlotList, version_at, usage_at, next_at, next_of, payload_at, with_payload}
 use Rattle.slotmap_slots.specs.declared.layout.Use.{Use}
-use Rattle.slotmap_slots.specs.declared.layout.Use.TheVariants.{InUse}
+use Rattle.slotmap_slots.specs.declared.layout.Use.TheVariants.{InUse, Detached}
 use Rattle.slotmap_basic.specs.Columns.{zip_slots, IsColumns, versions_of, uses_of}
 use Rattle.slotmap_slots.specs.Numbers.{use_of}
 use Rattle.slotmap_basic.proofs.NumberLemmas.{free_is, uses-length, uses-at, uses-set, uses-put, uses-push}
@@ -21,7 +22,8 @@ module _ {P : Type 0} where
   zip-at vs ls xs i v l x at_v at_l at_x = absurd (cc)
 
   zip-reads : (vs : List ℕ) (ls : List Use) (xs : List (Option P)) (i : ℕ) → length ls ≡ length vs → length xs ≡ length vs
-      → (version_at (zip_slots vs ls xs) i ≡ slice_get vs i) × (usage_at (zip_slots vs ls xs) i ≡ slice_get ls i) × (payload_at (zip_slots vs ls xs) i ≡ option_and_then (λ x. x) (slice_get xs i))
+      → (version_at (zip_slots vs ls xs) i ≡ slice_get vs i) × (usage_at (zip_slots vs ls xs) i ≡ slice_get ls i)
+      × (payload_at (zip_slots vs ls xs) i ≡ option_and_then (λ x. x) (slice_get xs i))
   zip-reads [] [] [] i same_l same_x = (refl, refl, refl)
   zip-reads (v ∷ vs) (l ∷ ls) (x ∷ xs) zero same_l same_x = (refl, refl, refl)
   zip-reads (v ∷ vs) (l ∷ ls) (x ∷ xs) (suc i) same_l same_x = zip-reads vs ls xs i (omega arith) (omega arith)
@@ -42,7 +44,8 @@ module _ {P : Type 0} where
   zip-within_free (v ∷ vs) (l ∷ ls) (x ∷ xs) (suc i) some = omega (arith, zip-within_free vs ls xs i some)
   zip-within_free vs ls xs i some = absurd (cc)
 
-  zip-next : (vs : List ℕ) (ls : List Use) (xs : List (Option P)) (i : ℕ) → length ls ≡ length vs → length xs ≡ length vs → next_at (zip_slots vs ls xs) i ≡ option_and_then next_of (slice_get ls i)
+  zip-next : (vs : List ℕ) (ls : List Use) (xs : List (Option P)) (i : ℕ) → length ls ≡ length vs → length xs ≡ length vs
+      → next_at (zip_slots vs ls xs) i ≡ option_and_then next_of (slice_get ls i)
   zip-next [] [] [] i same_l same_x = refl
   zip-next (v ∷ vs) (l ∷ ls) (x ∷ xs) zero same_l same_x = refl
   zip-next (v ∷ vs) (l ∷ ls) (x ∷ xs) (suc i) same_l same_x = zip-next vs ls xs i (omega arith) (omega arith)
@@ -56,7 +59,6 @@ module _ {P : Type 0} where
       → (zip_slots vs ls xs ≡ zip_slots vs ls xs) × (length (zip_slots vs ls xs) ≡ length vs)
       × ((i : ℕ) → version_at (zip_slots vs ls xs) i ≡ slice_get vs i)
       × ((i v : ℕ) → i < length vs → v ≡ get_or vs i v → version_at (zip_slots vs ls xs) i ≡ Some v)
-      × ((i : ℕ) → length vs ≤ i → version_at (zip_slots vs ls xs) i ≡ None)
       × ((i : ℕ) (o : Option P) → i < length vs → o ≡ get_or xs i o → payload_at (zip_slots vs ls xs) i ≡ o)
       × ((i : ℕ) → IsSome (payload_at (zip_slots vs ls xs) i) → i < length vs)
       × ((i : ℕ) → IsSome (next_at (zip_slots vs ls xs) i) → i < length vs)
@@ -65,7 +67,6 @@ module _ {P : Type 0} where
     zip-length vs ls xs same_l same_x,
     λ i. (zip-reads vs ls xs i same_l same_x).0,
     λ i v within read. (zip-reads vs ls xs i same_l same_x).0 ∙ slice_get_read vs _ i v refl within read,
-    λ i past. (zip-reads vs ls xs i same_l same_x).0 ∙ slice_get_past vs i past,
     λ i o within read. (zip-reads vs ls xs i same_l same_x).2 ∙ ap (option_and_then (λ x. x)) (slice_get_read xs _ i o refl (omega arith) read),
     zip-within vs ls xs,
     zip-within_free vs ls xs,
@@ -103,7 +104,6 @@ pub slot_list-known : {P : Type 0} (vs ns : List ℕ) (xs : List (Option P)) →
     → (zip_slots vs (uses_of vs ns) xs ≡ zip_slots vs (uses_of vs ns) xs) × (length (zip_slots vs (uses_of vs ns) xs) ≡ length vs)
     × ((i : ℕ) → version_at (zip_slots vs (uses_of vs ns) xs) i ≡ slice_get vs i)
     × ((i v : ℕ) → i < length vs → v ≡ get_or vs i v → version_at (zip_slots vs (uses_of vs ns) xs) i ≡ Some v)
-    × ((i : ℕ) → length vs ≤ i → version_at (zip_slots vs (uses_of vs ns) xs) i ≡ None)
     × ((i v n : ℕ) → i < length vs → v ≡ get_or vs i v → n ≡ get_or ns i n → usage_at (zip_slots vs (uses_of vs ns) xs) i ≡ Some (use_of v n))
     × ((i : ℕ) (o : Option P) → i < length vs → o ≡ get_or xs i o → payload_at (zip_slots vs (uses_of vs ns) xs) i ≡ o)
     × ((i : ℕ) → IsSome (payload_at (zip_slots vs (uses_of vs ns) xs) i) → i < length vs)
@@ -119,17 +119,28 @@ slot_list-known vs ns xs same_n same_x =
       known.1,
       known.2,
       known.3,
-      known.4,
       λ i v n within read_v read_n. zip-usage vs ls xs i same_l same_x ∙ at i v n within read_v read_n,
+      known.4,
       known.5,
       known.6,
-      known.7,
       λ i n read some.
-          let within = known.7 i some in
+          let within = known.6 i some in
           let v = get_or vs i 0 in
           let next = zip-next vs ls xs i same_l same_x ∙ ap (option_and_then next_of) (at i v n within (sym (get_or_default_zero vs i v within)) read) in
           next ∙ free_is v n (subst IsSome next some),
     )
+
+-- what the number at an even version tells
+pub detached_at : {P : Type 0} (vs ns : List ℕ) (xs : List (Option P)) → length ns ≡ length vs → length xs ≡ length vs → (i n : ℕ) (r : Bool)
+    → i < length vs → n ≡ get_or ns i n → ((v : ℕ) → version_at (zip_slots vs (uses_of vs ns) xs) i ≡ Some v → v % 2 ≡ 0)
+    → ((v : ℕ) → v % 2 ≡ 0 → IsTrue r ↔ use_of v n ≡ Detached) → IsTrue r ↔ usage_at (zip_slots vs (uses_of vs ns) xs) i ≡ Some Detached
+detached_at vs ns xs same_n same_x i n r within read even marks =
+    let known = slot_list-known vs ns xs same_n same_x in
+    let v = get_or vs i 0 in
+    let read_v = sym (get_or_default_zero vs i v within) in
+    let used = known.4 i v n within read_v read in
+    let is = marks v (even v (known.3 i v within read_v)) in
+    (λ t. used ∙ ap Some (is.0 t), λ there. is.1 (same_Some _ _ (sym used ∙ there)))
 
 -- one more slot, and one that is put to use
 module _ {P : Type 0} (vs ns : List ℕ) (xs : List (Option P)) where

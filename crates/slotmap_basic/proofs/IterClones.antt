@@ -1,5 +1,5 @@
 -- Three vectors with clones of the payloads of others, and iterators over the slots in them.
-use Rattle.std.proofs.Common.{◌≡◌, ◌+◌, ◌∷◌, ℕ, List, [], drop, Option, None, Some, refl, sym, ◌∙◌, arith}
+use Rattle.std.proofs.Common.{◌+◌, ◌∷◌, ℕ, List, [], drop, Option, None, Some, refl, sym, ◌∙◌, arith}
 use Rattle.slotmap_core.proofs.Common.{AllZip, IsCloneOf, AreClones, zip_length, zip_left, zip_drop, clone_is_some}
 use Rattle.slotmap_slots.specs.Slot.{AreSlotClones}
 use Rattle.slotmap_slots.specs.declared.layout.Use.{Use}

@@ -161,14 +161,6 @@ even_chunk versions end bits odd none i v from below at =
     ap (λ x. x % 2) (sym (get_or_from_slice_get versions i v 0 at)) ∙ sym (odd i k (omega arith) (omega arith) (omega arith)) ∙ ap (λ b. bit_at b k) none ∙ bit_at-zero k
 
 -- ---- what is ahead of a loop
--- before the first step: the first version is even, the sentinel's
-pub ahead_start : (versions : List ℕ) → 0 < length versions → get_or versions 0 0 % 2 ≡ 0 → IsAhead versions 0 1 0 0
-ahead_start versions some even = grind (arith, within, bit_at-zero)
-
--- behind a run
-pub ahead_behind : (versions : List ℕ) (run end index bits : ℕ) → run ≤ index → HasOdds versions end index bits → IsAhead versions run end index bits
-ahead_behind versions run end index bits past has = grind arith
-
 module _ (versions : List ℕ) (run end index bits : ℕ) (ahead : IsAhead versions run end index bits) where
   pub behind_run : run ≤ index → HasOdds versions end index bits
   behind_run past = subst (λ m. HasOdds versions end m bits) (let same : max index run ≡ index = omega (arith, past) in same) ahead.behind

@@ -1,17 +1,17 @@
 -- What an iterator over the vectors of slots yields.
-use Rattle.std.proofs.Common.{◌≡◌, ◌+◌, ◌-◌, ◌<◌, ◌≤◌, ◌%◌, ◌^◌, ◌∷◌, ◌↔◌, ℕ, zero, suc, List, [], length, set, drop, slice_get, get_or, Option, Some, None, ap}
+use Rattle.std.proofs.Common.{◌≡◌, ◌+◌, ◌-◌, ◌<◌, ◌≤◌, ◌%◌, ◌^◌, ◌∷◌, ◌↔◌, ℕ, zero, suc, List, [], length, set, drop, slice_get}
+use Rattle.std.proofs.Common.{get_or, Option, Some, None, ap, map as list_map}
 use Rattle.slotmap_core.proofs.Common.{IsKey, Content, Vacant, live, IsSome, refl, sym, subst, ◌∙◌, arith, same_Some, slice_get_within, get_or_from_slice_get}
-use Rattle.slotmap_core.proofs.Common.{length-set, drop_more, drop_all, drop-set-lt, slice_get-set_other, found_within, key, entries_from, entries-live}
+use Rattle.slotmap_core.proofs.Common.{length-set, drop_more, drop_all, drop-set-lt, slice_get-set_other, found_within, key, entries_from, entries-live, length-map}
 use native.Mathlib.Decide.{dec_lt}
 use Rattle.std.specs.FinMap as map
-use Rattle.slotmap_basic.specs.Columns.{zip_slots, AllEven, IsNextOdd}
-use Rattle.slotmap_basic.specs.Odds.{IsAhead}
+use Rattle.slotmap_basic.specs.Columns.{zip_slots, versions_of, AllEven, IsNextOdd}
+use Rattle.slotmap_basic.specs.Odds.{AllOdd}
 use Rattle.slotmap_slots.specs.Slot.{Slot, IsSlot, IsSound, AreSlotsOf, vacancies, place_by, places_of}
 use Rattle.slotmap_slots.specs.declared.layout.Use.{Use}
 use Rattle.slotmap_slots.specs.declared.layout.Use.TheVariants.{InUse, Free, Detached, Retired}
 use Rattle.slotmap_basic.specs.Iter.{pairs_from, pairs_left, IsIter}
 use Rattle.slotmap_basic.proofs.ColumnLemmas.{zip-length, zip-at}
-use Rattle.slotmap_basic.proofs.OddsLemmas.{ahead_start}
 use Rattle.slotmap_slots.proofs.SlotLemmas.{slots_fit}
 
 module _ {V : Type 0} where
@@ -61,23 +61,6 @@ module _ {V : Type 0} where
   first_even (v ∷ vs) [] xs same_l same_x each at = absurd (omega arith)
   first_even (v ∷ vs) (l ∷ ls) [] same_l same_x each at = absurd (omega arith)
 
--- an iterator from the first place of the vectors of these slots; it yields the entries of the map
-pub iter_from : {V : Type 0} {slots : List (Slot V)} {c : Content V} → AreSlotsOf slots c → (vs : List ℕ) (xs : List (Option V))
-    → ((ls : List Use) × (length ls ≡ length vs) × (length xs ≡ length vs) × (zip_slots vs ls xs ≡ slots)) → (n : ℕ) → n ≡ map.len c.live
-    → IsIter vs xs 0 n × (pairs_left 0 vs xs ≡ map.entries c.live) × IsAhead vs 0 1 0 0
-iter_from {V} {slots} {c} shows vs xs parts n all =
-    let head = shows.first_vacant in
-    let free = vacancies slots shows.aside_count shows.live_count in
-    let sound = shows.settled.sound in
-    let zipped : IsSound (zip_slots vs parts.0 xs) head free shows.live_count = subst (λ ss. IsSound ss head free shows.live_count) (sym parts.3) sound in
-    let first = first_even vs parts.0 xs parts.1 parts.2 zipped.each zipped.stacked.sentinel in
-    let held : live (places_of slots) ≡ c.live = ap (λ d. d.live) shows.content in
-    let count : shows.live_count ≡ n = sym sound.live_counted ∙ ap map.len held ∙ sym all in (
-      subst (IsIter vs xs 0) count (IsIter-start vs parts.0 xs parts.1 parts.2 head free shows.live_count zipped),
-      pairs-entries vs parts.0 xs parts.1 parts.2 head free shows.live_count zipped ∙ ap (λ ss. map.entries (live (places_of ss))) parts.3 ∙ ap (λ m. map.entries m) held,
-      ahead_start vs first.0 first.1,
-    )
-
 drop-found : {X : Type 0} (xs : List X) (i : ℕ) (x : X) → slice_get xs i ≡ Some x → drop i xs ≡ x ∷ drop (i + 1) xs
 drop-found xs i x found = drop_more xs i x (slice_get_within xs i x found) ∙ ap (λ y. y ∷ drop (i + 1) xs) (get_or_from_slice_get xs i x x found)
 
@@ -121,10 +104,79 @@ module _ {V : Type 0} (vs : List ℕ) (xs : List (Option V)) (i left : ℕ) (ite
       by (Some x) placed = absurd (even (placed.0 refl))
 
   -- at an odd version the next pair is yielded, also by an iterator with an earlier start
-  comes : (start : ℕ) → pairs_left i vs xs ≡ pairs_left start vs xs → (v : ℕ) (o : Option V) → slice_get vs i ≡ Some v → slice_get xs i ≡ Some o → v % 2 ≡ 1 → Next vs xs start left i
+  comes : (start : ℕ) → pairs_left i vs xs ≡ pairs_left start vs xs → (v : ℕ) (o : Option V) → slice_get vs i ≡ Some v → slice_get xs i ≡ Some o
+      → v % 2 ≡ 1 → Next vs xs start left i
   comes start same v None at_v at_x odd = let some = (iterates.placed i v None (omega arith) at_v at_x).1 odd in absurd (cc)
   comes start same v (Some x) at_v at_x odd =
       grind (arith, left-found v (Some x) at_v at_x, later (left - 1) (omega (arith, iterates.counted, ap length (left-found v (Some x) at_v at_x))), slice_get_within vs i v at_v)
+
+-- if there are as many pairs as places, each place has a value
+module _ {V : Type 0} where
+  all_some : (i : ℕ) (vs : List ℕ) (xs : List (Option V)) → length vs ≤ length (pairs_from i vs xs) → (j : ℕ) (o : Option V) → j < length vs
+      → slice_get xs j ≡ Some o → IsSome o
+  all_some i (v ∷ vs) (None ∷ xs) full j o below at = absurd (omega (arith, full, length-pairs (i + 1) vs xs))
+  all_some i (v ∷ vs) (Some x ∷ xs) full zero o below at = grind arith
+  all_some i (v ∷ vs) (Some x ∷ xs) full (suc j) o below at = all_some (i + 1) vs xs (omega (arith, full)) j o (omega (arith, below)) at
+  all_some i vs [] full j o below at = absurd (cc)
+  all_some i [] xs full j o below at = absurd (omega (arith, below))
+
+  rest_some : (vs : List ℕ) (xs : List (Option V)) → length vs ≤ length (pairs_left 1 vs xs) + 1 → (j : ℕ) (o : Option V) → 1 ≤ j → j < length vs
+      → slice_get xs j ≡ Some o → IsSome o
+  rest_some (v ∷ vs) (x ∷ xs) full (suc j) o from below at = all_some 1 vs xs (omega (arith, full)) j o (omega (arith, below)) at
+  rest_some vs xs full zero o from below at = absurd (omega (arith, from))
+  rest_some vs [] full j o from below at = absurd (cc)
+  rest_some [] xs full j o from below at = absurd (omega (arith, below))
+
+  rest_odd : (vs : List ℕ) (xs : List (Option V)) (n : ℕ) → IsIter vs xs 1 n → n + 1 ≡ length vs → AllOdd vs 1 (length vs)
+  rest_odd vs xs n iterates full i from below =
+      let v = found_within vs i below in
+      let o = found_within xs i (omega (arith, below, iterates.values_length)) in
+      ap (λ x. x % 2) (get_or_from_slice_get vs i v.0 0 v.1)
+      ∙ (iterates.placed i v.0 o.0 from v.1 o.1).0 (rest_some vs xs (omega (arith, full, iterates.counted)) i o.0 from below o.1)
+
+-- an iterator over the vectors of these slots, behind the sentinel; it yields the entries of the map
+pub record Starts {V : Type 0} (c : Content V) (vs : List ℕ) (xs : List (Option V)) (n : ℕ) : Type 0 where
+  pub some : 1 ≤ length vs
+  pub iterates : IsIter vs xs 1 n
+  pub yields : pairs_left 1 vs xs ≡ map.entries c.live
+  pub odd : n + 1 ≡ length vs → AllOdd vs 1 (length vs)
+
+pub iter_from : {V : Type 0} {slots : List (Slot V)} {c : Content V} → AreSlotsOf slots c → (vs : List ℕ) (xs : List (Option V))
+    → ((ls : List Use) × (length ls ≡ length vs) × (length xs ≡ length vs) × (zip_slots vs ls xs ≡ slots)) → (n : ℕ) → n ≡ map.len c.live → Starts c vs xs n
+iter_from {V} {slots} {c} shows vs xs parts n all =
+    let head = shows.first_vacant in
+    let free = vacancies slots shows.aside_count shows.live_count in
+    let sound = shows.settled.sound in
+    let zipped : IsSound (zip_slots vs parts.0 xs) head free shows.live_count = subst (λ ss. IsSound ss head free shows.live_count) (sym parts.3) sound in
+    let first = first_even vs parts.0 xs parts.1 parts.2 zipped.each zipped.stacked.sentinel in
+    let held : live (places_of slots) ≡ c.live = ap (λ d. d.live) shows.content in
+    let count : shows.live_count ≡ n = sym sound.live_counted ∙ ap map.len held ∙ sym all in
+    let start : IsIter vs xs 0 n = subst (IsIter vs xs 0) count (IsIter-start vs parts.0 xs parts.1 parts.2 head free shows.live_count zipped) in
+    let v = found_within vs 0 first.0 in
+    let on = pass vs xs 0 n start v.0 v.1 (λ odd. omega (arith, odd, first.1, get_or_from_slice_get vs 0 v.0 0 v.1)) in
+    record {
+      some = omega (arith, first.0);
+      iterates = on.0;
+      yields = on.1 ∙ pairs-entries vs parts.0 xs parts.1 parts.2 head free shows.live_count zipped
+          ∙ ap (λ ss. map.entries (live (places_of ss))) parts.3 ∙ ap (λ m. map.entries m) held;
+      odd = rest_odd vs xs n on.0;
+    }
+
+module _ {V : Type 0} where
+  zip_parts : (slots : List (Slot V)) → zip_slots (versions_of slots) (list_map (λ s. s.usage) slots) (list_map (λ s. s.payload) slots) ≡ slots
+  zip_parts [] = refl
+  zip_parts (s ∷ slots) = ap (λ ss. s ∷ ss) (zip_parts slots)
+
+  -- if all slots but the sentinel's are live, their versions are odd
+  pub full_slots : {slots : List (Slot V)} {c : Content V} → AreSlotsOf slots c → map.len c.live + 1 ≡ length (versions_of slots) → AllOdd (versions_of slots) 1 (length (versions_of slots))
+  full_slots {slots} {c} shows full =
+      let versions = length-map slots (λ s. s.version) in
+      (iter_from shows (versions_of slots) (list_map (λ s. s.payload) slots) (
+        list_map (λ s. s.usage) slots,
+        length-map slots (λ s. s.usage) ∙ sym versions,
+        length-map slots (λ s. s.payload) ∙ sym versions,
+        zip_parts slots,
+      ) (map.len c.live) refl).odd full
 
 -- the value at a place that was passed isn't yielded any more
 module _ {V : Type 0} (vs : List ℕ) (xs : List (Option V)) (i : ℕ) (o : Option V) where
@@ -154,7 +206,8 @@ pub next_on : {V : Type 0} {vs : List ℕ} {xs : List (Option V)} {i left : ℕ}
     → {end : ℕ} → IsNextOdd seen i end → end < length seen → Next vs xs i left end
 next_on {V} {vs} {xs} {i} {left} iterates {seen} whole {end} found there =
     let stop : i + (end - i) ≡ end = omega (arith, found.on) in
-    let past = pass_all vs xs left (end - i) i iterates (omega (arith, ap length whole, found.on, found.within)) (λ j v from below at. found.passed j v from (omega (arith, found.on)) (ap (λ vs. slice_get vs j) whole ∙ at)) in
+    let past = pass_all vs xs left (end - i) i iterates (omega (arith, ap length whole, found.on, found.within))
+    (λ j v from below at. found.passed j v from (omega (arith, found.on)) (ap (λ vs. slice_get vs j) whole ∙ at)) in
     let to : IsIter vs xs end left × (pairs_left end vs xs ≡ pairs_left i vs xs) = subst (λ m. IsIter vs xs m left × (pairs_left m vs xs ≡ pairs_left i vs xs)) stop past in
     let version = found_within vs end (omega (arith, there, ap length whole)) in
     let value = found_within xs end (omega (arith, slice_get_within vs end version.0 version.1, iterates.values_length)) in
@@ -168,7 +221,8 @@ pub ends_at : {V : Type 0} {vs : List ℕ} {xs : List (Option V)} {i left : ℕ}
     → {end : ℕ} → end ≡ length seen → (pairs_left i vs xs ≡ []) × IsIter vs xs end left × (pairs_left end vs xs ≡ [])
 ends_at {V} {vs} {xs} {i} {left} iterates {seen} whole within even {end} at =
     let stop : i + (length vs - i) ≡ end = omega (arith, within, at, ap length whole) in
-    let past = pass_all vs xs left (length vs - i) i iterates (omega (arith, within, ap length whole)) (λ j v from below read. even j v from (omega (arith, within, ap length whole)) (ap (λ vs. slice_get vs j) whole ∙ read)) in
+    let past = pass_all vs xs left (length vs - i) i iterates (omega (arith, within, ap length whole))
+    (λ j v from below read. even j v from (omega (arith, within, ap length whole)) (ap (λ vs. slice_get vs j) whole ∙ read)) in
     let to : IsIter vs xs end left × (pairs_left end vs xs ≡ pairs_left i vs xs) = subst (λ m. IsIter vs xs m left × (pairs_left m vs xs ≡ pairs_left i vs xs)) stop past in
     let none : pairs_left end vs xs ≡ [] = ap (λ vs. pairs_from end vs (drop end xs)) (drop_all end vs (omega (arith, at, ap length whole))) in
     (sym to.1 ∙ none, to.0, none)

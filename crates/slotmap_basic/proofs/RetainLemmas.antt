@@ -1,10 +1,15 @@
 -- What the calls of a closure did so far to a map, by ascending index.
 use Rattle.std.specs.FinMap as map
-use Rattle.std.proofs.Common.{◌≡◌, ◌+◌, ◌<◌, ◌≤◌, ◌∷◌, ◌++◌, ℕ, Bool, true, false, cond, inl, List, [], Some, is_some, refl, ap, subst, ◌∙◌, arith}
+use Rattle.std.proofs.Common.{◌≡◌, ◌+◌, ◌<◌, ◌≤◌, ◌∷◌, ◌++◌, ℕ, Bool, true, false, cond, inl, List, [], Some, is_some, refl, sym, ap, subst, ◌∙◌, arith}
+use Rattle.slotmap_core.proofs.Contents.IndexLemmas.{from_index-jump}
 use Rattle.slotmap_core.specs.Words.{MutBor}
 use Rattle.slotmap_core.proofs.Common.{Mut, Takes, FoldsTo, Key, Content, IsContent, IsLive, Visit, CallsAt, CallableOnEach, RetainsBy, Removes, with_value}
-use Rattle.slotmap_core.proofs.Common.{FoldsTo-push, from_index, same_live, Swept, Swept-start, Swept-on, Swept-next, Swept-removed, IsNextLive, remove-insert}
+use Rattle.slotmap_core.proofs.Common.{FoldsTo-push, from_index, from_index-start, NoneBelow, key_cmp, same_live, Swept, Swept-start, Swept-on, Swept-next, Swept-removed, IsNextLive, remove-insert}
 use Rattle.slotmap_core.proofs.Common.{Keyed-from_start, Keyed-next, Keyed-same, Keyed-may_come, Keyed-done, Visits, Visits-listed, Visits-stay}
+
+-- if no key is below an index, the part from it on is the map
+pub from_index-all : {V : Type 0} (i : ℕ) (m : map.FinMap key_cmp V) → NoneBelow m i → from_index i m ≡ m
+from_index-all i m none = from_index-jump 0 i m (omega arith) (λ q there from. none q there) ∙ from_index-start m
 
 module _ {F K V : Type 0} (g : Mut F (K × (MutBor V × Unit {0})) (Bool × (MutBor V × Unit {0}))) (data_of : K → Key) (old : Content V) (first : F) where
   -- the calls for the keys below this index took the map to `now`, and the closure to f
@@ -14,8 +19,13 @@ module _ {F K V : Type 0} (g : Mut F (K × (MutBor V × Unit {0})) (Bool × (Mut
     pub calls : FoldsTo (CallsAt g) first visits f
     pub visited : Visits data_of old.live visits (from_index i old.live) now.live
 
-  pub Going-start : IsContent true old → (i : ℕ) → i ≤ 0 → Going old i first
-  Going-start well i at = subst (λ j. Going old j first) (omega arith) (record { swept = Swept-start old 0 well; visits = []; calls = refl; visited = Keyed-from_start data_of old.live })
+  pub Going-start : IsContent true old → (i : ℕ) → NoneBelow old.live i → Going old i first
+  Going-start well i none = record {
+    swept = Swept-start old i well;
+    visits = [];
+    calls = refl;
+    visited = subst (λ rest. Visits data_of old.live [] rest old.live) (from_index-start old.live ∙ sym (from_index-all i old.live none)) (Keyed-from_start data_of old.live);
+  }
 
   module _ {now : Content V} {i : ℕ} {f : F} (going : Going now i f) where
     -- the closure may be called for a key from the index on

@@ -6,7 +6,7 @@ ghost use Rattle.slotmap_slots.specs.declared.layout.Use.{Use as UseOf};
 
 use slotmap_core::limits::NULL_INDEX;
 use slotmap_core::sure::{sure, sure_mut};
-use slotmap_slots::layout::{CopyLayout, Layout, Use, number_for, use_for};
+use slotmap_slots::layout::{CopyLayout, Layout, Use, marks_detached, number_for};
 use std::alloc::{AllocError, Global};
 use std::marker::Model;
 
@@ -130,7 +130,7 @@ impl<P> Columns<P> {
         ensures none { IfNone result (AllEven (versions_of self.now.slots) cursor.old.index (length (versions_of self.now.slots))) }
         ensures ahead { IsAhead (versions_of self.now.slots) cursor.new.run_end cursor.new.end cursor.new.index cursor.new.bits }
     {
-        cursor.next(&self.versions)
+        cursor.step(&self.versions)
     }
 }
 
@@ -174,16 +174,12 @@ impl<P> Layout<P> for Columns<P> {
         Ok(())
     }
 
-    fn find_version(&self, index: usize) -> Option<u32> {
-        Some(*self.versions.get(index)?)
-    }
-
     fn version(&self, index: usize) -> u32 {
         self.versions[index]
     }
 
-    fn usage(&self, index: usize) -> Use {
-        use_for(self.versions[index], self.numbers[index])
+    fn is_detached(&self, index: usize) -> bool {
+        marks_detached(self.numbers[index])
     }
 
     fn next_free(&self, index: usize) -> u32 {

@@ -3,7 +3,8 @@
 ghost use Rattle.slotmap_core.specs.Words.{true, IsLive, Removes, Leaves, FreesByIndex, RetainsBy, CallableOnEach, StaysValid};
 
 use crate::SlotMap;
-use slotmap_core::keys::Key;
+use slotmap_core::keys::{Key, KeyData};
+use slotmap_slots::layout::Layout;
 
 impl<K: Key, V: Drop> SlotMap<K, V> {
     /// Calls a closure once for each live key, and removes the keys for which it returns `false`.
@@ -36,13 +37,16 @@ impl<K: Key, V: Drop> SlotMap<K, V> {
         }
     }
 
-    // Removes a live key, and drops its value. Not inlined, so that the loop of `retain` is small.
+    // Removes a live key, and drops its value. Not inlined, so that the loop of `retain` is small. It
+    // reads the version again: unless the closure looks at the key, the loop reads none.
     #[inline(never)]
     fn reject(&mut self, key: K)
         requires { IsLive self.old (K.data_of key) }
         ensures removes { Removes self.old (K.data_of key) self.new }
         ensures valid { StaysValid true self.old self.new }
     {
-        self.take_live(key);
+        let index = key.data().idx();
+        let version = self.slots.layout().version(index as usize);
+        self.slots.take(KeyData::exact(index, version));
     }
 }

@@ -8,22 +8,21 @@ ghost use Rattle.slotmap_basic.specs.Ahead.{KnowsLiveKeys};
 use crate::SlotMap;
 use crate::columns::OddCursor;
 use slotmap_core::keys::{Key, KeyData};
+use slotmap_core::limits::NULL_INDEX;
+use slotmap_core::sure::rule_out;
 use slotmap_slots::layout::Layout;
 
 impl<K: Key, V: Drop> SlotMap<K, V> {
     // Returns where a loop over the live keys from an index on begins.
     pub(crate) fn cursor_from(&self, start: usize) -> OddCursor
         ensures cursor { KnowsLiveKeys self.now result }
-        ensures on { result.index ≤ start }
+        ensures on { (k : KeyOf) → IsLive self.now k → start ≤ k.index → result.index ≤ k.index }
         ensures from { (k : KeyOf) → IsLive self.now k → result.index ≤ k.index → start ≤ k.index }
         ensures valid { IsContent true self.now }
     {
-        let columns = self.slots.layout();
-        if start == 0 {
-            OddCursor::of_all()
-        } else {
-            OddCursor::from(start.min(columns.len()))
-        }
+        // Not the number of versions: the compiler would keep that, and read it again at each step.
+        let (_, payloads) = self.slots.layout().as_slices();
+        OddCursor::of_slots(start, payloads.len(), self.slots.len())
     }
 
     // Returns the next live key of a loop, by ascending index. A removal of a key that was returned
@@ -42,6 +41,8 @@ impl<K: Key, V: Drop> SlotMap<K, V> {
     {
         let columns = self.slots.layout();
         let index = columns.next_odd(cursor)?;
+        // So no step cuts the index to 32 bits.
+        rule_out(index > NULL_INDEX);
         let version = columns.version(index);
         Some(K::from(KeyData::exact(index as u32, version)))
     }

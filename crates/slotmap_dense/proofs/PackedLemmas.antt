@@ -1,7 +1,8 @@
 -- Appending a pair, closing a gap and writing a value keep the pairs in step with the positions; and what they do to the
 -- live keys.
 use Rattle.std.specs.FinMap as map
-use Rattle.std.proofs.Common.{◌≡◌, ◌+◌, ◌-◌, ◌<◌, ◌≤◌, ◌⊎◌, ◌∷◌, ◌++◌, swap_remove, zip, ℕ, nat_le, cond, inl, inr, List, [], length, set, drop, slice_get, sym}
+use Rattle.std.proofs.Common.{◌≡◌, ◌+◌, ◌-◌, ◌<◌, ◌≤◌, ◌⊎◌, ◌∷◌, ◌++◌}
+use Rattle.std.proofs.Common.{swap_remove, zip, ℕ, nat_le, cond, inl, inr, List, [], length, set, drop, slice_get, sym}
 use Rattle.slotmap_core.proofs.Common.{find, Key, key_cmp, IsListing, Option, Some, None, is_some, refl, ap, ◌∙◌, arith, cases_lt, nat_tests, gets}
 use Rattle.slotmap_core.proofs.Common.{slice_get_cases, slice_get_within, same_Some, length_push, length-drop, get_or-drop, length-zip, keys_total, exact_keys}
 use Rattle.slotmap_core.proofs.Common.{tied, itself, get_after_insert, get_after_remove, get_left, get_removed, len_inserted, len_removed, same_at}

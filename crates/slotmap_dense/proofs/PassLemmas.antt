@@ -148,7 +148,8 @@ module _ {F K V : Type 0} (g : Mut F (K × (MutBor V × Unit {0})) (Bool × (Mut
           (SoFar-kept data_of old s.held going.visits s.position going.so_far x calls.shows.0.stands written stays refl refl))
 
       -- the pair is removed, and the last one moves to its position
-      pub Going-dropped : x.stays ≡ false → t.position ≡ s.position → (new : Dense V) → LeavesFrom t.held t.position k new → IsDense new → new.content.capacity ≡ t.held.content.capacity
+      pub Going-dropped : x.stays ≡ false → t.position ≡ s.position → (new : Dense V)
+          → LeavesFrom t.held t.position k new → IsDense new → new.content.capacity ≡ t.held.content.capacity
           → Going (stage t.position new t.closure)
       Going-dropped stays here new leaves_from well capacity =
           let gone : LeavesFrom written s.position k new = rw (calls.written, here) at leaves_from in

@@ -30,7 +30,13 @@ module _ {V : Type 0} (slots : Content ℕ) (keys : List Key) (values : List V) 
       record {
         all = omega (arith, length-map list (with_packed_value values), writes.all, same.all);
         first = at_index 0 (empty_slot 0) writes.first;
-        live = λ k v got. grind (arith, get-packed slots.live keys sound.packed values k, position_cases slots.live keys sound.packed k, writes.live k, slice_get-map (with_packed_value values) list k.index);
+        live = λ k v got. grind (
+          arith,
+          get-packed slots.live keys sound.packed values k,
+          position_cases slots.live keys sound.packed k,
+          writes.live k,
+          slice_get-map (with_packed_value values) list k.index,
+        );
         vacant = λ i next got. at_index i (empty_slot _) (writes.vacant i next got);
         detached = λ k is. at_index k.index (empty_slot _) (writes.detached k is);
         retired = λ k is. at_index k.index (empty_slot _) (writes.retired k is);

@@ -81,7 +81,8 @@ module _ {V : Type 0} where
   put_beside-absent (q ∷ ks) (w ∷ vs) k v absent = grind (arith, absent 0, tied keys_total exact_keys q k, put_beside-absent ks vs k v (λ j there. absent (suc j) there))
 
   -- a value is put beside a key that is in the list once
-  pub put_beside-at : (ks : List Key) (vs : List V) (i : ℕ) (k : Key) (v : V) → ((j : ℕ) → slice_get ks j ≡ Some k → j ≡ i) → slice_get ks i ≡ Some k → put_beside ks vs k v ≡ set vs i v
+  pub put_beside-at : (ks : List Key) (vs : List V) (i : ℕ) (k : Key) (v : V) → ((j : ℕ) → slice_get ks j ≡ Some k → j ≡ i)
+      → slice_get ks i ≡ Some k → put_beside ks vs k v ≡ set vs i v
   put_beside-at [] vs i k v alone at_k = absurd (cc)
   put_beside-at (q ∷ ks) [] i k v alone at_k = refl
   put_beside-at (q ∷ ks) (w ∷ vs) zero k v alone at_k =

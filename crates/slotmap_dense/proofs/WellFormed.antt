@@ -23,7 +23,8 @@ module _ {V : Type 0} (slots : Content ℕ) (keys : List Key) (values : List V) 
   }
 
   -- another value is written at the position of a live key
-  pub dense-written : (spare : ℕ) (k : Key) (i : ℕ) (v : V) → map.get slots.live k ≡ Some i → dense_of slots keys (set values i v) spare ≡ with_value_of (dense_of slots keys values spare) k v
+  pub dense-written : (spare : ℕ) (k : Key) (i : ℕ) (v : V) → map.get slots.live k ≡ Some i
+      → dense_of slots keys (set values i v) spare ≡ with_value_of (dense_of slots keys values spare) k v
   dense-written spare k i v at = grind (arith, live-written, put-there)
 
 -- an empty map

@@ -1,6 +1,6 @@
 //! Inserts: new keys.
 
-ghost use Rattle.std.specs.Prelude.{◌≡◌, ◌<◌, IfOk, IfErr, IsOk, IsErr, Ok};
+ghost use Rattle.std.specs.Prelude.{◌≡◌, ◌<◌, IfOk, IfErr, IsOk, IsErr, IsTrue, Ok};
 ghost use Rattle.slotmap_core.specs.Words.{used, most, Inserts, Refuses, RefusesInsert, RefusesWith};
 ghost use Rattle.slotmap_dense.specs.Dense.{Appends};
 ghost use Rattle.slotmap_dense.specs.Call.{StaysDense, GrowsDense, MakesDenseRoom};
@@ -32,6 +32,17 @@ impl<K: Key, V: Drop> DenseSlotMap<K, V> {
         }
     }
 
+    // Returns whether there is room for one more key. The slots come last, so that an insert looks for
+    // a vacant one once.
+    #[inline(always)]
+    fn has_room(&self) -> bool
+        ensures { IsTrue result → 0 < self.now.content.room }
+    {
+        self.keys.len() < self.keys.capacity()
+            && self.values.len() < self.values.capacity()
+            && self.slots.has_room()
+    }
+
     // Binds the next key to a value.
     #[inline(always)]
     fn append(&mut self, value: V) -> K
@@ -45,6 +56,18 @@ impl<K: Key, V: Drop> DenseSlotMap<K, V> {
         self.keys.push_reserved(key);
         self.values.push_reserved(value);
         key
+    }
+
+    // The same after the vectors have grown. Not inlined, so that `insert` has no way back from there.
+    #[cold]
+    #[inline(never)]
+    fn append_apart(&mut self, value: V) -> K
+        requires { 0 < self.old.content.room }
+        ensures inserts { Inserts self.old.content (K.data_of result) value self.new.content }
+        ensures order { Appends self.old (K.data_of result) value self.new }
+        ensures valid { StaysDense self.old self.new }
+    {
+        self.append(value)
     }
 
     /// Inserts a value and returns its new key.
@@ -72,12 +95,14 @@ impl<K: Key, V: Drop> DenseSlotMap<K, V> {
 
         ensures valid { GrowsDense self.old (IsErr result) self.new }
     {
-        match self.reserve(1) {
-            Ok(()) => {}
-            Err(ReserveError::TooGreat) => return Err(InsertError::Full(value)),
-            Err(ReserveError::Memory) => return Err(InsertError::Memory(value)),
+        if self.has_room() {
+            return Ok(self.append(value));
         }
-        Ok(self.append(value))
+        match self.reserve(1) {
+            Ok(()) => Ok(self.append_apart(value)),
+            Err(ReserveError::TooGreat) => Err(InsertError::Full(value)),
+            Err(ReserveError::Memory) => Err(InsertError::Memory(value)),
+        }
     }
 
     /// Inserts the value that a closure returns for the new key, and returns the key.

@@ -24,7 +24,8 @@ pub(crate) fn close_gap<K: Key, V: Drop>(
     requires gapped { IsGapped slots.old.live (list_map K.data_of keys.old.items) position }
     requires same_length { length values.old.items ≡ length (list_map K.data_of keys.old.items) }
     ensures value { slice_get values.old.items position ≡ Some result }
-    ensures keys { (k : KeyOf) → slice_get (list_map K.data_of keys.old.items) position ≡ Some k → list_map K.data_of keys.new.items ≡ swap_remove (list_map K.data_of keys.old.items) position k }
+    ensures keys { (k : KeyOf) → slice_get (list_map K.data_of keys.old.items) position ≡ Some k →
+        list_map K.data_of keys.new.items ≡ swap_remove (list_map K.data_of keys.old.items) position k }
     ensures values { values.new.items ≡ swap_remove values.old.items position result }
     ensures packed { IsPacked slots.new.live (list_map K.data_of keys.new.items) }
     ensures rest { slots.new ≡ record slots.old { live = slots.new.live } }

@@ -5,7 +5,7 @@ ghost use Rattle.slotmap_slots.specs.Slot.{FitsEmpty, empty};
 ghost use Rattle.slotmap_dense.specs.Rows.{slot_of_row};
 
 use slotmap_core::limits::NULL_INDEX;
-use slotmap_slots::layout::{CopyLayout, Layout, Use, number_for, use_for};
+use slotmap_slots::layout::{CopyLayout, Layout, Use, marks_detached, number_for};
 use std::alloc::{AllocError, Global};
 use std::marker::Model;
 
@@ -95,17 +95,12 @@ impl Layout<u32> for Rows {
         Ok(())
     }
 
-    fn find_version(&self, index: usize) -> Option<u32> {
-        Some(self.rows.get(index)?.version)
-    }
-
     fn version(&self, index: usize) -> u32 {
         self.rows[index].version
     }
 
-    fn usage(&self, index: usize) -> Use {
-        let row = &self.rows[index];
-        use_for(row.version, row.number)
+    fn is_detached(&self, index: usize) -> bool {
+        marks_detached(self.rows[index].number)
     }
 
     fn next_free(&self, index: usize) -> u32 {

@@ -17,8 +17,10 @@ module _ {P : Type 0} where
   record_is s slot fits = grind (arith, nat_tests)
 
   -- a loop that writes the records in order, with clones of the payloads, goes on to the next one
-  pub records-next : (is_clone : P → P → Type 0) (slots : List (Slot P)) → ((i : ℕ) (s : Slot P) → slice_get slots i ≡ Some s → IsSlot s) → (i : ℕ) (list : List (SlotRecord P)) (made : SlotRecord P)
-      → AreRecordClones is_clone (take i (records_of (places_of slots))) list → version_at slots i ≡ Some made.version → IsCloneOf is_clone (payload_at slots i) made.value → made.version < 2 ^ 32
+  pub records-next : (is_clone : P → P → Type 0) (slots : List (Slot P)) → ((i : ℕ) (s : Slot P) → slice_get slots i ≡ Some s → IsSlot s)
+      → (i : ℕ) (list : List (SlotRecord P)) (made : SlotRecord P)
+      → AreRecordClones is_clone (take i (records_of (places_of slots))) list → version_at slots i ≡ Some made.version
+      → IsCloneOf is_clone (payload_at slots i) made.value → made.version < 2 ^ 32
       → AreRecordClones is_clone (take (i + 1) (records_of (places_of slots))) (list ++ made ∷ [])
   records-next is_clone slots each i list made all version value fits =
       let records = records_of (places_of slots) in
@@ -77,7 +79,8 @@ module _ {V : Type 0} (records : List (SlotRecord V)) (slots : List (Slot V)) (h
       not_free some (empty 0 Retired) count (grind (arith, nat_tests)) (IsSlot-empty 0 Retired refl (λ e. absurd (cc)) (λ _. refl)) (rw (none, version_zero)) (omega arith)
 
   -- any other becomes a vacant place, the first of the free list
-  pub AreRead-vacant : 0 < length records → made.value ≡ None → made.version ≢ 0 → AreRead (records ++ made ∷ []) (slots ++ empty made.version (Free head) ∷ []) (length slots) (free + 1) count
+  pub AreRead-vacant : 0 < length records → made.value ≡ None → made.version ≢ 0
+      → AreRead (records ++ made ∷ []) (slots ++ empty made.version (Free head) ∷ []) (length slots) (free + 1) count
   AreRead-vacant some none version_not_zero =
       let s = empty made.version (Free head) in
       let even = even_where made consistent none in

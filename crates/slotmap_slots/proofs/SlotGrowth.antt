@@ -2,13 +2,14 @@
 -- For this crate alone.
 use Rattle.std.specs.FinMap as map
 use Rattle.std.specs.FinSet as set
-use Rattle.std.proofs.Common.{◌==◌, ◌≡◌, ◌≢◌, ◌+◌, ◌-◌, ◌^◌, ◌<◌, ◌∷◌, ◌++◌, ◌↔◌, ⊎_elim, true, false, ℕ, List, [], length, set, slice_get, Some, None, refl}
+use Rattle.std.proofs.Common.{◌==◌, ◌≡◌, ◌≢◌, ◌+◌, ◌-◌, ◌^◌, ◌<◌, ◌∷◌, ◌++◌, ◌↔◌}
+use Rattle.std.proofs.Common.{⊎_elim, Bool, IsTrue, true, false, ℕ, List, [], length, set, slice_get, Some, None, refl}
 use Rattle.slotmap_core.proofs.Common.{Key, most, Inserts, Live, Detached as DetachedPlace, Vacant, live, detached, content_of_places, offer, vacant_version}
 use Rattle.slotmap_core.proofs.Common.{used_places, inserted, IsOn, IsVersion, IsStacked, option_map, option_and_then, sym, ap, subst, ◌∙◌, inl, arith, inserts}
 use Rattle.slotmap_core.proofs.Common.{eq-zero-or-pos, length-map, map_push, slice_get_within, same_Some, found_within, mapped, false_of, at_push, key}
-use Rattle.slotmap_core.proofs.Common.{contains-detached, len-live-push, kept_at, IsStacked-filled, IsStacked-pushed, IsStacked-sentinel, live-sentinel}
+use Rattle.slotmap_core.proofs.Common.{contains-detached, len-live-push, eq-eqb, kept_at, IsStacked-filled, IsStacked-pushed, IsStacked-sentinel, live-sentinel}
 use Rattle.slotmap_slots.specs.Slot.{Slot, full, empty, version_at, usage_at, next_at, next_of, version_before, place_of, places_of, free_indices, IsFreeList, IsSlot, IsSound, map_of}
-use Rattle.slotmap_slots.specs.Slot.{Use, Free, Detached}
+use Rattle.slotmap_slots.specs.Slot.{Free, Detached}
 use Rattle.slotmap_slots.proofs.SlotLemmas.{Written, slot_at, is_empty, IsSlot-full, place_at, IsFreeList-push, IsFreeList-set, free_indices-stack, stacked_free, written}
 
 module _ {P : Type 0} where
@@ -114,7 +115,8 @@ module _ {P : Type 0} {slots : List (Slot P)} {head free count : ℕ} {sound : I
       (IsStacked-filled (places_of slots) head t.rest (t.version + 1) w top_stacked top_place)
 
   pub inserts-filled : (w : P) (c : ℕ) → used_places (places_of slots) < most
-      → Inserts (content_of_places (map_of slots head free c)) (offer (places_of slots) (free_indices slots free head)) w (content_of_places (map_of (set slots head (full (t.version + 1) w)) t.next (free - 1) c))
+      → Inserts (content_of_places (map_of slots head free c)) (offer (places_of slots) (free_indices slots free head)) w
+      (content_of_places (map_of (set slots head (full (t.version + 1) w)) t.next (free - 1) c))
   inserts-filled w c below =
       let after = (filled_top w).map_is c ∙ sym (ap (λ vs. inserted (record { places = places_of slots; vacant = vs; capacity = c }) (offer (places_of slots) vs) w) free_indices-top
       ∙ ap (λ p. record { places = set (places_of slots) head (Live (vacant_version p) w); vacant = t.rest; capacity = c }) top_place) in
@@ -140,9 +142,16 @@ module _ {P : Type 0} {slots : List (Slot P)} {head free count : ℕ} (sound : I
   pub detached-past : version_at slots k.index ≡ None → set.contains (detached (places_of slots)) k ≡ false
   detached-past past = false_of _ (λ holds. let found = ap (option_map (λ s. s.version)) (present_detached holds).there in absurd (cc))
 
-  pub detached-read : (u : ℕ) → version_at slots k.index ≡ Some u → usage_at slots k.index ≡ Some Detached → (version_before u == k.version) ≡ set.contains (detached (places_of slots)) k
+  detached-read : (u : ℕ) → version_at slots k.index ≡ Some u → usage_at slots k.index ≡ Some Detached → (version_before u == k.version) ≡ set.contains (detached (places_of slots)) k
   detached-read u found linked =
       grind (arith, contains-detached (places_of slots) k, place_at slots k.index (slot_at slots k.index u found).0 (slot_at slots k.index u found).1, slot_at slots k.index u found)
 
-  pub detached-other : (l : Use) → usage_at slots k.index ≡ Some l → l ≢ Detached → set.contains (detached (places_of slots)) k ≡ false
-  detached-other l linked other = false_of _ (λ holds. other (same_Some _ _ (sym linked ∙ ap (option_map (λ s. s.usage)) (present_detached holds).there)))
+  pub detached-stale : (u : ℕ) → version_at slots k.index ≡ Some u → version_before u ≢ k.version → set.contains (detached (places_of slots)) k ≡ false
+  detached-stale u found other = false_of _ (λ holds.
+      let there = present_detached holds in
+      other (ap version_before (same_Some _ _ (sym found ∙ ap (option_map (λ s. s.version)) there.there)) ∙ there.before))
+
+  pub detached-at : (u : ℕ) → version_at slots k.index ≡ Some u → version_before u ≡ k.version
+      → (r : Bool) → IsTrue r ↔ usage_at slots k.index ≡ Some Detached → r ≡ set.contains (detached (places_of slots)) k
+  detached-at u found before true is = sym (eq-eqb _ _ before) ∙ detached-read u found (is.0 refl)
+  detached-at u found before false is = sym (false_of _ (λ holds. let same = is.1 (ap (option_map (λ s. s.usage)) (present_detached holds).there) in absurd (cc)))

@@ -1,7 +1,8 @@
 -- How each change of one slot keeps the slots sound, and what the places become.
 -- For this crate and for the layouts of the maps.
 use Rattle.std.specs.FinMap as map
-use Rattle.std.proofs.Common.{◌==◌, ◌≡◌, ◌≢◌, ◌+◌, ◌-◌, ◌^◌, ◌<◌, ◌≤◌, ◌%◌, ◌∷◌, ◌++◌, ⊎_elim, true, false, cond, is_some, eqb-true, eq-eqb, ℕ, zero, suc, List}
+use Rattle.std.proofs.Common.{◌==◌, ◌≡◌, ◌≢◌, ◌+◌, ◌-◌, ◌^◌, ◌<◌, ◌≤◌, ◌%◌, ◌∷◌, ◌++◌}
+use Rattle.std.proofs.Common.{⊎_elim, true, false, cond, is_some, eqb-true, eq-eqb, ℕ, zero, suc, List}
 use Rattle.slotmap_core.specs.Words.{removed}
 use Rattle.slotmap_core.proofs.Common.{Key, IsKey, last_version, IsContent, with_value, Removes, Detaches, Reattaches, Live, Detached as DetachedPlace, Vacant}
 use Rattle.slotmap_core.proofs.Common.{Retired as RetiredPlace, live, live_entry, content_of_places, used_places, IsOn, IsVersion, HasVersion, IsStacked, []}
@@ -32,7 +33,8 @@ module _ {P : Type 0} where
   IsSlot-full v x odd = record { odd = (λ _. odd, λ _. refl); in_use = (λ _. refl, λ _. refl); version_zero = λ is. absurd (cc) }
 
   pub IsSlot-empty : (v : ℕ) (l : Use) → v % 2 ≡ 0 → l ≢ InUse → (l ≡ Retired → v ≡ 0) → IsSlot {P = P} (empty v l)
-  IsSlot-empty v l even other version_zero = record { odd = (λ some. absurd (cc), λ odd. absurd (omega arith)); in_use = (λ some. absurd (cc), λ is. absurd (other is)); version_zero = version_zero }
+  IsSlot-empty v l even other version_zero =
+      record { odd = (λ some. absurd (cc), λ odd. absurd (omega arith)); in_use = (λ some. absurd (cc), λ is. absurd (other is)); version_zero = version_zero }
 
   -- the free list starts with the index of a slot
   pub head_within : (slots : List (Slot P)) (is : List ℕ) (head : ℕ) → 0 < length slots → IsFreeList slots is head → head < length slots
@@ -68,7 +70,8 @@ module _ {P : Type 0} where
   -- iterating over a free list yields its indices
   free_indices-is : (slots : List (Slot P)) (is : List ℕ) (head : ℕ) → IsFreeList slots is head → free_indices slots (length is) head ≡ is
   free_indices-is slots [] head linked = refl
-  free_indices-is slots (j ∷ js) head linked = rw linked.0 (ap (λ ks. j ∷ ks) (ap (λ l. free_indices slots (length js) (next_named l)) linked.1.1 ∙ free_indices-is slots js linked.1.0 linked.1.2))
+  free_indices-is slots (j ∷ js) head linked =
+      rw linked.0 (ap (λ ks. j ∷ ks) (ap (λ l. free_indices slots (length js) (next_named l)) linked.1.1 ∙ free_indices-is slots js linked.1.0 linked.1.2))
 
 -- the slots are sound once another one is written at an index, and the map has another place and this stack
 pub record Written {P : Type 0} (slots : List (Slot P)) (i : ℕ) (t : Slot P) (vacant : List ℕ) (head free count : ℕ) : Type 0 where
@@ -157,7 +160,11 @@ module _ {P : Type 0} {slots : List (Slot P)} {head free count : ℕ} (sound : I
           ap (λ ps. map.len (live ps)) (map-set place_of slots i t) ∙ number _ (rw sound.live_counted at (len-live-set (places_of slots) i (place_of s) (place_of t) (place_at slots i s at)));
       stacked = rw (map-set place_of slots i t) stacked;
     };
-    map_is = λ c j. record { places = map-set place_of slots i t j; vacant = (ap (λ n. free_indices (set slots i t) n head2) (sym counted) ∙ free_indices-is (set slots i t) is head2 linked) j; capacity = c };
+    map_is = λ c j. record {
+      places = map-set place_of slots i t j;
+      vacant = (ap (λ n. free_indices (set slots i t) n head2) (sym counted) ∙ free_indices-is (set slots i t) is head2 linked) j;
+      capacity = c;
+    };
   }
 
   module _ (i : ℕ) (s : Slot P) (at : slice_get slots i ≡ Some s) (was : (n : ℕ) → place_of s ≢ Vacant n) where
@@ -204,9 +211,11 @@ module _ {P : Type 0} {slots : List (Slot P)} {head free count : ℕ} (sound : I
 
     -- or it is retired
     pub retired : nat_eq v last_version ≡ true → Written slots i (empty 0 Retired) (free_indices slots free head) head free (count - 1)
-    retired last = kept i (full v x) at (λ n e. absurd (cc)) (empty 0 Retired) (count - 1) (IsSlot-empty 0 Retired refl (λ e. absurd (cc)) (λ _. refl)) (λ n e. absurd (cc)) tt (λ n is. omega arith)
+    retired last = kept i (full v x) at (λ n e. absurd (cc)) (empty 0 Retired) (count - 1)
+        (IsSlot-empty 0 Retired refl (λ e. absurd (cc)) (λ _. refl)) (λ n e. absurd (cc)) tt (λ n is. omega arith)
 
-    pub removes-retired : (last : nat_eq v last_version ≡ true) (c : ℕ) → Removes (content_of_places (map_of slots head free c)) (key i v) (content_of_places (map_of (set slots i (empty 0 Retired)) head free c))
+    pub removes-retired : (last : nat_eq v last_version ≡ true) (c : ℕ)
+        → Removes (content_of_places (map_of slots head free c)) (key i v) (content_of_places (map_of (set slots i (empty 0 Retired)) head free c))
     removes-retired last c =
         let after : map_of (set slots i (empty 0 Retired)) head free c ≡ removed (map_of slots head free c) (key i v) = (retired last).map_is c ∙ rw last in
         subst (λ n. Removes (content_of_places (map_of slots head free c)) (key i v) (content_of_places n)) (sym after) (removes (map_of slots head free c) stacked_free (key i v) x found_live)
@@ -254,4 +263,5 @@ module _ {P : Type 0} {slots : List (Slot P)} {head free count : ℕ} (sound : I
 
     pub reattaches-slots : (w : P) (c : ℕ) → Reattaches (content_of_places (map_of slots head free c)) (key i v) w (content_of_places (map_of (set slots i (full v w)) head free c))
     reattaches-slots w c =
-        subst (λ n. Reattaches (content_of_places (map_of slots head free c)) (key i v) w (content_of_places n)) (sym ((reattached w).map_is c)) (reattaches (map_of slots head free c) stacked_free (key i v) w here_kept)
+        subst (λ n. Reattaches (content_of_places (map_of slots head free c)) (key i v) w (content_of_places n)) (sym ((reattached w).map_is c))
+        (reattaches (map_of slots head free c) stacked_free (key i v) w here_kept)

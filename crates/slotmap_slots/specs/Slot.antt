@@ -1,6 +1,7 @@
 -- The slots of a map: what code keeps at each index. No public clause of a map cites this module.
 use Rattle.std.specs.FinMap as map
-use Rattle.std.specs.Prelude.{◌≡◌, ◌≢◌, ◌↔◌, ◌+◌, ◌-◌, ◌%◌, ◌^◌, ◌<◌, ◌≤◌, ◌∷◌, ℕ, zero, suc, List, [], length, map as list_map, Option, Some, None, IsSome}
+use Rattle.std.specs.Prelude.{◌≡◌, ◌≢◌, ◌↔◌, ◌+◌, ◌-◌, ◌%◌, ◌^◌, ◌<◌, ◌≤◌, ◌∷◌}
+use Rattle.std.specs.Prelude.{ℕ, zero, suc, List, [], length, map as list_map, Option, Some, None, IsSome}
 use Rattle.slotmap_core.specs.Words.{option_map, option_and_then, slice_get, AllZip, IsCloneOf, Place, Live, Detached as DetachedPlace, Vacant}
 use Rattle.slotmap_core.specs.Words.{Retired as RetiredPlace, live, StackMap, IsStacked, Content, content_of_places}
 pub use Rattle.slotmap_slots.specs.declared.layout.Use.{Use}

@@ -1,15 +1,15 @@
 //! How the slots of a map lie in memory.
 
-ghost use Rattle.std.specs.Prelude.{◌≡◌, ◌+◌, ◌<◌, ◌≤◌, ◌%◌, ◌^◌, ◌++◌, ◌∷◌, [], ℕ, List, length, Some, None, Option, IsSome, IfOk, OnOk, IfSome, IfNone};
+ghost use Rattle.std.specs.Prelude.{◌≡◌, ◌+◌, ◌<◌, ◌≤◌, ◌%◌, ◌^◌, ◌++◌, ◌∷◌, ◌↔◌, [], ℕ, List, length, Some, None, Option, IsSome, IsTrue, IfOk, OnOk};
 ghost use Rattle.slotmap_core.specs.Words.{slice_get, slice_set, sem};
-ghost use Rattle.slotmap_slots.specs.Slot.{Slot, FitsEmpty, full, empty, version_at, usage_at, next_at, payload_at, with_payload, AreSlotClones};
+ghost use Rattle.slotmap_slots.specs.Slot.{Slot, Detached, FitsEmpty, full, empty, version_at, usage_at, next_at, payload_at, with_payload, AreSlotClones};
 ghost use Rattle.slotmap_slots.specs.LayoutLends.{lends_payload};
 
 use std::alloc::{AllocError, Global};
 
 mod numbers;
 
-pub use numbers::{number_for, use_for};
+pub use numbers::{marks_detached, number_for};
 
 /// What a slot is used for.
 #[derive(Clone, Copy)]
@@ -63,19 +63,16 @@ pub trait Layout<P>: Sized {
         ensures grows { fits self.old ≤ fits self.new }
         ensures same { slots self.new ≡ slots self.old };
 
-    /// Returns the version at an index, or `None` past the end.
-    fn find_version(&self, index: usize) -> Option<u32>
-        ensures { result ≡ version_at (slots self.now) index };
-
     /// Returns the version at an index.
     fn version(&self, index: usize) -> u32
         requires { index < length (slots self.now) }
         ensures { version_at (slots self.now) index ≡ Some result };
 
-    /// Returns what the slot at an index is used for.
-    fn usage(&self, index: usize) -> Use
-        requires { index < length (slots self.now) }
-        ensures { usage_at (slots self.now) index ≡ Some result };
+    /// Returns whether the slot at an index is detached. Its version is even.
+    fn is_detached(&self, index: usize) -> bool
+        requires within { index < length (slots self.now) }
+        requires even { (version : ℕ) → version_at (slots self.now) index ≡ Some version → version % 2 ≡ 0 }
+        ensures { IsTrue result ↔ usage_at (slots self.now) index ≡ Some Detached };
 
     /// Returns the slot that a free one names.
     fn next_free(&self, index: usize) -> u32

@@ -150,9 +150,9 @@ impl<P, L: Layout<P>> Slots<P, L> {
         Ok(())
     }
 
-    // Returns whether the next insert allocates nothing.
+    /// Returns whether the next insert allocates nothing.
     #[inline(always)]
-    fn has_room(&self) -> bool
+    pub fn has_room(&self) -> bool
         ensures room { IsTrue result → 0 < self.now.room }
         ensures valid { IsContent true self.now }
     {

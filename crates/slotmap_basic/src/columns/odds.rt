@@ -1,6 +1,6 @@
 //! The odd versions of a vector of versions, found 64 at a time.
 
-ghost use Rattle.std.specs.Prelude.{◌≡◌, ◌≢◌, ◌+◌, ◌%◌, ◌<◌, ◌≤◌, ℕ, length, get_or, IfSome, IfNone};
+ghost use Rattle.std.specs.Prelude.{◌≡◌, ◌≢◌, ◌+◌, ◌%◌, ◌<◌, ◌≤◌, ℕ, List, length, get_or, max, min, IfSome, IfNone};
 ghost use Rattle.slotmap_core.specs.Words.{bit_at};
 ghost use Rattle.slotmap_basic.specs.Columns.{AllEven, IsNextOdd};
 ghost use Rattle.slotmap_basic.specs.Odds.{AreOdd, AllOdd, IsFound, HasOdds, IsSeen, IsAhead};
@@ -197,7 +197,7 @@ fn at_next(versions: &[u32], cursor: OddCursor) -> Option<OddCursor>
 
 impl OddCursor {
     // Returns the cursor of a loop over the versions from an index on.
-    pub(crate) fn from(index: usize) -> OddCursor
+    fn from(index: usize) -> OddCursor
         ensures index { result.index ≡ index }
         ensures run_end { result.run_end ≡ 0 }
         ensures end { result.end ≡ index }
@@ -211,17 +211,20 @@ impl OddCursor {
         }
     }
 
-    // Returns the cursor of a loop over all slots: the first version, of the sentinel, is even.
-    pub(crate) fn of_all() -> OddCursor
-        ensures index { result.index ≡ 0 }
-        ensures run_end { result.run_end ≡ 0 }
-        ensures end { result.end ≡ 1 }
-        ensures bits { result.bits ≡ 0 }
+    // Returns the cursor of a loop over `len` slots from an index on. It passes over the sentinel's.
+    // If all others are live, their versions are a run, and no step looks at them.
+    pub(crate) fn of_slots(start: usize, len: usize, live_count: usize) -> OddCursor
+        requires { 1 ≤ len }
+        ensures index { result.index ≡ min (max start 1) len }
+        ensures ahead { (versions : List ℕ) → length versions ≡ len → (live_count + 1 ≡ len → AllOdd versions 1 len) →
+            IsAhead versions result.run_end result.end result.index result.bits }
     {
+        let index = start.max(1).min(len);
+        let run_end = if live_count == len - 1 { len } else { index };
         OddCursor {
-            index: 0,
-            run_end: 0,
-            end: 1,
+            index,
+            run_end,
+            end: run_end,
             bits: 0,
         }
     }
@@ -233,7 +236,26 @@ impl OddCursor {
         self.index
     }
 
-    // Returns the next index with an odd version, or `None` if there is none.
+    // Returns the next index with an odd version. If there is none, it returns `None`, and the cursor
+    // stays where it is.
+    #[inline(always)]
+    pub(crate) fn step(&mut self, versions: &[u32]) -> Option<usize>
+        requires { IsAhead versions.now self.old.run_end self.old.end self.old.index self.old.bits }
+        ensures next { IfSome result (IsNextOdd versions.now self.old.index) }
+        ensures on { IfSome result (λ found. self.new.index ≡ found + 1) }
+        ensures none { IfNone result (AllEven versions.now self.old.index (length versions.now)) }
+        ensures ahead { IsAhead versions.now self.new.run_end self.new.end self.new.index self.new.bits }
+    {
+        let found = at_next(versions, *self)?;
+        *self = OddCursor {
+            index: found.index + 1,
+            ..found
+        };
+        Some(found.index)
+    }
+
+    // Returns the next index with an odd version. If there is none, it returns `None`, and the cursor
+    // goes to the end.
     #[inline(always)]
     pub(crate) fn next(&mut self, versions: &[u32]) -> Option<usize>
         requires { IsAhead versions.now self.old.run_end self.old.end self.old.index self.old.bits }
@@ -243,14 +265,10 @@ impl OddCursor {
         ensures end { IfNone result (self.new.index ≡ length versions.now) }
         ensures ahead { IsAhead versions.now self.new.run_end self.new.end self.new.index self.new.bits }
     {
-        let Some(found) = at_next(versions, *self) else {
+        let found = self.step(versions);
+        if found.is_none() {
             *self = OddCursor::from(versions.len());
-            return None;
-        };
-        *self = OddCursor {
-            index: found.index + 1,
-            ..found
-        };
-        Some(found.index)
+        }
+        found
     }
 }

@@ -42,10 +42,11 @@ impl<'a, P> SlotIter<'a, P> {
     {
         let left = slots.len();
         let (versions, payloads) = slots.layout().as_slices();
+        let cursor = OddCursor::of_slots(0, versions.len(), left);
         SlotIter {
             versions,
             payloads,
-            cursor: OddCursor::of_all(),
+            cursor,
             left,
         }
     }
@@ -130,10 +131,11 @@ impl<P> SlotIntoIter<P> {
     {
         let left = slots.len();
         let (versions, payloads) = slots.into_layout().into_parts();
+        let cursor = OddCursor::of_slots(0, versions.len(), left);
         SlotIntoIter {
             versions,
             payloads,
-            cursor: OddCursor::of_all(),
+            cursor,
             left,
         }
     }

@@ -1,9 +1,9 @@
 //! What a slot is used for, as a number beside its version: the next slot of the free list, or a
 //! number set aside.
 
-ghost use Rattle.std.specs.Prelude.{◌≡◌, ◌≢◌};
+ghost use Rattle.std.specs.Prelude.{◌≡◌, ◌≢◌, ◌%◌, ◌↔◌, ℕ, IsTrue};
 ghost use Rattle.slotmap_slots.specs.Numbers.{use_of, number_of};
-ghost use Rattle.slotmap_slots.specs.declared.layout.Use.TheVariants.{InUse};
+ghost use Rattle.slotmap_slots.specs.declared.layout.Use.TheVariants.{InUse, Detached};
 
 use super::Use;
 use slotmap_core::sure::rule_out;
@@ -31,18 +31,10 @@ pub fn number_for(usage: Use) -> u32
     }
 }
 
-/// Returns what a slot with this version and this number is used for.
+/// Returns whether a slot of an even version that has this number is detached.
 #[inline(always)]
-pub fn use_for(version: u32, number: u32) -> Use
-    ensures { result ≡ use_of version number }
+pub fn marks_detached(number: u32) -> bool
+    ensures { (version : ℕ) → version % 2 ≡ 0 → IsTrue result ↔ use_of version number ≡ Detached }
 {
-    if version % 2 == 1 {
-        Use::InUse
-    } else if number == DETACHED {
-        Use::Detached
-    } else if version == 0 && number != 0 {
-        Use::Retired
-    } else {
-        Use::Free(number)
-    }
+    number == DETACHED
 }

@@ -46,13 +46,13 @@ impl<P, L: Layout<P>> Slots<P, L> {
         ensures valid { IsContent true self.now }
     {
         let index = key.idx() as usize;
-        let Some(version) = self.layout.find_version(index) else {
+        if index >= self.layout.len() {
             return false;
-        };
-        match self.layout.usage(index) {
-            Use::Detached => version.wrapping_sub(1) == key.version(),
-            _ => false,
         }
+        if self.layout.version(index) != key.version().wrapping_add(1) {
+            return false;
+        }
+        self.layout.is_detached(index)
     }
 
     /// Binds a detached key to a payload again.

@@ -10,7 +10,7 @@ loop-key-init g c = record {
   stay = λ k below. refl;
   cursor = c.cursor_from-cursor.ensures.cursor;
   from = c.cursor_from-cursor.ensures.from;
-  above = λ none q there. omega (arith, none q there, c.cursor_from-cursor.ensures.on);
+  above = λ none q there. c.cursor_from-cursor.ensures.on q there (none q there);
 }
 
 pub loop-key-preserved : goal.loop-key-preserved

@@ -1,30 +1,31 @@
-use Rattle.slotmap_core.proofs.Common.{inl, arith}
+use Rattle.std.specs.FinMap as map
+use Rattle.std.proofs.Common.{◌≡◌, length, sym, ◌∙◌}
+use Rattle.slotmap_core.proofs.Common.{inl, ap, arith}
 use Rattle.slotmap_slots.specs.Slot.{AreSlotsOf}
-use Rattle.slotmap_basic.proofs.AheadLemmas.{cursor_of_slots, ahead_at_start, ahead_from, valid_of_slots, count_of_slots}
-use Rattle.slotmap_basic.proofs.SlotMap.cursor_from.Goals.{After-layout-columns}
+use Rattle.slotmap_basic.specs.Columns.{versions_of}
+use Rattle.slotmap_basic.proofs.AheadLemmas.{cursor_of_slots, valid_of_slots, count_of_slots, versions-length}
+use Rattle.slotmap_basic.proofs.ColumnLemmas.{zip-length}
+use Rattle.slotmap_basic.proofs.PairsLemmas.{full_slots}
+use Rattle.slotmap_basic.proofs.SlotMap.cursor_from.Goals.{After-of_slots}
 use Rattle.slotmap_basic.proofs.SlotMap.cursor_from.Goals as goal
 
-shows : (g : _) (c : After-layout-columns g) → AreSlotsOf c.layout-columns.result.now.slots c.args.self.now
-shows g c = rw c.self.view_is at c.layout-columns.ensures
+shows : (g : _) (c : After-of_slots g) → AreSlotsOf c.layout.result.now.slots c.args.self.now
+shows g c = rw c.self.view_is at c.layout.ensures
 
-pub returns-then-start-eq0-clause-cursor : goal.returns-then-start-eq0-clause-cursor
-returns-then-start-eq0-clause-cursor g c =
-    let cursor = c.of_all.ensures in
-    cursor_of_slots (shows g (goal.at.returns-then-start-eq0-clause-cursor g c).After-layout-columns) c.of_all.result (rw (cursor.index, cursor.run_end, cursor.end, cursor.bits) (ahead_at_start (shows g (goal.at.returns-then-start-eq0-clause-cursor g c).After-layout-columns)))
+count : (g : _) (c : After-of_slots g) → length c.layout.result.now.slots ≡ length c.as_slices.result.1.now
+count g c =
+    let parts = c.as_slices.ensures in
+    ap length (sym parts.3) ∙ zip-length c.as_slices.result.0.now parts.0 c.as_slices.result.1.now parts.1 parts.2 ∙ sym parts.2
 
-pub returns-else-start-eq0-clause-cursor : goal.returns-else-start-eq0-clause-cursor
-returns-else-start-eq0-clause-cursor g c =
-    let cursor = c.from.ensures in
-    cursor_of_slots (shows g (goal.at.returns-else-start-eq0-clause-cursor g c).After-layout-columns) c.from.result (rw (cursor.index, cursor.run_end, cursor.end, cursor.bits)
-    (ahead_from (shows g (goal.at.returns-else-start-eq0-clause-cursor g c).After-layout-columns) c.min.result (omega (arith, c.min.ensures, c.len.ensures))))
+pub returns-clause-cursor : goal.returns-clause-cursor
+returns-clause-cursor g c =
+    let at = (goal.at.returns-clause-cursor g c).After-of_slots in
+    let slots = c.layout.result.now.slots in
+    let long = versions-length slots ∙ count g at in
+    cursor_of_slots (shows g at) c.of_slots.result (c.of_slots.ensures.ahead (versions_of slots) (omega (arith, long)) (λ full i from below.
+    full_slots (shows g at) (omega (arith, full, long, c.len.ensures.value, ap (λ m. map.len m.live) c.self.view_is)) i from (omega (arith, below, long))))
 
-pub returns-else-start-eq0-clause-from : goal.returns-else-start-eq0-clause-from
-returns-else-start-eq0-clause-from g c = λ k is_live from.
-    let within = (valid_of_slots (shows g (goal.at.returns-else-start-eq0-clause-from g c).After-layout-columns)).within k (inl (inl is_live)) in
-    omega (arith, from, within.1, c.from.ensures.index, c.min.ensures, c.len.ensures, count_of_slots (shows g (goal.at.returns-else-start-eq0-clause-from g c).After-layout-columns))
-
-pub returns-then-start-eq0-clause-valid : goal.returns-then-start-eq0-clause-valid
-returns-then-start-eq0-clause-valid g c = valid_of_slots (shows g (goal.at.returns-then-start-eq0-clause-valid g c).After-layout-columns)
-
-pub returns-else-start-eq0-clause-valid : goal.returns-else-start-eq0-clause-valid
-returns-else-start-eq0-clause-valid g c = valid_of_slots (shows g (goal.at.returns-else-start-eq0-clause-valid g c).After-layout-columns)
+pub returns-clause-from : goal.returns-clause-from
+returns-clause-from g c = λ k is_live from.
+    let of = shows g (goal.at.returns-clause-from g c).After-of_slots in
+    omega (arith, from, (valid_of_slots of).within k (inl (inl is_live)), c.of_slots.ensures.index, count g (goal.at.returns-clause-from g c).After-of_slots, count_of_slots of)

@@ -8,7 +8,7 @@ pub loop-key-init : goal.loop-key-init
 loop-key-init g c = record {
   swept = Swept-start c.args.self.now _ c.len.ensures.valid;
   cursor = c.cursor_from-cursor.ensures.cursor;
-  above = λ q there. omega (arith, c.cursor_from-cursor.ensures.on);
+  above = λ q there. c.cursor_from-cursor.ensures.on q there (omega arith);
   pairs = [];
   pushed = c.reserve.ensures.items ∙ sym (append-nil c.args.out.now.items);
   listed = refl;
@@ -39,7 +39,8 @@ loop-key-preserved g c =
       cursor = cursor_removed at.self c.take_live-value.new.self c.next_live.new.cursor c.next_live.ensures.cursor at.invariant.swept.well key found.0 (omega (arith, c.in-Some.ensures.on)) removes;
       above = rw (c.in-Some.ensures.on, removes.live) (above_next at.self at.invariant.swept.well at.cursor.index key c.in-Some.ensures.first found.0 at.invariant.above);
       pairs = at.invariant.pairs ++ (c.in-Some.key, value) ∷ [];
-      pushed = c.push_reserved.ensures.items ∙ ap (λ xs. xs ++ (c.in-Some.key, value) ∷ []) at.invariant.pushed ∙ append_assoc c.args.out.now.items at.invariant.pairs ((c.in-Some.key, value) ∷ []);
+      pushed = c.push_reserved.ensures.items ∙ ap (λ xs. xs ++ (c.in-Some.key, value) ∷ []) at.invariant.pushed
+          ∙ append_assoc c.args.out.now.items at.invariant.pairs ((c.in-Some.key, value) ∷ []);
       listed = simp (map-append, append_assoc) (at.invariant.listed ∙ ap (λ es. list_map (λ p. (data_of p.0, p.1)) at.invariant.pairs ++ es) next);
       room = omega (arith, at.invariant.room, ap length next, c.push_reserved.ensures.len, c.push_reserved.ensures.capacity);
     }

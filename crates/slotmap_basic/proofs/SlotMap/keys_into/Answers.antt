@@ -1,12 +1,13 @@
 use Rattle.std.specs.FinMap as map
-use Rattle.std.proofs.Common.{◌≡◌, ◌∷◌, ◌++◌, [], length, map as list_map, sym, ap, ◌∙◌, append_assoc, append-nil, arith}
-use Rattle.slotmap_core.proofs.Common.{map-append, some_is, from_index, from_index-start, from_index-end, entries_none, next_entry, common_steps}
+use Rattle.std.proofs.Common.{◌∷◌, ◌++◌, [], length, map as list_map, sym, ap, ◌∙◌, append_assoc, append-nil, arith}
+use Rattle.slotmap_core.proofs.Common.{map-append, some_is, from_index-end, entries_none, next_entry, common_steps}
+use Rattle.slotmap_basic.proofs.RetainLemmas.{from_index-all}
 use Rattle.slotmap_basic.proofs.SlotMap.keys_into.Goals as goal
 
 pub loop-key-init : goal.loop-key-init
 loop-key-init g c =
     let m = c.args.self.now.live in
-    let all : from_index c.cursor_from-cursor.result.index m ≡ m = rw (let first : c.cursor_from-cursor.result.index ≡ 0 = omega (arith, c.cursor_from-cursor.ensures.on) in first) (from_index-start m) in
+    let all = from_index-all c.cursor_from-cursor.result.index m (λ q there. c.cursor_from-cursor.ensures.on q there (omega arith)) in
     record {
       cursor = c.cursor_from-cursor.ensures.cursor;
       keys = [];

@@ -62,4 +62,11 @@ pub version-version-requires : goal.version-version-requires
 version-version-requires g c = omega (arith, c.in_ok-index.ensures.ahead.behind.within, c.in_ok-index.ensures.on, versions-length c.layout-columns.result.now.slots)
 
 pub overflow_cast-index : goal.overflow_cast-index
-overflow_cast-index g c = omega (arith, c.in_ok-index.ensures.ahead.behind.within, c.in_ok-index.ensures.on, versions-length c.layout-columns.result.now.slots, slots_below_limit (shows g (goal.at.overflow_cast-index g c).After-layout-columns))
+overflow_cast-index g c =
+    omega (
+      arith,
+      c.in_ok-index.ensures.ahead.behind.within,
+      c.in_ok-index.ensures.on,
+      versions-length c.layout-columns.result.now.slots,
+      slots_below_limit (shows g (goal.at.overflow_cast-index g c).After-layout-columns),
+    )

@@ -10,7 +10,11 @@ well g c = c.cursor_from-cursor.ensures.valid
 pub loop-key-init : goal.loop-key-init
 loop-key-init g c =
     let start = c.cursor_from-cursor.ensures in
-    record { going = Going-start g.F.FnMut g.K.Key.data_of c.args.self.now c.args.f (well g (goal.at.loop-key-init g c).After-cursor_from-cursor) _ start.on; cursor = start.cursor }
+    record {
+      going = Going-start g.F.FnMut g.K.Key.data_of c.args.self.now c.args.f (well g (goal.at.loop-key-init g c).After-cursor_from-cursor)
+          _ (λ q there. start.on q there (omega arith));
+      cursor = start.cursor;
+    }
 
 pub f-stays-requires : goal.f-stays-requires
 f-stays-requires g c =
@@ -45,7 +49,8 @@ loop-key-preserved g c =
     let found = c.in-Some.ensures in
     let key = g.K.Key.data_of c.in-Some.key in
     record {
-      going = rw found.on (Going-kept g.F.FnMut g.K.Key.data_of c.args.self.now c.args.f at.invariant.going (well g (goal.at.loop-key-preserved g c).After-cursor_from-cursor) _ (CallsAt-called g.F.FnMut c.f-stays.ensures)
+      going = rw found.on (Going-kept g.F.FnMut g.K.Key.data_of c.args.self.now c.args.f at.invariant.going
+          (well g (goal.at.loop-key-preserved g c).After-cursor_from-cursor) _ (CallsAt-called g.F.FnMut c.f-stays.ensures)
           found.live.1 found.first c.get_unchecked_mut.ensures.value c.if-not-stays.false);
       cursor = cursor_written at.self key c.f-stays.new.arg3 c.next_live.new.cursor found.live.0 c.next_live.ensures.cursor;
     }

@@ -15,7 +15,8 @@ find_rejected-requires-clause-callable g c =
     let keys = list_map g.K.Key.data_of m.keys.items in
     let spare = min (vec_capacity m.keys) (vec_capacity m.values) in
     rw (c.as_slice.ensures.value, c.as_mut_slice.ensures.value) (may-lift (beside g.K.Key.data_of keys) (packed_order g.K.Key.data_of) (λ values. dense_of m.slots keys values spare)
-    (λ values. IsSound m.slots keys values) (Lifts-values g.K.Key.data_of m.slots keys spare) g.F.FnMut (stage c.args.from m.values.items c.args.f.now) c.self.invariant (rw (← c.self.view_is) at c.requires.callable))
+    (λ values. IsSound m.slots keys values) (Lifts-values g.K.Key.data_of m.slots keys spare) g.F.FnMut (stage c.args.from m.values.items c.args.f.now)
+    c.self.invariant (rw (← c.self.view_is) at c.requires.callable))
 
 pub returns-clause-passes : goal.returns-clause-passes
 returns-clause-passes g c =

@@ -79,7 +79,8 @@ loop-slot-preserved g c =
             )
             (AreSplit-live at.yielded at.positions.items _ at.values.items before.split slot w.in-Some-value.value w.in-Some-value.is odd w.len-position.result
             (omega (arith, w.len-position.ensures, at.keys.ok.0, length-map at.keys.items g.K.Key.data_of)) (g.K.Key.data_of w.from.result) key_is)
-        | in-None-value w ↦ rw (c.push_reserved.ensures.items, w.keys-is, w.values-is, w.value-is) (AreSplit-none at.yielded at.positions.items _ at.values.items before.split slot w.in-None-value.is)
+        | in-None-value w ↦ rw (c.push_reserved.ensures.items, w.keys-is, w.values-is, w.value-is)
+            (AreSplit-none at.yielded at.positions.items _ at.values.items before.split slot w.in-None-value.is)
       ];
       room = omega (arith, before.room, steps.1, c.push_reserved.ensures.len, c.push_reserved.ensures.capacity);
     }

@@ -38,7 +38,8 @@ returns-clause-writes g c =
     let m = c.self.inside in
     let list = c.in_ok-positions.positions in
     let records = list_map (with_packed_value m.values.items) list.items in
-    let all : take c.loop-index.index records ≡ records = take_all c.loop-index.index records (omega (arith, c.loop-index-test.false, c.len-index-end.ensures, list.ok.0, length-map list.items (with_packed_value m.values.items))) in
+    let all : take c.loop-index.index records ≡ records =
+    take_all c.loop-index.index records (omega (arith, c.loop-index-test.false, c.len-index-end.ensures, list.ok.0, length-map list.items (with_packed_value m.values.items))) in
     let valid = well_formed _ c.self.inside c.self.view_is c.self.invariant in
     let writes = writes-filled m.slots (list_map g.K.Key.data_of m.keys.items) m.values.items c.self.invariant list.items
     (positions_written g (goal.at.returns-clause-writes g c).In_ok-positions) (min (vec_capacity m.keys) (vec_capacity m.values)) in

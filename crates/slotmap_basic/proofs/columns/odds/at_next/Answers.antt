@@ -9,7 +9,8 @@ use Rattle.slotmap_basic.proofs.columns.odds.at_next.Goals as goal
 passed : (c : After-look_ahead-end) → AllEven c.args.versions.now c.args.cursor.index c.args.cursor.end
 passed c = none_left _ _ _ _ (behind_run _ _ _ _ _ c.requires (omega (arith, c.if-cursor.false))) c.if-cursor-ne0.false
 
-chunk : (c : After-look_ahead-end) → c.look_ahead-end.result.1 ≢ 0 → c.look_ahead-end.result.1 ≢ 2 ^ 64 - 1 → HasOdds c.args.versions.now c.look_ahead-end.result.0 c.args.cursor.index c.look_ahead-end.result.1
+chunk : (c : After-look_ahead-end) → c.look_ahead-end.result.1 ≢ 0 → c.look_ahead-end.result.1 ≢ 2 ^ 64 - 1
+    → HasOdds c.args.versions.now c.look_ahead-end.result.0 c.args.cursor.index c.look_ahead-end.result.1
 chunk c some rest =
     let has = behind_run _ _ _ _ _ c.requires (omega (arith, c.if-cursor.false)) in
     odds_refill _ _ _ _ (subst (HasOdds _ _ _) c.if-cursor-ne0.false has) has.upto (omega arith) _ _ (c.look_ahead-end.ensures.chunk some rest)

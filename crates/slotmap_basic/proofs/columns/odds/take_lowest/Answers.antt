@@ -16,5 +16,6 @@ returns c =
     record {
       next = odds_next vs end c.args.cursor.index bits has lane low.bound low.set low.below found is;
       run_end = refl;
-      cursor = odds_step vs end c.args.cursor.index bits has lane low.bound low.set low.below found is c.without_lowest-bits.result c.without_lowest-bits.ensures.gone (λ k l apart. c.without_lowest-bits.ensures.kept k apart);
+      cursor = odds_step vs end c.args.cursor.index bits has lane low.bound low.set low.below found is c.without_lowest-bits.result
+          c.without_lowest-bits.ensures.gone (λ k l apart. c.without_lowest-bits.ensures.kept k apart);
     }

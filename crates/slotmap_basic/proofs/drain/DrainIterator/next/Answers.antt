@@ -1,5 +1,5 @@
 use Rattle.std.specs.FinMap as map
-use Rattle.std.proofs.Common.{◌+◌, ◌∷◌, refl, sym, ap, ◌∙◌, arith}
+use Rattle.std.proofs.Common.{◌∷◌, refl, sym, ap, ◌∙◌, arith}
 use Rattle.slotmap_core.proofs.Common.{NoneBelow, keys_total, exact_keys, len_removed, none_live, Empties-first, first_entry, above_next}
 use Rattle.slotmap_basic.proofs.AheadLemmas.{cursor_removed}
 use Rattle.slotmap_basic.specs.Drain.{DrainCanStep}
@@ -24,7 +24,12 @@ pub returns-in_err-key-clause-steps : goal.returns-in_err-key-clause-steps
 returns-in_err-key-clause-steps g c =
     let now = c.args.self.now.map.now in
     let none = none_live now.live (λ q there. absurd (omega (arith, c.in_err-key.ensures.none q there, c.requires.above q there))) in
-    rw c.from_residual.ensures ((none, refl), (refl, λ end empties. empties), record { above = λ q there. absurd (omega (arith, c.in_err-key.ensures.none q there, c.requires.above q there)); cursor = c.next_live.ensures.cursor }, tt)
+    rw c.from_residual.ensures (
+      (none, refl),
+      (refl, λ end empties. empties),
+      record { above = λ q there. absurd (omega (arith, c.in_err-key.ensures.none q there, c.requires.above q there)); cursor = c.next_live.ensures.cursor },
+      tt,
+    )
 
 pub returns-clause-steps : goal.returns-clause-steps
 returns-clause-steps g c =
@@ -42,7 +47,8 @@ returns-clause-steps g c =
             (λ q there. omega (arith, above q there, c.in_ok-key.ensures.on)) empties,
       ),
       goes_on g c,
-      first_entry now well c.args.self.now.cursor.index key c.in_ok-key.ensures.first c.take_live.result c.requires.above value ∙ ap (λ m. (key, c.take_live.result) ∷ map.entries m) (sym removes.live),
+      first_entry now well c.args.self.now.cursor.index key c.in_ok-key.ensures.first c.take_live.result c.requires.above value
+          ∙ ap (λ m. (key, c.take_live.result) ∷ map.entries m) (sym removes.live),
     )
 
 pub returns-clause-goes : goal.returns-clause-goes

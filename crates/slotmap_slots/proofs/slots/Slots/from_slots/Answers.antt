@@ -13,7 +13,8 @@ accepted g c = subst (λ l. Accepts l list_limit) c.deref.ensures.value (c.in_ok
 
 pub loop-record-init : goal.loop-record-init
 loop-record-init g c =
-    let taken = first_taken c.args.list.items list_limit (accepted g (goal.at.loop-record-init g c).In_ok-check_slots) _ c.next.result c.next.ensures.cases (c.into_iter-records.ensures.len ∙ c.args.list.ok.0) in
+    let taken = first_taken c.args.list.items list_limit (accepted g (goal.at.loop-record-init g c).In_ok-check_slots) _ c.next.result
+    c.next.ensures.cases (c.into_iter-records.ensures.len ∙ c.args.list.ok.0) in
     rw c.into_iter-record-iterator.ensures.into_iter_gives (record {
       first = taken.0;
       all = sym taken.1 ∙ c.into_iter-records.ensures.rest;
@@ -31,8 +32,11 @@ next g c =
     let made = c.in-Some.record in
     let rest = into_iter_items c.next-in-loop-record.new.self in
     let accepts = subst (λ l. Accepts l list_limit) c.deref.ensures.value (c.in_ok-check_slots.ensures.ok.0 refl) in
-    let whole : (at.invariant.first ∷ at.yielded) ++ made ∷ rest ≡ c.args.list.items = ap (λ xs. at.invariant.first ∷ at.yielded ++ xs) (sym c.in-Some.ensures.steps.0) ∙ at.invariant.all in
-    (next_consistent c.args.list.items (at.invariant.first ∷ at.yielded) rest made list_limit accepts whole, ap (λ xs. at.invariant.first ∷ xs) (append_assoc at.yielded (made ∷ []) rest) ∙ whole)
+    let seen = at.invariant.first ∷ at.yielded in
+    let whole : seen ++ made ∷ rest ≡ c.args.list.items = ap (λ xs. seen ++ xs) (sym c.in-Some.ensures.steps.0) ∙ at.invariant.all in (
+      next_consistent c.args.list.items seen rest made list_limit accepts whole,
+      ap (λ xs. at.invariant.first ∷ xs) (append_assoc at.yielded (made ∷ []) rest) ∙ whole,
+    )
 
 pub loop-record-preserved-in-Some-value : goal.loop-record-preserved-in-Some-value
 loop-record-preserved-in-Some-value g c =

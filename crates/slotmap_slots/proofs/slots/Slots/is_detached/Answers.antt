@@ -1,35 +1,37 @@
-use Rattle.std.proofs.Common.{◌==◌, Some, ap, sym, ◌∙◌}
-use Rattle.slotmap_core.proofs.Common.{slice_get_within, none_from}
-use Rattle.slotmap_slots.specs.Slot.{version_at, usage_at, version_before}
-use Rattle.slotmap_slots.proofs.SlotLemmas.{slot_at}
-use Rattle.slotmap_slots.proofs.SlotGrowth.{detached-past, detached-read, detached-other}
+use Rattle.std.proofs.Common.{◌≡◌, ◌≢◌, Some, ap, sym, ◌∙◌, arith}
+use Rattle.std.proofs.lemmas.Option.{slice_get_past}
+use Rattle.slotmap_core.proofs.Common.{option_map}
+use Rattle.slotmap_slots.specs.Slot.{version_at, version_before}
+use Rattle.slotmap_slots.proofs.SlotGrowth.{detached-past, detached-stale, detached-at}
 use Rattle.slotmap_slots.proofs.SettledLemmas.{settled_valid}
+use Rattle.slotmap_slots.proofs.slots.Slots.is_detached.Goals.{After-version-2}
 use Rattle.slotmap_slots.proofs.slots.Slots.is_detached.Goals as goal
 
-pub returns-in_default-clause-value : goal.returns-in_default-clause-value
-returns-in_default-clause-value g c =
-    let past = ap (version_at (g.L.Layout.slots c.self.inside.layout)) (sym c.idx-index.ensures.value) ∙ sym c.find_version.ensures ∙ none_from _ c.in_default.not-Some in
-    rw (← c.self.view_is) (sym (detached-past c.self.invariant.sound c.args.key past))
+pub returns-then-index-len-clause-value : goal.returns-then-index-len-clause-value
+returns-then-index-len-clause-value g c =
+    let past = slice_get_past (g.L.Layout.slots c.self.inside.layout) c.args.key.index (omega (arith, c.if-index-len.true, c.len.ensures, c.idx-index.ensures.value)) in
+    rw (← c.self.view_is) (sym (detached-past c.self.invariant.sound c.args.key (ap (option_map (λ s. s.version)) past)))
 
-pub returns-in_default-clause-valid : goal.returns-in_default-clause-valid
-returns-in_default-clause-valid g c = settled_valid c.self.invariant c.self.view_is
+pub returns-then-index-len-clause-valid : goal.returns-then-index-len-clause-valid
+returns-then-index-len-clause-valid g c = settled_valid c.self.invariant c.self.view_is
 
-pub usage-requires : goal.usage-requires
-usage-requires g c = slice_get_within _ _ _ (slot_at (g.L.Layout.slots c.self.inside.layout) c.idx-index.result c.in-Some.version (sym c.in-Some.ensures)).1
+-- the version that is read lies at the key's index
+found : (g : _) (c : After-version-2 g) → version_at (g.L.Layout.slots c.self.inside.layout) c.args.key.index ≡ Some c.version.result
+found g c = ap (version_at (g.L.Layout.slots c.self.inside.layout)) (sym c.idx-index.ensures.value) ∙ c.version.ensures
 
-pub returns-in-Detached-clause-value : goal.returns-in-Detached-clause-value
-returns-in-Detached-clause-value g c =
-    let read = ap (version_at (g.L.Layout.slots c.self.inside.layout)) (sym c.idx-index.ensures.value) ∙ sym c.in-Some.ensures in
-    let linked = ap (usage_at (g.L.Layout.slots c.self.inside.layout)) (sym c.idx-index.ensures.value) ∙ c.usage.ensures ∙ ap Some c.in-Detached.is in
-    rw (← c.self.view_is) (ap (λ v. version_before c.in-Some.version == v) c.version.ensures.value ∙ detached-read c.self.invariant.sound c.args.key _ read linked)
+pub returns-then-version-clause-value : goal.returns-then-version-clause-value
+returns-then-version-clause-value g c =
+    let other : version_before c.version.result ≢ c.args.key.version = λ same. omega (arith, same, c.if-version.true, c.version-2.ensures.value, c.version.type_inv, c.version-2.type_inv) in
+    rw (← c.self.view_is) (sym (detached-stale c.self.invariant.sound c.args.key _ (found g (goal.at.returns-then-version-clause-value g c).After-version-2) other))
 
-pub returns-in-Detached-clause-valid : goal.returns-in-Detached-clause-valid
-returns-in-Detached-clause-valid g c = settled_valid c.self.invariant c.self.view_is
+pub returns-then-version-clause-valid : goal.returns-then-version-clause-valid
+returns-then-version-clause-valid g c = settled_valid c.self.invariant c.self.view_is
 
-pub returns-in_default-usage : goal.returns-in_default-usage
-returns-in_default-usage g c =
-    let linked = ap (usage_at (g.L.Layout.slots c.self.inside.layout)) (sym c.idx-index.ensures.value) ∙ c.usage.ensures in
-    record {
-      value = rw (← c.self.view_is) (sym (detached-other c.self.invariant.sound c.args.key _ linked c.in_default-usage.not-Detached));
-      valid = settled_valid c.self.invariant c.self.view_is;
-    }
+pub returns-clause-value : goal.returns-clause-value
+returns-clause-value g c =
+    let same : version_before c.version.result ≡ c.args.key.version = omega (arith, c.if-version.false, c.version-2.ensures.value, c.version.type_inv, c.version-2.type_inv) in
+    rw (← c.self.view_is) (detached-at c.self.invariant.sound c.args.key _ (found g (goal.at.returns-clause-value g c).After-version-2) same c.is_detached.result
+    (rw c.idx-index.ensures.value at c.is_detached.ensures))
+
+pub returns-clause-valid : goal.returns-clause-valid
+returns-clause-valid g c = settled_valid c.self.invariant c.self.view_is

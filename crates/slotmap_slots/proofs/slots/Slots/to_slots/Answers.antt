@@ -11,7 +11,8 @@ pub returns-clause-writes : goal.returns-clause-writes
 returns-clause-writes g c =
     let slots = g.L.Layout.slots c.self.inside.layout in
     let all = records-all slots c.loop-index.index (omega (arith, c.loop-index-test.false, c.len-index-end.ensures)) in
-    writes_clones _ true _ (settled_valid c.self.invariant c.self.view_is) _ (rw (← c.self.view_is) (writes-stack _ (stacked_free c.self.invariant.sound))) _ (rw all at c.loop-index.invariant.written)
+    writes_clones _ true _ (settled_valid c.self.invariant c.self.view_is) _ (rw (← c.self.view_is) (writes-stack _ (stacked_free c.self.invariant.sound)))
+    _ (rw all at c.loop-index.invariant.written)
 
 pub returns-clause-contents : goal.returns-clause-contents
 returns-clause-contents g c = clones_contents _ true _ _ (returns-clause-writes g c)
