@@ -33,7 +33,7 @@
 //! ```
 #![tactic(auto, using(slotmap::proofs::Callers::keys))]
 
-ghost use Rattle.std.specs.Prelude.{◌≡◌, ◌≢◌, ◌+◌, ◌<◌, ◌≤◌, ◌↔◌, Some, None, IfOk, IsOk, OnErr, IfErr, IfSome, IfNone, IsTrue, true, false, zip, option_copied, option_map};
+ghost use Rattle.std.specs.Prelude.{◌≡◌, ◌≢◌, ◌+◌, ◌<◌, ◌≤◌, ◌↔◌, Some, None, IfOk, IsOk, OnErr, IfErr, IfSome, OnSome, IfNone, IsTrue, true, false, zip, option_copied, option_map};
 ghost use Rattle.std.specs.FinMap as map;
 ghost use Rattle.std.specs.Option.{option_copied_mut};
 ghost use Rattle.std.specs.Borrow.{sem};
@@ -44,6 +44,7 @@ mod clone;
 mod components;
 mod join;
 mod kinds;
+mod spawn;
 mod tables;
 
 pub use clone::{CloneTable, CloneTables};
@@ -52,6 +53,7 @@ pub use join::{With, WithBoth};
 pub use kinds::{First, Fourth, Kind, Second, Then, Third};
 use slotmap::dense::{Iter, Keys, Values};
 use slotmap::{DefaultKey, DenseSlotMap, InsertError, Key, ReserveError};
+pub use spawn::SpawnError;
 use std::alloc::Global;
 use std::fmt;
 use std::marker::Model;
@@ -239,6 +241,7 @@ impl<K: Key, E: Drop, T: Tables<K>> World<K, E, T> {
         // All else is as before.
         ensures leaves { Leaves self.old.entities.content self.new.entities.content }
         ensures capacity { self.new.entities.content.capacity ≡ self.old.entities.content.capacity }
+        ensures room { OnSome result (T.keeps_room self.old.tables self.new.tables) }
         ensures others { (q : KeyOf) → q ≢ K.data_of key → (T.has self.new.tables q ≡ T.has self.old.tables q) × (T.parts self.new.tables q ≡ T.parts self.old.tables q) }
         ensures gone { KeepsSpent self.old.entities.content self.new.entities.content }
         ensures unchanged { IfNone result (self.new ≡ self.old) }
@@ -263,6 +266,7 @@ impl<K: Key, E: Drop, T: Tables<K>> World<K, E, T> {
         ensures capacity { self.new.entities.content.capacity ≡ self.old.entities.content.capacity }
         ensures for_good { (k : KeyOf) → IsLive self.old.entities.content k → IsSpent self.new.entities.content k }
         ensures tables { (q : KeyOf) → T.has self.new.tables q ≡ false }
+        ensures room { T.keeps_room self.old.tables self.new.tables }
     {
         self.entities.clear();
         self.tables.clear();
