@@ -97,8 +97,8 @@ impl<K: Key, E: Drop, T: Tables<K>> World<K, E, T> {
     /// at most `last`: to attach them can't fail then.
     ///
     /// A `SecondaryMap` takes memory for each index up to `last`, and a `SparseSecondaryMap` for
-    /// `additional` components. A world that never had more than `n` entities at a time has indices up
-    /// to `n`, if none of its slots was retired. The call fails if memory runs out, or one of the
+    /// `additional` components. The first `n` entities of a world have the indices 1 to `n`, and those
+    /// in the slots of removed ones have their indices. The call fails if memory runs out, or one of the
     /// numbers is too great, and the world has the same components then. It takes time linear in the
     /// size of the table if that grows.
     ///

@@ -8,7 +8,8 @@
 //! - A call on one entity changes no component of another, and none of another kind.
 //! - A call that fails changes nothing, and returns what it was given.
 //! - If there is room for an entity, as after [`World::reserve`], it can't be refused, and the capacity
-//!   stays. Only [`World::spawn`] and `reserve` change the capacity for entities.
+//!   stays. So it is with a component in its table, after [`World::reserve_components`].
+//! - Only [`World::spawn`], [`World::spawn_with`] and `reserve` change the capacity for entities.
 //!
 //! The entities are in a `DenseSlotMap`, packed for iteration. The tables are nested pairs of
 //! secondary maps: a `SecondaryMap` for a kind that most entities have, a `SparseSecondaryMap` for a
@@ -37,7 +38,7 @@ ghost use Rattle.std.specs.Prelude.{◌≡◌, ◌≢◌, ◌+◌, ◌<◌, ◌�
 ghost use Rattle.std.specs.FinMap as map;
 ghost use Rattle.std.specs.Option.{option_copied_mut};
 ghost use Rattle.std.specs.Borrow.{sem};
-ghost use Rattle.slotmap.specs.Words.{Key as KeyOf, Inserts, IsLive, IsNew, IsSpent, Keeps, KeepsSpent, Leaves, Refuses, RefusesCapacity, MakesDenseRoom, used};
+ghost use Rattle.slotmap.specs.Words.{Key as KeyOf, Inserts, IsLive, IsNew, IsSpent, Keeps, KeepsSpent, Leaves, Refuses, RefusesCapacity, MakesDenseRoom, places, used};
 ghost use Rattle.slotmap.specs.Words.{Appends, ClosesGap, SameOrder, IsEmpty, IsListing, ListsPairs};
 
 mod clone;
@@ -199,6 +200,8 @@ impl<K: Key, E: Drop, T: Tables<K>> World<K, E, T> {
         ensures fresh { IfOk result (λ key. map.get self.old.entities.content.live (K.data_of key) ≡ None) }
         ensures unspent { IfOk result (λ key. IsSpent self.old.entities.content (K.data_of key) → ⊥) }
         ensures no_component { IfOk result (λ key. T.has self.new.tables (K.data_of key) ≡ false) }
+        // Its index is at most one more than there were slots.
+        ensures index { IfOk result (λ key. (K.data_of key).index ≤ places self.old.entities.content + 1) }
         // It is the last in the packed order.
         ensures order { IfOk result (λ key. Appends self.old.entities (K.data_of key) entity self.new.entities) }
 

@@ -1,8 +1,8 @@
 //! Entities that are spawned with a component.
 
-ghost use Rattle.std.specs.Prelude.{◌≡◌, ◌≢◌, ◌<◌, ◌≤◌, Some, None, IfOk, IfErr, OnErr};
+ghost use Rattle.std.specs.Prelude.{◌≡◌, ◌≢◌, ◌+◌, ◌<◌, ◌≤◌, Some, None, IfOk, IfErr, OnErr};
 ghost use Rattle.std.specs.FinMap as map;
-ghost use Rattle.slotmap.specs.Words.{Key as KeyOf, Inserts, IsBeside, IsDense, IsSpent, Keeps, KeepsSpent, Appends, SameOrder, RefusesInsert, get, most, used};
+ghost use Rattle.slotmap.specs.Words.{Key as KeyOf, Inserts, IsBeside, IsDense, IsSpent, Keeps, KeepsSpent, Appends, SameOrder, RefusesInsert, get, most, places, used};
 ghost use Rattle.slotmap_entities.specs.World.{RefusesSpawn};
 
 use crate::components::{ComponentOf, attach};
@@ -99,6 +99,8 @@ impl<K: Key, E: Drop, T: Tables<K>> World<K, E, T> {
         ensures there { IfOk result (λ key. get (C.Table.pairs (C.table self.new.tables)) (K.data_of key) ≡ Some component) }
         ensures fresh { IfOk result (λ key. map.get self.old.entities.content.live (K.data_of key) ≡ None) }
         ensures unspent { IfOk result (λ key. IsSpent self.old.entities.content (K.data_of key) → ⊥) }
+        // Its index is at most one more than there were slots.
+        ensures index { IfOk result (λ key. (K.data_of key).index ≤ places self.old.entities.content + 1) }
         // It is the last in the packed order.
         ensures order { IfOk result (λ key. Appends self.old.entities (K.data_of key) entity self.new.entities) }
 

@@ -1,5 +1,5 @@
 use Rattle.slotmap_entities.proofs.LiveOnly.{table_live}
-use Rattle.slotmap_entities.proofs.Spawned.{spawned_still, spawned_spent}
+use Rattle.slotmap_entities.proofs.Spawned.{spawned_still, spawned_spent, spawned_index}
 use Rattle.slotmap_entities.proofs.World.spawn_with.Goals as goal
 
 pub invariant_of-self : goal.invariant_of-self
@@ -14,3 +14,8 @@ pub returns-clause-gone : goal.returns-clause-gone
 returns-clause-gone g c = rw (← c.self.view_is)
     (spawned_spent c.self.inside.entities.content c.spawn_with.new.entities.content g.K.Key.data_of c.args.entity c.spawn_with.result c.spawn_with.ensures.valid.content
     c.spawn_with.ensures.adds c.spawn_with.ensures.unchanged)
+
+pub returns-clause-index : goal.returns-clause-index
+returns-clause-index g c = rw (← c.self.view_is)
+    (spawned_index c.self.inside.entities.content c.spawn_with.new.entities.content g.K.Key.data_of c.args.entity c.spawn_with.result c.spawn_with.ensures.valid.content
+    c.spawn_with.ensures.adds)
