@@ -1,7 +1,7 @@
 //! The message of each error, and what the public types print.
 
 use slotmap::{DefaultKey, SecondaryMap};
-use slotmap_entities::{AttachError, First, World};
+use slotmap_entities::{AttachError, First, SpawnError, World};
 use std::alloc::Global;
 use std::error::Error;
 use std::test::Fail;
@@ -24,6 +24,9 @@ fn errors(rt: HostRuntime) -> Result<(), Fail> {
         )?
     );
     assert!(rt; reads(alloc, &AttachError::Memory(5), "out of memory", "Memory(5)")?);
+    let full = "no key is left for an entity";
+    assert!(rt; reads(alloc, &SpawnError::Full(1, 5), full, "Full(1, 5)")?);
+    assert!(rt; reads(alloc, &SpawnError::Memory(1, 5), "out of memory", "Memory(1, 5)")?);
     Ok(())
 }
 

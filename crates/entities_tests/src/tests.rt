@@ -23,13 +23,13 @@ where
     S::Table: Table<DefaultKey, Component = u8>,
 {
     let mut world: Small<T> = World::new(alloc)?;
-    let a = world.spawn(1)?;
-    world.attach::<F>(a, 10)?;
+    world.reserve_components::<S>(1, 1)?;
+    let a = world.spawn_with::<F>(1, 10)?;
     world.attach::<S>(a, 5)?;
     Ok((world, a))
 }
 
-// Looks up the entity and its second component.
+// Looks up the entity and its components.
 fn look<T, F, S>(alloc: Global) -> Result<bool, Fail>
 where
     T: Tables<DefaultKey>,
@@ -40,7 +40,7 @@ where
 {
     let (world, a) = one::<T, F, S>(alloc)?;
     let seen = (world.get(a).copied(), world.component::<S>(a).copied());
-    Ok(seen == (Some(1), Some(5)))
+    Ok(seen == (Some(1), Some(5)) && world.both::<F, S>(a) == Some((&10, &5)))
 }
 
 // Writes the second component, and takes it.

@@ -1,2 +1,4 @@
 mod Fewer
 mod LiveOnly
+mod Spawned
+mod TableRoom

@@ -1,12 +1,14 @@
 -- A world as its user sees it.
-use Rattle.std.specs.Prelude.{◌≡◌, refl, true, false, Bool, Option, option_map, List}
+use Rattle.std.specs.Prelude.{◌≡◌, ◌<◌, refl, true, false, Bool, Option, option_map, List}
 use Rattle.std.specs.List.{filter_map}
 use Rattle.std.specs.Option.{option_and_then}
 use Rattle.std.specs.FinMap as map
 use Rattle.std.specs.Coded.{Coded, code_by, coded×}
-use Rattle.slotmap.specs.Words.{Key, Content, Dense, dense_code, IsLive, Pairs, RefusesPut}
+use Rattle.slotmap.specs.Words.{Key, Content, Dense, dense_code, IsLive, Pairs, RefusesPut, used, most}
 use Rattle.slotmap_entities.specs.declared.components.AttachError.{AttachError}
 use Rattle.slotmap_entities.specs.declared.components.AttachError.TheVariants.{Gone, Memory}
+use Rattle.slotmap_entities.specs.declared.spawn.SpawnError.{SpawnError}
+use Rattle.slotmap_entities.specs.declared.spawn.SpawnError.TheVariants.{Full as NoKey, Memory as NoMemory}
 
 pub record World (E T : Type 0) : Type 0 where
   -- `content.live` has the value of each entity, `keys` are the entities in packed order, and `IsSpent` says which keys of
@@ -28,6 +30,15 @@ OnlyLive entities has = (k : Key) → has k ≡ true → IsLive entities k
 abbrev pub RefusesAttach : {E C : Type 0} → Content E → Pairs C → Key → C → AttachError C → Type 0
 RefusesAttach entities pairs k c (Gone back) = (map.contains_key entities.live k ≡ false) × (back ≡ c)
 RefusesAttach entities pairs k c (Memory back) = IsLive entities k × RefusesPut pairs k c back
+
+-- `Full` if and only if the map of the entities is, else `Memory`; the entity and the component are returned
+abbrev pub RefusesSpawn : {E C : Type 0} → Content E → E → C → SpawnError E C → Type 0
+RefusesSpawn entities entity component (NoKey back c) = (used entities ≡ most) × (back ≡ entity) × (c ≡ component)
+RefusesSpawn entities entity component (NoMemory back c) = (used entities < most) × (back ≡ entity) × (c ≡ component)
+
+-- two things, where there are both
+abbrev pub both_of : {A B : Type 0} → Option A → Option B → Option (A × B)
+both_of a b = option_and_then (λ x. option_map (λ y. (x, y)) b) a
 
 -- the keys of a list for which there is something, each with it
 abbrev pub found_by : {C : Type 0} → (Key → Option C) → List Key → List (Key × C)

@@ -1,13 +1,13 @@
 //! The calls on one component of one entity.
 
-ghost use Rattle.std.specs.Prelude.{◌≡◌, ◌≢◌, IfOk, OnOk, IfErr, OnErr, IsSome, Some, None, option_copied};
+ghost use Rattle.std.specs.Prelude.{◌≡◌, ◌≢◌, ℕ, ◌+◌, IfOk, OnOk, IsOk, IfErr, OnErr, IsSome, Some, None, option_copied, option_map};
 ghost use Rattle.std.specs.Option.{option_copied_mut};
 ghost use Rattle.std.specs.Borrow.{sem};
 ghost use Rattle.slotmap.specs.Words.{Key as KeyOf, IsBeside, IsLive, get, contains_key, keyed, RetainsBy, CallableOnEach};
-ghost use Rattle.slotmap_entities.specs.World.{OnlyLive, RefusesAttach};
+ghost use Rattle.slotmap_entities.specs.World.{OnlyLive, RefusesAttach, both_of};
 
 use crate::{Kind, Table, Tables, World};
-use slotmap::{DenseSlotMap, Key, PutError};
+use slotmap::{DenseSlotMap, Key, PutError, ReserveError};
 use thiserror::Error;
 
 /// A component was not attached. The error holds it.
@@ -22,10 +22,10 @@ pub enum AttachError<C> {
 }
 
 // The type of the components of a kind.
-type ComponentOf<K, T, C> = <<C as Kind<K, T>>::Table as Table<K>>::Component;
+pub(crate) type ComponentOf<K, T, C> = <<C as Kind<K, T>>::Table as Table<K>>::Component;
 
 // Puts a component beside an entity, into the table of its kind, and returns the one that it had.
-fn attach<K: Key, E: Drop, M: Table<K>>(
+pub(crate) fn attach<K: Key, E: Drop, M: Table<K>>(
     entities: &DenseSlotMap<K, E>,
     table: &mut M,
     key: K,
@@ -38,6 +38,8 @@ fn attach<K: Key, E: Drop, M: Table<K>>(
     ensures err { IfErr result (RefusesAttach entities.now.content (M.pairs table.old) (K.data_of key) component) }
     ensures unchanged { OnErr result (M.pairs table.new ≡ M.pairs table.old) }
     ensures others { (q : KeyOf) → q ≢ K.data_of key → get (M.pairs table.new) q ≡ get (M.pairs table.old) q }
+    ensures room { IsLive entities.now.content (K.data_of key) → M.fits table.old (K.data_of key).index 1 → IsOk result }
+    ensures less_room { (i count : ℕ) → M.fits table.old i (count + 1) → M.fits table.new i count }
     ensures beside { IsBeside entities.now.content (M.pairs table.new) }
 {
     if !entities.contains_key(key) {
@@ -55,7 +57,8 @@ impl<K: Key, E: Drop, T: Tables<K>> World<K, E, T> {
     /// Gives an entity a component, and returns the one of this kind that it had.
     ///
     /// If the call fails, the error holds the component, and the world has the same components. Memory
-    /// can't run out where the entity has such a component already. Constant time, unless the table grows.
+    /// can't run out where the entity has such a component already, nor where there is room, as after
+    /// [`World::reserve_components`]. Constant time, unless the table grows.
     ///
     /// ```
     /// let mut world: World<DefaultKey, u8, (SecondaryMap<DefaultKey, u32>, ())> = World::new(alloc)?;
@@ -73,6 +76,10 @@ impl<K: Key, E: Drop, T: Tables<K>> World<K, E, T> {
         ensures there { OnOk result (get (C.Table.pairs (C.table self.new.tables)) (K.data_of key) ≡ Some component) }
         ensures live { OnOk result (IsLive self.old.entities.content (K.data_of key)) }
 
+        // If there is room in the table, it can't fail. It takes up room for one component at most.
+        ensures room { IsLive self.old.entities.content (K.data_of key) → C.Table.fits (C.table self.old.tables) (K.data_of key).index 1 → IsOk result }
+        ensures less_room { (i count : ℕ) → C.Table.fits (C.table self.old.tables) i (count + 1) → C.Table.fits (C.table self.new.tables) i count }
+
         // Why the call failed, and what that leaves.
         ensures err { IfErr result (RefusesAttach self.old.entities.content (C.Table.pairs (C.table self.old.tables)) (K.data_of key) component) }
         ensures unchanged { OnErr result (C.Table.pairs (C.table self.new.tables) ≡ C.Table.pairs (C.table self.old.tables)) }
@@ -86,6 +93,36 @@ impl<K: Key, E: Drop, T: Tables<K>> World<K, E, T> {
         attach(&self.entities, table, key, component)
     }
 
+    /// Makes room in the table of a kind for `additional` more components, of entities whose index is
+    /// at most `last`: to attach them can't fail then.
+    ///
+    /// A `SecondaryMap` takes memory for each index up to `last`, and a `SparseSecondaryMap` for
+    /// `additional` components. The first `n` entities of a world have the indices 1 to `n`, and those
+    /// in the slots of removed ones have their indices. The call fails if memory runs out, or one of the
+    /// numbers is too great, and the world has the same components then. It takes time linear in the
+    /// size of the table if that grows.
+    ///
+    /// ```
+    /// let mut world: World<DefaultKey, u8, (SecondaryMap<DefaultKey, u32>, ())> = World::new(alloc)?;
+    /// world.reserve(2)?;
+    /// world.reserve_components::<First>(2, 2)?;
+    /// let hero = world.spawn(1)?;
+    /// assert!(rt; world.attach::<First>(hero, 7).is_ok());
+    /// ```
+    pub fn reserve_components<C: Kind<K, T>>(
+        &mut self,
+        additional: usize,
+        last: usize,
+    ) -> Result<(), ReserveError>
+        ensures ok { OnOk result (C.Table.fits (C.table self.new.tables) last additional) }
+        ensures same { C.Table.pairs (C.table self.new.tables) ≡ C.Table.pairs (C.table self.old.tables) }
+        ensures room { (i count : ℕ) → C.Table.fits (C.table self.old.tables) i count → C.Table.fits (C.table self.new.tables) i count }
+        ensures kinds { self.new.tables ≡ C.with_table self.old.tables (C.table self.new.tables) }
+        ensures entities { self.new.entities ≡ self.old.entities }
+    {
+        C::table_mut(&mut self.tables).reserve(additional, last)
+    }
+
     /// Takes a component off an entity, and returns it, or `None` if it has none of this kind.
     ///
     /// ```
@@ -97,6 +134,7 @@ impl<K: Key, E: Drop, T: Tables<K>> World<K, E, T> {
     pub fn detach<C: Kind<K, T>>(&mut self, key: K) -> Option<ComponentOf<K, T, C>>
         ensures value { result ≡ get (C.Table.pairs (C.table self.old.tables)) (K.data_of key) }
         ensures gone { get (C.Table.pairs (C.table self.new.tables)) (K.data_of key) ≡ None }
+        ensures room { (i count : ℕ) → C.Table.fits (C.table self.old.tables) i count → C.Table.fits (C.table self.new.tables) i count }
         ensures others { (q : KeyOf) → q ≢ K.data_of key → get (C.Table.pairs (C.table self.new.tables)) q ≡ get (C.Table.pairs (C.table self.old.tables)) q }
         ensures kinds { self.new.tables ≡ C.with_table self.old.tables (C.table self.new.tables) }
         ensures entities { self.new.entities ≡ self.old.entities }
@@ -132,6 +170,34 @@ impl<K: Key, E: Drop, T: Tables<K>> World<K, E, T> {
         ensures live { IsSome result → IsLive self.now.entities.content (K.data_of key) }
     {
         C::table(&self.tables).get(key)
+    }
+
+    /// Returns the components of two kinds of an entity, or `None` if it lacks one of them or doesn't
+    /// exist. It takes constant time.
+    ///
+    /// ```
+    /// let mut world: World<DefaultKey, u8, (SecondaryMap<DefaultKey, u32>, (SecondaryMap<DefaultKey, bool>, ()))> =
+    ///     World::new(alloc)?;
+    /// let hero = world.spawn(1)?;
+    /// world.attach::<First>(hero, 7)?;
+    /// assert_eq!(rt; world.both::<First, Second>(hero), None);
+    /// world.attach::<Second>(hero, true)?;
+    /// assert_eq!(rt; world.both::<First, Second>(hero), Some((&7, &true)));
+    /// ```
+    pub fn both<'a, A: Kind<K, T>, B: Kind<K, T>>(
+        &'a self,
+        key: K,
+    ) -> Option<(&'a ComponentOf<K, T, A>, &'a ComponentOf<K, T, B>)>
+    where
+        A::Table: 'a,
+        B::Table: 'a,
+        ensures value { option_map (λ both. (both.0.now, both.1.now)) result
+            ≡ both_of (get (A.Table.pairs (A.table self.now.tables)) (K.data_of key)) (get (B.Table.pairs (B.table self.now.tables)) (K.data_of key)) }
+        ensures live { IsSome result → IsLive self.now.entities.content (K.data_of key) }
+    {
+        let first = A::table(&self.tables).get(key)?;
+        let second = B::table(&self.tables).get(key)?;
+        Some((first, second))
     }
 
     /// Returns a mutable reference to the component of this kind of an entity, or `None` if it has none
@@ -190,6 +256,7 @@ impl<K: Key, E: Drop, T: Tables<K>> World<K, E, T> {
         F: Drop,
         requires { CallableOnEach F.FnMut K.data_of f (keyed (C.Table.pairs (C.table self.old.tables))) }
         ensures retained { RetainsBy F.FnMut K.data_of f (keyed (C.Table.pairs (C.table self.old.tables))) (keyed (C.Table.pairs (C.table self.new.tables))) }
+        ensures room { (i count : ℕ) → C.Table.fits (C.table self.old.tables) i count → C.Table.fits (C.table self.new.tables) i count }
         ensures kinds { self.new.tables ≡ C.with_table self.old.tables (C.table self.new.tables) }
         ensures entities { self.new.entities ≡ self.old.entities }
     {

@@ -8,7 +8,8 @@
 //! - A call on one entity changes no component of another, and none of another kind.
 //! - A call that fails changes nothing, and returns what it was given.
 //! - If there is room for an entity, as after [`World::reserve`], it can't be refused, and the capacity
-//!   stays. Only [`World::spawn`] and `reserve` change the capacity for entities.
+//!   stays. So it is with a component in its table, after [`World::reserve_components`].
+//! - Only [`World::spawn`], [`World::spawn_with`] and `reserve` change the capacity for entities.
 //!
 //! The entities are in a `DenseSlotMap`, packed for iteration. The tables are nested pairs of
 //! secondary maps: a `SecondaryMap` for a kind that most entities have, a `SparseSecondaryMap` for a
@@ -33,17 +34,18 @@
 //! ```
 #![tactic(auto, using(slotmap::proofs::Callers::keys))]
 
-ghost use Rattle.std.specs.Prelude.{◌≡◌, ◌≢◌, ◌+◌, ◌<◌, ◌≤◌, ◌↔◌, Some, None, IfOk, IsOk, OnErr, IfErr, IfSome, IfNone, IsTrue, true, false, zip, option_copied, option_map};
+ghost use Rattle.std.specs.Prelude.{◌≡◌, ◌≢◌, ◌+◌, ◌<◌, ◌≤◌, ◌↔◌, Some, None, IfOk, IsOk, OnErr, IfErr, IfSome, OnSome, IfNone, IsTrue, true, false, zip, option_copied, option_map};
 ghost use Rattle.std.specs.FinMap as map;
 ghost use Rattle.std.specs.Option.{option_copied_mut};
 ghost use Rattle.std.specs.Borrow.{sem};
-ghost use Rattle.slotmap.specs.Words.{Key as KeyOf, Inserts, IsLive, IsNew, IsSpent, Keeps, KeepsSpent, Leaves, Refuses, RefusesCapacity, MakesDenseRoom, used};
+ghost use Rattle.slotmap.specs.Words.{Key as KeyOf, Inserts, IsLive, IsNew, IsSpent, Keeps, KeepsSpent, Leaves, Refuses, RefusesCapacity, MakesDenseRoom, places, used};
 ghost use Rattle.slotmap.specs.Words.{Appends, ClosesGap, SameOrder, IsEmpty, IsListing, ListsPairs};
 
 mod clone;
 mod components;
 mod join;
 mod kinds;
+mod spawn;
 mod tables;
 
 pub use clone::{CloneTable, CloneTables};
@@ -52,6 +54,7 @@ pub use join::{With, WithBoth};
 pub use kinds::{First, Fourth, Kind, Second, Then, Third};
 use slotmap::dense::{Iter, Keys, Values};
 use slotmap::{DefaultKey, DenseSlotMap, InsertError, Key, ReserveError};
+pub use spawn::SpawnError;
 use std::alloc::Global;
 use std::fmt;
 use std::marker::Model;
@@ -197,6 +200,8 @@ impl<K: Key, E: Drop, T: Tables<K>> World<K, E, T> {
         ensures fresh { IfOk result (λ key. map.get self.old.entities.content.live (K.data_of key) ≡ None) }
         ensures unspent { IfOk result (λ key. IsSpent self.old.entities.content (K.data_of key) → ⊥) }
         ensures no_component { IfOk result (λ key. T.has self.new.tables (K.data_of key) ≡ false) }
+        // Its index is at most one more than there were slots.
+        ensures index { IfOk result (λ key. (K.data_of key).index ≤ places self.old.entities.content + 1) }
         // It is the last in the packed order.
         ensures order { IfOk result (λ key. Appends self.old.entities (K.data_of key) entity self.new.entities) }
 
@@ -239,6 +244,7 @@ impl<K: Key, E: Drop, T: Tables<K>> World<K, E, T> {
         // All else is as before.
         ensures leaves { Leaves self.old.entities.content self.new.entities.content }
         ensures capacity { self.new.entities.content.capacity ≡ self.old.entities.content.capacity }
+        ensures room { OnSome result (T.keeps_room self.old.tables self.new.tables) }
         ensures others { (q : KeyOf) → q ≢ K.data_of key → (T.has self.new.tables q ≡ T.has self.old.tables q) × (T.parts self.new.tables q ≡ T.parts self.old.tables q) }
         ensures gone { KeepsSpent self.old.entities.content self.new.entities.content }
         ensures unchanged { IfNone result (self.new ≡ self.old) }
@@ -263,6 +269,7 @@ impl<K: Key, E: Drop, T: Tables<K>> World<K, E, T> {
         ensures capacity { self.new.entities.content.capacity ≡ self.old.entities.content.capacity }
         ensures for_good { (k : KeyOf) → IsLive self.old.entities.content k → IsSpent self.new.entities.content k }
         ensures tables { (q : KeyOf) → T.has self.new.tables q ≡ false }
+        ensures room { T.keeps_room self.old.tables self.new.tables }
     {
         self.entities.clear();
         self.tables.clear();

@@ -1,7 +1,7 @@
 //! Tables of components, one for each kind.
 
 ghost use Rattle.std.specs.FinMap as map;
-ghost use Rattle.std.specs.Prelude.{◌≡◌, ◌≢◌, ◌||◌, Bool, true, false, refl, IfOk, OnOk, IfErr, OnErr, option_copied};
+ghost use Rattle.std.specs.Prelude.{◌≡◌, ◌≢◌, ℕ, ◌+◌, ◌-◌, ◌≤◌, ◌||◌, Bool, true, false, refl, IfOk, OnOk, IsOk, IfErr, OnErr, option_copied};
 ghost use Rattle.std.specs.Option.{option_copied_mut};
 ghost use Rattle.std.specs.Borrow.{sem, LendsIf};
 ghost use Rattle.slotmap.specs.Words.{Key as KeyOf, Pairs, get, contains_key, put, bind, remove, RefusesPut, keyed, RetainsBy, CallableOnEach, side_with_value, sparse_with_value};
@@ -24,10 +24,25 @@ pub trait Table<K: Key>: Drop {
     // The table once the entity has another component.
     ghost with_value: { Self → KeyOf → Self.Component → Self };
 
+    // That so many more components fit, of entities whose index is at most the first number: to insert
+    // them can't fail.
+    ghost fits: { Self → ℕ → ℕ → Type 0 };
+
     /// Makes an empty table. It fails only if memory runs out.
     fn new(alloc: Global) -> Result<Self, ReserveError>
         ensures empty { IfOk result (λ table. pairs table ≡ map.empty) }
         ensures err { IfErr result (λ error. error ≡ ReserveError.Memory) };
+
+    /// Makes room for `additional` more components, of entities whose index is at most `last`: to
+    /// insert them can't fail then.
+    ///
+    /// A `SecondaryMap` takes memory for each index up to `last`, and a `SparseSecondaryMap` for
+    /// `additional` components. If memory runs out, or one of the numbers is too great, the table has
+    /// the same components.
+    fn reserve(&mut self, additional: usize, last: usize) -> Result<(), ReserveError>
+        ensures ok { OnOk result (fits self.new last additional) }
+        ensures keeps { pairs self.new ≡ pairs self.old }
+        ensures room { (i count : ℕ) → fits self.old i count → fits self.new i count };
 
     /// Returns whether an entity has a component here.
     fn contains_key(&self, key: K) -> bool
@@ -52,12 +67,15 @@ pub trait Table<K: Key>: Drop {
         ensures value { IfOk result (λ before. before ≡ get (pairs self.old) (K.data_of key)) }
         ensures ok { OnOk result (pairs self.new ≡ put (pairs self.old) (K.data_of key) component) }
         ensures err { IfErr result (λ error. RefusesPut (pairs self.old) (K.data_of key) component error.0) }
-        ensures unchanged { OnErr result (pairs self.new ≡ pairs self.old) };
+        ensures unchanged { OnErr result (pairs self.new ≡ pairs self.old) }
+        ensures room { fits self.old (K.data_of key).index 1 → IsOk result }
+        ensures less_room { (i count : ℕ) → fits self.old i (count + 1) → fits self.new i count };
 
     /// Removes the component of an entity, and returns it, or `None` if it has none here.
     fn remove(&mut self, key: K) -> Option<Self::Component>
         ensures value { result ≡ get (pairs self.old) (K.data_of key) }
-        ensures removes { pairs self.new ≡ remove (pairs self.old) (K.data_of key) };
+        ensures removes { pairs self.new ≡ remove (pairs self.old) (K.data_of key) }
+        ensures room { (i count : ℕ) → fits self.old i count → fits self.new i count };
 
     /// Calls `f` once for each component, which it may change, and removes those for which it returns
     /// false.
@@ -65,24 +83,37 @@ pub trait Table<K: Key>: Drop {
     where
         F: Drop,
         requires { CallableOnEach F.FnMut K.data_of f (keyed (pairs self.old)) }
-        ensures { RetainsBy F.FnMut K.data_of f (keyed (pairs self.old)) (keyed (pairs self.new)) };
+        ensures retained { RetainsBy F.FnMut K.data_of f (keyed (pairs self.old)) (keyed (pairs self.new)) }
+        ensures room { (i count : ℕ) → fits self.old i count → fits self.new i count };
 
     /// Removes all components.
     fn clear(&mut self)
-        ensures { pairs self.new ≡ map.empty };
+        ensures empty { pairs self.new ≡ map.empty }
+        ensures room { (i count : ℕ) → fits self.old i count → fits self.new i count };
 
     ghost with_value_is: { (m : Self) (k : KeyOf) (v : Self.Component) → pairs (with_value m k v) ≡ bind (pairs m) k v };
+
+    // Where some fit, fewer do, and of lower indices.
+    ghost fewer_fit: { (m : Self) (i j n p : ℕ) → i ≤ j → n ≤ p → fits m j p → fits m i n };
 }
 
 impl<K: Key, C: Drop> Table<K> for SecondaryMap<K, C> {
     type Component = C;
 
+    ghost use Rattle.std.proofs.Common.{arith};
+
     ghost pairs = { λ m. m.pairs };
 
     ghost with_value = { side_with_value };
 
+    ghost fits = { λ m last count. last ≤ m.capacity };
+
     fn new(alloc: Global) -> Result<Self, ReserveError> {
         SecondaryMap::new(alloc)
+    }
+
+    fn reserve(&mut self, _additional: usize, last: usize) -> Result<(), ReserveError> {
+        SecondaryMap::set_capacity(self, last)
     }
 
     fn contains_key(&self, key: K) -> bool {
@@ -117,17 +148,27 @@ impl<K: Key, C: Drop> Table<K> for SecondaryMap<K, C> {
     }
 
     ghost with_value_is = { λ m k v. refl };
+
+    ghost fewer_fit = { λ m i j n p low less fit. Prim.omega arith };
 }
 
 impl<K: Key, C: Drop> Table<K> for SparseSecondaryMap<K, C> {
     type Component = C;
 
+    ghost use Rattle.std.proofs.Common.{arith};
+
     ghost pairs = { λ m. m.pairs };
 
     ghost with_value = { sparse_with_value };
 
+    ghost fits = { λ m last count. map.len m.pairs + count ≤ m.capacity };
+
     fn new(alloc: Global) -> Result<Self, ReserveError> {
         SparseSecondaryMap::new(alloc)
+    }
+
+    fn reserve(&mut self, additional: usize, _last: usize) -> Result<(), ReserveError> {
+        SparseSecondaryMap::reserve(self, additional)
     }
 
     fn contains_key(&self, key: K) -> bool {
@@ -162,6 +203,8 @@ impl<K: Key, C: Drop> Table<K> for SparseSecondaryMap<K, C> {
     }
 
     ghost with_value_is = { λ m k v. refl };
+
+    ghost fewer_fit = { λ m i j n p low less fit. Prim.omega arith };
 }
 
 /// The tables of a world: pairs of a [`Table`] and further tables, down to `()`.
@@ -177,6 +220,8 @@ impl<K: Key, C: Drop> Table<K> for SparseSecondaryMap<K, C> {
 ///     ghost has = { λ tables k. contains_key tables.health.pairs k || contains_key tables.armour.pairs k };
 ///
 ///     ghost parts = { λ tables k. (get tables.health.pairs k, get tables.armour.pairs k) };
+///
+///     ghost keeps_room = { λ old new. old.health.capacity ≤ new.health.capacity };
 ///     ..
 /// }
 ///
@@ -209,6 +254,9 @@ pub trait Tables<K: Key>: Drop {
     // What it has in each of them.
     ghost parts: { Self → KeyOf → Self.Parts };
 
+    // That no table has less room than before.
+    ghost keeps_room: { Self → Self → Type 0 };
+
     /// Makes empty tables. It fails only if memory runs out.
     fn new(alloc: Global) -> Result<Self, ReserveError>
         ensures empty { IfOk result (λ tables. (q : KeyOf) → has tables q ≡ false) }
@@ -218,11 +266,13 @@ pub trait Tables<K: Key>: Drop {
     fn remove(&mut self, key: K) -> Self::Parts
         ensures value { result ≡ parts self.old (K.data_of key) }
         ensures gone { has self.new (K.data_of key) ≡ false }
-        ensures others { (q : KeyOf) → q ≢ K.data_of key → (has self.new q ≡ has self.old q) × (parts self.new q ≡ parts self.old q) };
+        ensures others { (q : KeyOf) → q ≢ K.data_of key → (has self.new q ≡ has self.old q) × (parts self.new q ≡ parts self.old q) }
+        ensures room { keeps_room self.old self.new };
 
     /// Removes all components of all entities.
     fn clear(&mut self)
-        ensures { (q : KeyOf) → has self.new q ≡ false };
+        ensures empty { (q : KeyOf) → has self.new q ≡ false }
+        ensures room { keeps_room self.old self.new };
 }
 
 impl<K: Key> Tables<K> for () {
@@ -231,6 +281,8 @@ impl<K: Key> Tables<K> for () {
     ghost has = { λ tables k. false };
 
     ghost parts = { λ tables k. tables };
+
+    ghost keeps_room = { λ old new. Unit {0} };
 
     fn new(_alloc: Global) -> Result<(), ReserveError> {
         Ok(())
@@ -248,6 +300,8 @@ impl<K: Key, A: Table<K>, B: Tables<K>> Tables<K> for (A, B) {
     ghost has = { λ tables k. contains_key (A.pairs tables.0) k || B.has tables.1 k };
 
     ghost parts = { λ tables k. (get (A.pairs tables.0) k, B.parts tables.1 k) };
+
+    ghost keeps_room = { λ old new. ((i count : ℕ) → A.fits old.0 i count → A.fits new.0 i count) × B.keeps_room old.1 new.1 };
 
     fn new(alloc: Global) -> Result<(A, B), ReserveError> {
         let table = A::new(alloc)?;

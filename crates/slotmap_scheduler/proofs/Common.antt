@@ -3,16 +3,16 @@ pub use Rattle.std.proofs.Common.{ap, append-nil, append_assoc, arith, Bool, Bor
 pub use Rattle.std.proofs.Common.{option_copied, refl, Result, rules, set as list_set, Some, subst, suc, sym, T, true, vec_len, zero, ℕ}
 pub use Rattle.std.proofs.lemmas.Bool.Decides.{nat_tests}
 pub use Rattle.std.proofs.lemmas.Cmp.{on_total, then_total}
-pub use Rattle.std.proofs.lemmas.List.{get_or-append_right, get_or_append_left, get_or-set_other, get_or-set_same, get_or_read_under, length-append, length-map, length-set, map_push, nil_from_length}
+pub use Rattle.std.proofs.lemmas.List.{get_or-append_right, get_or_append_left, get_or_default, get_or-set_other, get_or-set_same, get_or_read_under, length-append, length-map, length-set, map_push, nil_from_length}
 pub use Rattle.std.proofs.lemmas.List.Edits.{Swapped}
 pub use Rattle.std.proofs.lemmas.List.Elements.{All-cons, All-from_recursion, All-head, All-map, All-nil, All-push, All-tail, same_from_all_zip}
 pub use Rattle.std.proofs.lemmas.Map.Lookups.{CmpEqualImpliesEq, exact_pairs, exact_unsigned}
 pub use Rattle.std.proofs.lemmas.Option.{slice_get-get_or, slice_get_past, slice_get_read}
 pub use Rattle.std.specs.Cmp.{IsTotalOrder, nat_cmp_total}
 pub use Rattle.std.specs.FinMap.Entries.{below_all, by_order, find, is_sorted, put}
-pub use Rattle.std.specs.List.{All, AllByRecursion, AllZip, list_any, slice_get, SwappedAt}
+pub use Rattle.std.specs.List.{All, AllByRecursion, AllZip, filter, list_any, slice_get, SwappedAt}
 pub use Rattle.std.specs.Ordering.{eq_by_cmp, is_lt, nat_cmp}
-pub use Rattle.std.specs.Prelude.{map as list_map, min, nat_lt, option_map, unwrap_or, vec_capacity}
+pub use Rattle.std.specs.Prelude.{map as list_map, min, nat_eq, nat_lt, not, option_map, unwrap_or, vec_capacity}
 pub use Rattle.std.specs.declared.cmp.Ordering.{Ordering}
 pub use Rattle.std.specs.declared.cmp.Ordering.TheVariants.{Less}
 pub use Rattle.std.specs.declared.vec.Vec.{Vec}
@@ -27,9 +27,9 @@ pub use Rattle.slotmap_keylist.proofs.Mapped.{contains-mapped, content-mapped, g
 pub use Rattle.slotmap_keylist.proofs.Mapped.{mapped-leaves, mapped-new, mapped-removes, mapped-room, mapped-stays, mapped-with, mapped-written, used-mapped}
 pub use Rattle.slotmap_keylist.proofs.Shown.{shown_content, shown_leaves}
 pub use Rattle.slotmap_keylist.specs.Mapped.{map_values}
-pub use Rattle.slotmap_scheduler.specs.Heap.{heap_entry, handles_of, IsAbove, IsFirstBelow, IsHeap, IsHeapBut, IsIndexed, IsPlaced, IsSchedule, Jobs, no_entry, Resettled, spot_of}
-pub use Rattle.slotmap_scheduler.specs.Heap.{timed, turn_at, unplaced, up}
-unfoldable pub use Rattle.slotmap_scheduler.specs.Heap.{precedes}
+pub use Rattle.slotmap_scheduler.specs.Heap.{count_below, heap_entry, handles_of, IsAbove, IsFirstBelow, IsHeap, IsHeapBut, IsIndexed, IsPlaced, IsSchedule, Jobs, no_entry, Resettled, spot_of}
+pub use Rattle.slotmap_scheduler.specs.Heap.{is_due_at, is_under, timed, turn_at, unplaced, up}
+unfoldable pub use Rattle.slotmap_scheduler.specs.Heap.{due_under, precedes}
 pub use Rattle.slotmap_scheduler.specs.Inverse.{IsInverse}
 pub use Rattle.slotmap_scheduler.specs.Listed.{Due, due_at, IsDueClone, left_at, ListsJobs, shown, TakesDue}
 pub use Rattle.slotmap_scheduler.specs.Schedule.{in_turn, IsByTime, IsOnce, job_of, Schedule, Waiting, with_job, without}

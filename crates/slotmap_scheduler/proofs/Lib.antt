@@ -1,6 +1,8 @@
 pub mod Callers
 pub mod Common
 pub mod Copied
+pub mod Counting
+pub mod DueCounted
 pub mod Handles
 pub mod HeapPlaces
 pub mod Heaps

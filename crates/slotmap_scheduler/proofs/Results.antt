@@ -1,10 +1,6 @@
 -- What a clause says of the result that there is.
-use Rattle.std.proofs.Common.{◌≡◌, [], ◌∷◌, if◌then◌else◌}
-use Rattle.slotmap_scheduler.proofs.Common.{true, Option, Some, None, is_some, Result, Err, IsOk, is_ok, refl, arith, Key, Waiting, job_of, without}
-
--- what a call leaves that succeeded
-pub done : {A B X : Type 0} (r : Result A B) (now after before : X) → IsOk r → now ≡ (if is_ok r then after else before) → now ≡ after
-done r now after before ok is = grind arith
+use Rattle.std.proofs.Common.{◌≡◌, [], ◌∷◌}
+use Rattle.slotmap_scheduler.proofs.Common.{true, Option, Some, None, is_some, Result, Err, IsOk, refl, arith, Key, Waiting, job_of, without}
 
 -- jobs without a handle that they lack
 pub without_none : {T : Type 0} (k : Key) (es : Waiting T) → job_of k es ≡ None → without k es ≡ es

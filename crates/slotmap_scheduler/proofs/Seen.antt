@@ -39,7 +39,7 @@ spot_there : {T : Type 0} (o : Option (Job T)) (t : Turn) (x : T) → option_map
 spot_there None t x is = absurd (cc)
 spot_there (Some j) t x is = (j.place, grind arith)
 
-job_there : {T : Type 0} (o : Option (Job T)) (p : ℕ) (t : Turn) → option_map {U = ℕ × Turn} (λ (j : Job T). (j.place, j.turn)) o ≡ Some (p, t) → (x : T) × (option_map unplaced o ≡ Some (t, x))
+pub job_there : {T : Type 0} (o : Option (Job T)) (p : ℕ) (t : Turn) → option_map {U = ℕ × Turn} (λ (j : Job T). (j.place, j.turn)) o ≡ Some (p, t) → (x : T) × (option_map unplaced o ≡ Some (t, x))
 job_there None p t is = absurd (cc)
 job_there (Some j) p t is = (j.job, grind arith)
 

@@ -1,5 +1,6 @@
 -- How a scheduler keeps its jobs: each in the map, with its place in a heap of turns.
-use Rattle.std.specs.Prelude.{◌≡◌, ◌≢◌, ℕ, ◌+◌, ◌-◌, ◌/◌, ◌<◌, ◌≤◌, Bool, true, false, List, Option, get_or, length, min, vec_len, vec_capacity, slice_get, option_map}
+use Rattle.std.specs.Prelude.{◌≡◌, ◌≢◌, ℕ, zero, suc, ◌+◌, ◌-◌, ◌/◌, ◌<◌, ◌≤◌, ◌&&◌, ◌||◌, Bool, true, false, not}
+use Rattle.std.specs.Prelude.{cond, nat_eq, nat_lt, List, Option, get_or, length, min, vec_len, vec_capacity, slice_get, option_map}
 use Rattle.std.specs.declared.vec.Vec.{Vec}
 use Rattle.std.specs.Ordering.{is_lt}
 use Rattle.std.specs.FinMap as map
@@ -46,6 +47,24 @@ pub record IsFirstBelow (at child : ℕ) (heap : List Entry) : Type 0 where
   pub below : up child ≡ at
   pub inside : child < length heap
   pub least : (c : ℕ) → 0 < c → up c ≡ at → c < length heap → precedes (turn_at heap c) (turn_at heap child) ≡ false
+
+-- whether the place c is `at`, or below it by so many steps at most
+abbrev pub is_under : ℕ → ℕ → ℕ → Bool
+is_under zero at c = nat_eq c at
+is_under (suc steps) at c = nat_eq c at || (nat_lt 0 c && is_under steps at (up c))
+
+-- how many numbers below a bound pass a test
+abbrev pub count_below : (ℕ → Bool) → ℕ → ℕ
+count_below test zero = 0
+count_below test (suc n) = cond (test n) 1 0 + count_below test n
+
+-- whether the entry at a place is due
+abbrev pub is_due_at : ℕ → List Entry → ℕ → Bool
+is_due_at now heap c = not (nat_lt now (turn_at heap c).0)
+
+-- how many entries are due that stand at a place or below it
+unfoldable pub due_under : ℕ → ℕ → List Entry → ℕ
+due_under now at heap = count_below (λ c. is_under (length heap) at c && is_due_at now heap c) (length heap)
 
 -- the handle and the turn at a place
 abbrev pub heap_entry : List Entry → ℕ → Option (Key × Turn)

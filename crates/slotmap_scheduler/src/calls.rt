@@ -7,7 +7,7 @@ ghost use Rattle.slotmap.specs.Words.{Key as KeyOf, IsContent, MakesRoom, Insert
 ghost use Rattle.slotmap_scheduler.specs.Schedule.{job_of, in_turn, without, last_turn, IsOnce, IsByTime, RefusesJob, RefusesMove};
 ghost use Rattle.slotmap_scheduler.specs.Listed.{TakesDue, due_at};
 
-use crate::heap::{make_room, put_in, set_turn, take_out};
+use crate::heap::{count_due, make_room, put_in, set_turn, take_out};
 use crate::{RescheduleError, ScheduleError, Scheduler};
 use slotmap::{Key, ReserveError};
 use slotmap_keylist::{inner, outer};
@@ -335,24 +335,22 @@ impl<K: Key, T: Drop> Scheduler<K, T> {
         Some((handle, job))
     }
 
-    // Whether a job is due.
-    fn has_due(&self, now: u64) -> bool
-        ensures some { IsTrue result → 0 < length (due_at now self.now.waiting) }
-        ensures none { result ≡ false → All (λ e. now < e.1.0) self.now.waiting }
+    // How many jobs are due.
+    fn due_count(&self, now: u64) -> usize
+        ensures value { result ≡ length (due_at now self.now.waiting) }
+        ensures sorted { IsByTime self.now.waiting }
+        ensures once { IsOnce self.now.waiting }
     {
-        match self.peek() {
-            Some((time, _)) => time <= now,
-            None => false,
-        }
+        count_due(&self.heap, 0, now)
     }
 
     /// Removes the jobs that are due at `now`, and adds them to a vector with their handles, in their
     /// order. Their handles are never used again.
     ///
-    /// The vector grows only for jobs that are due, so where it has room for these, the call succeeds.
-    /// If memory runs out, the call stops before the next job: the jobs before that one are in the
-    /// vector, and the others wait. No job is lost. The scheduler's capacity stays. It takes time
-    /// logarithmic in the number of jobs for each job that is due.
+    /// First it counts the jobs that are due, and reserves room for so many in the vector. So it fails
+    /// only if memory runs out, and nothing has changed then. Where the vector has that room, the call
+    /// succeeds, however many jobs wait. The scheduler's capacity stays. It takes time logarithmic in
+    /// the number of jobs for each job that is due; the count takes constant time for each.
     ///
     /// ```
     /// let mut scheduler: Scheduler<DefaultKey, &str> = Scheduler::new(alloc)?;
@@ -374,21 +372,24 @@ impl<K: Key, T: Drop> Scheduler<K, T> {
         ensures capacity { self.new.handles.capacity ≡ self.old.handles.capacity }
         ensures leaves { Leaves self.old.handles self.new.handles }
 
-        // It fails only where the vector is full, and a job that is due still waits.
+        // If the call fails, nothing has changed.
+        ensures unchanged { OnErr result (self.new ≡ self.old) }
+        ensures same_items { OnErr result (due.new.items ≡ due.old.items) }
+        ensures same_room { OnErr result (vec_capacity due.new ≡ vec_capacity due.old) }
+
+        // It fails only where the vector lacks room for the jobs that are due.
         ensures had_room { vec_len due.old + length (due_at now self.old.waiting) ≤ vec_capacity due.old → IsOk result }
-        ensures full { OnErr result (vec_capacity due.new ≤ vec_len due.new) }
+        ensures full { OnErr result (vec_capacity due.new < vec_len due.new + length (due_at now self.new.waiting)) }
         ensures next_due { OnErr result (0 < length (due_at now self.new.waiting)) }
 
         // What never comes again.
         ensures for_good { (k : KeyOf) → is_some (job_of k self.old.waiting) ≡ true → job_of k self.new.waiting ≡ None → IsSpent self.new.handles k }
         ensures stale { KeepsSpent self.old.handles self.new.handles }
     {
-        // Reads the scheduler, which says that its jobs are in order, each handle once.
-        let _ = self.len();
-        while self.has_due(now) {
-            due.reserve(1)?;
-            let job = self.pop_due(now).unwrap();
-            let _ = due.push(job);
+        let count = self.due_count(now);
+        due.reserve(count)?;
+        while let Some(job) = self.pop_due(now) {
+            due.push_reserved(job);
         }
         Ok(())
     }

@@ -5,7 +5,7 @@ ghost use Rattle.std.specs.List.{SwappedAt};
 ghost use Rattle.std.specs.FinMap as map;
 ghost use Rattle.slotmap.specs.Words.{IsLive, StaysValid, Inserts, Removes, with_value};
 ghost use Rattle.slotmap_scheduler.specs.declared.Job.{Job as JobOf};
-ghost use Rattle.slotmap_scheduler.specs.Heap.{precedes, up, IsPlaced, IsHeap, IsHeapBut, IsAbove, IsFirstBelow, Resettled, IsIndexed, timed};
+ghost use Rattle.slotmap_scheduler.specs.Heap.{precedes, up, IsPlaced, IsHeap, IsHeapBut, IsAbove, IsFirstBelow, Resettled, IsIndexed, timed, due_under};
 
 use crate::Job;
 use slotmap::{DefaultKey, SlotMap};
@@ -195,4 +195,19 @@ pub(crate) fn take_out<T: Drop>(
     jobs[moved].place = removed.place;
     settle(jobs, heap, removed.place);
     Some(removed)
+}
+
+// How many entries are due that stand at a place or below it. It looks at these, and at those right
+// below them.
+pub(crate) fn count_due(heap: &[Entry], at: usize, now: u64) -> usize
+    requires { IsHeap heap.now }
+    ensures { result ≡ due_under now at heap.now }
+{
+    if at >= heap.len() || heap[at].turn.0 > now {
+        return 0;
+    }
+    if at >= heap.len() / 2 {
+        return 1;
+    }
+    1 + count_due(heap, 2 * at + 1, now) + count_due(heap, 2 * at + 2, now)
 }

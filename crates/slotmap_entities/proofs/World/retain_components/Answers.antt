@@ -20,4 +20,4 @@ invariant_of-self g c =
     let old = g.C.Table.Table.pairs c.table_mut.result.now in
     let now = g.C.Table.Table.pairs c.retain.new.self in
     let beside = own_beside content has c.self.invariant old (rw c.table_mut.ensures.value (g.met.C.Kind.has_own c.self.inside.tables)) in
-    table_live content has c.self.invariant now _ (λ k there. beside k (no_more old now (retained_none _ _ c.retain.ensures) k there)) (g.met.C.Kind.has_no_more c.self.inside.tables c.retain.new.self)
+    table_live content has c.self.invariant now _ (λ k there. beside k (no_more old now (retained_none _ _ c.retain.ensures.retained) k there)) (g.met.C.Kind.has_no_more c.self.inside.tables c.retain.new.self)

@@ -2,8 +2,8 @@ use Rattle.slotmap_scheduler.proofs.Common.{length}
 use Rattle.slotmap_scheduler.proofs.TakingDue.{Taking}
 use Rattle.slotmap_scheduler.proofs.Scheduler.pop_all_due.Given as goal
 
-abbrev pub invariant-loop-due : goal.invariant-loop-due
-invariant-loop-due g l = Taking g.K.Key.data_of l.now l.fn.self l.fn.due l.self l.due
+abbrev pub invariant-loop-job : goal.invariant-loop-job
+invariant-loop-job g l = Taking g.K.Key.data_of l.now l.fn.self l.fn.due l.self l.due
 
-abbrev pub decreases-loop-due : goal.decreases-loop-due
-decreases-loop-due g l = length l.self.waiting
+abbrev pub decreases-loop-job : goal.decreases-loop-job
+decreases-loop-job g l = length l.self.waiting

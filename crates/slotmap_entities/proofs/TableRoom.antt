@@ -1,0 +1,14 @@
+-- How many components a table holds once one was put.
+use Rattle.std.proofs.Common.{◌≡◌, ◌+◌, ◌≤◌, Result, Ok, Err, OnOk, OnErr, arith}
+use Rattle.std.specs.FinMap as map
+use Rattle.std.specs.Cmp.{nat_cmp_total}
+use Rattle.slotmap.specs.Words.{Key, Pairs, put}
+
+module _ {V : Type 0} where
+  put_one : (m : Pairs V) (k : Key) (v : V) → map.len (put m k v) ≤ map.len m + 1
+  put_one m k v = grind (arith, map.len-insert nat_cmp_total m k.index (k.version, v))
+
+  -- a put adds one at most, whatever it returns
+  pub one_more : {A B : Type 0} (answer : Result A B) (old new : Pairs V) (k : Key) (v : V) → OnOk answer (new ≡ put old k v) → OnErr answer (new ≡ old) → map.len new ≤ map.len old + 1
+  one_more (Ok x) old new k v puts keeps = let one = put_one old k v in grind arith
+  one_more (Err e) old new k v puts keeps = grind arith

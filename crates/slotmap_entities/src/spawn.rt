@@ -1,0 +1,123 @@
+//! Entities that are spawned with a component.
+
+ghost use Rattle.std.specs.Prelude.{◌≡◌, ◌≢◌, ◌+◌, ◌<◌, ◌≤◌, Some, None, IfOk, IfErr, OnErr};
+ghost use Rattle.std.specs.FinMap as map;
+ghost use Rattle.slotmap.specs.Words.{Key as KeyOf, Inserts, IsBeside, IsDense, IsSpent, Keeps, KeepsSpent, Appends, SameOrder, RefusesInsert, get, most, places, used};
+ghost use Rattle.slotmap_entities.specs.World.{RefusesSpawn};
+
+use crate::components::{ComponentOf, attach};
+use crate::{Kind, Table, Tables, World};
+use slotmap::{DenseSlotMap, InsertError, InsertWithError, Key, TryInsertError};
+use thiserror::Error;
+
+/// An entity was not spawned with its component. The error holds both.
+#[derive(Debug, Drop, Error)]
+pub enum SpawnError<E, C> {
+    /// The map of the entities holds as many keys as it can.
+    #[error("no key is left for an entity")]
+    Full(E, C),
+    /// The allocation fails.
+    #[error("out of memory")]
+    Memory(E, C),
+}
+
+// The key that the next entity gets, for which there is memory now.
+fn next_key<K: Key, E: Drop>(entities: &mut DenseSlotMap<K, E>) -> Result<K, InsertWithError>
+    ensures offered { IfOk result (λ key. (K.data_of key ≡ entities.old.content.offer) × (used entities.old.content < most)) }
+    ensures err { IfErr result (RefusesInsert entities.old.content) }
+    ensures keeps { Keeps entities.old.content entities.new.content }
+    ensures order { SameOrder entities.old entities.new }
+    ensures capacity { entities.old.content.capacity ≤ entities.new.content.capacity }
+    ensures valid { IsDense entities.old × IsDense entities.new }
+{
+    match entities.try_insert_with_key(|key| Err(key)) {
+        Ok(key) => Ok(key),
+        Err(TryInsertError::Closure(key)) => Ok(key),
+        Err(TryInsertError::Full) => Err(InsertWithError::Full),
+        Err(TryInsertError::Memory) => Err(InsertWithError::Memory),
+    }
+}
+
+// Adds an entity, and a component beside it, into the table of its kind.
+fn spawn_with<K: Key, E: Drop, M: Table<K>>(
+    entities: &mut DenseSlotMap<K, E>,
+    table: &mut M,
+    entity: E,
+    component: M::Component,
+) -> Result<K, SpawnError<E, M::Component>>
+    requires { IsBeside entities.old.content (M.pairs table.old) }
+    ensures adds { IfOk result (λ key. Inserts entities.old.content (K.data_of key) entity entities.new.content) }
+    ensures there { IfOk result (λ key. get (M.pairs table.new) (K.data_of key) ≡ Some component) }
+    ensures order { IfOk result (λ key. Appends entities.old (K.data_of key) entity entities.new) }
+    ensures others { IfOk result (λ key. (q : KeyOf) → q ≢ K.data_of key → get (M.pairs table.new) q ≡ get (M.pairs table.old) q) }
+    ensures err { IfErr result (RefusesSpawn entities.old.content entity component) }
+    ensures unchanged { OnErr result (Keeps entities.old.content entities.new.content) }
+    ensures same_order { OnErr result (SameOrder entities.old entities.new) }
+    ensures same_components { OnErr result (M.pairs table.new ≡ M.pairs table.old) }
+    ensures capacity { entities.old.content.capacity ≤ entities.new.content.capacity }
+    ensures beside { IsBeside entities.new.content (M.pairs table.new) }
+    ensures valid { IsDense entities.old }
+{
+    let next = match next_key(entities) {
+        Ok(key) => key.data().idx() as usize,
+        Err(InsertWithError::Full) => return Err(SpawnError::Full(entity, component)),
+        Err(InsertWithError::Memory) => return Err(SpawnError::Memory(entity, component)),
+    };
+    if table.reserve(1, next).is_err() {
+        return Err(SpawnError::Memory(entity, component));
+    }
+    match entities.insert(entity) {
+        Ok(key) => {
+            let _ = attach(entities, table, key, component);
+            Ok(key)
+        }
+        Err(InsertError::Full(entity)) => Err(SpawnError::Full(entity, component)),
+        Err(InsertError::Memory(entity)) => Err(SpawnError::Memory(entity, component)),
+    }
+}
+
+impl<K: Key, E: Drop, T: Tables<K>> World<K, E, T> {
+    /// Adds an entity with a component, and returns its key, which no entity had before.
+    ///
+    /// If the call fails, no entity was added, and no component: the error holds the entity's value and
+    /// the component. It uses up no key. Constant time, unless the map or the table grows. Further
+    /// components are added by [`World::attach`].
+    ///
+    /// ```
+    /// let mut world: World<DefaultKey, u8, (SecondaryMap<DefaultKey, u32>, ())> = World::new(alloc)?;
+    /// let hero = world.spawn_with::<First>(1, 7)?;
+    /// assert_eq!(rt; world.get(hero), Some(&1));
+    /// assert_eq!(rt; world.component::<First>(hero), Some(&7));
+    /// ```
+    pub fn spawn_with<C: Kind<K, T>>(
+        &mut self,
+        entity: E,
+        component: ComponentOf<K, T, C>,
+    ) -> Result<K, SpawnError<E, ComponentOf<K, T, C>>>
+        // A new entity, with this component.
+        ensures adds { IfOk result (λ key. Inserts self.old.entities.content (K.data_of key) entity self.new.entities.content) }
+        ensures there { IfOk result (λ key. get (C.Table.pairs (C.table self.new.tables)) (K.data_of key) ≡ Some component) }
+        ensures fresh { IfOk result (λ key. map.get self.old.entities.content.live (K.data_of key) ≡ None) }
+        ensures unspent { IfOk result (λ key. IsSpent self.old.entities.content (K.data_of key) → ⊥) }
+        // Its index is at most one more than there were slots.
+        ensures index { IfOk result (λ key. (K.data_of key).index ≤ places self.old.entities.content + 1) }
+        // It is the last in the packed order.
+        ensures order { IfOk result (λ key. Appends self.old.entities (K.data_of key) entity self.new.entities) }
+
+        // Why the call failed, and what that leaves: the same entities with the same components.
+        ensures err { IfErr result (RefusesSpawn self.old.entities.content entity component) }
+        ensures unchanged { OnErr result (Keeps self.old.entities.content self.new.entities.content) }
+        ensures same_order { OnErr result (SameOrder self.old.entities self.new.entities) }
+        ensures same_components { OnErr result (C.Table.pairs (C.table self.new.tables) ≡ C.Table.pairs (C.table self.old.tables)) }
+
+        // All else is as before: the other components of this kind, and the other kinds.
+        ensures others { IfOk result (λ key. (q : KeyOf) → q ≢ K.data_of key
+            → get (C.Table.pairs (C.table self.new.tables)) q ≡ get (C.Table.pairs (C.table self.old.tables)) q) }
+        ensures kinds { self.new.tables ≡ C.with_table self.old.tables (C.table self.new.tables) }
+        ensures capacity { self.old.entities.content.capacity ≤ self.new.entities.content.capacity }
+        ensures gone { KeepsSpent self.old.entities.content self.new.entities.content }
+    {
+        let table = C::table_mut(&mut self.tables);
+        spawn_with(&mut self.entities, table, entity, component)
+    }
+}

@@ -1,0 +1,107 @@
+-- How many of the jobs that wait are due, counted by their places in the heap.
+use Rattle.std.proofs.Common.{◌≡◌, ◌≢◌, ◌+◌, ◌<◌, ◌≤◌, ◌&&◌, [], ◌∷◌, ◌∙◌}
+use Rattle.slotmap_scheduler.proofs.Common.{ℕ, zero, suc, Bool, true, false, not, cond, nat_lt, Some, None, get_or, length, refl, sym}
+use Rattle.slotmap_scheduler.proofs.Common.{ap, arith, nat_tests, option_map, slice_get-get_or}
+use Rattle.slotmap_scheduler.proofs.Common.{All, All-head, All-tail, filter, nil_from_length, eq_by_cmp, Vec, Key, key_cmp, keys_total}
+use Rattle.slotmap_scheduler.proofs.Common.{exact_keys, tied, itself, Content, get-mapped}
+use Rattle.slotmap_scheduler.proofs.Common.{Job, Waiting, job_of, without, IsOnce, IsByTime, due_at, Entry, no_entry, turn_at}
+use Rattle.slotmap_scheduler.proofs.Common.{heap_entry, spot_of, unplaced, timed, waiting_of, IsSchedule, is_under, count_below, is_due_at}
+unfoldable use Rattle.slotmap_scheduler.proofs.Common.{due_under}
+use Rattle.std.specs.FinMap as map
+use Rattle.slotmap_scheduler.proofs.Results.{without_none}
+use Rattle.slotmap_scheduler.proofs.Counting.{under_top, count_alike}
+use Rattle.slotmap_scheduler.proofs.HeapPlaces.{one_place}
+use Rattle.slotmap_scheduler.proofs.Order.{job_is, len_is}
+use Rattle.slotmap_scheduler.proofs.Seen.{job_there}
+use Rattle.slotmap_scheduler.proofs.Waits.{waits_by_time, waits_once}
+
+module _ {T : Type 0} (k : Key) where
+  pub other_found : (q : Key) (ws : Waiting T) → q ≢ k → job_of q (without k ws) ≡ job_of q ws
+  other_found q [] other = refl
+  other_found q (e ∷ ws) other =
+      grind (arith, tied keys_total exact_keys k e.0, tied keys_total exact_keys q e.0, itself keys_total exact_keys k, itself keys_total exact_keys q,
+      other_found q ws other)
+
+  none_without : (q : Key) (ws : Waiting T) → job_of q ws ≡ None → job_of q (without k ws) ≡ None
+  none_without q [] none = refl
+  none_without q (e ∷ ws) none = grind (arith, none_without q ws)
+
+  pub once_without : (ws : Waiting T) → IsOnce ws → IsOnce (without k ws)
+  once_without [] once = tt
+  once_without (e ∷ ws) once = elim (eq_by_cmp key_cmp k e.0) as (λ b. IsOnce (cond (not b) (e ∷ without k ws) (without k ws))) [
+    | true ↦ once_without ws once.1
+    | false ↦ (none_without e.0 ws once.0, once_without ws once.1)
+  ]
+
+  -- a job among others, which are counted without it
+  module _ (test : Key × (ℕ × T) → Bool) where
+    pub count_without : (ws : Waiting T) (x : ℕ × T) → IsOnce ws → job_of k ws ≡ Some x
+        → length (filter test ws) ≡ cond (test (k, x)) 1 0 + length (filter test (without k ws))
+    count_without [] x once there = absurd (cc)
+    count_without (e ∷ ws) x once there =
+        grind (arith, tied keys_total exact_keys k e.0, itself keys_total exact_keys k, without_none k ws, once.0, count_without ws x once.1)
+
+  pub len_without : (ws : Waiting T) (x : ℕ × T) → IsOnce ws → job_of k ws ≡ Some x → length ws ≡ 1 + length (without k ws)
+  len_without [] x once there = absurd (cc)
+  len_without (e ∷ ws) x once there =
+      grind (arith, tied keys_total exact_keys k e.0, itself keys_total exact_keys k, without_none k ws, once.0, len_without ws x once.1)
+
+module _ {T : Type 0} (now : ℕ) where
+  abbrev is_due : Key × (ℕ × T) → Bool
+  is_due e = not (nat_lt now e.1.0)
+
+  none_passes : (time : ℕ) (ws : Waiting T) → now < time → All (λ (x : Key × (ℕ × T)). time ≤ x.1.0) ws → filter is_due ws ≡ []
+  none_passes time [] later all = refl
+  none_passes time (e ∷ ws) later all =
+      let first = All-head (λ (x : Key × (ℕ × T)). time ≤ x.1.0) e ws all in
+      grind (arith, nat_tests, none_passes time ws later (All-tail (λ (x : Key × (ℕ × T)). time ≤ x.1.0) e ws all))
+
+  -- those that are due are the first
+  pub due_first : (ws : Waiting T) → IsByTime ws → due_at now ws ≡ filter is_due ws
+  due_first [] sorted = refl
+  due_first (e ∷ ws) sorted = grind (arith, nat_tests, due_first ws sorted.1, none_passes e.1.0 ws)
+
+  -- as many are due as there are places of jobs that are, if each job has one place
+  pub due_placed : (n : ℕ) (handle : ℕ → Key) (time : ℕ → ℕ) (ws : Waiting T) → IsOnce ws → length ws ≡ n
+      → ((c : ℕ) → c < n → (x : T) × (job_of (handle c) ws ≡ Some (time c, x)))
+      → ((c d : ℕ) → c < n → d < n → handle c ≡ handle d → c ≡ d) → length (filter is_due ws) ≡ count_below (λ c. not (nat_lt now (time c))) n
+  due_placed zero handle time ws once len there apart = ap (λ l. length (filter is_due l)) (nil_from_length ws len)
+  due_placed (suc n) handle time ws once len there apart =
+      let last = there n (omega arith) in
+      let rest = due_placed n handle time (without (handle n) ws) (once_without (handle n) ws once)
+          (let more = len_without (handle n) ws (time n, last.0) once last.1 in omega arith)
+      (λ c below. let at = there c (omega arith) in
+      (at.0, other_found (handle n) (handle c) ws (λ same. (let one = apart c n (omega arith) (omega arith) same in omega arith)) ∙ at.1))
+      (λ c d one two. apart c d (omega arith) (omega arith)) in
+      count_without (handle n) is_due ws (time n, last.0) once last.1 ∙ ap (λ m. cond (not (nat_lt now (time n))) 1 0 + m) rest
+
+-- as many are due as the heap has entries that are
+module _ {T Z : Type 0} (jobs : Content (Job T)) (count : ℕ) (heap : Vec Entry Z) (is : IsSchedule jobs count heap) where
+  abbrev handle_at : ℕ → Key
+  handle_at c = (get_or heap.items c no_entry).handle
+
+  entry_at : (c : ℕ) → c < length heap.items → heap_entry heap.items c ≡ Some (handle_at c, turn_at heap.items c)
+  entry_at c inside = ap (option_map (λ (e : Entry). (e.handle, e.turn))) (slice_get-get_or heap.items c no_entry inside)
+
+  job_at : (c : ℕ) → c < length heap.items → (x : T) × (job_of (handle_at c) (waiting_of (timed jobs).live) ≡ Some ((turn_at heap.items c).0, x))
+  job_at c inside =
+      let placed = is.indexed.placed.from c (handle_at c) (turn_at heap.items c) (entry_at c inside) in
+      let there = job_there (map.get jobs.live (handle_at c)) c (turn_at heap.items c) placed in
+      (there.0, job_is (timed jobs).live count is.order (handle_at c) ∙ ap (option_map _) (get-mapped unplaced jobs.live (handle_at c) ∙ there.1))
+
+  lone_place : (c d : ℕ) → c < length heap.items → d < length heap.items → handle_at c ≡ handle_at d → c ≡ d
+  lone_place c d one two same =
+      let at = is.indexed.placed.from c (handle_at c) (turn_at heap.items c) (entry_at c one) in
+      let there = is.indexed.placed.from d (handle_at d) (turn_at heap.items d) (entry_at d two) in
+      one_place (spot_of jobs.live (handle_at c)) at (ap (spot_of jobs.live) same ∙ there)
+
+  pub due_counted : (now : ℕ) → due_under now 0 heap.items ≡ length (due_at now (waiting_of (timed jobs).live))
+  unfolding due_under
+  due_counted now =
+      let waits : Waiting T = waiting_of (timed jobs).live in
+      let size = length heap.items in
+      count_alike (λ c. is_under size 0 c && is_due_at now heap.items c) (is_due_at now heap.items) size
+      (λ c inside. ap (λ b. b && is_due_at now heap.items c) (under_top size c (omega arith)))
+      ∙ sym (ap length (due_first now waits (waits_by_time (timed jobs).live))
+      ∙ due_placed now size handle_at (λ c. (turn_at heap.items c).0) waits (waits_once (timed jobs).live count is.order)
+      (len_is (timed jobs).live count is.order ∙ sym is.indexed.len ∙ heap.ok.0) job_at lone_place)
