@@ -44,7 +44,8 @@ module _ {K V W R : Type 0} (given : JoinedGiven K W R) where
   -- the reply to a command on a live or detached key is the dictionary's
   abbrev pub RepliesByDictionary : Joined K V W → Dictionary W → JoinedCommand V W → JoinedReply K V W R → Type 0
   RepliesByDictionary s d (command.Put n w) (reply.Old before) = (k : K) → named s.keys n ≡ Some k → StandsIn s.primary (given.data_of k) → before ≡ map.get d (given.data_of k)
-  RepliesByDictionary s d (command.Look n) (reply.Looked seen) = (k : K) → named s.keys n ≡ Some k → StandsIn s.primary (given.data_of k) → LooksAt given.looks (map.get d (given.data_of k)) seen
+  RepliesByDictionary s d (command.Look n) (reply.Looked seen) =
+      (k : K) → named s.keys n ≡ Some k → StandsIn s.primary (given.data_of k) → LooksAt given.looks (map.get d (given.data_of k)) seen
   RepliesByDictionary s d (command.Take n) (reply.TakenSecond taken) = (k : K) → named s.keys n ≡ Some k → StandsIn s.primary (given.data_of k) → taken ≡ map.get d (given.data_of k)
   RepliesByDictionary s d _ _ = Unit {0}
 
@@ -65,7 +66,8 @@ unused = record { joined = record { primary = empty_state; secondary = map.empty
 
 -- On two maps that were never used, the replies are a run that the dictionary tells. There have to be so few commands that no
 -- version counts as older than one below it
-abbrev pub RunsByDictionary : {K V W C R : Type 0} → (WithDictionary K V W → C → R → WithDictionary K V W → Type 0) → Content V → Pairs W → List C → List R → Content V → Pairs W → Type 0
+abbrev pub RunsByDictionary : {K V W C R : Type 0} → (WithDictionary K V W → C → R → WithDictionary K V W → Type 0)
+    → Content V → Pairs W → List C → List R → Content V → Pairs W → Type 0
 RunsByDictionary {K} {V} {W} Step old_first old_second commands replies new_first new_second =
     places old_first ≡ 0 → old_second ≡ map.empty → length commands < 2 ^ 31
     → (t : WithDictionary K V W) × Run Step unused commands replies t × Fits t.joined.primary new_first × (t.joined.secondary ≡ new_second)

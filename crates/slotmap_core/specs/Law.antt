@@ -165,7 +165,9 @@ ReattachBinds {K} {V} {R} {E} commands replies =
 -- Let all commands be Insert, Remove, Detach or Reattach, and none fail because the map is full or memory runs out. Then the
 -- inserts return the keys of the machine that reuses the place freed last first
 abbrev pub LastFreedFirst : {K V R E : Type 0} → (K → Key) → List (DetachCommand K V) → List (Reply K V R E) → Type 0
-LastFreedFirst data_of commands replies = AllByRecursion IsBasic commands → AllByRecursion (λ answer. IsRefusal answer → ⊥) replies → keys_told data_of replies ≡ answers data_of no_places commands
+LastFreedFirst data_of commands replies =
+    AllByRecursion IsBasic commands → AllByRecursion (λ answer. IsRefusal answer → ⊥) replies
+    → keys_told data_of replies ≡ answers data_of no_places commands
 
 module _ {K V R E : Type 0} (data_of : K → Key) where
   -- what holds of the replies to every list of commands

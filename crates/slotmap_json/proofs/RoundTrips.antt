@@ -52,7 +52,8 @@ module _ {V : Type 0} (gives : V → Data → Type 0) (reads : Data → Result V
       elim (fits_or_not version) [
         | inl fits ↦
             let value : (r : Result V JsonError) × reads is.0 r × (Ok slot ≡ ok_map (λ v. record { value = Some v; version = version }) r) = rw (fits, back.kept v is.0 is.1) at at in
-            let same : Ok slot ≡ Ok (record { value = Some v; version = version }) = value.2 ∙ ap (ok_map (λ v. record { value = Some v; version = version })) (back.same v is.0 value.0 is.1 value.1) in
+            let same : Ok slot ≡ Ok (record { value = Some v; version = version }) =
+            value.2 ∙ ap (ok_map (λ v. record { value = Some v; version = version })) (back.same v is.0 value.0 is.1 value.1) in
             cc
         | inr not ↦ let other : Ok slot ≡ Err Shape = rw not at at in absurd (cc)
       ]
@@ -61,7 +62,8 @@ module _ {V : Type 0} (gives : V → Data → Type 0) (reads : Data → Result V
   err_not_ok r e slot err ok = absurd (cc)
 
   -- a slot's JSON isn't refused
-  slot_accepted : (value : Option V) (version : ℕ) (d : Data) (e : JsonError) → version < 2 ^ 32 → IsSlotJson gives (record { value = value; version = version }) d → ReadsSlot reads d (Err e) → ⊥
+  slot_accepted : (value : Option V) (version : ℕ) (d : Data) (e : JsonError) → version < 2 ^ 32
+      → IsSlotJson gives (record { value = value; version = version }) d → ReadsSlot reads d (Err e) → ⊥
   slot_accepted None version d e less is read =
       let at : ReadsSlot reads (slot_json null version) (Err e) = subst (λ (x : Data). ReadsSlot reads x (Err e)) is read in
       err_not_ok (Err e) e (record { value = None; version = version }) refl (rw (fits version less) at at)
@@ -91,7 +93,8 @@ module _ {V : Type 0} (gives : V → Data → Type 0) (reads : Data → Result V
   none_refused [] (b ∷ before) after d e less are read = absurd are
 
   -- reading it fails only if memory runs out
-  pub slots_not_refused : (slots : List (SlotRecord V)) (d : Data) (e : JsonError) → AllByRecursion (λ slot. slot.version < 2 ^ 32) slots → IsSlotsJson gives slots d → IsRefused reads d e → e ≡ Memory
+  pub slots_not_refused : (slots : List (SlotRecord V)) (d : Data) (e : JsonError) → AllByRecursion (λ slot. slot.version < 2 ^ 32) slots
+      → IsSlotsJson gives slots d → IsRefused reads d e → e ≡ Memory
   slots_not_refused slots d Memory less written refused = refl
   slots_not_refused slots d Shape less written (inl none) = absurd (let not : as_array (array (items_of written.0)) ≡ None = rw written.1 at none in cc)
   slots_not_refused slots d Shape less written (inr has) =

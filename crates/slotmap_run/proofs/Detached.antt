@@ -1,8 +1,8 @@
 -- No later insert returns a detached key, and it can be reattached.
 use Rattle.std.specs.FinMap as map
 use Rattle.std.specs.FinSet as set
-use Rattle.std.proofs.Common.{◌≡◌, ◌⊎◌, Ok, List, Some, true, false, inl, ap, is_some, arith}
-use Rattle.slotmap_core.proofs.Common.{State, IsIssued, RunGiven, DetachStep, keys_told, DetachedNotReissued, DetachedReattaches, ReattachBinds, Spares}
+use Rattle.std.proofs.Common.{◌≡◌, ◌⊎◌, Ok, List, Some, true, false, arith}
+use Rattle.slotmap_core.proofs.Common.{State, RunGiven, DetachStep, DetachedNotReissued, DetachedReattaches, ReattachBinds, Spares}
 use Rattle.slotmap_core.proofs.Common.{keys_total, exact_keys, itself}
 use Rattle.slotmap_core.specs.declared.commands.Command.TheVariants as command
 use Rattle.slotmap_core.specs.declared.commands.DetachCommand.{DetachCommand}
@@ -16,13 +16,11 @@ use Rattle.slotmap_run.proofs.Runs.{run_split, run_keeps, run_keeps_by}
 use Rattle.slotmap_run.proofs.NewRuns.{RunsWell}
 
 module _ {K V R E : Type 0} (given : RunGiven K V R E) where
-  pub detached_not_reissued : (commands : List (DetachCommand K V)) (replies : List (Reply K V R E)) → RunsWell (DetachStep given) commands replies → DetachedNotReissued given.data_of commands replies
+  pub detached_not_reissued : (commands : List (DetachCommand K V)) (replies : List (Reply K V R E)) → RunsWell (DetachStep given) commands replies
+      → DetachedNotReissued given.data_of commands replies
   detached_not_reissued commands replies well cs ds rs ss key v e is js =
-      let run = rw (is, js) at well.run in
-      let first = run_split (DetachStep given) cs rs _ _ _ _ _ _ e run in
-      let good = run_keeps (DetachStep given) IsGood (good_stays (detach_machine given)) cs rs well.first first.0 first.2 well.good in
-      let still : IsIssued first.1 (given.data_of key) = rw first.3.1 (good.held_issued (given.data_of key) (inl (ap is_some first.3.0))) in
-      weaker (λ q h e. h (rw e still)) (keys_told given.data_of ss) (told_new (detach_machine given) ds ss first.1 well.last first.4).0
+      let good = run_keeps (DetachStep given) IsGood (good_stays (detach_machine given)) cs rs well.first in
+      grind (arith, run_split (DetachStep given) cs rs, good, weaker, told_new (detach_machine given) ds ss)
 
   answered : (old : State V) (key : K) (w : V) (answer : Reply K V R E) (new : State V) → set.contains old.detached (given.data_of key) ≡ true
       → DetachStep given old (detaching.Reattach key w) answer new → (answer ≡ reply.Done) ⊎ ((given.reuses ≡ false) × (answer ≡ reply.Memory (Some w)))
@@ -44,7 +42,4 @@ module _ {K V R E : Type 0} (given : RunGiven K V R E) where
   replaces old key w u answer new found step = grind arith
 
   pub reattach_binds : (commands : List (DetachCommand K V)) (replies : List (Reply K V R E)) → RunsWell (DetachStep given) commands replies → ReattachBinds commands replies
-  reattach_binds commands replies well cs ds rs ss key w u answer e is js =
-      let run = rw (is, js) at well.run in
-      let first = run_split (DetachStep given) cs rs _ _ _ _ _ _ e run in
-      replaces first.1 key w u answer first.4.0 (grind (arith, changes, itself keys_total exact_keys (given.data_of key), first.3.1)) first.4.1
+  reattach_binds commands replies well cs ds rs ss key w u answer e is js = grind (arith, run_split, changes)

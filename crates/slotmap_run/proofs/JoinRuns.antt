@@ -1,8 +1,8 @@
 -- Calls of two joined maps, one after another, are a run of the joined machine.
 use Rattle.std.specs.FinMap as map
 use Rattle.std.specs.FinSet as set
-use Rattle.std.proofs.Common.{◌≡◌, ◌+◌, ◌^◌, ◌∷◌, nat_cmp, Result, IfOk, OnErr, ℕ, List, [], length, refl, ap, ◌∙◌, subst, arith}
-use Rattle.slotmap_core.proofs.Common.{Key, key_cmp, Content, places, IsNew, State, empty_state, Fits, Lasts, Pairs, Joined, RunsBeside, Dictionary}
+use Rattle.std.proofs.Common.{◌≡◌, ◌+◌, ◌^◌, ◌∷◌, Result, IfOk, OnErr, ℕ, List, [], length, refl, ◌∙◌, subst, arith}
+use Rattle.slotmap_core.proofs.Common.{Key, Content, places, IsNew, State, empty_state, Fits, Lasts, Pairs, Joined, RunsBeside, Dictionary}
 use Rattle.slotmap_core.proofs.Common.{WithDictionary, RunsByDictionary, unused, Run, IfOk-weaker, on_err_weaker, new_stands}
 use Rattle.slotmap_run.proofs.Fits.{new_fits, new_lasts}
 use Rattle.slotmap_run.proofs.Runs.{run_keeps}
@@ -14,8 +14,7 @@ is_new old no_places = grind (arith, map.empty_of_len old.live, set.empty_of_len
 
 -- nothing is known of two maps that were never used
 nothing_known : {K V W : Type 0} (data_of : K → Key) (old : Content V) (second : Pairs W) → IsNew old → second ≡ map.empty → Known data_of empty_state map.empty old second []
-nothing_known {K} {V} {W} data_of old second new empty =
-    grind (arith, empty, new_stands old new, map.get-empty {X = ℕ × W} nat_cmp, map.get-empty {X = W} key_cmp, set.contains-empty key_cmp)
+nothing_known {K} {V} {W} data_of old second new empty = grind (arith, new_stands, map.get-empty, set.contains-empty)
 
 -- fewer calls
 fewer_calls : {V : Type 0} (n : ℕ) (c : Content V) → Lasts (n + 2 ^ 31) c → Lasts (2 ^ 31) c
@@ -89,10 +88,7 @@ module _ {M S K V W C R : Type 0} (data_of : K → Key) (content : M → Content
 module _ {M S K V W : Type 0} (content : M → Content V) (pairs : S → Pairs W) {old new : Beside M S K} {p : M} {q : S} (same : new ≡ old)
     (is_p : new.primary.ghost_name ≡ old.primary.ghost_name → p ≡ new.primary.now) (is_q : new.secondary.ghost_name ≡ old.secondary.ghost_name → q ≡ new.secondary.now) where
   joined_kept : (content p ≡ content old.primary.now) × (pairs q ≡ pairs old.secondary.now)
-  joined_kept = (
-    ap content (is_p (ap (λ maps. maps.primary.ghost_name) same) ∙ ap (λ maps. maps.primary.now) same),
-    ap pairs (is_q (ap (λ maps. maps.secondary.ghost_name) same) ∙ ap (λ maps. maps.secondary.now) same),
-  )
+  joined_kept = grind arith
 
 -- what a function ensures that runs commands on two maps, a field for each clause
 pub record JoinedIfOk {M S K V W C R A B : Type 0} (content : M → Content V) (pairs : S → Pairs W)
@@ -103,9 +99,11 @@ pub record JoinedIfOk {M S K V W C R A B : Type 0} (content : M → Content V) (
   pub unchanged : OnErr result ((content p ≡ content old.primary.now) × (pairs q ≡ pairs old.secondary.now))
 
 pub joined_if_ok : {M S K V W C R A B : Type 0} (data_of : K → Key) {content : M → Content V} {pairs : S → Pairs W}
-    {Step : Joined K V W → C → R → Joined K V W → Type 0} {Telling : WithDictionary K V W → C → R → WithDictionary K V W → Type 0} {cs : List C} {old : Beside M S K} (new : Beside M S K)
+    {Step : Joined K V W → C → R → Joined K V W → Type 0} {Telling : WithDictionary K V W → C → R → WithDictionary K V W → Type 0}
+    {cs : List C} {old : Beside M S K} (new : Beside M S K)
     → (result : Result A B) (told : A → List R) (p : M) (q : S) → IfOk result (λ a. Run (JoinServed data_of content pairs Step Telling) old cs (told a) new) → OnErr result (new ≡ old)
-    → old.keys.now.items ≡ [] → (new.primary.ghost_name ≡ old.primary.ghost_name → p ≡ new.primary.now) → (new.secondary.ghost_name ≡ old.secondary.ghost_name → q ≡ new.secondary.now)
+    → old.keys.now.items ≡ [] → (new.primary.ghost_name ≡ old.primary.ghost_name → p ≡ new.primary.now)
+    → (new.secondary.ghost_name ≡ old.secondary.ghost_name → q ≡ new.secondary.now)
     → JoinedIfOk content pairs Step Telling cs result told old p q
 joined_if_ok data_of {content} {pairs} {Step} {Telling} {cs} {old} new result told p q ran same none is_p is_q = record {
   run = IfOk-weaker result _ _ (λ a run. joined_run data_of content pairs Step Telling cs (told a) old new run none p q is_p is_q) ran;

@@ -1,5 +1,6 @@
 -- What a joined run finds, by positions: for callers, who know commands and replies by index.
-use Rattle.std.proofs.Common.{◌≡◌, ◌≢◌, ℕ, zero, suc, ◌+◌, ◌-◌, ◌<◌, List, [], ◌∷◌, ◌++◌, length, take, drop, slice_get, Some, None, Option, ◌⊎◌, inl, inr, refl, sym, ap, ◌∙◌, subst, arith}
+use Rattle.std.proofs.Common.{◌≡◌, ◌≢◌, ℕ, zero, suc, ◌+◌, ◌-◌, ◌<◌, List, [], ◌∷◌, ◌++◌, length, take, drop, slice_get, Some, None, Option, ◌⊎◌, inl, inr}
+use Rattle.std.proofs.Common.{refl, sym, ap, ◌∙◌, subst, arith}
 use Rattle.std.specs.List.{AllByRecursion, AllZip}
 use Rattle.std.specs.FinMap as map
 use Rattle.slotmap_core.specs.Machine.{StandsIn, IsIssued, Fresh, after_insert}
@@ -36,8 +37,7 @@ named_pushed (x ∷ keys) k (suc zero) q h = inr h
 named_pushed (x ∷ keys) k (suc (suc n)) q h = elim (named_pushed keys k (suc n) q h) [ inl last ↦ inl (omega (arith, last.0), last.1) | inr was ↦ inr was ]
 
 none_named : {K : Type 0} (n : ℕ) (k : K) → named [] n ≡ Some k → ⊥
-none_named zero k h = absurd (cc)
-none_named (suc n) k h = absurd (cc)
+none_named n k h = grind arith
 
 -- the command doesn't remove the key that n names
 abbrev pub RemovesOther : {V W : Type 0} → ℕ → JoinedDetachCommand V W → Type 0
@@ -88,23 +88,11 @@ module _ {K V W R : Type 0} (given : JoinedGiven K W R) (n : ℕ) where
     -- no new key
     as_before : new.keys ≡ old.keys → new.primary.issued ≡ old.primary.issued
         → ((k : K) → named old.keys n ≡ Some k → StandsIn old.primary (given.data_of k) → StandsIn new.primary (given.data_of k)) → Holds new
-    as_before keys issued stands = record {
-      issued = λ m q h. let there = holds.issued m q (ap (λ ks. named ks m) (sym keys) ∙ h) in rw issued there;
-      apart = λ l m p q h g same. holds.apart l m p q (ap (λ ks. named ks l) (sym keys) ∙ h) (ap (λ ks. named ks m) (sym keys) ∙ g) same;
-      stands = λ k h. let was = ap (λ ks. named ks n) (sym keys) ∙ h in stands k was (holds.stands k was);
-    }
+    as_before keys issued stands = grind arith
 
   holds_stays : (old : Joined K V W) (c : JoinedDetachCommand V W) (r : JoinedReply K V W R) (new : Joined K V W) → RemovesOther n c → JoinedDetachStep given old c r new
       → Holds old → Holds new
-  holds_stays old (detaching.Plain (command.Insert v)) (reply.Key q) new other step holds = one_more old new holds q v step.1 step.0.0.1 step.0.0.2
-  holds_stays old (detaching.Plain (command.Insert v)) r new other step holds = as_before old new holds (grind arith) (grind arith) (λ k h there. grind (arith, there))
-  holds_stays old (detaching.Plain (command.Remove m)) r new other step holds = as_before old new holds (grind arith) (grind arith)
-      (λ k h there. let alone = λ (q : K) (g : named old.keys m ≡ Some q). holds.apart m n q k g h in grind (arith, changes, there, alone, other))
-  holds_stays old (detaching.Plain (command.Put m w)) r new other step holds = as_before old new holds (grind arith) (grind arith) (λ k h there. grind (arith, there))
-  holds_stays old (detaching.Plain (command.Look m)) r new other step holds = as_before old new holds (grind arith) (grind arith) (λ k h there. grind (arith, there))
-  holds_stays old (detaching.Plain (command.Take m)) r new other step holds = as_before old new holds (grind arith) (grind arith) (λ k h there. grind (arith, there))
-  holds_stays old (detaching.Detach m) r new other step holds = as_before old new holds (grind arith) (grind arith) (λ k h there. grind (arith, changes, there))
-  holds_stays old (detaching.Reattach m v) r new other step holds = as_before old new holds (grind arith) (grind arith) (λ k h there. grind (arith, changes, there))
+  holds_stays old c r new other step holds = grind (arith, one_more, as_before old new holds, changes)
 
 -- a number names this key, and the dictionary has this value for it
 record Finds {K V W R : Type 0} (given : JoinedGiven K W R) (n : ℕ) (k : K) (w : W) (s : WithDictionary K V W) : Type 0 where
@@ -116,51 +104,32 @@ module _ {K V W R : Type 0} (given : JoinedGiven K W R) (n : ℕ) where
   -- the joined step of a step with a dictionary
   joined_step : (old : WithDictionary K V W) (c : JoinedDetachCommand V W) (r : JoinedReply K V W R) (new : WithDictionary K V W) → DetachDictionaryStep given old c r new
       → JoinedDetachStep given old.joined c r new.joined
-  joined_step old (detaching.Plain c) r new step = step.steps
-  joined_step old (detaching.Detach m) r new step = step.0
-  joined_step old (detaching.Reattach m v) r new step = step.0
+  joined_step old c r new step = grind arith
 
   pub still_named : (old : Joined K V W) (c : JoinedDetachCommand V W) (r : JoinedReply K V W R) (new : Joined K V W) → JoinedDetachStep given old c r new → (k : K)
       → named old.keys n ≡ Some k → named new.keys n ≡ Some k
-  still_named old (detaching.Plain (command.Insert v)) (reply.Key q) new step k is = ap (λ keys. named keys n) step.1 ∙ named_more old.keys q n k is
-  still_named old (detaching.Plain (command.Insert v)) r new step k is = grind (arith, is)
-  still_named old (detaching.Plain (command.Remove m)) r new step k is = grind (arith, is)
-  still_named old (detaching.Plain (command.Put m w)) r new step k is = grind (arith, is)
-  still_named old (detaching.Plain (command.Look m)) r new step k is = grind (arith, is)
-  still_named old (detaching.Plain (command.Take m)) r new step k is = grind (arith, is)
-  still_named old (detaching.Detach m) r new step k is = grind (arith, is)
-  still_named old (detaching.Reattach m v) r new step k is = grind (arith, is)
+  still_named old c r new step k is = grind (arith, named_more)
 
   module _ (k : K) (w : W) (old : WithDictionary K V W) (finds : Finds given n k w old) where
     -- what is written beside another number's key
     put_elsewhere : (m : ℕ) (o : Option K) (u : W) → named old.joined.keys m ≡ o → m ≢ n → map.get (after_put given.data_of old.dictionary o u) (given.data_of k) ≡ Some w
     put_elsewhere m None u is other = finds.has
-    put_elsewhere m (Some q) u is other =
-        get_other keys_total exact_keys old.dictionary (given.data_of q) u (given.data_of k) (λ same. other (finds.holds.apart m n q k is finds.names (sym same))) ∙ finds.has
+    put_elsewhere m (Some q) u is other = grind (arith, get_other keys_total exact_keys old.dictionary)
 
     taken_elsewhere : (m : ℕ) (o : Option K) → named old.joined.keys m ≡ o → m ≢ n → map.get (after_take given.data_of old.dictionary o) (given.data_of k) ≡ Some w
     taken_elsewhere m None is other = finds.has
-    taken_elsewhere m (Some q) is other =
-        get_left keys_total exact_keys old.dictionary (given.data_of q) (given.data_of k) (λ same. other (finds.holds.apart m n q k is finds.names (sym same))) ∙ finds.has
+    taken_elsewhere m (Some q) is other = grind (arith, get_left keys_total exact_keys old.dictionary)
 
     still_has : (c : JoinedDetachCommand V W) (r : JoinedReply K V W R) (new : WithDictionary K V W) → WritesOther n c → DetachDictionaryStep given old c r new
         → map.get new.dictionary (given.data_of k) ≡ Some w
-    still_has (detaching.Plain (command.Put m u)) (reply.Old before) new other step = ap (λ d. map.get d (given.data_of k)) step.notes ∙ put_elsewhere m (named old.joined.keys m) u refl other
-    still_has (detaching.Plain (command.Take m)) (reply.TakenSecond taken) new other step = ap (λ d. map.get d (given.data_of k)) step.notes
-        ∙ taken_elsewhere m (named old.joined.keys m) refl other
-    still_has (detaching.Plain c) r new other step = grind (arith, finds.has)
-    still_has (detaching.Detach m) r new other step = ap (λ d. map.get d (given.data_of k)) step.1 ∙ finds.has
-    still_has (detaching.Reattach m v) r new other step = ap (λ d. map.get d (given.data_of k)) step.1 ∙ finds.has
+    still_has c r new other step = grind (arith, put_elsewhere, taken_elsewhere)
 
     finds_stays : (c : JoinedDetachCommand V W) (r : JoinedReply K V W R) (new : WithDictionary K V W) → RemovesOther n c → WritesOther n c
         → DetachDictionaryStep given old c r new → Finds given n k w new
     finds_stays c r new kept other step =
         let steps = joined_step old c r new step in
-        record {
-          holds = holds_stays given n old.joined c r new.joined kept steps finds.holds;
-          names = still_named old.joined c r new.joined steps k finds.names;
-          has = still_has c r new other step;
-        }
+        let names = still_named old.joined c r new.joined steps k finds.names in
+        grind (arith, holds_stays given n old.joined c r new.joined kept steps finds.holds, names, still_has)
 
   -- a put that has memory is found by the number that it names
   put_finds : (w : W) (before : Option W) (old new : WithDictionary K V W) → DictionaryStep given old (command.Put n w) (reply.Old before) new → Holds given n old.joined
@@ -169,14 +138,7 @@ module _ {K V W R : Type 0} (given : JoinedGiven K W R) (n : ℕ) where
     where
       of_named : (o : Option K) → named old.joined.keys n ≡ o → StepPut given old.joined o w (reply.Old before) new.joined
           → new.dictionary ≡ after_put given.data_of old.dictionary o w → (k : K) × Finds given n k w new
-      of_named (Some k) is puts notes = (
-        k,
-        record {
-          holds = holds_stays given n old.joined (detaching.Plain (command.Put n w)) (reply.Old before) new.joined tt step.steps holds;
-          names = ap (λ keys. named keys n) puts.2 ∙ is;
-          has = ap (λ d. map.get d (given.data_of k)) notes ∙ get_inserted keys_total exact_keys old.dictionary (given.data_of k) w;
-        },
-      )
+      of_named (Some k) is puts notes = grind (arith, get_inserted keys_total exact_keys old.dictionary)
       of_named None is puts notes = absurd puts
 
   -- what a look-up by that number shows
@@ -226,8 +188,7 @@ module _ {K V W R C : Type 0} (given : JoinedGiven K W R) (of : C → JoinedDeta
         finds_shown given n found.0 w seen second.0 second.1 (subst (λ x. DetachDictionaryStep given second.0 x (reply.Looked seen) second.1) looks second.3) still
 
 shows_seen : {W R : Type 0} (looks : W → R → Type 0) (f : W → R) (w : W) (seen : Option R) → Shows looks f → LooksAt looks (Some w) seen → seen ≡ Some (f w)
-shows_seen looks f w (Some r) shows sees = ap Some (shows w r sees)
-shows_seen looks f w None shows sees = absurd sees
+shows_seen looks f w seen shows sees = grind arith
 
 module _ {K V W R : Type 0} (given : JoinedGiven K W R) where
   -- The value that is put under a number at one position is what a Look at the same number shows at a later one, if no command before the

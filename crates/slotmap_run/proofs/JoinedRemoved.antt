@@ -92,8 +92,7 @@ module _ {K V W R C : Type 0} (given : JoinedGiven K W R) (of : C → JoinedDeta
 
   none_found : (n : ℕ) (cs : List C) (rs : List (JoinedReply K V W R)) (s t : Joined K V W) → Run StepOf s cs rs t → NamesGone given n s → AllZip (λ c r. JoinedFindsNothing n (of c) r) cs rs
   none_found n [] [] s t run was = tt
-  none_found n (c ∷ cs) (r ∷ rs) s t run was =
-      (not_found given n s (of c) r run.0 run.1 was, none_found n cs rs run.0 t run.2 (still_gone given n s (of c) r run.0 run.1 was))
+  none_found n (c ∷ cs) (r ∷ rs) s t run was = grind (arith, none_found n cs rs run.0 t run.2 (still_gone given n s (of c) r run.0 run.1 was))
   none_found n _ _ s t run was = absurd run
 
   removed_in_run : (commands : List C) (replies : List (JoinedReply K V W R)) (s t : Joined K V W) → Run StepOf s commands replies t → IsGood s.primary

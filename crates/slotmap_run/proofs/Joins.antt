@@ -39,7 +39,8 @@ abbrev pub closed : {K V W R : Type 0} → JoinedGiven K W R → First K V (Unit
 closed given = record { data_of = given.data_of; looks = λ v r. ⊥; keeps = λ k v w stays. ⊥; makes = λ k r. ⊥; reuses = given.reuses }
 
 module _ {K V W R C : Type 0} (given : JoinedGiven K W R) (old new : Content V) (m : Pairs W) (keys : List K)
-    (Machine : Joined K V W → C → JoinedReply K V W R → Joined K V W → Type 0) (Telling : WithDictionary K V W → C → JoinedReply K V W R → WithDictionary K V W → Type 0)
+    (Machine : Joined K V W → C → JoinedReply K V W R → Joined K V W → Type 0)
+    (Telling : WithDictionary K V W → C → JoinedReply K V W R → WithDictionary K V W → Type 0)
     (c : C) (r : JoinedReply K V W R) (a : DetachCommand K V) (b : Reply K V (Unit {0}) (Unit {0})) where
   -- a step of the primary map that returns no key
   quiet : reply_keys given.data_of b ≡ [] → FollowsFirst (first_step.DetachStep (closed given)) old a b new
@@ -106,7 +107,8 @@ module _ {K V W R : Type 0} (given : JoinedGiven K W R) (old new : Content V) (m
     module _ (c : JoinedDetachCommand V W) (r : JoinedReply K V W R) (a : DetachCommand K V) (b : Reply K V (Unit {0}) (Unit {0})) where
       by_detaching : reply_keys given.data_of b ≡ [] → Served first_step.DetachStep (λ c. c) (closed given) old a b new
           → ((s t : State V) → first_step.DetachStep (closed given) s a b t → JoinedDetachStep given (joined s m keys) c r (joined t m keys))
-          → ((s t : State V) (d : Dictionary W) → JoinedDetachStep given (joined s m keys) c r (joined t m keys) → DetachDictionaryStep given (told_by s m keys d) c r (told_by t m keys d)) → Detaching c r
+          → ((s t : State V) (d : Dictionary W) → JoinedDetachStep given (joined s m keys) c r (joined t m keys)
+          → DetachDictionaryStep given (told_by s m keys d) c r (told_by t m keys d)) → Detaching c r
       by_detaching none served step telling = quiet given old new m keys (JoinedDetachStep given) (DetachDictionaryStep given) c r a b none served.follows step telling
 
     pub detached : (taken : Option V) → taken ≡ map.get old.live (given.data_of key) → OnSome taken (Detaches old (given.data_of key) new) → IfNone taken (new ≡ old)
@@ -137,7 +139,8 @@ module _ {K V W R : Type 0} (given : JoinedGiven K W R) (old : Content V) (m : P
   stays_lasts : (n : ℕ) → Lasts (n + 1) old → Lasts n old
   stays_lasts = (keeps given.reuses old old ok (first.keeps_itself old)).lasts
 
-  module _ {C : Type 0} (Machine : Joined K V W → C → JoinedReply K V W R → Joined K V W → Type 0) (Telling : WithDictionary K V W → C → JoinedReply K V W R → WithDictionary K V W → Type 0)
+  module _ {C : Type 0} (Machine : Joined K V W → C → JoinedReply K V W R → Joined K V W → Type 0)
+      (Telling : WithDictionary K V W → C → JoinedReply K V W R → WithDictionary K V W → Type 0)
       (c : C) (r : JoinedReply K V W R) where
     -- neither map changes
     silent : ((s : State V) → Machine (joined s m keys) c r (joined s m keys))
@@ -161,7 +164,7 @@ module _ {K V W R : Type 0} (given : JoinedGiven K W R) (old : Content V) (m : P
       → ((s : State V) (d : Dictionary W) → Fits s old → Known given.data_of s d old m keys → Lasts (2 ^ 31) old
       → RepliesByDictionary given (joined s m keys) d c r × (after d ≡ noted given keys d c r) × Known given.data_of s (after d) old m' keys) → Second c r m'
   turns m' c r after step telling = record {
-    step = λ s fits. (s, step s, fits, λ d known lasts. let by_dictionary = telling s d fits known lasts in (after d, record { steps = step s; by_dictionary = by_dictionary.0; notes = by_dictionary.1 }, by_dictionary.2));
+    step = λ s fits. (s, step s, fits, λ d known lasts. let told = telling s d fits known lasts in (after d, record { steps = step s; by_dictionary = told.0; notes = told.1 }, told.2));
     lasts = stays_lasts;
   }
 

@@ -1,9 +1,10 @@
 -- What is known of two joined maps stays known when a call changes one of them.
 use Rattle.std.specs.FinMap as map
-use Rattle.std.proofs.Common.{◌≡◌, ◌≢◌, ◌^◌, ◌<◌, ◌≤◌, ◌∷◌, ◌++◌, ◌⊎◌, slice_get, ℕ, zero, suc, List, [], Some, Bool, false, inl, inr, refl, sym, ◌∙◌, arith}
+use Rattle.std.proofs.Common.{◌≡◌, ◌≢◌, ◌^◌, ◌<◌, ◌≤◌, ◌∷◌, ◌++◌, ◌⊎◌, slice_get, ℕ, zero, suc, List, [], Some, Bool, false, inl, inr, refl, sym}
+use Rattle.std.proofs.Common.{◌∙◌, arith}
 use Rattle.slotmap_core.proofs.Common.{Key, Content, IsContent, Stands, State, Fresh, IsIssued, after_insert, Fits, Lasts, Pairs, is_null, get, put, remove}
 use Rattle.slotmap_core.proofs.Common.{Dictionary, rules, common_steps, keys_total, exact_keys, same_or_other, itself, get_inserted, get_other, get_removed}
-use Rattle.slotmap_core.proofs.Common.{get_left, in_inserted, stands_after_put, newest_put, newer_stays, stands_after_remove, removed_gone, others_stay}
+use Rattle.slotmap_core.proofs.Common.{get_left, stands_after_put, newest_put, newer_stays, stands_after_remove, removed_gone, others_stay}
 use Rattle.slotmap_core.specs.declared.commands.Reply.{Reply}
 use Rattle.slotmap_run.proofs.MapChanges.{changes}
 use Rattle.slotmap_run.proofs.Fits.{stands_of, held_of}
@@ -31,14 +32,7 @@ module _ {K V W : Type 0} (data_of : K → Key) (old new : Content V) (m : Pairs
 
     pub one_more : Lasts (2 ^ 31) new → Known data_of t d new m (keys ++ key ∷ [])
     one_more lasts =
-        let room = lasts.standing (data_of key) (stands_of t new now (data_of key) (rw is (inl (in_inserted keys_total exact_keys s.live (data_of key) v)))) in
-        record {
-          answered = λ i q h. grind (arith, changes, is, itself keys_total exact_keys (data_of key), pushed_key keys key i q h, known.answered i q);
-          stored = λ i p h. grind (arith, changes, is, known.stored i p h);
-          written = λ q w h. grind (arith, changes, is, known.written q w h);
-          agree = λ q h. grind (arith, bound_held s (data_of key) v q, is, held_of t new now q h, none_found, known.agree q, stands_of s old fits q);
-          young = λ q h. grind (arith, changes, is, room, known.young q);
-        }
+        grind (arith, changes, itself keys_total exact_keys (data_of key), pushed_key keys key, bound_held s (data_of key) v, none_found, stands_of s old fits)
 
 -- the secondary map changes
 module _ {K V W : Type 0} (data_of : K → Key) (reuses : Bool) (old : Content V) (ok : IsContent reuses old) (m : Pairs W) (keys : List K) (s : State V) (fits : Fits s old) (d : Dictionary W)

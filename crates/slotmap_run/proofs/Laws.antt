@@ -10,7 +10,7 @@ use Rattle.slotmap_core.specs.declared.commands.Command.{Command}
 use Rattle.slotmap_core.specs.declared.commands.Reply.{Reply}
 use Rattle.slotmap_run.proofs.Runs.{run_keeps}
 use Rattle.slotmap_run.proofs.MapChanges.{changes}
-use Rattle.slotmap_run.proofs.UsedCounts.{IsApart, bound_held, no_more_used, one_more_used, apart_after}
+use Rattle.slotmap_run.proofs.UsedCounts.{IsApart, bound_held, no_more_used, one_more_used}
 
 pub weaker : {A : Type 0} {P Q : A → Type 0} → ((x : A) → P x → Q x) → (xs : List A) → AllByRecursion P xs → AllByRecursion Q xs
 weaker f [] h = tt
@@ -71,22 +71,10 @@ module _ {K V R E C : Type 0} {given : RunGiven K V R E} {Step : State V → C �
   issued_stays old c r new step k h = grind (arith, m.cases old c r new step, changes)
 
   pub good_stays : (old : State V) (c : C) (r : Reply K V R E) (new : State V) → Step old c r new → IsGood old → IsGood new
-  good_stays old c r new step good = elim (m.cases old c r new step) [
-    | inl b ↦
-        let apart = apart_after old b.key b.value good.apart b.fresh in
-        let grows = one_more_used old b.key b.value good.apart b.fresh in
-        rw b.is (grind (arith, changes, itself keys_total exact_keys b.key, bound_held old b.key b.value, good.held_issued, good.within, b.below_limit))
-    | inr s ↦
-        let apart = s.apart good.apart in
-        let fewer = no_more_used old new good.apart apart s.issued s.held in
-        grind (arith, s.issued, s.held, good.held_issued, s.within good.within)
-  ]
+  good_stays old c r new step good = grind (arith, one_more_used, changes, no_more_used)
 
   pub gone_stays : (k : Key) (old : State V) (c : C) (r : Reply K V R E) (new : State V) → Step old c r new → Gone old k → Gone new k
-  gone_stays k old c r new step gone = elim (m.cases old c r new step) [
-    | inl b ↦ rw b.is (grind (arith, changes, bound_held old b.key b.value k, b.fresh.newer k, gone.issued, gone.not_standing))
-    | inr s ↦ grind (arith, s.issued, s.held k, gone.issued, gone.not_standing)
-  ]
+  gone_stays k old c r new step gone = grind (arith, changes, bound_held)
 
   -- a step lowers what is promised by at most 1, a run of n by at most n
   pub still_promised : (cs : List C) (rs : List (Reply K V R E)) (s t : State V) → Run Step s cs rs t → s.promised ≤ t.promised + length cs
@@ -95,7 +83,8 @@ module _ {K V R E C : Type 0} {given : RunGiven K V R E} {Step : State V → C �
   still_promised _ _ s t run = absurd run
 
   -- no key that the replies return was issued before, and they return none twice
-  pub told_new : (cs : List C) (rs : List (Reply K V R E)) (s t : State V) → Run Step s cs rs t → AllByRecursion (λ q. IsIssued s q → ⊥) (keys_told given.data_of rs) × NoKeyTwice given.data_of rs
+  pub told_new : (cs : List C) (rs : List (Reply K V R E)) (s t : State V) → Run Step s cs rs t
+      → AllByRecursion (λ q. IsIssued s q → ⊥) (keys_told given.data_of rs) × NoKeyTwice given.data_of rs
   unfolding IsDistinct
   told_new [] [] s t run = (tt, tt)
   told_new (c ∷ cs) (r ∷ rs) s t run =
@@ -110,9 +99,7 @@ module _ {K V R E C : Type 0} {given : RunGiven K V R E} {Step : State V → C �
   told_new _ _ s t run = absurd run
 
   retired_stays : (k : Key) (old : State V) (c : C) (r : Reply K V R E) (new : State V) → Step old c r new → set.contains (retired old) k ≡ true → set.contains (retired new) k ≡ true
-  retired_stays k old c r new step h =
-      let gone = gone_stays k old c r new step (record { not_standing = λ g. grind (arith, in_retired old k); issued = grind (arith, in_retired old k) }) in
-      grind (arith, in_retired old k, in_retired new k, gone.issued, gone.not_standing)
+  retired_stays k old c r new step h = grind (arith, gone_stays k old c r new step, in_retired old k, in_retired new k)
 
   -- if nothing is retired at the end, nothing ever was
   pub unretired : (cs : List C) (rs : List (Reply K V R E)) (s t : State V) → Run Step s cs rs t → retired t ≡ set.empty → Run (Unretiring Step) s cs rs t

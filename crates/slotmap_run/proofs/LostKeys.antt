@@ -1,7 +1,7 @@
 -- What a run takes out for good, by its states and its closures, and by positions: for callers, who know what the map held
 -- before, or which keys `keep` rejects.
 use Rattle.std.specs.FinMap as map
-use Rattle.std.proofs.Common.{◌≡◌, ◌⊎◌, ℕ, ◌+◌, ◌-◌, ◌<◌, Bool, List, ◌∷◌, ◌++◌, length, slice_get, Some, true, false, inl, inr, sym, ap, ◌∙◌, subst, arith}
+use Rattle.std.proofs.Common.{◌≡◌, ◌⊎◌, ℕ, ◌+◌, ◌-◌, ◌<◌, Bool, List, ◌∷◌, ◌++◌, length, slice_get, Some, true, false, sym, ap, ◌∙◌, subst, arith}
 use Rattle.slotmap_core.proofs.Common.{Key, Content, IsContent, State, RunGiven, Run, RunFollows, Fits, Starts, IsLive}
 use Rattle.slotmap_core.specs.Law.{ShowsLive, ShowsNotLive, LeavesAttached, FindsNothing}
 use Rattle.slotmap_core.specs.declared.commands.Command.TheVariants as command
@@ -31,12 +31,10 @@ module _ {K V R E C : Type 0} (given : RunGiven K V R E) (of : C → DetachComma
 
   module _ (old : State V) (c : C) (r : Reply K V R E) (new : State V) (step : StepOf given of old c r new) where
     lost : Loses c r → map.contains_key new.live k ≡ false
-    lost (inl shows) = shown_not_live given k old (of c) r new step shows
-    lost (inr rejects) = rejected_not_live given k old (of c) r new step rejects.0 rejects.1
+    lost loses = grind (arith, shown_not_live, rejected_not_live)
 
     lost_attached : Loses c r → LeavesAttached given.data_of k (of c) r
-    lost_attached (inl shows) = not_live_attached given k old (of c) r new step shows
-    lost_attached (inr rejects) = rw rejects.0 tt
+    lost_attached loses = grind (arith, not_live_attached)
 
   module _ (commands : List C) (replies : List (Reply K V R E)) (s t : State V) (run : Run (StepOf given of) s commands replies t) (good : IsGood s)
       (i j : ℕ) (c d : C) (r answer : Reply K V R E) (less : i < j)

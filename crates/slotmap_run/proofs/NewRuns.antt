@@ -88,7 +88,8 @@ module _ {V C R : Type 0} {Step Any : State V → C → R → State V → Type 0
         laws = machine.laws cs rs (well_anew Any cs rs new free);
       }
 
-module _ {V C R A B : Type 0} {Step Any : State V → C → R → State V → Type 0} {Laws : List C → List R → Type 0} (machine : IsLawful Step Any Laws) (cs : List C) (result : Result A B) (told : A → List R) where
+module _ {V C R A B : Type 0} {Step Any : State V → C → R → State V → Type 0} {Laws : List C → List R → Type 0} (machine : IsLawful Step Any Laws)
+    (cs : List C) (result : Result A B) (told : A → List R) where
   -- what a function ensures that runs calls on a map, a field for each clause
   pub record RanIfOk (reuses : Bool) (old new : Content V) : Type 0 where
     pub run : IfOk result (λ a. RunFollows Step old cs (told a) new)

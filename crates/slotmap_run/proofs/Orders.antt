@@ -1,8 +1,8 @@
 -- The calls of a map with a stack are the steps of the machine that reuses the slot freed last.
 use Rattle.std.specs.FinMap as map
 use Rattle.std.specs.FinSet as set
-use Rattle.std.proofs.Common.{◌≡◌, ◌+◌, ◌<◌, ◌∷◌, ◌++◌, if◌then◌else◌, nat_cmp, ℕ, max, List, [], Some, Bool, true, refl, ap, ◌∙◌, arith, is_some}
-use Rattle.slotmap_core.proofs.Common.{AllByRecursion, nat_cmp_total, Key, key_cmp, Content, IsContent, IsLive, used, places, most, IsNew, Inserts, Keeps}
+use Rattle.std.proofs.Common.{◌≡◌, ◌+◌, ◌<◌, ◌∷◌, if◌then◌else◌, nat_cmp, ℕ, max, List, [], Some, Bool, true, refl, ap, ◌∙◌, arith, is_some}
+use Rattle.slotmap_core.proofs.Common.{AllByRecursion, nat_cmp_total, Key, Content, IsContent, IsLive, used, places, most, IsNew, Inserts, Keeps}
 use Rattle.slotmap_core.proofs.Common.{Removes, Detaches, Reattaches, Lifo, offer_of, top_key, places_after, keys_told, IsRefusal, Run, exact_unsigned}
 use Rattle.slotmap_core.proofs.Common.{nil_from_length, keys_total, some_is, some_entry, places_grow, kept_places, removed_places, detached_places}
 use Rattle.slotmap_core.proofs.Common.{reattached_places}
@@ -16,19 +16,13 @@ use Rattle.slotmap_run.proofs.Fits.{new_fits}
 
 module _ {V : Type 0} (reuses : Bool) (old new : Content V) (ok : IsContent reuses old) (l : Lifo) (is : IsLifo l old) where
   -- if the map isn't full, the machine's offer is the map's
-  offer_by : used old < most → (stack : List ℕ) → old.stack ≡ Some stack → (old.offer ≡ top_key old.next (places old) stack) × (places_after (places old) stack ≡ max (places old) (used old + 1))
+  offer_by : used old < most → (stack : List ℕ) → old.stack ≡ Some stack
+      → (old.offer ≡ top_key old.next (places old) stack) × (places_after (places old) stack ≡ max (places old) (used old + 1))
   offer_by room stack e = grind (arith, ok.offers room, ok.stacked stack e, some_entry nat_cmp_total exact_unsigned old.next old.offer.index)
 
   pub lifo_inserts : (k : Key) (v : V) → Inserts old k v new → (k ≡ offer_of l) × IsLifo (after_insert l) new
-  lifo_inserts k v i = grind (
-    arith,
-    offer_by i.below_limit l.stack is.stack,
-    is.live,
-    i.live,
-    set.contains-insert keys_total l.live k,
-    map.get-insert keys_total old.live k v,
-    places_grow reuses old new ok k v i,
-  )
+  lifo_inserts k v i =
+      grind (arith, offer_by, set.contains-insert keys_total l.live k, map.get-insert keys_total old.live k v, places_grow reuses old new ok k v i)
 
   pub lifo_keeps : Keeps old new → IsLifo l new
   lifo_keeps k = grind (arith, is.live, k.live, kept_places reuses old new ok k)
@@ -45,20 +39,14 @@ module _ {V : Type 0} (reuses : Bool) (old new : Content V) (ok : IsContent reus
 module _ {V : Type 0} (reuses : Bool) (c : Content V) (ok : IsContent reuses c) (new : IsNew c) where
   -- a new map with a stack is at the machine's start
   pub lifo_new : is_some c.stack ≡ true → IsLifo lifo.no_places c
-  lifo_new some = record {
-    live = λ k. grind (arith, new.live, set.contains-empty key_cmp k, map.get-empty {X = V} key_cmp k);
-    detached = cc;
-    next = cc;
-    stack = let has = some_is c.stack some in has.1 ∙ ap Some (nil_from_length has.0 ((ok.stacked has.0 has.1).once ∙ ap map.len new.next ∙ map.len-empty nat_cmp ℕ));
-    places = (new_fits c new).peak;
-  }
+  lifo_new some =
+      let has = some_is c.stack some in
+      let none = nil_from_length has.0 ((ok.stacked has.0 has.1).once ∙ ap map.len new.next ∙ map.len-empty nat_cmp ℕ) in
+      grind (arith, has.1, none, new_fits c new)
 
 module _ {K V R E : Type 0} (data_of : K → Key) where
   pub lifo_run : (l : Lifo) (old new : Content V) (cs : List (DetachCommand K V)) (rs : List (Reply K V R E)) → IsLifo l old → Run (Orders data_of) old cs rs new
       → AllByRecursion lifo.IsBasic cs → AllByRecursion (λ r. IsRefusal r → ⊥) rs → keys_told data_of rs ≡ lifo.answers data_of l cs
   lifo_run l old new [] [] is run basic told = refl
-  lifo_run l old new (c ∷ cs) (r ∷ rs) is run basic told =
-      let first = run.1 l is basic.0 told.0 in
-      let rest = lifo_run (lifo.after_command data_of l c) run.0 new cs rs first.1 run.2 basic.1 told.1 in
-      ap (λ ks. ks ++ keys_told data_of rs) first.0 ∙ ap (λ ks. lifo.answer data_of l c ++ ks) rest
+  lifo_run l old new (c ∷ cs) (r ∷ rs) is run basic told = grind (arith, lifo_run (lifo.after_command data_of l c) run.0 new cs rs)
   lifo_run l old new _ _ is run basic told = absurd run

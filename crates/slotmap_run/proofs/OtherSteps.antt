@@ -26,10 +26,7 @@ module _ {V : Type 0} (reuses : Bool) (old new : Content V) (ok : IsContent reus
   -- no more keys are live or detached
   module _ (stood : (q : Key) → Stands new q → Stands old q) (vacant : Vacates old new) (same : places new ≡ places old) where
     less : (after : State V → State V) → ((n : ℕ) → Lasts (n + 1) old → new.retired ≡ old.retired) → ((s : State V) → Fits s old → Has s (after s) new) → Moves after old new
-    less after unretired has = record {
-      fits = λ s fits. grind (arith, has s fits, stood, vacant, same, fits.peak, fits.issued, fits.within, fits.past, fits.present);
-      lasts = λ n lasts. grind (arith, unretired n lasts, stood, vacant, lasts.unretired, lasts.standing, lasts.vacant);
-    }
+    less after unretired has = grind arith
 
   module _ (k : Keeps old new) where
     pub keeps : Moves (λ s. s) old new
@@ -39,7 +36,8 @@ module _ {V : Type 0} (reuses : Bool) (old new : Content V) (ok : IsContent reus
     promises n h = less (kept_stands old new k) (same_vacant old new k.next) (kept_places reuses old new ok k) (λ s. after_reserve s n) (λ n lasts. k.retired) (λ s fits. grind arith)
 
   pub replaces : (k : Key) (v : V) → IsLive old k → Replaces old k v new → Moves (λ s. after_replace s k v) old new
-  replaces k v is_live r = less (replaced_stands old new k v is_live r) (same_vacant old new r.next) (replaced_places reuses old new ok k v is_live r) (λ s. after_replace s k v) (λ n lasts. r.retired)
+  replaces k v is_live r = less (replaced_stands old new k v is_live r) (same_vacant old new r.next)
+      (replaced_places reuses old new ok k v is_live r) (λ s. after_replace s k v) (λ n lasts. r.retired)
       (λ s fits. let same = set.same_set keys_total exact_keys (retired (after_replace s k v)) (retired s)
       (λ q. grind (arith, in_retired (after_replace s k v) q, in_retired s q, changes, fits.live)) in grind arith)
 
@@ -56,8 +54,9 @@ module _ {V : Type 0} (reuses : Bool) (old new : Content V) (ok : IsContent reus
   pub removes : (k : Key) → IsLive old k → Removes old k new → Moves (λ s. after_remove s k) old new
   removes k is_live r = less (removed_stands old new k r) (removed_vacant old new k is_live r) (removed_places reuses old new ok k is_live r) (λ s. after_remove s k)
       (λ n lasts. grind (arith, common_steps, r.retired, lasts.standing k (inl is_live)))
-      (λ s fits. let same = set.same_set keys_total exact_keys (retired (after_remove s k)) new.retired
-      (λ q. grind (arith, in_retired (after_remove s k) q, in_retired s q, fits.retired, r.retired, changes, fits.issued k (inl is_live), ok.not_live_and_detached k is_live, fits.live, fits.detached)) in
+      (λ s fits. let was_issued = fits.issued k (inl is_live) in let apart = ok.not_live_and_detached k is_live in
+      let same = set.same_set keys_total exact_keys (retired (after_remove s k)) new.retired
+      (λ q. grind (arith, in_retired (after_remove s k) q, in_retired s q, fits.retired, r.retired, changes, was_issued, apart, fits.live, fits.detached)) in
       grind arith)
 
   pub leaves : Leaves old new → Moves (λ s. record s { live = new.live }) old new

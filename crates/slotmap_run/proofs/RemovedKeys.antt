@@ -1,15 +1,13 @@
 -- A key that was removed is gone, and no later command finds it.
 use Rattle.std.specs.FinMap as map
 use Rattle.std.specs.FinSet as set
-use Rattle.std.proofs.Common.{◌≡◌, Bool, Option, List, [], ◌∷◌, Some, None, true, false, refl, sym, ap, subst, is_some, arith}
+use Rattle.std.proofs.Common.{◌≡◌, Bool, List, [], ◌∷◌, true, false, sym, arith}
 use Rattle.slotmap_core.proofs.Common.{Key, key_cmp, State, IsIssued, RunGiven, DetachStep, Run, AllZip, RemovedForGood, keys_total, exact_keys, itself}
 use Rattle.slotmap_core.specs.Law.{GoneForGood, ShowsLive, ShowsNotLive, RemovesKey, LeavesAttached, FindsNothing}
-use Rattle.slotmap_core.specs.Step.{Retains}
 use Rattle.slotmap_core.specs.declared.commands.Command.TheVariants as command
 use Rattle.slotmap_core.specs.declared.commands.DetachCommand.{DetachCommand}
 use Rattle.slotmap_core.specs.declared.commands.DetachCommand.TheVariants as detaching
 use Rattle.slotmap_core.specs.declared.commands.Reply.{Reply}
-use Rattle.slotmap_core.specs.declared.commands.Reply.TheVariants as reply
 use Rattle.std.proofs.lemmas.Slice.Zip.{AllZip-long}
 use Rattle.slotmap_run.proofs.MapChanges.{changes}
 use Rattle.slotmap_run.proofs.Laws.{Gone, IsGood, good_stays, gone_stays}
@@ -52,15 +50,7 @@ module _ {K V R E : Type 0} (given : RunGiven K V R E) (k : Key) (old : State V)
   -- no key is live that Retain's closure rejects whatever its value
   pub rejected_not_live : c ≡ detaching.Plain command.Retain → ((key : K) (v w : V) (stays : Bool) → given.data_of key ≡ k → given.keeps key v w stays → stays ≡ false)
       → map.contains_key new.live k ≡ false
-  rejected_not_live is rejects = not_kept r (subst (λ x. DetachStep given old x r new) is step)
-    where
-      at_key : Retains given old new → (o : Option V) → map.get old.live k ≡ o → map.get new.live k ≡ None
-      at_key retains None absent = retains.no_more k absent
-      at_key retains (Some v) there = let call = retains.each k v there in let out = rejects call.0 v call.1 call.2 call.3 call.4 in grind (arith, call.5, out)
-
-      not_kept : (r : Reply K V R E) → DetachStep given old (detaching.Plain command.Retain) r new → map.contains_key new.live k ≡ false
-      not_kept reply.Done retains = ap is_some (at_key retains (map.get old.live k) refl)
-      not_kept r other = absurd (grind arith)
+  rejected_not_live is rejects = grind arith
 
 module _ {K V R E C : Type 0} (given : RunGiven K V R E) (of : C → DetachCommand K V) where
   -- a step of the machine with detaching
@@ -78,11 +68,7 @@ module _ {K V R E C : Type 0} (given : RunGiven K V R E) (of : C → DetachComma
   none_found k _ _ s t run gone = absurd run
 
   pub removed_for_good : (commands : List C) (replies : List (Reply K V R E)) → RunsWell StepOf commands replies → RemovedForGood given.data_of of commands replies
-  removed_for_good commands replies well cs ds rs ss k c r e is js removes =
-      let run = rw (is, js) at well.run in
-      let first = run_split StepOf cs rs c r ds ss well.first well.last e run in
-      let good = all_good cs rs well.first first.0 first.2 well.good in
-      none_found k ds ss first.1 well.last first.4 (removes_gone given k first.0 (of c) r first.1 first.3 removes good)
+  removed_for_good commands replies well cs ds rs ss k c r e is js removes = grind (arith, run_split, all_good, none_found k ds ss, removes_gone given k)
 
   pub gone_for_good : (commands : List C) (replies : List (Reply K V R E)) → RunsWell StepOf commands replies → GoneForGood given.data_of of commands replies
   gone_for_good commands replies well cs ds es rs ss us k c d r answer e attached is js live leaves =

@@ -10,18 +10,14 @@ some_item_of : (s : set.FinSet key_cmp) (n : ℕ) → set.len s ≡ suc n → (k
 some_item_of s n h = by (set.items s) refl
   where
     by : (ks : List Key) → set.items s ≡ ks → (k : Key) × (set.contains s k ≡ true)
-    by [] e =
-        let none : s ≡ set.empty = set.same_set keys_total exact_keys s set.empty (λ q. set.contains-items s q ∙ ap (list_any (eq_by_cmp key_cmp q)) e ∙ sym (set.contains-empty key_cmp q)) in
-        absurd (omega (arith, ap set.len none, set.len-empty key_cmp))
+    by [] e = grind (arith, set.same_set keys_total exact_keys s set.empty, set.contains-items s, set.contains-empty key_cmp, set.len-empty key_cmp)
     by (k ∷ ks) e = (k, set.contains-items s k ∙ ap (list_any (eq_by_cmp key_cmp k)) e ∙ or_left _ _ (itself keys_total exact_keys k))
 
 -- a set of two parts that share nothing
 len_two : (n : ℕ) (s t u : set.FinSet key_cmp) → set.len s ≡ n → ((q : Key) → set.contains u q ≡ (set.contains s q || set.contains t q))
     → ((q : Key) → set.contains s q ≡ true → set.contains t q ≡ true → ⊥)
     → set.len u ≡ set.len s + set.len t
-len_two zero s t u h is apart =
-    let same : u ≡ t = set.same_set keys_total exact_keys u t (λ q. grind (arith, is q, set.empty_of_len s h, set.contains-empty key_cmp q)) in
-    omega (arith, ap set.len same)
+len_two zero s t u h is apart = grind (arith, set.same_set keys_total exact_keys u t, set.empty_of_len, set.contains-empty)
 len_two (suc n) s t u h is apart =
     let some = some_item_of s n h in
     let k = some.0 in
@@ -33,10 +29,7 @@ len_two (suc n) s t u h is apart =
 
 -- a subset has no more items
 pub len-subset : (s t : set.FinSet key_cmp) → ((q : Key) → set.contains s q ≡ true → set.contains t q ≡ true) → set.len s ≤ set.len t
-len-subset s t within =
-    let parts = len_two (set.len s) s (set.difference t s) t refl
-    (λ q. grind (arith, within q, set.contains-difference keys_total t s q)) (λ q g h. grind (arith, set.contains-difference keys_total t s q)) in
-    omega arith
+len-subset s t within = grind (arith, len_two (set.len s) s (set.difference t s) t, set.contains-difference keys_total t s)
 
 module _ {V : Type 0} where
   keys_of : map.FinMap key_cmp V → set.FinSet key_cmp
@@ -70,7 +63,8 @@ module _ {V : Type 0} where
     contains-all_keys q = grind (arith, set.contains-union keys_total (keys_of m) (set.union d r) q, set.contains-union keys_total d r q, contains-keys_of m q)
 
     -- if no key is in two of them, their lengths add up
-    pub len-all_keys : ((q : Key) → map.contains_key m q ≡ true → set.contains d q ≡ true → ⊥) → ((q : Key) → (map.contains_key m q || set.contains d q) ≡ true → set.contains r q ≡ true → ⊥)
+    pub len-all_keys : ((q : Key) → map.contains_key m q ≡ true → set.contains d q ≡ true → ⊥)
+        → ((q : Key) → (map.contains_key m q || set.contains d q) ≡ true → set.contains r q ≡ true → ⊥)
         → set.len (all_keys m d r) ≡ map.len m + set.len d + set.len r
     len-all_keys apart others =
         let keys = len-keys_of (set.len (keys_of m)) m refl in

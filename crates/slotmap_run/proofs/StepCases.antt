@@ -1,9 +1,8 @@
 -- A step binds a fresh key, or binds none.
 use Rattle.std.specs.FinMap as map
 use Rattle.std.specs.FinSet as set
-use Rattle.std.proofs.Common.{◌≡◌, ◌⊎◌, arith, [], true, inl, inr, refl}
+use Rattle.std.proofs.Common.{◌≡◌, ◌⊎◌, arith, [], true}
 use Rattle.slotmap_core.proofs.Common.{Key, key_cmp, State, RunGiven, Step, DetachStep, reply_keys, Spares}
-use Rattle.slotmap_core.specs.declared.commands.Command.TheVariants as command
 use Rattle.slotmap_core.specs.declared.commands.DetachCommand.{DetachCommand}
 use Rattle.slotmap_core.specs.declared.commands.DetachCommand.TheVariants as detaching
 use Rattle.slotmap_core.specs.declared.commands.Reply.{Reply}
@@ -28,13 +27,10 @@ module _ {K V R E : Type 0} (given : RunGiven K V R E) where
     detached_stays k spares was = grind (arith, changes)
 
   binds : (old : State V) (c : DetachCommand K V) (k : K) (new : State V) → DetachStep given old c (reply.Key k) new → Binds {R = R} {E = E} given.data_of old (reply.Key k) new
-  binds old (detaching.Plain (command.Insert v)) k new h = record { key = given.data_of k; value = v; by_dictionary = refl; below_limit = h.0; fresh = h.1; is = h.2 }
-  binds old (detaching.Plain command.InsertWith) k new h = record { key = given.data_of k; value = h.2.0; by_dictionary = refl; below_limit = h.0; fresh = h.1; is = h.2.2 }
-  binds old _ k new h = absurd h
+  binds old c k new h = grind arith
 
   pub detach_cases : (old : State V) (c : DetachCommand K V) (r : Reply K V R E) (new : State V) → DetachStep given old c r new → Binds given.data_of old r new ⊎ Shrinks given.data_of old r new
-  detach_cases old c (reply.Key k) new h = inl (binds old c k new h)
-  detach_cases old c r new h = inr (shrinks old c r new h refl)
+  detach_cases old c r new h = grind (arith, binds, shrinks)
 
   -- the two machines of primary maps
   pub plain_machine : IsMachine given (Step given) (λ command. command)

@@ -106,9 +106,7 @@ module _ {K V R E : Type 0} (given : RunGiven K V R E) (old new : Content V) (ok
   -- whatever a look-up finds, if the reply may be told of it
   pub looked : (key : K) (found : Option (Bor V)) (told : Option R) (P : Bor V → R → Type 0) → ((x : Bor V) (r : R) → P x r → given.looks x.now r) → Keeps old new
       → option_copied found ≡ map.get old.live (given.data_of key) → MatchOption found (told ≡ None) (λ x. IsSomeAnd told (P x)) → IsStep (command.Get key) (reply.Looked told)
-  looked key None told P says kept is shown = rw shown (stays (λ b. b) kept (λ s fits. (rw fits.live (sym is), refl)))
-  looked key (Some x) (Some r) P says kept is shown = stays (λ b. b) kept (λ s fits. ((x.now, rw fits.live (sym is), says x r shown), refl))
-  looked key (Some x) None P says kept is shown = absurd shown
+  looked key found told P says kept is shown = grind (arith, stays)
 
   pub contains : (key : K) (is : Bool) → Keeps old new → is ≡ map.contains_key old.live (given.data_of key) → IsStep (command.Contains key) (reply.Flag is)
   contains key is kept found = stays (λ b. b) kept (λ s fits. (rw fits.live found, refl))
@@ -156,7 +154,8 @@ module _ {K V R E : Type 0} (given : RunGiven K V R E) (old new : Content V) (ok
   may_lack_room m within lacks s fits = grind (arith, used_same s old fits, ok.reused)
 
   -- whatever a reserve returns
-  pub reserved : (m : ℕ) (r : Result (Unit {0}) ReserveError) → MakesRoom given.reuses old m (IsOk r) new → IfErr r (RefusesCapacity (used old + m)) → IsStep (command.Reserve m) (reserve_reply_of r)
+  pub reserved : (m : ℕ) (r : Result (Unit {0}) ReserveError) → MakesRoom given.reuses old m (IsOk r) new → IfErr r (RefusesCapacity (used old + m))
+      → IsStep (command.Reserve m) (reserve_reply_of r)
   reserved m (Ok done) made err = other (λ b. b) (by (promises given.reuses old new ok made.keeps m (made.room refl)) (λ s fits. (rw (used_same s old fits) (made.fits refl), refl)))
   reserved m (Err capacity.TooGreat) made err = stays (λ b. b) made.keeps (λ s fits. (rw (used_same s old fits) err, refl))
   reserved m (Err capacity.Memory) made err = stays (λ b. b) made.keeps (λ s fits. (may_lack_room m err (λ room. let done = made.succeeds room in absurd (cc)) s fits, refl, refl))
@@ -170,22 +169,19 @@ module _ {K V R E : Type 0} (given : RunGiven K V R E) (old new : Content V) (ok
   clears empty l = left (λ b. b) l (λ s live. ap (λ (m : map.FinMap key_cmp V). record s { live = m }) empty)
 
   -- whatever a drain into a new vector returns
-  pub drained : (done : Result (Unit {0}) OutOfMemory) (first out : Vec (K × V) Global) (r : Reply K V R E) → first.items ≡ [] → OnOk done (r ≡ reply.Drained out) → OnErr done (r ≡ reply.Memory None)
+  pub drained : (done : Result (Unit {0}) OutOfMemory) (first out : Vec (K × V) Global) (r : Reply K V R E) → first.items ≡ []
+      → OnOk done (r ≡ reply.Drained out) → OnErr done (r ≡ reply.Memory None)
       → OnOk done ((pairs : List (K × V)) × (out.items ≡ first.items ++ pairs) × IsListing old.live (list_map (λ p. (given.data_of p.0, p.1)) pairs))
       → OnOk done (new.live ≡ map.empty) → OnOk done (Leaves old new) → OnErr done ((new ≡ old) × (out.items ≡ first.items))
       → IsStep command.Drain r
-  drained (Ok done) first out r none told refusal all empty l unchanged =
-      let is : out.items ≡ all.0 = all.1 ∙ ap (λ front. front ++ all.0) none in
-      rw told (left (λ b. b) l (λ s live. (rw (is, live) all.2, ap (λ (m : map.FinMap key_cmp V). record s { live = m }) empty)))
+  drained (Ok done) first out r none told refusal all empty l unchanged = grind (arith, left)
   drained (Err e) first out r none told refusal all empty l unchanged = rw refusal (stays (λ b. b) (keeps_same old new unchanged.0) (λ s fits. (refl, refl)))
 
   -- whatever listing the keys in a new vector returns
-  pub listed : (done : Result (Unit {0}) OutOfMemory) (first out : Vec K Global) (r : Reply K V R E) → first.items ≡ [] → OnOk done (r ≡ reply.Keys out) → OnErr done (r ≡ reply.Memory None)
+  pub listed : (done : Result (Unit {0}) OutOfMemory) (first out : Vec K Global) (r : Reply K V R E) → first.items ≡ [] → OnOk done (r ≡ reply.Keys out)
+      → OnErr done (r ≡ reply.Memory None)
       → OnOk done ((keys : List K) × (out.items ≡ first.items ++ keys) × IsKeyListing old.live (list_map given.data_of keys)) → Keeps old new → IsStep command.Keys r
-  listed (Ok done) first out r none told refusal all kept =
-      let is : out.items ≡ all.0 = all.1 ∙ ap (λ front. front ++ all.0) none in
-      rw told (stays (λ b. b) kept (λ s fits. (rw (is, fits.live) all.2, refl)))
-  listed (Err e) first out r none told refusal all kept = rw refusal (stays (λ b. b) kept (λ s fits. (refl, refl)))
+  listed done first out r none told refusal all kept = grind (arith, stays)
 
   module _ {F : Type 0} (g : Mut F (K × (MutBor V × Unit {0})) (Bool × (MutBor V × Unit {0}))) (f : F) (Is : F → Type 0)
       (says : (f : F) (x : Visit K V) (f' : F) → Is f → CallsAt g f x f' → Is f' × given.keeps x.key x.before x.after x.stays) (is : Is f)

@@ -24,9 +24,7 @@ module _ {V : Type 0} where
 
   -- if no key is returned, and none is held that wasn't, no more indices are taken
   pub no_more_used : (s t : State V) → IsApart s → IsApart t → t.issued ≡ s.issued → ((q : Key) → StandsIn t q → StandsIn s q) → used t ≤ used s
-  no_more_used s t apart after issued held =
-      let fewer = len-subset (used_keys t) (used_keys s) (λ q h. grind (arith, in_used t q, in_used s q, held q)) in
-      omega (arith, len-used_keys s apart, len-used_keys t after)
+  no_more_used s t apart after issued held = grind (arith, len-subset, in_used, in_used s, len-used_keys s apart, len-used_keys t after)
 
   pub bound_held : (s : State V) (k : Key) (v : V) (q : Key) → StandsIn (after_insert s k v) q → (q ≡ k) ⊎ StandsIn s q
   bound_held s k v q h = grind (arith, changes)

@@ -1,7 +1,7 @@
 -- What a map holds that is read from a list of slots.
 use Rattle.std.specs.FinMap as map
-use Rattle.std.proofs.Common.{◌≡◌, ◌+◌, ◌<◌, ◌%◌, ◌^◌, ◌∷◌, ◌++◌, nat_cmp, ℕ, List, [], length, map as list_map, slice_get, Option, None, Some, option_map, sym}
-use Rattle.slotmap_core.proofs.Common.{keyed, start_live, slot_pair, Accepts, AllFitBelow, is_some, true, refl, ap, subst, ◌∙◌, arith, slice_get_within}
+use Rattle.std.proofs.Common.{◌≡◌, ◌+◌, ◌∷◌, ◌++◌, nat_cmp, ℕ, List, [], length, map as list_map, slice_get, Option, None, Some, option_map, sym}
+use Rattle.slotmap_core.proofs.Common.{keyed, start_live, slot_pair, Accepts, AllFitBelow, refl, ap, ◌∙◌, arith, slice_get_within}
 use Rattle.slotmap_core.proofs.Common.{slice_get_past, slice_get-map, length-map, map_push, nat_cmp_total, exact_unsigned, len_inserted, mapped}
 use Rattle.slotmap_core.proofs.Common.{side_list_limit, gather-push_put, contents_by_place}
 use Rattle.slotmap_core.specs.declared.serial.SlotRecord.{SlotRecord}
@@ -41,14 +41,7 @@ module _ {V : Type 0} where
     record_at i s at = mapped (λ r. slot_from r.version r.value) (slice_get list i) s (sym (slice_get-map (λ r. slot_from r.version r.value) list i) ∙ at)
 
     slot_at : (i : ℕ) (s : Slot V) → slice_get (read list) i ≡ Some s → IsSlotAt i s
-    slot_at i s at =
-        let r = record_at i s at in
-        let within = slice_get_within list i r.0 r.1 in
-        subst (IsSlotAt i) r.2 (by r.0.version r.0.value (accepted.consistent i r.0 within r.1).0 (fits i r.0 within r.1) within)
-      where
-        by : (version : ℕ) (o : Option V) → (is_some o ≡ true → version % 2 ≡ 1) → version < 2 ^ 32 → i < length list → IsSlotAt i (slot_from version o)
-        by version None odd small less = refl
-        by version (Some value) odd small less = record { index_fits = omega (arith, accepted.short); version_fits = small; odd = odd refl; one_null = λ null. absurd (omega (arith, accepted.short)) }
+    slot_at i s at = grind (arith, record_at i s at, slice_get_within)
 
     pub IsSound-read : (len : ℕ) → len ≡ map.len (pairs_of (read list)) → IsSound (read list) len
     IsSound-read len counts = grind (arith, length-map, slice_get_within, slot_at)

@@ -1,7 +1,7 @@
 -- What a change of the pairs alone keeps.
 use Rattle.std.specs.FinMap as map
 use Rattle.std.proofs.Common.{◌≡◌, ◌<◌, ℕ, None, true, false, is_some, refl, ap, ◌∙◌, arith}
-use Rattle.slotmap_core.proofs.Common.{nat_cmp_total, Key, Pairs, contains_key, value_at, exact_unsigned, get_after_insert, IsSecondary-again, len_again}
+use Rattle.slotmap_core.proofs.Common.{Key, Pairs, contains_key, value_at, get_after_insert, IsSecondary-again, len_again}
 use Rattle.slotmap_core.proofs.Common.{get_bound, bind_twice, in_own, pair_of}
 use Rattle.slotmap_secondary.specs.declared.entry.Entry.TheVariants.{Occupied}
 use Rattle.slotmap_secondary.specs.declared.entry.OccupiedEntry.{OccupiedEntry}
@@ -25,13 +25,7 @@ module _ {V : Type 0} where
 
   -- another value for a key of the map
   pub IsContent-with_value : (c : SideContent V) (k : Key) (v : V) → IsSideContent c → contains_key c.pairs k ≡ true → IsSideContent (side_with_value c k v)
-  IsContent-with_value c k v well has = record {
-    keys = IsSecondary-again c.pairs k v has well.keys;
-    within = λ i p found. grind (arith, get_after_insert nat_cmp_total exact_unsigned c.pairs k.index (k.version, v) i p found, key_within c well k has, well.within i p);
-    limit = well.limit;
-    counted = omega (arith, len_again c.pairs k v has, well.counted);
-    capacity_fits = well.capacity_fits;
-  }
+  IsContent-with_value c k v well has = grind (arith, IsSecondary-again c.pairs k v has well.keys, get_after_insert, len_again)
 
 -- an entry once w is the value of its key
 pub IsWritten-own : {K V : Type 0} (data_of : K → Key) (e : OccupiedEntry K V) (w : V) → IsWritten data_of (Occupied e) w (Occupied (occupied_with data_of e w))

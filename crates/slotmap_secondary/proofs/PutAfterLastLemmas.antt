@@ -1,6 +1,7 @@
 -- What a put after the last slot makes of the map.
 use Rattle.std.specs.FinMap as map
-use Rattle.std.proofs.Common.{◌≡◌, ◌≢◌, ◌+◌, ◌<◌, ◌≤◌, ◌^◌, ◌∷◌, ◌++◌, ℕ, cond, List, [], length, None, ne_eqb, eq-eqb, refl, sym, ap, subst, ◌∙◌, arith}
+use Rattle.std.proofs.Common.{◌≡◌, ◌≢◌, ◌+◌, ◌<◌, ◌≤◌, ◌^◌, ◌∷◌, ◌++◌, ℕ, cond, List, [], length, None, ne_eqb, eq-eqb, refl, ap, ◌∙◌}
+use Rattle.std.proofs.Common.{arith}
 use Rattle.slotmap_core.proofs.Common.{Key, IsKey, null_key, no_entry, vacant, entry_at, entry, bind, length_push, none_from}
 use Rattle.slotmap_secondary.specs.Slots.{Slot, Occupied, pairs_of, content_of, IsSound}
 use Rattle.slotmap_secondary.specs.Content.{SideContent, IsSideContent}
@@ -10,12 +11,7 @@ use Rattle.slotmap_secondary.proofs.FromListLemmas.{pairs-push_key, count_key}
 module _ {V : Type 0} (slots : List (Slot V)) (len : ℕ) (sound : IsSound slots len) (k : Key) (x : V) (at : k.index ≡ length slots) where
   -- one more slot, with a key
   pub IsSound-append : IsKey k → length slots + 1 < 2 ^ 32 → IsSound (slots ++ Occupied k.version x ∷ []) (len + 1)
-  IsSound-append key fits = record {
-    first = omega (arith, length_push slots (Occupied k.version x));
-    fits = omega (arith, length_push slots (Occupied k.version x));
-    each = each-push slots len sound (Occupied k.version x) (subst (λ n. IsKey (record { index = n; version = k.version })) at key);
-    counted = ap (λ n. n + 1) sound.counted ∙ sym (count_key slots k.version x);
-  }
+  IsSound-append key fits = grind (arith, length_push, each-push slots, count_key)
 
   pub content-append : (capacity : ℕ) → content_of (slots ++ Occupied k.version x ∷ []) capacity ≡ record { pairs = bind (pairs_of slots) k x; places = length slots + 1; capacity = capacity }
   content-append capacity = rw (pairs-push_key slots k.version x, length_push slots (Occupied k.version x), ← at) refl

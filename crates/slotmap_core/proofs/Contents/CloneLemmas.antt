@@ -1,9 +1,9 @@
 -- What a primary map with clones of another's values has in common with it.
 -- For the crates of maps and callers.
-use Rattle.std.proofs.Common.{◌≡◌, ℕ, ◌+◌, ◌<◌, ◌≤◌, Bool, true, List, [], ◌∷◌, length, Option, Some, refl, sym, ap, subst, arith}
+use Rattle.std.proofs.Common.{◌≡◌, ℕ, ◌+◌, ◌≤◌, Bool, true, List, [], ◌∷◌, Option, Some, refl, ap, subst, arith}
 use Rattle.std.specs.FinMap as map
 use Rattle.std.specs.FinSet as set
-use Rattle.slotmap_core.specs.Words.{nat_cmp, ClonesEqual, AreClones, IsCloneOf, Content, IsContent, used, places, most, IsCopy, IsCloneBy, Key, key_cmp}
+use Rattle.slotmap_core.specs.Words.{ClonesEqual, AreClones, IsCloneOf, Content, IsContent, used, places, most, IsCopy, IsCloneBy, Key, key_cmp}
 use Rattle.slotmap_core.proofs.General.KeyLemmas.{keys_total, exact_keys}
 use Rattle.slotmap_core.proofs.General.Maps.{same_len}
 use Rattle.slotmap_core.proofs.Places.PlaceClones.{clone_is_some}
@@ -30,10 +30,10 @@ pub IsContent-with_live : {A V : Type 0} (reuses reuses2 : Bool) (c : Content A)
     → map.len live ≡ map.len c.live → (room capacity : ℕ) → IsContent reuses c → room + used c ≤ most → (reuses2 ≡ true → map.len c.next ≤ room)
     → map.len live + room ≤ capacity → IsContent reuses2 (with_live c live room capacity)
 IsContent-with_live reuses reuses2 c live each all room capacity well room_fits reused capacity_fits =
-    let lists : (stack : List ℕ) → c.stack ≡ Some stack → (i : ℕ) → set.contains (set.from_list {R = nat_cmp} stack) i ≡ map.contains_key c.next i = λ stack is. (well.stacked stack is).lists in
-    let once : (stack : List ℕ) → c.stack ≡ Some stack → length stack ≡ map.len c.next = λ stack is. (well.stacked stack is).once in
-    let top : (stack : List ℕ) → c.stack ≡ Some stack → used c < most → (i : ℕ) (rest : List ℕ) → stack ≡ i ∷ rest → c.offer.index ≡ i = λ stack is. (well.stacked stack is).top in
-    grind (arith, each, all)
+    let lists = λ (stack : List ℕ) (is : c.stack ≡ Some stack). (well.stacked stack is).lists in
+    let once = λ (stack : List ℕ) (is : c.stack ≡ Some stack). (well.stacked stack is).once in
+    let top = λ (stack : List ℕ) (is : c.stack ≡ Some stack). (well.stacked stack is).top in
+    grind (arith, each, all, lists, once, top)
 
 module _ {V : Type 0} (is_clone : V → V → Type 0) (c copy : Content V) (clones : IsCloneBy is_clone c copy) where
   pub clone_live : (k : Key) → map.contains_key copy.live k ≡ map.contains_key c.live k
@@ -45,48 +45,20 @@ module _ {V : Type 0} (is_clone : V → V → Type 0) (c copy : Content V) (clon
   pub clone_places : places copy ≡ places c
   clone_places = omega (arith, clone_len, ap set.len clones.detached, ap set.len clones.retired, ap map.len clones.next)
 
-  clone_used : used copy ≡ used c
-  clone_used = omega (arith, clone_len, ap set.len clones.detached, ap set.len clones.retired)
-
   -- where clones equal their values, it is a copy
   pub clone_copies : ClonesEqual is_clone → IsCopy c copy
-  clone_copies same = record {
-    live = map.same_map keys_total exact_keys copy.live c.live (λ k. same_clone is_clone same (map.get c.live k) (map.get copy.live k) (clones.live k));
-    detached = clones.detached;
-    retired = clones.retired;
-    next = clones.next;
-    offer = clones.offer;
-    stack = clones.stack;
-    room = omega arith;
-  }
+  clone_copies same = grind (arith, map.same_map keys_total exact_keys copy.live c.live, same_clone is_clone same)
 
-  -- it is well formed, if its room is
-  IsContent-clone : (reuses reuses2 : Bool) → IsContent reuses c → copy.room + used copy ≤ most → (reuses2 ≡ true → map.len copy.next ≤ copy.room)
-      → map.len copy.live + copy.room ≤ copy.capacity → IsContent reuses2 copy
-  IsContent-clone reuses reuses2 well room_fits reused capacity_fits =
-      let same : with_live c copy.live copy.room copy.capacity ≡ copy =
-      λ j. record {
-        live = copy.live;
-        detached = sym clones.detached j;
-        retired = sym clones.retired j;
-        next = sym clones.next j;
-        offer = sym clones.offer j;
-        stack = sym clones.stack j;
-        room = copy.room;
-        capacity = copy.capacity;
-      } in
-      subst (IsContent reuses2) same (IsContent-with_live reuses reuses2 c copy.live clone_live clone_len copy.room copy.capacity well
-      (omega (arith, room_fits, clone_used)) (λ is. omega (arith, reused is, ap map.len clones.next)) capacity_fits)
-
-  -- the same, where the room is the other's
+  -- it is well formed, if its room is the other's
   pub IsContent-clone_same : (reuses : Bool) → IsContent reuses c → copy.room ≡ c.room → copy.capacity ≡ c.capacity → IsContent reuses copy
   IsContent-clone_same reuses well room capacity =
-      IsContent-clone reuses reuses well (omega (arith, room, clone_used, well.room_fits)) (λ is. omega (arith, well.reused is, room, ap map.len clones.next))
-      (omega (arith, room, capacity, clone_len, well.capacity_fits))
+      let same : with_live c copy.live copy.room copy.capacity ≡ copy = grind arith in
+      subst (IsContent reuses) same (IsContent-with_live reuses reuses c copy.live clone_live clone_len copy.room copy.capacity well
+      (omega (arith, room, well.room_fits)) (λ is. omega (arith, well.reused is, room)) (omega (arith, room, capacity, clone_len, well.capacity_fits)))
 
 -- clones of pairs equal them, where clones of values do
-pub pairs_equal : {V : Type 0} (is_clone : V → V → Type 0) → ((x y : V) → is_clone x y → y ≡ x) → (pairs copies : List (Key × V)) → AreClones is_clone pairs copies → copies ≡ pairs
+pub pairs_equal : {V : Type 0} (is_clone : V → V → Type 0) → ((x y : V) → is_clone x y → y ≡ x) → (pairs copies : List (Key × V))
+    → AreClones is_clone pairs copies → copies ≡ pairs
 pairs_equal is_clone same [] [] all = refl
-pairs_equal is_clone same [] (y ∷ ys) all = absurd all
-pairs_equal is_clone same (x ∷ xs) [] all = absurd all
 pairs_equal is_clone same (x ∷ xs) (y ∷ ys) all = λ j. (all.0.0 j, same x.1 y.1 all.0.1 j) ∷ pairs_equal is_clone same xs ys all.1 j
+pairs_equal is_clone same _ _ all = absurd all

@@ -1,14 +1,13 @@
 -- Well-formed places and stack, as the content of a primary map.
 -- For the crates of maps.
-use Rattle.std.proofs.Common.{◌≡◌, ◌⊎◌, ◌↔◌, inl, inr, ℕ, ◌+◌, ◌<◌, ◌≤◌, Bool, true, cond, nat_eq, List, [], ◌∷◌, length, slice_get, Option, None}
-use Rattle.std.proofs.Common.{Some, is_some, refl, sym, ap, subst, ◌∙◌, arith, eq-eqb}
+use Rattle.std.proofs.Common.{◌≡◌, ◌⊎◌, ◌↔◌, inl, inr, ℕ, ◌+◌, ◌<◌, ◌≤◌, Bool, true, nat_eq, List, [], ◌∷◌, length, slice_get, Option, None}
+use Rattle.std.proofs.Common.{Some, refl, sym, ap, subst, arith, eq-eqb}
 use Rattle.std.proofs.lemmas.Option.{slice_get_within, same_Some}
 use Rattle.std.specs.FinMap as map
 use Rattle.std.specs.FinSet as set
 use Rattle.slotmap_core.specs.Words.{list_any, Key, last_version, MakesRoom, Content, IsContent, IsStack, IsLive, Uses, places, with_value, Place, Live}
 use Rattle.slotmap_core.specs.Words.{Detached, Vacant, Retired, live, detached, next, StackMap, content_of_places, offer, IsOn, IsVersion, IsStacked}
 use Rattle.slotmap_core.proofs.Places.PlacesLemmas.{key, get-live, contains-detached, retired_at, get-next_at, vacant_at, total}
-use Rattle.slotmap_core.proofs.General.Maps.{same_bool}
 pub use Rattle.slotmap_core.proofs.General.Maps.{some_is}
 use Rattle.slotmap_core.proofs.General.KeyLemmas.{keys_total, nat_tests}
 use Rattle.slotmap_core.proofs.Contents.LeaveLemmas.{same_live}
@@ -76,25 +75,16 @@ module _ {V : Type 0} (m : StackMap V) (stacked : IsStacked m.places m.vacant) w
           rw (is, at.1.1) (inl (get-next_at m.places i at.1.0 at.0 at.1.1))
 
       is_stack : (stack : List ℕ) → m.vacant ≡ stack → IsStack (content_of_places m) stack
-      is_stack stack is = record {
-        lists = λ i. set.contains-from_list_nat stack i ∙ same_bool _ _
-            (λ on. let at = stacked.listed i (rw is ((on_list stack i).1 on)) in ap is_some (get-next_at m.places i at.1.0 at.0 at.1.1))
-            (λ there. let at = vacant_slot_at i there in (on_list stack i).0 (rw is at (stacked.complete i at.0 at.1 at.2)));
-        once = ap length (sym is) ∙ stacked.counted;
-        top = λ below i rest starts. ap (λ vs. (offer m.places vs).index) (is ∙ starts);
-      }
+      is_stack stack is = grind (arith, set.contains-from_list_nat, on_list stack, get-next_at, vacant_slot_at)
 
 -- another value under a live key keeps a content well formed
 module _ {V : Type 0} (reuses : Bool) (c : Content V) (well : IsContent reuses c) (k : Key) (is_live : IsLive c k) (w : V) where
-  same_len : map.len (map.insert c.live k w) ≡ map.len c.live
-  same_len = map.len-insert keys_total c.live k w ∙ ap (λ b. cond b (map.len c.live) (map.len c.live + 1)) is_live
-
   pub IsContent-with_value : IsContent reuses (with_value c k w)
   IsContent-with_value =
       let lists = λ (stack : List ℕ) (is : c.stack ≡ Some stack). (well.stacked stack is).lists in
       let once = λ (stack : List ℕ) (is : c.stack ≡ Some stack). (well.stacked stack is).once in
       let top = λ (stack : List ℕ) (is : c.stack ≡ Some stack). (well.stacked stack is).top in
-      grind (arith, same_len, same_live c k w is_live, lists, once, top)
+      grind (arith, map.len-insert keys_total c.live k w, same_live c k w is_live, lists, once, top)
 
 -- if there is room for n more keys, nothing has to be allocated
 pub room_had : {P : Type 0} (c : Content P) (n : ℕ) (ok : Type 0) → ok → IsContent true c → n ≤ c.room → MakesRoom true c n ok c

@@ -55,7 +55,8 @@ module _ {V : Type 0} where
   from_index-end i m below = none_live (from_index i m) (λ q there. let both = in_from i m q there in absurd (omega (arith, both.0, below q both.1)))
 
   -- past a key that was removed
-  pub NoneBelow-removed : (m : map.FinMap key_cmp V) (i : ℕ) (k : Key) → ((q : Key) → map.contains_key m q ≡ true → q.index ≡ i → q ≡ k) → NoneBelow m i → NoneBelow (map.remove m k) (i + 1)
+  pub NoneBelow-removed : (m : map.FinMap key_cmp V) (i : ℕ) (k : Key) → ((q : Key) → map.contains_key m q ≡ true → q.index ≡ i → q ≡ k) → NoneBelow m i
+      → NoneBelow (map.remove m k) (i + 1)
   NoneBelow-removed m i k alone above = λ q there. let before = in_after_remove keys_total exact_keys m k q there in grind (arith, alone q, above q before.1)
 
   pub NoneBelow-end : (m : map.FinMap key_cmp V) (i : ℕ) → ((q : Key) → map.contains_key m q ≡ true → q.index < i) → NoneBelow m i → m ≡ map.empty

@@ -1,9 +1,9 @@
 -- Keys are removed, one after the other.
 -- For the crates of maps and callers.
-use Rattle.std.proofs.Common.{◌≡◌, ℕ, ◌≤◌, Bool, true, false, cond, not, ◌&&◌, inl, inr, Some, None, is_some, true≢false, refl, sym, ap, ◌∙◌, arith}
+use Rattle.std.proofs.Common.{◌≡◌, ◌≤◌, Bool, true, false, cond, not, ◌&&◌, inl, inr, None, is_some, refl, sym, ap, ◌∙◌, arith}
 use Rattle.std.specs.FinMap as map
 use Rattle.std.specs.FinSet as set
-use Rattle.slotmap_core.specs.Words.{eq_by_cmp, Key, is_last, next_version, key_cmp, Content, IsContent, IsLive, Removes, Leaves, Keeps, has_left, with_value}
+use Rattle.slotmap_core.specs.Words.{eq_by_cmp, Key, next_version, key_cmp, Content, IsContent, IsLive, Removes, Leaves, Keeps, has_left, with_value}
 use Rattle.slotmap_core.proofs.General.KeyLemmas.{keys_total, exact_keys, tied, itself, nat_cmp_total, exact_unsigned}
 use Rattle.slotmap_core.proofs.Places.PlaceCount.{removed_places}
 use Rattle.slotmap_core.proofs.Contents.Retired.{in_freed}
@@ -48,11 +48,6 @@ module _ {V : Type 0} where
     same_places = second.same_places ∙ first.same_places;
     room = omega (arith, first.room, second.room);
   }
-    where
-      by : {i v : ℕ} (k : Key) → has_left a c k ≡ true → is_last k ≡ false → k.index ≡ i → next_version k ≡ v → (t : Bool) → map.contains_key b.live k ≡ t → map.get c.next i ≡ Some v
-      by {i} {v} k left other index version true there = (second.next i v).1 (inr (k, has_left_if b c k there (is_gone a c k left), other, index, version))
-      by {i} {v} k left other index version false gone =
-          (second.next i v).1 (inl ((first.next i v).1 (inr (k, has_left_if a b k (was_live a c k left) (λ there. absurd (true≢false (sym there ∙ gone))), other, index, version))))
 
   -- what is live once k is removed
   pub live-removed_at : (b c : Content V) (k : Key) → Removes b k c → (q : Key) → map.get c.live q ≡ cond (eq_by_cmp key_cmp q k) None (map.get b.live q)

@@ -28,21 +28,24 @@ lesser k q less = ap (λ o. ordering_then o (nat_cmp k.version q.version)) (sym 
 
 module _ {V : Type 0} where
   -- an entry whose key is the smallest is put at the beginning
-  put_first : (k : Key) (v : V) (es : List (Key × V)) → ((q : Key) → list_any (eq_by_cmp key_cmp q) (list_map (λ e. e.0) es) ≡ true → key_cmp k q ≡ Less) → put key_cmp k v es ≡ (k, v) ∷ es
+  put_first : (k : Key) (v : V) (es : List (Key × V)) → ((q : Key) → list_any (eq_by_cmp key_cmp q) (list_map (λ e. e.0) es) ≡ true → key_cmp k q ≡ Less)
+      → put key_cmp k v es ≡ (k, v) ∷ es
   put_first k v [] below = refl
   put_first k v (e ∷ es) below = grind (arith, below e.0, itself keys_total exact_keys e.0)
 
   -- an entry whose key is the largest is put at the end
-  pub put_last : (k : Key) (v : V) (es : List (Key × V)) → ((q : Key) → list_any (eq_by_cmp key_cmp q) (list_map (λ e. e.0) es) ≡ true → key_cmp k q ≡ Greater) → put key_cmp k v es ≡ es ++ (k, v) ∷ []
+  pub put_last : (k : Key) (v : V) (es : List (Key × V))
+      → ((q : Key) → list_any (eq_by_cmp key_cmp q) (list_map (λ e. e.0) es) ≡ true → key_cmp k q ≡ Greater) → put key_cmp k v es ≡ es ++ (k, v) ∷ []
   put_last k v [] above = refl
-  put_last k v (e ∷ es) above = grind (arith, above e.0, itself keys_total exact_keys e.0, put_last k v es (λ q there. above q (or_right (eq_by_cmp key_cmp q e.0) _ there)))
+  put_last k v (e ∷ es) above =
+      grind (arith, itself keys_total exact_keys e.0, put_last k v es (λ q there. above q (or_right (eq_by_cmp key_cmp q e.0) _ there)))
 
   -- an entry whose key is the smallest is the first
   pub entries_first : (m : map.FinMap key_cmp V) (k : Key) (v : V) → map.get m k ≡ Some v
       → ((q : Key) → map.contains_key (map.remove m k) q ≡ true → k.index < q.index) → map.entries m ≡ (k, v) ∷ map.entries (map.remove m k)
   entries_first m k v found below =
-      ap (λ n. map.entries n) (sym (insert-remove m k v ∙ insert_same keys_total exact_keys m k v found)) ∙ map.entries-insert keys_total (map.remove m k) k v
-      ∙ put_first k v (map.entries (map.remove m k)) (λ q there. lesser k q (below q (map.contains_key-keys (map.remove m k) q ∙ there)))
+      let again = insert_same keys_total exact_keys m k v found in
+      grind (arith, insert-remove, again, map.entries-insert keys_total (map.remove m k) k v, put_first, map.contains_key-keys (map.remove m k))
 
   -- an empty map has no entry
   pub entries_none : map.entries (map.empty {X = V} {R = key_cmp}) ≡ []
@@ -59,8 +62,10 @@ module _ {V : Type 0} where
   -- at the start no key was removed
   pub FreesByIndex-start : (c : Content V) → FreesByIndex c c
   FreesByIndex-start c =
-      let none : map.retain_keys c.live (λ q. not (map.contains_key c.live q)) ≡ map.empty = none_live _ (λ q there. let left = listed_left c c q there in is_gone c c q left (was_live c c q left)) in
-      sym (option_map_id c.stack) ∙ ap (λ ks. option_map (λ stack. pushed_all stack ks) c.stack) (sym (ap (λ m. map.keys m) none ∙ ap (λ es. list_map (λ (e : Key × V). e.0) es) entries_none))
+      let none : map.retain_keys c.live (λ q. not (map.contains_key c.live q)) ≡ map.empty =
+      none_live _ (λ q there. let left = listed_left c c q there in is_gone c c q left (was_live c c q left)) in
+      sym (option_map_id c.stack)
+      ∙ ap (λ ks. option_map (λ stack. pushed_all stack ks) c.stack) (sym (ap (λ m. map.keys m) none ∙ ap (λ es. list_map (λ (e : Key × V). e.0) es) entries_none))
 
   -- another value frees nothing
   pub FreesByIndex-with_value : (a b : Content V) (k : Key) (w : V) → IsLive b k → FreesByIndex a b → FreesByIndex a (with_value b k w)
@@ -68,8 +73,9 @@ module _ {V : Type 0} where
       before ∙ ap (λ (p : Key → Bool). option_map (λ stack. pushed_all stack (map.keys (map.retain_keys a.live p))) a.stack) (λ i q. not (sym (same_live b k w is_live q) i))
 
   -- a key of a larger index than all removed ones is removed next
-  pub FreesByIndex-removed : (a b c : Content V) (k : Key) → FreesByIndex a b → IsLive a k → IsLive b k → ((q : Key) → has_left a b q ≡ true → q.index < k.index) → Removes b k c → FreesByIndex a c
-  FreesByIndex-removed a b c k before was_live is_live above removes = grind (arith, removes.stack, before, one_more, pushed_all_push)
+  pub FreesByIndex-removed : (a b c : Content V) (k : Key) → FreesByIndex a b → IsLive a k → IsLive b k
+      → ((q : Key) → has_left a b q ≡ true → q.index < k.index) → Removes b k c → FreesByIndex a c
+  FreesByIndex-removed a b c k before was_live is_live above removes = grind (arith, one_more, pushed_all_push)
     where
       one_more : keys_left a c ≡ keys_left a b ++ k ∷ []
       one_more =

@@ -8,7 +8,8 @@ use Rattle.slotmap_core.proofs.General.KeyLemmas.{keys_total, exact_keys, nat_cm
 use Rattle.slotmap_core.proofs.General.Maps.{same_bool, len_item_inserted, len_inserted, get_after_insert}
 
 module _ (k : Key) where
-  pub in_freed : (next : map.FinMap nat_cmp ℕ) (i v : ℕ) → map.get (freed next k) i ≡ Some v → ((i ≡ k.index) × (v ≡ next_version k) × (is_last k ≡ false)) ⊎ (map.get next i ≡ Some v)
+  pub in_freed : (next : map.FinMap nat_cmp ℕ) (i v : ℕ) → map.get (freed next k) i ≡ Some v
+      → ((i ≡ k.index) × (v ≡ next_version k) × (is_last k ≡ false)) ⊎ (map.get next i ≡ Some v)
   in_freed next i v h = grind (arith, get_after_insert nat_cmp_total exact_unsigned next k.index (next_version k) i v)
 
   -- the place of k is counted as retired or as vacant
@@ -33,5 +34,6 @@ module _ {V : Type 0} where
   from_retired_in s k h = grind (arith, in_retired s k, h.not_standing)
 
   -- a set with just the retired keys is the set of them
-  pub retired_is : (s : State V) (d : set.FinSet key_cmp) → ((k : Key) → IsRetiredIn s k → set.contains d k ≡ true) → ((k : Key) → set.contains d k ≡ true → IsRetiredIn s k) → retired s ≡ d
+  pub retired_is : (s : State V) (d : set.FinSet key_cmp) → ((k : Key) → IsRetiredIn s k → set.contains d k ≡ true)
+      → ((k : Key) → set.contains d k ≡ true → IsRetiredIn s k) → retired s ≡ d
   retired_is s d f g = set.same_set keys_total exact_keys (retired s) d (λ k. same_bool _ _ (λ h. f k (is_retired_in s k h)) (λ h. from_retired_in s k (g k h)))

@@ -1,10 +1,9 @@
 -- Which keys were live or detached before a call, and which vacant indices it leaves.
 -- For runs.
-use Rattle.std.proofs.Common.{◌≡◌, ◌≢◌, ℕ, Some, false, ◌⊎◌, inl, inr, sym, ap, ◌∙◌, is_some, ⊎_elim, arith}
+use Rattle.std.proofs.Common.{◌≡◌, ◌≢◌, ◌⊎◌, inl, inr, sym, ⊎_elim, arith, ℕ, Some}
 use Rattle.std.specs.FinMap as map
 use Rattle.std.specs.FinSet as set
-use Rattle.slotmap_core.specs.Words.{Key, next_version, key_cmp, Content, Stands, IsLive, IsNew, Inserts, Keeps, Removes, Replaces, Leaves, Detaches}
-use Rattle.slotmap_core.specs.Words.{Reattaches}
+use Rattle.slotmap_core.specs.Words.{Key, next_version, Content, Stands, IsLive, IsNew, Inserts, Keeps, Removes, Replaces, Leaves, Detaches, Reattaches}
 use Rattle.slotmap_core.proofs.General.KeyLemmas.{keys_total, exact_keys, nat_cmp_total, exact_unsigned}
 use Rattle.slotmap_core.proofs.General.Maps.{of_and, get_after_remove, in_after_insert, in_after_remove, item_after_insert, item_after_remove}
 use Rattle.slotmap_core.proofs.Contents.Retired.{in_freed}
@@ -28,13 +27,13 @@ module _ {V : Type 0} (old new : Content V) where
   kept_stands k q h = grind (arith, k.live, k.detached)
 
   pub replaced_stands : (k : Key) (v : V) → IsLive old k → Replaces old k v new → (q : Key) → Stands new q → Stands old q
-  replaced_stands k v is_live r q h = grind (arith, r.live, r.detached, in_after_insert keys_total exact_keys old.live k v q)
+  replaced_stands k v is_live r q h = grind (arith, in_after_insert keys_total exact_keys old.live k v q)
 
   pub detached_stands : (k : Key) → IsLive old k → Detaches old k new → (q : Key) → Stands new q → Stands old q
-  detached_stands k is_live r q h = grind (arith, r.live, r.detached, in_after_remove keys_total exact_keys old.live k q, item_after_insert keys_total exact_keys old.detached k q)
+  detached_stands k is_live r q h = grind (arith, in_after_remove keys_total exact_keys old.live k q, item_after_insert keys_total exact_keys old.detached k q)
 
   pub reattached_stands : (k : Key) (v : V) → Reattaches old k v new → (q : Key) → Stands new q → Stands old q
-  reattached_stands k v r q h = grind (arith, r.live, r.detached, r.was_detached, in_after_insert keys_total exact_keys old.live k v q, item_after_remove keys_total exact_keys old.detached k q)
+  reattached_stands k v r q h = grind (arith, in_after_insert keys_total exact_keys old.live k v q, item_after_remove keys_total exact_keys old.detached k q)
 
   pub removed_stands : (k : Key) → Removes old k new → (q : Key) → Stands new q → Stands old q
   removed_stands k r q h = grind (arith, r.live, r.detached, in_after_remove keys_total exact_keys old.live k q)
@@ -50,5 +49,4 @@ module _ {V : Type 0} (old new : Content V) where
 
 -- no key is live or detached in a new content
 pub new_stands : {V : Type 0} (c : Content V) → IsNew c → (k : Key) → Stands c k → ⊥
-new_stands c new k (inl h) = let none : map.contains_key c.live k ≡ false = ap (λ (m : map.FinMap key_cmp _). map.contains_key m k) new.live ∙ ap is_some (map.get-empty key_cmp k) in absurd (cc)
-new_stands c new k (inr h) = let none : set.contains c.detached k ≡ false = ap (λ (d : set.FinSet key_cmp). set.contains d k) new.detached ∙ set.contains-empty key_cmp k in absurd (cc)
+new_stands c new k stands = grind (arith, map.get-empty, set.contains-empty)

@@ -1,10 +1,10 @@
 -- Each change of the places and the stack is, on contents, the step of its call.
 -- For the crates of maps.
-use Rattle.std.proofs.Common.{◌≡◌, ◌≢◌, inl, ℕ, ◌+◌, ◌<◌, ◌≤◌, cond, List, [], ◌∷◌, ◌++◌, length, set, drop, slice_get, Some, is_some, refl, sym, ap, ◌∙◌, arith, eqb-true, eq-eqb}
+use Rattle.std.proofs.Common.{◌≡◌, ◌≢◌, inl, ◌+◌, ◌<◌, ◌≤◌, ◌∷◌, ◌++◌, set, sym, ap, ◌∙◌, arith, eqb-true, eq-eqb, ℕ, cond, List, [], length, drop}
 use Rattle.std.proofs.lemmas.List.{length-set, length_push}
-use Rattle.slotmap_core.specs.Words.{Key, last_version, most, Inserts, Removes, Detaches, Reattaches, Keeps, with_value, left_by, Place, Live, Detached, Vacant}
-use Rattle.slotmap_core.specs.Words.{live, is_detached_at, StackMap, content_of_places, offer, used_places, vacant_version, filled, removed, detached_at}
-use Rattle.slotmap_core.specs.Words.{put_at, IsStacked}
+use Rattle.slotmap_core.specs.Words.{Key, last_version, most, Inserts, Removes, Detaches, Reattaches, Keeps, with_value, left_by, Place, Live, Detached}
+use Rattle.slotmap_core.specs.Words.{Vacant, live, is_detached_at, StackMap, content_of_places, offer, used_places, vacant_version, filled, removed}
+use Rattle.slotmap_core.specs.Words.{detached_at, put_at, IsStacked, slice_get, Some, is_some, refl}
 use Rattle.slotmap_core.proofs.Places.PlacesLemmas.{key, vacancy, live-set, live-push, detached-set, detached-push_live, retired-set, retired-push_live}
 use Rattle.slotmap_core.proofs.Places.PlacesLemmas.{next-set, next-push_live, next-remove_past, len-next-set, contains-detached, total}
 use Rattle.slotmap_core.proofs.General.ListingLemmas.{insert-remove}
@@ -54,7 +54,8 @@ module _ {V : Type 0} (m : StackMap V) (stacked : IsStacked m.places m.vacant) (
 
   pub content-written : (w : V) → content_of_places (put_at m k w) ≡ with_value (content_of_places m) k w
   content-written w =
-      let room : (content_of_places (put_at m k w)).room ≡ (content_of_places m).room = omega (arith, taken-set m.places m.vacant k.index (Live k.version x) (Live k.version w) stacked live_positive found) in
+      let room : (content_of_places (put_at m k w)).room ≡ (content_of_places m).room =
+      omega (arith, taken-set m.places m.vacant k.index (Live k.version x) (Live k.version w) stacked live_positive found) in
       λ j. record {
         live = (live-set m.places k.index _ (Live k.version w) found ∙ insert-remove (live m.places) k w) j;
         detached = detached-set m.places k.index _ (Live k.version w) found j;
@@ -84,7 +85,8 @@ module _ {V : Type 0} (m : StackMap V) (stacked : IsStacked m.places m.vacant) (
 
 module _ {V : Type 0} where
   pub inserts : (ps : List (Place V)) (vs : List ℕ) (c d : ℕ) (k : Key) (w : V) → IsStacked ps vs → used_places ps < most → k ≡ offer ps vs → c ≤ d
-      → Inserts (content_of_places (record { places = ps; vacant = vs; capacity = c })) k w (content_of_places (record { places = filled ps vs (Live k.version w); vacant = drop 1 vs; capacity = d }))
+      → Inserts (content_of_places (record { places = ps; vacant = vs; capacity = c })) k w
+      (content_of_places (record { places = filled ps vs (Live k.version w); vacant = drop 1 vs; capacity = d }))
   inserts ps [] c d k w stacked below is more =
       grind (
         arith,

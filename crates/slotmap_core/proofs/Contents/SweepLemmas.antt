@@ -29,40 +29,25 @@ module _ {V : Type 0} where
   pub Swept-to : {reuses : Bool} (old now : Content V) (i j : ℕ) → Swept reuses old now i → i ≤ j → Swept reuses old now j
   Swept-to old now i j swept on = record { leaves = swept.leaves; order = swept.order; capacity = swept.capacity; well = swept.well; below = λ q left. omega (arith, swept.below q left) }
 
-  -- a value is written
-  Swept-written : {reuses : Bool} (old now : Content V) (i : ℕ) (k : Key) (w : V) → Swept reuses old now i → IsLive now k → Swept reuses old (with_value now k w) i
-  Swept-written {reuses} old now i k w swept is_live = record {
-    leaves = Leaves-trans old now (with_value now k w) swept.leaves (Leaves-with_value now k w is_live);
-    order = FreesByIndex-with_value old now k w is_live swept.order;
-    capacity = swept.capacity;
-    well = IsContent-with_value reuses now swept.well k is_live w;
-    below = λ q left. grind (arith, swept.below q, same_live now k w is_live q);
-  }
-
   -- the value of the next key is written
-  pub Swept-next : {reuses : Bool} (old now : Content V) (i : ℕ) (k : Key) (w : V) → Swept reuses old now i → IsLive now k → i ≤ k.index → Swept reuses old (with_value now k w) k.index
-  Swept-next old now i k w swept is_live on = Swept-written old now k.index k w (Swept-to old now i k.index swept on) is_live
+  pub Swept-next : {reuses : Bool} (old now : Content V) (i : ℕ) (k : Key) (w : V) → Swept reuses old now i → IsLive now k → i ≤ k.index
+      → Swept reuses old (with_value now k w) k.index
+  Swept-next {reuses} old now i k w swept is_live on =
+      let leaves = Leaves-trans old now (with_value now k w) swept.leaves (Leaves-with_value now k w is_live) in
+      grind (arith, leaves, FreesByIndex-with_value, IsContent-with_value reuses now swept.well k is_live w, same_live)
 
   -- the key at the index is removed
   pub Swept-removed : {reuses : Bool} (old now new : Content V) (i : ℕ) (k : Key) → Swept reuses old now i → IsLive now k → k.index ≡ i
       → Removes now k new → new.capacity ≡ now.capacity → IsContent reuses new → Swept reuses old new (i + 1)
-  Swept-removed {reuses} old now new i k swept is_live at removes capacity well = record {
-    leaves = Leaves-removed reuses now swept.well k is_live new removes old swept.leaves;
-    order = FreesByIndex-removed old now new k swept.order (swept.leaves.no_more k is_live) is_live (λ q left. omega (arith, swept.below q left)) removes;
-    capacity = capacity ∙ swept.capacity;
-    well = well;
-    below = λ q left. grind (arith, swept.below q, live-removed_at now new k removes q, tied keys_total exact_keys q k);
-  }
+  Swept-removed {reuses} old now new i k swept is_live at removes capacity well =
+      let leaves = Leaves-removed reuses now swept.well k is_live new removes old swept.leaves in
+      grind (arith, leaves, FreesByIndex-removed, live-removed_at now new k removes, tied keys_total exact_keys)
 
   -- what the rest ends as once the first key is removed, the whole ends as
   pub Empties-first : {reuses : Bool} (a b end : Content V) (k : Key) → IsContent reuses a → IsLive a k → Removes a k b → b.capacity ≡ a.capacity
       → ((q : Key) → IsLive b q → k.index < q.index) → EmptiesByIndex b end → EmptiesByIndex a end
   Empties-first {reuses} a b end k well is_live removes capacity above ends =
-      grind (
-        arith,
-        Leaves-trans a b end (Leaves-removes reuses a well k is_live b removes) ends.empties.leaves,
-        FreesByIndex-first a b end k is_live removes above ends.empties.leaves.no_more ends.order,
-      )
+      grind (arith, Leaves-trans a b end (Leaves-removes reuses a well k is_live b removes) ends.empties.leaves, FreesByIndex-first)
 
   -- the live key of the smallest index from i on
   abbrev pub IsNextLive : Content V → ℕ → Key → Type 0
@@ -74,8 +59,7 @@ module _ {V : Type 0} where
 
     -- its entry is the first, if no live key is below i
     pub first_entry : (v : V) → NoneBelow c.live i → map.get c.live k ≡ Some v → map.entries c.live ≡ (k, v) ∷ map.entries (map.remove c.live k)
-    first_entry v above found =
-        entries_first c.live k v found (λ q there. let both = in_after_remove keys_total exact_keys c.live k q there in before_others (ap is_some found) q both.0 both.1 (above q both.1))
+    first_entry v above found = grind (arith, entries_first, in_after_remove keys_total exact_keys c.live k, before_others)
 
     -- and the first of those from i on
     pub next_entry : (v : V) → i ≤ k.index → map.get c.live k ≡ Some v → map.entries (from_index i c.live) ≡ (k, v) ∷ map.entries (from_index (k.index + 1) c.live)

@@ -14,16 +14,16 @@ remove-insert_item s k none = set.same_set keys_total exact_keys _ _ (λ q. grin
 module _ {V : Type 0} {reuses : Bool} (old : Content V) (well : IsContent reuses old) where
   -- the key that the next insert returns has no place yet
   pub offer_unused : used old < most → Uses old old.offer → ⊥
-  offer_unused below uses = grind (arith, well.offers below, well.not_used_and_vacant old.offer uses, well.within old.offer uses)
+  offer_unused below uses = grind arith
 
   module _ (mid new : Content V) (k : Key) (v : V) where
     -- a key that is inserted and removed again
     pub live_removed_again : Inserts old k v mid → Removes mid k new → new.live ≡ old.live
-    live_removed_again inserts removes = grind (arith, offer_unused inserts.below_limit, remove-insert old.live k v, remove_absent keys_total exact_keys old.live k)
+    live_removed_again inserts removes = grind (arith, remove-insert, remove_absent keys_total exact_keys old.live k)
 
     -- a key that is detached and bound to a value again
     pub live_bound_again : Detaches old k mid → Reattaches mid k v new → new.live ≡ map.insert old.live k v
     live_bound_again detaches binds = grind (arith, insert-remove old.live k v)
 
     pub detached_bound_again : IsLive old k → Detaches old k mid → Reattaches mid k v new → new.detached ≡ old.detached
-    detached_bound_again is_live detaches binds = grind (arith, remove-insert_item old.detached k, well.not_live_and_detached k is_live)
+    detached_bound_again is_live detaches binds = grind (arith, remove-insert_item)

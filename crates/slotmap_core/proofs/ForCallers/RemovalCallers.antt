@@ -1,6 +1,7 @@
 -- A removed key is found by no later command, by positions.
 -- For callers.
-use Rattle.std.proofs.Common.{◌≡◌, ℕ, zero, suc, ◌+◌, ◌-◌, ◌<◌, List, [], ◌∷◌, length, slice_get, Some, None, Option, option_map, true, refl, sym, ap, ◌∙◌, arith, map as list_map}
+use Rattle.std.proofs.Common.{◌≡◌, ℕ, zero, suc, ◌+◌, ◌-◌, ◌<◌, List, [], ◌∷◌, length, slice_get, Some, None, Option, option_map, true, refl, sym, ap, ◌∙◌}
+use Rattle.std.proofs.Common.{arith, map as list_map}
 use Rattle.std.proofs.lemmas.Option.{slice_get-map}
 use Rattle.std.specs.FinMap as map
 use Rattle.slotmap_core.specs.Key.{Key, key_cmp}

@@ -1,6 +1,7 @@
 -- What the laws of a run say of replies by their positions: for callers, who know commands and replies by index.
 -- For callers.
-use Rattle.std.proofs.Common.{◌≡◌, ◌≢◌, ℕ, zero, suc, ◌+◌, ◌-◌, ◌<◌, ◌≤◌, List, [], ◌∷◌, ◌++◌, length, take, drop, slice_get, Some, Ok, Bool, true, false, ◌⊎◌, inl, inr, refl, sym, ap, ◌∙◌, arith}
+use Rattle.std.proofs.Common.{◌≡◌, ◌≢◌, ℕ, zero, suc, ◌+◌, ◌-◌, ◌<◌, ◌≤◌, List, [], ◌∷◌, ◌++◌, length, take, drop, slice_get, Some, Ok, Bool, true, false}
+use Rattle.std.proofs.Common.{◌⊎◌, refl, sym, ap, ◌∙◌, arith}
 use Rattle.std.specs.List.{IsDistinct, AllByRecursion, AllZip}
 use Rattle.std.specs.Ordering.{eq_by_cmp}
 use Rattle.slotmap_core.specs.Key.{Key, key_cmp}
@@ -32,8 +33,7 @@ module _ {S C R : Type 0} (Step : S → C → R → S → Type 0) where
     pub run : Run Step mid cs rest t
 
   pub begins : (s : S) (c : C) (cs : List C) (rs : List R) (t : S) → Run Step s (c ∷ cs) rs t → Begins s c cs rs t
-  begins s c cs [] t run = absurd run
-  begins s c cs (r ∷ rs) t run = record { answer = r; rest = rs; is = refl; mid = run.0; step = run.1; run = run.2 }
+  begins s c cs rs t run = grind arith
 
 all_right : {X : Type 0} (P : X → Type 0) (xs ys : List X) → AllByRecursion P (xs ++ ys) → AllByRecursion P ys
 all_right P [] ys h = h
@@ -52,9 +52,7 @@ module _ {K V R E : Type 0} (data_of : K → Key) where
   -- what holds of all keys that inserts returned holds of the key in one reply
   told_at : (P : Key → Type 0) (rs : List (Reply K V R E)) (i : ℕ) (k : K) → AllByRecursion P (keys_told data_of rs) → slice_get rs i ≡ Some (reply.Key k) → P (data_of k)
   told_at P [] i k all h = absurd (cc)
-  told_at P (r ∷ rs) zero k all h =
-      let is : r ≡ reply.Key k = cc in
-      (rw is at all).0
+  told_at P (r ∷ rs) zero k all h = grind arith
   told_at P (r ∷ rs) (suc i) k all h = told_at P rs i k (all_right P (reply_keys data_of r) (keys_told data_of rs) all) h
 
   earlier_differs : (rs : List (Reply K V R E)) (i j : ℕ) (a b : K) → NoKeyTwice data_of rs → i < j → slice_get rs i ≡ Some (reply.Key a) → slice_get rs j ≡ Some (reply.Key b)
@@ -66,7 +64,7 @@ module _ {K V R E : Type 0} (data_of : K → Key) where
       let others = distinct_head (eq_by_cmp key_cmp) (data_of a) (keys_told data_of rs) (rw is at law) in
       untied keys_total exact_keys (data_of a) (data_of b) (told_at (λ q. eq_by_cmp key_cmp (data_of a) q ≡ false) rs j b others g)
   earlier_differs (r ∷ rs) (suc i) (suc j) a b law less h g =
-      earlier_differs rs i j a b (distinct_right (eq_by_cmp key_cmp) (reply_keys data_of r) (keys_told data_of rs) law) (omega arith) h g
+      grind (arith, earlier_differs rs i j a b (distinct_right (eq_by_cmp key_cmp) (reply_keys data_of r) (keys_told data_of rs) law))
 
   -- the keys in the replies at two positions differ
   pub keys_differ : (replies : List (Reply K V R E)) (i j : ℕ) (a b : K) → NoKeyTwice data_of replies → i < j
@@ -81,7 +79,8 @@ module _ {K V R E C : Type 0} (of : Command K V → C) (commands : List C) (repl
   reserved_not_refused NeedsRoom i j n c answer law less within grows reserves asks done answers =
       let asked = split_at_two commands i j _ _ less reserves asks in
       let told = split_at_two replies i j _ _ less done answers in
-      law asked.before asked.between asked.after told.before told.between told.after n c answer (asked.at ∙ sym told.at) (omega (arith, asked.apart, told.apart)) (omega (arith, asked.apart)) grows asked.is told.is
+      law asked.before asked.between asked.after told.before told.between told.after n c answer (asked.at ∙ sym told.at)
+      (omega (arith, asked.apart, told.apart)) (omega (arith, asked.apart)) grows asked.is told.is
 
 module _ {K V R E : Type 0} (data_of : K → Key) (commands : List (DetachCommand K V)) (replies : List (Reply K V R E)) where
   -- once the Detach of a key at one position returned a value, no insert at a later one returns that key
@@ -125,7 +124,8 @@ module _ {K V R E : Type 0} (data_of : K → Key) (commands : List (DetachComman
       (stands_between asked n c is_c ∙ ap Some reattach) (stands_between told n r is_r ∙ ap Some done))) in
       law asked.before asked.between asked.after told.before told.between told.after key v w answer (asked.at ∙ sym told.at) long spared asked.is told.is
     where
-      spares : {k : Key} (c : DetachCommand K V) (r : Reply K V R E) → ((other : K) (u : V) → c ≡ detaching.Reattach other u → r ≡ reply.Done → data_of other ≢ k) → Spares data_of k c r
+      spares : {k : Key} (c : DetachCommand K V) (r : Reply K V R E)
+          → ((other : K) (u : V) → c ≡ detaching.Reattach other u → r ≡ reply.Done → data_of other ≢ k) → Spares data_of k c r
       spares c r h = grind arith
 
   -- where existing slots need no memory, it succeeds
@@ -133,10 +133,7 @@ module _ {K V R E : Type 0} (data_of : K → Key) (commands : List (DetachComman
       → slice_get commands i ≡ Some (detaching.Detach key) → slice_get commands j ≡ Some (detaching.Reattach key w)
       → slice_get replies i ≡ Some (reply.Taken (Some v)) → slice_get replies j ≡ Some answer → answer ≡ reply.Done
   detached_bound i j key v w answer law less stays detaches reattaches taken answers =
-      elim (detached_bound_or_memory true i j key v w answer law less stays detaches reattaches taken answers) [
-        | inl done ↦ done
-        | inr lacks ↦ absurd (cc)
-      ]
+      grind (arith, detached_bound_or_memory true i j key v w answer law less stays detaches reattaches taken answers)
 
 -- once the Reattach of a key to a value succeeds, a Replace of it by the next command returns that value
 pub bound_value : {K V R E : Type 0} (commands : List (DetachCommand K V)) (replies : List (Reply K V R E)) (i : ℕ) (key : K) (w u : V) (answer : Reply K V R E) → ReattachBinds commands replies

@@ -3,7 +3,6 @@
 use Rattle.std.proofs.Common.{◌≡◌, ◌≢◌, true, None, Some, arith, ap, ◌∙◌}
 use Rattle.std.specs.Ordering.{nat_cmp}
 use Rattle.std.specs.Cmp.{nat_cmp_total}
-use Rattle.std.proofs.lemmas.Grind.{common_steps}
 use Rattle.std.proofs.lemmas.Map.Lookups.{exact_unsigned}
 use Rattle.std.specs.FinMap as map
 use Rattle.slotmap_core.specs.Key.{Key}
@@ -23,7 +22,7 @@ module _ {V : Type 0} where
 
   -- a value that is put under a key isn't found under another key of its index
   pub get-bind_follower : (m : Pairs V) (k q : Key) (v : V) → q.index ≡ k.index → q.version ≢ k.version → get (bind m k v) q ≡ None
-  get-bind_follower m k q v at other = grind (arith, common_steps, get_inserted nat_cmp_total exact_unsigned m k.index (k.version, v))
+  get-bind_follower m k q v at other = grind (arith, get_inserted nat_cmp_total exact_unsigned m k.index (k.version, v))
 
   -- and changes nothing at other indices
   pub get-bind_elsewhere : (m : Pairs V) (k q : Key) (v : V) → q.index ≢ k.index → get (bind m k v) q ≡ get m q

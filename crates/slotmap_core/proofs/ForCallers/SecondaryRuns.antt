@@ -1,6 +1,6 @@
 -- Runs of secondary maps agree if no allocation fails: for callers, who run the same commands on two maps.
 -- For runs and callers.
-use Rattle.std.proofs.Common.{◌≡◌, List, [], ◌∷◌, refl, sym, ◌∙◌, subst, arith}
+use Rattle.std.proofs.Common.{◌≡◌, List, [], ◌∷◌, refl, sym, ◌∙◌, arith}
 use Rattle.slotmap_core.specs.Words.{AllByRecursion, Key, Pairs, Run, HadMemory, Shows, seen_by, EachAgrees}
 use Rattle.slotmap_core.specs.SecondaryStep.{SideGiven, SideStep}
 use Rattle.slotmap_core.specs.declared.secondary.SecondaryCommand.{SecondaryCommand}
@@ -13,19 +13,11 @@ module _ {K V R : Type 0} (data_of : K → Key) (looks others_look : V → R →
   abbrev other : SideGiven K V R
   other = record { data_of = data_of; looks = others_look }
 
-  -- if there is memory, a command has one reply, and leaves one content
-  same_step : (old : Pairs V) (c : SecondaryCommand K V) (r s : SecondaryReply V R) (new left : Pairs V) → SideStep one old c r new → SideStep other old c s left → HadMemory r → HadMemory s
-      → (s ≡ r) × (left ≡ new)
-  same_step old c r s new left step there had had_there = grind (arith, same)
-
   -- Two maps that held the same, and show the same of each value, give the same replies and then hold the same
   pub runs_agree : (old : Pairs V) (cs : List (SecondaryCommand K V)) (rs ss : List (SecondaryReply V R)) (new left : Pairs V)
       → Run (SideStep one) old cs rs new → AllByRecursion HadMemory rs → Run (SideStep other) old cs ss left → AllByRecursion HadMemory ss → (ss ≡ rs) × (left ≡ new)
   runs_agree old [] [] [] new left run had there had_there = (refl, there ∙ sym run)
-  runs_agree old (c ∷ cs) (r ∷ rs) (s ∷ ss) new left run had there had_there =
-      let same = same_step old c r s run.0 there.0 run.1 there.1 had.0 had_there.0 in
-      let rest = runs_agree run.0 cs rs ss new left run.2 had.1 (subst (λ (m : Pairs V). Run (SideStep other) m cs ss left) same.1 there.2) had_there.1 in
-      (cc, rest.1)
+  runs_agree old (c ∷ cs) (r ∷ rs) (s ∷ ss) new left run had there had_there = grind (arith, runs_agree run.0 cs rs ss new left run.2 had.1)
   runs_agree old _ _ _ new left run had there had_there = absurd (grind arith)
 
 module _ {K V R : Type 0} (data_of : K → Key) (looks : V → R → Type 0) (f : V → R) (shows : Shows looks f) where
@@ -45,5 +37,4 @@ module _ {K V R : Type 0} (data_of : K → Key) (looks : V → R → Type 0) (f 
   -- each map that held the same, and shows what f returns, gives the same replies and then holds the same
   pub each_agrees : (old : Pairs V) (cs : List (SecondaryCommand K V)) (rs : List (SecondaryReply V R)) (new : Pairs V)
       → Run (SideStep given) old cs rs new → AllByRecursion HadMemory rs → EachAgrees (seen_by data_of f) old cs rs new
-  each_agrees old cs rs new run had others left there had_there =
-      runs_agree data_of looks (λ v r. r ≡ f v) (λ v r s sees is. is ∙ sym (shows v r sees)) old cs rs others new left run had there had_there
+  each_agrees old cs rs new run had others left there had_there = grind (arith, runs_agree)

@@ -1,13 +1,12 @@
 -- A side table whose keys are live in a primary map: what a call of either map does to the two.
 -- For callers.
-use Rattle.std.proofs.Common.{◌≡◌, ◌≢◌, ℕ, Bool, true, false, inl, inr, Some, None, Result, IfOk, IsErr, OnOk, OnErr, refl, ap, arith}
+use Rattle.std.proofs.Common.{◌≡◌, ◌≢◌, ℕ, Bool, true, false, inl, Some, None, Result, IfOk, IsErr, OnOk, OnErr, arith}
 use Rattle.std.specs.FinMap as map
 use Rattle.slotmap_core.specs.Words.{Key, IsBeside, Content, IsContent, IsLive, Pairs, get, contains_key, entry, has_entry, put, remove, Inserts, Keeps}
 use Rattle.slotmap_core.proofs.ForCallers.Callers.{live-insert_still, live-remove_other}
-use Rattle.slotmap_core.proofs.General.KeyLemmas.{same_or_other, alike_or_apart, nat_cmp_total, exact_unsigned, nat_tests}
+use Rattle.slotmap_core.proofs.General.KeyLemmas.{same_or_other, nat_tests}
 use Rattle.slotmap_core.proofs.General.Maps.{none_of, false_of}
 use Rattle.slotmap_core.proofs.ForCallers.SecondaryCallers.{get_none, get-put_here, get-put_elsewhere, get-bind_follower}
-use Rattle.slotmap_core.proofs.SecondaryMaps.SecondaryLemmas.{put_bound}
 use Rattle.slotmap_core.proofs.SecondaryMaps.AtIndexLemmas.{removed_gone, others_stay}
 
 module _ {E V : Type 0} (c new : Content E) (m : Pairs V) (beside : IsBeside c m) where
@@ -43,9 +42,7 @@ module _ {E V : Type 0} (reuses : Bool) (c : Content E) (well : IsContent reuses
   alone q there at = well.apart q k (inl (inl (beside q there))) (inl (inl live)) at
 
   live_same_version : (p : ℕ × V) → map.get m k.index ≡ Some p → p.0 ≡ k.version
-  live_same_version p is =
-      let q : Key = record { index = k.index; version = p.0 } in
-      ap (λ x. x.version) (alone q (grind (arith, nat_tests)) refl)
+  live_same_version p is = grind (arith, nat_tests, alone (record { index = k.index; version = p.0 }))
 
   pub live_has_entry : has_entry (entry m k) ≡ true
   live_has_entry = let within = well.within k (inl (inl live)) in let limit = well.limit in grind (arith, nat_tests, live_same_version)
@@ -55,10 +52,7 @@ module _ {E V : Type 0} (reuses : Bool) (c : Content E) (well : IsContent reuses
   get-put_live v = get-put_here m k v live_has_entry
 
   pub get-put_other : (v : V) (q : Key) → q ≢ k → get (put m k v) q ≡ get m q
-  get-put_other v q other = elim (alike_or_apart nat_cmp_total exact_unsigned q.index k.index) [
-    | inl at ↦ grind (arith, none_of, false_of, alone, live_has_entry, get-bind_follower, put_bound)
-    | inr elsewhere ↦ get-put_elsewhere m k q v elsewhere
-  ]
+  get-put_other v q other = grind (arith, get-bind_follower, get-put_elsewhere)
 
   pub beside_put : (v : V) → IsBeside c (put m k v)
   beside_put v q there = grind (arith, same_or_other, get-put_other)

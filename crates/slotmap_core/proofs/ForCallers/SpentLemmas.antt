@@ -1,16 +1,16 @@
 -- Which keys are spent after a call: those that were, and each live key that was removed.
 -- For callers.
-use Rattle.std.proofs.Common.{⊎_elim, ◌≡◌, ◌≢◌, ℕ, Bool, false, ◌⊎◌, inl, inr, Option, None, Some, OnSome, IfNone, Result, Ok, Err, IfOk, IsErr, List, [], ◌∷◌, is_some, refl, ap, sym, ◌∙◌, arith}
+use Rattle.std.proofs.Common.{⊎_elim, ◌≡◌, ◌≢◌, ◌⊎◌, inl, inr, ◌∷◌, ap, ◌∙◌, arith, ℕ, Bool, false, Option, None, Some, OnSome, IfNone, Result, Ok, Err, IfOk}
 use Rattle.std.specs.FinMap as map
 use Rattle.std.specs.FinSet as set
 use Rattle.std.proofs.lemmas.List.Elements.{All-head, All-tail}
 use Rattle.slotmap_core.specs.Words.{All, Key, key_cmp, next_version, Content, IsContent, IsLive, IsDetached, Stands, places, StaysValid, MayGrow, IsCopy}
-use Rattle.slotmap_core.specs.Words.{IsCloneBy, CanReplace, with_values, IsSpent, KeepsSpent, Inserts, Removes, Detaches, Reattaches, Keeps, Leaves, with_value}
-use Rattle.slotmap_core.specs.Words.{Restores}
-use Rattle.slotmap_core.proofs.Contents.CloneLemmas.{clone_live, clone_places}
+use Rattle.slotmap_core.specs.Words.{IsCloneBy, CanReplace, with_values, IsSpent, KeepsSpent, Inserts, Removes, Detaches, Reattaches, Keeps, Leaves}
+use Rattle.slotmap_core.specs.Words.{with_value, Restores, IsErr, List, is_some, refl}
+use Rattle.slotmap_core.proofs.Contents.CloneLemmas.{clone_places}
 use Rattle.slotmap_core.proofs.Contents.LeaveLemmas.{Leaves-refl, Leaves-keeps, Leaves-with_value, Leaves-trans, Leaves-removes, was_live, same_live, live_no_more}
 use Rattle.slotmap_core.proofs.General.Maps.{false_of, none_of}
-use Rattle.slotmap_core.proofs.Places.PlaceCount.{offers, places_grow, detached_places, reattached_places}
+use Rattle.slotmap_core.proofs.Places.PlaceCount.{places_grow, detached_places, reattached_places}
 use Rattle.slotmap_core.proofs.Contents.StandsLemmas.{inserted_stands, inserted_vacant, detached_stands, reattached_stands, left_stands}
 
 module _ {V : Type 0} where
@@ -45,7 +45,7 @@ module _ {V : Type 0} where
     Frees-restores restores = record {
       same_places = restores.same_places;
       next = λ i v is. ⊎_elim (λ there. inl there) (λ gone. inr (gone.0, inr gone.1, gone.3, gone.4)) ((restores.next i v).0 is);
-      stood = λ q there. ⊎_elim (λ h. inl (rw (← restores.live) h)) (λ h. absurd (let none = set.contains-empty key_cmp q in let is = ap (λ d. set.contains d q) restores.detached in cc)) there;
+      stood = λ q there. grind (arith, restores.live, restores.detached, set.contains-empty key_cmp q);
     }
 
     spent_frees : Frees old new → KeepsSpent old new
@@ -71,11 +71,7 @@ module _ {V : Type 0} where
     spent_copy copy = grind arith
 
     pub spent_clone : (is_clone : V → V → Type 0) → IsCloneBy is_clone old new → KeepsSpent old new
-    spent_clone is_clone clones k spent = record {
-      within = omega (arith, clone_places is_clone old new clones, spent.within);
-      vacant = λ v is. spent.vacant v (rw clones.next at is);
-      stands = λ u there. spent.stands u (⊎_elim (λ h. inl (sym (clone_live is_clone old new clones u) ∙ h)) (λ h. inr (rw clones.detached at h)) there);
-    }
+    spent_clone is_clone clones k spent = grind (arith, clone_places is_clone old new clones)
 
     -- a map that is read back from the list that a map was written as
     pub spent_restores : Restores old new → KeepsSpent old new
@@ -83,8 +79,7 @@ module _ {V : Type 0} where
 
     module _ (reuses : Bool) (well : IsContent reuses old) where
       pub spent_inserts : (k : Key) (v : V) → Inserts old k v new → KeepsSpent old new
-      spent_inserts j x inserts k spent =
-          grind (arith, places_grow reuses old new well j x inserts, offers reuses old new well j x inserts, spent.vacant j.version, inserted_vacant, inserted_stands)
+      spent_inserts j x inserts k spent = grind (arith, places_grow reuses old new well j x inserts, inserted_vacant, inserted_stands)
 
       -- an insert returns no key that is spent
       pub inserted_not_spent : (j : Key) (v : V) → Inserts old j v new → (k : Key) → IsSpent old k → j ≢ k
@@ -94,40 +89,32 @@ module _ {V : Type 0} where
       spent_removes k live removes = spent_leaves (Leaves-removes reuses old well k live new removes)
 
       pub spent_detaches : (k : Key) → IsLive old k → Detaches old k new → KeepsSpent old new
-      spent_detaches k live detaches =
-          grind (arith, detached_places reuses old new well k live detaches, detached_stands old new k live detaches, spent_frees)
+      spent_detaches k live detaches = grind (arith, detached_places reuses old new well k live detaches, detached_stands old new k live detaches)
 
       pub spent_reattaches : (k : Key) (v : V) → Reattaches old k v new → KeepsSpent old new
-      spent_reattaches k v binds = grind (arith, reattached_places reuses old new well k v binds, reattached_stands old new k v binds, spent_frees)
+      spent_reattaches k v binds = grind (arith, reattached_places reuses old new well k v binds, reattached_stands old new k v binds)
 
       -- a live key that was removed
       pub left_spent : (k : Key) → Leaves old new → IsLive old k → map.contains_key new.live k ≡ false → IsSpent new k
-      left_spent k leaves live gone = gone_spent reuses well (Frees-leaves leaves) k (inl live) (λ u there e. elim there [
-        | inl h ↦ absurd (let is = rw e at h in cc)
-        | inr h ↦ well.not_live_and_detached k live (rw (leaves.detached, e) at h)
-      ])
+      left_spent k leaves live gone = grind (arith, gone_spent reuses well (Frees-leaves leaves) k)
 
       pub removed_spent : (k : Key) → IsLive old k → Removes old k new → IsSpent new k
       removed_spent k live removes = left_spent k (Leaves-removes reuses old well k live new removes) live (live_no_more old new k removes)
 
       -- a detached key, in the map that is read back
       pub forgotten_spent : (k : Key) → Restores old new → IsDetached old k → IsSpent new k
-      forgotten_spent k restores out = gone_spent reuses well (Frees-restores restores) k (inr out) (λ u there e. elim there [
-        | inl h ↦ well.not_live_and_detached k (rw (restores.live, e) at h) out
-        | inr h ↦ absurd (let none = set.contains-empty key_cmp u in let is = ap (λ d. set.contains d u) restores.detached in cc)
-      ])
+      forgotten_spent k restores out = grind (arith, gone_spent reuses well (Frees-restores restores) k, set.contains-empty)
 
   -- a new value under a live key, and new values under several
   pub spent_with_value : (c : Content V) (k : Key) (v : V) → IsLive c k → KeepsSpent c (with_value c k v)
   spent_with_value c k v live = spent_leaves c (with_value c k v) (Leaves-with_value c k v live)
 
   Leaves-with_values : (c : Content V) (keys : List Key) (values : List V) → All (IsLive c) keys → Leaves c (with_values c keys values)
-  Leaves-with_values c [] values live = Leaves-refl c
-  Leaves-with_values c (k ∷ keys) [] live = Leaves-refl c
   Leaves-with_values c (k ∷ keys) (v ∷ values) live =
       let here = All-head (IsLive c) k keys live in
       Leaves-trans c (with_value c k v) (with_values (with_value c k v) keys values) (Leaves-with_value c k v here)
       (Leaves-with_values (with_value c k v) keys values (λ i d within. same_live c k v here _ ∙ All-tail (IsLive c) k keys live i d within))
+  Leaves-with_values c keys values live = Leaves-refl c
 
   pub spent_with_values : (c : Content V) (keys : List Key) (values : List V) → CanReplace c keys → KeepsSpent c (with_values c keys values)
   spent_with_values c keys values can = spent_leaves c (with_values c keys values) (Leaves-with_values c keys values can.there)
@@ -145,24 +132,15 @@ module _ {V : Type 0} where
 
   -- by the clauses of a removal, whatever it returns
   module _ (old new : Content V) (reuses : Bool) (valid : StaysValid reuses old new) (j : Key) (answer : Option V) (is : answer ≡ map.get old.live j) where
-    either : {P C : Type 0} → OnSome answer P → IfNone answer (new ≡ old) → (IsLive old j → P → C) → (new ≡ old → C) → C
-    either {P} {C} some none left stays = grind arith
-
     pub spent_remove : OnSome answer (Removes old j new) → IfNone answer (new ≡ old) → KeepsSpent old new
-    spent_remove removes unchanged k spent = either removes unchanged (λ live did. spent_removes old new reuses valid.before j live did k spent) (λ same. rw same spent)
+    spent_remove removes unchanged k spent = grind (arith, spent_removes old new reuses valid.before j)
 
     pub spent_detach : OnSome answer (Detaches old j new) → IfNone answer (new ≡ old) → KeepsSpent old new
-    spent_detach detaches unchanged k spent = either detaches unchanged (λ live did. spent_detaches old new reuses valid.before j live did k spent) (λ same. rw same spent)
+    spent_detach detaches unchanged k spent = grind (arith, spent_detaches old new reuses valid.before j)
 
     pub live_remove_spent : IsLive old j → OnSome answer (Removes old j new) → IsSpent new j
-    live_remove_spent live removes = elim answer as (λ o. o ≡ map.get old.live j → OnSome o (Removes old j new) → IsSpent new j) [
-      | Some v ↦ λ is did. removed_spent old new reuses valid.before j live did
-      | None ↦ λ is did. absurd (let none = ap is_some is in cc)
-    ] is removes
+    live_remove_spent live removes = grind (arith, removed_spent old new reuses valid.before j live)
 
     -- the key is spent if its value is returned
     pub remove_spent : OnSome answer (Removes old j new) → OnSome answer (IsSpent new j)
-    remove_spent removes = elim answer as (λ o. o ≡ map.get old.live j → OnSome o (Removes old j new) → OnSome o (IsSpent new j)) [
-      | Some v ↦ λ is did. removed_spent old new reuses valid.before j (ap is_some (sym is)) did
-      | None ↦ λ is did. tt
-    ] is removes
+    remove_spent removes = grind (arith, removed_spent old new reuses valid.before j)

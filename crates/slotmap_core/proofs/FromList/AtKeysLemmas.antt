@@ -38,7 +38,8 @@ module _ {V : Type 0} where
   live_fits i slot e gives = grind (arith, nat_tests)
 
   -- a live key's slot
-  pub live_in : (slots : List (SlotRecord V)) (k : Key) (v : V) → map.get (start_live slots) k ≡ Some v → (slot : SlotRecord V) × (slice_get slots k.index ≡ Some slot) × LiveSlot k.index slot k v
+  pub live_in : (slots : List (SlotRecord V)) (k : Key) (v : V) → map.get (start_live slots) k ≡ Some v
+      → (slot : SlotRecord V) × (slice_get slots k.index ≡ Some slot) × LiveSlot k.index slot k v
   unfolding start_live
   live_in slots k v is = let at = gathered live_laws (λ k. k.index) live_slot live_fits slots k v is in (at.0, at.1, grind (arith, nat_tests))
 
@@ -80,7 +81,8 @@ module _ {V : Type 0} where
   retired_fits i slot e gives = grind (arith, nat_tests)
 
   -- a retired key's slot
-  pub retired_in : (slots : List (SlotRecord V)) (k : Key) → set.contains (start_retired slots) k ≡ true → (slot : SlotRecord V) × (slice_get slots k.index ≡ Some slot) × RetiredSlot k.index slot k
+  pub retired_in : (slots : List (SlotRecord V)) (k : Key) → set.contains (start_retired slots) k ≡ true
+      → (slot : SlotRecord V) × (slice_get slots k.index ≡ Some slot) × RetiredSlot k.index slot k
   unfolding start_retired
   retired_in slots k is = let at = gathered detached_laws (λ k. k.index) retired_slot retired_fits slots k tt (rw is) in (at.0, at.1, grind (arith, nat_tests))
 
@@ -99,7 +101,8 @@ module _ {V : Type 0} where
   issued_fits i slot e gives = grind (arith, nat_tests)
 
   -- an issued key's slot
-  pub issued_in : (slots : List (SlotRecord V)) (k : Key) → set.contains (start_issued slots) k ≡ true → (slot : SlotRecord V) × (slice_get slots k.index ≡ Some slot) × IssuedSlot k.index slot k
+  pub issued_in : (slots : List (SlotRecord V)) (k : Key) → set.contains (start_issued slots) k ≡ true
+      → (slot : SlotRecord V) × (slice_get slots k.index ≡ Some slot) × IssuedSlot k.index slot k
   unfolding start_issued
   issued_in slots k is = let at = gathered detached_laws (λ k. k.index) issued_slot issued_fits slots k tt (rw is) in (at.0, at.1, grind (arith, nat_tests))
 

@@ -10,7 +10,8 @@ use Rattle.slotmap_core.proofs.FromList.StartLemmas.{live-start_places, retired-
 use Rattle.slotmap_core.proofs.FromList.WrittenLemmas.{writes-places, written-restores, written-again}
 
 -- what holds of every map that was read from an accepted list
-pub reads_as : {V : Type 0} (slots : List (SlotRecord V)) (limit : ℕ) → Accepts slots limit → (reuses : Bool) (c : Content V) → StartsFrom slots c → IsContent reuses c → ReadsAs reuses slots c
+pub reads_as : {V : Type 0} (slots : List (SlotRecord V)) (limit : ℕ) → Accepts slots limit → (reuses : Bool) (c : Content V) → StartsFrom slots c
+    → IsContent reuses c → ReadsAs reuses slots c
 reads_as slots limit accepted reuses c starts valid =
     let ps = start_places slots in
     let writes : Writes c (records_of ps) = writes-places ps c (starts.live ∙ sym (live-start_places slots limit accepted))
@@ -25,11 +26,12 @@ reads_as slots limit accepted reuses c starts valid =
     }
 
 -- the next record of an accepted list
-pub next_consistent : {V : Type 0} (records before after : List (SlotRecord V)) (made : SlotRecord V) (limit : ℕ) → Accepts records limit → before ++ made ∷ after ≡ records → IsConsistent made
-next_consistent records before after made limit accepted whole =
-    grind (arith, common_steps, accepted.consistent (length before) made, slice_get-get_or records (length before) made)
+pub next_consistent : {V : Type 0} (records before after : List (SlotRecord V)) (made : SlotRecord V) (limit : ℕ) → Accepts records limit
+    → before ++ made ∷ after ≡ records → IsConsistent made
+next_consistent records before after made limit accepted whole = grind (arith, common_steps, slice_get-get_or records (length before) made)
 
 -- the first record of an accepted list is the one that an iterator over the list yields
 pub first_taken : {V : Type 0} (records : List (SlotRecord V)) (limit : ℕ) → Accepts records limit → {items rest : List (SlotRecord V)} {len : ℕ} (left : ℕ) (taken : Option (SlotRecord V))
-    → MatchOption taken ((len ≡ 0) × (left ≡ 0)) (λ x. (items ≡ x ∷ rest) × (left + 1 ≡ len)) → len ≡ length records → (x : SlotRecord V) × (items ≡ x ∷ rest) × (left + 1 ≡ len)
-first_taken records limit accepted left taken steps whole = grind (arith, slice_get_within records 0 accepted.first_empty.0 accepted.first_empty.1)
+    → MatchOption taken ((len ≡ 0) × (left ≡ 0)) (λ x. (items ≡ x ∷ rest) × (left + 1 ≡ len)) → len ≡ length records
+    → (x : SlotRecord V) × (items ≡ x ∷ rest) × (left + 1 ≡ len)
+first_taken records limit accepted left taken steps whole = grind (arith, slice_get_within)

@@ -3,12 +3,11 @@
 use Rattle.std.proofs.lemmas.Bool.Decides.{nat_tests}
 use Rattle.std.proofs.lemmas.Option.{slice_get_within, same_Some}
 use Rattle.std.specs.FinSet as set
-use Rattle.std.proofs.Common.{◌≡◌, ◌≢◌, inl, inr, ◌+◌, ◌%◌, sym, ap, ◌∙◌, arith, ℕ, Bool, true, List, slice_get, Some}
-use Rattle.slotmap_core.specs.Words.{Key, key_cmp, Content, IsContent, Stands, start_stack, StartsFrom, start_state, start_places, Fits, IsIssued, Accepts}
+use Rattle.std.proofs.Common.{◌≡◌, ◌≢◌, inl, ◌+◌, ◌%◌, sym, ◌∙◌, arith, ℕ, Bool, true, List, slice_get, Some}
+use Rattle.slotmap_core.specs.Words.{Key, Content, IsContent, Stands, start_stack, StartsFrom, start_state, start_places, Fits, IsIssued, Accepts}
 use Rattle.slotmap_core.specs.Words.{StackMap, content_of_places}
 use Rattle.slotmap_core.specs.declared.serial.SlotRecord.{SlotRecord}
 use Rattle.slotmap_core.proofs.FromList.AtKeysLemmas.{LiveSlot, live_in, in_contents, next_in, in_start_next, retired_in, in_start_retired, issued_in, in_start_issued}
-use Rattle.slotmap_core.proofs.General.Maps.{some_is}
 use Rattle.slotmap_core.proofs.Places.PlacesLemmas.{total}
 use Rattle.slotmap_core.proofs.Contents.Retired.{IsRetiredIn, retired_is}
 use Rattle.slotmap_core.proofs.FromList.StartLemmas.{consistent_at, length-start_places, sentinel-start_places, live-start_places, retired-start_places, next-start_places, detached-start_places}
@@ -27,8 +26,7 @@ module _ {V : Type 0} (slots : List (SlotRecord V)) (limit : ℕ) (accepted : Ac
 
   module _ (reuses : Bool) (c : Content V) (starts : StartsFrom slots c) (valid : IsContent reuses c) where
     live_slot_at : (k : Key) → Stands c k → (slot : SlotRecord V) × (slice_get slots k.index ≡ Some slot) × ((v : V) × LiveSlot k.index slot k v)
-    live_slot_at k (inl is) = grind (arith, some_is, live_in)
-    live_slot_at k (inr is) = let none = ap (λ s. set.contains s k) starts.detached ∙ set.contains-empty key_cmp k in absurd (cc)
+    live_slot_at k stands = grind (arith, live_in, set.contains-empty)
 
     live_is_issued : (k : Key) → Stands c k → IsIssued (start_state slots) k
     live_is_issued k stands = let at = live_slot_at k stands in grind (arith, nat_tests, in_start_issued slots k.index at.0 at.1, (valid.within k (inl stands)).0)
@@ -44,12 +42,7 @@ module _ {V : Type 0} (slots : List (SlotRecord V)) (limit : ℕ) (accepted : Ac
         rw starts.retired (grind (arith, nat_tests, next, in_contents slots k.index slot, in_start_retired slots k.index slot at.1))
 
     retired_in_state : (k : Key) → set.contains c.retired k ≡ true → IsRetiredIn (start_state slots) k
-    retired_in_state k is =
-        grind (
-          arith,
-          in_start_issued slots k.index ((retired_in slots k (rw starts.retired at is)).0) (retired_in slots k (rw starts.retired at is)).1,
-          retired_in slots k (rw starts.retired at is),
-        )
+    retired_in_state k is = grind (arith, in_start_issued slots k.index, retired_in slots k)
 
     -- the list's state fits a map that was just read from it
     pub starts-fit : Fits (start_state slots) c

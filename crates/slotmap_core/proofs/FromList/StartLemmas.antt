@@ -5,10 +5,10 @@ use Rattle.std.proofs.lemmas.List.{length-map, map-append}
 use Rattle.std.proofs.lemmas.Option.{slice_get-map, slice_get_within}
 use Rattle.std.specs.FinMap as map
 use Rattle.std.specs.FinSet as set
-use Rattle.std.proofs.Common.{◌≡◌, ◌≢◌, ◌+◌, ◌%◌, ◌^◌, ◌<◌, ◌∷◌, ◌++◌, refl, ap, arith, ℕ, suc, List, [], length, map as list_map, slice_get, Option, None}
+use Rattle.std.proofs.Common.{◌≡◌, ◌≢◌, ◌+◌, ◌%◌, ◌<◌, ◌∷◌, ◌++◌, refl, ap, arith, ℕ, suc, List, [], length, map as list_map, slice_get, Option, None}
 use Rattle.slotmap_core.specs.Words.{Some, is_some, key_cmp, live_slot, vacant_slot, retired_slot, start_live, start_next, start_retired, place_of_record}
 use Rattle.slotmap_core.specs.Words.{start_places, gather, Place, Vacant, live_entry, detached_entry, retired_entry, next_entry, live, detached, next}
-use Rattle.slotmap_core.specs.Words.{IsConsistent, AllConsistentBelow, Accepts, HasVersion}
+use Rattle.slotmap_core.specs.Words.{IsConsistent, AllConsistentBelow, Accepts}
 use Rattle.slotmap_core.specs.declared.serial.SlotRecord.{SlotRecord}
 use Rattle.slotmap_core.specs.Places.{retired}
 
@@ -18,9 +18,6 @@ module _ {V : Type 0} (slot : SlotRecord V) (consistent : IsConsistent slot) whe
 
   pub even_where : slot.value ≡ None → slot.version % 2 ≡ 0
   even_where none = grind arith
-
-  pub has_version : slot.version < 2 ^ 32 → HasVersion (place_of_record slot)
-  has_version fits = grind (arith, nat_tests)
 
   -- a slot of an even version other than 0 becomes a vacant place
   pub vacant_place : slot.version % 2 ≡ 0 → slot.version ≢ 0 → place_of_record slot ≡ Vacant (slot.version + 1)
@@ -47,13 +44,11 @@ module _ {V : Type 0} where
   consistent_at slots limit accepted i slot found = accepted.consistent i slot (slice_get_within slots i slot found) found
 
   pub length-start_places : (slots : List (SlotRecord V)) → length (start_places slots) ≡ length slots
-  length-start_places [] = refl
-  length-start_places (first ∷ rest) = ap suc (length-map rest place_of_record)
+  length-start_places slots = grind (arith, length-map)
 
   -- one more slot becomes one more place
   pub start_places-push : (slots : List (SlotRecord V)) (slot : SlotRecord V) → 0 < length slots → start_places (slots ++ slot ∷ []) ≡ start_places slots ++ place_of_record slot ∷ []
-  start_places-push [] slot positive = absurd (omega arith)
-  start_places-push (first ∷ rest) slot positive = ap (λ ps. Vacant 1 ∷ ps) (map-append place_of_record rest (slot ∷ []))
+  start_places-push slots slot positive = grind (arith, map-append)
 
   -- the slot that a place comes from
   pub start_place_at : (slots : List (SlotRecord V)) (i : ℕ) (p : Place V) → 0 < i → slice_get (start_places slots) i ≡ Some p → (slot : SlotRecord V)
@@ -85,5 +80,4 @@ module _ {V : Type 0} where
 
   pub detached-start_places : (slots : List (SlotRecord V)) → detached (start_places slots) ≡ set.empty
   unfolding detached
-  detached-start_places [] = refl
-  detached-start_places (first ∷ rest) = no_detached 1 rest
+  detached-start_places slots = grind (arith, no_detached)

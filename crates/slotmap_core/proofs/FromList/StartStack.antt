@@ -1,19 +1,18 @@
 -- The stack of a map that is read from a list. It has each vacant index once, and it and the places are well formed.
 -- For the crates of maps.
-use Rattle.std.proofs.lemmas.Bool.Decides.{nat_tests}
 use Rattle.std.proofs.lemmas.List.{length_push}
 use Rattle.std.proofs.lemmas.Option.{slice_get_within, same_Some}
 use Rattle.std.specs.FinMap as map
-use Rattle.std.proofs.Common.{◌≡◌, ◌⊎◌, ◌↔◌, ◌+◌, ◌^◌, ◌<◌, ◌≤◌, ◌∷◌, ◌++◌, refl, sym, ap, subst, ◌∙◌, arith, ℕ, zero, suc, true, List, [], length, slice_get}
-use Rattle.slotmap_core.specs.Words.{Option, None, Some, is_some, nat_cmp_total, nat_cmp, vacant_slot, start_next, start_stack, start_places, gather, Place}
-use Rattle.slotmap_core.specs.Words.{Vacant, next, Accepts, AllFitBelow, IsOn, IsOnce, HasVersion, IsStacked}
+use Rattle.std.proofs.Common.{◌≡◌, ◌⊎◌, ◌↔◌, ◌+◌, ◌^◌, ◌<◌, ◌≤◌, ◌∷◌, ◌++◌, sym, ap, subst, ◌∙◌, arith, refl, ℕ, zero, suc, true, List, []}
+use Rattle.slotmap_core.specs.Words.{nat_cmp_total, vacant_slot, start_next, start_stack, start_places, gather, Place, Vacant, next, Accepts, AllFitBelow}
+use Rattle.slotmap_core.specs.Words.{IsOn, IsOnce, HasVersion, IsStacked, length, slice_get, Option, None, Some, is_some, nat_cmp}
 use Rattle.slotmap_core.specs.declared.serial.SlotRecord.{SlotRecord}
 use Rattle.slotmap_core.proofs.FromList.AtKeysLemmas.{vacant_fits, next_in}
 use Rattle.slotmap_core.proofs.General.GatherLemmas.{get_before, len-add}
 use Rattle.slotmap_core.proofs.General.MapLaws.{next_laws}
 use Rattle.slotmap_core.proofs.General.Maps.{some_is}
 use Rattle.slotmap_core.proofs.Places.PlacesLemmas.{get-next_at, vacant_at}
-use Rattle.slotmap_core.proofs.FromList.StartLemmas.{consistent_at, has_version, length-start_places, start_place_at, sentinel-start_places, next-start_places}
+use Rattle.slotmap_core.proofs.FromList.StartLemmas.{consistent_at, length-start_places, start_place_at, sentinel-start_places, next-start_places}
 
 on_pushed : (is : List ℕ) (i j : ℕ) → IsOn (is ++ i ∷ []) j ↔ ((j ≡ i) ⊎ IsOn is j)
 on_pushed [] i j = grind arith
@@ -37,9 +36,8 @@ module _ {V : Type 0} where
   next_from = gather map.empty (λ m e. map.insert m e.0 e.1) vacant_slot
 
   on_next : (i : ℕ) (slots : List (SlotRecord V)) (j : ℕ) → IsOn (stack_from i slots) j ↔ (map.contains_key (next_from i slots) j ≡ true)
-  on_next i [] j = grind (arith, map.get-empty {X = ℕ} nat_cmp j)
-  on_next i (slot ∷ slots) j =
-      grind (arith, nat_tests, on_next (i + 1) slots j, on_pushed (stack_from (i + 1) slots) i j, map.get-insert nat_cmp_total (next_from (i + 1) slots) i (slot.version + 1) j)
+  on_next i [] j = grind (arith, map.get-empty)
+  on_next i (slot ∷ slots) j = grind (arith, on_next (i + 1) slots j, on_pushed, map.get-insert nat_cmp_total (next_from (i + 1) slots) i (slot.version + 1) j)
 
   once : (i : ℕ) (slots : List (SlotRecord V)) → IsOnce (stack_from i slots)
   once i [] = tt
@@ -51,7 +49,8 @@ module _ {V : Type 0} where
   counted i [] = sym (map.len-empty nat_cmp ℕ)
   counted i (slot ∷ slots) = grind (arith, counted (i + 1) slots, len-add next_laws (λ i. i) vacant_slot vacant_fits i slot slots, length_push)
 
-  stack_push : (i k : ℕ) (slots : List (SlotRecord V)) (slot : SlotRecord V) → k ≡ i + length slots → stack_from i (slots ++ slot ∷ []) ≡ with_index (vacant_slot k slot) (stack_from i slots)
+  stack_push : (i k : ℕ) (slots : List (SlotRecord V)) (slot : SlotRecord V) → k ≡ i + length slots
+      → stack_from i (slots ++ slot ∷ []) ≡ with_index (vacant_slot k slot) (stack_from i slots)
   stack_push i k [] slot at = grind arith
   stack_push i k (first ∷ slots) slot at = grind (arith, stack_push (i + 1) k slots slot (omega arith))
 
@@ -60,7 +59,8 @@ module _ {V : Type 0} where
   start_stack-push slots slot = stack_push 0 (length slots) slots slot (omega arith)
 
   -- the places that the slots of an accepted list become, with the vacant indices as the stack
-  pub IsStacked-start_places : (slots : List (SlotRecord V)) (limit : ℕ) → limit ≤ 2 ^ 32 → Accepts slots limit → AllFitBelow slots (length slots) → IsStacked (start_places slots) (start_stack slots)
+  pub IsStacked-start_places : (slots : List (SlotRecord V)) (limit : ℕ) → limit ≤ 2 ^ 32 → Accepts slots limit → AllFitBelow slots (length slots)
+      → IsStacked (start_places slots) (start_stack slots)
   unfolding start_stack start_next
   IsStacked-start_places slots limit small accepted versions_fit = record {
     sentinel = sentinel-start_places slots limit accepted;
@@ -84,6 +84,4 @@ module _ {V : Type 0} where
 
       versions : (i : ℕ) (p : Place V) → slice_get (start_places slots) i ≡ Some p → HasVersion p
       versions zero p found = subst HasVersion (same_Some (Vacant 1) p (sym (sentinel-start_places slots limit accepted) ∙ found)) (omega arith, refl)
-      versions (suc i) p found =
-          let at = start_place_at slots (suc i) p (omega arith) found in
-          subst HasVersion (sym at.2) (has_version at.0 (consistent_at slots limit accepted (suc i) at.0 at.1) (versions_fit (suc i) at.0 (slice_get_within slots (suc i) at.0 at.1) at.1))
+      versions (suc i) p found = grind (arith, start_place_at, consistent_at slots limit accepted (suc i), slice_get_within)

@@ -4,11 +4,11 @@ use Rattle.std.proofs.lemmas.List.{length-map, same_lists}
 use Rattle.std.proofs.lemmas.Option.{slice_get-map, slice_get_within, slice_get-get_or}
 use Rattle.std.specs.FinMap as map
 use Rattle.std.specs.FinSet as set
-use Rattle.std.proofs.Common.{◌≡◌, ◌≢◌, ◌⊎◌, inl, inr, ◌+◌, ◌-◌, ◌%◌, ◌<◌, ◌≤◌, refl, sym, ap, ◌∙◌, arith, eq-eqb, ℕ, Bool, true, false, List, length, Some}
-use Rattle.slotmap_core.specs.Words.{slice_get, is_some, get_or, Key, IsKey, is_last, last_version, next_version, Content, IsContent, IsDetached, IsRetired}
-use Rattle.slotmap_core.specs.Words.{IsVacant, Uses, places, start_live, StartsFrom, Place, Live, Detached, Vacant, Retired, live, detached, next}
-use Rattle.slotmap_core.specs.Words.{retired_entry, Accepts, StackMap, content_of_places, IsStacked, following_version, filled_slot, empty_slot, Writes}
-use Rattle.slotmap_core.specs.Words.{Restores, record_of, records_of, read_slots}
+use Rattle.std.proofs.Common.{◌≡◌, ◌≢◌, ◌⊎◌, inl, inr, ◌+◌, ◌-◌, ◌%◌, ◌<◌, ◌≤◌, sym, ap, ◌∙◌, arith, eq-eqb, refl, ℕ, Bool, true, false, List, length}
+use Rattle.slotmap_core.specs.Words.{Key, IsKey, is_last, last_version, next_version, Content, IsContent, IsDetached, IsRetired, IsVacant, Uses, places}
+use Rattle.slotmap_core.specs.Words.{start_live, StartsFrom, Place, Live, Detached, Vacant, Retired, live, detached, next, retired_entry, Accepts, StackMap}
+use Rattle.slotmap_core.specs.Words.{content_of_places, IsStacked, following_version, filled_slot, empty_slot, Writes, Restores, record_of, records_of}
+use Rattle.slotmap_core.specs.Words.{read_slots, Some, slice_get, is_some, get_or}
 use Rattle.slotmap_core.specs.declared.serial.SlotRecord.{SlotRecord}
 use Rattle.slotmap_core.specs.Places.{retired}
 use Rattle.slotmap_core.proofs.Contents.ContentLemmas.{some_is}
@@ -79,17 +79,8 @@ module _ {V : Type 0} (reuses : Bool) (c : Content V) (valid : IsContent reuses 
   written-contents = map.same_map keys_total exact_keys (start_live slots) c.live (λ k. grind (arith, live_stays k, live_returns k))
 
   module _ (read : Content V) (starts : StartsFrom slots read) where
-    retired_where : (k : Key) → IsRetired read k → IsRetired c k ⊎ (IsDetached c k × (is_last k ≡ true))
-    retired_where k is = grind (arith, retired_in, stands_for, nat_tests)
-
-    where_retired : (k : Key) → IsRetired c k ⊎ (IsDetached c k × (is_last k ≡ true)) → IsRetired read k
-    where_retired k there = grind (arith, nat_tests, in_start_retired)
-
-    next_where : (i v : ℕ) → map.get read.next i ≡ Some v → (map.get c.next i ≡ Some v) ⊎ ((k : Key) × IsDetached c k × (is_last k ≡ false) × (k.index ≡ i) × (next_version k ≡ v))
-    next_where i v is =
-        grind (arith, key i (v - 2), next_in slots i v (rw starts.next at is), stands_for i (next_in slots i v (rw starts.next at is)).0 (next_in slots i v (rw starts.next at is)).1)
-
-    where_next : (i v : ℕ) → (map.get c.next i ≡ Some v) ⊎ ((k : Key) × IsDetached c k × (is_last k ≡ false) × (k.index ≡ i) × (next_version k ≡ v)) → map.get read.next i ≡ Some v
+    where_next : (i v : ℕ) → (map.get c.next i ≡ Some v) ⊎ ((k : Key) × IsDetached c k × (is_last k ≡ false) × (k.index ≡ i) × (next_version k ≡ v))
+        → map.get read.next i ≡ Some v
     where_next i v (inl got) =
         rw starts.next (grind (arith, in_start_next slots i _ (writes.vacant i v got), valid.vacant i (ap is_some got), valid.had_keys i v got, valid.vacancies i v got))
     where_next i v (inr (k, is, other, here, follows)) =
@@ -101,8 +92,8 @@ module _ {V : Type 0} (reuses : Bool) (c : Content V) (valid : IsContent reuses 
     written-restores = record {
       live = starts.live ∙ written-contents;
       detached = starts.detached;
-      retired = λ k. (retired_where k, where_retired k);
-      next = λ i v. (next_where i v, where_next i v);
+      retired = λ k. (λ is. grind (arith, retired_in, stands_for, nat_tests), λ there. grind (arith, nat_tests, in_start_retired));
+      next = λ i v. (λ is. grind (arith, key i (v - 2), next_in slots i v, stands_for i), where_next i v);
       same_places = omega (arith, starts.places, writes.all);
     }
 

@@ -1,10 +1,12 @@
 -- Elements of a list by their index.
 -- For the crates of maps.
-use Rattle.std.proofs.Common.{◌≡◌, ◌≢◌, ℕ, zero, suc, ◌+◌, ◌<◌, option_map, List, [], ◌∷◌, ◌++◌, length, take, drop, slice_get, get_or, Option, Some, None, IfNone, Result, IsOk, IsErr, refl, sym, ap, subst, ◌∙◌, arith}
-use Rattle.std.proofs.lemmas.List.{take_more}
-use Rattle.std.proofs.lemmas.List.Elements.{AllZip-push}
-use Rattle.std.proofs.lemmas.Option.{same_Some, slice_get_within, slice_get_cases, slice_get_read, get_or_from_slice_get}
-use Rattle.slotmap_core.specs.Words.{AllZip}
+use Rattle.std.proofs.Common.{◌≡◌, ◌≢◌, ◌+◌, ◌<◌, ◌∷◌, ◌++◌, sym, ap, ◌∙◌, arith, ℕ, zero, suc, option_map, List, [], length, take, drop, slice_get, get_or}
+use Rattle.std.proofs.lemmas.List.Elements.{all_zip_more}
+use Rattle.std.proofs.lemmas.Option.{slice_get_within, slice_get_cases, slice_get_read, get_or_from_slice_get}
+use Rattle.std.proofs.lemmas.Slice.Zip.{AllZip-left, AllZip-right}
+use Rattle.slotmap_core.specs.Words.{AllZip, Option, Some, None, IfNone, Result, IsOk, IsErr, refl}
+-- as many elements are in both of two lists that are related one by one
+pub use Rattle.std.proofs.lemmas.Slice.Zip.{AllZip-long as zip_length}
 
 pub found_within : {X : Type 0} (xs : List X) (i : ℕ) → i < length xs → (x : X) × (slice_get xs i ≡ Some x)
 found_within xs i within = grind (arith, slice_get_cases xs i)
@@ -32,32 +34,18 @@ err_not_ok r err ok = grind arith
 
 -- elements at the same index of two lists that are related one by one
 module _ {A B : Type 0} (R : A → B → Type 0) where
-  pub zip_length : (xs : List A) (ys : List B) → AllZip R xs ys → length ys ≡ length xs
-  zip_length [] [] all = refl
-  zip_length [] (y ∷ ys) all = absurd all
-  zip_length (x ∷ xs) [] all = absurd all
-  zip_length (x ∷ xs) (y ∷ ys) all = ap suc (zip_length xs ys all.1)
-
   pub zip_right : (xs : List A) (ys : List B) → AllZip R xs ys → (i : ℕ) (x : A) → slice_get xs i ≡ Some x → (y : B) × (slice_get ys i ≡ Some y) × R x y
-  zip_right [] ys all i x found = absurd (cc)
-  zip_right (a ∷ xs) [] all i x found = absurd all
-  zip_right (a ∷ xs) (b ∷ ys) all zero x found = (b, refl, subst (λ z. R z b) (same_Some a x found) all.0)
-  zip_right (a ∷ xs) (b ∷ ys) all (suc i) x found = zip_right xs ys all.1 i x found
+  zip_right xs ys all i x found = grind (arith, AllZip-left R xs ys all i)
 
   pub zip_left : (xs : List A) (ys : List B) → AllZip R xs ys → (i : ℕ) (y : B) → slice_get ys i ≡ Some y → (x : A) × (slice_get xs i ≡ Some x) × R x y
-  zip_left [] [] all i y found = absurd (cc)
-  zip_left [] (b ∷ ys) all i y found = absurd all
-  zip_left (a ∷ xs) [] all i y found = absurd all
-  zip_left (a ∷ xs) (b ∷ ys) all zero y found = (a, refl, subst (λ z. R a z) (same_Some b y found) all.0)
-  zip_left (a ∷ xs) (b ∷ ys) all (suc i) y found = zip_left xs ys all.1 i y found
+  zip_left xs ys all i y found = grind (arith, AllZip-right R xs ys all i)
 
   -- what is left of the two lists after as many elements
   pub zip_drop : (i : ℕ) (xs : List A) (ys : List B) → AllZip R xs ys → AllZip R (drop i xs) (drop i ys)
   zip_drop zero xs ys all = all
   zip_drop (suc i) [] [] all = tt
-  zip_drop (suc i) [] (y ∷ ys) all = absurd all
-  zip_drop (suc i) (x ∷ xs) [] all = absurd all
   zip_drop (suc i) (x ∷ xs) (y ∷ ys) all = zip_drop i xs ys all.1
+  zip_drop (suc i) _ _ all = absurd all
 
 -- each element is related to itself
 pub zip_self : {A : Type 0} (R : A → A → Type 0) → ((x : A) → R x x) → (xs : List A) → AllZip R xs xs
@@ -68,5 +56,4 @@ zip_self R itself (x ∷ xs) = (itself x, zip_self R itself xs)
 pub zip_next : {A : Type 0} (R : A → A → Type 0) (xs ys : List A) (i : ℕ) (x y : A) → AllZip R (take i xs) ys → slice_get xs i ≡ Some x → R x y
     → AllZip R (take (i + 1) xs) (ys ++ y ∷ [])
 zip_next R xs ys i x y all found next =
-    let more : take (i + 1) xs ≡ take i xs ++ x ∷ [] = take_more xs i x (slice_get_within xs i x found) ∙ ap (λ z. take i xs ++ z ∷ []) (get_or_from_slice_get xs i x x found) in
-    rw more (AllZip-push R (take i xs) ys x y all next)
+    all_zip_more R xs ys i x y (slice_get_within xs i x found) (sym (get_or_from_slice_get xs i x x found)) all next

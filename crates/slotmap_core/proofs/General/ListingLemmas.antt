@@ -1,6 +1,7 @@
 -- Listings that grow by one entry at a time, and what a listing says of each key.
 -- For the crates of maps.
-use Rattle.std.proofs.Common.{◌≡◌, ℕ, zero, suc, ◌+◌, ◌<◌, ◌≤◌, true, false, List, [], ◌∷◌, ◌++◌, length, get_or, map as list_map, Some, None, inl, inr, refl, sym, ap, ◌∙◌, arith}
+use Rattle.std.proofs.Common.{◌≡◌, ℕ, zero, suc, ◌+◌, ◌<◌, ◌≤◌, true, false, List, [], ◌∷◌, ◌++◌, length, get_or, map as list_map, Some, None, inl, inr, refl}
+use Rattle.std.proofs.Common.{sym, ap, ◌∙◌, arith}
 use Rattle.std.proofs.lemmas.Bool.{cases_Bool}
 use Rattle.std.specs.FinMap as map
 use Rattle.std.specs.FinSet as set
@@ -29,7 +30,8 @@ module _ {V : Type 0} where
   remove-insert m k w = map.same_map keys_total exact_keys _ _ (λ q. grind (arith, map.get-insert {X = V} keys_total, map.get-remove {X = V} keys_total))
 
   -- an entry whose key isn't in the list may be inserted or removed before the list
-  pub insert-with_entries : (m : map.FinMap key_cmp V) (es : List (Key × V)) (k : Key) (w : V) → find key_cmp k es ≡ None → map.insert (with_entries m es) k w ≡ with_entries (map.insert m k w) es
+  pub insert-with_entries : (m : map.FinMap key_cmp V) (es : List (Key × V)) (k : Key) (w : V) → find key_cmp k es ≡ None
+      → map.insert (with_entries m es) k w ≡ with_entries (map.insert m k w) es
   insert-with_entries m es k w none = map.same_map keys_total exact_keys _ _ (λ q.
       grind (arith, map.get-insert {X = V} keys_total, get-with_entries m es q, get-with_entries (map.insert m k w) es q, tied keys_total exact_keys q k))
 
@@ -48,15 +50,17 @@ module _ {V : Type 0} where
 
   apart_from : (m : map.FinMap key_cmp V) (es : List (Key × V)) (k : Key) → length es + map.len m ≡ map.len (with_entries m es) → map.contains_key m k ≡ true → find key_cmp k es ≡ None
   apart_from m [] k once there = refl
-  apart_from m (e ∷ es) k once there = grind (arith, fresh_first m e es once, apart_from m es k, get-with_entries m es k, tied keys_total exact_keys k e.0)
+  apart_from m (e ∷ es) k once there = grind (arith, fresh_first m e es once, apart_from m es k, get-with_entries)
 
   -- an entry of the rest isn't listed
-  pub unlisted : (m : map.FinMap key_cmp V) (es : List (Key × V)) (rest : map.FinMap key_cmp V) (k : Key) → IsListingBut m es rest → map.contains_key rest k ≡ true → find key_cmp k es ≡ None
+  pub unlisted : (m : map.FinMap key_cmp V) (es : List (Key × V)) (rest : map.FinMap key_cmp V) (k : Key) → IsListingBut m es rest
+      → map.contains_key rest k ≡ true → find key_cmp k es ≡ None
   unlisted m es rest k listing there = apart_from rest es k (listing.once ∙ ap map.len (sym listing.all)) there
 
   -- nor is a key for which the rest and the map say the same
-  pub unlisted_where_same : (m : map.FinMap key_cmp V) (es : List (Key × V)) (rest : map.FinMap key_cmp V) (k : Key) → IsListingBut m es rest → map.get rest k ≡ map.get m k → find key_cmp k es ≡ None
-  unlisted_where_same m es rest k listing same = grind (arith, unlisted m es rest k listing, get-with_entries rest es k, listing.all)
+  pub unlisted_where_same : (m : map.FinMap key_cmp V) (es : List (Key × V)) (rest : map.FinMap key_cmp V) (k : Key) → IsListingBut m es rest
+      → map.get rest k ≡ map.get m k → find key_cmp k es ≡ None
+  unlisted_where_same m es rest k listing same = grind (arith, unlisted, get-with_entries)
 
   pub IsListingBut-start : (m : map.FinMap key_cmp V) → IsListingBut m [] m
   IsListingBut-start m = record { all = refl; once = omega arith }
@@ -65,12 +69,13 @@ module _ {V : Type 0} where
   pub IsListingBut-take : (m : map.FinMap key_cmp V) (es : List (Key × V)) (rest : map.FinMap key_cmp V) (k : Key) (v : V) → IsListingBut m es rest
       → map.get rest k ≡ Some v → IsListingBut m (es ++ (k, v) ∷ []) (map.remove rest k)
   IsListingBut-take m es rest k v listing found =
-      let kept = insert-remove rest k v ∙ insert_same keys_total exact_keys rest k v found in
-      grind (arith, with_entries_push (map.remove rest k) es (k, v), kept, length_push es (k, v), len_removed keys_total exact_keys rest k)
+      grind (arith, insert-remove, insert_same keys_total exact_keys rest k v found, with_entries_push, length_push, len_removed keys_total exact_keys rest k)
 
   -- an entry that was removed before is listed first
-  pub IsListingBut-first : (m rest : map.FinMap key_cmp V) (es : List (Key × V)) (k : Key) (v : V) → map.get m k ≡ Some v → IsListingBut (map.remove m k) es rest → IsListingBut m ((k, v) ∷ es) rest
-  IsListingBut-first m rest es k v found listing = grind (arith, insert-remove m k v, insert_same keys_total exact_keys m k v found, len_removed keys_total exact_keys m k)
+  pub IsListingBut-first : (m rest : map.FinMap key_cmp V) (es : List (Key × V)) (k : Key) (v : V) → map.get m k ≡ Some v
+      → IsListingBut (map.remove m k) es rest → IsListingBut m ((k, v) ∷ es) rest
+  IsListingBut-first m rest es k v found listing =
+      grind (arith, insert-remove, insert_same keys_total exact_keys m k v found, len_removed keys_total exact_keys m k)
 
   pub IsListingBut-done : (m : map.FinMap key_cmp V) (es : List (Key × V)) → IsListingBut m es map.empty → IsListing m es
   IsListingBut-done m es listing = grind (arith, with_entries-empty es, map.len-empty key_cmp V)

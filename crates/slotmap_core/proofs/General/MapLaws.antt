@@ -1,6 +1,6 @@
 -- Finite maps and sets satisfy the laws that gathering relies on.
 -- For the crates of maps.
-use Rattle.std.proofs.Common.{◌≡◌, ℕ, Bool, cond, ◌==◌, Ordering, Option, None, Some, is_some, sym, ap, ◌∙◌, nat_cmp, arith}
+use Rattle.std.proofs.Common.{◌≡◌, ℕ, Bool, cond, ◌==◌, Ordering, Option, None, Some, is_some, nat_cmp, arith}
 use Rattle.std.specs.FinMap as map
 use Rattle.std.specs.FinSet as set
 use Rattle.slotmap_core.specs.Words.{eq_by_cmp, Key, key_cmp}
@@ -26,17 +26,9 @@ mark s q = cond (set.contains s q) (Some tt) None
 pub is_marked : (b : Bool) → is_some {T = Unit {0}} (cond b (Some tt) None) ≡ b
 is_marked b = grind arith
 
-set_laws : {K : Type 0} {R : K → K → Ordering} → IsTotalOrder R → CmpEqualImpliesEq R → IsFinite {X = Unit {0}} (eq_by_cmp R) (set.empty {R = R}) mark (λ s e. set.insert s e.0) set.remove set.len
-set_laws {K} {R} o same = record {
-  get-empty = λ q. rw (set.contains-empty R q);
-  get-put = λ s e q. grind (arith, set.contains-insert o s e.0 q);
-  get-remove = λ s k q. grind (arith, set.contains-remove o s k q);
-  len-empty = set.len-empty R;
-  len-put = λ s e. grind (arith, set.len-insert o s e.0);
-  same = λ s t is. set.same_set o same s t (λ q. sym (is_marked (set.contains s q)) ∙ ap is_some (is q) ∙ is_marked (set.contains t q));
-  is_same = tied o same;
-  itself = itself o same;
-}
+set_laws : {K : Type 0} {R : K → K → Ordering} → IsTotalOrder R → CmpEqualImpliesEq R
+    → IsFinite {X = Unit {0}} (eq_by_cmp R) (set.empty {R = R}) mark (λ s e. set.insert s e.0) set.remove set.len
+set_laws {K} {R} o same = grind (arith, set.contains-empty, set.contains-insert, set.contains-remove, set.len-empty, set.len-insert, set.same_set o same)
 
 pub live_laws : {V : Type 0} → IsFinite {X = V} (eq_by_cmp key_cmp) (map.empty {X = V} {R = key_cmp}) map.get (λ m e. map.insert m e.0 e.1) map.remove map.len
 live_laws = map_laws keys_total exact_keys

@@ -1,6 +1,7 @@
 -- Finite maps from numbers or keys: what holds after a change held before, or is the change.
 -- For the crates of maps, runs and callers.
-use Rattle.std.proofs.Common.{◌≡◌, ◌≢◌, ℕ, zero, suc, ◌+◌, ◌≤◌, Option, Some, None, Bool, true, false, not, List, [], ◌∷◌, length, ◌⊎◌, inl, inr, refl, sym, ◌∙◌, subst, ap, arith, is_some}
+use Rattle.std.proofs.Common.{◌≡◌, ◌≢◌, ℕ, zero, suc, ◌+◌, ◌≤◌, Option, Some, None, Bool, true, false, not, List, [], ◌∷◌, length, ◌⊎◌, inl, inr, refl, sym}
+use Rattle.std.proofs.Common.{◌∙◌, subst, ap, arith, is_some}
 use Rattle.std.specs.declared.cmp.Ordering.{Ordering}
 use Rattle.std.specs.FinMap as map
 use Rattle.std.specs.FinSet as set
@@ -103,8 +104,7 @@ module _ {K : Type 0} {R : K → K → Ordering} (total : IsTotalOrder R) (exact
 
 module _ {K : Type 0} {R : K → K → Ordering} (total : IsTotalOrder R) (exact : CmpEqualImpliesEq R) where
   no_keys : {X : Type 0} (m : map.FinMap R X) → ((k : K) → map.contains_key m k ≡ false) → map.len m ≡ 0
-  no_keys {X} m none =
-      ap map.len (map.same_map total exact m map.empty (λ k. none_of (map.get m k) (none k) ∙ sym (map.get-empty {X = X} R k))) ∙ map.len-empty R X
+  no_keys {X} m none = grind (arith, map.same_map total exact m map.empty, map.get-empty, map.len-empty)
 
   a_key : {X : Type 0} (m : map.FinMap R X) (count : ℕ) → map.len m ≡ count + 1 → (k : K) × (map.contains_key m k ≡ true)
   a_key {X} m count is = by (map.entries m) refl

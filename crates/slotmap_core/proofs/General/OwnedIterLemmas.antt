@@ -14,10 +14,7 @@ module _ {X Z : Type 0} where
 
   module _ {all taken : List X} {it : IntoIter X Z} (before : OwnedIter all taken it) where
     pub Taking-next : {x : X} {new : IntoIter X Z} → into_iter_steps it (Some x) new → OwnedIter all (taken ++ x ∷ []) new
-    Taking-next {x} {new} steps = record {
-      both = append_assoc taken (x ∷ []) (into_iter_items new) ∙ ap (λ xs. taken ++ xs) (sym steps.0) ∙ before.both;
-      left = omega (arith, before.left, steps.1, ap length steps.0);
-    }
+    Taking-next {x} {new} steps = grind (arith, append_assoc taken (x ∷ []) (into_iter_items new))
 
     -- the next one is at the position after those that were taken
     pub Taking-here : {x : X} {rest : List X} → into_iter_items it ≡ x ∷ rest → slice_get all (length taken) ≡ Some x

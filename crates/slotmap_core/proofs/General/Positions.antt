@@ -1,7 +1,12 @@
 -- Lists cut at positions: what stands before an element, between two of them and after.
 -- For runs.
-use Rattle.std.proofs.Common.{◌≡◌, ℕ, zero, suc, ◌+◌, ◌<◌, List, [], ◌∷◌, ◌++◌, length, take, drop, slice_get, Some, refl, sym, ap, ◌∙◌, append_assoc, length-append, arith}
-use Rattle.slotmap_core.specs.Words.{AllByRecursion, AllZip}
+use Rattle.std.proofs.Common.{◌≡◌, ◌+◌, ◌<◌, ◌∷◌, ◌++◌, sym, ap, ◌∙◌, append_assoc, length-append, arith, ℕ, zero, suc, List, [], length, take, drop}
+use Rattle.std.proofs.lemmas.Grind.{common_steps}
+use Rattle.std.proofs.lemmas.List.{nil_from_length}
+use Rattle.std.proofs.lemmas.List.Elements.{All-from_recursion}
+use Rattle.std.proofs.lemmas.Option.{slice_get_within, get_or_from_slice_get}
+use Rattle.std.proofs.lemmas.Slice.Zip.{AllZip-left}
+use Rattle.slotmap_core.specs.Words.{AllByRecursion, AllZip, slice_get, Some, refl}
 
 module _ {X : Type 0} where
   some_injective : (x y : X) → Some x ≡ Some y → x ≡ y
@@ -50,11 +55,7 @@ module _ {X : Type 0} where
   pub split_at_pair : (xs : List X) (i : ℕ) (x y : X) → slice_get xs i ≡ Some x → slice_get xs (i + 1) ≡ Some y → SplitsAtPair xs i x y
   split_at_pair xs i x y h g =
       let two = split_at_two xs i (i + 1) x y (omega arith) h g in
-      record { before = two.before; after = two.after; at = two.at; is = two.is ∙ ap (λ l. two.before ++ x ∷ (l ++ y ∷ two.after)) (no_elements two.between (omega (arith, two.apart))) }
-    where
-      no_elements : (xs : List X) → length xs ≡ 0 → xs ≡ []
-      no_elements [] e = refl
-      no_elements (x ∷ xs) e = absurd (omega arith)
+      record { before = two.before; after = two.after; at = two.at; is = two.is ∙ ap (λ l. two.before ++ x ∷ (l ++ y ∷ two.after)) (nil_from_length two.between (omega (arith, two.apart))) }
 
   before_seam : (xs ys : List X) (n : ℕ) (z : X) → slice_get xs n ≡ Some z → slice_get (xs ++ ys) n ≡ Some z
   before_seam [] ys n z h = absurd (cc)
@@ -71,9 +72,7 @@ module _ {X : Type 0} where
 
   -- the elements after x are those from the next position on
   pub stands_after : {xs : List X} {i : ℕ} {x : X} (s : SplitsAt xs i x) (n : ℕ) → slice_get s.after n ≡ slice_get xs (i + 1 + n)
-  stands_after {xs} {i} {x} s n = sym (
-      ap (λ l. slice_get l (i + 1 + n)) s.is ∙ ap (λ k. slice_get (s.before ++ x ∷ s.after) (k + 1 + n)) (sym s.at) ∙ past_seam s.before s.after x n
-      )
+  stands_after {xs} {i} {x} s n = grind (arith, past_seam)
 
   module _ {xs : List X} {i j : ℕ} {x y : X} (s : SplitsAtTwo xs i j x y) (n : ℕ) (z : X) where
     -- an element of the part before, and one of the part between, by their positions
@@ -81,9 +80,7 @@ module _ {X : Type 0} where
     stands_before h = ap (λ l. slice_get l n) s.is ∙ before_seam s.before (x ∷ (s.between ++ y ∷ s.after)) n z h
 
     pub stands_between : slice_get s.between n ≡ Some z → slice_get xs (i + 1 + n) ≡ Some z
-    stands_between h =
-        ap (λ l. slice_get l (i + 1 + n)) s.is ∙ ap (λ k. slice_get (s.before ++ x ∷ (s.between ++ y ∷ s.after)) (k + 1 + n)) (sym s.at)
-        ∙ past_seam s.before (s.between ++ y ∷ s.after) x n ∙ before_seam s.between (y ∷ s.after) n z h
+    stands_between h = grind (arith, past_seam, before_seam)
 
   -- the elements after y
   pub stands_past : {xs : List X} {i j : ℕ} {x y : X} (s : SplitsAtTwo xs i j x y) (n : ℕ) → slice_get s.after n ≡ slice_get xs (j + 1 + n)
@@ -96,12 +93,11 @@ module _ {X : Type 0} where
   at_seam (z ∷ xs) ys x = at_seam xs ys x
 
 -- what holds of each element of a part of a list holds of an element at a position in that part
-pub at_in_part : {X : Type 0} (P : X → Type 0) (start size n : ℕ) (xs : List X) (x : X) → AllByRecursion P (take size (drop start xs)) → n < size → slice_get xs (start + n) ≡ Some x → P x
-at_in_part P start size n [] x all less h = absurd (cc)
-at_in_part P (suc start) size n (z ∷ zs) x all less h = at_in_part P start size n zs x all less (let next : suc start + n ≡ suc (start + n) = omega arith in rw next at h)
-at_in_part P zero zero n (z ∷ zs) x all less h = absurd (omega arith)
-at_in_part P zero (suc size) zero (z ∷ zs) x all less h = let is : z ≡ x = cc in rw (← is) all.0
-at_in_part P zero (suc size) (suc n) (z ∷ zs) x all less h = at_in_part P zero size n zs x all.1 (omega arith) (let next : 0 + suc n ≡ suc (0 + n) = omega arith in rw next at h)
+pub at_in_part : {X : Type 0} (P : X → Type 0) (start size n : ℕ) (xs : List X) (x : X) → AllByRecursion P (take size (drop start xs)) → n < size
+    → slice_get xs (start + n) ≡ Some x → P x
+at_in_part P start size n xs x all less h =
+    let at = get_or_from_slice_get xs (start + n) x x h in
+    grind (arith, common_steps, All-from_recursion P (take size (drop start xs)) all n x, slice_get_within xs (start + n) x h, at)
 
 pub at_in_first : {X : Type 0} (P : X → Type 0) (size n : ℕ) (xs : List X) (x : X) → AllByRecursion P (take size xs) → n < size → slice_get xs n ≡ Some x → P x
 at_in_first P size n xs x all less h = at_in_part P 0 size n xs x all less (let same : 0 + n ≡ n = omega arith in rw same h)
@@ -115,7 +111,4 @@ zipped_by_positions P _ _ long each = absurd (omega arith)
 
 -- what holds of both lists, place by place, holds of the elements at a position
 pub zipped_at : {X Y : Type 0} (P : X → Y → Type 0) (xs : List X) (ys : List Y) (n : ℕ) (x : X) (y : Y) → AllZip P xs ys → slice_get xs n ≡ Some x → slice_get ys n ≡ Some y → P x y
-zipped_at P [] ys n x y all h g = absurd (cc)
-zipped_at P (w ∷ xs) [] n x y all h g = absurd all
-zipped_at P (w ∷ xs) (z ∷ ys) zero x y all h g = let is : w ≡ x = cc in let same : z ≡ y = cc in rw (← is, ← same) all.0
-zipped_at P (w ∷ xs) (z ∷ ys) (suc n) x y all h g = zipped_at P xs ys n x y all.1 h g
+zipped_at P xs ys n x y all h g = grind (arith, AllZip-left P xs ys all n)

@@ -1,6 +1,6 @@
 -- How the number of places changes.
 -- For the crates of maps and runs.
-use Rattle.std.proofs.Common.{◌≡◌, ◌≢◌, ◌+◌, ◌<◌, max, Some, Bool, ◌⊎◌, inl, refl, ap, ◌∙◌, arith}
+use Rattle.std.proofs.Common.{◌≡◌, ◌≢◌, ◌+◌, ◌<◌, max, Some, Bool, ◌⊎◌, ap, arith}
 use Rattle.std.specs.FinMap as map
 use Rattle.std.specs.FinSet as set
 use Rattle.std.proofs.lemmas.Grind.{common_steps}
@@ -22,9 +22,7 @@ module _ {V : Type 0} (reuses : Bool) (old new : Content V) (ok : IsContent reus
     free = rw i.offered (offer_free i.below_limit)
 
     pub places_grow : max (places old) (used old + 1) ≡ places new
-    places_grow =
-        let live : map.len new.live ≡ map.len old.live + 1 = ap map.len i.live ∙ len_inserted keys_total exact_keys old.live k v (false_of _ (λ h. free k (inl h) refl)) in
-        grind (arith, map.len-remove nat_cmp_total old.next k.index)
+    places_grow = grind (arith, len_inserted keys_total exact_keys old.live k v, map.len-remove nat_cmp_total old.next k.index)
 
   pub kept_places : Keeps old new → places new ≡ places old
   kept_places k = omega (arith, ap map.len k.live, ap set.len k.detached, ap set.len k.retired, ap map.len k.next)
@@ -33,10 +31,10 @@ module _ {V : Type 0} (reuses : Bool) (old new : Content V) (ok : IsContent reus
   replaced_places k v is_live r = grind (arith, map.len-insert, keys_total)
 
   pub detached_places : (k : Key) → IsLive old k → Detaches old k new → places new ≡ places old
-  detached_places k is_live r = grind (arith, common_steps, len_item_inserted, keys_total, exact_keys, false_of, len_removed)
+  detached_places k is_live r = grind (arith, common_steps, len_item_inserted, keys_total, len_removed)
 
   pub reattached_places : (k : Key) (v : V) → Reattaches old k v new → places new ≡ places old
   reattached_places k v r = grind (arith, common_steps, len_inserted, keys_total, exact_keys, false_of, len_item_removed)
 
   pub removed_places : (k : Key) → IsLive old k → Removes old k new → places new ≡ places old
-  removed_places k is_live r = grind (arith, len_removed keys_total exact_keys old.live k is_live, len_retired_freed, false_of, keys_total, exact_keys)
+  removed_places k is_live r = grind (arith, len_removed keys_total exact_keys old.live k is_live, len_retired_freed)

@@ -1,11 +1,11 @@
 -- The live, detached and next keys of a list of places, and how a change of one place changes them.
 -- For the crates of maps.
-use Rattle.std.proofs.Common.{◌≡◌, ◌≢◌, ℕ, ◌+◌, ◌<◌, ◌≤◌, true, cond, List, [], ◌∷◌, ◌++◌, length, set, slice_get, Option, None, Some, is_some, refl, arith, nat_cmp, eq-eqb}
+use Rattle.std.proofs.Common.{◌≡◌, ◌≢◌, ◌+◌, ◌<◌, ◌≤◌, ◌∷◌, ◌++◌, set, arith, eq-eqb, ℕ, true, cond, List, [], length, slice_get, Option, None, Some, is_some}
 use Rattle.std.proofs.lemmas.Option.{slice_get_past}
 use Rattle.std.specs.FinMap as map
 use Rattle.std.specs.FinSet as set
-use Rattle.slotmap_core.specs.Words.{Key, key_cmp, last_version, add, gather, Place, Live, Detached, Vacant, Retired, live_entry, detached_entry, retired_entry}
-use Rattle.slotmap_core.specs.Words.{next_entry, live, detached, next, live_value, is_detached_at}
+use Rattle.slotmap_core.specs.Words.{Key, key_cmp, last_version, add, gather, Place, Live, Detached, Vacant, Retired, live_entry, detached_entry}
+use Rattle.slotmap_core.specs.Words.{retired_entry, next_entry, live, detached, next, live_value, is_detached_at, refl, nat_cmp}
 use Rattle.slotmap_core.specs.Places.{retired}
 use Rattle.slotmap_core.proofs.General.KeyLemmas.{itself, nat_cmp_total, exact_unsigned}
 use Rattle.slotmap_core.proofs.General.MapLaws.{live_laws, detached_laws, next_laws, remove_absent, key_tie}
@@ -90,7 +90,7 @@ module _ {V : Type 0} where
   get-next ps i = get-gather next_laws (λ k. k) next_entry next_fits ps i
 
   pub get-next_at : (ps : List (Place V)) (i n : ℕ) → 0 < i → slice_get ps i ≡ Some (Vacant n) → map.get (next ps) i ≡ Some n
-  get-next_at ps i n positive found = grind (arith, get-next ps i, next-vacancy i (Vacant n) positive, itself nat_cmp_total exact_unsigned i)
+  get-next_at ps i n positive found = grind (arith, get-next)
 
   pub vacant_at : (ps : List (Place V)) (i n : ℕ) → map.get (next ps) i ≡ Some n → (0 < i) × (slice_get ps i ≡ Some (Vacant n))
   vacant_at ps i n is = grind (arith, get-next ps i, itself nat_cmp_total exact_unsigned i)
@@ -139,7 +139,7 @@ module _ {V : Type 0} where
   pub total : (ps : List (Place V)) (n : ℕ) → slice_get ps 0 ≡ Some (Vacant n) → map.len (live ps) + set.len (detached ps) + set.len (retired ps) + map.len (next ps) + 1 ≡ length ps
   unfolding live detached retired next
   total [] n found = absurd (cc)
-  total (p ∷ ps) n found = grind (arith, total_from, len-add, live_laws, live_fits, detached_laws, detached_fits, retired_fits, next_laws, next_fits)
+  total (p ∷ ps) n found = grind (arith, total_from)
 
 pub next-remove_past : {V : Type 0} (ps : List (Place V)) (i : ℕ) → length ps ≤ i → map.remove (next ps) i ≡ next ps
 next-remove_past ps i past = grind (arith, remove_absent, nat_cmp_total, exact_unsigned, get-next, slice_get_past)

@@ -1,12 +1,12 @@
 -- What is at the index of a key in a secondary map, what a change leaves there, and that only keys are in it.
 -- For the crates of maps, runs and callers.
-use Rattle.std.proofs.Common.{◌≡◌, ◌≢◌, ℕ, ◌+◌, ◌-◌, ◌^◌, ◌<◌, true, false, nat_eq, eqb-true, eq-eqb, if◌then◌else◌, Option, Some, None, is_some, refl, sym, ap, ◌∙◌, inl, inr, arith, nat_cmp}
+use Rattle.std.proofs.Common.{◌≡◌, ◌≢◌, ◌+◌, ◌-◌, ◌^◌, ◌<◌, eqb-true, eq-eqb, if◌then◌else◌, sym, ap, ◌∙◌, inl, inr, arith, ℕ, true, false, nat_eq, Option}
 use Rattle.std.proofs.lemmas.Grind.{common_steps}
 use Rattle.std.proofs.lemmas.Map.Lookups.{exact_unsigned}
 use Rattle.std.proofs.lemmas.Option.{same_Some}
 use Rattle.std.specs.FinMap as map
 use Rattle.slotmap_core.specs.Words.{nat_cmp_total, Key, IsKey, null_key, is_older, Pairs, is_null, no_entry, occupied, vacant, entry_at, value_at, has_entry}
-use Rattle.slotmap_core.specs.Words.{entry, get, contains_key, bind, put, remove, IsSecondary}
+use Rattle.slotmap_core.specs.Words.{entry, get, contains_key, bind, put, remove, IsSecondary, Some, None, is_some, refl, nat_cmp}
 use Rattle.slotmap_core.proofs.General.Maps.{false_of, none_of, some_is, get_other, get_left, get_removed, get_after_insert, get_after_remove, insert_same, insert_twice, remove_inserted, len_removed}
 use Rattle.slotmap_core.proofs.SecondaryMaps.SecondaryLemmas.{not_null, get_bound}
 
@@ -19,13 +19,11 @@ less_of_not_null i fits other = grind (arith, common_steps)
 module _ {V : Type 0} where
   -- a version that finds a value is the one that is there
   pair_found : (version : ℕ) (o : Option (ℕ × V)) (v : V) → value_at version o ≡ Some v → o ≡ Some (version, v)
-  pair_found version None v h = absurd (cc)
-  pair_found version (Some p) v h = grind (arith, common_steps)
+  pair_found version o v h = grind arith
 
   -- so another version finds nothing there
   other_version : (o : Option (ℕ × V)) (v w : ℕ) → v ≢ w → is_some (value_at v o) ≡ true → value_at w o ≡ None
-  other_version None v w other h = refl
-  other_version (Some p) v w other h = grind (arith, common_steps)
+  other_version o v w other h = grind arith
 
   module _ (m : Pairs V) (k : Key) where
     pub entry_absent : is_null k ≡ false → map.get m k.index ≡ None → entry m k ≡ vacant
@@ -99,18 +97,18 @@ module _ {V : Type 0} where
       len_taken = grind (arith, len_removed, nat_cmp_total, exact_unsigned, index_stands)
 
       -- if only its index changes, and no other version finds anything there, each other key finds the same as before
-      others_find : (n : Pairs V) → ((i : ℕ) → i ≢ k.index → map.get n i ≡ map.get m i) → ((v : ℕ) → k.version ≢ v → value_at v (map.get n k.index) ≡ None) → (q : Key) → q ≢ k → get n q ≡ get m q
+      others_find : (n : Pairs V) → ((i : ℕ) → i ≢ k.index → map.get n i ≡ map.get m i) → ((v : ℕ) → k.version ≢ v → value_at v (map.get n k.index) ≡ None)
+          → (q : Key) → q ≢ k → get n q ≡ get m q
       others_find n elsewhere here q other = grind arith
 
       pub others_bound : (v : V) (q : Key) → q ≢ k → get (bind m k v) q ≡ get m q
-      others_bound v = others_find (bind m k v) (get_other nat_cmp_total exact_unsigned m k.index (k.version, v)) (λ w apart. other_version (map.get (bind m k v) k.index) k.version w apart (in_own v))
+      others_bound v =
+          others_find (bind m k v) (get_other nat_cmp_total exact_unsigned m k.index (k.version, v))
+          (λ w apart. other_version (map.get (bind m k v) k.index) k.version w apart (in_own v))
 
     -- each other key finds the same as before
     pub others_stay : (q : Key) → q ≢ k → get (remove m k) q ≡ get m q
-    others_stay q other = elim (contains_key m k) as (λ b. contains_key m k ≡ b → get (if b then map.remove m k.index else m) q ≡ get m q) [
-      | true ↦ λ has. others_find has (map.remove m k.index) (get_left nat_cmp_total exact_unsigned m k.index) (λ w apart. ap (value_at w) removed) q other
-      | false ↦ λ none. refl
-    ] refl
+    others_stay q other = grind (arith, others_find, get_left, exact_unsigned, removed)
 
   -- removing a key also removes the value that was just bound to it
   pub without_own : (m : Pairs V) (k : Key) (v : V) → contains_key m k ≡ true → remove (bind m k v) k ≡ remove m k

@@ -1,11 +1,11 @@
 -- A secondary map by its keys: its look-ups, and what each change makes of it.
 -- For the crates of maps and callers.
-use Rattle.std.proofs.Common.{◌≡◌, ◌≢◌, ℕ, Bool, true, false, cond, ◌&&◌, T, List, [], ◌∷◌, length, map as list_map, None, Some, is_some, nat_eq, refl, sym, ap, ◌∙◌, subst, is_eq, arith}
+use Rattle.std.proofs.Common.{◌≡◌, ◌≢◌, ◌&&◌, T, ◌∷◌, sym, ap, ◌∙◌, is_eq, arith, ℕ, Bool, true, List, [], length, map as list_map, None, is_some}
 use Rattle.std.specs.declared.cmp.Ordering.{Ordering}
 use Rattle.std.proofs.lemmas.List.{length-map}
 use Rattle.std.specs.FinMap as map
-use Rattle.slotmap_core.specs.Words.{nat_cmp, ordering_then, eq_by_cmp, is_lt, nat_cmp_total, nat_eq_equiv, unsigned_tied, find, below_all, is_sorted, Key}
-use Rattle.slotmap_core.specs.Words.{key_cmp, Pairs, value_at, get, contains_key, bind, remove, keyed_entry, keyed}
+use Rattle.slotmap_core.specs.Words.{ordering_then, nat_cmp_total, nat_eq_equiv, unsigned_tied, find, below_all, is_sorted, Key, key_cmp, Pairs, value_at}
+use Rattle.slotmap_core.specs.Words.{get, contains_key, bind, remove, keyed_entry, keyed, refl, nat_cmp, is_lt}
 use Rattle.slotmap_core.proofs.General.KeyLemmas.{keys_total, exact_keys, tied, exact_unsigned}
 use Rattle.slotmap_core.proofs.General.Maps.{get_inserted, get_removed, get_other, get_left, same_at}
 use Rattle.slotmap_core.proofs.SecondaryMaps.SecondaryLemmas.{get_bound}
@@ -24,9 +24,6 @@ second a b p = grind arith
 less_then : (o p : Ordering) → T (is_lt o) → T (is_lt (ordering_then o p))
 less_then o p h = grind arith
 
-pub not_tied : (o : Ordering) → T (is_lt o) → is_eq o ≡ false
-not_tied o h = grind arith
-
 -- keys tie if both of their parts do
 pub tie_parts : (o p : Ordering) → is_eq (ordering_then o p) ≡ (is_eq o && is_eq p)
 tie_parts o p = grind arith
@@ -42,25 +39,12 @@ module _ {V : Type 0} where
 
   missed : (k : Key) (es : List (ℕ × (ℕ × V))) → T (below_all nat_cmp k.index es) → find key_cmp k (list_map keyed_entry es) ≡ None
   missed k [] h = refl
-  missed k (e ∷ es) h =
-      let apart = not_tied (nat_cmp k.index e.0) (first _ _ h) in
-      let rest : find key_cmp k (list_map keyed_entry es) ≡ None = missed k es (second (is_lt (nat_cmp k.index e.0)) (below_all nat_cmp k.index es) h) in
-      grind (arith, tie_parts (nat_cmp k.index e.0) (nat_cmp k.version e.1.0))
+  missed k (e ∷ es) h = grind (arith, missed k es (second (is_lt (nat_cmp k.index e.0)) (below_all nat_cmp k.index es) h))
 
   find-keyed : (k : Key) (es : List (ℕ × (ℕ × V))) → T (is_sorted nat_cmp es) → find key_cmp k (list_map keyed_entry es) ≡ value_at k.version (find nat_cmp k.index es)
   find-keyed k [] h = refl
   find-keyed k (e ∷ es) h =
-      let gone : eq_by_cmp nat_cmp k.index e.0 ≡ true → find key_cmp k (list_map keyed_entry es) ≡ None =
-      λ t. missed k es (subst (λ i. T (below_all nat_cmp i es)) (sym (tied nat_cmp_total exact_unsigned k.index e.0 t)) (first _ _ h)) in
-      let parts : eq_by_cmp key_cmp k (keyed_entry e).0 ≡ (eq_by_cmp nat_cmp k.index e.0 && eq_by_cmp nat_cmp k.version e.1.0) = tie_parts (nat_cmp k.index e.0) (nat_cmp k.version e.1.0) in
-      let versions : eq_by_cmp nat_cmp k.version e.1.0 ≡ nat_eq e.1.0 k.version = unsigned_tied k.version e.1.0 ∙ nat_eq_equiv.symm k.version e.1.0 in
-      let rest = find-keyed k es (second _ _ h) in
-      ap (λ b. cond b (Some e.1.1) (find key_cmp k (list_map keyed_entry es))) parts ∙ by_parts (eq_by_cmp nat_cmp k.index e.0) (eq_by_cmp nat_cmp k.version e.1.0) gone rest versions
-    where
-      by_parts : (index version : Bool) → (index ≡ true → find key_cmp k (list_map keyed_entry es) ≡ None)
-          → find key_cmp k (list_map keyed_entry es) ≡ value_at k.version (find nat_cmp k.index es) → version ≡ nat_eq e.1.0 k.version
-          → cond (index && version) (Some e.1.1) (find key_cmp k (list_map keyed_entry es)) ≡ value_at k.version (cond index (Some e.1) (find nat_cmp k.index es))
-      by_parts index version gone rest same = grind arith
+      grind (arith, missed k es, tied nat_cmp_total exact_unsigned k.index e.0, first, second, tie_parts, nat_eq_equiv.symm, unsigned_tied, find-keyed k es)
 
   -- a key finds the same in it as in the map
   pub get-keyed : (m : Pairs V) (k : Key) → map.get (keyed m) k ≡ get m k

@@ -1,15 +1,11 @@
 -- What a key finds in a secondary map after another key was put or removed.
 -- For runs.
-use Rattle.std.proofs.Common.{◌≡◌, ◌≢◌, ℕ, ◌^◌, ◌<◌, ◌≤◌, Option, Some, None, true, false, if◌then◌else◌, ◌⊎◌, inl, inr, ap, ◌∙◌, arith}
-use Rattle.std.proofs.lemmas.Grind.{common_steps}
+use Rattle.std.proofs.Common.{◌≡◌, ◌≢◌, ℕ, ◌^◌, ◌<◌, ◌≤◌, Option, Some, false, if◌then◌else◌, ◌⊎◌, ap, ◌∙◌, arith}
 use Rattle.std.specs.FinMap as map
-use Rattle.slotmap_core.specs.Words.{Key, is_older, Pairs, is_null, entry_at, value_at, has_entry, get, put, remove}
-use Rattle.slotmap_core.proofs.General.KeyLemmas.{alike_or_apart, nat_cmp_total, exact_unsigned}
+use Rattle.slotmap_core.specs.Words.{Key, Pairs, is_null, entry_at, value_at, has_entry, get, put, remove}
+use Rattle.slotmap_core.proofs.General.KeyLemmas.{nat_cmp_total, exact_unsigned}
 use Rattle.slotmap_core.proofs.General.Maps.{get_after_insert, get_after_remove, get_inserted, get_other}
 pub use Rattle.slotmap_core.proofs.SecondaryMaps.AtIndexLemmas.{removed_gone, others_stay}
-
-older : (a b : ℕ) → a < b → b < 2 ^ 31 → is_older a b ≡ true
-older a b lt half = grind (arith, common_steps)
 
 module _ {V : Type 0} where
   -- what is at an index after a version was put there, where o was
@@ -18,13 +14,7 @@ module _ {V : Type 0} where
 
   -- the newest version is bound
   bound_at : (version : ℕ) (v : V) (o : Option (ℕ × V)) → version < 2 ^ 31 → ((p : ℕ × V) → o ≡ Some p → p.0 ≤ version) → value_at version (put_at version v o) ≡ Some v
-  bound_at version v None half newest = grind (arith, common_steps)
-  bound_at version v (Some p) half newest = grind (arith, common_steps)
-
-  -- a larger version stays, or is still absent
-  kept_at : (version greater : ℕ) (v : V) (o : Option (ℕ × V)) → version < greater → greater < 2 ^ 31 → value_at greater (put_at version v o) ≡ value_at greater o
-  kept_at version greater v None less half = grind (arith, common_steps)
-  kept_at version greater v (Some p) less half = let known = older version greater less half in grind (arith, common_steps)
+  bound_at version v o half newest = grind arith
 
   module _ (m : Pairs V) (k : Key) (v : V) where
     put_value : is_null k ≡ false → map.get (put m k v) k.index ≡ put_at k.version v (map.get m k.index)
@@ -43,10 +33,7 @@ module _ {V : Type 0} where
 
     -- a newer key finds the same as before, and so does a key of another index
     pub newer_stays : (q : Key) → is_null k ≡ false → q.version < 2 ^ 31 → (q.index ≡ k.index → k.version < q.version) → get (put m k v) q ≡ get m q
-    newer_stays q key half newer = elim (alike_or_apart nat_cmp_total exact_unsigned q.index k.index) [
-      | inl same ↦ grind (arith, put_value, kept_at)
-      | inr apart ↦ ap (value_at q.version) (put_elsewhere q.index apart)
-    ]
+    newer_stays q key half newer = grind (arith, put_value, put_elsewhere)
 
   -- what is there after k was removed was there before
   pub stands_after_remove : (m : Pairs V) (k : Key) (i : ℕ) (p : ℕ × V) → map.get (remove m k) i ≡ Some p → map.get m i ≡ Some p

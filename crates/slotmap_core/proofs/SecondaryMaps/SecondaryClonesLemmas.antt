@@ -1,6 +1,6 @@
 -- A secondary map has clones of the values of another, if it has them index by index.
 -- For the crates of maps.
-use Rattle.std.proofs.Common.{◌≡◌, ℕ, Option, Some, None, ap, arith}
+use Rattle.std.proofs.Common.{◌≡◌, ℕ, Option, Some, None, arith}
 use Rattle.std.specs.FinMap as map
 use Rattle.slotmap_core.specs.Words.{Pairs, value_at, IsCloneOf, HasClones}
 
@@ -12,9 +12,7 @@ module _ {V : Type 0} (is_clone : V → V → Type 0) where
   IsPairClone (Some p) (Some q) = (q.0 ≡ p.0) × is_clone p.1 q.1
 
   value_cloned : (version : ℕ) (o copy : Option (ℕ × V)) → IsPairClone o copy → IsCloneOf is_clone (value_at version o) (value_at version copy)
-  value_cloned version None copy is = ap (value_at version) is
-  value_cloned version (Some p) None is = absurd is
-  value_cloned version (Some p) (Some q) is = grind arith
+  value_cloned version o copy is = grind arith
 
   pub HasClones-by_index : (m copy : Pairs V) → ((i : ℕ) → IsPairClone (map.get m i) (map.get copy i)) → HasClones is_clone m copy
   HasClones-by_index m copy each k = value_cloned k.version (map.get m k.index) (map.get copy k.index) (each k.index)

@@ -16,4 +16,5 @@ module _ {D K V : Type 0} (data_of : K → Key) (held : D → Pairs V) (Steps : 
   pub lists_taken : (first : D) → ListsAlong data_of (λ d. keyed (held d)) Steps first
   lists_taken =
       lists_along data_of (λ d. keyed (held d)) Steps
-      (λ old new item step. let taken = takes old new item step in (get-keyed (held old) (data_of item.0) ∙ taken.0, ap keyed taken.1 ∙ keyed-remove (held old) (data_of item.0) (ap is_some taken.0)))
+      (λ old new item step. let taken = takes old new item step in
+      (get-keyed (held old) (data_of item.0) ∙ taken.0, ap keyed taken.1 ∙ keyed-remove (held old) (data_of item.0) (ap is_some taken.0)))

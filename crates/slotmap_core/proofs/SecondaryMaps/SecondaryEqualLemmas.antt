@@ -1,13 +1,12 @@
 -- Two secondary maps are equal if and only if they hold the same keys with equal values.
 -- For the crates of maps.
-use Rattle.std.proofs.Common.{◌≡◌, ◌↔◌, Bool, true, false, cond, ◌&&◌, T, List, [], ◌∷◌, None, Some, refl, sym, ap, ◌∙◌, subst, arith}
+use Rattle.std.proofs.Common.{◌≡◌, ◌↔◌, ◌&&◌, T, ◌∷◌, sym, ◌∙◌, subst, arith, Bool, true, List, [], None, Some, refl, is_lt}
 use Rattle.std.specs.declared.cmp.Ordering.{Ordering}
 use Rattle.std.specs.declared.cmp.Ordering.TheVariants.{Less, Equal, Greater}
 use Rattle.std.specs.FinMap as map
-use Rattle.slotmap_core.specs.Words.{eq_by_cmp, is_lt, ordering_reverse, find, below_all, is_sorted, Key, key_cmp, same_keys, Pairs, get, keyed, SameValue}
-use Rattle.slotmap_core.specs.Words.{AreEqual, same_entries, are_equal}
+use Rattle.slotmap_core.specs.Words.{find, below_all, is_sorted, Key, key_cmp, same_keys, Pairs, get, keyed, SameValue, AreEqual, same_entries, are_equal}
 use Rattle.slotmap_core.proofs.General.KeyLemmas.{keys_total, exact_keys, tied, itself}
-use Rattle.slotmap_core.proofs.SecondaryMaps.KeyedLemmas.{get-keyed, both, first, second, not_tied}
+use Rattle.slotmap_core.proofs.SecondaryMaps.KeyedLemmas.{get-keyed, both, first, second}
 use Rattle.slotmap_core.proofs.General.Maps.{of_and}
 
 less : (o : Ordering) → T (is_lt o) → o ≡ Less
@@ -20,10 +19,7 @@ less_than_all a b (e ∷ es) p h = both _ _ (subst (λ o. T (is_lt o)) (sym (key
 module _ {V : Type 0} where
   none_below : (q : Key) (es : List (Key × V)) → T (below_all key_cmp q es) → find key_cmp q es ≡ None
   none_below q [] h = refl
-  none_below q (e ∷ es) h =
-      let apart = not_tied (key_cmp q e.0) (first _ _ h) in
-      let rest : find key_cmp q es ≡ None = none_below q es (second (is_lt (key_cmp q e.0)) (below_all key_cmp q es) h) in
-      grind arith
+  none_below q (e ∷ es) h = grind (arith, none_below q es (second (is_lt (key_cmp q e.0)) (below_all key_cmp q es) h))
 
   found_first : (e : Key × V) (es : List (Key × V)) → find key_cmp e.0 (e ∷ es) ≡ Some e.1
   found_first e es = grind (arith, itself keys_total exact_keys e.0)
@@ -36,59 +32,34 @@ module _ {V : Type 0} (eq : V → V → Bool) where
   -- entries that are equal one by one have equal values at each key
   alike : (es fs : List (Key × V)) → same_entries eq es fs ≡ true → (k : Key) → SameValue eq (find key_cmp k es) (find key_cmp k fs)
   alike [] [] t k = tt
-  alike [] (f ∷ fs) t k = absurd (cc)
-  alike (e ∷ es) [] t k = absurd (cc)
-  alike (e ∷ es) (f ∷ fs) t k =
-      let parts = of_and _ (same_entries eq es fs) t in
-      let heads = of_and _ (eq e.1 f.1) parts.0 in
-      let key : e.0 ≡ f.0 = (same_keys e.0 f.0).0 heads.0 in
-      subst (λ q. SameValue eq (find key_cmp k (e ∷ es)) (cond (eq_by_cmp key_cmp k q) (Some f.1) (find key_cmp k fs))) key
-      (elim (eq_by_cmp key_cmp k e.0) as (λ b. SameValue eq (cond b (Some e.1) (find key_cmp k es)) (cond b (Some f.1) (find key_cmp k fs))) [ true ↦ heads.1 | false ↦ alike es fs parts.1 k ])
+  alike (e ∷ es) (f ∷ fs) t k = grind (arith, of_and, alike es fs)
+  alike _ _ t k = absurd (cc)
 
   -- and the converse, if the keys strictly rise
-  one_by_one : (es fs : List (Key × V)) → T (is_sorted key_cmp es) → T (is_sorted key_cmp fs) → ((k : Key) → SameValue eq (find key_cmp k es) (find key_cmp k fs)) → same_entries eq es fs ≡ true
+  one_by_one : (es fs : List (Key × V)) → T (is_sorted key_cmp es) → T (is_sorted key_cmp fs)
+      → ((k : Key) → SameValue eq (find key_cmp k es) (find key_cmp k fs)) → same_entries eq es fs ≡ true
   one_by_one [] [] g h is = refl
-  one_by_one [] (f ∷ fs) g h is = absurd (subst (λ o. SameValue eq None o) (found_first f fs) (is f.0))
-  one_by_one (e ∷ es) [] g h is = absurd (subst (λ o. SameValue eq o None) (found_first e es) (is e.0))
+  one_by_one [] (f ∷ fs) g h is = grind (arith, found_first f fs, is f.0)
+  one_by_one (e ∷ es) [] g h is = grind (arith, found_first e es, is e.0)
   one_by_one (e ∷ es) (f ∷ fs) g h is = by (one_by_one es fs (second _ _ g) (second _ _ h)) (key_cmp e.0 f.0) refl
     where
-      rest : e.0 ≡ f.0 → (k : Key) → SameValue eq (find key_cmp k es) (find key_cmp k fs)
-      rest key k =
-          elim (eq_by_cmp key_cmp k e.0) as (λ b. eq_by_cmp key_cmp k e.0 ≡ b
-          → SameValue eq (cond b (Some e.1) (find key_cmp k es)) (cond b (Some f.1) (find key_cmp k fs))
-          → SameValue eq (find key_cmp k es) (find key_cmp k fs)) [
-            | true ↦ λ t same.
-                let at = tied keys_total exact_keys k e.0 t in
-                let left : find key_cmp k es ≡ None = ap (λ q. find key_cmp q es) at ∙ none_below e.0 es (first _ _ g) in
-                let right : find key_cmp k fs ≡ None = ap (λ q. find key_cmp q fs) (at ∙ key) ∙ none_below f.0 fs (first _ _ h) in
-                rw (left, right) tt
-            | false ↦ λ t same. same
-          ] refl (subst (λ q. SameValue eq (find key_cmp k (e ∷ es)) (cond (eq_by_cmp key_cmp k q) (Some f.1) (find key_cmp k fs))) (sym key) (is k))
-
       value : e.0 ≡ f.0 → eq e.1 f.1 ≡ true
-      value key =
-          subst (λ o. SameValue eq (Some e.1) o) (ap (λ q. find key_cmp q (f ∷ fs)) key ∙ found_first f fs) (subst (λ o. SameValue eq o (find key_cmp e.0 (f ∷ fs))) (found_first e es) (is e.0))
+      value key = grind (arith, found_first f fs, found_first e es)
 
       true_and : (a b : Bool) → a ≡ true → b ≡ true → (a && b) ≡ true
       true_and a b p q = grind arith
 
-      by : (((k : Key) → SameValue eq (find key_cmp k es) (find key_cmp k fs)) → same_entries eq es fs ≡ true) → (o : Ordering) → key_cmp e.0 f.0 ≡ o → same_entries eq (e ∷ es) (f ∷ fs) ≡ true
-      by later Less p = absurd (subst (λ o. SameValue eq (Some e.1) o) (missed e.0 f fs p (first _ _ h)) (subst (λ o. SameValue eq o (find key_cmp e.0 (f ∷ fs))) (found_first e es) (is e.0)))
-      by later Greater p =
-          absurd (subst (λ o. SameValue eq o (Some f.1)) (missed f.0 e es (keys_total.antisymm f.0 e.0 ∙ ap ordering_reverse p) (first _ _ g))
-          (subst (λ o. SameValue eq (find key_cmp f.0 (e ∷ es)) o) (found_first f fs) (is f.0)))
+      by : (((k : Key) → SameValue eq (find key_cmp k es) (find key_cmp k fs)) → same_entries eq es fs ≡ true) → (o : Ordering) → key_cmp e.0 f.0 ≡ o
+          → same_entries eq (e ∷ es) (f ∷ fs) ≡ true
+      by later Less p = grind (arith, missed e.0 f fs p, first, found_first e es, is e.0)
+      by later Greater p = grind (arith, missed f.0 e es, keys_total.antisymm f.0 e.0, first, found_first f fs, is f.0)
       by later Equal p =
           let key = exact_keys e.0 f.0 p in
-          true_and _ _ (true_and _ _ ((same_keys e.0 f.0).1 key) (value key)) (later (rest key))
+          true_and _ _ (true_and _ _ ((same_keys e.0 f.0).1 key) (value key)) (later (λ k. grind (arith, tied keys_total exact_keys k e.0, none_below e.0 es, first, none_below f.0 fs)))
 
   found-keyed : (m : Pairs V) (k : Key) → find key_cmp k (map.entries (keyed m)) ≡ get m k
   found-keyed m k = sym (map.get-entries (keyed m) k) ∙ get-keyed m k
 
   -- the test tells whether both maps hold the same keys with equal values
   pub equal_where : (a b : Pairs V) → are_equal eq a b ≡ true ↔ AreEqual eq a b
-  equal_where a b =
-      let es = map.entries (keyed a) in
-      let fs = map.entries (keyed b) in (
-        λ t k. subst (λ o. SameValue eq o (get b k)) (found-keyed a k) (subst (λ o. SameValue eq (find key_cmp k es) o) (found-keyed b k) (alike es fs t k)),
-        grind (arith, one_by_one, map.entries_sorted, found-keyed),
-      )
+  equal_where a b = grind (arith, found-keyed, found-keyed b, alike (map.entries (keyed a)) (map.entries (keyed b)), one_by_one, map.entries_sorted)

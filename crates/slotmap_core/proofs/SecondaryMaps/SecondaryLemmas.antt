@@ -15,8 +15,7 @@ module _ {V : Type 0} where
   value_of vacant = None
 
   pub value_found : (version : ℕ) (o : Option (ℕ × V)) → value_of (entry_at version o) ≡ value_at version o
-  value_found version None = refl
-  value_found version (Some p) = grind arith
+  value_found version o = grind arith
 
   -- there is nothing at the null key's index
   pub null_finds_nothing : (m : Pairs V) → IsSecondary m → (k : Key) → is_null k ≡ true → get m k ≡ None

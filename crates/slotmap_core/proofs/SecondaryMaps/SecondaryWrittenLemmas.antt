@@ -2,8 +2,8 @@
 -- For the crates of maps.
 use Rattle.std.proofs.lemmas.Option.{slice_get_past}
 use Rattle.std.specs.FinMap as map
-use Rattle.std.proofs.Common.{◌≡◌, ◌%◌, ◌<◌, eq-eqb, sym, ap, subst, ◌∙◌, arith, ℕ, List, length, slice_get, Option, None, Some, true, cond, is_some}
-use Rattle.slotmap_core.specs.Words.{option_map, Pairs, IsSecondary, value_at, keyed, record_of_pair, slot_pair, start_live}
+use Rattle.std.proofs.Common.{◌≡◌, ◌%◌, ◌<◌, arith, ℕ, List, length, slice_get, Option, Some, true, is_some}
+use Rattle.slotmap_core.specs.Words.{Pairs, IsSecondary, value_at, keyed, record_of_pair, slot_pair, start_live}
 use Rattle.slotmap_core.specs.declared.serial.SlotRecord.{SlotRecord}
 use Rattle.slotmap_core.proofs.General.KeyLemmas.{keys_total, exact_keys}
 use Rattle.slotmap_core.proofs.General.Maps.{none_of, false_of, some_is}
@@ -15,22 +15,15 @@ module _ {V : Type 0} where
   same_options o p f g = grind arith
 
   -- the slot in which a version has a value
-  slot_with : (version : ℕ) (v : V) (o : Option (SlotRecord V)) → value_at version (slot_pair o) ≡ Some v → (slot : SlotRecord V) × (o ≡ Some slot) × (slot.version ≡ version) × (slot.value ≡ Some v)
+  slot_with : (version : ℕ) (v : V) (o : Option (SlotRecord V)) → value_at version (slot_pair o) ≡ Some v
+      → (slot : SlotRecord V) × (o ≡ Some slot) × (slot.version ≡ version) × (slot.value ≡ Some v)
   slot_with version v slot h = grind arith
 
   module _ (slots : List (SlotRecord V)) (m : Pairs V) (by_place : (i : ℕ) → map.get m i ≡ slot_pair (slice_get slots i))
       (odd : (i : ℕ) (slot : SlotRecord V) → slice_get slots i ≡ Some slot → is_some slot.value ≡ true → slot.version % 2 ≡ 1) where
     pub contents_by_place : keyed m ≡ start_live slots
-    contents_by_place = map.same_map keys_total exact_keys _ _ (λ k. same_options (map.get (keyed m) k) (map.get (start_live slots) k)
-        (λ v found.
-        let there = slot_with k.version v (slice_get slots k.index) (sym (get-keyed m k ∙ ap (value_at k.version) (by_place k.index)) ∙ found) in
-        let slot = there.0 in
-        let is : record { index = k.index; version = slot.version } ≡ k = ap (λ w. record { index = k.index; version = w }) there.2 in
-        subst (λ q. map.get (start_live slots) q ≡ Some v) is (in_contents slots k.index slot v there.1 (odd k.index slot there.1 (ap is_some there.3)) there.3))
-        (λ v found.
-        let live = live_in slots k v found in
-        get-keyed m k ∙ ap (value_at k.version) (by_place k.index ∙ ap slot_pair live.1 ∙ ap (option_map (λ v. (live.0.version, v))) live.2.value)
-        ∙ ap (λ b. cond b (Some v) None) (eq-eqb live.0.version k.version (sym (ap (λ q. q.version) live.2.is)))))
+    contents_by_place = map.same_map keys_total exact_keys _ _ (λ k.
+        grind (arith, same_options (map.get (keyed m) k), get-keyed m k, by_place k.index, slot_with k.version, in_contents slots k.index, live_in slots k, odd k.index))
 
   -- a list in which each index is written, up to the last one of the map
   module _ (slots : List (SlotRecord V)) (m : Pairs V) (valid : IsSecondary m) (within : (i : ℕ) → map.contains_key m i ≡ true → i < length slots)

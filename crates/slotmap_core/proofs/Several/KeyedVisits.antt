@@ -15,18 +15,12 @@ module _ {K V : Type 0} (data_of : K → Key) (old : map.FinMap key_cmp V) where
       → (xs : List (Visit K V)) (i : ℕ) (now : map.FinMap key_cmp V) (x : Visit K V) → Visits data_of old xs (from_index i old) now
       → (data_of x.key).index ≡ i → map.get now (data_of x.key) ≡ Some x.before
       → Visits data_of old (xs ++ x ∷ []) (from_index (i + 1) old) (cond x.stays (map.insert now (data_of x.key) x.after) (map.remove now (data_of x.key)))
-  Keyed-at alone xs i now x visits at found =
-      let k = data_of x.key in
-      let from = get_from i old k (omega (arith, at)) in
-      let here : map.get (from_index i old) k ≡ Some x.before = from ∙ sym (unvisited data_of old xs (from_index i old) now k visits from) ∙ found in
-      let next = from_index-take i old k at (λ q there at_q. alone k q (ap is_some (sym from ∙ here)) there (at_q ∙ sym at)) in
-      rw next (Visits-call data_of old xs (from_index i old) now x visits here)
+  Keyed-at alone xs i now x visits at found = grind (arith, get_from, unvisited, from_index-take, Visits-call data_of old xs (from_index i old) now x visits)
 
   -- at an index with no key
   pub Keyed-past : (xs : List (Visit K V)) (i : ℕ) (now : map.FinMap key_cmp V) → Visits data_of old xs (from_index i old) now
       → ((q : Key) → q.index ≡ i → map.contains_key now q ≡ false) → Visits data_of old xs (from_index (i + 1) old) now
-  Keyed-past xs i now visits none =
-      grind (arith, from_index-skip i old (λ q at. ap is_some (sym (unvisited data_of old xs (from_index i old) now q visits (get_from i old q (omega (arith, at))))) ∙ none q at))
+  Keyed-past xs i now visits none = grind (arith, from_index-skip, unvisited data_of old xs (from_index i old) now, get_from)
 
   -- up to the next index with a key
   Keyed-jump : (xs : List (Visit K V)) (i j : ℕ) (now : map.FinMap key_cmp V) → Visits data_of old xs (from_index i old) now → i ≤ j
@@ -52,17 +46,13 @@ module _ {K V : Type 0} (data_of : K → Key) (old : map.FinMap key_cmp V) where
       → (k : Key) → map.contains_key now k ≡ true → i ≤ k.index → MayCome g data_of f old k f'
   Keyed-may_come g f f' xs i now calls visits k there from =
       let same = get_from i old k from in
-      record { visits = xs; calls = calls; rest = from_index i old; listed = visits.listed; to_come = ap is_some (same ∙ sym (unvisited data_of old xs (from_index i old) now k visits same)) ∙ there }
+      let to_come = ap is_some (same ∙ sym (unvisited data_of old xs (from_index i old) now k visits same)) ∙ there in
+      record { visits = xs; calls = calls; rest = from_index i old; listed = visits.listed; to_come = to_come }
 
   -- if no key is left from an index on
   pub Keyed-done : (xs : List (Visit K V)) (i : ℕ) (now : map.FinMap key_cmp V) → Visits data_of old xs (from_index i old) now
       → ((q : Key) → map.contains_key now q ≡ true → q.index < i) → Visits data_of old xs map.empty now
-  Keyed-done xs i now visits below =
-      let none : from_index i old ≡ map.empty = none_live (from_index i old)
-      (λ q there. let both = in_from i old q there in let still = ap is_some
-      (unvisited data_of old xs (from_index i old) now q visits (get_from i old q both.0))
-      ∙ both.1 in absurd (omega (arith, both.0, below q still))) in
-      subst (λ rest. Visits data_of old xs rest now) none visits
+  Keyed-done xs i now visits below = grind (arith, none_live (from_index i old), in_from, unvisited data_of old xs (from_index i old) now, get_from)
 
   -- past the last index
   pub Keyed-to_end : (xs : List (Visit K V)) (i : ℕ) (now : map.FinMap key_cmp V) → Visits data_of old xs (from_index i old) now

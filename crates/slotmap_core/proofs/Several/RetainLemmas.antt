@@ -1,6 +1,7 @@
 -- What `retain` leaves of each entry, by what each call of its closure does.
 -- For runs and callers.
-use Rattle.std.proofs.Common.{inl, inr, ◌≡◌, ◌≢◌, ℕ, suc, ◌+◌, Bool, true, false, cond, List, [], ◌∷◌, length, Option, Some, None, is_some, refl, sym, ap, subst, ◌∙◌, arith}
+use Rattle.std.proofs.Common.{inl, inr, ◌≡◌, ◌≢◌, ℕ, suc, ◌+◌, Bool, true, false, cond, List, [], ◌∷◌, length, Option, Some, None, is_some, refl, sym, ap}
+use Rattle.std.proofs.Common.{subst, ◌∙◌, arith}
 use Rattle.std.proofs.lemmas.Option.{same_Some}
 use Rattle.std.specs.FinMap as map
 use Rattle.slotmap_core.specs.Words.{Mut, Called, MutBor, FoldsTo, option_and_then, find, Key, key_cmp, with_entries, Visit, CallsAt, RetainsBy, seen, kept}
@@ -89,8 +90,7 @@ module _ {F K V : Type 0} (g : Mut F (K × (MutBor V × Unit {0})) (Bool × (Mut
       (λ f f' x holds call. (tt, stayed x.stays x.after x.before (sym call.leaves ∙ same f f' x.key call.shown call.left x.stays call.called ∙ call.shows))) tt
     where
       stayed : (s : Bool) (after before : V) → after ≡ before → is_some (cond s (Some after) None) ≡ true → cond s (Some after) None ≡ Some before
-      stayed true after before is some = ap Some is
-      stayed false after before is some = absurd (cc)
+      stayed stays after before is some = grind arith
 
   -- how many calls there were, and how many of the entries stay
   stay_once : (xs : List (Visit K V)) → length (seen data_of xs) + map.len (map.empty {X = V} {R = key_cmp}) ≡ map.len
@@ -99,21 +99,15 @@ module _ {F K V : Type 0} (g : Mut F (K × (MutBor V × Unit {0})) (Bool × (Mut
   stay_once (x ∷ xs) once =
       let first = fresh_first map.empty (data_of x.key, x.before) (seen data_of xs) once in
       let none = unkept data_of (data_of x.key) xs (unlisted_if_absent (seen data_of xs) (data_of x.key) first.0) in
-      grind (
-        arith,
-        stay_once xs first.1,
-        map.get-from_entries keys_total (kept data_of xs) (data_of x.key),
-        none,
-        len_inserted keys_total exact_keys (map.from_entries (kept data_of xs)) (data_of x.key) x.after,
-      )
+      let one_more = len_inserted keys_total exact_keys (map.from_entries (kept data_of xs)) (data_of x.key) x.after in
+      grind (arith, stay_once xs first.1, map.get-from_entries keys_total (kept data_of xs) (data_of x.key), none, one_more)
 
   module _ (Holds : (calls stay : ℕ) → F → Type 0) (each : (calls stay : ℕ) (f f' : F) (key : K) (shown after : MutBor V) (stays : Bool)
       → Holds calls stay f → Called g f (key, (shown, tt)) (stays, (after, tt)) f' → Holds (calls + 1) (stay + cond stays 1 0) f') where
     along : (calls stay : ℕ) (f last : F) (xs : List (Visit K V)) → Holds calls stay f → FoldsTo (CallsAt g) f xs last → Holds (calls + length xs) (stay + length (kept data_of xs)) last
     along calls stay f last [] holds ran = subst (λ f. Holds (calls + 0) (stay + 0) f) ran (subst (λ n. Holds n (stay + 0) f) (omega arith) (subst (λ n. Holds calls n f) (omega arith) holds))
     along calls stay f last (x ∷ xs) holds ran =
-        let later = along (calls + 1) (stay + cond x.stays 1 0) ran.0 last xs (each calls stay f ran.0 x.key ran.1.shown ran.1.left x.stays holds ran.1.called) ran.2 in
-        subst (λ n. Holds n (stay + length (kept data_of (x ∷ xs))) last) (omega arith) (subst (λ n. Holds (calls + 1 + length xs) n last) (grind arith) later)
+        grind (arith, along (calls + 1) (stay + cond x.stays 1 0) ran.0 last xs, each calls stay f ran.0 x.key ran.1.shown ran.1.left x.stays)
 
   -- if each call keeps a fact about the number of calls, the number of entries that stay, and the closure's state, the fact
   -- holds at the end

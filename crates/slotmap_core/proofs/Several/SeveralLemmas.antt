@@ -5,14 +5,14 @@ use Rattle.std.proofs.lemmas.List.Elements.{All-push}
 use Rattle.std.proofs.lemmas.List.Folds.{Any-from_list_any, list_any_at}
 use Rattle.std.proofs.lemmas.List.Quantifiers.{all_pairs_push}
 use Rattle.std.proofs.lemmas.Grind.{drop_more_same}
-use Rattle.std.proofs.Common.{◌≡◌, ◌≢◌, ◌↔◌, ◌+◌, ◌<◌, ◌∷◌, ◌++◌, set, refl, sym, ap, subst, ◌∙◌, arith, ℕ, suc, Bool, true, false, List, [], length, get_or}
-use Rattle.slotmap_core.specs.Words.{take, drop, Option, Some, is_some, map as map_list, All, list_any, Key}
+use Rattle.std.proofs.Common.{◌≡◌, ◌≢◌, ◌↔◌, ◌+◌, ◌<◌, ◌∷◌, ◌++◌, set, sym, ap, subst, ◌∙◌, arith, refl, ℕ, suc, Bool, true, false, List, [], length}
+use Rattle.slotmap_core.specs.Words.{All, list_any, Key, get_or, take, drop, Option, Some, is_some, map as map_list}
 use Rattle.slotmap_core.specs.Several.{CanReplace, AreValuesOf, with_values}
-use Rattle.slotmap_core.proofs.General.KeyLemmas.{same_or_other}
 
 module _ {M V : Type 0} (get : M → Key → Option V) where
   -- one more key, which is in the map and differs from the others
-  CanReplace-push : (m : M) (ks : List Key) (k : Key) → CanReplace get m ks → is_some (get m k) ≡ true → ((j : ℕ) (d : Key) → j < length ks → get_or ks j d ≢ k) → CanReplace get m (ks ++ k ∷ [])
+  CanReplace-push : (m : M) (ks : List Key) (k : Key) → CanReplace get m ks → is_some (get m k) ≡ true
+      → ((j : ℕ) (d : Key) → j < length ks → get_or ks j d ≢ k) → CanReplace get m (ks ++ k ∷ [])
   CanReplace-push m ks k can has other = record { there = All-push (λ k. is_some (get m k) ≡ true) ks k can.there has; distinct = all_pairs_push (λ a b. a ≢ b) ks k can.distinct other }
 
 module _ {M V : Type 0} (get : M → Key → Option V) (put : M → Key → V → M) where
@@ -27,7 +27,7 @@ module _ {M V : Type 0} (get : M → Key → Option V) (put : M → Key → V �
   with_values-push m ks vs k v e = absurd (omega arith)
 
   still_there : WriteLaws → (m : M) (k q : Key) (v : V) → is_some (get m k) ≡ true → is_some (get m q) ≡ true → is_some (get (put m k v) q) ≡ true
-  still_there writes m k q v has_k has_q = grind (arith, same_or_other k q, writes.here m k v, writes.elsewhere m k q v has_k)
+  still_there writes m k q v has_k has_q = grind arith
 
   -- a key that isn't among the keys keeps its value
   get-with_values : WriteLaws → (m : M) (ks : List Key) (vs : List V) (q : Key) → All (λ k. is_some (get m k) ≡ true) ks

@@ -1,6 +1,6 @@
 -- What an iteration leaves of a map, if it calls a closure for each entry and keeps or drops the entry.
 -- For the crates of maps, runs and callers.
-use Rattle.std.proofs.Common.{◌≡◌, Bool, true, false, cond, List, [], ◌∷◌, ◌++◌, append-nil, Some, None, is_some, refl, sym, ap, subst, ◌∙◌, arith}
+use Rattle.std.proofs.Common.{◌≡◌, Bool, cond, List, [], ◌∷◌, ◌++◌, append-nil, Some, None, is_some, refl, ap, subst, ◌∙◌, arith}
 use denote.Param.Always.{always_mut, mut_next}
 use Rattle.std.specs.FinMap as map
 use Rattle.slotmap_core.specs.Words.{Mut, Called, Takes, FoldsTo, MutBor, find, Key, key_cmp, IsListing, IsListingBut, with_entries, Visit, CallsAt}
@@ -46,23 +46,11 @@ module _ {K V : Type 0} (data_of : K → Key) where
   pub Visits-call : (old : map.FinMap key_cmp V) (xs : List (Visit K V)) (rest now : map.FinMap key_cmp V) (x : Visit K V) → Visits old xs rest now → map.get rest (data_of x.key) ≡ Some x.before
       → Visits old (xs ++ x ∷ []) (map.remove rest (data_of x.key)) (cond x.stays (map.insert now (data_of x.key) x.after) (map.remove now (data_of x.key)))
   Visits-call old xs rest now x visits found =
-      let k = data_of x.key in
-      let listed : IsListingBut old (seen data_of xs ++ (k, x.before) ∷ []) (map.remove rest k) = IsListingBut-take old (seen data_of xs) rest k x.before visits.listed found in
-      let none : find key_cmp k (kept data_of xs) ≡ None = unkept k xs (unlisted old (seen data_of xs) rest k visits.listed (ap is_some found)) in
-      record {
-        listed = rw (seen_push xs x) listed;
-        stay = by x.stays none ∙ ap (with_entries (map.remove rest k)) (sym (kept_push xs x));
-      }
-    where
-      by : (b : Bool) → find key_cmp (data_of x.key) (kept data_of xs) ≡ None → cond b (map.insert now (data_of x.key) x.after) (map.remove now (data_of x.key))
-          ≡ with_entries (map.remove rest (data_of x.key)) (kept data_of xs ++ cond b ((data_of x.key, x.after) ∷ []) [])
-      by true none =
-          ap (λ n. map.insert n (data_of x.key) x.after) visits.stay ∙ insert-with_entries rest (kept data_of xs) (data_of x.key) x.after none
-          ∙ ap (λ n. with_entries n (kept data_of xs)) (sym (insert-remove rest (data_of x.key) x.after))
-          ∙ sym (with_entries_push (map.remove rest (data_of x.key)) (kept data_of xs) (data_of x.key, x.after))
-      by false none =
-          ap (λ n. map.remove n (data_of x.key)) visits.stay ∙ remove-with_entries rest (kept data_of xs) (data_of x.key) none
-          ∙ ap (with_entries (map.remove rest (data_of x.key))) (sym (append-nil (kept data_of xs)))
+      let listed = IsListingBut-take old (seen data_of xs) rest (data_of x.key) x.before visits.listed found in
+      let none = unkept (data_of x.key) xs (unlisted old (seen data_of xs) rest (data_of x.key) visits.listed (ap is_some found)) in
+      let written = insert-with_entries rest (kept data_of xs) (data_of x.key) x.after none in
+      let removed = remove-with_entries rest (kept data_of xs) (data_of x.key) none in
+      grind (arith, listed, seen_push, kept_push, written, removed, insert-remove, with_entries_push, append-nil)
 
   -- an entry of the rest is one of the old map
   pub Visits-rest : (old : map.FinMap key_cmp V) (xs : List (Visit K V)) (rest now : map.FinMap key_cmp V) → Visits old xs rest now → (k : Key) (v : V)

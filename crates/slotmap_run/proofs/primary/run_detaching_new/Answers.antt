@@ -12,6 +12,7 @@ returns g c =
       goes_on = ran.goes_on;
       laws = ran.laws;
       last_freed_first =
-          IfOk-weaker c.run_all_new.result _ _ (λ made ran. in_order what g.M.Primary.content _ _ _ _ ran.2 _ ran.1.valid ran.1.new (ran.1.stack g.met.M.Detaching.last_freed_first)) c.run_all_new.ensures.run;
+          IfOk-weaker c.run_all_new.result _ _ (λ made ran.
+          in_order what g.M.Primary.content _ _ _ _ ran.2 _ ran.1.valid ran.1.new (ran.1.stack g.met.M.Detaching.last_freed_first)) c.run_all_new.ensures.run;
       err = c.run_all_new.ensures.err;
     }

@@ -1,4 +1,4 @@
-use Rattle.std.proofs.Common.{◌≡◌, ◌<◌, length, set, slice_get, Some, refl, sym, ap, subst, ◌∙◌, arith}
+use Rattle.std.proofs.Common.{◌≡◌, set, slice_get, Some, refl, sym, ap, subst, ◌∙◌, arith}
 use Rattle.slotmap_core.proofs.Common.{Key, get, set-get_or, length-set}
 use Rattle.slotmap_secondary.specs.declared.slot.Slot.TheVariants.{Vacant, Occupied}
 use Rattle.slotmap_secondary.proofs.SlotLemmas.{IsSound-clear, content-clear, some_left, valid}
@@ -8,10 +8,7 @@ use Rattle.slotmap_secondary.proofs.SecondaryMap.take_at.Goals as goal
 
 -- nothing is there, and a vacant slot is written over another
 vacant_there : (g : _) (c : goal.In-Vacant g) → slice_get c.self.inside.slots.items c.args.index ≡ Some (Vacant c.in-Vacant.field-0)
-vacant_there g c =
-    let slots = c.self.inside.slots.items in
-    let within : c.args.index < length slots = omega (arith, c.requires, ap (λ m. m.places) c.self.view_is) in
-    there_read slots c.args.index _ _ c.index_mut.ensures.value within (sym c.replace.ensures.value ∙ c.in-Vacant.is)
+vacant_there g c = grind (arith, there_read c.self.inside.slots.items c.args.index)
 
 same_slots : (g : _) (c : goal.In-Vacant g) → set c.self.inside.slots.items c.args.index c.replace.new.dest ≡ c.self.inside.slots.items
 same_slots g c =
@@ -31,9 +28,7 @@ returns-in-Vacant-clause-valid g c = rw (same_slots g c) (valid c.self.inside.sl
 
 -- a key is there
 key_there : (g : _) (c : In-Occupied g) → slice_get c.self.inside.slots.items c.args.index ≡ Some (Occupied c.in-Occupied.version c.in-Occupied.value)
-key_there g c =
-    let within : c.args.index < length c.self.inside.slots.items = omega (arith, c.requires, ap (λ m. m.places) c.self.view_is) in
-    there_read c.self.inside.slots.items c.args.index _ _ c.index_mut.ensures.value within (sym c.replace.ensures.value ∙ c.in-Occupied.is)
+key_there g c = grind (arith, there_read c.self.inside.slots.items c.args.index)
 
 pub overflow_sub-self : goal.overflow_sub-self
 overflow_sub-self g c =
