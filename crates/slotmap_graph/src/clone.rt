@@ -15,8 +15,8 @@ impl<N: Clone> Clone for Node<N> {
     fn clone(&self) -> Result<Self, AllocError> {
         Ok(Node {
             value: self.value.clone()?,
-            out: self.out,
-            into: self.into,
+            out: self.out.copied(),
+            into: self.into.copied(),
         })
     }
 }
@@ -29,8 +29,8 @@ impl<E: Clone> Clone for Edge<E> {
             from: self.from,
             to: self.to,
             value: self.value.clone()?,
-            out: self.out,
-            into: self.into,
+            out: self.out.copied(),
+            into: self.into.copied(),
         })
     }
 }

@@ -54,7 +54,7 @@ impl<'a, E: Drop> Iterator for EdgesAt<'a, E> {
         }
         let key = self.first?;
         self.left -= 1;
-        self.first = link_of(self.edges, self.direction, key).next;
+        self.first = link_of(self.edges, self.direction, key).next.get();
         Some(key)
     }
 
@@ -76,7 +76,7 @@ impl<'a, E: Drop> DoubleEndedIterator for EdgesAt<'a, E> {
         }
         let key = self.last?;
         self.left -= 1;
-        self.last = link_of(self.edges, self.direction, key).prev;
+        self.last = link_of(self.edges, self.direction, key).prev.get();
         Some(key)
     }
 }

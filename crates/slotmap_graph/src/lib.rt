@@ -427,8 +427,8 @@ impl<K: Key, N: Drop, E: Drop> Graph<K, N, E> {
         EdgesAt {
             edges: &self.edges,
             direction,
-            first: ends.first,
-            last: ends.last,
+            first: ends.first.get(),
+            last: ends.last.get(),
             left: ends.len,
         }
     }

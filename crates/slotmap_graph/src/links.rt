@@ -8,7 +8,7 @@ ghost use Rattle.slotmap_graph.specs.Threads.{IsThreaded, KeepsEdges, Rethreads,
 
 use crate::{Edge, EdgeKey, Node};
 use slotmap::{DefaultKey, Key, SlotMap};
-use slotmap_keylist::{Ends, Link};
+use slotmap_keylist::{Ends, KeyOrNull, Link};
 
 // Which edges of a node a list has: those that begin there, or those that end there.
 #[derive(Clone, Copy, Drop)]
@@ -21,14 +21,17 @@ pub(crate) type Nodes<K, N> = SlotMap<K, Node<N>>;
 
 pub(crate) type Edges<E> = SlotMap<EdgeKey, Edge<E>>;
 
+// The edge beside another one in a list, or none at an end.
+pub(crate) type Neighbour = KeyOrNull<EdgeKey>;
+
 impl<N> Node<N> {
     // The ends of one of its two lists.
     pub(crate) fn ends(&self, direction: Direction) -> Ends<EdgeKey>
         ensures { result ≡ node_ends direction self.now }
     {
         match direction {
-            Direction::Out => self.out,
-            Direction::Into => self.into,
+            Direction::Out => self.out.copied(),
+            Direction::Into => self.into.copied(),
         }
     }
 
@@ -58,8 +61,8 @@ impl<E> Edge<E> {
         ensures { result ≡ edge_link direction self.now }
     {
         match direction {
-            Direction::Out => self.out,
-            Direction::Into => self.into,
+            Direction::Out => self.out.copied(),
+            Direction::Into => self.into.copied(),
         }
     }
 
@@ -115,14 +118,14 @@ fn set_link<E: Drop>(edges: &mut Edges<E>, direction: Direction, key: EdgeKey, l
 fn set_next<E: Drop>(
     edges: &mut Edges<E>,
     direction: Direction,
-    at: Option<EdgeKey>,
-    next: Option<EdgeKey>,
+    at: &Neighbour,
+    next: Neighbour,
 )
-    requires { IfSome at (λ key. IsLive edges.old key) }
-    ensures links { (q : KeyOf) → link_in direction edges.new.live q ≡ with_next at next (link_in direction edges.old.live) q }
+    requires { IfSome at.now (λ key. IsLive edges.old key) }
+    ensures links { (q : KeyOf) → link_in direction edges.new.live q ≡ with_next at.now next (link_in direction edges.old.live) q }
     ensures keeps { KeepsEdges direction edges.old edges.new }
 {
-    if let Some(key) = at {
+    if let Some(key) = at.get() {
         let prev = edges[key].link(direction).prev;
         set_link(edges, direction, key, Link { prev, next });
     }
@@ -132,26 +135,26 @@ fn set_next<E: Drop>(
 fn set_prev<E: Drop>(
     edges: &mut Edges<E>,
     direction: Direction,
-    at: Option<EdgeKey>,
-    prev: Option<EdgeKey>,
+    at: &Neighbour,
+    prev: Neighbour,
 )
-    requires { IfSome at (λ key. IsLive edges.old key) }
-    ensures links { (q : KeyOf) → link_in direction edges.new.live q ≡ with_prev at prev (link_in direction edges.old.live) q }
+    requires { IfSome at.now (λ key. IsLive edges.old key) }
+    ensures links { (q : KeyOf) → link_in direction edges.new.live q ≡ with_prev at.now prev (link_in direction edges.old.live) q }
     ensures keeps { KeepsEdges direction edges.old edges.new }
 {
-    if let Some(key) = at {
+    if let Some(key) = at.get() {
         let next = edges[key].link(direction).next;
         set_link(edges, direction, key, Link { prev, next });
     }
 }
 
 // Where a link is the list's own, its end is the new one.
-fn own_end(at: &Option<EdgeKey>, old: Option<EdgeKey>, new: Option<EdgeKey>) -> Option<EdgeKey>
-    ensures { result ≡ own at.now old new }
+fn own_end(at: &Neighbour, old: &Neighbour, new: &Neighbour) -> Neighbour
+    ensures { result ≡ own at.now old.now new.now }
 {
-    match at {
-        Some(_) => old,
-        None => new,
+    match at.get() {
+        Some(_) => old.copied(),
+        None => new.copied(),
     }
 }
 
@@ -172,14 +175,15 @@ pub(crate) fn link_last<K: Key, N: Drop, E: Drop>(
     let node = &mut nodes[node];
     let ends = node.ends(direction);
     let link = Link {
-        prev: ends.last,
-        next: None,
+        prev: ends.last.copied(),
+        next: KeyOrNull::none(),
     };
     set_link(edges, direction, edge, link);
-    set_next(edges, direction, ends.last, Some(edge));
+    let on = KeyOrNull::some(edge);
+    set_next(edges, direction, &ends.last, on.copied());
     let ends = Ends {
-        first: own_end(&ends.last, ends.first, Some(edge)),
-        last: Some(edge),
+        first: own_end(&ends.last, &ends.first, &on),
+        last: on,
         len: ends.len + 1,
     };
     node.set_ends(direction, ends);
@@ -199,13 +203,13 @@ pub(crate) fn unlink<K: Key, N: Drop, E: Drop>(
     ensures { Rethreads direction nodes.old edges.old (K.data_of node) (without edge (listed direction nodes.old.live edges.old.live (K.data_of node))) nodes.new edges.new }
 {
     let link = edges[edge].link(direction);
-    set_next(edges, direction, link.prev, link.next);
-    set_prev(edges, direction, link.next, link.prev);
+    set_next(edges, direction, &link.prev, link.next.copied());
+    set_prev(edges, direction, &link.next, link.prev.copied());
     let node = &mut nodes[node];
     let ends = node.ends(direction);
     let ends = Ends {
-        first: own_end(&link.prev, ends.first, link.next),
-        last: own_end(&link.next, ends.last, link.prev),
+        first: own_end(&link.prev, &ends.first, &link.next),
+        last: own_end(&link.next, &ends.last, &link.prev),
         len: ends.len - 1,
     };
     node.set_ends(direction, ends);

@@ -14,21 +14,21 @@ use slotmap::{DefaultKey, Key};
 mod key_or_null;
 
 /// The two ends of a list of keys that is kept as links, and how many keys it has.
-#[derive(Clone, Copy, Debug, Drop)]
-pub struct Ends<K> {
-    pub first: Option<K>,
-    pub last: Option<K>,
+#[derive(Debug, Drop)]
+pub struct Ends<K: Key> {
+    pub first: KeyOrNull<K>,
+    pub last: KeyOrNull<K>,
     pub len: usize,
 }
 
 /// The neighbours of a key in a list that is kept as links.
-#[derive(Clone, Copy, Debug, Drop)]
-pub struct Link<K> {
-    pub prev: Option<K>,
-    pub next: Option<K>,
+#[derive(Debug, Drop)]
+pub struct Link<K: Key> {
+    pub prev: KeyOrNull<K>,
+    pub next: KeyOrNull<K>,
 }
 
-impl<K> Ends<K> {
+impl<K: Key> Ends<K> {
     /// Returns the ends of a list with no key.
     ///
     /// ```
@@ -39,26 +39,47 @@ impl<K> Ends<K> {
         ensures { result ≡ record { first = None; last = None; len = 0 } }
     {
         Ends {
-            first: None,
-            last: None,
+            first: KeyOrNull::none(),
+            last: KeyOrNull::none(),
             len: 0,
+        }
+    }
+
+    /// The same once more.
+    pub fn copied(&self) -> Ends<K>
+        ensures { result ≡ self.now }
+    {
+        Ends {
+            first: self.first.copied(),
+            last: self.last.copied(),
+            len: self.len,
         }
     }
 }
 
-impl<K> Link<K> {
+impl<K: Key> Link<K> {
     /// Returns the link of a key with no neighbours.
     ///
     /// ```
     /// let link: Link<DefaultKey> = Link::none();
-    /// assert!(rt; link.next.is_none());
+    /// assert_eq!(rt; link.next.get(), None);
     /// ```
     pub fn none() -> Self
         ensures { result ≡ record { prev = None; next = None } }
     {
         Link {
-            prev: None,
-            next: None,
+            prev: KeyOrNull::none(),
+            next: KeyOrNull::none(),
+        }
+    }
+
+    /// The same once more.
+    pub fn copied(&self) -> Link<K>
+        ensures { result ≡ self.now }
+    {
+        Link {
+            prev: self.prev.copied(),
+            next: self.next.copied(),
         }
     }
 }

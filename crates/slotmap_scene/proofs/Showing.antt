@@ -265,6 +265,9 @@ module _ {T : Type 0} (c : Content (LinkedNode T)) (woven : IsWoven c.live) (sel
   pub live_is : (q : Key) → has_node self.live q → IsLive c q
   live_is q live = sym (shown_keys c.live q) ∙ ap (λ s. map.contains_key s.live q) view ∙ live
 
+  pub child_live : (p q : Key) → 0 < times q (children_of self.live p) → IsLive c q
+  child_live p q more = woven.live p q (subst (λ ks. 0 < times q ks) (children_are p) more)
+
   -- the ends of the children of a node, and the neighbours of a child
   pub ends_shown : (p : Key) → ends_of c.live p ≡ ends_of_list (children_of self.live p)
   ends_shown p = woven.linked.ends_are p ∙ ap ends_of_list (sym (children_are p))

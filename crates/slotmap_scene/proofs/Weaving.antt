@@ -71,7 +71,7 @@ module _ {T : Type 0} (m : LinkedNodes T) (p : Key) (l : Link Key) (on back : Op
   abbrev both_done : LinkedNodes T
   both_done = with_prev next_done p l.next back
 
-  both_keep : {X : Type 0} (P : Option (LinkedNode T) → X) → ((n : LinkedNode T) (e : Ends Key) (s : Link Key) → P (Some (record n { children = e; siblings = s })) ≡ P (Some n)) → (q : Key) → P (map.get both_done q) ≡ P (map.get m q)
+  pub both_keep : {X : Type 0} (P : Option (LinkedNode T) → X) → ((n : LinkedNode T) (e : Ends Key) (s : Link Key) → P (Some (record n { children = e; siblings = s })) ≡ P (Some n)) → (q : Key) → P (map.get both_done q) ≡ P (map.get m q)
   both_keep P free q = prev_keeps next_done p back P free l.next q ∙ next_keeps m p on P free l.prev q
 
   both_ends : map.contains_key m p ≡ true → ends_of both_done p ≡ record { first = own l.prev (ends_of m p).first on; last = own l.next (ends_of m p).last back; len = (ends_of m p).len }

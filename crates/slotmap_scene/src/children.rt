@@ -51,8 +51,8 @@ impl<'a, K, T> ChildKeys<'a, K, T> {
     {
         ChildKeys {
             nodes,
-            first: ends.first,
-            last: ends.last,
+            first: ends.first.get(),
+            last: ends.last.get(),
             left: ends.len,
             key_type: PhantomData,
         }
@@ -95,7 +95,7 @@ impl<'a, K: Key, T: Drop> Iterator for ChildKeys<'a, K, T> {
         }
         let key = self.first?;
         self.left -= 1;
-        self.first = link_of(self.nodes, key).next;
+        self.first = link_of(self.nodes, key).next.get();
         Some(outer(key))
     }
 
@@ -118,7 +118,7 @@ impl<'a, K: Key, T: Drop> DoubleEndedIterator for ChildKeys<'a, K, T> {
         }
         let key = self.last?;
         self.left -= 1;
-        self.last = link_of(self.nodes, key).prev;
+        self.last = link_of(self.nodes, key).prev.get();
         Some(outer(key))
     }
 }

@@ -19,8 +19,8 @@ impl<T: Clone> Clone for LinkedNode<T> {
         Ok(LinkedNode {
             value: self.value.clone()?,
             parent: self.parent,
-            children: self.children,
-            siblings: self.siblings,
+            children: self.children.copied(),
+            siblings: self.siblings.copied(),
         })
     }
 }

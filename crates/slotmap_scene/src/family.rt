@@ -1,10 +1,10 @@
 //! The nodes under their keys. A clause sees each with the list of its children in place of its links.
 
-ghost use Rattle.std.specs.Prelude.{◌≡◌, ◌<◌, ◌≤◌, ◌+◌, ◌++◌, ◌∷◌, [], Some, None, IfOk, IfErr, IsOk, OnErr, List, true, map as list_map, option_copied, option_map};
+ghost use Rattle.std.specs.Prelude.{◌≡◌, ◌≢◌, ◌<◌, ◌≤◌, ◌+◌, ◌++◌, ◌∷◌, [], Some, None, IfOk, IfErr, IsOk, OnErr, List, true, map as list_map, option_copied, option_map};
 ghost use Rattle.std.specs.FinMap as map;
 ghost use Rattle.std.specs.Borrow.{sem};
 ghost use Rattle.std.specs.Option.{option_copied_mut};
-ghost use Rattle.slotmap.specs.Words.{Key as KeyOf, IsContent, IsNew, IsSpent, KeepsSpent, Inserts, Keeps, Leaves, MakesRoom, RefusesCapacity, used};
+ghost use Rattle.slotmap.specs.Words.{Key as KeyOf, IsContent, IsNew, IsSpent, KeepsSpent, Inserts, Keeps, Leaves, MakesRoom, RefusesCapacity, null_key, used};
 ghost use Rattle.slotmap_keylist.specs.KeyLists.{times, without};
 ghost use Rattle.slotmap_keylist.specs.Linked.{ends_of, first_or, last_or, link_between};
 ghost use Rattle.slotmap_scene.specs.Above.{roots_in};
@@ -114,18 +114,19 @@ impl<T: Drop> Nodes<T> {
     }
 
     // The ends of the list of a node's children.
-    fn ends(&self, node: DefaultKey) -> Ends<DefaultKey>
+    pub fn ends(&self, node: DefaultKey) -> Ends<DefaultKey>
         ensures { result ≡ ends_of (children_of self.now.live node) }
     {
         match self.map.get(node) {
-            Some(node) => node.children,
+            Some(node) => node.children.copied(),
             None => Ends::none(),
         }
     }
 
     // The neighbours of a child.
     pub fn link(&self, node: DefaultKey) -> Link<DefaultKey>
-        ensures { (p : KeyOf) (before after : List KeyOf) → children_of self.now.live p ≡ before ++ node ∷ after → result ≡ link_between before after }
+        ensures value { (p : KeyOf) (before after : List KeyOf) → children_of self.now.live p ≡ before ++ node ∷ after → result ≡ link_between before after }
+        ensures not_null { (p : KeyOf) → 0 < times node (children_of self.now.live p) → node ≢ null_key }
     {
         link_of(&self.map, node)
     }
@@ -141,14 +142,14 @@ impl<T: Drop> Nodes<T> {
     pub fn first(&self, node: DefaultKey) -> Option<DefaultKey>
         ensures { result ≡ first_or (children_of self.now.live node) None }
     {
-        self.ends(node).first
+        self.ends(node).first.get()
     }
 
     // The last child of a node.
     pub fn last(&self, node: DefaultKey) -> Option<DefaultKey>
         ensures { result ≡ last_or (children_of self.now.live node) None }
     {
-        self.ends(node).last
+        self.ends(node).last.get()
     }
 
     // Adds a node with this parent and no children. It is in no list.

@@ -8,7 +8,7 @@ ghost use Rattle.slotmap_scene.specs.LinkedNodes.{AreLive, ends_of, leaf, link_o
 ghost use Rattle.slotmap_scene.specs.Refusals.{RefusesNode};
 
 use slotmap::{DefaultKey, InsertError, SlotMap};
-use slotmap_keylist::{Ends, Link};
+use slotmap_keylist::{Ends, KeyOrNull, Link};
 
 // A node: its value, the key of its parent, the two ends of the list of its children, and its neighbours
 // in such a list. A root has no parent.
@@ -19,6 +19,9 @@ pub(crate) struct LinkedNode<T> {
     pub children: Ends<DefaultKey>,
     pub siblings: Link<DefaultKey>,
 }
+
+// The child beside another one, or none at an end.
+pub(crate) type Neighbour = KeyOrNull<DefaultKey>;
 
 // The nodes with their links, under their keys.
 pub(crate) type LinkedNodes<T> = SlotMap<DefaultKey, LinkedNode<T>>;
@@ -53,10 +56,11 @@ pub(crate) fn add<T: Drop>(
 
 // The neighbours of a node, or none if it doesn't exist.
 pub(crate) fn link_of<T: Drop>(nodes: &LinkedNodes<T>, node: DefaultKey) -> Link<DefaultKey>
-    ensures { result ≡ link_of nodes.now.live node }
+    ensures value { result ≡ link_of nodes.now.live node }
+    ensures valid { IsContent true nodes.now }
 {
     match nodes.get(node) {
-        Some(node) => node.siblings,
+        Some(node) => node.siblings.copied(),
         None => Link::none(),
     }
 }
@@ -65,16 +69,16 @@ pub(crate) fn link_of<T: Drop>(nodes: &LinkedNodes<T>, node: DefaultKey) -> Link
 fn set_link<T: Drop>(
     nodes: &mut LinkedNodes<T>,
     node: DefaultKey,
-    prev: Option<DefaultKey>,
-    next: Option<DefaultKey>,
+    prev: &Neighbour,
+    next: &Neighbour,
 )
     requires { IsLive nodes.old node }
     ensures valid { IsContent true nodes.old }
-    ensures links { nodes.new ≡ record nodes.old { live = with_link nodes.old.live node (record { prev = prev; next = next }) } }
+    ensures links { nodes.new ≡ record nodes.old { live = with_link nodes.old.live node (record { prev = prev.now; next = next.now }) } }
 {
     let place = &mut nodes[node];
-    place.siblings.prev = prev;
-    place.siblings.next = next;
+    place.siblings.prev = prev.copied();
+    place.siblings.next = next.copied();
 }
 
 // Lets a node lead on to another one, or to none. Without a node, it is the start of the list of the
@@ -82,16 +86,16 @@ fn set_link<T: Drop>(
 fn set_next<T: Drop>(
     nodes: &mut LinkedNodes<T>,
     parent: DefaultKey,
-    node: Option<DefaultKey>,
-    next: Option<DefaultKey>,
+    node: &Neighbour,
+    next: &Neighbour,
 )
     requires parent { IsLive nodes.old parent }
-    requires node { IfSome node (IsLive nodes.old) }
-    ensures { nodes.new ≡ record nodes.old { live = with_next nodes.old.live parent node next } }
+    requires node { IfSome node.now (IsLive nodes.old) }
+    ensures { nodes.new ≡ record nodes.old { live = with_next nodes.old.live parent node.now next.now } }
 {
-    match node {
-        Some(node) => nodes[node].siblings.next = next,
-        None => nodes[parent].children.first = next,
+    match node.get() {
+        Some(node) => nodes[node].siblings.next = next.copied(),
+        None => nodes[parent].children.first = next.copied(),
     }
 }
 
@@ -100,16 +104,16 @@ fn set_next<T: Drop>(
 fn set_prev<T: Drop>(
     nodes: &mut LinkedNodes<T>,
     parent: DefaultKey,
-    node: Option<DefaultKey>,
-    prev: Option<DefaultKey>,
+    node: &Neighbour,
+    prev: &Neighbour,
 )
     requires parent { IsLive nodes.old parent }
-    requires node { IfSome node (IsLive nodes.old) }
-    ensures { nodes.new ≡ record nodes.old { live = with_prev nodes.old.live parent node prev } }
+    requires node { IfSome node.now (IsLive nodes.old) }
+    ensures { nodes.new ≡ record nodes.old { live = with_prev nodes.old.live parent node.now prev.now } }
 {
-    match node {
-        Some(node) => nodes[node].siblings.prev = prev,
-        None => nodes[parent].children.last = prev,
+    match node.get() {
+        Some(node) => nodes[node].siblings.prev = prev.copied(),
+        None => nodes[parent].children.last = prev.copied(),
     }
 }
 
@@ -125,9 +129,10 @@ pub(crate) fn put_between<T: Drop>(
     requires fits { (ends_of nodes.old.live parent).len ≤ map.len nodes.old.live }
     ensures { nodes.new ≡ record nodes.old { live = put_between nodes.old.live parent node siblings } }
 {
-    set_link(nodes, node, siblings.prev, siblings.next);
-    set_next(nodes, parent, siblings.prev, Some(node));
-    set_prev(nodes, parent, siblings.next, Some(node));
+    set_link(nodes, node, &siblings.prev, &siblings.next);
+    let on = KeyOrNull::some(node);
+    set_next(nodes, parent, &siblings.prev, &on);
+    set_prev(nodes, parent, &siblings.next, &on);
     nodes[parent].children.len += 1;
 }
 
@@ -141,7 +146,7 @@ pub(crate) fn take_between<T: Drop>(
     requires some { 0 < (ends_of nodes.old.live parent).len }
     ensures { nodes.new ≡ record nodes.old { live = taken_between nodes.old.live parent siblings } }
 {
-    set_next(nodes, parent, siblings.prev, siblings.next);
-    set_prev(nodes, parent, siblings.next, siblings.prev);
+    set_next(nodes, parent, &siblings.prev, &siblings.next);
+    set_prev(nodes, parent, &siblings.next, &siblings.prev);
     nodes[parent].children.len -= 1;
 }

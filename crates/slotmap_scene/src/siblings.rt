@@ -63,7 +63,7 @@ impl<K: Key, T: Drop> Scene<K, T> {
     {
         let node = inner(node);
         self.parent_key(node)?;
-        Some(outer(self.nodes.link(node).next?))
+        Some(outer(self.nodes.link(node).next.get()?))
     }
 
     /// Returns the key of the sibling in front of a node, or `None` if the node is the first child, a
@@ -82,7 +82,7 @@ impl<K: Key, T: Drop> Scene<K, T> {
     {
         let node = inner(node);
         self.parent_key(node)?;
-        Some(outer(self.nodes.link(node).prev?))
+        Some(outer(self.nodes.link(node).prev.get()?))
     }
 
     // Moves a node to this side of another one, among the children of its parent.

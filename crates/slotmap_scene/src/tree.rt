@@ -1,6 +1,6 @@
 //! The trees of the nodes: a node becomes a child or a root, and a tree is removed.
 
-ghost use Rattle.std.specs.Prelude.{◌≡◌, ◌≢◌, ◌++◌, ◌∷◌, [], List, Some, None, option_map};
+ghost use Rattle.std.specs.Prelude.{◌≡◌, ◌<◌, ◌≢◌, ◌++◌, ◌∷◌, [], List, Some, None, option_map};
 ghost use Rattle.std.specs.FinMap as map;
 ghost use Rattle.slotmap.specs.Words.{Key as KeyOf, KeepsSpent, Leaves};
 ghost use Rattle.slotmap_keylist.specs.KeyLists.{times};
@@ -11,7 +11,7 @@ ghost use Rattle.slotmap_scene.specs.Family.{IsMoved, IsScene, around, as_child,
 use crate::family::Nodes;
 use crate::links::LinkedNode;
 use slotmap::DefaultKey;
-use slotmap_keylist::Link;
+use slotmap_keylist::{KeyOrNull, Link};
 
 // On which side of a sibling a node is put.
 #[derive(Clone, Copy, Debug, Drop)]
@@ -28,8 +28,9 @@ impl<T: Drop> Nodes<T> {
         requires alone { (p : KeyOf) → times node (children_of self.old.live p) ≡ 0 }
         ensures { self.new ≡ record self.old { live = with_children_in self.old.live parent (map.get self.old.live parent) (λ ks. node ∷ ks) } }
     {
-        let next = self.first(parent);
-        self.put_between(parent, node, Link { prev: None, next });
+        let next = self.ends(parent).first;
+        let prev = KeyOrNull::none();
+        self.put_between(parent, node, Link { prev, next });
     }
 
     // Puts a node that is in no list behind the children of another one.
@@ -39,23 +40,26 @@ impl<T: Drop> Nodes<T> {
         requires alone { (p : KeyOf) → times node (children_of self.old.live p) ≡ 0 }
         ensures { self.new ≡ record self.old { live = with_child self.old.live parent node } }
     {
-        let prev = self.last(parent);
-        self.put_between(parent, node, Link { prev, next: None });
+        let prev = self.ends(parent).last;
+        let next = KeyOrNull::none();
+        self.put_between(parent, node, Link { prev, next });
     }
 
     // The neighbours of a place beside a node, among its siblings.
     fn place_beside(&self, side: Side, sibling: DefaultKey) -> Link<DefaultKey>
+        requires { (p : KeyOf) × 0 < times sibling (children_of self.now.live p) }
         ensures { (p : KeyOf) (before after : List KeyOf) → children_of self.now.live p ≡ before ++ sibling ∷ after
             → result ≡ link_between (around side before sibling after).0 (around side before sibling after).1 }
     {
         let link = self.link(sibling);
+        let beside = KeyOrNull::some(sibling);
         match side {
             Side::Before => Link {
                 prev: link.prev,
-                next: Some(sibling),
+                next: beside,
             },
             Side::After => Link {
-                prev: Some(sibling),
+                prev: beside,
                 next: link.next,
             },
         }

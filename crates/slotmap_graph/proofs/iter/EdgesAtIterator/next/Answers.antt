@@ -11,10 +11,10 @@ pub invariant_of-self : goal.invariant_of-self
 invariant_of-self g c =
     let step = segment_front (link_in c.self.inside.direction c.self.inside.edges.now.live) c.self.inside.left c.self.inside.first c.self.inside.last c.self.invariant (omega (arith, c.if-self-eq0.false)) in
     let same : step.0 ≡ c.in_ok-key.key = (let h = sym step.1 ∙ c.in_ok-key.was in cc) in
-    rw (c.link_of.ensures, ← same) step.2
+    rw (c.get-self-inside.ensures.value, c.link_of.ensures, ← same) step.2
 
 pub returns-clause-steps : goal.returns-clause-steps
 returns-clause-steps g c =
     let step = segment_front (link_in c.self.inside.direction c.self.inside.edges.now.live) c.self.inside.left c.self.inside.first c.self.inside.last c.self.invariant (omega (arith, c.if-self-eq0.false)) in
     let same : step.0 ≡ c.in_ok-key.key = (let h = sym step.1 ∙ c.in_ok-key.was in cc) in
-    rw (← c.self.view_is, c.link_of.ensures, ← same) step.3
+    rw (← c.self.view_is, c.get-self-inside.ensures.value, c.link_of.ensures, ← same) step.3

@@ -13,7 +13,7 @@ pub invariant_of-self : goal.invariant_of-self
 invariant_of-self g c =
     let step = segment_back (link_of c.self.inside.nodes.now.live) _ _ _ c.self.invariant (omega (arith, c.if-self-eq0.false)) in
     let same : step.0 ≡ c.in_ok-key.key = (let h = sym step.1 ∙ c.in_ok-key.was in cc) in
-    rw (c.link_of.ensures, ← same) step.2
+    rw (c.get-self-inside.ensures.value, c.link_of.ensures.value, ← same) step.2
 
 pub returns-clause-steps : goal.returns-clause-steps
 returns-clause-steps g c =

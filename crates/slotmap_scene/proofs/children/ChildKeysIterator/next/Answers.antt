@@ -12,13 +12,13 @@ pub invariant_of-self : goal.invariant_of-self
 invariant_of-self g c =
     let step = segment_front (link_of c.self.inside.nodes.now.live) _ _ _ c.self.invariant (omega (arith, c.if-self-eq0.false)) in
     let same : step.0 ≡ c.in_ok-key.key = (let h = sym step.1 ∙ c.in_ok-key.was in cc) in
-    rw (c.link_of.ensures, ← same) step.2
+    rw (c.get-self-inside.ensures.value, c.link_of.ensures.value, ← same) step.2
 
 pub returns-clause-steps : goal.returns-clause-steps
 returns-clause-steps g c =
     let step = segment_front (link_of c.self.inside.nodes.now.live) _ _ _ c.self.invariant (omega (arith, c.if-self-eq0.false)) in
     let same : step.0 ≡ c.in_ok-key.key = (let h = sym step.1 ∙ c.in_ok-key.was in cc) in
-    rw (← c.self.view_is, c.link_of.ensures, c.outer.ensures, ← same) step.3
+    rw (← c.self.view_is, c.get-self-inside.ensures.value, c.link_of.ensures.value, c.outer.ensures, ← same) step.3
 
 pub returns-clause-goes : goal.returns-clause-goes
 returns-clause-goes g c =

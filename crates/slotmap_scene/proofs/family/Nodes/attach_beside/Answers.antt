@@ -4,6 +4,9 @@ use Rattle.slotmap_scene.specs.Family.{around, children_of, placed}
 use Rattle.slotmap_scene.proofs.Moved.{side_place, side_put}
 use Rattle.slotmap_scene.proofs.family.Nodes.attach_beside.Goals as goal
 
+pub place_beside-siblings-requires : goal.place_beside-siblings-requires
+place_beside-siblings-requires g c = (c.args.parent, (let once = c.requires.sibling in omega arith))
+
 pub put_between-requires-clause-place : goal.put_between-requires-clause-place
 put_between-requires-clause-place g c =
     let nodes = c.args.self.now.live in
