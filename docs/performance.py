@@ -217,11 +217,17 @@ def structures(figures):
         return f"{row.port:.1f} / {row.rust:.1f} = **{row.ratio:.2f}**" if row else "?"
 
     rows = [
-        [f"`{MAPS[kind].type}`: {it.title}", *[cell(*place) for place in places_of(kind, it.name)]]
+        [f"{structure_of(kind)}: {it.title}", *[cell(*place) for place in places_of(kind, it.name)]]
         for kind in operations.STRUCTURES
         for it in operations.operations_of(MAPS[kind])
+        if figures.row("instructions", kind, it.name, 1_000)
     ]
     return table(["What", "instructions, 1,000 keys", "nanoseconds, 1,000 keys", "nanoseconds, 100,000 keys"], rows)
+
+
+def structure_of(kind):
+    """What a row calls a structure, and which of two other codes it is beside."""
+    return f"`{MAPS[kind].type}`" + ", the other with links both ways" * (kind == "ordered")
 
 
 def places_of(kind, operation):
@@ -236,7 +242,7 @@ def memory_structures(figures):
         for it in operations.operations_of(MAPS[kind]):
             row = figures.row("memory", kind, it.name, 1_000_000)
             if row:
-                rows.append([f"`{MAPS[kind].type}`: {it.title}", f"{row.port:.1f} / {row.rust:.1f} = **{row.ratio:.2f}**"])
+                rows.append([f"{structure_of(kind)}: {it.title}", f"{row.port:.1f} / {row.rust:.1f} = **{row.ratio:.2f}**"])
     return table(["Bytes, after", "1,000,000 keys"], rows)
 
 

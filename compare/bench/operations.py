@@ -164,14 +164,15 @@ FAMILIES = {
 }
 
 # The structures are compared with hand-written versions, written for the bench (driver/list.rs and its like).
-STRUCTURES = ["list", "graph", "scene", "scheduler", "world"]
+STRUCTURES = ["list", "graph", "ordered", "scene", "scheduler", "world"]
 
 # What the model of a SlotMap has (driver/columns.rs).
 MODELLED = ["insert", "insert-room", "get-live", "get-stale", "contains", "churn"]
 
 # The rows of these maps have the port's side of others: `folded` is the port's sparse map beside the Rust crate's with a hasher
-# like the port's, and `columns` the port's SlotMap beside a model of its layout, three vectors in Rust.
-AGAIN = ["folded", "columns"]
+# like the port's, `columns` the port's SlotMap beside a model of its layout, three vectors in Rust, and `ordered` the port's Graph
+# beside one with links both ways.
+AGAIN = ["folded", "columns", "ordered"]
 
 # `stepped` is a SecondaryMap in step with a SlotMap.
 MAPS = [
@@ -189,6 +190,7 @@ MAPS = [
     Map("graph", 11, "Graph", "slotmap_graph", "Graph", []),
     Map("scene", 12, "Scene", "slotmap_scene", "Scene", []),
     Map("scheduler", 13, "Scheduler", "slotmap_scheduler", "Scheduler", []),
+    Map("ordered", 16, "Graph", "slotmap_graph", "Graph", []),
     Map("world", 15, "World", "slotmap_entities", "World", []),
     Map("columns", 14, "SlotMap", "slotmap_basic", "Primary", [it.name for it in PRIMARY if it.name not in MODELLED]),
 ]

@@ -1,12 +1,27 @@
 //! A graph in two vectors, in which each edge names the next edge at both of its ends, as petgraph's stable graph has it. The
-//! operations are those of port/graph.template.
+//! operations are those of port/graph.template. `ordered.rs` has the same with links both ways.
 
 use crate::operations::Graph as Operation;
 use crate::shuffler::Shuffler;
 use crate::value::Sum;
 use std::collections::VecDeque;
 
-const END: u32 = u32::MAX;
+pub const END: u32 = u32::MAX;
+
+/// A graph of nodes with values, whose edges have values too.
+pub trait Network {
+    fn new() -> Self;
+    fn add_node(&mut self, value: u64);
+    fn add_edge(&mut self, from: u32, to: u32, value: u64) -> u32;
+    fn remove_edge(&mut self, edge: u32) -> u64;
+    fn ends(&self, edge: u32) -> [u32; 2];
+    /// The first edge from a node, and the one behind an edge; `END` if there is none.
+    fn first(&self, node: u32) -> u32;
+    fn next(&self, edge: u32) -> u32;
+    fn value(&self, node: u32) -> u64;
+    fn node_count(&self) -> usize;
+    fn edge_count(&self) -> u64;
+}
 
 struct Node {
     value: u64,
@@ -20,7 +35,8 @@ struct Edge {
     next: [u32; 2],
 }
 
-struct Net {
+/// An edge is put in front of the others, and is looked for where it is removed.
+pub struct Net {
     nodes: Vec<Node>,
     edges: Vec<Edge>,
     vacant: u32,
@@ -28,8 +44,27 @@ struct Net {
 }
 
 impl Net {
+    fn unlink(&mut self, edge: u32, side: usize) {
+        let (end, next) = (self.edges[edge as usize].ends[side] as usize, self.edges[edge as usize].next[side]);
+        let mut at = self.nodes[end].edges[side];
+        if at == edge {
+            self.nodes[end].edges[side] = next;
+            return;
+        }
+        while self.edges[at as usize].next[side] != edge {
+            at = self.edges[at as usize].next[side];
+        }
+        self.edges[at as usize].next[side] = next;
+    }
+}
+
+impl Network for Net {
     fn new() -> Net {
         Net { nodes: Vec::new(), edges: Vec::new(), vacant: END, edge_count: 0 }
+    }
+
+    fn add_node(&mut self, value: u64) {
+        self.nodes.push(Node { value, edges: [END, END] });
     }
 
     fn add_edge(&mut self, from: u32, to: u32, value: u64) -> u32 {
@@ -49,19 +84,6 @@ impl Net {
         at
     }
 
-    fn unlink(&mut self, edge: u32, side: usize) {
-        let (end, next) = (self.edges[edge as usize].ends[side] as usize, self.edges[edge as usize].next[side]);
-        let mut at = self.nodes[end].edges[side];
-        if at == edge {
-            self.nodes[end].edges[side] = next;
-            return;
-        }
-        while self.edges[at as usize].next[side] != edge {
-            at = self.edges[at as usize].next[side];
-        }
-        self.edges[at as usize].next[side] = next;
-    }
-
     fn remove_edge(&mut self, edge: u32) -> u64 {
         self.unlink(edge, 0);
         self.unlink(edge, 1);
@@ -71,21 +93,48 @@ impl Net {
         self.edges[edge as usize].value
     }
 
-    /// The ends of the edges from a node, the edge added last in front.
-    fn ends(&self, from: u32) -> impl Iterator<Item = u32> + '_ {
-        let mut at = self.nodes[from as usize].edges[0];
-        std::iter::from_fn(move || {
-            let edge = self.edges.get(at as usize)?;
-            at = edge.next[0];
-            Some(edge.ends[1])
-        })
+    fn ends(&self, edge: u32) -> [u32; 2] {
+        self.edges[edge as usize].ends
+    }
+
+    fn first(&self, node: u32) -> u32 {
+        self.nodes[node as usize].edges[0]
+    }
+
+    fn next(&self, edge: u32) -> u32 {
+        self.edges[edge as usize].next[0]
+    }
+
+    fn value(&self, node: u32) -> u64 {
+        self.nodes[node as usize].value
+    }
+
+    fn node_count(&self) -> usize {
+        self.nodes.len()
+    }
+
+    fn edge_count(&self) -> u64 {
+        self.edge_count
     }
 }
 
-fn filled(n: u64) -> (Net, Vec<u32>) {
-    let (mut net, mut edges, mut shuffler) = (Net::new(), Vec::new(), Shuffler::new());
+/// The nodes to which the edges from a node lead.
+fn far_ends<N: Network>(net: &N, from: u32) -> impl Iterator<Item = u32> + '_ {
+    let mut at = net.first(from);
+    std::iter::from_fn(move || {
+        if at == END {
+            return None;
+        }
+        let to = net.ends(at)[1];
+        at = net.next(at);
+        Some(to)
+    })
+}
+
+fn filled<N: Network>(n: u64) -> (N, Vec<u32>) {
+    let (mut net, mut edges, mut shuffler) = (N::new(), Vec::new(), Shuffler::new());
     for value in 0..n {
-        net.nodes.push(Node { value, edges: [END, END] });
+        net.add_node(value);
     }
     for from in 0..n as u32 {
         for _ in 0..4 {
@@ -96,24 +145,24 @@ fn filled(n: u64) -> (Net, Vec<u32>) {
     (net, edges)
 }
 
-fn ends(net: &Net) -> u64 {
+fn ends<N: Network>(net: &N) -> u64 {
     let mut sum = Sum::default();
-    for from in 0..net.nodes.len() as u32 {
-        for to in net.ends(from) {
-            sum.add(net.nodes[to as usize].value);
+    for from in 0..net.node_count() as u32 {
+        for to in far_ends(net, from) {
+            sum.add(net.value(to));
         }
     }
     sum.0
 }
 
-fn search(net: &Net, start: u32) -> u64 {
-    let mut seen = vec![false; net.nodes.len()];
+fn search<N: Network>(net: &N, start: u32) -> u64 {
+    let mut seen = vec![false; net.node_count()];
     let mut left = VecDeque::from([start]);
     let mut sum = Sum::default();
     seen[start as usize] = true;
     while let Some(node) = left.pop_front() {
-        sum.add(net.nodes[node as usize].value);
-        for to in net.ends(node) {
+        sum.add(net.value(node));
+        for to in far_ends(net, node) {
             if !std::mem::replace(&mut seen[to as usize], true) {
                 left.push_back(to);
             }
@@ -122,10 +171,10 @@ fn search(net: &Net, start: u32) -> u64 {
     sum.0
 }
 
-fn churn(net: &mut Net, edges: &mut [u32]) -> u64 {
+fn churn<N: Network>(net: &mut N, edges: &mut [u32]) -> u64 {
     let mut sum = Sum::default();
     for edge in edges {
-        let [from, to] = net.edges[*edge as usize].ends;
+        let [from, to] = net.ends(*edge);
         let value = net.remove_edge(*edge);
         sum.add(value);
         *edge = net.add_edge(from, to, value.wrapping_add(1));
@@ -133,16 +182,20 @@ fn churn(net: &mut Net, edges: &mut [u32]) -> u64 {
     sum.0
 }
 
-pub fn workload(operation: Operation, n: u64, rounds: u64) -> u64 {
-    let (mut net, mut edges) = filled(n);
+pub fn workload_of<N: Network>(operation: Operation, n: u64, rounds: u64) -> u64 {
+    let (mut net, mut edges) = filled::<N>(n);
     let mut sum = Sum::default();
     for _ in 0..rounds {
         sum.add(match operation {
-            Operation::Build => filled(n).0.edge_count,
+            Operation::Build => filled::<N>(n).0.edge_count(),
             Operation::Ends => ends(&net),
             Operation::Search => search(&net, 0),
             Operation::Churn => churn(&mut net, &mut edges),
         });
     }
     sum.0
+}
+
+pub fn workload(operation: Operation, n: u64, rounds: u64) -> u64 {
+    workload_of::<Net>(operation, n, rounds)
 }

@@ -13,6 +13,7 @@ mod folded;
 mod graph;
 mod list;
 mod operations;
+mod ordered;
 mod primary;
 mod scene;
 mod scheduler;
@@ -55,6 +56,7 @@ fn rust_bench(map: u32, operation: u32, n: u64, rounds: u64) -> Option<u64> {
         13 => Some(scheduler::workload(Scheduler::of_number(operation)?, n, rounds)),
         14 => columns::workload(primary?, n, rounds),
         15 => world::workload(World::of_number(operation)?, n, rounds),
+        16 => Some(ordered::workload(Graph::of_number(operation)?, n, rounds)),
         _ => None,
     }
 }
