@@ -31,8 +31,8 @@ fn relink<V>(slots: &mut [Slot<V>], before: u32, after: u32, to: u32, from: u32)
 }
 
 // The next four functions make the links of vacant slots ready for one more, which isn't vacant yet:
-// as soon as it gets the links that are returned, it has joined the blocks. So a slot is written once,
-// after all others.
+// as soon as it gets the links that are returned, it has joined the blocks. So its links are written
+// once, after all others.
 
 // Neither neighbour is vacant: a new block, at the end of the list.
 #[inline(always)]

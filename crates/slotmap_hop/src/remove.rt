@@ -49,10 +49,11 @@ impl<K: Key, V: Drop> HopSlotMap<K, V> {
         self.live_count -= 1;
         let slots = self.slots.as_mut_slice();
         let value = retire(slots, index);
-        if version < u32::MAX {
-            self.vacant_count += 1;
-            join(slots, index, version + 1);
+        if version == u32::MAX {
+            return value;
         }
+        self.vacant_count += 1;
+        join(slots, index, version + 1);
         value
     }
 }

@@ -5,7 +5,7 @@ use Rattle.slotmap_hop.specs.Slots.{all_links, places_of}
 use Rattle.slotmap_hop.specs.Links.{CanVacate}
 use Rattle.slotmap_hop.proofs.SlotReads.{none_retired, length-places}
 use Rattle.slotmap_hop.proofs.SettledLemmas.{Took, held, took_last, took_other}
-use Rattle.slotmap_hop.proofs.LiveSlots.{Present, live_key, elems_positive, vacant_below, can_free}
+use Rattle.slotmap_hop.proofs.LiveSlots.{Present, elems_positive, vacant_below, can_free}
 use Rattle.slotmap_hop.proofs.HopSlotMap.take_live.Goals.{After-self, After-retire-value, After-join}
 use Rattle.slotmap_hop.proofs.HopSlotMap.take_live.Goals as goal
 
@@ -31,19 +31,15 @@ last g c found is_last =
     took_last c.self.inside c.self.view_is c.self.invariant found c.retire-value.result c.retire-value.new.slots
     (rw seen at did.value) is_last (rw seen at did.all_links) (rw seen at did.places)
 
-pub invariant_of-self-else-version-lt4294967295 : goal.invariant_of-self-else-version-lt4294967295
-invariant_of-self-else-version-lt4294967295 g c =
-    let at = goal.at.invariant_of-self-else-version-lt4294967295 g c in
-    let found = found g at.After-self in
-    let fits = (live_key _ _ _ c.self.invariant _ _ _ found.index).version_fits in
-    (last g at.After-retire-value found (omega (arith, fits, c.if-version-lt4294967295.false))).sound_after
+pub invariant_of-self : goal.invariant_of-self
+invariant_of-self g c =
+    let at = goal.at.invariant_of-self g c in
+    (last g at.After-retire-value (found g at.After-self) c.if-version.true).sound_after
 
-pub returns-else-version-lt4294967295 : goal.returns-else-version-lt4294967295
-returns-else-version-lt4294967295 g c =
-    let at = goal.at.returns-else-version-lt4294967295 g c in
-    let found = found g at.After-self in
-    let fits = (live_key _ _ _ c.self.invariant _ _ _ found.index).version_fits in
-    let took = last g at.After-retire-value found (omega (arith, fits, c.if-version-lt4294967295.false)) in
+pub returns-then-version : goal.returns-then-version
+returns-then-version g c =
+    let at = goal.at.returns-then-version g c in
+    let took = last g at.After-retire-value (found g at.After-self) c.if-version.true in
     record { value = took.value; removes = took.removes; blocks = took.blocks; valid = took.valid }
 
 pub overflow_add-self : goal.overflow_add-self
@@ -73,16 +69,16 @@ other g c found retired same =
     let did = c.join.ensures in
     let vacant = Vacant (c.version-version.result + 1 + 1) in
     took_other c.self.inside c.self.view_is c.self.invariant found c.retire-value.result c.join.new.slots
-    (rw seen at c.retire-value.ensures.value) (λ same. absurd (omega (arith, same, c.if-version-lt4294967295.true))) did.blocks.list (rw same at did.blocks.are)
+    (rw seen at c.retire-value.ensures.value) c.if-version.false did.blocks.list (rw same at did.blocks.are)
     (did.places ∙ ap (λ ps. set ps c.idx-index.result vacant) retired ∙ set-set (places_of c.self.inside.slots.items) c.idx-index.result Retired vacant)
 
-pub invariant_of-self : goal.invariant_of-self
-invariant_of-self g c =
-    let at = goal.at.invariant_of-self g c in
+pub invariant_of-self-2 : goal.invariant_of-self-2
+invariant_of-self-2 g c =
+    let at = goal.at.invariant_of-self-2 g c in
     (other g at.After-join (found g at.After-self) (retired g at.After-retire-value) (same_links g at.After-retire-value)).sound_after
 
-pub returns-then-version-lt4294967295 : goal.returns-then-version-lt4294967295
-returns-then-version-lt4294967295 g c =
-    let at = goal.at.returns-then-version-lt4294967295 g c in
+pub returns : goal.returns
+returns g c =
+    let at = goal.at.returns g c in
     let took = other g at.After-join (found g at.After-self) (retired g at.After-retire-value) (same_links g at.After-retire-value) in
     record { value = took.value; removes = took.removes; blocks = took.blocks; valid = took.valid }
