@@ -41,7 +41,8 @@ module _ {V : Type 0} where
   pub hop_stays : {old new : HopContent V} → StaysHop old new → StaysValid true old.content new.content
   hop_stays valid = record { before = valid.before.valid; after = valid.after.valid; capacity = valid.capacity }
 
-  pub hop_grows : {old new : HopContent V} {K E : Type 0} (answer : Result K E) → GrowsHop old new → OnErr answer (Keeps old.content new.content) → MayGrow true old.content (IsErr answer) new.content
+  pub hop_grows : {old new : HopContent V} {K E : Type 0} (answer : Result K E) → GrowsHop old new → OnErr answer (Keeps old.content new.content)
+      → MayGrow true old.content (IsErr answer) new.content
   hop_grows {old} {new} answer valid unchanged = record {
     before = valid.before.valid;
     after = valid.after.valid;

@@ -36,7 +36,8 @@ pub use Rattle.slotmap_core.specs.Written.{Writes, WritesClones, Restores}
 pub use Rattle.slotmap_core.specs.ListRead.{ReadsAs}
 pub use Rattle.slotmap.specs.KeysAlone.{keys_of, without_values, keys_code}
 -- a map whose values are packed: its model is a content with the live keys and their values in packed order
-pub use Rattle.slotmap_dense.specs.Dense.{Dense, dense_code, IsDense, ListsPairs, IsEmpty, SameOrder, ClonesInOrder, Appends, ClosesGap, TakesLast, FreesFromBack, value_of, with_value_of, with_values_in}
+pub use Rattle.slotmap_dense.specs.Dense.{Dense, dense_code, IsDense, ListsPairs, IsEmpty, SameOrder, ClonesInOrder, Appends, ClosesGap, TakesLast}
+pub use Rattle.slotmap_dense.specs.Dense.{FreesFromBack, value_of, with_value_of, with_values_in}
 pub use Rattle.slotmap_dense.specs.Lends.{KeyMembers}
 pub use Rattle.slotmap_dense.specs.Call.{StaysDense, GrowsDense, MakesDenseRoom}
 pub use Rattle.slotmap_dense.specs.Retain.{RetainsPacked}

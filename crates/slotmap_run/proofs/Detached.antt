@@ -1,10 +1,8 @@
 -- No later insert returns a detached key, and it can be reattached.
-use Rattle.std.specs.FinMap as map
 use Rattle.std.specs.FinSet as set
-use Rattle.std.proofs.Common.{◌≡◌, ◌⊎◌, Ok, List, Some, true, false, arith}
+use Rattle.std.proofs.Common.{◌≡◌, ◌⊎◌, List, Some, true, false, arith}
 use Rattle.slotmap_core.proofs.Common.{State, RunGiven, DetachStep, DetachedNotReissued, DetachedReattaches, ReattachBinds, Spares}
 use Rattle.slotmap_core.proofs.Common.{keys_total, exact_keys, itself}
-use Rattle.slotmap_core.specs.declared.commands.Command.TheVariants as command
 use Rattle.slotmap_core.specs.declared.commands.DetachCommand.{DetachCommand}
 use Rattle.slotmap_core.specs.declared.commands.DetachCommand.TheVariants as detaching
 use Rattle.slotmap_core.specs.declared.commands.Reply.{Reply}
@@ -36,10 +34,6 @@ module _ {K V R E : Type 0} (given : RunGiven K V R E) where
       let still = run_keeps_by (DetachStep given) (λ s. set.contains s.detached (given.data_of key) ≡ true) (Spares given.data_of (given.data_of key))
       (λ old c r new spares step. detached_stays given old c r new step (given.data_of key) spares) ds ss first.1 second.0 spares second.2 aside in
       answered second.0 key w answer second.1 still second.3
-
-  replaces : (old : State V) (key : K) (w u : V) (answer : Reply K V R E) (new : State V) → map.get old.live (given.data_of key) ≡ Some w
-      → DetachStep given old (detaching.Plain (command.Replace key u)) answer new → answer ≡ reply.Put (Ok w)
-  replaces old key w u answer new found step = grind arith
 
   pub reattach_binds : (commands : List (DetachCommand K V)) (replies : List (Reply K V R E)) → RunsWell (DetachStep given) commands replies → ReattachBinds commands replies
   reattach_binds commands replies well cs ds rs ss key w u answer e is js = grind (arith, run_split, changes)

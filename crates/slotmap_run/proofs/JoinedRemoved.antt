@@ -70,9 +70,6 @@ module _ {K V W R : Type 0} (given : JoinedGiven K W R) where
       gone = kept (λ s. Gone s (given.data_of was.key)) (gone_stays (detach_machine (closed given)) (given.data_of was.key)) old c r new step was.gone;
     }
 
-    not_found : NamesGone n old → JoinedFindsNothing n c r
-    not_found was = grind (arith, was.names, was.gone.not_standing)
-
     removes : (v : V) → c ≡ detaching.Plain (command.Remove n) → r ≡ reply.Taken (Some v) → IsGood old.primary → NamesGone n new
     removes v is_c is_r good =
         let taken = subst (λ x. JoinedDetachStep given old c x new) is_r step in

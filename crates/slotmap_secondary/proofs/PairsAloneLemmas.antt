@@ -1,8 +1,8 @@
 -- What a change of the pairs alone keeps.
 use Rattle.std.specs.FinMap as map
-use Rattle.std.proofs.Common.{◌≡◌, ◌<◌, ℕ, None, true, false, is_some, refl, ap, ◌∙◌, arith}
+use Rattle.std.proofs.Common.{◌≡◌, ℕ, None, true, false, is_some, refl, ap, ◌∙◌, arith}
 use Rattle.slotmap_core.proofs.Common.{Key, Pairs, contains_key, value_at, get_after_insert, IsSecondary-again, len_again}
-use Rattle.slotmap_core.proofs.Common.{get_bound, bind_twice, in_own, pair_of}
+use Rattle.slotmap_core.proofs.Common.{get_bound, bind_twice, in_own}
 use Rattle.slotmap_secondary.specs.declared.entry.Entry.TheVariants.{Occupied}
 use Rattle.slotmap_secondary.specs.declared.entry.OccupiedEntry.{OccupiedEntry}
 use Rattle.slotmap_secondary.specs.Entry.{IsWritten, occupied_with}
@@ -15,9 +15,6 @@ module _ {V : Type 0} where
   -- no key of a vacant index is in the map
   pub absent : (m : Pairs V) (i : ℕ) → map.get m i ≡ None → (q : Key) → q.index ≡ i → contains_key m q ≡ false
   absent m i none q at = ap (λ o. is_some (value_at q.version o)) (ap (map.get m) at ∙ none)
-
-  pub key_within : (c : SideContent V) → IsSideContent c → (q : Key) → contains_key c.pairs q ≡ true → q.index < c.places
-  key_within c well q has = let p = pair_of c.pairs q has in well.within q.index p.0 p.1
 
   -- two changes of the pairs alone are together a change of the pairs alone
   pub keeps_on : (a b c : SideContent V) (m : Pairs V) → b ≡ record a { pairs = b.pairs } → c ≡ record b { pairs = m } → c ≡ record a { pairs = c.pairs }

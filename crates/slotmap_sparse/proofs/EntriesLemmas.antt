@@ -29,7 +29,8 @@ module _ {V : Type 0} where
   found_pair es p is q = sym (get-pairs es q) ∙ ap (λ (x : Pairs V). map.get x q) is
 
   -- what a look-up of an index finds is at the index of the key
-  pub stands_at : {S : Type 0} (m : HashMap ℕ (ℕ × V) S) (c : SparseContent V) → content_of m ≡ c → (k : Key) (i : ℕ) → i ≡ k.index → (o : Option (ℕ × V)) → lookup (nat_eq i) m.entries ≡ o
+  pub stands_at : {S : Type 0} (m : HashMap ℕ (ℕ × V) S) (c : SparseContent V) → content_of m ≡ c → (k : Key) (i : ℕ) → i ≡ k.index → (o : Option (ℕ × V))
+      → lookup (nat_eq i) m.entries ≡ o
       → map.get c.pairs k.index ≡ o
   stands_at m c is k i at o found = sym (found_pair m.entries c.pairs (ap (λ (x : SparseContent V). x.pairs) is) i ∙ ap (map.get c.pairs) at) ∙ found
 
@@ -45,13 +46,16 @@ module _ {V : Type 0} where
   pub same_pairs : (es fs : Entries V) → ((q : ℕ) → lookup (nat_eq q) fs ≡ lookup (nat_eq q) es) → pairs_of fs ≡ pairs_of es
   same_pairs es fs same = map.same_map nat_cmp_total exact_unsigned _ _ (λ q. get-pairs fs q ∙ same q ∙ sym (get-pairs es q))
 
-  pub pairs_put : (es fs : Entries V) (k : ℕ) (p : ℕ × V) → ((q : ℕ) → lookup (nat_eq q) fs ≡ cond (nat_eq k q) (Some p) (lookup (nat_eq q) es)) → pairs_of fs ≡ map.insert (pairs_of es) k p
+  pub pairs_put : (es fs : Entries V) (k : ℕ) (p : ℕ × V) → ((q : ℕ) → lookup (nat_eq q) fs ≡ cond (nat_eq k q) (Some p) (lookup (nat_eq q) es))
+      → pairs_of fs ≡ map.insert (pairs_of es) k p
   pairs_put es fs k p h =
-      map.same_map nat_cmp_total exact_unsigned _ _ (λ q. get-pairs fs q ∙ h q ∙ (λ i. cond (turned k q i) (Some p) (sym (get-pairs es q) i)) ∙ sym (map.get-insert nat_cmp_total (pairs_of es) k p q))
+      map.same_map nat_cmp_total exact_unsigned _ _ (λ q.
+      get-pairs fs q ∙ h q ∙ (λ i. cond (turned k q i) (Some p) (sym (get-pairs es q) i)) ∙ sym (map.get-insert nat_cmp_total (pairs_of es) k p q))
 
   pub pairs_taken : (es fs : Entries V) (k : ℕ) → ((q : ℕ) → lookup (nat_eq q) fs ≡ cond (nat_eq k q) None (lookup (nat_eq q) es)) → pairs_of fs ≡ map.remove (pairs_of es) k
   pairs_taken es fs k h =
-      map.same_map nat_cmp_total exact_unsigned _ _ (λ q. get-pairs fs q ∙ h q ∙ (λ i. cond (turned k q i) None (sym (get-pairs es q) i)) ∙ sym (map.get-remove nat_cmp_total (pairs_of es) k q))
+      map.same_map nat_cmp_total exact_unsigned _ _ (λ q.
+      get-pairs fs q ∙ h q ∙ (λ i. cond (turned k q i) None (sym (get-pairs es q) i)) ∙ sym (map.get-remove nat_cmp_total (pairs_of es) k q))
 
   none_there : (e : ℕ × (ℕ × V)) (es : Entries V) → IsDistinct nat_eq (keys_of (e ∷ es)) → map.contains_key (pairs_of es) e.0 ≡ false
   none_there e es h = ap is_some (get-pairs es e.0 ∙ lookup-none (nat_eq e.0) es (none_past_head nat_eq_equiv e.0 e es h (nat_eq_equiv.refl e.0)))
@@ -80,7 +84,8 @@ module _ {V : Type 0} where
   spare_room m c is sound = grind (arith, same_len)
 
   -- so with no fewer spare entries there is memory for no fewer keys
-  pub more_room : {S : Type 0} (m n : HashMap ℕ (ℕ × V) S) (c : SparseContent V) → content_of m ≡ c → IsSound m.entries → IsSound n.entries → spare m ≤ spare n → room c ≤ room (content_of n)
+  pub more_room : {S : Type 0} (m n : HashMap ℕ (ℕ × V) S) (c : SparseContent V) → content_of m ≡ c → IsSound m.entries → IsSound n.entries
+      → spare m ≤ spare n → room c ≤ room (content_of n)
   more_room m n c is sound after more = omega (arith, spare_room m c is sound, spare_room n (content_of n) refl after, more)
 
   pub IsSound-empty : (es : Entries V) → IsDistinct nat_eq (keys_of es) → es ≡ [] → IsSound es
@@ -91,11 +96,13 @@ module _ {V : Type 0} where
   IsSound-same es fs sound unique same = record { unique = unique; keys = subst (λ (x : Pairs V). IsSecondary x) (sym same) sound.keys }
 
   -- with a key put
-  IsSound-put : (es fs : Entries V) → IsSound es → IsDistinct nat_eq (keys_of fs) → (k : Key) (v : V) → IsKey k → is_null k ≡ false → pairs_of fs ≡ bind (pairs_of es) k v → IsSound fs
+  IsSound-put : (es fs : Entries V) → IsSound es → IsDistinct nat_eq (keys_of fs) → (k : Key) (v : V) → IsKey k → is_null k ≡ false
+      → pairs_of fs ≡ bind (pairs_of es) k v → IsSound fs
   IsSound-put es fs sound unique k v is key put = record { unique = unique; keys = subst (λ (x : Pairs V). IsSecondary x) (sym put) (IsSecondary-bind (pairs_of es) k v sound.keys is key) }
 
   -- with an entry under the index and the version of a key, where the hash map had none
-  pub IsSound-added : (es fs : Entries V) → IsSound es → IsDistinct nat_eq (keys_of fs) → (k : Key) (v : V) → IsKey k → is_null k ≡ false → (i version : ℕ) → i ≡ k.index → version ≡ k.version
+  pub IsSound-added : (es fs : Entries V) → IsSound es → IsDistinct nat_eq (keys_of fs) → (k : Key) (v : V) → IsKey k → is_null k ≡ false → (i version : ℕ)
+      → i ≡ k.index → version ≡ k.version
       → ((q : ℕ) → lookup (nat_eq q) fs ≡ cond (nat_eq i q) (Some (version, v)) (lookup (nat_eq q) es)) → IsSound fs
   IsSound-added es fs sound unique k v is key i version at named updates =
       IsSound-put es fs sound unique k v is key (pairs_put es fs i (version, v) updates ∙ (λ j. map.insert (pairs_of es) (at j) (named j, v)))

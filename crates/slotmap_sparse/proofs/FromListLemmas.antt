@@ -1,9 +1,9 @@
 -- How many slots a map is written as, and what a map holds that reads a list slot by slot.
 use Rattle.std.specs.FinMap as map
 use Rattle.std.specs.FinSet as set
-use Rattle.std.proofs.Common.{◌≡◌, ◌+◌, ◌-◌, ◌<◌, ◌≤◌, ◌^◌, ◌⊎◌, ◌∷◌, ◌++◌, ℕ, inl, inr, true, List, [], length, slice_get, None, is_some, eq-eqb, refl}
-use Rattle.slotmap_core.proofs.Common.{nat_cmp_total, Key, key_cmp, IsKeyListing, Pairs, contains_key, keyed, slot_pair, ap, subst, ◌∙◌, arith, exact_unsigned}
-use Rattle.slotmap_core.proofs.Common.{slice_get_past, keys_total, exact_keys, tied, untied, contains-keyed, index_stands, get_here, some_is, item_after_insert}
+use Rattle.std.proofs.Common.{◌≡◌, ◌+◌, ◌-◌, ◌<◌, ◌≤◌, ◌^◌, ◌⊎◌, ◌∷◌, ◌++◌, ℕ, true, List, [], length, slice_get, None, is_some, eq-eqb, refl}
+use Rattle.slotmap_core.proofs.Common.{nat_cmp_total, Key, key_cmp, IsKeyListing, Pairs, contains_key, keyed, slot_pair, ap, ◌∙◌, arith, exact_unsigned}
+use Rattle.slotmap_core.proofs.Common.{slice_get_past, keys_total, exact_keys, tied, untied, contains-keyed, get_here, some_is, item_after_insert}
 use Rattle.slotmap_core.proofs.Common.{item_inserted, item_still, slice_get_push, slice_get_push_other}
 use Rattle.slotmap_core.specs.declared.serial.SlotRecord.{SlotRecord}
 use Rattle.slotmap_sparse.specs.Written.{ReachesLargest, with_slot}
@@ -22,13 +22,7 @@ module _ {V : Type 0} where
 
   module _ (m : Pairs V) (k : Key) (rest : List Key) (count : ℕ) (before : Counts m (k ∷ rest) count) where
     later : (more : ℕ) → count ≤ more → k.index < more → (q : Key) → contains_key m q ≡ true → (q.index < more) ⊎ (set.contains (set.from_list {R = key_cmp} rest) q ≡ true)
-    later more grows above q has = elim (before.covered q has) [
-      | inl less ↦ inl (omega arith)
-      | inr in_list ↦ elim (item_after_insert keys_total exact_keys (set.from_list rest) k q in_list) [
-        | inl same ↦ inl (omega (arith, ap (λ x. x.index) same))
-        | inr in_rest ↦ inr in_rest
-      ]
-    ]
+    later more grows above q has = grind (arith, item_after_insert keys_total)
 
     still : (q : Key) → set.contains (set.from_list {R = key_cmp} rest) q ≡ true → contains_key m q ≡ true
     still q in_rest = before.there q (item_still keys_total exact_keys (set.from_list rest) k q in_rest)
@@ -37,13 +31,7 @@ module _ {V : Type 0} where
     Counts-less less = record { covered = later count (omega arith) (omega arith); there = still; one = before.one; fits = before.fits; last = before.last }
 
     pub Counts-more : (more : ℕ) → more ≡ k.index + 1 → k.index < 2 ^ 32 → count < more → Counts m rest more
-    Counts-more more is small grows = record {
-      covered = later more (omega arith) (omega (arith, is));
-      there = still;
-      one = omega arith;
-      fits = omega (arith, is);
-      last = inr (subst (λ i. map.contains_key m i ≡ true) (omega (arith, is)) (index_stands m k (before.there k (item_inserted keys_total exact_keys (set.from_list rest) k))));
-    }
+    Counts-more more is small grows = grind (arith, later more, still, item_inserted keys_total exact_keys (set.from_list rest))
 
   pub Counts-end : (m : Pairs V) (count : ℕ) → Counts m [] count → ReachesLargest m count
   Counts-end m count done = record {

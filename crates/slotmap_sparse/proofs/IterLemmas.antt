@@ -1,5 +1,4 @@
 -- The entries of a hash map as keys with their values.
-use Rattle.std.specs.FinSet as set
 use Rattle.std.specs.FinMap as map
 use Rattle.std.proofs.Common.{◌≡◌, ◌∷◌, ℕ, true, false, cond, nat_eq, eqb-true, List, [], length, Some, None, refl, sym, ap, ◌∙◌, nat_cmp, arith}
 use Rattle.slotmap_core.proofs.Common.{YieldsFirstBy, IsDistinct, AllByRecursion, nat_eq_equiv, unsigned_tied, find, lookup, keys_of, Key, key_cmp, IsListing}
@@ -66,9 +65,7 @@ module _ {V : Type 0} where
   module _ {K : Type 0} (data_of : K → Key) (m : Pairs V) (keys rest : List Key) (listing : IsKeyListing (keyed m) keys) where
     -- the first key of a listing is in the map
     pub listed_key : (key : K) → YieldsFirstBy data_of (λ x. x) keys (Some key) rest → contains_key m (data_of key) ≡ true
-    listed_key key steps =
-        sym (contains-keyed m (data_of key)) ∙ sym (listing.all (data_of key)) ∙ ap (λ ks. set.contains (set.from_list {R = key_cmp} ks) (data_of key)) steps
-        ∙ item_inserted keys_total exact_keys (set.from_list rest) (data_of key)
+    listed_key key steps = grind (arith, contains-keyed, item_inserted keys_total exact_keys)
 
     -- and if there is none, the map is empty
     pub listed_none : YieldsFirstBy data_of (λ x. x) keys None rest → m ≡ map.empty

@@ -2,7 +2,7 @@
 use Rattle.std.specs.FinMap as map
 use Rattle.std.proofs.Common.{◌≡◌, ◌+◌, ◌∷◌, ◌++◌, ℕ, Bool, cond, nat_eq, List, [], length, Some, None, is_some, refl, sym, ap, subst, ◌∙◌, arith}
 use Rattle.slotmap_core.specs.Words.{MutBor}
-use Rattle.slotmap_core.proofs.Common.{nat_eq_equiv, Mut, FoldsTo, IsDistinct, keys_of, RetainsPairs, SomeCallAtPair, Key, IsKey, key_cmp, IsListing}
+use Rattle.slotmap_core.proofs.Common.{nat_eq_equiv, Mut, FoldsTo, IsDistinct, keys_of, RetainsPairs, SomeCallAtPair, Key, IsKey, key_cmp}
 use Rattle.slotmap_core.proofs.Common.{IsListingBut, with_entries, Visit, CallsAt, RetainsBy, MayCome, seen, kept, Pairs, keyed, keyed_entry, value_at}
 use Rattle.slotmap_core.proofs.Common.{lookup_head, key_from-odd, get-keyed, Visits-rest}
 use Rattle.slotmap_sparse.specs.Entries.{pairs_of, IsSound, VisitsPair}
@@ -29,21 +29,17 @@ module _ {V : Type 0} where
   len_split [] ys = omega arith
   len_split (x ∷ xs) ys = omega (arith, len_split xs ys)
 
-  listed_before : (xs ys : List (ℕ × (ℕ × V))) (p : Pairs V) → pairs_of (xs ++ ys) ≡ p → IsDistinct nat_eq (keys_of (xs ++ ys)) → IsListingBut (keyed p) (key_pairs xs) (keyed (pairs_of ys))
-  listed_before xs ys p is unique =
-      let all = listing (xs ++ ys) p is unique in
-      let rest = listing ys (pairs_of ys) refl (distinct_from xs ys unique) in
-      record {
-        all = ap (λ m. with_entries m (key_pairs xs)) (sym rest.all) ∙ sym (with_first xs ys) ∙ all.all;
-        once = omega (arith, all.once, rest.once, len_split xs ys);
-      }
+  listed_before : (xs ys : List (ℕ × (ℕ × V))) (p : Pairs V) → pairs_of (xs ++ ys) ≡ p → IsDistinct nat_eq (keys_of (xs ++ ys))
+      → IsListingBut (keyed p) (key_pairs xs) (keyed (pairs_of ys))
+  listed_before xs ys p is unique = grind (arith, listing, listing ys (pairs_of ys), distinct_from xs ys unique, with_first xs ys, len_split xs ys)
 
   first_there : (e : ℕ × (ℕ × V)) (es : List (ℕ × (ℕ × V))) → map.get (keyed (pairs_of (e ∷ es))) (keyed_entry e).0 ≡ Some e.1.1
   first_there e es =
       get-keyed (pairs_of (e ∷ es)) (keyed_entry e).0 ∙ ap (value_at e.1.0) (get-pairs (e ∷ es) e.0 ∙ lookup_head (nat_eq e.0) e es (nat_eq_equiv.refl e.0))
       ∙ ap (λ b. cond b (Some e.1.1) None) (nat_eq_equiv.refl e.1.0)
 
-module _ {F G K V : Type 0} (g : Mut F (K × (MutBor V × Unit {0})) (Bool × (MutBor V × Unit {0}))) (data_of : K → Key) (T : G → ℕ → ℕ × V → Bool → ℕ × V → G → Type 0) (state : G → F) where
+module _ {F G K V : Type 0} (g : Mut F (K × (MutBor V × Unit {0})) (Bool × (MutBor V × Unit {0}))) (data_of : K → Key)
+    (T : G → ℕ → ℕ × V → Bool → ℕ × V → G → Type 0) (state : G → F) where
   -- a call on an entry shows the key and the value, and keeps the version
   abbrev pub ShowsEach : Type 0
   ShowsEach = (c : G) (i : ℕ) (p : ℕ × V) (b : Bool) (q : ℕ × V) (d : G) → T c i p b q d → VisitsPair g data_of (state c) i p b q (state d)
@@ -76,7 +72,8 @@ module _ {F G K V : Type 0} (g : Mut F (K × (MutBor V × Unit {0})) (Bool × (M
       }
 
   -- the closure comes to an entry as the calls on those before it left it, and the entry is one of the map
-  pub comes_to : ShowsEach → (c d : G) (xs ys : List (ℕ × (ℕ × V))) (e : ℕ × (ℕ × V)) (p : Pairs V) → pairs_of (xs ++ e ∷ ys) ≡ p → IsSound (xs ++ e ∷ ys) → FoldsTo (SomeCallAtPair T) c xs d
+  pub comes_to : ShowsEach → (c d : G) (xs ys : List (ℕ × (ℕ × V))) (e : ℕ × (ℕ × V)) (p : Pairs V) → pairs_of (xs ++ e ∷ ys) ≡ p → IsSound (xs ++ e ∷ ys)
+      → FoldsTo (SomeCallAtPair T) c xs d
       → IsOfKey e × MayCome g data_of (state c) (keyed p) (keyed_entry e).0 (state d) × (map.get (keyed p) (keyed_entry e).0 ≡ Some e.1.1)
   comes_to shows c d xs ys e p is sound run =
       let of = of_split xs (e ∷ ys) (of_keys (xs ++ e ∷ ys) sound) in
@@ -91,7 +88,9 @@ module _ {F G K V : Type 0} (g : Mut F (K × (MutBor V × Unit {0})) (Bool × (M
       )
 
   pub visited : ShowsEach → (c : G) (es left : List (ℕ × (ℕ × V))) → AreOfKeys es → RetainsPairs T c es left → Visited c es left
-  visited shows c [] left of run = record { visits = []; last = state c; calls = refl; saw = refl; stay = ap key_pairs (sym run); of = subst (λ (x : List (ℕ × (ℕ × V))). AreOfKeys x) (sym run) tt }
+  visited shows c [] left of run =
+      let none = subst (λ (x : List (ℕ × (ℕ × V))). AreOfKeys x) (sym run) tt in
+      record { visits = []; last = state c; calls = refl; saw = refl; stay = ap key_pairs (sym run); of = none }
   visited shows c (e ∷ es) left of run =
       let b = run.0 in
       let w = run.1 in
@@ -115,16 +114,9 @@ module _ {F G K V : Type 0} (g : Mut F (K × (MutBor V × Unit {0})) (Bool × (M
 
   pub retains_by : (c : G) (es left : List (ℕ × (ℕ × V))) (p : Pairs V) → pairs_of es ≡ p → IsDistinct nat_eq (keys_of es)
       → IsDistinct nat_eq (keys_of left) → Visited c es left → RetainsBy g data_of (state c) (keyed p) (keyed (pairs_of left))
-  retains_by c es left p is unique still done = record {
-    visits = done.visits;
-    last = done.last;
-    calls = done.calls;
-    listed = subst (λ (x : List (Key × V)). IsListing (keyed p) x) (sym done.saw) (listing es p is unique);
-    stay = sym (listing left (pairs_of left) refl still).all ∙ ap map.from_entries (sym done.stay);
-  }
+  retains_by c es left p is unique still done = grind (arith, listing es p is unique, listing left)
 
 module _ {F K V : Type 0} (g : Mut F (K × (MutBor V × Unit {0})) (Bool × (MutBor V × Unit {0}))) (data_of : K → Key) where
   -- what one call on an entry says of the entry itself
   pub shown_at : (i j : ℕ) (p p' q q' : ℕ × V) (b : Bool) (f f' : F) → j ≡ i → p' ≡ p → q' ≡ q → VisitsPair g data_of f j p' b q' f' → VisitsPair g data_of f i p b q f'
-  shown_at i j p p' q q' b f f' at before after visits = subst (λ (n : ℕ). VisitsPair g data_of f n p b q f') at
-      (subst (λ (x : ℕ × V). VisitsPair g data_of f j x b q f') before (subst (λ (y : ℕ × V). VisitsPair g data_of f j p' b y f') after visits))
+  shown_at i j p p' q q' b f f' at before after visits = grind arith

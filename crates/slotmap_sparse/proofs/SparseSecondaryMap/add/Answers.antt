@@ -8,7 +8,8 @@ invariant_of-self g c =
     let key = c.data-key.ensures.value in
     let at = c.idx.ensures.value ∙ ap (λ k. k.index) key in
     let version = c.version.ensures.value ∙ ap (λ k. k.version) key in
-    IsSound-added _ _ c.self.invariant c.insert.ensures.unique (g.K.Key.data_of c.args.key) c.args.value (subst IsKey key c.data-key.ensures.valid) c.requires.not_null _ _ at version c.in-Ok.ensures.updates.0
+    let is_key = subst IsKey key c.data-key.ensures.valid in
+    IsSound-added _ _ c.self.invariant c.insert.ensures.unique (g.K.Key.data_of c.args.key) c.args.value is_key c.requires.not_null _ _ at version c.in-Ok.ensures.updates.0
 
 pub returns-in-Ok-clause-ok : goal.returns-in-Ok-clause-ok
 returns-in-Ok-clause-ok g c = grind (arith, common_steps, pairs_put)
@@ -20,9 +21,7 @@ pub returns-in-Ok-clause-valid : goal.returns-in-Ok-clause-valid
 returns-in-Ok-clause-valid g c = well_formed c.insert.new.self _ refl (invariant_of-self g c)
 
 pub returns-clause-room : goal.returns-clause-room
-returns-clause-room g c enough =
-    let had = same_len _ _ (ap (λ m. m.pairs) c.self.view_is) c.self.invariant in
-    c.in-Err.ensures.succeeds (omega (arith, enough, had, ap (λ m. m.capacity) c.self.view_is))
+returns-clause-room g c enough = grind (arith, same_len)
 
 pub returns-clause-valid : goal.returns-clause-valid
 returns-clause-valid g c = well_formed c.insert.new.self _ refl (rw c.in-Err.ensures.err c.self.invariant)

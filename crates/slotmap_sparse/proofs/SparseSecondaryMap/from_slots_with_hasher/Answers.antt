@@ -1,5 +1,5 @@
 use Rattle.std.specs.FinMap as map
-use Rattle.slotmap_core.proofs.Common.{side_list_limit, Accepts, refl, ap, subst, ◌∙◌, arith, length_push, slice_get_within, contents_by_place, Taking-next}
+use Rattle.slotmap_core.proofs.Common.{side_list_limit, Accepts, refl, subst, arith, length_push, slice_get_within, contents_by_place, Taking-next}
 use Rattle.slotmap_core.proofs.Common.{Taking-here, Taking-end, common_steps}
 use Rattle.slotmap_sparse.proofs.FromListLemmas.{Read, Read-absent, Read-slot}
 use Rattle.slotmap_sparse.proofs.SparseSecondaryMap.from_slots_with_hasher.Goals as goal
@@ -8,15 +8,10 @@ pub loop-slot-init : goal.loop-slot-init
 loop-slot-init g c = grind (arith, common_steps, map.get-empty)
 
 pub read-requires-clause-odd : goal.read-requires-clause-odd
-read-requires-clause-odd g c some =
-    let accepted = subst (λ l. Accepts l side_list_limit) c.deref.ensures.value (c.in_ok-check_slots.ensures.ok.0 refl) in
-    let here = Taking-here c.loop-slot.invariant.taking c.in-Some.ensures.steps.0 in
-    (accepted.consistent _ c.in-Some.slot (slice_get_within c.args.list.items _ _ here) here).0 some
+read-requires-clause-odd g c some = grind (arith, Taking-here c.loop-slot.invariant.taking, slice_get_within)
 
 pub read-requires-clause-absent : goal.read-requires-clause-absent
-read-requires-clause-absent g c =
-    let at = c.loop-slot in
-    ap (map.get at.made.pairs) at.invariant.at ∙ Read-absent at.yielded at.made.pairs at.invariant.read c.in-Some.slot
+read-requires-clause-absent g c = grind (arith, Read-absent)
 
 pub loop-slot-preserved : goal.loop-slot-preserved
 loop-slot-preserved g c = grind (arith, common_steps, Taking-next, length_push, Read-slot)

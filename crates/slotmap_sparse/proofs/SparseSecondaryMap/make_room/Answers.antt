@@ -17,9 +17,7 @@ pub returns-clause-capacity : goal.returns-clause-capacity
 returns-clause-capacity g c = omega (arith, c.reserve.ensures.entries.1, c.reserve.ensures.spare, ap (λ m. m.capacity) c.self.view_is)
 
 pub returns-clause-room : goal.returns-clause-room
-returns-clause-room g c enough =
-    let had = same_len _ _ (ap (λ m. m.pairs) c.self.view_is) c.self.invariant in
-    c.reserve.ensures.succeeds (omega (arith, enough, had, ap (λ m. m.capacity) c.self.view_is))
+returns-clause-room g c enough = grind (arith, same_len)
 
 pub returns-clause-valid : goal.returns-clause-valid
 returns-clause-valid g c = well_formed c.reserve.new.self _ refl (invariant_of-self g c)

@@ -7,11 +7,7 @@ use Rattle.slotmap_sparse.proofs.SparseSecondaryMap.to_slots.Goals.{After-loop-i
 use Rattle.slotmap_sparse.proofs.SparseSecondaryMap.to_slots.Goals as goal
 
 pub loop-index-init : goal.loop-index-init
-loop-index-init g c = record {
-  long = ap length c.in_ok-slots.ensures.items;
-  copied = rw (c.in_ok-slots.ensures.items) (Copies-start g.V.Clone.is_clone c.args.self.now.pairs);
-  room = omega (arith, c.in_ok-slots.ensures.len, c.in_ok-slots.ensures.capacity);
-}
+loop-index-init g c = grind (arith, Copies-start g.V.Clone.is_clone c.args.self.now.pairs)
 
 pub loop-index-preserved : goal.loop-index-preserved
 loop-index-preserved g c =

@@ -1,13 +1,11 @@
-use Rattle.slotmap_core.proofs.Common.{refl, ap, arith, get_bound, in_own, bind_twice, without_own}
+use Rattle.slotmap_core.proofs.Common.{refl, arith, get_bound, in_own, bind_twice, without_own}
 use Rattle.slotmap_sparse.proofs.entry.Entry.and_modify.Goals as goal
 
 pub returns-in-Occupied-clause-in_place : goal.returns-in-Occupied-clause-in_place
 returns-in-Occupied-clause-in_place g c = in_own c.in-Occupied.entry.map.now.pairs (g.K.Key.data_of c.in-Occupied.entry.key) c.f.new.arg2
 
 pub returns-in-Occupied-clause-same_writes : goal.returns-in-Occupied-clause-same_writes
-returns-in-Occupied-clause-same_writes g c w =
-    let e = c.in-Occupied.entry in
-    rw c.in-Occupied.is (ap (λ m. record e.map.now { pairs = m }) (bind_twice e.map.now.pairs (g.K.Key.data_of e.key) c.f.new.arg2 w))
+returns-in-Occupied-clause-same_writes g c w = grind (arith, bind_twice)
 
 pub returns-in-Occupied-clause-same_removal : goal.returns-in-Occupied-clause-same_removal
 returns-in-Occupied-clause-same_removal g c = grind (arith, without_own, c.requires.in_place)
