@@ -16,7 +16,7 @@ pub mod Growth
 pub mod LiveSlots
 pub mod WellFormed
 pub mod SettledLemmas
-pub mod Runs
+pub mod FreedRuns
 pub mod RoomLemmas
 pub mod HoppingLemmas
 pub mod Iterators

@@ -2,7 +2,7 @@ use Rattle.std.proofs.Common.{◌-◌, vec_capacity, refl, sym, ap, ◌∙◌, a
 use Rattle.slotmap_core.proofs.Common.{is_some, with_items_is, key, get-live_at}
 use Rattle.slotmap_hop.proofs.SettledLemmas.{held}
 use Rattle.slotmap_hop.proofs.LiveSlots.{Present, vacant_below, can_free}
-use Rattle.slotmap_hop.proofs.Runs.{RunsTo, run_removes, live_place}
+use Rattle.slotmap_hop.proofs.FreedRuns.{RunsTo, run_removes, live_place}
 use Rattle.slotmap_hop.proofs.HopSlotMap.clear_run.Goals.{After-self, After-free_run-index}
 use Rattle.slotmap_hop.proofs.HopSlotMap.clear_run.Goals as goal
 

@@ -1,6 +1,6 @@
 use Rattle.std.proofs.Common.{sym, ◌∙◌, arith}
 use Rattle.slotmap_hop.proofs.Joining.{left_tails}
-use Rattle.slotmap_hop.proofs.Runs.{none_freed, runs_on, live_there, live_flag}
+use Rattle.slotmap_hop.proofs.FreedRuns.{none_freed, runs_on, live_there, live_flag}
 use Rattle.slotmap_hop.proofs.blocks.free_run.Goals.{After-free_after}
 use Rattle.slotmap_hop.proofs.blocks.free_run.Goals as goal
 

@@ -1,5 +1,5 @@
 use Rattle.std.proofs.Common.{◌-◌, length}
-use Rattle.slotmap_hop.proofs.Runs.{Running}
+use Rattle.slotmap_hop.proofs.FreedRuns.{Running}
 use Rattle.slotmap_hop.proofs.blocks.free_run.Given as goal
 
 abbrev pub invariant-loop-slots : goal.invariant-loop-slots
