@@ -427,6 +427,7 @@ def world_part(size):
         tell("both", [component for pair in pairs for component in pair])
 
     tell_all(packed)
+    tell("by key", [table[key] for key in keys if key in first and key in second for table in (first, second)])
     despawned = []
     for _ in range(size // 2):
         key = random.pick(keys)

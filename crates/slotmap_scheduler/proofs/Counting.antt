@@ -22,8 +22,14 @@ under_split : (steps at c : ℕ) → c ≤ steps
     → one (is_under steps at c) ≡ one (nat_eq c at) + (one (is_under steps (2 * at + 1) c) + one (is_under steps (2 * at + 2) c))
 under_split zero at c within = grind (arith, nat_tests)
 under_split (suc steps) at c within =
-    grind (arith, nat_tests, under_split steps at (up c), under_after steps at (up c), under_after steps (2 * at + 1) (up c),
-    under_after steps (2 * at + 2) (up c))
+    grind (
+      arith,
+      nat_tests,
+      under_split steps at (up c),
+      under_after steps at (up c),
+      under_after steps (2 * at + 1) (up c),
+      under_after steps (2 * at + 2) (up c),
+    )
 
 pub count-le : (p : ℕ → Bool) (n : ℕ) → count_below p n ≤ n
 count-le p zero = omega arith

@@ -19,8 +19,14 @@ module _ {T : Type 0} (k : Key) where
   pub other_found : (q : Key) (ws : Waiting T) → q ≢ k → job_of q (without k ws) ≡ job_of q ws
   other_found q [] other = refl
   other_found q (e ∷ ws) other =
-      grind (arith, tied keys_total exact_keys k e.0, tied keys_total exact_keys q e.0, itself keys_total exact_keys k, itself keys_total exact_keys q,
-      other_found q ws other)
+      grind (
+        arith,
+        tied keys_total exact_keys k e.0,
+        tied keys_total exact_keys q e.0,
+        itself keys_total exact_keys k,
+        itself keys_total exact_keys q,
+        other_found q ws other,
+      )
 
   none_without : (q : Key) (ws : Waiting T) → job_of q ws ≡ None → job_of q (without k ws) ≡ None
   none_without q [] none = refl
@@ -69,7 +75,7 @@ module _ {T : Type 0} (now : ℕ) where
   due_placed (suc n) handle time ws once len there apart =
       let last = there n (omega arith) in
       let rest = due_placed n handle time (without (handle n) ws) (once_without (handle n) ws once)
-          (let more = len_without (handle n) ws (time n, last.0) once last.1 in omega arith)
+      (let more = len_without (handle n) ws (time n, last.0) once last.1 in omega arith)
       (λ c below. let at = there c (omega arith) in
       (at.0, other_found (handle n) (handle c) ws (λ same. (let one = apart c n (omega arith) (omega arith) same in omega arith)) ∙ at.1))
       (λ c d one two. apart c d (omega arith) (omega arith)) in

@@ -5,24 +5,17 @@
 //! call fails, and 2 where a list is refused and the refused value isn't returned.
 #![tactic(auto)]
 
-mod graphs;
-mod lists;
-mod scenes;
-mod schedules;
-mod tools;
-mod worlds;
-
 use std::env;
 use std::process::ExitCode;
 
 // All structures at one size.
 fn run_size(rt: &HostRuntime, size: u64) -> Option<()> {
     println!(rt; "{size} elements").ok()?;
-    lists::run(rt, size)?;
-    graphs::run(rt, size)?;
-    scenes::run(rt, size)?;
-    schedules::run(rt, size)?;
-    worlds::run(rt, size)
+    list_at_size::run(rt, size)?;
+    graph_at_size::run(rt, size)?;
+    scene_at_size::run(rt, size)?;
+    scheduler_at_size::run(rt, size)?;
+    world_at_size::run(rt, size)
 }
 
 // All structures at each size.

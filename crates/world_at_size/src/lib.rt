@@ -1,6 +1,7 @@
 //! Worlds of numbers, with numbers as components. [`run`] alone names the tables.
+#![tactic(auto)]
 
-use crate::tools::{Random, Sum, tell};
+use size_tools::{Random, Sum, tell};
 use slotmap::{DefaultKey, SecondaryMap, SparseSecondaryMap};
 use slotmap_entities::{CloneTables, First, Kind, Second, Table, Tables, World};
 
@@ -11,14 +12,19 @@ type Two = (
     (SparseSecondaryMap<DefaultKey, u64>, ()),
 );
 
-// Spawns the numbers below `count`.
-fn spawn_all<T: Tables<DefaultKey>>(
-    world: &mut Numbers<T>,
-    keys: &mut Vec<DefaultKey>,
-    count: u64,
-) -> Option<()> {
+// Spawns the numbers below `count`, the even ones with a component: the number, twice.
+fn spawn_all<T, C>(world: &mut Numbers<T>, keys: &mut Vec<DefaultKey>, count: u64) -> Option<()>
+where
+    T: Tables<DefaultKey>,
+    C: Kind<DefaultKey, T>,
+    C::Table: Table<DefaultKey, Component = u64>,
+{
     for number in 0..count {
-        let key = world.spawn(number).ok()?;
+        let key = if number % 2 == 0 {
+            world.spawn_with::<C>(number, number.wrapping_mul(2)).ok()?
+        } else {
+            world.spawn(number).ok()?
+        };
         keys.push(key).ok()?;
     }
     Some(())
@@ -76,6 +82,25 @@ where
     for (_, first, second) in world.with_both::<F, S>() {
         sum.add(*first);
         sum.add(*second);
+    }
+    sum
+}
+
+// The components of two kinds of each entity that has both, by its key.
+fn sum_by_key<T, F, S>(world: &Numbers<T>, keys: &[DefaultKey]) -> Sum
+where
+    T: Tables<DefaultKey>,
+    F: Kind<DefaultKey, T>,
+    S: Kind<DefaultKey, T>,
+    F::Table: Table<DefaultKey, Component = u64>,
+    S::Table: Table<DefaultKey, Component = u64>,
+{
+    let mut sum = Sum::new();
+    for key in keys {
+        if let Some((first, second)) = world.both::<F, S>(*key) {
+            sum.add(*first);
+            sum.add(*second);
+        }
     }
     sum
 }
@@ -209,10 +234,13 @@ where
     let mut random = Random::new(6);
     let mut keys = Vec::new(rt.alloc());
     let mut world: Numbers<T> = World::with_capacity_and_key(rt.alloc(), size as usize).ok()?;
-    spawn_all(&mut world, &mut keys, size)?;
-    attach_all::<T, F>(&mut world, keys.as_slice(), 2)?;
+    spawn_all::<T, F>(&mut world, &mut keys, size)?;
+    world
+        .reserve_components::<S>(size as usize, size as usize)
+        .ok()?;
     attach_all::<T, S>(&mut world, keys.as_slice(), 3)?;
     tell_all::<T, F, S>(rt, &world)?;
+    tell(rt, "by key", sum_by_key::<T, F, S>(&world, keys.as_slice()))?;
     change::<T, F, S>(rt, &mut world, keys.as_slice(), &mut random)?;
     world.reserve(size as usize).ok()?;
     copy::<T, F, S>(rt, &mut world)

@@ -1,6 +1,7 @@
 //! Schedulers of numbers.
+#![tactic(auto)]
 
-use crate::tools::{Random, Sum, tell};
+use size_tools::{Random, Sum, tell};
 use slotmap::{DefaultKey, Key};
 use slotmap_scheduler::Scheduler;
 use std::alloc::Global;

@@ -1,6 +1,7 @@
 //! Graphs of numbers.
+#![tactic(auto)]
 
-use crate::tools::{Random, Sum, tell};
+use size_tools::{Random, Sum, tell};
 use slotmap::{Key, NodeKey};
 use slotmap_graph::{EdgeKey, EdgesAt, Graph, OrderError};
 use std::alloc::Global;

@@ -1,6 +1,7 @@
 //! Scenes of numbers: wide, deep, and by chance.
+#![tactic(auto)]
 
-use crate::tools::{Random, Sum, tell};
+use size_tools::{Random, Sum, tell};
 use slotmap::{DefaultKey, Key};
 use slotmap_scene::Scene;
 use slotmap_scene::world::Offset;

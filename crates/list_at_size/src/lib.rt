@@ -1,6 +1,7 @@
 //! Lists of numbers.
+#![tactic(auto)]
 
-use crate::tools::{Random, Sum, tell};
+use size_tools::{Random, Sum, tell};
 use slotmap::Key;
 use slotmap_list::{Cursor, PushError, StableList};
 use std::alloc::Global;

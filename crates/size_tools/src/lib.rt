@@ -1,4 +1,5 @@
-//! Numbers that look random, sums of numbers, and lines of output.
+//! Numbers that look random, sums of numbers, and lines of output, for the programs that run structures at size.
+#![tactic(auto)]
 
 /// Numbers that look random: those of a linear congruence.
 #[derive(Drop)]
