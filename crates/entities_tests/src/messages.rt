@@ -26,7 +26,14 @@ fn errors(rt: HostRuntime) -> Result<(), Fail> {
     assert!(rt; reads(alloc, &AttachError::Memory(5), "out of memory", "Memory(5)")?);
     let full = "no key is left for an entity";
     assert!(rt; reads(alloc, &SpawnError::Full(1, 5), full, "Full(1, 5)")?);
-    assert!(rt; reads(alloc, &SpawnError::Memory(1, 5), "out of memory", "Memory(1, 5)")?);
+    assert!(rt;
+        reads(
+            alloc,
+            &SpawnError::Memory(1, 5),
+            "out of memory",
+            "Memory(1, 5)"
+        )?
+    );
     Ok(())
 }
 
