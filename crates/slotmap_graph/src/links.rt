@@ -115,12 +115,7 @@ fn set_link<E: Drop>(edges: &mut Edges<E>, direction: Direction, key: EdgeKey, l
 }
 
 // Lets the link of an edge, if there is one, lead on to `next`.
-fn set_next<E: Drop>(
-    edges: &mut Edges<E>,
-    direction: Direction,
-    at: &Neighbour,
-    next: Neighbour,
-)
+fn set_next<E: Drop>(edges: &mut Edges<E>, direction: Direction, at: &Neighbour, next: Neighbour)
     requires { IfSome at.now (λ key. IsLive edges.old key) }
     ensures links { (q : KeyOf) → link_in direction edges.new.live q ≡ with_next at.now next (link_in direction edges.old.live) q }
     ensures keeps { KeepsEdges direction edges.old edges.new }
@@ -132,12 +127,7 @@ fn set_next<E: Drop>(
 }
 
 // Lets the link of an edge, if there is one, lead back to `prev`.
-fn set_prev<E: Drop>(
-    edges: &mut Edges<E>,
-    direction: Direction,
-    at: &Neighbour,
-    prev: Neighbour,
-)
+fn set_prev<E: Drop>(edges: &mut Edges<E>, direction: Direction, at: &Neighbour, prev: Neighbour)
     requires { IfSome at.now (λ key. IsLive edges.old key) }
     ensures links { (q : KeyOf) → link_in direction edges.new.live q ≡ with_prev at.now prev (link_in direction edges.old.live) q }
     ensures keeps { KeepsEdges direction edges.old edges.new }

@@ -29,8 +29,8 @@ returns g c =
     ends c.ends-ends.ensures c.args.edge _ c.set_next.new.edges
     (keeps_on c.args.direction c.args.edges.now c.set_link.new.edges c.set_next.new.edges c.set_link.ensures.keeps c.set_next.ensures.keeps) c.requires.unlisted mid
     (λ q. c.set_link.ensures.links q
-        ∙ (λ i. cond (is_key q c.args.edge) (record { prev = c.copied.ensures i; next = c.none.ensures i }) (link_in c.args.direction c.args.edges.now.live q)))
+    ∙ (λ i. cond (is_key q c.args.edge) (record { prev = c.copied.ensures i; next = c.none.ensures i }) (link_in c.args.direction c.args.edges.now.live q)))
     (λ q. c.set_next.ensures.links q ∙ ap (λ next. with_next ends.last next mid q) (c.copied-2.ensures ∙ c.some-on.ensures))
     c.own_end.result (c.own_end.ensures ∙ ap (own ends.last ends.first) c.some-on.ensures)
     (ap (with_value c.args.nodes.now (g.K.Key.data_of c.args.node)) (c.set_ends.ensures
-        ∙ (λ i. with_ends c.args.direction (record { first = c.own_end.result; last = c.some-on.ensures i; len = ends.len + 1 }) c.index_mut-node.result.now)))
+    ∙ (λ i. with_ends c.args.direction (record { first = c.own_end.result; last = c.some-on.ensures i; len = ends.len + 1 }) c.index_mut-node.result.now)))
