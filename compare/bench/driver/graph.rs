@@ -15,9 +15,10 @@ pub trait Network {
     fn add_edge(&mut self, from: u32, to: u32, value: u64) -> u32;
     fn remove_edge(&mut self, edge: u32) -> u64;
     fn ends(&self, edge: u32) -> [u32; 2];
-    /// The first edge from a node, and the one behind an edge; `END` if there is none.
+    /// The first edge from a node, or `END`.
     fn first(&self, node: u32) -> u32;
-    fn next(&self, edge: u32) -> u32;
+    /// Where an edge leads, and the edge behind it, or `END`.
+    fn step(&self, edge: u32) -> Option<(u32, u32)>;
     fn value(&self, node: u32) -> u64;
     fn node_count(&self) -> usize;
     fn edge_count(&self) -> u64;
@@ -101,8 +102,9 @@ impl Network for Net {
         self.nodes[node as usize].edges[0]
     }
 
-    fn next(&self, edge: u32) -> u32 {
-        self.edges[edge as usize].next[0]
+    fn step(&self, edge: u32) -> Option<(u32, u32)> {
+        let edge = self.edges.get(edge as usize)?;
+        Some((edge.ends[1], edge.next[0]))
     }
 
     fn value(&self, node: u32) -> u64 {
@@ -122,11 +124,8 @@ impl Network for Net {
 fn far_ends<N: Network>(net: &N, from: u32) -> impl Iterator<Item = u32> + '_ {
     let mut at = net.first(from);
     std::iter::from_fn(move || {
-        if at == END {
-            return None;
-        }
-        let to = net.ends(at)[1];
-        at = net.next(at);
+        let (to, next) = net.step(at)?;
+        at = next;
         Some(to)
     })
 }

@@ -93,8 +93,9 @@ impl Network for Net {
         self.nodes[node as usize].edges[0][0]
     }
 
-    fn next(&self, edge: u32) -> u32 {
-        self.edges[edge as usize].next[0]
+    fn step(&self, edge: u32) -> Option<(u32, u32)> {
+        let edge = self.edges.get(edge as usize)?;
+        Some((edge.ends[1], edge.next[0]))
     }
 
     fn value(&self, node: u32) -> u64 {
