@@ -2,7 +2,7 @@
 //!
 //! What it has to print is in the file `stdout`, which `expected.py` writes from a model of its own in plain Python. So a call that
 //! gives up above some number of elements is seen, which no contract forbids: memory may run out at any time. The status is 1 where a
-//! call fails, and 2 where a list is refused and the refused value isn't returned.
+//! call fails.
 #![tactic(auto)]
 
 use std::env;
@@ -11,11 +11,11 @@ use std::process::ExitCode;
 // All structures at one size.
 fn run_size(rt: &HostRuntime, size: u64) -> Option<()> {
     println!(rt; "{size} elements").ok()?;
-    list_at_size::run(rt, size)?;
-    graph_at_size::run(rt, size)?;
-    scene_at_size::run(rt, size)?;
-    scheduler_at_size::run(rt, size)?;
-    world_at_size::run(rt, size)
+    slotmap_sizes_list::run(rt, size)?;
+    slotmap_sizes_graph::run(rt, size)?;
+    slotmap_sizes_scene::run(rt, size)?;
+    slotmap_sizes_scheduler::run(rt, size)?;
+    slotmap_sizes_world::run(rt, size)
 }
 
 // All structures at each size.

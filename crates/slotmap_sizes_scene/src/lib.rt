@@ -1,10 +1,10 @@
 //! Scenes of numbers: wide, deep, and by chance.
 #![tactic(auto)]
 
-use size_tools::{Random, Sum, tell};
 use slotmap::{DefaultKey, Key};
 use slotmap_scene::Scene;
 use slotmap_scene::world::Offset;
+use slotmap_sizes::{Random, Sum, tell};
 
 type Numbers<K> = Scene<K, u64>;
 

@@ -1,9 +1,9 @@
 //! Graphs of numbers.
 #![tactic(auto)]
 
-use size_tools::{Random, Sum, tell};
 use slotmap::{Key, NodeKey};
 use slotmap_graph::{EdgeKey, EdgesAt, Graph, OrderError};
+use slotmap_sizes::{Random, Sum, tell};
 use std::alloc::Global;
 
 type Numbers<K> = Graph<K, u64, u64>;

@@ -1,9 +1,9 @@
 //! Worlds of numbers, with numbers as components. [`run`] alone names the tables.
 #![tactic(auto)]
 
-use size_tools::{Random, Sum, tell};
 use slotmap::{DefaultKey, SecondaryMap, SparseSecondaryMap};
 use slotmap_entities::{CloneTables, First, Kind, Second, Table, Tables, World};
+use slotmap_sizes::{Random, Sum, tell};
 
 type Numbers<T> = World<DefaultKey, u64, T>;
 

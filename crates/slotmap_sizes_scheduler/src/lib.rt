@@ -1,9 +1,9 @@
 //! Schedulers of numbers.
 #![tactic(auto)]
 
-use size_tools::{Random, Sum, tell};
 use slotmap::{DefaultKey, Key};
 use slotmap_scheduler::Scheduler;
+use slotmap_sizes::{Random, Sum, tell};
 use std::alloc::Global;
 
 type Numbers<K> = Scheduler<K, u64>;

@@ -1,9 +1,9 @@
 //! Lists of numbers.
 #![tactic(auto)]
 
-use size_tools::{Random, Sum, tell};
 use slotmap::Key;
 use slotmap_list::{Cursor, PushError, StableList};
+use slotmap_sizes::{Random, Sum, tell};
 use std::alloc::Global;
 
 type Numbers<K> = StableList<K, u64>;
