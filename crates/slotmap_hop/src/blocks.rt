@@ -10,8 +10,8 @@ ghost use Rattle.slotmap_hop.specs.Links.{Redirects, KeepsEnds};
 ghost use Rattle.slotmap_hop.specs.Slots.{all_links, places_of, value_at, CanFree, Frees, FreesUpTo};
 
 use crate::links::{
-    Links, Slot, State, back_of, front_of, is_live_after, is_vacant, is_vacant_after, link,
-    name_back, name_front, next_of, prev_of, retired_slot, set_links, set_next, set_prev,
+    Links, Slot, State, back_of, front_of, is_live_after, is_vacant, is_vacant_after, name_back,
+    name_front, next_of, prev_of, retired_slot, set_links, set_next, set_prev,
 };
 use slotmap_core::sure::rule_out;
 use std::mem;
@@ -107,31 +107,46 @@ fn merge<V>(slots: &mut [Slot<V>], index: u32) -> Links
     Links::Single { next: 0, prev: 0 }
 }
 
-// Gives a slot that isn't vacant and has no value this version. It joins the blocks. Each case has a
-// write of its own, since it knows the kind of the links.
+// The same, by which neighbours are vacant.
 #[inline(always)]
-pub(crate) fn join<V>(slots: &mut [Slot<V>], index: u32, version: u32)
-    requires can { CanVacate (all_links slots.old) index }
-    requires empty { value_at slots.old index ≡ None }
-    ensures blocks { HasBlocks (all_links slots.new) (vacated (vacant_at (all_links slots.old)) (blocks_of (all_links slots.old)) index) }
-    ensures places { places_of slots.new ≡ slice_set (places_of slots.old) index (VacantPlace (version + 1)) }
+fn make_ready<V>(slots: &mut [Slot<V>], index: u32) -> Links
+    requires { CanVacate (all_links slots.old) index }
+    ensures blocks { HasBlocks (slice_set (all_links slots.new) index (Some result)) (vacated (vacant_at (all_links slots.old)) (blocks_of (all_links slots.old)) index) }
+    ensures places { places_of slots.new ≡ places_of slots.old }
 {
     // An index of 64 bits serves for the slot and for its neighbours.
     let at = index as usize;
     if is_vacant_after(slots, at) {
         if is_vacant(slots, at - 1) {
-            let links = merge(slots, index);
-            return link(slots, index, version, links);
+            return merge(slots, index);
         }
-        let links = grow_left(slots, index);
-        return link(slots, index, version, links);
+        return grow_left(slots, index);
     }
     if is_vacant(slots, at - 1) {
-        let links = grow_right(slots, index);
-        return link(slots, index, version, links);
+        return grow_right(slots, index);
     }
-    let links = start_block(slots, index);
-    link(slots, index, version, links);
+    start_block(slots, index)
+}
+
+// Takes the value out of a live slot, which gets this version and joins the blocks. The value is taken
+// and the links are written at once, when all other links are ready.
+#[inline(always)]
+pub(crate) fn free<V>(slots: &mut [Slot<V>], index: u32, version: u32) -> V
+    requires { CanFree slots.old index }
+    ensures value { value_at slots.old index ≡ Some result }
+    ensures blocks { HasBlocks (all_links slots.new) (vacated (vacant_at (all_links slots.old)) (blocks_of (all_links slots.old)) index) }
+    ensures places { places_of slots.new ≡ slice_set (places_of slots.old) index (VacantPlace (version + 1)) }
+{
+    let links = make_ready(slots, index);
+    let (state, one, other) = links.parts();
+    let empty = Slot::Empty(state, version, one, other);
+    match mem::replace(&mut slots[index as usize], empty) {
+        Slot::Occupied(_, value) => value,
+        _ => {
+            rule_out(true);
+            unreachable!()
+        }
+    }
 }
 
 // Gives this version to a slot without a value, which joins the blocks. A map is built from a list
@@ -141,12 +156,12 @@ pub(crate) fn open_slot<V: Drop>(slots: &mut [Slot<V>], index: u32, version: u32
     ensures blocks { HasBlocks (all_links slots.new) (vacated (vacant_at (all_links slots.old)) (blocks_of (all_links slots.old)) index) }
     ensures places { places_of slots.new ≡ slice_set (places_of slots.old) index (VacantPlace (version + 1)) }
 {
-    slots[index as usize] = retired_slot(0);
-    join(slots, index, version);
+    let links = make_ready(slots, index);
+    let (state, one, other) = links.parts();
+    slots[index as usize] = Slot::Empty(state, version, one, other);
 }
 
-// Takes the value out of a live slot and retires the slot. It joins no block yet. The value is taken
-// before all else, so that a large one is moved once.
+// Takes the value out of a live slot and retires the slot. It joins no block.
 #[inline(always)]
 pub(crate) fn retire<V>(slots: &mut [Slot<V>], index: u32) -> V
     requires inside { index < length slots.old }
@@ -245,7 +260,7 @@ fn drop_back<V>(slots: &mut [Slot<V>], front: u32, back: u32)
 }
 
 // Puts a value into the back of the first block, under this version. These are its front and its back.
-// Inlined, so that a large value is moved once.
+// Inlined, as an insert is.
 #[inline(always)]
 pub(crate) fn fill_back<V: Drop>(
     slots: &mut [Slot<V>],

@@ -6,7 +6,7 @@ ghost use Rattle.slotmap_core.specs.Words.{IsLive, Removes};
 ghost use Rattle.slotmap_hop.specs.HopContent.{StaysHop, blocks_without};
 
 use crate::HopSlotMap;
-use crate::blocks::{join, retire};
+use crate::blocks::{free, retire};
 use slotmap_core::keys::Key;
 
 impl<K: Key, V: Drop> HopSlotMap<K, V> {
@@ -22,6 +22,7 @@ impl<K: Key, V: Drop> HopSlotMap<K, V> {
     /// assert_eq!(rt; map.remove(a), None);
     /// assert_eq!(rt; map.get(b), Some(&2));
     /// ```
+    #[inline(always)]
     pub fn remove(&mut self, key: K) -> Option<V>
         ensures value { result ≡ map.get self.old.content.live (K.data_of key) }
         ensures removes { OnSome result (Removes self.old.content (K.data_of key) self.new.content) }
@@ -48,12 +49,10 @@ impl<K: Key, V: Drop> HopSlotMap<K, V> {
         let version = data.version();
         self.live_count -= 1;
         let slots = self.slots.as_mut_slice();
-        let value = retire(slots, index);
         if version == u32::MAX {
-            return value;
+            return retire(slots, index);
         }
         self.vacant_count += 1;
-        join(slots, index, version + 1);
-        value
+        free(slots, index, version + 1)
     }
 }
