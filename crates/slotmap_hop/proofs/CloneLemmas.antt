@@ -18,7 +18,7 @@ module _ {V : Type 0} (is_clone : V → V → Type 0) where
   links_cloned s copy is = grind arith
 
   place_cloned : (s copy : Slot V) → IsSlotClone is_clone s copy → IsPlaceClone is_clone (place_in s) (place_in copy)
-  place_cloned (Occupied version value) copy is = (is.0, ap place_in is.1, is.2)
+  place_cloned (Occupied state version value) copy is = (is.0, ap place_in is.1, is.2)
   place_cloned (Empty SingleState version next prev) copy is = ap place_in is
   place_cloned (Empty FrontState version next back) copy is = ap place_in is
   place_cloned (Empty BackState version front prev) copy is = ap place_in is

@@ -26,7 +26,7 @@ module _ {V : Type 0} where
       → (x : V) × (slice_get (places_of slots) i ≡ Some (Live version x))
   live_there slots i d version can same =
       let found = occupied_read slots i d can.inside can.live in
-      (found.1, place_read slots i d _ can.inside found.2 ∙ ap (λ v. Some (Live v found.1)) (sym (same ∙ ap version_in found.2)))
+      (found.2, place_read slots i d _ can.inside found.3 ∙ ap (λ v. Some (Live v found.2)) (sym (same ∙ ap version_in found.3)))
 
   -- one more slot after these
   run_on : (n i j : ℕ) → j ≡ i + n → (old now new : List (Slot V)) → FreesRun old i n now → Frees now new j → FreesRun old i (suc n) new

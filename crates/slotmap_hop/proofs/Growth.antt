@@ -5,7 +5,7 @@ use Rattle.std.proofs.Common.{slice_get, Some, sym, ap, subst, ◌∙◌, arith}
 use Rattle.slotmap_core.proofs.Common.{map-append, Key, most, Removes, Inserts, Place, Live, Detached, Vacant, live, left_by, content_of_places, used_places}
 use Rattle.slotmap_core.proofs.Common.{filled, IsVersion, IsStacked, key, len-live-set, len-live-push, IsStacked-filled, IsStacked-pushed, removes, inserts}
 use Rattle.slotmap_core.proofs.Common.{at_set, at_push}
-use Rattle.slotmap_hop.specs.Slots.{Slot, Occupied, version_in, place_in, all_links, places_of, next_place, offer_at, holding, hop_content, IsSound}
+use Rattle.slotmap_hop.specs.Slots.{Slot, SingleState, Occupied, version_in, place_in, all_links, places_of, next_place, offer_at, holding, hop_content, IsSound}
 use Rattle.slotmap_hop.specs.Blocks.{shorter}
 use Rattle.slotmap_hop.specs.Links.{list_without, blocks_of, HasBlockList}
 use Rattle.slotmap_hop.proofs.SlotReads.{length-all_links, length-places}
@@ -62,10 +62,10 @@ module _ {V : Type 0} (slots : List (Slot V)) (vacant elems : ℕ) (sound : IsSo
 
   -- a new place
   abbrev pub pushed_slots : V → List (Slot V)
-  pushed_slots w = slots ++ Occupied 1 w ∷ []
+  pushed_slots w = slots ++ Occupied SingleState 1 w ∷ []
 
   places-pushed : (w : V) → places_of (pushed_slots w) ≡ places_of slots ++ Live 1 w ∷ []
-  places-pushed w = map-append (λ (s : Slot V). place_in s) slots (Occupied 1 w ∷ [])
+  places-pushed w = map-append (λ (s : Slot V). place_in s) slots (Occupied SingleState 1 w ∷ [])
 
   pub blocks-pushed : (w : V) → length slots + 1 < 2 ^ 32 → next_place slots ≡ 0
       → HasBlockList (all_links (pushed_slots w)) × (blocks_of (all_links (pushed_slots w)) ≡ shorter (blocks_of (all_links slots)))

@@ -7,7 +7,7 @@ use Rattle.slotmap_core.proofs.Common.{is_some, refl, sym, ap, ◌∙◌, arith,
 use Rattle.slotmap_core.proofs.Common.{All-push, All-weaker, All, Key, last_version, Place, Live, Detached, Vacant, Retired as RetiredPlace, live, live_entry}
 use Rattle.slotmap_core.proofs.Common.{retired_entry, gather, HasVersion, live_at, key, get-live_at}
 use Rattle.slotmap_hop.specs.Slots.{Slot, value_in, links_in, hop_in, place_in, all_links, places_of}
-use Rattle.slotmap_hop.specs.Slots.{SingleState, FrontState, BackState, Retired, Occupied, Empty}
+use Rattle.slotmap_hop.specs.Slots.{State, SingleState, FrontState, BackState, Retired, Occupied, Empty}
 use Rattle.slotmap_hop.specs.Blocks.{Begins, IsBlock}
 use Rattle.slotmap_hop.specs.Links.{is_vacant, end_in, NamesApart, vacant_at, links_at, end_at}
 use Rattle.slotmap_hop.specs.Iter.{pairs_left, retired_left, StandsAt, CanGoOn, FindsNone, FindsSlot, ReadsOnTheWay, Counted, IsRead, GoesTo}
@@ -186,7 +186,7 @@ module _ {V : Type 0} (slots : List (Slot V)) (reads0 start : ℕ) where
     way_on none = by s refl none
       where
         by : (t : Slot V) → s ≡ t → value_in t ≡ None → Hops (reads + 1) index (hop_in index s)
-        by (Occupied version value) is none = absurd (cc)
+        by (Occupied state version value) is none = absurd (cc)
         by (Empty SingleState version next prev) is none = way_hops (ap (λ t. is_vacant (links_in t)) is)
         by (Empty FrontState version next back) is none = way_hops (ap (λ t. is_vacant (links_in t)) is)
         by (Empty BackState version front prev) is none = way_hops (ap (λ t. is_vacant (links_in t)) is)
@@ -195,13 +195,14 @@ module _ {V : Type 0} (slots : List (Slot V)) (reads0 start : ℕ) where
     -- a slot with a value is what the search looks for
     pub way_finds : is_some (value_in s) ≡ true → FindsSlot slots start index s × ReadsOnTheWay slots reads0 start (reads + 1) index
     way_finds live =
-        let slot : (version : ℕ) × (x : V) × (s ≡ Occupied version x) = occupied s live in
-        let version = slot.0 in
-        let x = slot.1 in
-        let is = slot.2 in
+        let slot : (state : State) × (version : ℕ) × (x : V) × (s ≡ Occupied state version x) = occupied s live in
+        let version = slot.1 in
+        let x = slot.2 in
+        let is = slot.3 in
         let live_there = here.0 ∙ ap (λ slot. Some (place_in slot)) is in
         let gone = way.still ∙ ap (λ ks. way.gone ++ ks) (left-on slots retired_from index (Live version x) live_there) in (
           record {
+            state = slot.0;
             version = version;
             value = x;
             is = is;

@@ -5,7 +5,7 @@ use Rattle.std.proofs.Common.{length, set, slice_get, get_or, Some, None}
 use Rattle.slotmap_core.proofs.Common.{is_some, sym, ap, subst, ◌∙◌, arith, nat_tests, slice_get_past, get_or_from_slice_get, map-set_same, length-set, Key}
 use Rattle.slotmap_core.proofs.Common.{IsKey, key_cmp, last_version, Live, Vacant, Retired, live, live_value, slice_get-set_other, key, get-live, get-live_at}
 use Rattle.slotmap_core.proofs.Common.{len-live-set, total, live_at, not_first, IsStacked-kept, IsStacked-freed, content-written, same_read}
-use Rattle.slotmap_hop.specs.Slots.{Slot, Occupied}
+use Rattle.slotmap_hop.specs.Slots.{Slot, State, Occupied}
 use Rattle.slotmap_hop.specs.Links.{blocks_of, HasBlockList}
 use Rattle.slotmap_hop.specs.HopContent.{hop_with_value}
 use Rattle.slotmap_hop.specs.Slots.{version_in, links_in, place_in, all_links, places_of, value_in, value_at, CanFree, next_place, offer_at, hop_content, IsSound}
@@ -15,7 +15,7 @@ use Rattle.slotmap_hop.proofs.SlotLemmas.{key_is, vacant_slot, place_not_vacant,
 
 -- the slot of a live place
 live_slot : {V : Type 0} (slots : List (Slot V)) (i v : ℕ) (x : V) → slice_get (places_of slots) i ≡ Some (Live v x)
-    → (i < length slots) × (slice_get slots i ≡ Some (Occupied v x))
+    → (i < length slots) × (state : State) × (slice_get slots i ≡ Some (Occupied state v x))
 live_slot slots i v x index = grind (arith, slot_cases slots i)
 
 module _ {V : Type 0} (slots : List (Slot V)) (vacant elems : ℕ) (sound : IsSound slots vacant elems) where
@@ -28,8 +28,9 @@ module _ {V : Type 0} (slots : List (Slot V)) (vacant elems : ℕ) (sound : IsSo
 
 -- the slot of a key that is live
 pub record Present {V : Type 0} (slots : List (Slot V)) (lives : map.FinMap key_cmp V) (k : Key) (i v : ℕ) : Type 0 where
+  pub state : State
   pub value : V
-  pub found : slice_get slots i ≡ Some (Occupied v value)
+  pub found : slice_get slots i ≡ Some (Occupied state v value)
   pub within : i < length slots
   pub index : slice_get (places_of slots) i ≡ Some (Live v value)
   pub key_is_at : k ≡ key i v
@@ -41,14 +42,14 @@ present slots lives all k i v at of holds = grind (arith, live_at, live_slot, ge
 
 -- what is read at its index
 module _ {V : Type 0} {slots : List (Slot V)} {lives : map.FinMap key_cmp V} {k : Key} {i v : ℕ} (found : Present slots lives k i v) (read : Slot V) (is_read : read ≡ get_or slots i read) where
-  pub slot_read : read ≡ Occupied v found.value
+  pub slot_read : read ≡ Occupied found.state v found.value
   slot_read = same_read slots i read _ is_read found.found
 
-  pub version_read : (u : ℕ) (x : V) → read ≡ Occupied u x → u ≡ v
-  version_read u x is = sym (ap version_in is) ∙ ap version_in slot_read
+  pub version_read : (s : State) (u : ℕ) (x : V) → read ≡ Occupied s u x → u ≡ v
+  version_read s u x is = sym (ap version_in is) ∙ ap version_in slot_read
 
-  pub read_gives : (u : ℕ) (x : V) → read ≡ Occupied u x → map.get lives k ≡ Some x
-  read_gives u x is = found.gives ∙ sym (ap value_in slot_read) ∙ ap value_in is
+  pub read_gives : (s : State) (u : ℕ) (x : V) → read ≡ Occupied s u x → map.get lives k ≡ Some x
+  read_gives s u x is = found.gives ∙ sym (ap value_in slot_read) ∙ ap value_in is
 
 -- the slot of a live key
 
@@ -71,7 +72,7 @@ module _ {V : Type 0} (slots : List (Slot V)) (vacant elems : ℕ) (sound : IsSo
 
   -- the value that was taken out
   pub value_is : (y : V) → value_at slots i ≡ Some y → Some x ≡ Some y
-  value_is y is = sym (ap (option_and_then value_in) (live_slot slots i v x index).1) ∙ is
+  value_is y is = sym (ap (option_and_then value_in) (live_slot slots i v x index).2) ∙ is
 
   -- the slot becomes vacant
   pub sound-freed : (new : List (Slot V)) → HasBlockList (all_links new) → places_of new ≡ set (places_of slots) i (Vacant (v + 1 + 1))
@@ -92,18 +93,19 @@ module _ {V : Type 0} (slots : List (Slot V)) (vacant elems : ℕ) (sound : IsSo
 
 -- another value is written to a live slot
 module _ {V : Type 0} (slots : List (Slot V)) (vacant elems : ℕ) (sound : IsSound slots vacant elems) (i v : ℕ) (x : V)
-    (index : slice_get (places_of slots) i ≡ Some (Live v x)) (u : ℕ) (same : u ≡ v) (w : V) where
+    (index : slice_get (places_of slots) i ≡ Some (Live v x)) (state : State) (u : ℕ) (same : u ≡ v) (w : V) where
   abbrev pub rewritten : List (Slot V)
-  rewritten = set slots i (Occupied u w)
+  rewritten = set slots i (Occupied state u w)
 
   all_links-rewritten : all_links rewritten ≡ all_links slots
   all_links-rewritten =
-      let old : Slot V = Occupied v x in
-      let read = get_or_from_slice_get slots i old old (live_slot slots i v x index).1 in
+      let here = live_slot slots i v x index in
+      let old : Slot V = Occupied here.1 v x in
+      let read = get_or_from_slice_get slots i old old here.2 in
       map-set_same (λ (s : Slot V). links_in s) slots i _ old (sym (ap links_in read))
 
   places-rewritten : places_of rewritten ≡ set (places_of slots) i (Live v w)
-  places-rewritten = places_written slots i (Occupied u w) ∙ ap (λ u. set (places_of slots) i (Live u w)) same
+  places-rewritten = places_written slots i (Occupied state u w) ∙ ap (λ u. set (places_of slots) i (Live u w)) same
 
   pub sound-rewritten : IsSound rewritten vacant elems
   sound-rewritten =

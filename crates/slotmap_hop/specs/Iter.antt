@@ -3,7 +3,7 @@ use Rattle.std.specs.FinMap as map
 use Rattle.std.specs.FinSet as set
 use Rattle.std.specs.Prelude.{◌≡◌, ◌+◌, ◌*◌, ◌<◌, ◌≤◌, ◌∷◌, ◌++◌, ℕ, List, [], length, drop, true, Option, None, Some, slice_get, All}
 use Rattle.slotmap_core.specs.Words.{Key, gather, ListsByIndex, Live, live, live_entry, retired_entry}
-use Rattle.slotmap_hop.specs.Slots.{Slot, Occupied, all_links, places_of, IsSound}
+use Rattle.slotmap_hop.specs.Slots.{Slot, State, Occupied, all_links, places_of, IsSound}
 use Rattle.slotmap_hop.specs.Blocks.{Begins}
 use Rattle.slotmap_hop.specs.HopContent.{HopContent}
 use Rattle.slotmap_hop.specs.Links.{vacant_at}
@@ -105,9 +105,10 @@ module _ {V : Type 0} where
 
   -- the first live slot from `index` on is `found`; it is this slot
   pub record FindsSlot (slots : List (Slot V)) (index found : ℕ) (slot : Slot V) : Type 0 where
+    pub state : State
     pub version : ℕ
     pub value : V
-    pub is : slot ≡ Occupied version value
+    pub is : slot ≡ Occupied state version value
     pub finds : FindsLive slots index found version value
 
   -- the first live slot from `index` on is `found`
@@ -116,9 +117,10 @@ module _ {V : Type 0} where
 
   -- a step to the next live key, whose slot is this one
   pub record StepsOn (old new : HopIter (Key × V)) (key : Key) (slot : Slot V) : Type 0 where
+    pub state : State
     pub version : ℕ
     pub value : V
-    pub is : slot ≡ Occupied version value
+    pub is : slot ≡ Occupied state version value
     pub rest : old.rest ≡ (key, value) ∷ new.rest
     pub reads : ReadsFew key.index old new
 

@@ -65,7 +65,7 @@ impl<K: Key, V: Drop> HopSlotMap<K, V> {
     {
         let index = self.live_index(key)?;
         match &self.slots[index] {
-            Slot::Occupied(_, value) => Some(value),
+            Slot::Occupied(_, _, value) => Some(value),
             _ => {
                 rule_out(true);
                 unreachable!()
@@ -89,7 +89,7 @@ impl<K: Key, V: Drop> HopSlotMap<K, V> {
         self.note_valid();
         let index = key.data().idx() as usize;
         match &self.slots[index] {
-            Slot::Occupied(_, value) => value,
+            Slot::Occupied(_, _, value) => value,
             _ => {
                 rule_out(true);
                 unreachable!()
@@ -137,7 +137,7 @@ impl<K: Key, V: Drop> HopSlotMap<K, V> {
     {
         let index = key.data().idx() as usize;
         match &mut self.slots[index] {
-            Slot::Occupied(_, value) => value,
+            Slot::Occupied(_, _, value) => value,
             _ => {
                 rule_out(true);
                 unreachable!()

@@ -141,7 +141,7 @@ pub(crate) fn free<V>(slots: &mut [Slot<V>], index: u32, version: u32) -> V
     let (state, one, other) = links.parts();
     let empty = Slot::Empty(state, version, one, other);
     match mem::replace(&mut slots[index as usize], empty) {
-        Slot::Occupied(_, value) => value,
+        Slot::Occupied(_, _, value) => value,
         _ => {
             rule_out(true);
             unreachable!()
@@ -171,7 +171,7 @@ pub(crate) fn retire<V>(slots: &mut [Slot<V>], index: u32) -> V
     ensures places { places_of slots.new ≡ slice_set (places_of slots.old) index RetiredPlace }
 {
     match mem::replace(&mut slots[index as usize], retired_slot(0)) {
-        Slot::Occupied(_, value) => value,
+        Slot::Occupied(_, _, value) => value,
         _ => {
             rule_out(true);
             unreachable!()
@@ -232,7 +232,7 @@ fn put<V: Drop>(slots: &mut [Slot<V>], index: u32, version: u32, value: V)
     ensures all_links { all_links slots.new ≡ slice_set (all_links slots.old) index None }
     ensures places { places_of slots.new ≡ slice_set (places_of slots.old) index (LivePlace version value) }
 {
-    slots[index as usize] = Slot::Occupied(version, value);
+    slots[index as usize] = Slot::Occupied(State::Single, version, value);
 }
 
 // Takes the back from the first block, whose front and back these are: as soon as that slot isn't

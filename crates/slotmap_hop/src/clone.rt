@@ -16,7 +16,11 @@ fn clone_slot<V: Clone>(slot: &Slot<V>) -> Result<Slot<V>, AllocError>
     ensures { IfOk result (IsSlotClone V.is_clone slot.now) }
 {
     match slot {
-        Slot::Occupied(version, value) => Ok(Slot::Occupied(*version, value.clone()?)),
+        Slot::Occupied(state, version, value) => Ok(Slot::Occupied(
+            *state,
+            *version,
+            value.clone()?,
+        )),
         Slot::Empty(state, version, one, other) => Ok(Slot::Empty(*state, *version, *one, *other)),
     }
 }

@@ -8,7 +8,7 @@ ghost use Rattle.slotmap_hop.specs.HopContent.{GrowsHop, IsHopContent, MakesHopR
 
 use crate::HopSlotMap;
 use crate::blocks::fill_back;
-use crate::links::{Slot, back_of, next_of};
+use crate::links::{Slot, State, back_of, next_of};
 use slotmap_core::errors::{InsertError, InsertWithError, ReserveError, TryInsertError};
 use slotmap_core::keys::{Key, KeyData};
 use slotmap_core::limits::MOST_KEYS;
@@ -78,7 +78,8 @@ impl<K: Key, V: Drop> HopSlotMap<K, V> {
         // The count tells that no slot is vacant, so a new slot is added without reading any links.
         if self.vacant_count == 0 {
             let key = KeyData::exact(self.slots.len() as u32, 1);
-            self.slots.push_reserved(Slot::Occupied(1, value));
+            self.slots
+                .push_reserved(Slot::Occupied(State::Single, 1, value));
             return key;
         }
         self.vacant_count -= 1;

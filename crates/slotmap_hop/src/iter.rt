@@ -162,7 +162,7 @@ impl<'a, K: Key, V> Iterator for Iter<'a, K, V> {
     fn next(&mut self) -> Option<(K, &'a V)> {
         let (key, slot) = self.step()?;
         match slot {
-            Slot::Occupied(_, value) => Some((key, value)),
+            Slot::Occupied(_, _, value) => Some((key, value)),
             _ => {
                 rule_out(true);
                 unreachable!()

@@ -10,7 +10,7 @@ ghost use Rattle.std.specs.FinMap as map;
 
 use crate::HopSlotMap;
 use crate::blocks::open_slot;
-use crate::links::{Slot, retired_slot, sentinel};
+use crate::links::{Slot, State, retired_slot, sentinel};
 use slotmap_core::errors::{OutOfMemory, SlotsError};
 use slotmap_core::keys::Key;
 use slotmap_core::limits::LIST_LIMIT;
@@ -32,7 +32,7 @@ fn record_of<V: Clone>(slot: &Slot<V>) -> Result<SlotRecord<V>, OutOfMemory>
 {
     let version = slot.version();
     let value = match slot {
-        Slot::Occupied(_, value) => Some(value.clone()?),
+        Slot::Occupied(_, _, value) => Some(value.clone()?),
         _ => None,
     };
     Ok(SlotRecord { value, version })
@@ -43,7 +43,7 @@ fn slot_from<V>(version: u32, value: Option<V>) -> Slot<V>
     ensures { result ≡ read_slot version value }
 {
     match value {
-        Some(value) => Slot::Occupied(version, value),
+        Some(value) => Slot::Occupied(State::Single, version, value),
         None => retired_slot(version),
     }
 }

@@ -11,7 +11,7 @@ pub index-requires : goal.index-requires
 index-requires g c = omega (arith, (found g (goal.at.index-requires g c).After-self).within, c.self.inside.slots.ok.0)
 
 pub rule_out-requires : goal.rule_out-requires
-rule_out-requires g c = let found = found g (goal.at.rule_out-requires g c).After-self in absurd (c.in_default.not-Occupied _ found.value (slot_read found _ c.index.ensures))
+rule_out-requires g c = let found = found g (goal.at.rule_out-requires g c).After-self in absurd (c.in_default.not-Occupied _ _ found.value (slot_read found _ c.index.ensures))
 
 pub returns-clause-value : goal.returns-clause-value
-returns-clause-value g c = read_gives (found g (goal.at.returns-clause-value g c).After-self) _ c.index.ensures _ _ c.in-Occupied.is
+returns-clause-value g c = read_gives (found g (goal.at.returns-clause-value g c).After-self) _ c.index.ensures _ _ _ c.in-Occupied.is

@@ -11,19 +11,19 @@ pub index_mut-requires : goal.index_mut-requires
 index_mut-requires g c = omega (arith, (found g (goal.at.index_mut-requires g c).After-self).within, c.self.inside.slots.ok.0)
 
 pub rule_out-requires : goal.rule_out-requires
-rule_out-requires g c = let found = found g (goal.at.rule_out-requires g c).After-self in absurd (c.in_default.not-Occupied _ found.value (slot_read found _ c.index_mut.ensures.value))
+rule_out-requires g c = let found = found g (goal.at.rule_out-requires g c).After-self in absurd (c.in_default.not-Occupied _ _ found.value (slot_read found _ c.index_mut.ensures.value))
 
 pub invariant_of-self-lent : goal.invariant_of-self-lent
 invariant_of-self-lent g c w =
     let found = found g (goal.at.invariant_of-self-lent g c).After-self in
-    rw c.in-Occupied.is (sound-rewritten _ _ _ c.self.invariant _ _ _ found.index _ (version_read found _ c.index_mut.ensures.value _ _ c.in-Occupied.is) w)
+    rw c.in-Occupied.is (sound-rewritten _ _ _ c.self.invariant _ _ _ found.index _ _ (version_read found _ c.index_mut.ensures.value _ _ _ c.in-Occupied.is) w)
 
 pub returns : goal.returns
 returns g c =
     let found = found g (goal.at.returns g c).After-self in
-    let version = version_read found _ c.index_mut.ensures.value _ _ c.in-Occupied.is in
-    let value = read_gives found _ c.index_mut.ensures.value _ _ c.in-Occupied.is in
+    let version = version_read found _ c.index_mut.ensures.value _ _ _ c.in-Occupied.is in
+    let value = read_gives found _ c.index_mut.ensures.value _ _ _ c.in-Occupied.is in
     rw c.in-Occupied.is ((
-      (refl, λ w. rw (← c.self.view_is, found.key_is_at) (content-rewritten _ _ _ c.self.invariant _ _ _ found.index _ version w _)),
+      (refl, λ w. rw (← c.self.view_is, found.key_is_at) (content-rewritten _ _ _ c.self.invariant _ _ _ found.index _ _ version w _)),
       record { writes_back = tt; valid = well_formed c.self.inside c.self.view_is c.self.invariant; value = value },
     ))

@@ -19,7 +19,7 @@ rule_out-requires g c =
 pub returns-clause-value : goal.returns-clause-value
 returns-clause-value g c =
     let at = (goal.at.returns-clause-value g c).After-make_ready-links in
-    sym (same g at) ∙ value_read c.make_ready-links.new.slots c.args.index c.index-slots-index.result _ _ (inside g at) (sym c.replace.ensures.value ∙ c.in-Occupied.is)
+    sym (same g at) ∙ value_read c.make_ready-links.new.slots c.args.index c.index-slots-index.result _ _ _ (inside g at) (sym c.replace.ensures.value ∙ c.in-Occupied.is)
 
 pub returns-clause-blocks : goal.returns-clause-blocks
 returns-clause-blocks g c =

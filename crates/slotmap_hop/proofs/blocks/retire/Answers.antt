@@ -9,10 +9,10 @@ rule_out-requires g c =
 pub returns-clause-all_links : goal.returns-clause-all_links
 returns-clause-all_links g c =
     rw (c.replace.ensures.after, c.retired_slot.ensures)
-    (all_links_retired c.args.slots.now c.args.index c.index-slots-index.result _ _ 0 0 0 (sym c.replace.ensures.value ∙ c.in-Occupied.is))
+    (all_links_retired c.args.slots.now c.args.index c.index-slots-index.result _ _ _ 0 0 0 (sym c.replace.ensures.value ∙ c.in-Occupied.is))
 
 pub returns-clause-value : goal.returns-clause-value
-returns-clause-value g c = value_read c.args.slots.now c.args.index c.index-slots-index.result _ _ c.requires.inside (sym c.replace.ensures.value ∙ c.in-Occupied.is)
+returns-clause-value g c = value_read c.args.slots.now c.args.index c.index-slots-index.result _ _ _ c.requires.inside (sym c.replace.ensures.value ∙ c.in-Occupied.is)
 
 pub returns-clause-places : goal.returns-clause-places
 returns-clause-places g c = rw (c.replace.ensures.after, c.retired_slot.ensures) (places_written c.args.slots.now c.args.index _)

@@ -35,6 +35,7 @@ returns-clause-some g c =
     let exact = rw (c.version.ensures ∙ ap version_in found.found.is) at c.exact.ensures in
     let is = ap g.K.Key.data_of (g.met.K.Key.from_gives_key _ _ c.from-key.ensures) ∙ g.met.K.Key.from_data _ (rw exact is_key) ∙ exact in
     record {
+      state = found.found.state;
       version = found.found.version;
       value = found.found.value;
       is = found.found.is;
