@@ -128,8 +128,29 @@ fn make_ready<V>(slots: &mut [Slot<V>], index: u32) -> Links
     start_block(slots, index)
 }
 
-// Takes the value out of a live slot, which gets this version and joins the blocks. The value is taken
-// and the links are written at once, when all other links are ready.
+// Takes the value out of a live slot, which gets this version and becomes vacant. Its links don't
+// lead anywhere yet.
+#[inline(always)]
+fn vacate<V>(slots: &mut [Slot<V>], index: u32, version: u32) -> V
+    requires inside { index < length slots.old }
+    requires live { IsSome (value_at slots.old index) }
+    ensures value { value_at slots.old index ≡ Some result }
+    ensures links { all_links slots.new ≡ slice_set (all_links slots.old) index (Some (Links.Single 0 0)) }
+    ensures places { places_of slots.new ≡ slice_set (places_of slots.old) index (VacantPlace (version + 1)) }
+{
+    let empty = Slot::Empty(State::Single, version, 0, 0);
+    match mem::replace(&mut slots[index as usize], empty) {
+        Slot::Occupied(_, _, value) => value,
+        _ => {
+            rule_out(true);
+            unreachable!()
+        }
+    }
+}
+
+// Takes the value out of a live slot, which gets this version and joins the blocks. All other links
+// are ready before. Its own are written in place: as parts of a new slot both numbers would be made
+// one first.
 #[inline(always)]
 pub(crate) fn free<V>(slots: &mut [Slot<V>], index: u32, version: u32) -> V
     requires { CanFree slots.old index }
@@ -138,15 +159,9 @@ pub(crate) fn free<V>(slots: &mut [Slot<V>], index: u32, version: u32) -> V
     ensures places { places_of slots.new ≡ slice_set (places_of slots.old) index (VacantPlace (version + 1)) }
 {
     let links = make_ready(slots, index);
-    let (state, one, other) = links.parts();
-    let empty = Slot::Empty(state, version, one, other);
-    match mem::replace(&mut slots[index as usize], empty) {
-        Slot::Occupied(_, _, value) => value,
-        _ => {
-            rule_out(true);
-            unreachable!()
-        }
-    }
+    let value = vacate(slots, index, version);
+    set_links(slots, index, links);
+    value
 }
 
 // Gives this version to a slot without a value, which joins the blocks. A map is built from a list
