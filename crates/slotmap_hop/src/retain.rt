@@ -84,11 +84,13 @@ impl<K: Key, V: Drop> HopSlotMap<K, V> {
         let mut next = self.first_place(0);
         while let Some(index) = next {
             let key = self.key_at(index);
-            let stays = f(key, self.get_unchecked_mut(key));
-            // The slot after this one is looked for first, because a removal may join blocks. From
-            // the key its index would wait for the version, which a key is packed with.
-            next = self.first_place(index + 1);
-            if !stays {
+            // The slot after this one is looked for before a removal, which may join blocks. From the
+            // key its index would wait for the version, which a key is packed with. In each branch,
+            // since a key that stays then needs no test of what was found.
+            if f(key, self.get_unchecked_mut(key)) {
+                next = self.first_place(index + 1);
+            } else {
+                next = self.first_place(index + 1);
                 self.take_live(key);
             }
         }
