@@ -145,19 +145,20 @@ pub iter_from : {V : Type 0} {slots : List (Slot V)} {c : Content V} → AreSlot
     → ((ls : List Use) × (length ls ≡ length vs) × (length xs ≡ length vs) × (zip_slots vs ls xs ≡ slots)) → (n : ℕ) → n ≡ map.len c.live → Starts c vs xs n
 iter_from {V} {slots} {c} shows vs xs parts n all =
     let head = shows.first_vacant in
-    let free = vacancies slots shows.aside_count shows.live_count in
+    let free = vacancies slots shows.used_count in
+    let live_count = shows.used_count - shows.aside_count in
     let sound = shows.settled.sound in
-    let zipped : IsSound (zip_slots vs parts.0 xs) head free shows.live_count = subst (λ ss. IsSound ss head free shows.live_count) (sym parts.3) sound in
+    let zipped : IsSound (zip_slots vs parts.0 xs) head free live_count = subst (λ ss. IsSound ss head free live_count) (sym parts.3) sound in
     let first = first_even vs parts.0 xs parts.1 parts.2 zipped.each zipped.stacked.sentinel in
     let held : live (places_of slots) ≡ c.live = ap (λ d. d.live) shows.content in
-    let count : shows.live_count ≡ n = sym sound.live_counted ∙ ap map.len held ∙ sym all in
-    let start : IsIter vs xs 0 n = subst (IsIter vs xs 0) count (IsIter-start vs parts.0 xs parts.1 parts.2 head free shows.live_count zipped) in
+    let count : live_count ≡ n = sym sound.live_counted ∙ ap map.len held ∙ sym all in
+    let start : IsIter vs xs 0 n = subst (IsIter vs xs 0) count (IsIter-start vs parts.0 xs parts.1 parts.2 head free live_count zipped) in
     let v = found_within vs 0 first.0 in
     let on = pass vs xs 0 n start v.0 v.1 (λ odd. omega (arith, odd, first.1, get_or_from_slice_get vs 0 v.0 0 v.1)) in
     record {
       some = omega (arith, first.0);
       iterates = on.0;
-      yields = on.1 ∙ pairs-entries vs parts.0 xs parts.1 parts.2 head free shows.live_count zipped
+      yields = on.1 ∙ pairs-entries vs parts.0 xs parts.1 parts.2 head free live_count zipped
           ∙ ap (λ ss. map.entries (live (places_of ss))) parts.3 ∙ ap (λ m. map.entries m) held;
       odd = rest_odd vs xs n on.0;
     }

@@ -23,6 +23,23 @@ impl<K: Key, V: Drop> SlotMap<K, V> {
         }
     }
 
+    // The same as `insert`, for a map with no room. Not inlined, so that `insert` has no way back from
+    // there.
+    #[cold]
+    #[inline(never)]
+    fn insert_apart(&mut self, value: V) -> Result<K, InsertError<V>>
+        ensures ok { IfOk result (λ key. Inserts self.old (K.data_of key) value self.new) }
+        ensures err { IfErr result (λ error. Refuses self.old value error) }
+        ensures reuses { 0 < map.len self.old.next → IsOk result }
+        ensures valid { MayGrow true self.old (IsErr result) self.new }
+    {
+        match self.slots.reserve(1) {
+            Ok(()) => Ok(K::from(self.slots.fill(value))),
+            Err(ReserveError::TooGreat) => Err(InsertError::Full(value)),
+            Err(ReserveError::Memory) => Err(InsertError::Memory(value)),
+        }
+    }
+
     /// Inserts a value and returns its new key.
     ///
     /// The slot freed last is reused; then the call can't fail, and the capacity stays. If no slot
@@ -48,11 +65,10 @@ impl<K: Key, V: Drop> SlotMap<K, V> {
 
         ensures valid { MayGrow true self.old (IsErr result) self.new }
     {
-        match self.slots.make_room() {
-            Ok(()) => Ok(K::from(self.slots.fill(value))),
-            Err(ReserveError::TooGreat) => Err(InsertError::Full(value)),
-            Err(ReserveError::Memory) => Err(InsertError::Memory(value)),
+        if self.slots.has_room() {
+            return Ok(K::from(self.slots.fill(value)));
         }
+        self.insert_apart(value)
     }
 
     /// Inserts the value that a closure returns for the new key, and returns the key.

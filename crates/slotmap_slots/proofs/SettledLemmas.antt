@@ -9,8 +9,8 @@ use Rattle.slotmap_slots.specs.Slot.{Slot, full, payload_at, with_payload, place
 use Rattle.slotmap_slots.proofs.SlotLemmas.{Present, present, count_positive, rewritten, reattached, with_payload-is, valid, slots_fit, used_places-slots, free_below}
 use Rattle.slotmap_slots.proofs.SlotGrowth.{PresentDetached, present_detached, some_free}
 
-module _ {P : Type 0} {slots : List (Slot P)} {fits head aside count : ℕ} (settled : IsSettled slots fits head aside count) {now : Content P}
-    (view : content_of_places (map_of slots head (vacancies slots aside count) (fits - 1)) ≡ now) where
+module _ {P : Type 0} {slots : List (Slot P)} {fits head aside used_count : ℕ} (settled : IsSettled slots fits head aside used_count) {now : Content P}
+    (view : content_of_places (map_of slots head (vacancies slots used_count) (fits - 1)) ≡ now) where
   -- what is held between calls is well formed
   pub settled_valid : IsContent true now
   settled_valid = subst (IsContent true) view (valid settled.sound fits settled.holds)
@@ -18,7 +18,7 @@ module _ {P : Type 0} {slots : List (Slot P)} {fits head aside count : ℕ} (set
   pub settled_present : (k : Key) → IsLive now k → Present settled.sound k
   settled_present k is_live = present settled.sound k (ap (λ c. map.contains_key c.live k) view ∙ is_live)
 
-  pub settled_positive : (k : Key) → IsLive now k → 1 ≤ count
+  pub settled_positive : (k : Key) → IsLive now k → 1 ≤ used_count - aside
   settled_positive k is_live = count_positive settled.sound _ _ _ (settled_present k is_live).there
 
   -- the payload that is read at the index of a live key is its value
@@ -31,19 +31,19 @@ module _ {P : Type 0} {slots : List (Slot P)} {fits head aside count : ℕ} (set
   -- some slot is kept if a key is detached
   pub aside_positive : (k : Key) → IsDetached now k → P → 1 ≤ aside
   aside_positive k out w =
-      let free = vacancies slots aside count in
+      let free = vacancies slots used_count in
       let found = settled_aside k out in
       let after = free_below (reattached settled.sound k.index found.own_version k.version found.there found.before w).sound in
-      omega (arith, after, length-set slots k.index (full k.version w), settled.fewer)
+      omega (arith, after, length-set slots k.index (full k.version w), settled.fewer, settled.among)
 
-  pub settled_room : 0 < now.room → (used_places (places_of slots) < most) × (length slots < fits + vacancies slots aside count)
+  pub settled_room : 0 < now.room → (used_places (places_of slots) < most) × (length slots < fits + vacancies slots used_count)
   settled_room room = grind (arith, used_places-slots settled.sound)
 
   -- the places, with the sentinel's, are the slots
   pub settled_places : places now + 1 ≡ length slots
   settled_places = omega (arith, ap places (sym view), used_places-slots settled.sound, settled.sound.counted, settled.sound.stacked.counted)
 
-  pub settled_used : used now ≡ count + aside
+  pub settled_used : used now ≡ used_count
   settled_used = omega (arith, ap used (sym view), used_places-slots settled.sound, settled.fewer)
 
   pub settled_fits : length slots < 2 ^ 32
@@ -58,25 +58,25 @@ module _ {P : Type 0} {slots : List (Slot P)} {fits head aside count : ℕ} (set
   settled_spare limit spare = omega (arith, ap (λ c. c.room) (sym view), used_places-slots settled.sound)
 
 -- what is held after a call that allocates nothing
-pub settled_stays : {P : Type 0} (slots : List (Slot P)) (fits head aside count : ℕ) → IsSettled slots fits head aside count → {now : Content P}
-    → content_of_places (map_of slots head (vacancies slots aside count) (fits - 1)) ≡ now
-    → (slots2 : List (Slot P)) (fits2 head2 aside2 count2 : ℕ) → IsSettled slots2 fits2 head2 aside2 count2 → fits2 ≡ fits
-    → StaysValid true now (content_of_places (map_of slots2 head2 (vacancies slots2 aside2 count2) (fits2 - 1)))
-settled_stays slots fits head aside count settled view slots2 fits2 head2 aside2 count2 after same =
+pub settled_stays : {P : Type 0} (slots : List (Slot P)) (fits head aside used_count : ℕ) → IsSettled slots fits head aside used_count → {now : Content P}
+    → content_of_places (map_of slots head (vacancies slots used_count) (fits - 1)) ≡ now
+    → (slots2 : List (Slot P)) (fits2 head2 aside2 used_count2 : ℕ) → IsSettled slots2 fits2 head2 aside2 used_count2 → fits2 ≡ fits
+    → StaysValid true now (content_of_places (map_of slots2 head2 (vacancies slots2 used_count2) (fits2 - 1)))
+settled_stays slots fits head aside used_count settled view slots2 fits2 head2 aside2 used_count2 after same =
     grind (arith, settled_valid settled view, settled_valid after refl)
 
 -- how many slots are free once one is added
-pub vacancies-push : {P : Type 0} (slots : List (Slot P)) (s : Slot P) (free aside count : ℕ) → count + aside + free ≡ length slots → vacancies (slots ++ s ∷ []) aside count ≡ free
-vacancies-push slots s free aside count all = omega (arith, length_push slots s)
+pub vacancies-push : {P : Type 0} (slots : List (Slot P)) (s : Slot P) (free used_count : ℕ) → used_count + free ≡ length slots → vacancies (slots ++ s ∷ []) used_count ≡ free
+vacancies-push slots s free used_count all = omega (arith, length_push slots s)
 
 -- one slot is written
-vacancies-set : {P : Type 0} (slots : List (Slot P)) (i : ℕ) (s : Slot P) (free aside count : ℕ) → count + aside + free + 1 ≡ length slots → vacancies (set slots i s) aside count ≡ free
-vacancies-set slots i s free aside count all = omega (arith, length-set slots i s)
+vacancies-set : {P : Type 0} (slots : List (Slot P)) (i : ℕ) (s : Slot P) (free used_count : ℕ) → used_count + free + 1 ≡ length slots → vacancies (set slots i s) used_count ≡ free
+vacancies-set slots i s free used_count all = omega (arith, length-set slots i s)
 
-settled-set : {P : Type 0} (slots : List (Slot P)) (fits head aside count : ℕ) → IsSettled slots fits head aside count
-    → (i : ℕ) (s : Slot P) {head2 free2 count2 : ℕ} → IsSound (set slots i s) head2 free2 count2
-    → (aside2 : ℕ) → count2 + aside2 + free2 + 1 ≡ length slots → IsSettled (set slots i s) fits head2 aside2 count2
-settled-set slots fits head aside count settled i s {head2} {free2} {count2} sound aside2 all = grind (arith, vacancies-set, length-set)
+settled-set : {P : Type 0} (slots : List (Slot P)) (fits head aside used_count : ℕ) → IsSettled slots fits head aside used_count
+    → (i : ℕ) (s : Slot P) {head2 free2 : ℕ} → IsSound (set slots i s) head2 free2 (used_count - aside)
+    → used_count + free2 + 1 ≡ length slots → IsSettled (set slots i s) fits head2 aside used_count
+settled-set slots fits head aside used_count settled i s {head2} {free2} sound all = grind (arith, vacancies-set, length-set)
 
 -- a payload is written
 length-with_payload : {P : Type 0} (slots : List (Slot P)) (i : ℕ) (p : P) → length (with_payload slots i p) ≡ length slots
@@ -84,24 +84,24 @@ length-with_payload [] i p = refl
 length-with_payload (s ∷ slots) zero p = refl
 length-with_payload (s ∷ slots) (suc i) p = omega (arith, length-with_payload slots i p)
 
-pub vacancies-written : {P : Type 0} (slots : List (Slot P)) (i : ℕ) (p : P) (aside count : ℕ) → vacancies (with_payload slots i p) aside count ≡ vacancies slots aside count
-vacancies-written slots i p aside count = ap (λ n. n - (count + aside + 1)) (length-with_payload slots i p)
+pub vacancies-written : {P : Type 0} (slots : List (Slot P)) (i : ℕ) (p : P) (used_count : ℕ) → vacancies (with_payload slots i p) used_count ≡ vacancies slots used_count
+vacancies-written slots i p used_count = ap (λ n. n - (used_count + 1)) (length-with_payload slots i p)
 
-pub with_payload-settled : {P : Type 0} (slots : List (Slot P)) (fits head aside count : ℕ) → IsSettled slots fits head aside count → (i v : ℕ) (x : P)
-    → slice_get slots i ≡ Some (full v x) → (w : P) → IsSettled (with_payload slots i w) fits head aside count
-with_payload-settled slots fits head aside count settled i v x there w =
-    let free = vacancies slots aside count in
+pub with_payload-settled : {P : Type 0} (slots : List (Slot P)) (fits head aside used_count : ℕ) → IsSettled slots fits head aside used_count → (i v : ℕ) (x : P)
+    → slice_get slots i ≡ Some (full v x) → (w : P) → IsSettled (with_payload slots i w) fits head aside used_count
+with_payload-settled slots fits head aside used_count settled i v x there w =
+    let free = vacancies slots used_count in
     grind (
       arith,
       with_payload-is settled.sound i v x there w,
-      settled-set slots fits head aside count settled i (full v w) (rewritten settled.sound i v x there w).sound aside (omega (arith, settled.fewer)),
+      settled-set slots fits head aside used_count settled i (full v w) (rewritten settled.sound i v x there w).sound (omega (arith, settled.fewer)),
     )
 
 -- room for n more keys had to be allocated, and was allocated or not
-pub grown : {P : Type 0} (slots : List (Slot P)) (fits head aside count : ℕ) → IsSettled slots fits head aside count → {now : Content P}
-    → content_of_places (map_of slots head (vacancies slots aside count) (fits - 1)) ≡ now
+pub grown : {P : Type 0} (slots : List (Slot P)) (fits head aside used_count : ℕ) → IsSettled slots fits head aside used_count → {now : Content P}
+    → content_of_places (map_of slots head (vacancies slots used_count) (fits - 1)) ≡ now
     → (more : ℕ) → fits ≤ more → (n : ℕ) (ok : Type 0) → now.room < n → (ok → (used now + n ≤ most) × (used now + n + 1 ≤ more))
-    → MakesRoom true now n ok (content_of_places (map_of slots head (vacancies slots aside count) (more - 1)))
-grown slots fits head aside count settled {now} view more on n ok none enough =
+    → MakesRoom true now n ok (content_of_places (map_of slots head (vacancies slots used_count) (more - 1)))
+grown slots fits head aside used_count settled {now} view more on n ok none enough =
     let after = valid settled.sound more (omega (arith, settled.holds)) in
-    grind (arith, settled_valid settled view, keeps (map_of slots head (vacancies slots aside count) (fits - 1)) (more - 1) (omega arith))
+    grind (arith, settled_valid settled view, keeps (map_of slots head (vacancies slots used_count) (fits - 1)) (more - 1) (omega arith))

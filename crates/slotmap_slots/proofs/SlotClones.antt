@@ -54,18 +54,19 @@ module _ {P : Type 0} (is_clone : P → P → Type 0) (ss ts : List (Slot P)) (a
     content_of-clones c d =
         rw free_indices-clones (content-clones is_clone (places_of ss) (places_of ts) (places-clones is_clone ss ts all) (free_indices ss free head) (stacked_free sound) c d)
 
-  module _ (fits head aside count : ℕ) (settled : IsSettled ss fits head aside count) where
-    same_vacancies : vacancies ts aside count ≡ vacancies ss aside count
-    same_vacancies = ap (λ n. n - (count + aside + 1)) slots-length
+  module _ (fits head aside used_count : ℕ) (settled : IsSettled ss fits head aside used_count) where
+    same_vacancies : vacancies ts used_count ≡ vacancies ss used_count
+    same_vacancies = ap (λ n. n - (used_count + 1)) slots-length
 
     -- a copy whose layout has room for its slots
-    pub IsSettled-clones : (more : ℕ) → length ts ≤ more → IsSettled ts more head aside count
+    pub IsSettled-clones : (more : ℕ) → length ts ≤ more → IsSettled ts more head aside used_count
     IsSettled-clones more holds = record {
-      sound = rw same_vacancies (IsSound-clones head (vacancies ss aside count) count settled.sound);
+      sound = rw same_vacancies (IsSound-clones head (vacancies ss used_count) (used_count - aside) settled.sound);
+      among = settled.among;
       fewer = omega (arith, slots-length, settled.fewer);
       holds = holds;
     }
 
-    pub settled-clones : (more : ℕ) {now : Content P} → content_of_places (map_of ss head (vacancies ss aside count) (fits - 1)) ≡ now
-        → IsCloneBy is_clone now (content_of_places (map_of ts head (vacancies ts aside count) (more - 1)))
-    settled-clones more view = rw (same_vacancies, ← view) (content_of-clones head (vacancies ss aside count) count settled.sound (fits - 1) (more - 1))
+    pub settled-clones : (more : ℕ) {now : Content P} → content_of_places (map_of ss head (vacancies ss used_count) (fits - 1)) ≡ now
+        → IsCloneBy is_clone now (content_of_places (map_of ts head (vacancies ts used_count) (more - 1)))
+    settled-clones more view = rw (same_vacancies, ← view) (content_of-clones head (vacancies ss used_count) (used_count - aside) settled.sound (fits - 1) (more - 1))

@@ -128,18 +128,20 @@ module _ {P : Type 0} where
     pub live_counted : map.len (live (places_of slots)) ≡ live_count
     pub stacked : IsStacked (places_of slots) stack
 
--- so many slots are free if `live_count` have a payload, and `aside_count` are detached or retired; slot 0 is none of these
-abbrev pub vacancies : {P : Type 0} → List (Slot P) → ℕ → ℕ → ℕ
-vacancies slots aside_count live_count = length slots - (live_count + aside_count + 1)
+-- so many slots are free if `used_count` have a payload, or are detached or retired; slot 0 is none of these
+abbrev pub vacancies : {P : Type 0} → List (Slot P) → ℕ → ℕ
+vacancies slots used_count = length slots - (used_count + 1)
 
 -- what the slots are, as a map that has memory for this many places
 abbrev pub map_of : {P : Type 0} → List (Slot P) → ℕ → ℕ → ℕ → StackMap P
 map_of slots first_vacant vacant_count capacity = record { places = places_of slots; vacant = free_indices slots vacant_count first_vacant; capacity = capacity }
 
--- what holds of the slots between calls, in a layout with room for `fits` of them
-pub record IsSettled {P : Type 0} (slots : List (Slot P)) (fits first_vacant aside_count live_count : ℕ) : Type 0 where
-  pub sound : IsSound slots first_vacant (vacancies slots aside_count live_count) live_count
-  pub fewer : live_count + aside_count + 1 ≤ length slots
+-- what holds of the slots between calls, in a layout with room for `fits` of them; `aside_count` of the slots in use are
+-- detached or retired
+pub record IsSettled {P : Type 0} (slots : List (Slot P)) (fits first_vacant aside_count used_count : ℕ) : Type 0 where
+  pub sound : IsSound slots first_vacant (vacancies slots used_count) (used_count - aside_count)
+  pub among : aside_count ≤ used_count
+  pub fewer : used_count + 1 ≤ length slots
   pub holds : length slots ≤ fits
 
 -- these are the slots of a map that holds this, for some head of the free list and some numbers of slots
@@ -147,6 +149,6 @@ pub record AreSlotsOf {P : Type 0} (slots : List (Slot P)) (c : Content P) : Typ
   pub fits : ℕ
   pub first_vacant : ℕ
   pub aside_count : ℕ
-  pub live_count : ℕ
-  pub settled : IsSettled slots fits first_vacant aside_count live_count
-  pub content : content_of_places (map_of slots first_vacant (vacancies slots aside_count live_count) (fits - 1)) ≡ c
+  pub used_count : ℕ
+  pub settled : IsSettled slots fits first_vacant aside_count used_count
+  pub content : content_of_places (map_of slots first_vacant (vacancies slots used_count) (fits - 1)) ≡ c

@@ -29,9 +29,10 @@ pub struct Slots<P, L: Layout<P>> {
     layout: L,
     // The first slot of the free list, or 0 if no slot is vacant.
     first_vacant: u32,
-    // How many slots are detached or retired.
+    // How many slots are live, detached or retired, and how many of them are detached or retired.
+    // So each call but the removal of a last key changes one of the counts.
+    used_count: u32,
     aside_count: u32,
-    live_count: u32,
     payloads: PhantomData<P>,
 }
 
@@ -44,9 +45,9 @@ impl<P, L: Layout<P>> Model for Slots<P, L> {
 
     ghost coded = { content_code P.code };
 
-    ghost view = { λ m. content_of_places (map_of (L.slots m.layout) m.first_vacant (vacancies (L.slots m.layout) m.aside_count m.live_count) (L.fits m.layout - 1)) };
+    ghost view = { λ m. content_of_places (map_of (L.slots m.layout) m.first_vacant (vacancies (L.slots m.layout) m.used_count) (L.fits m.layout - 1)) };
 
-    ghost invariant = { λ m. IsSettled (L.slots m.layout) (L.fits m.layout) m.first_vacant m.aside_count m.live_count };
+    ghost invariant = { λ m. IsSettled (L.slots m.layout) (L.fits m.layout) m.first_vacant m.aside_count m.used_count };
 }
 
 impl<P: Drop, L: Layout<P> + Drop> Slots<P, L> {
@@ -67,8 +68,8 @@ impl<P: Drop, L: Layout<P> + Drop> Slots<P, L> {
         Ok(Slots {
             layout,
             first_vacant: 0,
+            used_count: 0,
             aside_count: 0,
-            live_count: 0,
             payloads: PhantomData,
         })
     }
@@ -80,7 +81,7 @@ impl<P, L: Layout<P>> Slots<P, L> {
         ensures value { result ≡ map.len self.now.live }
         ensures valid { IsContent true self.now }
     {
-        self.live_count as usize
+        (self.used_count - self.aside_count) as usize
     }
 
     /// Does nothing; its contract tells a caller that what the slots hold is well formed.
@@ -88,7 +89,7 @@ impl<P, L: Layout<P>> Slots<P, L> {
     pub fn note_valid(&self)
         ensures { IsContent true self.now }
     {
-        let _ = &self.live_count;
+        let _ = &self.used_count;
     }
 
     /// Returns the slots as they lie in memory.
@@ -129,7 +130,7 @@ impl<P, L: Layout<P>> Slots<P, L> {
         ensures fits { result ≤ self.now.capacity }
         ensures valid { IsContent true self.now }
     {
-        self.aside_count as usize + self.live_count as usize
+        self.used_count as usize
     }
 
     /// Makes room for `additional` more keys.

@@ -17,8 +17,8 @@ impl<P: Clone, L: CopyLayout<P>> Slots<P, L> {
         Ok(Slots {
             layout: self.layout.copy()?,
             first_vacant: self.first_vacant,
+            used_count: self.used_count,
             aside_count: self.aside_count,
-            live_count: self.live_count,
             payloads: PhantomData,
         })
     }

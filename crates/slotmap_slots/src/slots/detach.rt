@@ -34,7 +34,6 @@ impl<P, L: Layout<P>> Slots<P, L> {
         ensures detaches { Detaches self.old key self.new }
         ensures valid { StaysValid true self.old self.new }
     {
-        self.live_count -= 1;
         self.aside_count += 1;
         let after = key.version().wrapping_add(1);
         self.layout.take(key.idx() as usize, after, Use::Detached)
@@ -63,7 +62,6 @@ impl<P, L: Layout<P>> Slots<P, L> {
         ensures reattaches { Reattaches self.old key payload self.new }
         ensures valid { StaysValid true self.old self.new }
     {
-        self.live_count += 1;
         self.aside_count -= 1;
         self.layout.put(key.idx() as usize, key.version(), payload);
     }

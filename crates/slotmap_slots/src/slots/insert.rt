@@ -30,7 +30,7 @@ impl<P, L: Layout<P>> Slots<P, L> {
         ensures inserts { Inserts self.old self.old.offer payload self.new }
         ensures valid { StaysValid true self.old self.new }
     {
-        self.live_count += 1;
+        self.used_count += 1;
         if self.first_vacant == 0 {
             let index = self.layout.len() as u32;
             self.layout.push(1, payload);

@@ -88,8 +88,8 @@ impl<P: Drop, L: Layout<P> + Drop> Slots<P, L> {
         Ok(Slots {
             layout,
             first_vacant,
+            used_count: live_count + aside_count,
             aside_count,
-            live_count,
             payloads: PhantomData,
         })
     }

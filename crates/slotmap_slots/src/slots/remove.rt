@@ -35,11 +35,11 @@ impl<P, L: Layout<P>> Slots<P, L> {
         let index = key.idx() as usize;
         let version = key.version();
         let after = version.wrapping_add(1);
-        self.live_count -= 1;
         if after == 0 {
             self.aside_count += 1;
             return self.layout.take(index, 0, Use::Retired);
         }
+        self.used_count -= 1;
         let payload = self.layout.take(index, after, Use::Free(self.first_vacant));
         self.first_vacant = key.idx();
         payload

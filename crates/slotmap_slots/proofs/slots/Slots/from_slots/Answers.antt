@@ -1,4 +1,4 @@
-use Rattle.std.proofs.Common.{◌≡◌, ◌+◌, ◌∷◌, ◌++◌, [], Some, length, true, refl, sym, ap, subst, ◌∙◌, append_assoc, append-nil, length-append, arith}
+use Rattle.std.proofs.Common.{◌≡◌, ◌+◌, ◌-◌, ◌∷◌, ◌++◌, [], Some, length, true, refl, sym, ap, subst, ◌∙◌, append_assoc, append-nil, length-append, arith}
 use Rattle.slotmap_core.proofs.Common.{into_iter_items, IsConsistent, Accepts, AllFitBelow, length_push, nil_from_length, starts-stack, odd_of, even_where}
 use Rattle.slotmap_core.proofs.Common.{list_limit, next_consistent, first_taken, reads_as, common_steps}
 use Rattle.slotmap_slots.specs.Slot.{full, empty, vacancies, Free, Retired}
@@ -44,8 +44,8 @@ loop-record-preserved-in-Some-value g c =
     let before = at.invariant in
     let on = next g (goal.at.loop-record-preserved-in-Some-value g c).In-Some in
     let slots = g.L.Layout.slots at.layout in
-    let free = vacancies-push slots (full c.in-Some.record.version c.in-Some-value.payload) (vacancies slots at.aside_count at.live_count) at.aside_count
-    (at.live_count + 1) (omega (arith, before.few, before.read.length_is)) in
+    let free = vacancies-push slots (full c.in-Some.record.version c.in-Some-value.payload) (vacancies slots (at.live_count + at.aside_count))
+    (at.live_count + 1 + at.aside_count) (omega (arith, before.few, before.read.length_is)) in
     record {
       first = before.first;
       all = on.1;
@@ -63,7 +63,7 @@ loop-record-preserved-then-version-eq0 g c =
     let before = at.invariant in
     let on = next g (goal.at.loop-record-preserved-then-version-eq0 g c).In-Some in
     let slots = g.L.Layout.slots at.layout in
-    let free = vacancies-push slots (empty 0 Retired) (vacancies slots at.aside_count at.live_count) (at.aside_count + 1) at.live_count (omega (arith, before.few, before.read.length_is)) in
+    let free = vacancies-push slots (empty 0 Retired) (vacancies slots (at.live_count + at.aside_count)) (at.live_count + (at.aside_count + 1)) (omega (arith, before.few, before.read.length_is)) in
     record {
       first = before.first;
       all = on.1;
@@ -82,7 +82,7 @@ loop-record-preserved g c =
     let on = next g (goal.at.loop-record-preserved g c).In-Some in
     let slots = g.L.Layout.slots at.layout in
     let free = vacancies-push slots (empty c.in-Some.record.version (Free at.first_vacant))
-    (vacancies slots at.aside_count at.live_count + 1) at.aside_count at.live_count (omega (arith, before.few, before.read.length_is)) in
+    (vacancies slots (at.live_count + at.aside_count) + 1) (at.live_count + at.aside_count) (omega (arith, before.few, before.read.length_is)) in
     record {
       first = before.first;
       all = on.1;
@@ -108,7 +108,7 @@ push_empty-requires-else-version-eq0-clause-out g c =
 -- all records were read
 all_read : (g : _) (c : In-None g) → (AllFitBelow c.args.list.items (length c.args.list.items))
     × AreRead c.args.list.items (g.L.Layout.slots c.loop-record.layout) c.loop-record.first_vacant
-    (vacancies (g.L.Layout.slots c.loop-record.layout) c.loop-record.aside_count c.loop-record.live_count) c.loop-record.live_count
+    (vacancies (g.L.Layout.slots c.loop-record.layout) (c.loop-record.live_count + c.loop-record.aside_count)) c.loop-record.live_count
 all_read g c =
     let at = c.loop-record in
     let none : into_iter_items at.record-iterator ≡ [] = grind (arith, nil_from_length, length-append) in
@@ -119,8 +119,10 @@ pub invariant_of-result : goal.invariant_of-result
 invariant_of-result g c =
     let steps = goal.at.invariant_of-result g c in
     let read = all_read g steps.In-None in
+    let live : c.loop-record.live_count + c.loop-record.aside_count - c.loop-record.aside_count ≡ c.loop-record.live_count = omega arith in
     record {
-      sound = IsSound-read c.args.list.items _ _ _ _ read.1 list_limit (omega arith) (accepted g steps.In_ok-check_slots) read.0;
+      sound = rw live (IsSound-read c.args.list.items _ _ _ _ read.1 list_limit (omega arith) (accepted g steps.In_ok-check_slots) read.0);
+      among = omega arith;
       fewer = omega (arith, c.loop-record.invariant.few, c.loop-record.invariant.read.length_is);
       holds = omega (arith, c.loop-record.invariant.room);
     }

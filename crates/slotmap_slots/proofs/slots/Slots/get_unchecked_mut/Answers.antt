@@ -22,7 +22,7 @@ returns g c =
           g.met.L.Layout.slots_with,
           g.met.L.Layout.fits_with,
           c.idx.ensures.value,
-          vacancies-written (g.L.Layout.slots m.layout) c.args.key.index w m.aside_count m.live_count,
+          vacancies-written (g.L.Layout.slots m.layout) c.args.key.index w m.used_count,
         )
             (content-rewritten c.self.invariant.sound _ _ _ found.there w _),
       ),

@@ -17,7 +17,7 @@ plus_one : (g : _) (c : Else-after-eq0 g) → (c.version-version.result + 1) % 2
 plus_one g c = omega (arith, c.version-version.ensures.value, c.version-version.type_inv, c.if-after-eq0.false)
 
 pub overflow_sub-self : goal.overflow_sub-self
-overflow_sub-self g c = settled_positive c.self.invariant c.self.view_is c.args.key c.requires
+overflow_sub-self g c = omega (arith, settled_positive c.self.invariant c.self.view_is c.args.key c.requires)
 
 pub take-requires-clause-there : goal.take-requires-clause-there
 take-requires-clause-there g c =

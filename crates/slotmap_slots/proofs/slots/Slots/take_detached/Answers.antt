@@ -1,10 +1,16 @@
-use Rattle.std.proofs.Common.{is_some, ap}
-use Rattle.slotmap_slots.proofs.SettledLemmas.{settled_present, settled_positive, settled_value}
+use Rattle.std.proofs.Common.{is_some, ap, arith}
+use Rattle.slotmap_slots.proofs.SettledLemmas.{settled_present, settled_positive, settled_value, settled_fits}
 use Rattle.slotmap_slots.proofs.ChangeLemmas.{detached_now}
 use Rattle.slotmap_slots.proofs.slots.Slots.take_detached.Goals as goal
 
-pub overflow_sub-self : goal.overflow_sub-self
-overflow_sub-self g c = settled_positive c.self.invariant c.self.view_is c.args.key c.requires
+pub overflow_add-self : goal.overflow_add-self
+overflow_add-self g c =
+    omega (
+      arith,
+      settled_positive c.self.invariant c.self.view_is c.args.key c.requires,
+      settled_fits c.self.invariant c.self.view_is,
+      c.self.invariant.fewer,
+    )
 
 pub take-requires-clause-there : goal.take-requires-clause-there
 take-requires-clause-there g c = rw c.idx.ensures.value (ap is_some (settled_present c.self.invariant c.self.view_is c.args.key c.requires).read)
