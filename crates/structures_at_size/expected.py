@@ -441,6 +441,15 @@ def world_part(size):
     detached = [second.pop(key, None) for key in (random.pick(keys) for _ in range(size // 2))]
     tell("detached", [component for component in detached if component is not None])
     first = {key: value + 1 for key, value in first.items() if (value + 1) % 4 != 0}
+    for key in range(size, size + size // 2):
+        packed.append(key)
+        first[key], second[key] = key * 2, key * 3
+    replaced = []
+    for key in range(size + size // 2):
+        if key in first and key in second:
+            replaced += [first[key], second[key]]
+            first[key], second[key] = first[key] + 1, second[key] + 1
+    tell("replaced", replaced)
     tell_all([])
     tell_all(packed)
 

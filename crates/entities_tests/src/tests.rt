@@ -1,8 +1,8 @@
 //! Calls on their happy path. They stand in functions over any tables, and [`do_well`] alone names the tables, since each
 //! call where they are named costs the prover as much as a whole test.
 
-use slotmap::{DefaultKey, SecondaryMap, SparseSecondaryMap};
-use slotmap_entities::{CloneTables, First, Kind, Second, Table, Tables, World};
+use slotmap::{DefaultKey, ReserveError, SecondaryMap, SparseSecondaryMap};
+use slotmap_entities::{Apart, CloneTables, First, Kind, Second, Table, Tables, World};
 use std::alloc::Global;
 use std::test::Fail;
 
@@ -124,6 +124,58 @@ where
     Ok(walked && world.keys().next().is_none())
 }
 
+// Adds an entity with both components, and replaces both.
+fn pair<T, F, S>(alloc: Global) -> Result<bool, Fail>
+where
+    T: Tables<DefaultKey>,
+    F: Apart<DefaultKey, T, S>,
+    S: Kind<DefaultKey, T>,
+    F::Table: Table<DefaultKey, Component = u32>,
+    S::Table: Table<DefaultKey, Component = u8>,
+{
+    let mut world: Small<T> = World::new(alloc)?;
+    let a = world.spawn_with_both::<F, S>(1, 10, 5)?;
+    let spawned = world.both::<F, S>(a) == Some((&10, &5));
+    let replaced = world.replace_both::<F, S>(a, 11, 6) == Ok((10, 5));
+    Ok(spawned && replaced && world.both::<F, S>(a) == Some((&11, &6)))
+}
+
+// Replaces both components of an entity that has one of them.
+fn lack<T, F, S>(alloc: Global) -> Result<bool, Fail>
+where
+    T: Tables<DefaultKey>,
+    F: Apart<DefaultKey, T, S>,
+    S: Kind<DefaultKey, T>,
+    F::Table: Table<DefaultKey, Component = u32>,
+    S::Table: Table<DefaultKey, Component = u8>,
+{
+    let mut world: Small<T> = World::new(alloc)?;
+    let a = world.spawn_with::<F>(1, 10)?;
+    let refused = world.replace_both::<F, S>(a, 11, 6) == Err((11, 6));
+    Ok(refused && world.component::<F>(a) == Some(&10) && !world.has::<S>(a))
+}
+
+// Whether a number was too great.
+fn is_too_great(result: Result<(), ReserveError>) -> bool {
+    matches!(result, Err(ReserveError::TooGreat))
+}
+
+// Reserves room for no component, up to the last index and one more, and room that is there.
+fn reserve<T, F, S>(alloc: Global) -> Result<bool, Fail>
+where
+    T: Tables<DefaultKey>,
+    F: Kind<DefaultKey, T>,
+    S: Kind<DefaultKey, T>,
+    F::Table: Table<DefaultKey, Component = u32>,
+    S::Table: Table<DefaultKey, Component = u8>,
+{
+    let (mut world, a) = one::<T, F, S>(alloc)?;
+    let index = is_too_great(world.reserve_components::<F>(0, 4294967295));
+    let count = is_too_great(world.reserve_components::<S>(4294967295, 0));
+    let fits = world.reserve_components::<F>(1, 1).is_ok();
+    Ok(index && count && fits && world.both::<F, S>(a) == Some((&10, &5)))
+}
+
 // The calls of a test.
 enum Calls {
     Look,
@@ -132,13 +184,16 @@ enum Calls {
     Remove,
     Copy,
     Walk,
+    Pair,
+    Lack,
+    Reserve,
 }
 
 // Whether the calls return what they should.
 fn go_well<T, F, S>(alloc: Global, calls: Calls) -> Result<bool, Fail>
 where
     T: CloneTables<DefaultKey> + Tables<DefaultKey, Parts = (Option<u32>, (Option<u8>, ()))>,
-    F: Kind<DefaultKey, T>,
+    F: Apart<DefaultKey, T, S>,
     S: Kind<DefaultKey, T>,
     F::Table: Table<DefaultKey, Component = u32>,
     S::Table: Table<DefaultKey, Component = u8>,
@@ -150,6 +205,9 @@ where
         Calls::Remove => remove::<T, F, S>(alloc),
         Calls::Copy => copy::<T, F, S>(alloc),
         Calls::Walk => walk::<T, F, S>(alloc),
+        Calls::Pair => pair::<T, F, S>(alloc),
+        Calls::Lack => lack::<T, F, S>(alloc),
+        Calls::Reserve => reserve::<T, F, S>(alloc),
     }
 }
 
@@ -191,6 +249,19 @@ fn copies(rt: HostRuntime) -> Result<(), Fail> {
 #[test]
 fn walk_and_clear(rt: HostRuntime) -> Result<(), Fail> {
     assert!(rt; do_well(rt.alloc(), Calls::Walk)?);
+    Ok(())
+}
+
+#[test]
+fn pairs(rt: HostRuntime) -> Result<(), Fail> {
+    assert!(rt; do_well(rt.alloc(), Calls::Pair)?);
+    assert!(rt; do_well(rt.alloc(), Calls::Lack)?);
+    Ok(())
+}
+
+#[test]
+fn reserves(rt: HostRuntime) -> Result<(), Fail> {
+    assert!(rt; do_well(rt.alloc(), Calls::Reserve)?);
     Ok(())
 }
 

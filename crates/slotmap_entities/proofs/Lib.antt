@@ -1,4 +1,5 @@
 mod Fewer
 mod LiveOnly
 mod Spawned
+mod TableCount
 mod TableRoom

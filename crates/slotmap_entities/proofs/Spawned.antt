@@ -1,15 +1,32 @@
 -- What stays live, what stays spent, and which index the key has, where an entity is spawned.
-use Rattle.std.proofs.Common.{◌+◌, ◌≤◌, Result, Ok, Err, IfOk, OnErr, false, inl, inr, is_some, ap, arith}
-use Rattle.slotmap.specs.Words.{Key, Content, IsContent, Inserts, IsLive, Keeps, KeepsSpent, places}
-use Rattle.slotmap.proofs.Callers.{live-insert_still, spent_inserts, spent_keeps}
+use Rattle.std.proofs.Common.{◌+◌, ◌<◌, ◌≤◌, Result, Ok, Err, IsOk, IfOk, OnOk, OnErr, false, inl, inr, is_some, ap, arith}
+use Rattle.slotmap.specs.Words.{Key, Content, IsContent, Inserts, IsLive, Keeps, KeepsSpent, most, places, used}
+use Rattle.slotmap.proofs.Callers.{get-insert_here, live-insert_still, spent_inserts, spent_keeps}
+
+-- the next key is at most one behind all slots, and within the limit
+pub offer_index : {E : Type 0} (c : Content E) → IsContent false c → used c < most → (c.offer.index ≤ places c + 1) × (c.offer.index ≤ most)
+offer_index c valid less = elim (valid.offers less) [
+  | inl there ↦ (let within = (valid.vacant c.offer.index (ap is_some there)).1 in let limit = valid.limit in (omega arith, omega arith))
+  | inr made ↦ (let none = made.0 in let at = made.1 in (omega arith, omega (arith, less)))
+]
 
 new_index : {E : Type 0} (old new : Content E) (entity : E) (k : Key) → IsContent false old → Inserts old k entity new → k.index ≤ places old + 1
 new_index old new entity k valid inserts =
     let is = ap (λ (q : Key). q.index) inserts.offered in
-    elim (valid.offers inserts.below_limit) [
-      | inl there ↦ (let within = (valid.vacant old.offer.index (ap is_some there)).1 in omega arith)
-      | inr made ↦ (let at = made.1 in omega arith)
-    ]
+    let low = (offer_index old valid inserts.below_limit).0 in
+    omega (arith, is, low)
+
+-- an entity that is spawned after a call that keeps all
+module _ {E : Type 0} (old mid new : Content E) (k : Key) (entity : E) where
+  pub kept_still : Keeps old mid → Inserts mid k entity new → (q : Key) → IsLive old q → IsLive new q
+  kept_still keeps adds q live = rw adds.live (live-insert_still mid.live k entity q (rw keeps.live live))
+
+pub inserted_live : {E : Type 0} (old new : Content E) (k : Key) (entity : E) → Inserts old k entity new → IsLive new k
+inserted_live old new k entity adds = rw adds.live (ap is_some (get-insert_here old.live k entity))
+
+pub when_ok : {A B P : Type 0} (answer : Result A B) → IsOk answer → OnOk answer P → P
+when_ok (Ok x) is p = p
+when_ok (Err e) is p = absurd (cc)
 
 module _ {E K R : Type 0} (old new : Content E) (data_of : K → Key) (entity : E) where
   pub spawned_still : (answer : Result K R) → IfOk answer (λ key. Inserts old (data_of key) entity new) → OnErr answer (Keeps old new)

@@ -1,10 +1,10 @@
 //! The calls on one component of one entity.
 
-ghost use Rattle.std.specs.Prelude.{◌≡◌, ◌≢◌, ℕ, ◌+◌, IfOk, OnOk, IsOk, IfErr, OnErr, IsSome, Some, None, option_copied, option_map};
+ghost use Rattle.std.specs.Prelude.{◌≡◌, ◌≢◌, ℕ, ◌+◌, IfOk, OnOk, IsOk, IfErr, OnErr, IsSome, Some, None, option_copied};
 ghost use Rattle.std.specs.Option.{option_copied_mut};
 ghost use Rattle.std.specs.Borrow.{sem};
 ghost use Rattle.slotmap.specs.Words.{Key as KeyOf, IsBeside, IsLive, get, contains_key, keyed, RetainsBy, CallableOnEach};
-ghost use Rattle.slotmap_entities.specs.World.{OnlyLive, RefusesAttach, both_of};
+ghost use Rattle.slotmap_entities.specs.World.{OnlyLive, RefusesAttach};
 
 use crate::{Kind, Table, Tables, World};
 use slotmap::{DenseSlotMap, Key, PutError, ReserveError};
@@ -98,9 +98,10 @@ impl<K: Key, E: Drop, T: Tables<K>> World<K, E, T> {
     ///
     /// A `SecondaryMap` takes memory for each index up to `last`, and a `SparseSecondaryMap` for
     /// `additional` components. The first `n` entities of a world have the indices 1 to `n`, and those
-    /// in the slots of removed ones have their indices. The call fails if memory runs out, or one of the
-    /// numbers is too great, and the world has the same components then. It takes time linear in the
-    /// size of the table if that grows.
+    /// in the slots of removed ones have their indices. The call fails with `TooGreat` if one of the
+    /// numbers is too great (see [`Table::reserve`]), and with `Memory` if memory runs out. The world has
+    /// the same components then. Where there is room already, nothing changes, and only a number that
+    /// is too great is refused. It takes time linear in the size of the table if that grows.
     ///
     /// ```
     /// let mut world: World<DefaultKey, u8, (SecondaryMap<DefaultKey, u32>, ())> = World::new(alloc)?;
@@ -115,6 +116,11 @@ impl<K: Key, E: Drop, T: Tables<K>> World<K, E, T> {
         last: usize,
     ) -> Result<(), ReserveError>
         ensures ok { OnOk result (C.Table.fits (C.table self.new.tables) last additional) }
+        ensures err { IfErr result (C.Table.refuses_room (C.table self.old.tables) last additional) }
+        // If there is room already, nothing changes, and only a number that is too great is refused.
+        ensures succeeds { C.Table.fits (C.table self.old.tables) last additional
+            → (C.Table.refuses_room (C.table self.old.tables) last additional ReserveError.TooGreat → ⊥) → IsOk result }
+        ensures had_room { C.Table.fits (C.table self.old.tables) last additional → self.new ≡ self.old }
         ensures same { C.Table.pairs (C.table self.new.tables) ≡ C.Table.pairs (C.table self.old.tables) }
         ensures room { (i count : ℕ) → C.Table.fits (C.table self.old.tables) i count → C.Table.fits (C.table self.new.tables) i count }
         ensures kinds { self.new.tables ≡ C.with_table self.old.tables (C.table self.new.tables) }
@@ -170,34 +176,6 @@ impl<K: Key, E: Drop, T: Tables<K>> World<K, E, T> {
         ensures live { IsSome result → IsLive self.now.entities.content (K.data_of key) }
     {
         C::table(&self.tables).get(key)
-    }
-
-    /// Returns the components of two kinds of an entity, or `None` if it lacks one of them or doesn't
-    /// exist. It takes constant time.
-    ///
-    /// ```
-    /// let mut world: World<DefaultKey, u8, (SecondaryMap<DefaultKey, u32>, (SecondaryMap<DefaultKey, bool>, ()))> =
-    ///     World::new(alloc)?;
-    /// let hero = world.spawn(1)?;
-    /// world.attach::<First>(hero, 7)?;
-    /// assert_eq!(rt; world.both::<First, Second>(hero), None);
-    /// world.attach::<Second>(hero, true)?;
-    /// assert_eq!(rt; world.both::<First, Second>(hero), Some((&7, &true)));
-    /// ```
-    pub fn both<'a, A: Kind<K, T>, B: Kind<K, T>>(
-        &'a self,
-        key: K,
-    ) -> Option<(&'a ComponentOf<K, T, A>, &'a ComponentOf<K, T, B>)>
-    where
-        A::Table: 'a,
-        B::Table: 'a,
-        ensures value { option_map (λ both. (both.0.now, both.1.now)) result
-            ≡ both_of (get (A.Table.pairs (A.table self.now.tables)) (K.data_of key)) (get (B.Table.pairs (B.table self.now.tables)) (K.data_of key)) }
-        ensures live { IsSome result → IsLive self.now.entities.content (K.data_of key) }
-    {
-        let first = A::table(&self.tables).get(key)?;
-        let second = B::table(&self.tables).get(key)?;
-        Some((first, second))
     }
 
     /// Returns a mutable reference to the component of this kind of an entity, or `None` if it has none

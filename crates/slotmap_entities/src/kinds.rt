@@ -34,11 +34,39 @@ pub trait Kind<K: Key, T: Tables<K>> {
 
     ghost same_put: { (t : T) → with_table t (table t) ≡ t };
 
+    // Of two that are put there, one after the other, the second stays.
+    ghost put_twice: { (t : T) (m n : Self.Table) → with_table (with_table t m) n ≡ with_table t n };
+
     // What an entity has in its table it has, and that is all that a new table changes.
     ghost has_own: { (t : T) (k : KeyOf) → contains_key (Self.Table.pairs (table t)) k ≡ true → T.has t k ≡ true };
 
     ghost has_no_more: { (t : T) (m : Self.Table) (k : KeyOf) → T.has (with_table t m) k ≡ true
         → (T.has t k ≡ true) ⊎ (contains_key (Self.Table.pairs m) k ≡ true) };
+}
+
+/// Two kinds of components with a table each: no kind is apart from itself.
+///
+/// It says which calls on two kinds there are, as [`World::spawn_with_both`](crate::World::spawn_with_both),
+/// in either order of the kinds.
+///
+/// ```
+/// type Tables = (
+///     SecondaryMap<DefaultKey, u32>,
+///     (SparseSecondaryMap<DefaultKey, u64>, ()),
+/// );
+/// let mut world: World<DefaultKey, u8, Tables> = World::new(alloc)?;
+/// let hero = world.spawn_with_both::<Second, First>(1, 8, 7)?;
+/// assert_eq!(rt; world.both::<First, Second>(hero), Some((&7, &8)));
+/// ```
+pub trait Apart<K: Key, T: Tables<K>, B: Kind<K, T>>: Kind<K, T> {
+    // A new table of one kind leaves that of the other as it is.
+    ghost first_kept: { (t : T) (n : B.Table) → Self.Kind.table (B.with_table t n) ≡ Self.Kind.table t };
+
+    ghost second_kept: { (t : T) (m : Self.Table) → B.table (Self.Kind.with_table t m) ≡ B.table t };
+
+    // The two may be put there in any order.
+    ghost any_order: { (t : T) (m : Self.Table) (n : B.Table)
+        → Self.Kind.with_table (B.with_table t n) m ≡ B.with_table (Self.Kind.with_table t m) n };
 }
 
 /// The kind of the first table.
@@ -77,6 +105,8 @@ impl<K: Key, A: Table<K>, B: Tables<K>> Kind<K, (A, B)> for First {
 
     ghost same_put = { λ t. refl };
 
+    ghost put_twice = { λ t m n. refl };
+
     ghost has_own = { λ t k. Prim.grind arith };
 
     ghost has_no_more = { λ t m k. Prim.grind arith };
@@ -103,7 +133,36 @@ impl<K: Key, A: Table<K>, B: Tables<K>, C: Kind<K, B>> Kind<K, (A, B)> for Then<
 
     ghost same_put = { λ t. ap (λ rest. (t.0, rest)) (C.same_put t.1) };
 
+    ghost put_twice = { λ t m n. ap (λ rest. (t.0, rest)) (C.put_twice t.1 m n) };
+
     ghost has_own = { λ t k h. let own = C.has_own t.1 k in Prim.grind arith };
 
     ghost has_no_more = { λ t m k h. let more = C.has_no_more t.1 m k in Prim.grind arith };
+}
+
+impl<K: Key, A: Table<K>, B: Tables<K>, C: Kind<K, B>> Apart<K, (A, B), Then<C>> for First {
+    ghost first_kept = { λ t n. refl };
+
+    ghost second_kept = { λ t m. refl };
+
+    ghost any_order = { λ t m n. refl };
+}
+
+impl<K: Key, A: Table<K>, B: Tables<K>, C: Kind<K, B>> Apart<K, (A, B), First> for Then<C> {
+    ghost first_kept = { λ t n. refl };
+
+    ghost second_kept = { λ t m. refl };
+
+    ghost any_order = { λ t m n. refl };
+}
+
+impl<K: Key, A: Table<K>, B: Tables<K>, C: Apart<K, B, D>, D: Kind<K, B>> Apart<K, (A, B), Then<D>>
+    for Then<C> {
+    ghost use Rattle.std.proofs.Common.{ap};
+
+    ghost first_kept = { λ t n. C.Apart.first_kept t.1 n };
+
+    ghost second_kept = { λ t m. C.Apart.second_kept t.1 m };
+
+    ghost any_order = { λ t m n. ap (λ rest. (t.0, rest)) (C.Apart.any_order t.1 m n) };
 }

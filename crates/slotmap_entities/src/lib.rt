@@ -6,10 +6,11 @@
 //! - A component is never seen under a later entity, even if that has the same slot.
 //! - Only live entities have components.
 //! - A call on one entity changes no component of another, and none of another kind.
-//! - A call that fails changes nothing, and returns what it was given.
+//! - A call that fails leaves the same entities with the same components, and returns what it was given.
 //! - If there is room for an entity, as after [`World::reserve`], it can't be refused, and the capacity
-//!   stays. So it is with a component in its table, after [`World::reserve_components`].
-//! - Only [`World::spawn`], [`World::spawn_with`] and `reserve` change the capacity for entities.
+//!   stays. If there is room in its table, as after [`World::reserve_components`], no component can be
+//!   refused.
+//! - Only `reserve` and the calls that spawn an entity change the capacity for entities.
 //!
 //! The entities are in a `DenseSlotMap`, packed for iteration. The tables are nested pairs of
 //! secondary maps: a `SecondaryMap` for a kind that most entities have, a `SparseSecondaryMap` for a
@@ -41,17 +42,19 @@ ghost use Rattle.std.specs.Borrow.{sem};
 ghost use Rattle.slotmap.specs.Words.{Key as KeyOf, Inserts, IsLive, IsNew, IsSpent, Keeps, KeepsSpent, Leaves, Refuses, RefusesCapacity, MakesDenseRoom, places, used};
 ghost use Rattle.slotmap.specs.Words.{Appends, ClosesGap, SameOrder, IsEmpty, IsListing, ListsPairs};
 
+mod both;
 mod clone;
 mod components;
 mod join;
 mod kinds;
 mod spawn;
+mod spawn_both;
 mod tables;
 
 pub use clone::{CloneTable, CloneTables};
 pub use components::AttachError;
 pub use join::{With, WithBoth};
-pub use kinds::{First, Fourth, Kind, Second, Then, Third};
+pub use kinds::{Apart, First, Fourth, Kind, Second, Then, Third};
 use slotmap::dense::{Iter, Keys, Values};
 use slotmap::{DefaultKey, DenseSlotMap, InsertError, Key, ReserveError};
 pub use spawn::SpawnError;

@@ -1,16 +1,17 @@
-//! Entities that are spawned with a component.
+//! Entities that are spawned with one component, or with two.
 
-ghost use Rattle.std.specs.Prelude.{◌≡◌, ◌≢◌, ◌+◌, ◌<◌, ◌≤◌, Some, None, IfOk, IfErr, OnErr};
+ghost use Rattle.std.specs.Prelude.{◌≡◌, ◌≢◌, ℕ, ◌+◌, ◌<◌, ◌≤◌, Some, None, IfOk, IsOk, OnOk, IfErr, OnErr};
 ghost use Rattle.std.specs.FinMap as map;
 ghost use Rattle.slotmap.specs.Words.{Key as KeyOf, Inserts, IsBeside, IsDense, IsSpent, Keeps, KeepsSpent, Appends, SameOrder, RefusesInsert, get, most, places, used};
-ghost use Rattle.slotmap_entities.specs.World.{RefusesSpawn};
+ghost use Rattle.slotmap_entities.specs.World.{RefusesNext, RefusesSpawn};
 
 use crate::components::{ComponentOf, attach};
-use crate::{Kind, Table, Tables, World};
+use crate::{Apart, Kind, Table, Tables, World};
 use slotmap::{DenseSlotMap, InsertError, InsertWithError, Key, TryInsertError};
 use thiserror::Error;
 
-/// An entity was not spawned with its component. The error holds both.
+/// An entity was not spawned with its component, or with its two. The error holds what was given, two
+/// components as a pair.
 #[derive(Debug, Drop, Error)]
 pub enum SpawnError<E, C> {
     /// The map of the entities holds as many keys as it can.
@@ -25,8 +26,10 @@ pub enum SpawnError<E, C> {
 fn next_key<K: Key, E: Drop>(entities: &mut DenseSlotMap<K, E>) -> Result<K, InsertWithError>
     ensures offered { IfOk result (λ key. (K.data_of key ≡ entities.old.content.offer) × (used entities.old.content < most)) }
     ensures err { IfErr result (RefusesInsert entities.old.content) }
+    ensures room { 0 < entities.old.content.room → IsOk result }
     ensures keeps { Keeps entities.old.content entities.new.content }
     ensures order { SameOrder entities.old entities.new }
+    ensures in_place { 0 < entities.old.content.room → entities.new.content.capacity ≡ entities.old.content.capacity }
     ensures capacity { entities.old.content.capacity ≤ entities.new.content.capacity }
     ensures valid { IsDense entities.old × IsDense entities.new }
 {
@@ -38,8 +41,32 @@ fn next_key<K: Key, E: Drop>(entities: &mut DenseSlotMap<K, E>) -> Result<K, Ins
     }
 }
 
+// Makes room for one more entity, and for its component in a table.
+pub(crate) fn make_room<K: Key, E: Drop, M: Table<K>>(
+    entities: &mut DenseSlotMap<K, E>,
+    table: &mut M,
+) -> Result<(), InsertWithError>
+    requires { IsBeside entities.old.content (M.pairs table.old) }
+    ensures fits { OnOk result (M.fits table.new entities.old.content.offer.index 1) }
+    ensures err { IfErr result (RefusesNext entities.old.content) }
+    ensures room { 0 < entities.old.content.room → M.fits table.old entities.old.content.offer.index 1 → IsOk result }
+    ensures keeps { Keeps entities.old.content entities.new.content }
+    ensures order { SameOrder entities.old entities.new }
+    ensures same_components { M.pairs table.new ≡ M.pairs table.old }
+    ensures same_room { (i count : ℕ) → M.fits table.old i count → M.fits table.new i count }
+    ensures in_place { 0 < entities.old.content.room → entities.new.content.capacity ≡ entities.old.content.capacity }
+    ensures capacity { entities.old.content.capacity ≤ entities.new.content.capacity }
+    ensures valid { IsDense entities.old × IsDense entities.new }
+{
+    let key = next_key(entities)?;
+    if table.reserve(1, key.data().idx() as usize).is_err() {
+        return Err(InsertWithError::Memory);
+    }
+    Ok(())
+}
+
 // Adds an entity, and a component beside it, into the table of its kind.
-fn spawn_with<K: Key, E: Drop, M: Table<K>>(
+pub(crate) fn spawn_with<K: Key, E: Drop, M: Table<K>>(
     entities: &mut DenseSlotMap<K, E>,
     table: &mut M,
     entity: E,
@@ -48,23 +75,23 @@ fn spawn_with<K: Key, E: Drop, M: Table<K>>(
     requires { IsBeside entities.old.content (M.pairs table.old) }
     ensures adds { IfOk result (λ key. Inserts entities.old.content (K.data_of key) entity entities.new.content) }
     ensures there { IfOk result (λ key. get (M.pairs table.new) (K.data_of key) ≡ Some component) }
-    ensures order { IfOk result (λ key. Appends entities.old (K.data_of key) entity entities.new) }
     ensures others { IfOk result (λ key. (q : KeyOf) → q ≢ K.data_of key → get (M.pairs table.new) q ≡ get (M.pairs table.old) q) }
+    ensures order { IfOk result (λ key. Appends entities.old (K.data_of key) entity entities.new) }
+    ensures room { 0 < entities.old.content.room → M.fits table.old entities.old.content.offer.index 1 → IsOk result }
+    ensures less_room { (i count : ℕ) → M.fits table.old i (count + 1) → M.fits table.new i count }
     ensures err { IfErr result (RefusesSpawn entities.old.content entity component) }
     ensures unchanged { OnErr result (Keeps entities.old.content entities.new.content) }
     ensures same_order { OnErr result (SameOrder entities.old entities.new) }
     ensures same_components { OnErr result (M.pairs table.new ≡ M.pairs table.old) }
+    ensures in_place { 0 < entities.old.content.room → entities.new.content.capacity ≡ entities.old.content.capacity }
     ensures capacity { entities.old.content.capacity ≤ entities.new.content.capacity }
     ensures beside { IsBeside entities.new.content (M.pairs table.new) }
-    ensures valid { IsDense entities.old }
+    ensures valid { IsDense entities.old × IsDense entities.new }
 {
-    let next = match next_key(entities) {
-        Ok(key) => key.data().idx() as usize,
+    match make_room(entities, table) {
+        Ok(()) => {}
         Err(InsertWithError::Full) => return Err(SpawnError::Full(entity, component)),
         Err(InsertWithError::Memory) => return Err(SpawnError::Memory(entity, component)),
-    };
-    if table.reserve(1, next).is_err() {
-        return Err(SpawnError::Memory(entity, component));
     }
     match entities.insert(entity) {
         Ok(key) => {
@@ -80,8 +107,10 @@ impl<K: Key, E: Drop, T: Tables<K>> World<K, E, T> {
     /// Adds an entity with a component, and returns its key, which no entity had before.
     ///
     /// If the call fails, no entity was added, and no component: the error holds the entity's value and
-    /// the component. It uses up no key. Constant time, unless the map or the table grows. Further
-    /// components are added by [`World::attach`].
+    /// the component. It uses up no key. It can't fail if there is room for the entity, as after
+    /// [`World::reserve`], and in the table for its component, as after [`World::reserve_components`].
+    /// Constant time, unless the map or the table grows. Further components are added by
+    /// [`World::attach`].
     ///
     /// ```
     /// let mut world: World<DefaultKey, u8, (SecondaryMap<DefaultKey, u32>, ())> = World::new(alloc)?;
@@ -104,6 +133,16 @@ impl<K: Key, E: Drop, T: Tables<K>> World<K, E, T> {
         // It is the last in the packed order.
         ensures order { IfOk result (λ key. Appends self.old.entities (K.data_of key) entity self.new.entities) }
 
+        // If there is room for the entity, and for its component in the table, it can't fail. It takes up
+        // room for one component at most.
+        ensures room { 0 < self.old.entities.content.room → C.Table.fits (C.table self.old.tables) self.old.entities.content.offer.index 1 → IsOk result }
+        ensures less_room { (i count : ℕ) → C.Table.fits (C.table self.old.tables) i (count + 1) → C.Table.fits (C.table self.new.tables) i count }
+        // The index of the next key is at most one more than there are slots.
+        ensures offered { 0 < self.old.entities.content.room → self.old.entities.content.offer.index ≤ places self.old.entities.content + 1 }
+        // If there is room for the entity, the capacity stays.
+        ensures in_place { 0 < self.old.entities.content.room → self.new.entities.content.capacity ≡ self.old.entities.content.capacity }
+        ensures capacity { self.old.entities.content.capacity ≤ self.new.entities.content.capacity }
+
         // Why the call failed, and what that leaves: the same entities with the same components.
         ensures err { IfErr result (RefusesSpawn self.old.entities.content entity component) }
         ensures unchanged { OnErr result (Keeps self.old.entities.content self.new.entities.content) }
@@ -114,7 +153,6 @@ impl<K: Key, E: Drop, T: Tables<K>> World<K, E, T> {
         ensures others { IfOk result (λ key. (q : KeyOf) → q ≢ K.data_of key
             → get (C.Table.pairs (C.table self.new.tables)) q ≡ get (C.Table.pairs (C.table self.old.tables)) q) }
         ensures kinds { self.new.tables ≡ C.with_table self.old.tables (C.table self.new.tables) }
-        ensures capacity { self.old.entities.content.capacity ≤ self.new.entities.content.capacity }
         ensures gone { KeepsSpent self.old.entities.content self.new.entities.content }
     {
         let table = C::table_mut(&mut self.tables);

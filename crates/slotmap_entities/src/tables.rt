@@ -4,7 +4,8 @@ ghost use Rattle.std.specs.FinMap as map;
 ghost use Rattle.std.specs.Prelude.{◌≡◌, ◌≢◌, ℕ, ◌+◌, ◌-◌, ◌≤◌, ◌||◌, Bool, true, false, refl, IfOk, OnOk, IsOk, IfErr, OnErr, option_copied};
 ghost use Rattle.std.specs.Option.{option_copied_mut};
 ghost use Rattle.std.specs.Borrow.{sem, LendsIf};
-ghost use Rattle.slotmap.specs.Words.{Key as KeyOf, Pairs, get, contains_key, put, bind, remove, RefusesPut, keyed, RetainsBy, CallableOnEach, side_with_value, sparse_with_value};
+ghost use Rattle.slotmap.specs.Words.{Key as KeyOf, Pairs, get, contains_key, put, bind, remove, most, RefusesCapacity, RefusesPut, keyed, RetainsBy, CallableOnEach, side_with_value, sparse_with_value};
+ghost use Rattle.slotmap_entities.specs.World.{RefusesSparse};
 
 use slotmap::{Key, PutError, ReserveError, SecondaryMap, SparseSecondaryMap};
 use std::alloc::Global;
@@ -17,6 +18,8 @@ pub trait Table<K: Key>: Drop {
     type Component: Drop;
 
     ghost use Rattle.slotmap.specs.Words.{Key as KeyOf};
+    ghost use Rattle.slotmap.specs.declared.ReserveError.{ReserveError as WhyNoRoom};
+    ghost use Rattle.slotmap.specs.declared.ReserveError.TheVariants.{TooGreat};
 
     // The components, by their entities.
     ghost pairs: { Self → Pairs Self.Component };
@@ -28,6 +31,10 @@ pub trait Table<K: Key>: Drop {
     // them can't fail.
     ghost fits: { Self → ℕ → ℕ → Type 0 };
 
+    // Why a `reserve` for so many more components, of entities whose index is at most the first number,
+    // fails with this error.
+    ghost refuses_room: { Self → ℕ → ℕ → WhyNoRoom → Type 0 };
+
     /// Makes an empty table. It fails only if memory runs out.
     fn new(alloc: Global) -> Result<Self, ReserveError>
         ensures empty { IfOk result (λ table. pairs table ≡ map.empty) }
@@ -36,13 +43,18 @@ pub trait Table<K: Key>: Drop {
     /// Makes room for `additional` more components, of entities whose index is at most `last`: to
     /// insert them can't fail then.
     ///
-    /// A `SecondaryMap` takes memory for each index up to `last`, and a `SparseSecondaryMap` for
-    /// `additional` components. If memory runs out, or one of the numbers is too great, the table has
-    /// the same components.
+    /// A `SecondaryMap` takes memory for each index up to `last`, and fails with `TooGreat` if `last`
+    /// exceeds 4294967294. A `SparseSecondaryMap` takes it for `additional` components, and fails with
+    /// `TooGreat` if there would be more than 4294967295. Each fails with `Memory` if memory runs out.
+    /// The table has the same components then. If they fit already, nothing changes, and only a number
+    /// that is too great is refused.
     fn reserve(&mut self, additional: usize, last: usize) -> Result<(), ReserveError>
         ensures ok { OnOk result (fits self.new last additional) }
+        ensures err { IfErr result (refuses_room self.old last additional) }
         ensures keeps { pairs self.new ≡ pairs self.old }
-        ensures room { (i count : ℕ) → fits self.old i count → fits self.new i count };
+        ensures room { (i count : ℕ) → fits self.old i count → fits self.new i count }
+        ensures succeeds { fits self.old last additional → (refuses_room self.old last additional ReserveError.TooGreat → ⊥) → IsOk result }
+        ensures had_room { fits self.old last additional → self.new ≡ self.old };
 
     /// Returns whether an entity has a component here.
     fn contains_key(&self, key: K) -> bool
@@ -95,6 +107,12 @@ pub trait Table<K: Key>: Drop {
 
     // Where some fit, fewer do, and of lower indices.
     ghost fewer_fit: { (m : Self) (i j n p : ℕ) → i ≤ j → n ≤ p → fits m j p → fits m i n };
+
+    // Where some fit, they do once a component that is there has another value.
+    ghost with_value_room: { (m : Self) (k : KeyOf) (v : Self.Component) (i n : ℕ) → contains_key (pairs m) k ≡ true → fits m i n → fits (with_value m k v) i n };
+
+    // Components of as many entities as a world can have aren't too many.
+    ghost within_limit: { (m : Self) (i n : ℕ) → i ≤ most → map.len (pairs m) + n ≤ most → refuses_room m i n TooGreat → ⊥ };
 }
 
 impl<K: Key, C: Drop> Table<K> for SecondaryMap<K, C> {
@@ -107,6 +125,8 @@ impl<K: Key, C: Drop> Table<K> for SecondaryMap<K, C> {
     ghost with_value = { side_with_value };
 
     ghost fits = { λ m last count. last ≤ m.capacity };
+
+    ghost refuses_room = { λ m last count. RefusesCapacity last };
 
     fn new(alloc: Global) -> Result<Self, ReserveError> {
         SecondaryMap::new(alloc)
@@ -150,18 +170,25 @@ impl<K: Key, C: Drop> Table<K> for SecondaryMap<K, C> {
     ghost with_value_is = { λ m k v. refl };
 
     ghost fewer_fit = { λ m i j n p low less fit. Prim.omega arith };
+
+    ghost with_value_room = { λ m k v i n there fit. fit };
+
+    ghost within_limit = { λ m i n low less great. Prim.omega arith };
 }
 
 impl<K: Key, C: Drop> Table<K> for SparseSecondaryMap<K, C> {
     type Component = C;
 
     ghost use Rattle.std.proofs.Common.{arith};
+    ghost use Rattle.std.specs.Cmp.{nat_cmp_total};
 
     ghost pairs = { λ m. m.pairs };
 
     ghost with_value = { sparse_with_value };
 
     ghost fits = { λ m last count. map.len m.pairs + count ≤ m.capacity };
+
+    ghost refuses_room = { λ m last count. RefusesSparse (map.len m.pairs + count) };
 
     fn new(alloc: Global) -> Result<Self, ReserveError> {
         SparseSecondaryMap::new(alloc)
@@ -205,6 +232,11 @@ impl<K: Key, C: Drop> Table<K> for SparseSecondaryMap<K, C> {
     ghost with_value_is = { λ m k v. refl };
 
     ghost fewer_fit = { λ m i j n p low less fit. Prim.omega arith };
+
+    ghost with_value_room = { λ m k v i n there fit.
+        let long = map.len-insert nat_cmp_total m.pairs k.index (k.version, v) in Prim.grind (arith, long) };
+
+    ghost within_limit = { λ m i n low less great. Prim.omega arith };
 }
 
 /// The tables of a world: pairs of a [`Table`] and further tables, down to `()`.

@@ -2,7 +2,7 @@
 #![tactic(auto)]
 
 use slotmap::{DefaultKey, SecondaryMap, SparseSecondaryMap};
-use slotmap_entities::{CloneTables, First, Kind, Second, Table, Tables, World};
+use slotmap_entities::{Apart, CloneTables, First, Kind, Second, Table, Tables, World};
 use slotmap_sizes::{Random, Sum, tell};
 
 type Numbers<T> = World<DefaultKey, u64, T>;
@@ -222,11 +222,56 @@ where
     tell_all::<T, F, S>(rt, &copy)
 }
 
+// Spawns so many more numbers, each with both components: the number, twice and three times.
+fn spawn_pairs<T, F, S>(
+    world: &mut Numbers<T>,
+    keys: &mut Vec<DefaultKey>,
+    first: u64,
+    count: u64,
+) -> Option<()>
+where
+    T: Tables<DefaultKey>,
+    F: Apart<DefaultKey, T, S>,
+    S: Kind<DefaultKey, T>,
+    F::Table: Table<DefaultKey, Component = u64>,
+    S::Table: Table<DefaultKey, Component = u64>,
+{
+    for number in first..first.wrapping_add(count) {
+        let (twice, thrice) = (number.wrapping_mul(2), number.wrapping_mul(3));
+        let key = world
+            .spawn_with_both::<F, S>(number, twice, thrice)
+            .ok()?;
+        keys.push(key).ok()?;
+    }
+    Some(())
+}
+
+// Adds 1 to both components of each entity that has both. The sum is of those that were there.
+fn replace_all<T, F, S>(world: &mut Numbers<T>, keys: &[DefaultKey]) -> Option<Sum>
+where
+    T: Tables<DefaultKey>,
+    F: Apart<DefaultKey, T, S>,
+    S: Kind<DefaultKey, T>,
+    F::Table: Table<DefaultKey, Component = u64>,
+    S::Table: Table<DefaultKey, Component = u64>,
+{
+    let mut sum = Sum::new();
+    for key in keys {
+        if let Some((first, second)) = world.both::<F, S>(*key) {
+            let (first, second) = (first.wrapping_add(1), second.wrapping_add(1));
+            let (first, second) = world.replace_both::<F, S>(*key, first, second).ok()?;
+            sum.add(first);
+            sum.add(second);
+        }
+    }
+    Some(sum)
+}
+
 // The calls on a world with two kinds of components.
 fn run_calls<T, F, S>(rt: &HostRuntime, size: u64) -> Option<()>
 where
     T: CloneTables<DefaultKey>,
-    F: Kind<DefaultKey, T>,
+    F: Apart<DefaultKey, T, S>,
     S: Kind<DefaultKey, T>,
     F::Table: Table<DefaultKey, Component = u64>,
     S::Table: Table<DefaultKey, Component = u64>,
@@ -243,6 +288,9 @@ where
     tell(rt, "by key", sum_by_key::<T, F, S>(&world, keys.as_slice()))?;
     change::<T, F, S>(rt, &mut world, keys.as_slice(), &mut random)?;
     world.reserve(size as usize).ok()?;
+    spawn_pairs::<T, F, S>(&mut world, &mut keys, size, size / 2)?;
+    let replaced = replace_all::<T, F, S>(&mut world, keys.as_slice())?;
+    tell(rt, "replaced", replaced)?;
     copy::<T, F, S>(rt, &mut world)
 }
 

@@ -8,28 +8,40 @@
 use std::env;
 use std::process::ExitCode;
 
-// All structures at one size.
-fn run_size(rt: &HostRuntime, size: u64) -> Option<()> {
-    println!(rt; "{size} elements").ok()?;
-    slotmap_sizes_list::run(rt, size)?;
-    slotmap_sizes_graph::run(rt, size)?;
-    slotmap_sizes_scene::run(rt, size)?;
-    slotmap_sizes_scheduler::run(rt, size)?;
-    slotmap_sizes_world::run(rt, size)
+// All structures at one size. It returns whether all calls succeeded.
+fn run_size(rt: &HostRuntime, size: u64) -> bool {
+    println!(rt; "{size} elements").is_ok()
+        && slotmap_sizes_list::run(rt, size).is_some()
+        && slotmap_sizes_graph::run(rt, size).is_some()
+        && slotmap_sizes_scene::run(rt, size).is_some()
+        && slotmap_sizes_scheduler::run(rt, size).is_some()
+        && slotmap_sizes_world::run(rt, size).is_some()
+}
+
+// The same at the size that a word names.
+fn run_word(rt: &HostRuntime, word: &str) -> bool {
+    match word.parse::<u64>() {
+        Ok(size) => run_size(rt, size),
+        Err(_) => false,
+    }
 }
 
 // All structures at each size.
-fn run(rt: &HostRuntime) -> Option<()> {
-    for word in env::args(rt).ok()?.skip(1) {
-        let size = word.as_str().parse::<u64>().ok()?;
-        run_size(rt, size)?;
+fn run(rt: &HostRuntime) -> bool {
+    let Ok(words) = env::args(rt) else {
+        return false;
+    };
+    let mut runs = true;
+    for word in words.skip(1) {
+        runs = runs && run_word(rt, word.as_str());
     }
-    Some(())
+    runs
 }
 
 fn main(rt: HostRuntime) -> ExitCode {
-    match run(&rt) {
-        Some(()) => ExitCode::SUCCESS,
-        None => ExitCode::FAILURE,
+    if run(&rt) {
+        ExitCode::SUCCESS
+    } else {
+        ExitCode::FAILURE
     }
 }

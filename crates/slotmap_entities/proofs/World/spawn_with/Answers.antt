@@ -12,10 +12,14 @@ invariant_of-self g c =
 
 pub returns-clause-gone : goal.returns-clause-gone
 returns-clause-gone g c = rw (← c.self.view_is)
-    (spawned_spent c.self.inside.entities.content c.spawn_with.new.entities.content g.K.Key.data_of c.args.entity c.spawn_with.result c.spawn_with.ensures.valid.content
+    (spawned_spent c.self.inside.entities.content c.spawn_with.new.entities.content g.K.Key.data_of c.args.entity c.spawn_with.result c.spawn_with.ensures.valid.0.content
     c.spawn_with.ensures.adds c.spawn_with.ensures.unchanged)
 
 pub returns-clause-index : goal.returns-clause-index
 returns-clause-index g c = rw (← c.self.view_is)
-    (spawned_index c.self.inside.entities.content c.spawn_with.new.entities.content g.K.Key.data_of c.args.entity c.spawn_with.result c.spawn_with.ensures.valid.content
+    (spawned_index c.self.inside.entities.content c.spawn_with.new.entities.content g.K.Key.data_of c.args.entity c.spawn_with.result c.spawn_with.ensures.valid.0.content
     c.spawn_with.ensures.adds)
+
+pub returns-clause-others : goal.returns-clause-others
+returns-clause-others g c =
+    rw (g.met.C.Kind.table_put c.self.inside.tables c.spawn_with.new.table, ← c.self.view_is, ← c.table_mut-table.ensures.value) c.spawn_with.ensures.others
