@@ -32,7 +32,7 @@ fn relink<V>(slots: &mut [Slot<V>], before: u32, after: u32, to: u32, from: u32)
 
 // The next four functions make the links of vacant slots ready for one more, which isn't vacant yet:
 // as soon as it gets the links that are returned, it has joined the blocks. So its links are written
-// once, after all others.
+// after all others.
 
 // Neither neighbour is vacant: a new block, at the end of the list.
 #[inline(always)]
@@ -149,8 +149,8 @@ fn vacate<V>(slots: &mut [Slot<V>], index: u32, version: u32) -> V
 }
 
 // Takes the value out of a live slot, which gets this version and joins the blocks. All other links
-// are ready before. Its own are written in place: as parts of a new slot both numbers would be made
-// one first.
+// are ready before. Its own are written in place: the compiler would pack both numbers of a new slot
+// into one first.
 #[inline(always)]
 pub(crate) fn free<V>(slots: &mut [Slot<V>], index: u32, version: u32) -> V
     requires { CanFree slots.old index }

@@ -84,10 +84,11 @@ impl<K: Key, V: Drop> HopSlotMap<K, V> {
         let mut next = self.first_place(0);
         while let Some(index) = next {
             let key = self.key_at(index);
+            let stays = f(key, self.get_unchecked_mut(key));
             // The slot after this one is looked for before a removal, which may join blocks. From the
-            // key its index would wait for the version, which a key is packed with. In each branch,
-            // since a key that stays then needs no test of what was found.
-            if f(key, self.get_unchecked_mut(key)) {
+            // key its index would wait for the version, which a key is packed with. Each branch has
+            // its own search: so after a key that stays, what was found is tested once.
+            if stays {
                 next = self.first_place(index + 1);
             } else {
                 next = self.first_place(index + 1);

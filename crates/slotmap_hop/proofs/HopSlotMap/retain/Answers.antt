@@ -15,24 +15,24 @@ key_at-key-requires g c = (at_place g (goal.at.key_at-key-requires g c).In-Some)
 so_far : (g : _) (c : After-key_at-key g) → Retaining g.F.FnMut g.K.Key.data_of c.args.self.now c.args.f c.loop-next.self (Some c.key_at-key.result) c.loop-next.f
 so_far g c = (at_place g (goal.at.After-key_at-key g c).In-Some).1 c.key_at-key.result c.key_at-key.ensures.live c.key_at-key.ensures.index
 
-pub f-requires : goal.f-requires
-f-requires g c = grind (arith, common_steps, retaining_may_come)
+pub f-stays-requires : goal.f-stays-requires
+f-stays-requires g c = grind (arith, common_steps, retaining_may_come)
 
 pub take_live-requires : goal.take_live-requires
 take_live-requires g c = grind (arith, common_steps, same_live)
 
 pub loop-next-preserved : goal.loop-next-preserved
 loop-next-preserved g c =
-    let comes = rw (← c.key_at-key.ensures.index) at c.first_place-next-else-f.ensures.comes in
+    let comes = rw (← c.key_at-key.ensures.index) at c.first_place-next-else-stays.ensures.comes in
     let took = c.take_live.ensures in
-    retaining_dropped_at g.F.FnMut g.K.Key.data_of c.args.self.now c.args.f c.first_place-next.ensures.valid (CallsAt-called g.F.FnMut c.f.ensures)
-    (so_far g (goal.at.loop-next-preserved g c).After-key_at-key) c.get_unchecked_mut.ensures.value c.take_live.new.self _ comes c.if-f.false took.removes took.blocks took.valid
+    retaining_dropped_at g.F.FnMut g.K.Key.data_of c.args.self.now c.args.f c.first_place-next.ensures.valid (CallsAt-called g.F.FnMut c.f-stays.ensures)
+    (so_far g (goal.at.loop-next-preserved g c).After-key_at-key) c.get_unchecked_mut.ensures.value c.take_live.new.self _ comes c.if-stays.false took.removes took.blocks took.valid
 
-pub loop-next-preserved-then-f : goal.loop-next-preserved-then-f
-loop-next-preserved-then-f g c =
-    let comes = rw (← c.key_at-key.ensures.index) at c.first_place-next-then-f.ensures.comes in
-    retaining_kept_at g.F.FnMut g.K.Key.data_of c.args.self.now c.args.f c.first_place-next.ensures.valid (CallsAt-called g.F.FnMut c.f.ensures)
-    (so_far g (goal.at.loop-next-preserved-then-f g c).After-key_at-key) c.get_unchecked_mut.ensures.value _ comes c.if-f.true
+pub loop-next-preserved-then-stays : goal.loop-next-preserved-then-stays
+loop-next-preserved-then-stays g c =
+    let comes = rw (← c.key_at-key.ensures.index) at c.first_place-next-then-stays.ensures.comes in
+    retaining_kept_at g.F.FnMut g.K.Key.data_of c.args.self.now c.args.f c.first_place-next.ensures.valid (CallsAt-called g.F.FnMut c.f-stays.ensures)
+    (so_far g (goal.at.loop-next-preserved-then-stays g c).After-key_at-key) c.get_unchecked_mut.ensures.value _ comes c.if-stays.true
 
 -- the closure was called for all live keys
 ended : (g : _) (c : In_default g) → Retaining g.F.FnMut g.K.Key.data_of c.args.self.now c.args.f c.loop-next.self None c.loop-next.f
@@ -52,8 +52,8 @@ returns-clause-valid g c =
     let sweep = (ended g (goal.at.returns-clause-valid g c).In_default).sweep in
     record { before = c.first_place-next.ensures.valid; after = sweep.valid; capacity = sweep.swept.capacity }
 
-pub first_place-next-requires-then-f : goal.first_place-next-requires-then-f
-first_place-next-requires-then-f g c = grind (arith, common_steps)
+pub first_place-next-requires-then-stays : goal.first_place-next-requires-then-stays
+first_place-next-requires-then-stays g c = grind (arith, common_steps)
 
-pub first_place-next-requires-else-f : goal.first_place-next-requires-else-f
-first_place-next-requires-else-f g c = grind (arith, common_steps)
+pub first_place-next-requires-else-stays : goal.first_place-next-requires-else-stays
+first_place-next-requires-else-stays g c = grind (arith, common_steps)
