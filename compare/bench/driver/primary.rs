@@ -357,9 +357,9 @@ macro_rules! detach_at_once {
         fn $name<const AT: u32>() -> Round<$map<DefaultKey, Value<AT>>> {
             Some(|map, keys, _| {
                 let mut sum = Sum::default();
-                for key in keys {
-                    if let Some(value) = map.detach(*key) {
-                        map.reattach(*key, Value(value.0.wrapping_add(1)));
+                for &mut key in keys {
+                    if let Some(value) = map.detach(key) {
+                        map.reattach(key, Value(value.0.wrapping_add(1)));
                         sum.add(value.0);
                         sum.add(1);
                     }

@@ -2,7 +2,7 @@
 
 ghost use Rattle.std.specs.FinMap as map;
 ghost use Rattle.std.specs.Prelude.{◌≡◌, ◌<◌, IfOk, IfErr, IsOk, IsErr, Ok, Err, true};
-ghost use Rattle.slotmap_core.specs.Words.{used, most, Inserts, Refuses, RefusesInsert, RefusesWith, MayGrow, MakesRoom};
+ghost use Rattle.slotmap_core.specs.Words.{used, most, Inserts, Refuses, RefusesInsert, RefusesWith, MayGrow, MakesRoom, StaysValid};
 
 use crate::SlotMap;
 use slotmap_core::errors::{InsertError, InsertWithError, ReserveError, TryInsertError};
@@ -23,21 +23,16 @@ impl<K: Key, V: Drop> SlotMap<K, V> {
         }
     }
 
-    // The same as `insert`, for a map with no room. Not inlined, so that `insert` has no way back from
+    // Inserts a value after the vectors have grown. Not inlined, so that `insert` has no way back from
     // there.
     #[cold]
     #[inline(never)]
-    fn insert_apart(&mut self, value: V) -> Result<K, InsertError<V>>
-        ensures ok { IfOk result (λ key. Inserts self.old (K.data_of key) value self.new) }
-        ensures err { IfErr result (λ error. Refuses self.old value error) }
-        ensures reuses { 0 < map.len self.old.next → IsOk result }
-        ensures valid { MayGrow true self.old (IsErr result) self.new }
+    fn fill_apart(&mut self, value: V) -> K
+        requires { 0 < self.old.room }
+        ensures inserts { Inserts self.old (K.data_of result) value self.new }
+        ensures valid { StaysValid true self.old self.new }
     {
-        match self.slots.reserve(1) {
-            Ok(()) => Ok(K::from(self.slots.fill(value))),
-            Err(ReserveError::TooGreat) => Err(InsertError::Full(value)),
-            Err(ReserveError::Memory) => Err(InsertError::Memory(value)),
-        }
+        K::from(self.slots.fill(value))
     }
 
     /// Inserts a value and returns its new key.
@@ -68,7 +63,11 @@ impl<K: Key, V: Drop> SlotMap<K, V> {
         if self.slots.has_room() {
             return Ok(K::from(self.slots.fill(value)));
         }
-        self.insert_apart(value)
+        match self.slots.reserve(1) {
+            Ok(()) => Ok(self.fill_apart(value)),
+            Err(ReserveError::TooGreat) => Err(InsertError::Full(value)),
+            Err(ReserveError::Memory) => Err(InsertError::Memory(value)),
+        }
     }
 
     /// Inserts the value that a closure returns for the new key, and returns the key.

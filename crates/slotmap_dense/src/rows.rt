@@ -116,18 +116,16 @@ impl Layout<u32> for Rows {
     }
 
     fn take(&mut self, index: usize, version: u32, usage: Use) -> u32 {
-        // Each field by itself: a row as a whole would first be put together.
-        let row = &mut self.rows[index];
-        let payload = row.number;
-        row.version = version;
-        row.number = number_for(usage);
+        let payload = self.rows[index].number;
+        self.rows[index] = vacant(version, usage);
         payload
     }
 
     fn put(&mut self, index: usize, version: u32, payload: u32) {
-        let row = &mut self.rows[index];
-        row.version = version;
-        row.number = payload;
+        self.rows[index] = Row {
+            version,
+            number: payload,
+        };
     }
 
     fn push(&mut self, version: u32, payload: u32) {

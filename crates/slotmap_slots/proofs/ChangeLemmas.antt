@@ -70,7 +70,8 @@ module _ {P : Type 0} {slots : List (Slot P)} {fits head aside used_count : ℕ}
     removed_other other =
         let long = length-set slots k.index (empty (k.version + 1) (Free head)) in
         let sound = (freed settled.sound _ _ _ there.there other).sound in
-        changed _ _ k.index (vacancies slots used_count + 1) aside (used_count - 1) _ sound (omega (arith, settled.among, positive)) (omega (arith, long, settled.fewer, positive)) (omega (arith, long, settled.holds))
+        changed _ _ k.index (vacancies slots used_count + 1) aside (used_count - 1) _ sound (omega (arith, settled.among, positive))
+        (omega (arith, long, settled.fewer, positive)) (omega (arith, long, settled.holds))
         (rw (← view) (removes-freed settled.sound _ _ _ there.there other (fits - 1)))
 
     -- or kept for the key

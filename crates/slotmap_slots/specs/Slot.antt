@@ -136,8 +136,8 @@ vacancies slots used_count = length slots - (used_count + 1)
 abbrev pub map_of : {P : Type 0} → List (Slot P) → ℕ → ℕ → ℕ → StackMap P
 map_of slots first_vacant vacant_count capacity = record { places = places_of slots; vacant = free_indices slots vacant_count first_vacant; capacity = capacity }
 
--- what holds of the slots between calls, in a layout with room for `fits` of them; `aside_count` of the slots in use are
--- detached or retired
+-- what holds of the slots between calls, in a layout with room for `fits` of them; of those that `used_count` counts,
+-- `aside_count` are detached or retired
 pub record IsSettled {P : Type 0} (slots : List (Slot P)) (fits first_vacant aside_count used_count : ℕ) : Type 0 where
   pub sound : IsSound slots first_vacant (vacancies slots used_count) (used_count - aside_count)
   pub among : aside_count ≤ used_count

@@ -30,7 +30,7 @@ pub struct Slots<P, L: Layout<P>> {
     // The first slot of the free list, or 0 if no slot is vacant.
     first_vacant: u32,
     // How many slots are live, detached or retired, and how many of them are detached or retired.
-    // So each call but the removal of a last key changes one of the counts.
+    // So no call changes both.
     used_count: u32,
     aside_count: u32,
     payloads: PhantomData<P>,

@@ -1,5 +1,5 @@
 use Rattle.slotmap_core.proofs.Common.{rules}
-use Rattle.slotmap_basic.proofs.SlotMap.insert_apart.Goals as goal
+use Rattle.slotmap_basic.proofs.SlotMap.insert.Goals as goal
 
 pub returns-in-Err-Memory-clause-err : goal.returns-in-Err-Memory-clause-err
 returns-in-Err-Memory-clause-err g c = search rules
