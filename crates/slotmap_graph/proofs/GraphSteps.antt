@@ -134,7 +134,7 @@ module _ {N E : Type 0} (d : Direction) (nodes nodes' : Content (Node N)) (edges
   pub turned_listed : (q : Key) → listed (turned d) nodes'.live edges'.live q ≡ listed (turned d) nodes.live edges.live q
   turned_listed = followed_along step.same_ends step.same_links
 
-  still_live : (q : Key) → map.contains_key edges.live q ≡ true → map.contains_key edges'.live q ≡ true
+  pub still_live : (q : Key) → map.contains_key edges.live q ≡ true → map.contains_key edges'.live q ≡ true
   still_live q live = sym (contains-mapped seen_edge edges'.live q) ∙ ap (λ c. map.contains_key c.live q) step.seen_edges ∙ contains-mapped seen_edge edges.live q ∙ live
 
   pub turned_threads : IsThreaded (turned d) nodes.live edges.live → IsThreaded (turned d) nodes'.live edges'.live

@@ -25,6 +25,11 @@ module _ {N E : Type 0} (d : Direction) (nodes : Content (Node N)) (edges : Cont
     pub next_kept : (mid : Content (Edge E)) → KeepsEdges d edges mid → IfSome link.next (λ l. map.contains_key mid.live l ≡ true)
     next_kept mid keeps = if_some link.next _ (λ l is. kept_live d edges mid keeps l (threaded.live p l (next_in threaded.linked p k l more (ap (λ (l : Link Key). l.next) link_had ∙ is))))
 
+  -- the last edge at the node is there
+  pub last_live : (last : Option Key) → last ≡ (ends_in d nodes.live p).last → (mid : Content (Edge E)) → KeepsEdges d edges mid → IfSome last (λ l. map.contains_key mid.live l ≡ true)
+  last_live last last_is mid keeps = if_some last _ (λ l is. kept_live d edges mid keeps l
+      (threaded.live p l (last_in (listed d nodes.live edges.live p) l (sym (last_is ∙ ap (λ (e : Ends Key). e.last) (threaded.linked.ends_are p)) ∙ is))))
+
 module _ {N E : Type 0} (d : Direction) (nodes : Content (Node N)) (edges : Content (Edge E)) (threaded : IsThreaded d nodes.live edges.live) (p : Key) (n : Node N) (there : map.get nodes.live p ≡ Some n) (had : Ends Key)
     (had_is : had ≡ node_ends d n) where
   abbrev list : List Key
@@ -33,9 +38,6 @@ module _ {N E : Type 0} (d : Direction) (nodes : Content (Node N)) (edges : Cont
   -- the ends at the node are those of its list
   pub ends_are : had ≡ ends_of list
   ends_are = had_is ∙ sym (ends_there d nodes.live p n there) ∙ threaded.linked.ends_are p
-
-  pub last_kept : (mid : Content (Edge E)) → KeepsEdges d edges mid → IfSome had.last (λ l. map.contains_key mid.live l ≡ true)
-  last_kept mid keeps = if_some had.last _ (λ l is. kept_live d edges mid keeps l (threaded.live p l (last_in list l (sym (ap (λ (e : Ends Key). e.last) ends_are) ∙ is))))
 
   -- the node has other ends, those of this list
   module _ (nodes' : Content (Node N)) (edges' : Content (Edge E)) (ends' : Ends Key) (is : nodes' ≡ with_value nodes p (with_ends d ends' n)) (keeps : KeepsEdges d edges edges')

@@ -11,7 +11,7 @@ ghost use Rattle.slotmap_keylist.specs.Mapped.{map_content};
 ghost use Rattle.slotmap_graph.specs.declared.links.Direction.{Direction as ToOrFrom};
 ghost use Rattle.slotmap_graph.specs.Threads.{no_link, ends_in, node_value, seen_edge};
 
-use crate::links::{Direction, Edges, Nodes, link_last, unlink};
+use crate::links::{Direction, Edges, Nodes, last_of, link_last, unlink};
 use crate::{Edge, EdgeError, EdgeKey, Graph, Node};
 use slotmap::{DefaultKey, InsertError, Key};
 use slotmap_keylist::{Ends, Link, inner};
@@ -144,12 +144,29 @@ impl<K: Key, N: Drop, E: Drop> Graph<K, N, E> {
         ensures nodes { self.new.nodes ≡ self.old.nodes }
         ensures gone { KeepsSpent self.old.edges self.new.edges }
     {
-        if !self.nodes.contains_key(from) || !self.nodes.contains_key(to) {
+        let Some(out) = last_of(&self.nodes, Direction::Out, from) else {
             return Err(EdgeError::Gone(edge));
-        }
+        };
+        let Some(into) = last_of(&self.nodes, Direction::Into, to) else {
+            return Err(EdgeError::Gone(edge));
+        };
         let key = insert_edge(&mut self.edges, inner(from), inner(to), edge)?;
-        link_last(&mut self.nodes, &mut self.edges, Direction::Out, from, key);
-        link_last(&mut self.nodes, &mut self.edges, Direction::Into, to, key);
+        link_last(
+            &mut self.nodes,
+            &mut self.edges,
+            Direction::Out,
+            from,
+            &out,
+            key,
+        );
+        link_last(
+            &mut self.nodes,
+            &mut self.edges,
+            Direction::Into,
+            to,
+            &into,
+            key,
+        );
         Ok(key)
     }
 
