@@ -26,6 +26,10 @@ no_ends = record { first = None; last = None; len = 0 }
 abbrev pub no_link : Link Key
 no_link = record { prev = None; next = None }
 
+-- the link of an edge at the end of a list, behind another one or alone
+abbrev pub behind : Option Key → Link Key
+behind last = record { prev = last; next = None }
+
 -- the ends of a list once a key is put behind the others, and once one with these neighbours is left out
 abbrev pub pushed : Option Key → Ends Key → Ends Key
 pushed k ends = record { first = own ends.last ends.first k; last = k; len = ends.len + 1 }

@@ -1,10 +1,10 @@
 //! The lists of the edges of each node, which are kept as links between edges.
 
-ghost use Rattle.std.specs.Prelude.{◌≡◌, ◌<◌, ◌≤◌, ◌++◌, [], ◌∷◌, Some, IfNone, IfSome, cond, true};
-ghost use Rattle.slotmap.specs.Words.{Key as KeyOf, IsContent, IsLive, most};
-ghost use Rattle.slotmap_keylist.specs.KeyLists.{is_key, times, without};
+ghost use Rattle.std.specs.Prelude.{◌≡◌, ◌<◌, ◌≤◌, ◌++◌, [], ◌∷◌, IfNone, IfSome};
+ghost use Rattle.slotmap.specs.Words.{Key as KeyOf, IsLive, most};
+ghost use Rattle.slotmap_keylist.specs.KeyLists.{times, without};
 ghost use Rattle.slotmap_keylist.specs.Splice.{with_next, with_prev};
-ghost use Rattle.slotmap_graph.specs.Threads.{IsThreaded, KeepsEdges, Rethreads, ends_in, edge_link, end, left, link_in, listed, node_ends, pushed, seen_edge, turned, with_ends, with_link};
+ghost use Rattle.slotmap_graph.specs.Threads.{IsThreaded, KeepsEdges, Rethreads, behind, ends_in, edge_link, end, left, link_in, listed, node_ends, pushed, seen_edge, turned, with_ends, with_link};
 
 use crate::{Edge, EdgeKey, Node};
 use slotmap::{DefaultKey, Key, SlotMap};
@@ -108,15 +108,6 @@ impl<E> Edge<E> {
         }
     }
 
-    fn set_link(&mut self, direction: Direction, link: Link<EdgeKey>)
-        ensures { self.new ≡ with_link direction link self.old }
-    {
-        match direction {
-            Direction::Out => self.out = link,
-            Direction::Into => self.into = link,
-        }
-    }
-
     // Lets it lead on to another edge in one of its two lists. Its other link isn't read, since that
     // would wait for memory.
     fn lead_on(&mut self, direction: Direction, next: Neighbour)
@@ -167,16 +158,6 @@ pub(crate) fn link_of<E: Drop>(
     }
 }
 
-// Gives an edge a link.
-fn set_link<E: Drop>(edges: &mut Edges<E>, direction: Direction, key: EdgeKey, link: Link<EdgeKey>)
-    requires { IsLive edges.old key }
-    ensures links { (q : KeyOf) → link_in direction edges.new.live q ≡ cond (is_key q key) link (link_in direction edges.old.live q) }
-    ensures keeps { KeepsEdges direction edges.old edges.new }
-    ensures valid { IsContent true edges.old }
-{
-    edges[key].set_link(direction, link);
-}
-
 // Lets the link of an edge, if there is one, lead on to `next`.
 fn set_next<E: Drop>(edges: &mut Edges<E>, direction: Direction, at: &Neighbour, next: Neighbour)
     requires { IfSome at.now (λ key. IsLive edges.old key) }
@@ -212,8 +193,8 @@ pub(crate) fn last_of<K: Key, N: Drop>(
     Some(nodes.get(node)?.ends(direction).last)
 }
 
-// Puts an edge that is in no list of this direction behind the others in that of a node. The last of
-// them is read before by `last_of`, so that the reads of both nodes don't wait for each other.
+// Puts an edge that is in no list of this direction, and whose link leads back to the last of the others
+// in that of a node, behind them.
 pub(crate) fn link_last<K: Key, N: Drop, E: Drop>(
     nodes: &mut Nodes<K, N>,
     edges: &mut Edges<E>,
@@ -226,14 +207,12 @@ pub(crate) fn link_last<K: Key, N: Drop, E: Drop>(
     requires node { IsLive nodes.old (K.data_of node) }
     requires last { last.now ≡ (ends_in direction nodes.old.live (K.data_of node)).last }
     requires edge { IsLive edges.old edge }
+    requires link { link_in direction edges.old.live edge ≡ behind last.now }
     requires unlisted { (p : KeyOf) → times edge (listed direction nodes.old.live edges.old.live p) ≡ 0 }
     ensures { Rethreads direction nodes.old edges.old (K.data_of node) (listed direction nodes.old.live edges.old.live (K.data_of node) ++ edge ∷ []) nodes.new edges.new }
 {
-    let link = Link {
-        prev: last.copied(),
-        next: KeyOrNull::none(),
-    };
-    set_link(edges, direction, edge, link);
+    // by the contract of `len`, the edges are well formed
+    let _ = edges.len();
     let on = KeyOrNull::some(edge);
     set_next(edges, direction, last, on.copied());
     nodes[node].put_last(direction, on);

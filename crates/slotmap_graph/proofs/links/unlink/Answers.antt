@@ -1,4 +1,4 @@
-use Rattle.std.proofs.Common.{◌≡◌, ◌<◌, ◌∙◌}
+use Rattle.std.proofs.Common.{◌≡◌, ◌∙◌}
 use Rattle.slotmap_graph.proofs.Common.{length, length-append, refl, ap, arith, with_value, Ends, link_in, listed, node_ends, with_next, with_prev, split_at}
 use Rattle.slotmap_graph.proofs.Relinked.{ends_are, prev_live, next_kept, taken}
 use Rattle.slotmap_graph.proofs.Threaded.{keeps_on}
