@@ -4,7 +4,7 @@ use Rattle.slotmap_graph.proofs.Common.{Bool, true, false, cond, Option, Some, N
 use Rattle.slotmap_graph.proofs.Common.{[], is_some, option_map, unwrap_or, refl, sym, ap, subst, inl, inr, arith, same_Some, Key, key_cmp, Content, IsContent}
 use Rattle.slotmap_graph.proofs.Common.{IsLive, Inserts, Removes, Leaves, Keeps, Pairs, IsBeside, with_value, keys, same_or_other, get-insert_here}
 use Rattle.slotmap_graph.proofs.Common.{get-insert_other, get-put_live, get-put_other, leaves_none, leaves_by_removal, inserted_fresh, none_of}
-use Rattle.slotmap_graph.proofs.Common.{live-remove_other, live-insert_still, is_key, times, without, AreLinked, ends_of, followed, map_values, map_content}
+use Rattle.slotmap_graph.proofs.Common.{live-remove_other, live-insert_still, is_key, times, without, AreApart, AreLinked, ends_of, followed, map_values, map_content}
 use Rattle.slotmap_graph.proofs.Common.{is_itself, is_other, times_first, times_gone, one_itself, followed_is, in_midst, get-mapped, contains-mapped}
 use Rattle.slotmap_graph.proofs.Common.{live-mapped, mapped-live, mapped-insert, mapped-remove, mapped-removes, mapped-written, content-mapped, linked_along}
 use Rattle.slotmap_graph.proofs.Common.{followed_along, linked_but, linked_self, Node, Edge, Direction, Out, Into, SeenEdge, Edges, ends, EndsLive, IsJoined}
@@ -110,31 +110,39 @@ module _ {N E : Type 0} (nodes : Content (Node N)) (edges : map.FinMap key_cmp (
         same Out = refl
         same Into = refl
 
-pub bare_edge : {E : Type 0} (p q : Key) (v : E) (d : Direction) → edge_link d (record { from = p; to = q; value = v; out = no_link; into = no_link }) ≡ no_link
-bare_edge p q v Out = refl
-bare_edge p q v Into = refl
-
--- an edge comes, which is in no list yet
+-- an edge comes, which is in no list yet, whatever its links are
 module _ {N E : Type 0} (nodes : Content (Node N)) (edges mid : Content (Edge E)) (graph : IsGraph nodes edges.live) (k : Key) (e : Edge E) (fresh : map.get edges.live k ≡ None)
-    (is : mid.live ≡ map.insert edges.live k e) (bare : (d : Direction) → edge_link d e ≡ no_link) where
-  mid_links : (d : Direction) (q : Key) → link_in d mid.live q ≡ link_in d edges.live q
-  mid_links d q = ap (λ m. link_in d m q) is ∙ part_new (edge_link d) no_link edges.live k e (bare d) fresh q
+    (is : mid.live ≡ map.insert edges.live k e) where
+  not_listed : (d : Direction) (p : Key) → times k (listed d nodes.live edges.live p) ≡ 0
+  not_listed d p = graph.lists d p k ∙ ap (ends_at (end d) p) (get-mapped seen_edge edges.live k ∙ ap (option_map seen_edge) fresh)
+
+  mid_linked : (d : Direction) → AreLinked (ends_in d nodes.live) (link_in d mid.live) (listed d nodes.live edges.live)
+  mid_linked d = linked_but (graph.linked d) k (not_listed d) (λ q other. ap (λ m. link_in d m q) is ∙ ap (λ o. unwrap_or (option_map (edge_link d) o) no_link) (get-insert_other edges.live k e q other))
 
   mid_listed : (d : Direction) (p : Key) → listed d nodes.live mid.live p ≡ listed d nodes.live edges.live p
-  mid_listed d p = followed_along {ends = ends_in d nodes.live} {ends' = ends_in d nodes.live} (λ q. refl) (mid_links d) p
+  mid_listed d p = followed_is (mid_linked d) p
 
   pub mid_threads : (d : Direction) → IsThreaded d nodes.live mid.live
-  mid_threads d = threaded_along d nodes.live nodes.live edges.live mid.live (λ q. refl) (mid_links d) (λ q live. rw is (live-insert_still edges.live k e q live)) (threads nodes edges.live graph d)
+  mid_threads d =
+      let was = threads nodes edges.live graph d in
+      record {
+        linked = linked_self (mid_linked d);
+        apart = subst AreApart (λ i p. sym (mid_listed d p) i) was.apart;
+        live = λ p q more. rw is (live-insert_still edges.live k e q (was.live p q (rw (mid_listed d p) at more)));
+      }
 
   pub mid_unlisted : (d : Direction) (p : Key) → times k (listed d nodes.live mid.live p) ≡ 0
-  mid_unlisted d p = ap (times k) (mid_listed d p) ∙ graph.lists d p k ∙ ap (ends_at (end d) p) (get-mapped seen_edge edges.live k ∙ ap (option_map seen_edge) fresh)
+  mid_unlisted d p = ap (times k) (mid_listed d p) ∙ not_listed d p
+
+  pub mid_link : (d : Direction) → link_in d mid.live k ≡ edge_link d e
+  mid_link d = ap (λ m. link_in d m k) is ∙ ap (λ o. unwrap_or (option_map (edge_link d) o) no_link) (get-insert_here edges.live k e)
 
 -- a list changes, and the other direction stays
 module _ {N E : Type 0} (d : Direction) (nodes nodes' : Content (Node N)) (edges edges' : Content (Edge E)) (p : Key) (ks : List Key) (step : Rethreads d nodes edges p ks nodes' edges') where
   pub turned_listed : (q : Key) → listed (turned d) nodes'.live edges'.live q ≡ listed (turned d) nodes.live edges.live q
   turned_listed = followed_along step.same_ends step.same_links
 
-  still_live : (q : Key) → map.contains_key edges.live q ≡ true → map.contains_key edges'.live q ≡ true
+  pub still_live : (q : Key) → map.contains_key edges.live q ≡ true → map.contains_key edges'.live q ≡ true
   still_live q live = sym (contains-mapped seen_edge edges'.live q) ∙ ap (λ c. map.contains_key c.live q) step.seen_edges ∙ contains-mapped seen_edge edges.live q ∙ live
 
   pub turned_threads : IsThreaded (turned d) nodes.live edges.live → IsThreaded (turned d) nodes'.live edges'.live
@@ -163,10 +171,10 @@ module _ {N E : Type 0} (n0 n1 n2 : Content (Node N)) (e0 e1 e2 : Content (Edge 
 
 -- an edge was put behind the others
 module _ {N E : Type 0} (nodes n1 n2 : Content (Node N)) (edges mid e1 e2 : Content (Edge E)) (graph : IsGraph nodes edges.live) (k : Key) (e : Edge E) (fresh : map.get edges.live k ≡ None)
-    (is : mid.live ≡ map.insert edges.live k e) (bare : (d : Direction) → edge_link d e ≡ no_link)
+    (is : mid.live ≡ map.insert edges.live k e)
     (out : Rethreads Out nodes mid e.from (listed Out nodes.live mid.live e.from ++ k ∷ []) n1 e1) (into : Rethreads Into n1 e1 e.to (listed Into n1.live e1.live e.to ++ k ∷ []) n2 e2) where
   same_mid : (d : Direction) (p : Key) → listed d nodes.live mid.live p ≡ listed d nodes.live edges.live p
-  same_mid = mid_listed nodes edges mid graph k e fresh is bare
+  same_mid = mid_listed nodes edges mid graph k e fresh is
 
   added_here : (d : Direction) → listed d n2.live e2.live (end d (seen_edge e)) ≡ listed d nodes.live edges.live (end d (seen_edge e)) ++ k ∷ []
   added_here Out = out_is nodes n1 n2 mid e1 e2 e.from e.to _ _ out into e.from ∙ out.list ∙ ap (λ l. l ++ k ∷ []) (same_mid Out e.from)

@@ -25,6 +25,11 @@ module _ {N E : Type 0} (d : Direction) (nodes : Content (Node N)) (edges : Cont
     pub next_kept : (mid : Content (Edge E)) → KeepsEdges d edges mid → IfSome link.next (λ l. map.contains_key mid.live l ≡ true)
     next_kept mid keeps = if_some link.next _ (λ l is. kept_live d edges mid keeps l (threaded.live p l (next_in threaded.linked p k l more (ap (λ (l : Link Key). l.next) link_had ∙ is))))
 
+  -- the last edge at the node is there
+  pub last_live : (last : Option Key) → last ≡ (ends_in d nodes.live p).last → IfSome last (λ l. map.contains_key edges.live l ≡ true)
+  last_live last last_is = if_some last _ (λ l is.
+      threaded.live p l (last_in (listed d nodes.live edges.live p) l (sym (last_is ∙ ap (λ (e : Ends Key). e.last) (threaded.linked.ends_are p)) ∙ is)))
+
 module _ {N E : Type 0} (d : Direction) (nodes : Content (Node N)) (edges : Content (Edge E)) (threaded : IsThreaded d nodes.live edges.live) (p : Key) (n : Node N) (there : map.get nodes.live p ≡ Some n) (had : Ends Key)
     (had_is : had ≡ node_ends d n) where
   abbrev list : List Key
@@ -33,9 +38,6 @@ module _ {N E : Type 0} (d : Direction) (nodes : Content (Node N)) (edges : Cont
   -- the ends at the node are those of its list
   pub ends_are : had ≡ ends_of list
   ends_are = had_is ∙ sym (ends_there d nodes.live p n there) ∙ threaded.linked.ends_are p
-
-  pub last_kept : (mid : Content (Edge E)) → KeepsEdges d edges mid → IfSome had.last (λ l. map.contains_key mid.live l ≡ true)
-  last_kept mid keeps = if_some had.last _ (λ l is. kept_live d edges mid keeps l (threaded.live p l (last_in list l (sym (ap (λ (e : Ends Key). e.last) ends_are) ∙ is))))
 
   -- the node has other ends, those of this list
   module _ (nodes' : Content (Node N)) (edges' : Content (Edge E)) (ends' : Ends Key) (is : nodes' ≡ with_value nodes p (with_ends d ends' n)) (keeps : KeepsEdges d edges edges')
@@ -63,22 +65,15 @@ module _ {N E : Type 0} (d : Direction) (nodes : Content (Node N)) (edges : Cont
     }
 
   module _ (k : Key) (nodes' : Content (Node N)) (edges' : Content (Edge E)) (keeps : KeepsEdges d edges edges') where
-    -- an edge is put behind the others
-    module _ (unlisted : (q : Key) → times k (listed d nodes.live edges.live q) ≡ 0) (mid : Key → Link Key)
-        (first : (q : Key) → mid q ≡ cond (is_key q k) (record { prev = had.last; next = None }) (link_in d edges.live q))
-        (second : (q : Key) → link_in d edges'.live q ≡ with_next had.last (Some k) mid q) where
-      first_is : (q : Key) → mid q ≡ cond (is_key q k) (link_between list []) (link_in d edges.live q)
-      first_is q = first q ∙ ap (λ (e : Ends Key). cond (is_key q k) (record { prev = e.last; next = None }) (link_in d edges.live q)) ends_are
-
-      second_is : (q : Key) → link_in d edges'.live q ≡ with_next (last_or list None) (Some k) mid q
-      second_is q = second q ∙ ap (λ (e : Ends Key). with_next e.last (Some k) mid q) ends_are
-
-      but : (q : Key) → q ≢ k → mid q ≡ link_in d edges.live q
-      but q other = first_is q ∙ ap (λ b. cond b (link_between list []) (link_in d edges.live q)) (is_other q k other)
+    -- an edge is put behind the others, whose link leads back to the last of them
+    module _ (unlisted : (q : Key) → times k (listed d nodes.live edges.live q) ≡ 0) (back : link_in d edges.live k ≡ record { prev = had.last; next = None })
+        (second : (q : Key) → link_in d edges'.live q ≡ with_next had.last (Some k) (link_in d edges.live) q) where
+      second_is : (q : Key) → link_in d edges'.live q ≡ with_next (last_or list None) (Some k) (link_in d edges.live) q
+      second_is q = second q ∙ ap (λ (e : Ends Key). with_next e.last (Some k) (link_in d edges.live) q) ends_are
 
       own_link : link_in d edges'.live k ≡ link_between list []
-      own_link = spliced_own list [] k (unlisted p) refl (link_in d edges.live) mid (link_in d edges'.live) (Some k) (Some k) but second_is
-          ∙ first_is k ∙ ap (λ b. cond b (link_between list []) (link_in d edges.live k)) (is_itself k)
+      own_link = spliced_own list [] k (unlisted p) refl (link_in d edges.live) (link_in d edges.live) (link_in d edges'.live) (Some k) (Some k) (λ q _. refl) second_is
+          ∙ back ∙ ap (λ (e : Ends Key). record { prev = e.last; next = None }) ends_are
 
       pub put_last : (first : Option Key) → first ≡ own had.last had.first (Some k) → nodes' ≡ with_value nodes p (with_ends d (record { first = first; last = Some k; len = had.len + 1 }) n)
           → Rethreads d nodes edges p (list ++ k ∷ []) nodes' edges'
@@ -88,7 +83,7 @@ module _ {N E : Type 0} (d : Direction) (nodes : Content (Node N)) (edges : Cont
           ∙ ap (λ (e : Ends Key). record { first = own e.last e.first (Some k); last = Some k; len = e.len + 1 }) ends_are ∙ ends_pushed list k in
           rethreads nodes' edges' ends' is keeps (list ++ k ∷ []) new
           (linked_put threaded.linked threaded.apart p k list [] (sym (append-nil list)) unlisted own_link
-          (spliced list [] k (unlisted p) refl (link_in d edges.live) mid (link_in d edges'.live) (Some k) (Some k) but second_is (λ x last first. absurd (cc)))
+          (spliced list [] k (unlisted p) refl (link_in d edges.live) (link_in d edges.live) (link_in d edges'.live) (Some k) (Some k) (λ q _. refl) second_is (λ x last first. absurd (cc)))
           (is_listed nodes' edges' ends' is keeps (list ++ k ∷ []) new))
 
     -- an edge is taken out

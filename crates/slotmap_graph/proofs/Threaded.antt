@@ -64,6 +64,14 @@ module _ {E : Type 0} where
       links = λ q. ap (λ c. link_in (turned d) c.live q) is ∙ part_kept (edge_link (turned d)) no_link old.live k (with_link d link e) e there (link_kept d link e) q;
     }
 
+  -- the link of an edge is changed
+  pub link_changed : (d : Direction) (old : Content (Edge E)) (k : Key) (e : Edge E) → map.get old.live k ≡ Some e → (f : Link Key → Link Key) (new : Content (Edge E)) → new ≡ with_value old k (with_link d (f (edge_link d e)) e)
+      → (q : Key) → link_in d new.live q ≡ cond (is_key q k) (f (link_in d old.live q)) (link_in d old.live q)
+  link_changed d old k e there f new is q = link_written d old k (f (edge_link d e)) e there new is q ∙ elim (same_or_other q k) [
+    | inl at ↦ ap (λ l. cond (is_key q k) (f l) (link_in d old.live q)) (sym (ap (λ o. unwrap_or (option_map (edge_link d) o) no_link) (ap (map.get old.live) at ∙ there)))
+    | inr other ↦ rw (is_other q k other)
+  ]
+
   pub keeps_on : (d : Direction) (old mid new : Content (Edge E)) → KeepsEdges d old mid → KeepsEdges d mid new → KeepsEdges d old new
   keeps_on d old mid new first then = record { seen = then.seen ∙ first.seen; links = λ k. then.links k ∙ first.links k }
 

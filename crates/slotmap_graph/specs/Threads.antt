@@ -1,11 +1,12 @@
 -- How the edges of each node are listed: each edge has a link in the list of the node where it begins and one in that of the node where it
 -- ends, and each node has the ends of its two lists.
-use Rattle.std.specs.Prelude.{◌≡◌, ◌<◌, true, None, List, option_map, unwrap_or}
+use Rattle.std.specs.Prelude.{◌≡◌, ◌+◌, ◌-◌, ◌<◌, true, None, List, Option, option_map, unwrap_or}
 use Rattle.std.specs.FinMap as map
 use Rattle.slotmap.specs.Words.{Key, key_cmp, Content}
 use Rattle.slotmap_keylist.specs.KeyLists.{times}
 use Rattle.slotmap_keylist.specs.Linked.{followed, AreLinked, AreApart}
 use Rattle.slotmap_keylist.specs.Mapped.{map_values, map_content}
+use Rattle.slotmap_keylist.specs.Splice.{own}
 use Rattle.slotmap_keylist.specs.declared.Ends.{Ends}
 use Rattle.slotmap_keylist.specs.declared.Link.{Link}
 use Rattle.slotmap_graph.specs.declared.Node.{Node}
@@ -24,6 +25,17 @@ no_ends = record { first = None; last = None; len = 0 }
 
 abbrev pub no_link : Link Key
 no_link = record { prev = None; next = None }
+
+-- the link of an edge at the end of a list, behind another one or alone
+abbrev pub behind : Option Key → Link Key
+behind last = record { prev = last; next = None }
+
+-- the ends of a list once a key is put behind the others, and once one with these neighbours is left out
+abbrev pub pushed : Option Key → Ends Key → Ends Key
+pushed k ends = record { first = own ends.last ends.first k; last = k; len = ends.len + 1 }
+
+abbrev pub left : Link Key → Ends Key → Ends Key
+left link ends = record { first = own link.prev ends.first link.next; last = own link.next ends.last link.prev; len = ends.len - 1 }
 
 module _ {N : Type 0} where
   abbrev pub node_value : Node N → N

@@ -9,12 +9,12 @@ ghost use Rattle.slotmap_keylist.specs.KeyLists.{without};
 ghost use Rattle.slotmap_graph.specs.Parts.{SeenEdge, avoids, touches, from, to, value, edges_at, ListsEdges, PutsBehind, SameEdges, RefusesEdge, RefusesLiveEdge};
 ghost use Rattle.slotmap_keylist.specs.Mapped.{map_content};
 ghost use Rattle.slotmap_graph.specs.declared.links.Direction.{Direction as ToOrFrom};
-ghost use Rattle.slotmap_graph.specs.Threads.{no_link, ends_in, node_value, seen_edge};
+ghost use Rattle.slotmap_graph.specs.Threads.{behind, ends_in, node_value, seen_edge};
 
-use crate::links::{Direction, Edges, Nodes, link_last, unlink};
+use crate::links::{Direction, Edges, Neighbour, Nodes, last_of, link_last, unlink};
 use crate::{Edge, EdgeError, EdgeKey, Graph, Node};
 use slotmap::{DefaultKey, InsertError, Key};
-use slotmap_keylist::{Ends, Link, inner};
+use slotmap_keylist::{Ends, KeyOrNull, Link, inner};
 
 // Adds a node with no edge to the map of nodes.
 fn insert_node<K: Key, N: Drop>(nodes: &mut Nodes<K, N>, value: N) -> Result<K, InsertError<N>>
@@ -48,16 +48,19 @@ fn take_node<K: Key, N: Drop>(nodes: &mut Nodes<K, N>, node: K) -> Option<N>
     Some(nodes.remove(node)?.value)
 }
 
-// Adds an edge that is in no list to the map of edges.
+// Adds an edge to the map of edges, behind these in the lists of its nodes. They don't lead on to it
+// yet, so it is in no list.
 fn insert_edge<E: Drop>(
     edges: &mut Edges<E>,
     from: DefaultKey,
     to: DefaultKey,
     value: E,
+    out: &Neighbour,
+    into: &Neighbour,
 ) -> Result<EdgeKey, EdgeError<E>>
     ensures adds { IfOk result (λ key. Inserts (map_content seen_edge edges.old) key (record { from = from; to = to; value = value }) (map_content seen_edge edges.new)) }
     ensures fresh { IfOk result (λ key. map.get edges.old.live key ≡ None) }
-    ensures unlinked { IfOk result (λ key. edges.new.live ≡ map.insert edges.old.live key (record { from = from; to = to; value = value; out = no_link; into = no_link })) }
+    ensures linked { IfOk result (λ key. edges.new.live ≡ map.insert edges.old.live key (record { from = from; to = to; value = value; out = behind out.now; into = behind into.now })) }
     ensures err { IfErr result (RefusesLiveEdge (map_content seen_edge edges.old) value) }
     ensures same { OnErr result (edges.new.live ≡ edges.old.live) }
     ensures reuses { 0 < map.len edges.old.next → IsOk result }
@@ -68,8 +71,14 @@ fn insert_edge<E: Drop>(
         from,
         to,
         value,
-        out: Link::none(),
-        into: Link::none(),
+        out: Link {
+            prev: out.copied(),
+            next: KeyOrNull::none(),
+        },
+        into: Link {
+            prev: into.copied(),
+            next: KeyOrNull::none(),
+        },
     };
     match edges.insert(edge) {
         Ok(key) => Ok(key),
@@ -144,12 +153,29 @@ impl<K: Key, N: Drop, E: Drop> Graph<K, N, E> {
         ensures nodes { self.new.nodes ≡ self.old.nodes }
         ensures gone { KeepsSpent self.old.edges self.new.edges }
     {
-        if !self.nodes.contains_key(from) || !self.nodes.contains_key(to) {
+        let Some(out) = last_of(&self.nodes, Direction::Out, from) else {
             return Err(EdgeError::Gone(edge));
-        }
-        let key = insert_edge(&mut self.edges, inner(from), inner(to), edge)?;
-        link_last(&mut self.nodes, &mut self.edges, Direction::Out, from, key);
-        link_last(&mut self.nodes, &mut self.edges, Direction::Into, to, key);
+        };
+        let Some(into) = last_of(&self.nodes, Direction::Into, to) else {
+            return Err(EdgeError::Gone(edge));
+        };
+        let key = insert_edge(&mut self.edges, inner(from), inner(to), edge, &out, &into)?;
+        link_last(
+            &mut self.nodes,
+            &mut self.edges,
+            Direction::Out,
+            from,
+            &out,
+            key,
+        );
+        link_last(
+            &mut self.nodes,
+            &mut self.edges,
+            Direction::Into,
+            to,
+            &into,
+            key,
+        );
         Ok(key)
     }
 

@@ -1,10 +1,10 @@
 //! The lists of the edges of each node, which are kept as links between edges.
 
-ghost use Rattle.std.specs.Prelude.{◌≡◌, ◌<◌, ◌++◌, [], ◌∷◌, Some, IfSome, cond, true};
-ghost use Rattle.slotmap.specs.Words.{Key as KeyOf, IsContent, IsLive};
-ghost use Rattle.slotmap_keylist.specs.KeyLists.{is_key, times, without};
-ghost use Rattle.slotmap_keylist.specs.Splice.{own, with_next, with_prev};
-ghost use Rattle.slotmap_graph.specs.Threads.{IsThreaded, KeepsEdges, Rethreads, ends_in, edge_link, end, link_in, listed, node_ends, seen_edge, turned, with_ends, with_link};
+ghost use Rattle.std.specs.Prelude.{◌≡◌, ◌<◌, ◌≤◌, ◌++◌, [], ◌∷◌, IfNone, IfSome};
+ghost use Rattle.slotmap.specs.Words.{Key as KeyOf, IsLive, most};
+ghost use Rattle.slotmap_keylist.specs.KeyLists.{times, without};
+ghost use Rattle.slotmap_keylist.specs.Splice.{with_next, with_prev};
+ghost use Rattle.slotmap_graph.specs.Threads.{IsThreaded, KeepsEdges, Rethreads, behind, ends_in, edge_link, end, left, link_in, listed, node_ends, pushed, seen_edge, turned, with_ends, with_link};
 
 use crate::{Edge, EdgeKey, Node};
 use slotmap::{DefaultKey, Key, SlotMap};
@@ -35,14 +35,56 @@ impl<N> Node<N> {
         }
     }
 
-    fn set_ends(&mut self, direction: Direction, ends: Ends<EdgeKey>)
-        ensures { self.new ≡ with_ends direction ends self.old }
+    // Puts an edge behind the others in one of its two lists.
+    fn put_last(&mut self, direction: Direction, edge: Neighbour)
+        requires { (node_ends direction self.old).len ≤ most }
+        ensures { self.new ≡ with_ends direction (pushed edge (node_ends direction self.old)) self.old }
     {
         match direction {
-            Direction::Out => self.out = ends,
-            Direction::Into => self.into = ends,
+            Direction::Out => put_last(&mut self.out, edge),
+            Direction::Into => put_last(&mut self.into, edge),
         }
     }
+
+    // Leaves out of one of its two lists an edge with these neighbours.
+    fn leave_out(&mut self, direction: Direction, link: &Link<EdgeKey>)
+        requires { 0 < (node_ends direction self.old).len }
+        ensures { self.new ≡ with_ends direction (left link.now (node_ends direction self.old)) self.old }
+    {
+        match direction {
+            Direction::Out => leave_out(&mut self.out, link),
+            Direction::Into => leave_out(&mut self.into, link),
+        }
+    }
+}
+
+// Puts an edge behind the others of a list. The first one is read only where there is no other.
+fn put_last(ends: &mut Ends<EdgeKey>, edge: Neighbour)
+    requires { ends.old.len ≤ most }
+    ensures { ends.new ≡ pushed edge ends.old }
+{
+    match ends.last.get() {
+        Some(_) => (),
+        None => ends.first = edge.copied(),
+    }
+    ends.last = edge;
+    ends.len += 1;
+}
+
+// Leaves an edge with these neighbours out of a list.
+fn leave_out(ends: &mut Ends<EdgeKey>, link: &Link<EdgeKey>)
+    requires { 0 < ends.old.len }
+    ensures { ends.new ≡ left link.now ends.old }
+{
+    match link.prev.get() {
+        Some(_) => (),
+        None => ends.first = link.next.copied(),
+    }
+    match link.next.get() {
+        Some(_) => (),
+        None => ends.last = link.prev.copied(),
+    }
+    ends.len -= 1;
 }
 
 impl<E> Edge<E> {
@@ -66,12 +108,24 @@ impl<E> Edge<E> {
         }
     }
 
-    fn set_link(&mut self, direction: Direction, link: Link<EdgeKey>)
-        ensures { self.new ≡ with_link direction link self.old }
+    // Lets it lead on to another edge in one of its two lists. Its other link isn't read, since that
+    // would wait for memory.
+    fn lead_on(&mut self, direction: Direction, next: Neighbour)
+        ensures { self.new ≡ with_link direction (record (edge_link direction self.old) { next = next }) self.old }
     {
         match direction {
-            Direction::Out => self.out = link,
-            Direction::Into => self.into = link,
+            Direction::Out => self.out.next = next,
+            Direction::Into => self.into.next = next,
+        }
+    }
+
+    // The same back.
+    fn lead_back(&mut self, direction: Direction, prev: Neighbour)
+        ensures { self.new ≡ with_link direction (record (edge_link direction self.old) { prev = prev }) self.old }
+    {
+        match direction {
+            Direction::Out => self.out.prev = prev,
+            Direction::Into => self.into.prev = prev,
         }
     }
 }
@@ -104,16 +158,6 @@ pub(crate) fn link_of<E: Drop>(
     }
 }
 
-// Gives an edge a link.
-fn set_link<E: Drop>(edges: &mut Edges<E>, direction: Direction, key: EdgeKey, link: Link<EdgeKey>)
-    requires { IsLive edges.old key }
-    ensures links { (q : KeyOf) → link_in direction edges.new.live q ≡ cond (is_key q key) link (link_in direction edges.old.live q) }
-    ensures keeps { KeepsEdges direction edges.old edges.new }
-    ensures valid { IsContent true edges.old }
-{
-    edges[key].set_link(direction, link);
-}
-
 // Lets the link of an edge, if there is one, lead on to `next`.
 fn set_next<E: Drop>(edges: &mut Edges<E>, direction: Direction, at: &Neighbour, next: Neighbour)
     requires { IfSome at.now (λ key. IsLive edges.old key) }
@@ -121,8 +165,7 @@ fn set_next<E: Drop>(edges: &mut Edges<E>, direction: Direction, at: &Neighbour,
     ensures keeps { KeepsEdges direction edges.old edges.new }
 {
     if let Some(key) = at.get() {
-        let prev = edges[key].link(direction).prev;
-        set_link(edges, direction, key, Link { prev, next });
+        edges[key].lead_on(direction, next);
     }
 }
 
@@ -133,50 +176,46 @@ fn set_prev<E: Drop>(edges: &mut Edges<E>, direction: Direction, at: &Neighbour,
     ensures keeps { KeepsEdges direction edges.old edges.new }
 {
     if let Some(key) = at.get() {
-        let next = edges[key].link(direction).next;
-        set_link(edges, direction, key, Link { prev, next });
+        edges[key].lead_back(direction, prev);
     }
 }
 
-// Where a link is the list's own, its end is the new one.
-fn own_end(at: &Neighbour, old: &Neighbour, new: &Neighbour) -> Neighbour
-    ensures { result ≡ own at.now old.now new.now }
+// The last edge in a list of a node, or `None` if the node doesn't exist.
+pub(crate) fn last_of<K: Key, N: Drop>(
+    nodes: &Nodes<K, N>,
+    direction: Direction,
+    node: K,
+) -> Option<Neighbour>
+    ensures live { IfSome result (λ _. IsLive nodes.now (K.data_of node)) }
+    ensures gone { IfNone result (IsLive nodes.now (K.data_of node) → ⊥) }
+    ensures last { IfSome result (λ last. last ≡ (ends_in direction nodes.now.live (K.data_of node)).last) }
 {
-    match at.get() {
-        Some(_) => old.copied(),
-        None => new.copied(),
-    }
+    Some(nodes.get(node)?.ends(direction).last)
 }
 
-// Puts an edge that is in no list of this direction behind the others in that of a node.
+// Puts an edge that is in no list of this direction, and whose link leads back to the last of the others
+// in that of a node, behind them.
 pub(crate) fn link_last<K: Key, N: Drop, E: Drop>(
     nodes: &mut Nodes<K, N>,
     edges: &mut Edges<E>,
     direction: Direction,
     node: K,
+    last: &Neighbour,
     edge: EdgeKey,
 )
     requires threaded { IsThreaded direction nodes.old.live edges.old.live }
     requires node { IsLive nodes.old (K.data_of node) }
+    requires last { last.now ≡ (ends_in direction nodes.old.live (K.data_of node)).last }
     requires edge { IsLive edges.old edge }
+    requires link { link_in direction edges.old.live edge ≡ behind last.now }
     requires unlisted { (p : KeyOf) → times edge (listed direction nodes.old.live edges.old.live p) ≡ 0 }
     ensures { Rethreads direction nodes.old edges.old (K.data_of node) (listed direction nodes.old.live edges.old.live (K.data_of node) ++ edge ∷ []) nodes.new edges.new }
 {
-    let node = &mut nodes[node];
-    let ends = node.ends(direction);
-    let link = Link {
-        prev: ends.last.copied(),
-        next: KeyOrNull::none(),
-    };
-    set_link(edges, direction, edge, link);
+    // by the contract of `len`, the edges are well formed
+    let _ = edges.len();
     let on = KeyOrNull::some(edge);
-    set_next(edges, direction, &ends.last, on.copied());
-    let ends = Ends {
-        first: own_end(&ends.last, &ends.first, &on),
-        last: on,
-        len: ends.len + 1,
-    };
-    node.set_ends(direction, ends);
+    set_next(edges, direction, last, on.copied());
+    nodes[node].put_last(direction, on);
 }
 
 // Takes an edge out of the list of a node.
@@ -195,12 +234,5 @@ pub(crate) fn unlink<K: Key, N: Drop, E: Drop>(
     let link = edges[edge].link(direction);
     set_next(edges, direction, &link.prev, link.next.copied());
     set_prev(edges, direction, &link.next, link.prev.copied());
-    let node = &mut nodes[node];
-    let ends = node.ends(direction);
-    let ends = Ends {
-        first: own_end(&link.prev, &ends.first, &link.next),
-        last: own_end(&link.next, &ends.last, &link.prev),
-        len: ends.len - 1,
-    };
-    node.set_ends(direction, ends);
+    nodes[node].leave_out(direction, &link);
 }

@@ -179,7 +179,7 @@ fn find<K: Key>(
     Some(sum)
 }
 
-// Adds 1 to the number of each node, and doubles that of each edge.
+// Adds 1 to the number of each node.
 fn write_nodes<K: Key>(graph: &mut Numbers<K>, nodes: &[K]) {
     for node in nodes {
         if let Some(number) = graph.node_mut(*node) {
@@ -188,6 +188,7 @@ fn write_nodes<K: Key>(graph: &mut Numbers<K>, nodes: &[K]) {
     }
 }
 
+// Doubles the number of each edge.
 fn write_edges<K: Key>(graph: &mut Numbers<K>, edges: &[EdgeKey]) {
     for edge in edges {
         if let Some(number) = graph.edge_mut(*edge) {

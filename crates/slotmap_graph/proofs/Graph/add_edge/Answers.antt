@@ -1,41 +1,42 @@
 use Rattle.std.proofs.Common.{◌∙◌}
-use Rattle.slotmap_graph.proofs.Common.{true, sym, ap, subst, Content, KeepsSpent, spent_insert, times, map_content, Out, Into, SeenEdge, seen_edge, no_link}
+use Rattle.slotmap_graph.proofs.Common.{true, is_some, get-insert_here, sym, ap, subst, Content, KeepsSpent, spent_insert, times, map_content, Out, Into, SeenEdge, seen_edge, behind}
 use Rattle.slotmap_graph.proofs.Common.{arith, keys, mapped, Direction, PutsBehind, by_node, end}
-use Rattle.slotmap_graph.proofs.GraphSteps.{bare_edge, mid_threads, mid_unlisted, turned_threads, turned_listed, still_node, edge_added, put_behind}
+use Rattle.slotmap_graph.proofs.GraphSteps.{still_live, mid_link, mid_threads, mid_unlisted, turned_threads, turned_listed, still_node, edge_added, put_behind}
 use Rattle.slotmap_graph.proofs.Graph.add_edge.Goals.{After-link_last-2}
+use Rattle.std.specs.FinMap as map
 use Rattle.slotmap_graph.proofs.Graph.add_edge.Goals as goal
 
 pub link_last-requires-clause-threaded : goal.link_last-requires-clause-threaded
 link_last-requires-clause-threaded g c =
-    mid_threads c.self.inside.nodes c.self.inside.edges c.insert_edge.new.edges c.self.invariant c.in_ok-key.key _ c.in_ok-key.ensures.fresh c.in_ok-key.ensures.unlinked (bare_edge c.inner.result c.inner-2.result c.args.edge) Out
+    mid_threads c.self.inside.nodes c.self.inside.edges c.insert_edge.new.edges c.self.invariant c.in_ok-key.key _ c.in_ok-key.ensures.fresh c.in_ok-key.ensures.linked Out
 
 pub link_last-requires-clause-unlisted : goal.link_last-requires-clause-unlisted
 link_last-requires-clause-unlisted g c =
-    mid_unlisted c.self.inside.nodes c.self.inside.edges c.insert_edge.new.edges c.self.invariant c.in_ok-key.key _ c.in_ok-key.ensures.fresh c.in_ok-key.ensures.unlinked (bare_edge c.inner.result c.inner-2.result c.args.edge) Out
+    mid_unlisted c.self.inside.nodes c.self.inside.edges c.insert_edge.new.edges c.self.invariant c.in_ok-key.key _ c.in_ok-key.ensures.fresh c.in_ok-key.ensures.linked Out
 
 pub link_last-requires-2-clause-threaded : goal.link_last-requires-2-clause-threaded
 link_last-requires-2-clause-threaded g c =
     turned_threads Out c.self.inside.nodes c.link_last.new.nodes c.insert_edge.new.edges c.link_last.new.edges (g.K.Key.data_of c.args.from) _ c.link_last.ensures
-    (mid_threads c.self.inside.nodes c.self.inside.edges c.insert_edge.new.edges c.self.invariant c.in_ok-key.key _ c.in_ok-key.ensures.fresh c.in_ok-key.ensures.unlinked (bare_edge c.inner.result c.inner-2.result c.args.edge) Into)
+    (mid_threads c.self.inside.nodes c.self.inside.edges c.insert_edge.new.edges c.self.invariant c.in_ok-key.key _ c.in_ok-key.ensures.fresh c.in_ok-key.ensures.linked Into)
 
 pub link_last-requires-2-clause-node : goal.link_last-requires-2-clause-node
 link_last-requires-2-clause-node g c =
     still_node Out c.self.inside.nodes c.link_last.new.nodes c.insert_edge.new.edges c.link_last.new.edges (g.K.Key.data_of c.args.from) _ c.link_last.ensures
-    (g.K.Key.data_of c.args.to) (sym c.contains_key-else-not-contains_key.ensures.value ∙ c.if-not-contains_key-2.false)
+    (g.K.Key.data_of c.args.to) c.in-Some-last_of.ensures.live
 
 pub link_last-requires-2-clause-unlisted : goal.link_last-requires-2-clause-unlisted
 link_last-requires-2-clause-unlisted g c p =
     ap (times c.in_ok-key.key) (turned_listed Out c.self.inside.nodes c.link_last.new.nodes c.insert_edge.new.edges c.link_last.new.edges (g.K.Key.data_of c.args.from) _ c.link_last.ensures p)
-    ∙ mid_unlisted c.self.inside.nodes c.self.inside.edges c.insert_edge.new.edges c.self.invariant c.in_ok-key.key _ c.in_ok-key.ensures.fresh c.in_ok-key.ensures.unlinked (bare_edge c.inner.result c.inner-2.result c.args.edge) Into p
+    ∙ mid_unlisted c.self.inside.nodes c.self.inside.edges c.insert_edge.new.edges c.self.invariant c.in_ok-key.key _ c.in_ok-key.ensures.fresh c.in_ok-key.ensures.linked Into p
 
 pub invariant_of-self-2 : goal.invariant_of-self-2
 invariant_of-self-2 g c =
     let from = g.K.Key.data_of c.args.from in
     let to = g.K.Key.data_of c.args.to in
-    let unlinked = rw (c.inner.ensures, c.inner-2.ensures) at c.in_ok-key.ensures.unlinked in
+    let linked = rw (c.inner.ensures, c.inner-2.ensures) at c.in_ok-key.ensures.linked in
     edge_added c.self.inside.nodes c.link_last.new.nodes c.link_last-2.new.nodes c.self.inside.edges c.insert_edge.new.edges c.link_last.new.edges c.link_last-2.new.edges c.self.invariant c.in_ok-key.key
-    (record { from = from; to = to; value = c.args.edge; out = no_link; into = no_link }) c.in_ok-key.ensures.fresh unlinked (bare_edge from to c.args.edge) c.link_last.ensures c.link_last-2.ensures
-    (sym c.contains_key.ensures.value ∙ c.if-not-contains_key.false) (sym c.contains_key-else-not-contains_key.ensures.value ∙ c.if-not-contains_key-2.false)
+    (record { from = from; to = to; value = c.args.edge; out = behind c.in-Some.out; into = behind c.in-Some-last_of.into }) c.in_ok-key.ensures.fresh linked c.link_last.ensures c.link_last-2.ensures
+    c.in-Some.ensures.live c.in-Some-last_of.ensures.live
 
 put : (g : _) (c : After-link_last-2 g) (d : Direction)
     → PutsBehind (by_node d c.self.inside.nodes.live c.self.inside.edges.live) (end d (record { from = g.K.Key.data_of c.args.from; to = g.K.Key.data_of c.args.to; value = c.args.edge })) c.in_ok-key.key
@@ -43,9 +44,9 @@ put : (g : _) (c : After-link_last-2 g) (d : Direction)
 put g c =
     let from = g.K.Key.data_of c.args.from in
     let to = g.K.Key.data_of c.args.to in
-    let unlinked = rw (c.inner.ensures, c.inner-2.ensures) at c.in_ok-key.ensures.unlinked in
+    let linked = rw (c.inner.ensures, c.inner-2.ensures) at c.in_ok-key.ensures.linked in
     put_behind c.self.inside.nodes c.link_last.new.nodes c.link_last-2.new.nodes c.self.inside.edges c.insert_edge.new.edges c.link_last.new.edges c.link_last-2.new.edges c.self.invariant c.in_ok-key.key
-    (record { from = from; to = to; value = c.args.edge; out = no_link; into = no_link }) c.in_ok-key.ensures.fresh unlinked (bare_edge from to c.args.edge) c.link_last.ensures c.link_last-2.ensures
+    (record { from = from; to = to; value = c.args.edge; out = behind c.in-Some.out; into = behind c.in-Some-last_of.into }) c.in_ok-key.ensures.fresh linked c.link_last.ensures c.link_last-2.ensures
 
 pub returns-clause-out : goal.returns-clause-out
 returns-clause-out g c = rw (← c.self.view_is) (put g (goal.at.returns-clause-out g c).After-link_last-2 Out)
@@ -58,15 +59,6 @@ returns-clause-gone g c =
     let same = c.link_last-2.ensures.seen_edges ∙ c.link_last.ensures.seen_edges in
     rw (← c.self.view_is) (subst (λ (x : Content (SeenEdge g.row.E.Denot)). KeepsSpent (map_content seen_edge c.self.inside.edges) x) (sym same) (spent_insert _ _ true _ c.insert_edge.ensures.valid _ _ c.insert_edge.ensures.adds))
 
-pub returns-then-not-contains_key-clause-err : goal.returns-then-not-contains_key-clause-err
-returns-then-not-contains_key-clause-err g c = grind (arith, keys, mapped)
-
-pub returns-then-not-contains_key-clause-reuses : goal.returns-then-not-contains_key-clause-reuses
-returns-then-not-contains_key-clause-reuses g c = grind (arith, keys, mapped)
-
-pub returns-then-not-contains_key-clause-room : goal.returns-then-not-contains_key-clause-room
-returns-then-not-contains_key-clause-room g c = grind (arith, keys, mapped)
-
 pub returns-in_err-key-clause-err : goal.returns-in_err-key-clause-err
 returns-in_err-key-clause-err g c = grind (arith, keys, mapped)
 
@@ -74,7 +66,18 @@ pub link_last-requires-clause-edge : goal.link_last-requires-clause-edge
 link_last-requires-clause-edge g c = grind (arith, keys, mapped)
 
 pub link_last-requires-2-clause-edge : goal.link_last-requires-2-clause-edge
-link_last-requires-2-clause-edge g c = grind (arith, keys, mapped)
+link_last-requires-2-clause-edge g c =
+    still_live Out c.self.inside.nodes c.link_last.new.nodes c.insert_edge.new.edges c.link_last.new.edges (g.K.Key.data_of c.args.from) _ c.link_last.ensures
+    c.in_ok-key.key (ap (λ m. map.contains_key m c.in_ok-key.key) c.in_ok-key.ensures.linked ∙ ap is_some (get-insert_here c.self.inside.edges.live c.in_ok-key.key _))
 
 pub returns-clause-live : goal.returns-clause-live
 returns-clause-live g c = grind (arith, keys, mapped)
+
+pub link_last-requires-clause-link : goal.link_last-requires-clause-link
+link_last-requires-clause-link g c =
+    mid_link c.self.inside.nodes c.self.inside.edges c.insert_edge.new.edges c.self.invariant c.in_ok-key.key _ c.in_ok-key.ensures.fresh c.in_ok-key.ensures.linked Out
+
+pub link_last-requires-2-clause-link : goal.link_last-requires-2-clause-link
+link_last-requires-2-clause-link g c =
+    c.link_last.ensures.same_links c.in_ok-key.key
+    ∙ mid_link c.self.inside.nodes c.self.inside.edges c.insert_edge.new.edges c.self.invariant c.in_ok-key.key _ c.in_ok-key.ensures.fresh c.in_ok-key.ensures.linked Into
