@@ -156,8 +156,8 @@ where
 }
 
 // Whether a number was too great.
-fn is_too_great(result: Result<(), ReserveError>) -> bool {
-    matches!(result, Err(ReserveError::TooGreat))
+fn is_too_great(answer: Result<(), ReserveError>) -> bool {
+    matches!(answer, Err(ReserveError::TooGreat))
 }
 
 // Reserves room for no component, up to the last index and one more, and room that is there.

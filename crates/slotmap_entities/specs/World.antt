@@ -49,7 +49,7 @@ abbrev pub RefusesSpawn : {E C : Type 0} → Content E → E → C → SpawnErro
 RefusesSpawn entities entity component (NoKey back c) = (used entities ≡ most) × (back ≡ entity) × (c ≡ component)
 RefusesSpawn entities entity component (NoMemory back c) = (used entities < most) × (back ≡ entity) × (c ≡ component)
 
--- the same before the entity is added, with neither of the two
+-- `Full` if and only if the map of the entities is, else `Memory`: for the entity, or for its component
 abbrev pub RefusesNext : {E : Type 0} → Content E → InsertWithError → Type 0
 RefusesNext entities insert.Full = used entities ≡ most
 RefusesNext entities insert.Memory = used entities < most

@@ -4,7 +4,8 @@ ghost use Rattle.std.specs.FinMap as map;
 ghost use Rattle.std.specs.Prelude.{◌≡◌, ◌≢◌, ℕ, ◌+◌, ◌-◌, ◌≤◌, ◌||◌, Bool, true, false, refl, IfOk, OnOk, IsOk, IfErr, OnErr, option_copied};
 ghost use Rattle.std.specs.Option.{option_copied_mut};
 ghost use Rattle.std.specs.Borrow.{sem, LendsIf};
-ghost use Rattle.slotmap.specs.Words.{Key as KeyOf, Pairs, get, contains_key, put, bind, remove, most, RefusesCapacity, RefusesPut, keyed, RetainsBy, CallableOnEach, side_with_value, sparse_with_value};
+ghost use Rattle.slotmap.specs.Words.{Key as KeyOf, Pairs, get, contains_key, put, bind, remove, most, RefusesCapacity, RefusesPut};
+ghost use Rattle.slotmap.specs.Words.{keyed, RetainsBy, CallableOnEach, side_with_value, sparse_with_value};
 ghost use Rattle.slotmap_entities.specs.World.{RefusesSparse};
 
 use slotmap::{Key, PutError, ReserveError, SecondaryMap, SparseSecondaryMap};

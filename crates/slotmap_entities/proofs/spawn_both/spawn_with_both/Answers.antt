@@ -73,7 +73,9 @@ returns-in-Ok-spawn_with-clause-only_live g c =
     let new = c.spawn_with.new.entities.content in
     let same = c.in-Ok.ensures.same_components ∙ ap g.B.Table.Table.pairs c.table_mut.ensures.value in
     let beside = own_beside old (g.T.Tables.has tables) c.requires (g.B.Table.Table.pairs (g.B.Kind.table tables)) (g.met.B.Kind.has_own tables) in
-    let before = table_live old (g.T.Tables.has tables) c.requires (g.B.Table.Table.pairs c.make_room.new.table) (g.T.Tables.has room) (rw same beside) (g.met.B.Kind.has_no_more tables c.make_room.new.table) in
+    let before = table_live old (g.T.Tables.has tables) c.requires (g.B.Table.Table.pairs c.make_room.new.table) (g.T.Tables.has room)
+    (rw same beside) (g.met.B.Kind.has_no_more tables c.make_room.new.table) in
     let still = kept_still _ _ _ _ _ c.in-Ok.ensures.keeps c.in-Ok-spawn_with.ensures.adds in
-    let first = table_live new (g.T.Tables.has room) (λ k there. still k (before k there)) _ (g.T.Tables.has spawned) c.in-Ok-spawn_with.ensures.beside (g.met.A.Kind.has_no_more room c.spawn_with.new.table) in
+    let first = table_live new (g.T.Tables.has room) (λ k there. still k (before k there)) _ (g.T.Tables.has spawned)
+    c.in-Ok-spawn_with.ensures.beside (g.met.A.Kind.has_no_more room c.spawn_with.new.table) in
     table_live new (g.T.Tables.has spawned) first _ _ c.attach.ensures.beside (g.met.B.Kind.has_no_more spawned c.attach.new.table)
