@@ -58,7 +58,8 @@ impl<N> Node<N> {
     }
 }
 
-// Puts an edge behind the others of a list. The first one is read only where there is no other.
+// Puts an edge behind the others of a list. The first one is written only where there is
+// no other.
 fn put_last(ends: &mut Ends<EdgeKey>, edge: Neighbour)
     requires { ends.old.len ≤ most }
     ensures { ends.new ≡ pushed edge ends.old }
@@ -108,8 +109,7 @@ impl<E> Edge<E> {
         }
     }
 
-    // Lets it lead on to another edge in one of its two lists. Its other link isn't read, since that
-    // would wait for memory.
+    // Lets it lead on to another edge in one of its two lists. No link is read.
     fn lead_on(&mut self, direction: Direction, next: Neighbour)
         ensures { self.new ≡ with_link direction (record (edge_link direction self.old) { next = next }) self.old }
     {
