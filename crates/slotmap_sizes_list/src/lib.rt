@@ -263,16 +263,25 @@ fn copy<K: Key>(rt: &HostRuntime, list: &mut Numbers<K>) -> Option<()> {
     tell(rt, "copied", consume(copy))
 }
 
+// The calls on an empty list.
+fn run_in<K: Key>(
+    rt: &HostRuntime,
+    list: &mut Numbers<K>,
+    cursors: &mut Vec<K>,
+    size: u64,
+) -> Option<()> {
+    let mut random = Random::new(1);
+    push_and_move(rt, list, cursors, &mut random, size)?;
+    insert_and_move(rt, list, cursors.as_slice(), &mut random, size)?;
+    retain_and_remove(rt, list, cursors.as_slice(), &mut random, size)?;
+    copy(rt, list)
+}
+
 // A list in room that was made for it.
 fn run_reserved(rt: &HostRuntime, size: u64) -> Option<()> {
-    let alloc = rt.alloc();
-    let mut random = Random::new(1);
-    let mut list = StableList::with_capacity(alloc, size as usize).ok()?;
-    let mut cursors = Vec::new(alloc);
-    push_and_move(rt, &mut list, &mut cursors, &mut random, size)?;
-    insert_and_move(rt, &mut list, cursors.as_slice(), &mut random, size)?;
-    retain_and_remove(rt, &mut list, cursors.as_slice(), &mut random, size)?;
-    copy(rt, &mut list)
+    let mut list = StableList::with_capacity(rt.alloc(), size as usize).ok()?;
+    let mut cursors = Vec::new(rt.alloc());
+    run_in(rt, &mut list, &mut cursors, size)
 }
 
 // Appends a list to another one, and empties both.
@@ -287,20 +296,30 @@ fn append<K: Key, L: Key>(
     tell(rt, "drained", drain_all(other))
 }
 
-// Lists of many values at once.
-fn run_many(rt: &HostRuntime, size: u64) -> Option<()> {
+// Fills an empty list with many values at once, in room that was reserved.
+fn extend<K: Key>(rt: &HostRuntime, list: &mut Numbers<K>, size: u64) -> Option<()> {
+    list.reserve(size as usize).ok()?;
+    list.extend(numbers(rt.alloc(), size)?).ok()?;
+    tell(rt, "drained", drain_all(list))
+}
+
+// Two lists of many values.
+fn run_append(rt: &HostRuntime, size: u64) -> Option<()> {
     let mut list = make(rt, size)?;
     let mut other = make(rt, size)?;
-    append(rt, &mut list, &mut other)?;
-    let mut last = StableList::new(rt.alloc()).ok()?;
-    last.reserve(size as usize).ok()?;
-    last.extend(numbers(rt.alloc(), size)?).ok()?;
-    tell(rt, "drained", drain_all(&mut last))
+    append(rt, &mut list, &mut other)
+}
+
+// An empty list that takes many values.
+fn run_extend(rt: &HostRuntime, size: u64) -> Option<()> {
+    let mut list: Numbers<Cursor> = StableList::new(rt.alloc()).ok()?;
+    extend(rt, &mut list, size)
 }
 
 /// Runs all calls of a list.
 pub fn run(rt: &HostRuntime, size: u64) -> Option<()> {
     println!(rt; " list").ok()?;
     run_reserved(rt, size)?;
-    run_many(rt, size)
+    run_append(rt, size)?;
+    run_extend(rt, size)
 }

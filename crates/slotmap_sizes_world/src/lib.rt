@@ -238,9 +238,7 @@ where
 {
     for number in first..first.wrapping_add(count) {
         let (twice, thrice) = (number.wrapping_mul(2), number.wrapping_mul(3));
-        let key = world
-            .spawn_with_both::<F, S>(number, twice, thrice)
-            .ok()?;
+        let key = world.spawn_with_both::<F, S>(number, twice, thrice).ok()?;
         keys.push(key).ok()?;
     }
     Some(())
@@ -267,8 +265,56 @@ where
     Some(sum)
 }
 
-// The calls on a world with two kinds of components.
-fn run_calls<T, F, S>(rt: &HostRuntime, size: u64) -> Option<()>
+// Makes entities with their components, and sums them up.
+fn fill<T, F, S>(
+    rt: &HostRuntime,
+    world: &mut Numbers<T>,
+    keys: &mut Vec<DefaultKey>,
+    size: u64,
+) -> Option<()>
+where
+    T: Tables<DefaultKey>,
+    F: Kind<DefaultKey, T>,
+    S: Kind<DefaultKey, T>,
+    F::Table: Table<DefaultKey, Component = u64>,
+    S::Table: Table<DefaultKey, Component = u64>,
+{
+    spawn_all::<T, F>(world, keys, size)?;
+    let count = size as usize;
+    world.reserve_components::<S>(count, count).ok()?;
+    attach_all::<T, S>(world, keys.as_slice(), 3)?;
+    tell_all::<T, F, S>(rt, world)?;
+    tell(rt, "by key", sum_by_key::<T, F, S>(world, keys.as_slice()))
+}
+
+// Makes more entities, with both components, and replaces those.
+fn grow<T, F, S>(
+    rt: &HostRuntime,
+    world: &mut Numbers<T>,
+    keys: &mut Vec<DefaultKey>,
+    size: u64,
+) -> Option<()>
+where
+    T: Tables<DefaultKey>,
+    F: Apart<DefaultKey, T, S>,
+    S: Kind<DefaultKey, T>,
+    F::Table: Table<DefaultKey, Component = u64>,
+    S::Table: Table<DefaultKey, Component = u64>,
+{
+    world.reserve(size as usize).ok()?;
+    spawn_pairs::<T, F, S>(world, keys, size, size / 2)?;
+    let replaced = replace_all::<T, F, S>(world, keys.as_slice())?;
+    tell(rt, "replaced", replaced)
+}
+
+// The calls on an empty world with two kinds of components. What it borrows is dropped by its caller, which makes the proof
+// a small part of what it would be here.
+fn run_in<T, F, S>(
+    rt: &HostRuntime,
+    world: &mut Numbers<T>,
+    keys: &mut Vec<DefaultKey>,
+    size: u64,
+) -> Option<()>
 where
     T: CloneTables<DefaultKey>,
     F: Apart<DefaultKey, T, S>,
@@ -277,21 +323,24 @@ where
     S::Table: Table<DefaultKey, Component = u64>,
 {
     let mut random = Random::new(6);
-    let mut keys = Vec::new(rt.alloc());
+    fill::<T, F, S>(rt, world, keys, size)?;
+    change::<T, F, S>(rt, world, keys.as_slice(), &mut random)?;
+    grow::<T, F, S>(rt, world, keys, size)?;
+    copy::<T, F, S>(rt, world)
+}
+
+// The same, with the world made.
+fn run_calls<T, F, S>(rt: &HostRuntime, size: u64) -> Option<()>
+where
+    T: CloneTables<DefaultKey>,
+    F: Apart<DefaultKey, T, S>,
+    S: Kind<DefaultKey, T>,
+    F::Table: Table<DefaultKey, Component = u64>,
+    S::Table: Table<DefaultKey, Component = u64>,
+{
     let mut world: Numbers<T> = World::with_capacity_and_key(rt.alloc(), size as usize).ok()?;
-    spawn_all::<T, F>(&mut world, &mut keys, size)?;
-    world
-        .reserve_components::<S>(size as usize, size as usize)
-        .ok()?;
-    attach_all::<T, S>(&mut world, keys.as_slice(), 3)?;
-    tell_all::<T, F, S>(rt, &world)?;
-    tell(rt, "by key", sum_by_key::<T, F, S>(&world, keys.as_slice()))?;
-    change::<T, F, S>(rt, &mut world, keys.as_slice(), &mut random)?;
-    world.reserve(size as usize).ok()?;
-    spawn_pairs::<T, F, S>(&mut world, &mut keys, size, size / 2)?;
-    let replaced = replace_all::<T, F, S>(&mut world, keys.as_slice())?;
-    tell(rt, "replaced", replaced)?;
-    copy::<T, F, S>(rt, &mut world)
+    let mut keys = Vec::new(rt.alloc());
+    run_in::<T, F, S>(rt, &mut world, &mut keys, size)
 }
 
 /// Runs all calls of a world.
