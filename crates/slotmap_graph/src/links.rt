@@ -4,7 +4,8 @@ ghost use Rattle.std.specs.Prelude.{◌≡◌, ◌<◌, ◌≤◌, ◌++◌, [],
 ghost use Rattle.slotmap.specs.Words.{Key as KeyOf, IsLive, most};
 ghost use Rattle.slotmap_keylist.specs.KeyLists.{times, without};
 ghost use Rattle.slotmap_keylist.specs.Splice.{with_next, with_prev};
-ghost use Rattle.slotmap_graph.specs.Threads.{IsThreaded, KeepsEdges, Rethreads, ends_in, ends_with, ends_without, edge_link, end, last_link, link_in, listed, node_ends, seen_edge, turned, with_ends, with_link};
+ghost use Rattle.slotmap_graph.specs.Threads.{IsThreaded, KeepsEdges, Rethreads, ends_in, ends_with, ends_without, edge_link, end};
+ghost use Rattle.slotmap_graph.specs.Threads.{last_link, link_in, listed, node_ends, seen_edge, turned, with_ends, with_link};
 
 use crate::{Edge, EdgeKey, Node};
 use slotmap::{DefaultKey, Key, SlotMap};
