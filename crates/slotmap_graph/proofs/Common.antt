@@ -39,8 +39,8 @@ pub use Rattle.slotmap_graph.specs.Parts.{avoids, ByNode, clones_edge, Edges, ed
 pub use Rattle.slotmap_graph.specs.Parts.{PutsBehind, SameEdges, Seen, SeenEdge, to, touches, value, with_edge, with_edge_in}
 pub use Rattle.slotmap_graph.specs.Search.{AllLed, AreSeen, arrives_at, ends_along, Finds, goes_to, GoesOn, HasEdge, HasNext, IsBreadthFirst, Leads, LeadsBy}
 pub use Rattle.slotmap_graph.specs.Search.{marked}
-pub use Rattle.slotmap_graph.specs.Threads.{behind, by_node, copies_edge, copies_node, edge_link, end, ends_in, IsGraph, IsThreaded, KeepsEdges, link_in, listed}
-pub use Rattle.slotmap_graph.specs.Threads.{lists_of, no_ends, no_link, node_ends, node_value, pushed, Rethreads, seen_edge, turned, with_ends, with_link}
+pub use Rattle.slotmap_graph.specs.Threads.{by_node, copies_edge, copies_node, edge_link, end, ends_in, IsGraph, IsThreaded, KeepsEdges, link_in, listed}
+pub use Rattle.slotmap_graph.specs.Threads.{lists_of, no_ends, no_link, node_ends, node_value, ends_with, last_link, Rethreads, seen_edge, turned, with_ends, with_link}
 pub use Rattle.slotmap_graph.specs.TopologicalOrder.{ClosesCycle, ComesFromLeft, Counting, edges_out, GoesForward, HasCycle, IsLeft, passed_of, Sorting}
 pub use Rattle.slotmap_graph.specs.declared.Edge.{Edge}
 pub use Rattle.slotmap_graph.specs.declared.Node.{Node}

@@ -27,15 +27,15 @@ abbrev pub no_link : Link Key
 no_link = record { prev = None; next = None }
 
 -- the link of an edge at the end of a list, behind another one or alone
-abbrev pub behind : Option Key → Link Key
-behind last = record { prev = last; next = None }
+abbrev pub last_link : Option Key → Link Key
+last_link last = record { prev = last; next = None }
 
 -- the ends of a list once a key is put behind the others, and once one with these neighbours is left out
-abbrev pub pushed : Option Key → Ends Key → Ends Key
-pushed k ends = record { first = own ends.last ends.first k; last = k; len = ends.len + 1 }
+abbrev pub ends_with : Option Key → Ends Key → Ends Key
+ends_with k ends = record { first = own ends.last ends.first k; last = k; len = ends.len + 1 }
 
-abbrev pub left : Link Key → Ends Key → Ends Key
-left link ends = record { first = own link.prev ends.first link.next; last = own link.next ends.last link.prev; len = ends.len - 1 }
+abbrev pub ends_without : Link Key → Ends Key → Ends Key
+ends_without link ends = record { first = own link.prev ends.first link.next; last = own link.next ends.last link.prev; len = ends.len - 1 }
 
 module _ {N : Type 0} where
   abbrev pub node_value : Node N → N

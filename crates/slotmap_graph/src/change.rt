@@ -9,7 +9,7 @@ ghost use Rattle.slotmap_keylist.specs.KeyLists.{without};
 ghost use Rattle.slotmap_graph.specs.Parts.{SeenEdge, avoids, touches, from, to, value, edges_at, ListsEdges, PutsBehind, SameEdges, RefusesEdge, RefusesLiveEdge};
 ghost use Rattle.slotmap_keylist.specs.Mapped.{map_content};
 ghost use Rattle.slotmap_graph.specs.declared.links.Direction.{Direction as ToOrFrom};
-ghost use Rattle.slotmap_graph.specs.Threads.{behind, ends_in, node_value, seen_edge};
+ghost use Rattle.slotmap_graph.specs.Threads.{ends_in, last_link, node_value, seen_edge};
 
 use crate::links::{Direction, Edges, Neighbour, Nodes, last_of, link_last, unlink};
 use crate::{Edge, EdgeError, EdgeKey, Graph, Node};
@@ -60,7 +60,7 @@ fn insert_edge<E: Drop>(
 ) -> Result<EdgeKey, EdgeError<E>>
     ensures adds { IfOk result (λ key. Inserts (map_content seen_edge edges.old) key (record { from = from; to = to; value = value }) (map_content seen_edge edges.new)) }
     ensures fresh { IfOk result (λ key. map.get edges.old.live key ≡ None) }
-    ensures linked { IfOk result (λ key. edges.new.live ≡ map.insert edges.old.live key (record { from = from; to = to; value = value; out = behind out.now; into = behind into.now })) }
+    ensures linked { IfOk result (λ key. edges.new.live ≡ map.insert edges.old.live key (record { from = from; to = to; value = value; out = last_link out.now; into = last_link into.now })) }
     ensures err { IfErr result (RefusesLiveEdge (map_content seen_edge edges.old) value) }
     ensures same { OnErr result (edges.new.live ≡ edges.old.live) }
     ensures reuses { 0 < map.len edges.old.next → IsOk result }

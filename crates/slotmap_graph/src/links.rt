@@ -4,7 +4,8 @@ ghost use Rattle.std.specs.Prelude.{◌≡◌, ◌<◌, ◌≤◌, ◌++◌, [],
 ghost use Rattle.slotmap.specs.Words.{Key as KeyOf, IsLive, most};
 ghost use Rattle.slotmap_keylist.specs.KeyLists.{times, without};
 ghost use Rattle.slotmap_keylist.specs.Splice.{with_next, with_prev};
-ghost use Rattle.slotmap_graph.specs.Threads.{IsThreaded, KeepsEdges, Rethreads, behind, ends_in, edge_link, end, left, link_in, listed, node_ends, pushed, seen_edge, turned, with_ends, with_link};
+ghost use Rattle.slotmap_graph.specs.Threads.{IsThreaded, KeepsEdges, Rethreads, ends_in, ends_with, ends_without, edge_link, end};
+ghost use Rattle.slotmap_graph.specs.Threads.{last_link, link_in, listed, node_ends, seen_edge, turned, with_ends, with_link};
 
 use crate::{Edge, EdgeKey, Node};
 use slotmap::{DefaultKey, Key, SlotMap};
@@ -38,7 +39,7 @@ impl<N> Node<N> {
     // Puts an edge behind the others in one of its two lists.
     fn put_last(&mut self, direction: Direction, edge: Neighbour)
         requires { (node_ends direction self.old).len ≤ most }
-        ensures { self.new ≡ with_ends direction (pushed edge (node_ends direction self.old)) self.old }
+        ensures { self.new ≡ with_ends direction (ends_with edge (node_ends direction self.old)) self.old }
     {
         match direction {
             Direction::Out => put_last(&mut self.out, edge),
@@ -49,7 +50,7 @@ impl<N> Node<N> {
     // Leaves out of one of its two lists an edge with these neighbours.
     fn leave_out(&mut self, direction: Direction, link: &Link<EdgeKey>)
         requires { 0 < (node_ends direction self.old).len }
-        ensures { self.new ≡ with_ends direction (left link.now (node_ends direction self.old)) self.old }
+        ensures { self.new ≡ with_ends direction (ends_without link.now (node_ends direction self.old)) self.old }
     {
         match direction {
             Direction::Out => leave_out(&mut self.out, link),
@@ -62,7 +63,7 @@ impl<N> Node<N> {
 // no other.
 fn put_last(ends: &mut Ends<EdgeKey>, edge: Neighbour)
     requires { ends.old.len ≤ most }
-    ensures { ends.new ≡ pushed edge ends.old }
+    ensures { ends.new ≡ ends_with edge ends.old }
 {
     match ends.last.get() {
         Some(_) => (),
@@ -75,7 +76,7 @@ fn put_last(ends: &mut Ends<EdgeKey>, edge: Neighbour)
 // Leaves an edge with these neighbours out of a list.
 fn leave_out(ends: &mut Ends<EdgeKey>, link: &Link<EdgeKey>)
     requires { 0 < ends.old.len }
-    ensures { ends.new ≡ left link.now ends.old }
+    ensures { ends.new ≡ ends_without link.now ends.old }
 {
     match link.prev.get() {
         Some(_) => (),
@@ -207,7 +208,7 @@ pub(crate) fn link_last<K: Key, N: Drop, E: Drop>(
     requires node { IsLive nodes.old (K.data_of node) }
     requires last { last.now ≡ (ends_in direction nodes.old.live (K.data_of node)).last }
     requires edge { IsLive edges.old edge }
-    requires link { link_in direction edges.old.live edge ≡ behind last.now }
+    requires link { link_in direction edges.old.live edge ≡ last_link last.now }
     requires unlisted { (p : KeyOf) → times edge (listed direction nodes.old.live edges.old.live p) ≡ 0 }
     ensures { Rethreads direction nodes.old edges.old (K.data_of node) (listed direction nodes.old.live edges.old.live (K.data_of node) ++ edge ∷ []) nodes.new edges.new }
 {

@@ -1,5 +1,5 @@
 use Rattle.std.proofs.Common.{◌∙◌}
-use Rattle.slotmap_graph.proofs.Common.{true, is_some, get-insert_here, sym, ap, subst, Content, KeepsSpent, spent_insert, times, map_content, Out, Into, SeenEdge, seen_edge, behind}
+use Rattle.slotmap_graph.proofs.Common.{true, is_some, get-insert_here, sym, ap, subst, Content, KeepsSpent, spent_insert, times, map_content, Out, Into, SeenEdge, seen_edge, last_link}
 use Rattle.slotmap_graph.proofs.Common.{arith, keys, mapped, Direction, PutsBehind, by_node, end}
 use Rattle.slotmap_graph.proofs.GraphSteps.{still_live, mid_link, mid_threads, mid_unlisted, turned_threads, turned_listed, still_node, edge_added, put_behind}
 use Rattle.slotmap_graph.proofs.Graph.add_edge.Goals.{After-link_last-2}
@@ -35,7 +35,7 @@ invariant_of-self-2 g c =
     let to = g.K.Key.data_of c.args.to in
     let linked = rw (c.inner.ensures, c.inner-2.ensures) at c.in_ok-key.ensures.linked in
     edge_added c.self.inside.nodes c.link_last.new.nodes c.link_last-2.new.nodes c.self.inside.edges c.insert_edge.new.edges c.link_last.new.edges c.link_last-2.new.edges c.self.invariant c.in_ok-key.key
-    (record { from = from; to = to; value = c.args.edge; out = behind c.in-Some.out; into = behind c.in-Some-last_of.into }) c.in_ok-key.ensures.fresh linked c.link_last.ensures c.link_last-2.ensures
+    (record { from = from; to = to; value = c.args.edge; out = last_link c.in-Some.out; into = last_link c.in-Some-last_of.into }) c.in_ok-key.ensures.fresh linked c.link_last.ensures c.link_last-2.ensures
     c.in-Some.ensures.live c.in-Some-last_of.ensures.live
 
 put : (g : _) (c : After-link_last-2 g) (d : Direction)
@@ -46,7 +46,7 @@ put g c =
     let to = g.K.Key.data_of c.args.to in
     let linked = rw (c.inner.ensures, c.inner-2.ensures) at c.in_ok-key.ensures.linked in
     put_behind c.self.inside.nodes c.link_last.new.nodes c.link_last-2.new.nodes c.self.inside.edges c.insert_edge.new.edges c.link_last.new.edges c.link_last-2.new.edges c.self.invariant c.in_ok-key.key
-    (record { from = from; to = to; value = c.args.edge; out = behind c.in-Some.out; into = behind c.in-Some-last_of.into }) c.in_ok-key.ensures.fresh linked c.link_last.ensures c.link_last-2.ensures
+    (record { from = from; to = to; value = c.args.edge; out = last_link c.in-Some.out; into = last_link c.in-Some-last_of.into }) c.in_ok-key.ensures.fresh linked c.link_last.ensures c.link_last-2.ensures
 
 pub returns-clause-out : goal.returns-clause-out
 returns-clause-out g c = rw (← c.self.view_is) (put g (goal.at.returns-clause-out g c).After-link_last-2 Out)

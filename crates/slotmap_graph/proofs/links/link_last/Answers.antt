@@ -1,5 +1,5 @@
 use Rattle.std.proofs.Common.{◌≡◌, ◌≤◌, ◌∙◌}
-use Rattle.slotmap_graph.proofs.Common.{length, refl, ap, arith, with_value, most, None, Ends, listed, node_ends, pushed, with_ends, with_next, link_in}
+use Rattle.slotmap_graph.proofs.Common.{length, refl, ap, arith, with_value, most, None, Ends, listed, node_ends, ends_with, with_ends, with_next, link_in}
 use Rattle.slotmap_graph.proofs.Relinked.{ends_are, last_live, put_last}
 use Rattle.slotmap_graph.proofs.Threaded.{ends_there, list_fits}
 use Rattle.slotmap_keylist.proofs.NotNull.{live_not_null-reuses}
@@ -32,4 +32,4 @@ returns g c =
     ends refl c.args.edge _ c.set_next.new.edges c.set_next.ensures.keeps c.requires.unlisted (c.requires.link ∙ (λ i. record { prev = last i; next = None }))
     (λ q. c.set_next.ensures.links q ∙ (λ i. with_next (last i) ((c.copied.ensures ∙ c.some-on.ensures) i) link q))
     _ refl
-    (ap (with_value c.args.nodes.now p) (c.put_last.ensures ∙ (λ i. with_ends d (pushed (c.some-on.ensures i) ends) n)))
+    (ap (with_value c.args.nodes.now p) (c.put_last.ensures ∙ (λ i. with_ends d (ends_with (c.some-on.ensures i) ends) n)))
