@@ -229,13 +229,23 @@ fn run_deep<K: Key>(
     copy(rt, scene, root)
 }
 
+// The copy of a scene, and what is left of it without a root.
+fn tell_both<K: Key>(
+    rt: &HostRuntime,
+    scene: &mut Numbers<K>,
+    copy: &Numbers<K>,
+    root: K,
+) -> Option<()> {
+    scene.remove(root)?;
+    tell(rt, "removed", sum_of_all(scene))?;
+    tell(rt, "copied", sum_below(copy, root)?)?;
+    tell(rt, "all of the copy", sum_of_all(copy))
+}
+
 // Copies a scene, and removes a root from the first one.
 fn copy<K: Key>(rt: &HostRuntime, scene: &mut Numbers<K>, root: K) -> Option<()> {
     let copy = scene.clone().ok()?;
-    scene.remove(root)?;
-    tell(rt, "removed", sum_of_all(scene))?;
-    tell(rt, "copied", sum_below(&copy, root)?)?;
-    tell(rt, "all of the copy", sum_of_all(&copy))
+    tell_both(rt, scene, &copy, root)
 }
 
 // A tree by chance.
@@ -272,9 +282,8 @@ fn change<K: Key>(
     tell(rt, "cleared", sum_of_all(scene))
 }
 
-// Offsets, each below the one before it, and where the last one lies.
-fn run_world(rt: &HostRuntime, size: u64) -> Option<()> {
-    let mut scene: Scene<DefaultKey, Offset> = Scene::new(rt.alloc()).ok()?;
+// Adds offsets to an empty scene, each below the one before it. It prints where the last one lies.
+fn add_offsets<K: Key>(rt: &HostRuntime, scene: &mut Scene<K, Offset>, size: u64) -> Option<()> {
     let mut node = scene.add_root(Offset { x: 1, y: 2 }).ok()?;
     for _ in 0..size {
         node = scene.add_child(node, Offset { x: 3, y: -4 }).ok()?;
@@ -283,19 +292,41 @@ fn run_world(rt: &HostRuntime, size: u64) -> Option<()> {
     println!(rt; "  world: {}, {}", place.x, place.y).ok()
 }
 
+// A scene of offsets.
+fn run_world(rt: &HostRuntime, size: u64) -> Option<()> {
+    let mut scene: Scene<DefaultKey, Offset> = Scene::new(rt.alloc()).ok()?;
+    add_offsets(rt, &mut scene, size)
+}
+
 // An empty scene with room.
 fn empty(rt: &HostRuntime, size: u64) -> Option<Numbers<DefaultKey>> {
     Scene::with_capacity_and_key(rt.alloc(), size as usize).ok()
 }
 
+// Each of these makes a scene of its own, and drops it.
+fn make_wide(rt: &HostRuntime, size: u64) -> Option<()> {
+    let mut scene = empty(rt, size)?;
+    let mut nodes = Vec::new(rt.alloc());
+    run_wide(rt, &mut scene, &mut nodes, size)
+}
+
+fn make_deep(rt: &HostRuntime, size: u64) -> Option<()> {
+    let mut scene = empty(rt, size)?;
+    let mut nodes = Vec::new(rt.alloc());
+    run_deep(rt, &mut scene, &mut nodes, size)
+}
+
+fn make_chance(rt: &HostRuntime, size: u64) -> Option<()> {
+    let mut scene = empty(rt, size)?;
+    let mut nodes = Vec::new(rt.alloc());
+    run_chance(rt, &mut scene, &mut nodes, size)
+}
+
 /// Runs all calls of a scene.
 pub fn run(rt: &HostRuntime, size: u64) -> Option<()> {
     println!(rt; " scene").ok()?;
-    let mut nodes = Vec::new(rt.alloc());
-    run_wide(rt, &mut empty(rt, size)?, &mut nodes, size)?;
-    nodes.clear();
-    run_deep(rt, &mut empty(rt, size)?, &mut nodes, size)?;
-    nodes.clear();
-    run_chance(rt, &mut empty(rt, size)?, &mut nodes, size)?;
+    make_wide(rt, size)?;
+    make_deep(rt, size)?;
+    make_chance(rt, size)?;
     run_world(rt, size)
 }

@@ -155,13 +155,23 @@ fn copy<K: Key>(rt: &HostRuntime, jobs: &mut Numbers<K>) -> Option<()> {
     tell(rt, "copied", pop_all_due(&mut copy, rt.alloc(), 1000)?)
 }
 
+// The calls on an empty scheduler.
+fn run_in<K: Key>(
+    rt: &HostRuntime,
+    jobs: &mut Numbers<K>,
+    handles: &mut Vec<K>,
+    size: u64,
+) -> Option<()> {
+    let mut random = Random::new(5);
+    fill(rt, jobs, handles, &mut random, size)?;
+    pop(rt, jobs, handles, &mut random, size)?;
+    copy(rt, jobs)
+}
+
 /// Runs all calls of a scheduler.
 pub fn run(rt: &HostRuntime, size: u64) -> Option<()> {
     println!(rt; " scheduler").ok()?;
-    let mut random = Random::new(5);
     let mut jobs: Numbers<DefaultKey> = Scheduler::with_capacity(rt.alloc(), size as usize).ok()?;
     let mut handles = Vec::new(rt.alloc());
-    fill(rt, &mut jobs, &mut handles, &mut random, size)?;
-    pop(rt, &mut jobs, &mut handles, &mut random, size)?;
-    copy(rt, &mut jobs)
+    run_in(rt, &mut jobs, &mut handles, size)
 }

@@ -307,8 +307,8 @@ where
     tell(rt, "replaced", replaced)
 }
 
-// The calls on an empty world with two kinds of components. What it borrows is dropped by its caller, which makes the proof
-// a small part of what it would be here.
+// The calls on an empty world with two kinds of components. Its caller owns what it borrows, so that no early return
+// here drops it.
 fn run_in<T, F, S>(
     rt: &HostRuntime,
     world: &mut Numbers<T>,
