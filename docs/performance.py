@@ -349,7 +349,8 @@ def faults_of_claims(figures):
             all_times(name, lambda it: it["basic"] < it["hop"]) for name in ("iter-half", "iter-tenth")
         ),
         "`DenseSlotMap` iterates fastest": all(
-            all_times(name, lambda it: 2 * it["dense"] <= min(it["basic"], it["hop"])) for name in ("iter-full", "iter-half", "iter-few")
+            all_times(name, lambda it, times=times: times * it["dense"] <= min(it["basic"], it["hop"]))
+            for name, times in (("iter-full", 1.5), ("iter-half", 3), ("iter-few", 3))
         ),
         "`DenseSlotMap` inserts three times slower": all_times("insert", lambda it: it["dense"] >= 3 * it["basic"]),
         "`HopSlotMap` has the fastest inserts": all_times("insert", lambda it: it["hop"] == min(it.values())),
