@@ -125,7 +125,7 @@ def options():
     parser.add_argument("--maps", type=words, default=names, help=",".join(names))
     parser.add_argument("--operations", type=words, default=[], help="names of operations.py; all if left out")
     parser.add_argument("--sizes", type=lambda it: [int(n) for n in words(it)], help="numbers of slots")
-    parser.add_argument("--runs", type=int, default=7, help="how often a time is taken on each side")
+    parser.add_argument("--runs", type=int, default=7, help="how often a time is taken on each side; at most 3 from a million slots on")
     parser.add_argument("--ms", type=int, default=40, help="milliseconds that a time takes at least")
     parser.add_argument("--jobs", type=int, default=1, help="how many proofs, and runs of callgrind, go side by side")
     parser.add_argument("--crates", metavar="FOLDER", help="the crates of another copy of the repository")

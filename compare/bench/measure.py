@@ -15,6 +15,10 @@ NONE = str(2**64 - 1)
 # What callgrind counts is the difference of a run with one round and one with this many more.
 MORE_ROUNDS = 3
 
+# From this many slots on, where the set-up takes most of a run, a time is taken at most so often on each side.
+LARGE = 1_000_000
+RUNS_WHERE_LARGE = 3
+
 
 class Bench:
     """The driver, and how long it is to measure."""
@@ -56,7 +60,7 @@ class Bench:
         sums = {side: self.ask("sum", side, kind, operation, n, 2) for side in SIDES}
         must_agree(kind, operation, n, sums)
         times = {side: [] for side in SIDES}
-        for _ in range(self.runs):
+        for _ in range(min(self.runs, RUNS_WHERE_LARGE) if n >= LARGE else self.runs):
             for side in SIDES:
                 times[side].append(float(self.ask("time", side, kind, operation, n, self.milliseconds)))
         ratios = [port / rust for port, rust in zip(times["port"], times["rust"]) if rust > 0]

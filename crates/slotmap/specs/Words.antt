@@ -58,7 +58,7 @@ pub use Rattle.slotmap_core.specs.SecondaryExtend.{AllPut, Extends, ExtendsBy}
 -- parameter requires that it is in place
 pub use Rattle.slotmap_secondary.specs.Content.{SideContent, side_code, IsSideContent, side_with_value}
 pub use Rattle.slotmap_secondary.specs.Entry.{IsSideInPlace, side_entry_map, side_entry_key, side_entry_value, side_entry_with}
-pub use Rattle.slotmap_sparse.specs.Content.{SparseContent, sparse_code, IsSparseContent, sparse_with_value}
+pub use Rattle.slotmap_sparse.specs.Content.{SparseContent, sparse_code, IsSparseContent, sparse_with_value, RefusesRoom, most_keys}
 pub use Rattle.slotmap_sparse.specs.Entry.{IsSparseInPlace, sparse_entry_map, sparse_entry_key, sparse_entry_value, sparse_entry_with}
 -- what a step of a drain, or of an iterator that lends values, requires and leaves
 pub use Rattle.slotmap_basic.specs.Drain.{DrainCanStep, DrainSteps, drain_live, drain_loan}

@@ -1,5 +1,5 @@
 -- A world as its user sees it.
-use Rattle.std.specs.Prelude.{◌≡◌, ◌≢◌, ℕ, ◌<◌, ◌≤◌, ◌-◌, ◌^◌, refl, true, false, Bool, Option, Some, option_map, List}
+use Rattle.std.specs.Prelude.{◌≡◌, ◌≢◌, ◌<◌, refl, true, false, Bool, Option, Some, option_map, List}
 use Rattle.std.specs.List.{filter_map}
 use Rattle.std.specs.Option.{option_and_then}
 use Rattle.std.specs.FinMap as map
@@ -7,8 +7,6 @@ use Rattle.std.specs.Coded.{Coded, code_by, coded×}
 use Rattle.slotmap.specs.Words.{Key, Content, Dense, dense_code, IsLive, Pairs, RefusesPut, get, used, most}
 use Rattle.slotmap.specs.declared.InsertWithError.{InsertWithError}
 use Rattle.slotmap.specs.declared.InsertWithError.TheVariants as insert
-use Rattle.slotmap.specs.declared.ReserveError.{ReserveError}
-use Rattle.slotmap.specs.declared.ReserveError.TheVariants as reserve
 use Rattle.slotmap_entities.specs.declared.components.AttachError.{AttachError}
 use Rattle.slotmap_entities.specs.declared.components.AttachError.TheVariants.{Gone, Memory}
 use Rattle.slotmap_entities.specs.declared.spawn.SpawnError.{SpawnError}
@@ -29,15 +27,6 @@ world_code {E} {T} e t =
 -- each key of which `has` is true is an entity
 abbrev pub OnlyLive : {E : Type 0} → Content E → (Key → Bool) → Type 0
 OnlyLive entities has = (k : Key) → has k ≡ true → IsLive entities k
-
--- the largest number of components of a sparse table: one at each index except the null key's
-abbrev pub most_sparse : ℕ
-most_sparse = 2 ^ 32 - 1
-
--- `TooGreat` if and only if n components are too many for a sparse table; otherwise `Memory`
-abbrev pub RefusesSparse : ℕ → ReserveError → Type 0
-RefusesSparse n reserve.TooGreat = most_sparse < n
-RefusesSparse n reserve.Memory = n ≤ most_sparse
 
 -- `Gone` if and only if the entity doesn't exist, else `Memory`, where the table refuses a put; the component is returned
 abbrev pub RefusesAttach : {E C : Type 0} → Content E → Pairs C → Key → C → AttachError C → Type 0

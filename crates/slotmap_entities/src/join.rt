@@ -9,12 +9,25 @@ use crate::{Kind, Table, Tables, World};
 use slotmap::Key;
 use slotmap::dense::Keys;
 use std::iter::FusedIterator;
+use std::marker::Model;
 
 /// An iterator over the entities that have a component of one kind: see [`World::with`].
+///
+/// A contract sees it as the list of the entities that it will still yield, each with its component.
 #[derive(Drop)]
-pub struct With<'a, K: Key, E, M> {
+pub struct With<'a, K: Key, E, M: Table<K>> {
     keys: Keys<'a, K, E>,
     table: &'a M,
+}
+
+impl<'a, K: Key, E, M: Table<K>> Model for With<'a, K, E, M> {
+    ghost use Rattle.std.specs.Prelude.{List};
+    ghost use Rattle.slotmap.specs.Words.{Key as KeyOf, get};
+    ghost use Rattle.slotmap_entities.specs.World.{found_by};
+
+    ghost Value = { List (KeyOf × M.Component) };
+
+    ghost view = { λ it. found_by (get (M.pairs it.table.now)) it.keys };
 }
 
 impl<'a, K: Key, E: Drop, M: Table<K>> Iterator for With<'a, K, E, M>
@@ -23,9 +36,9 @@ where
 {
     type Item = (K, &'a M::Component);
 
-    ghost next_gives = { YieldsFirstBy (λ item. (K.data_of item.0, item.1.now)) (λ it. found_by (get (M.pairs it.table.now)) it.keys) };
+    ghost next_gives = { YieldsFirstBy (λ item. (K.data_of item.0, item.1.now)) (λ rest. rest) };
 
-    ghost remaining = { item_count (λ it. found_by (get (M.pairs it.table.now)) it.keys) };
+    ghost remaining = { item_count (λ rest. rest) };
 
     fn next(&mut self) -> Option<(K, &'a M::Component)> {
         while let Some(key) = self.keys.next() {
@@ -47,11 +60,24 @@ where
 {}
 
 /// An iterator over the entities that have components of two kinds: see [`World::with_both`].
+///
+/// A contract sees it as the list of the entities that it will still yield, each with both
+/// components.
 #[derive(Drop)]
-pub struct WithBoth<'a, K: Key, E, A, B> {
+pub struct WithBoth<'a, K: Key, E, A: Table<K>, B: Table<K>> {
     keys: Keys<'a, K, E>,
     first: &'a A,
     second: &'a B,
+}
+
+impl<'a, K: Key, E, A: Table<K>, B: Table<K>> Model for WithBoth<'a, K, E, A, B> {
+    ghost use Rattle.std.specs.Prelude.{List};
+    ghost use Rattle.slotmap.specs.Words.{Key as KeyOf, get};
+    ghost use Rattle.slotmap_entities.specs.World.{both_found_by};
+
+    ghost Value = { List (KeyOf × (A.Component × B.Component)) };
+
+    ghost view = { λ it. both_found_by (get (A.pairs it.first.now)) (get (B.pairs it.second.now)) it.keys };
 }
 
 impl<'a, K: Key, E: Drop, A: Table<K>, B: Table<K>> Iterator for WithBoth<'a, K, E, A, B>
@@ -61,9 +87,9 @@ where
 {
     type Item = (K, &'a A::Component, &'a B::Component);
 
-    ghost next_gives = { YieldsFirstBy (λ item. (K.data_of item.0, (item.1.now, item.2.now))) (λ it. both_found_by (get (A.pairs it.first.now)) (get (B.pairs it.second.now)) it.keys) };
+    ghost next_gives = { YieldsFirstBy (λ item. (K.data_of item.0, (item.1.now, item.2.now))) (λ rest. rest) };
 
-    ghost remaining = { item_count (λ it. both_found_by (get (A.pairs it.first.now)) (get (B.pairs it.second.now)) it.keys) };
+    ghost remaining = { item_count (λ rest. rest) };
 
     fn next(&mut self) -> Option<(K, &'a A::Component, &'a B::Component)> {
         while let Some(key) = self.keys.next() {
@@ -104,7 +130,7 @@ impl<K: Key, E: Drop, T: Tables<K>> World<K, E, T> {
     pub fn with<'a, C: Kind<K, T>>(&'a self) -> With<'a, K, E, C::Table>
     where
         C::Table: 'a,
-        ensures in_order { found_by (get (C.Table.pairs result.table.now)) result.keys ≡ found_by (get (C.Table.pairs (C.table self.now.tables))) self.now.entities.keys }
+        ensures in_order { result ≡ found_by (get (C.Table.pairs (C.table self.now.tables))) self.now.entities.keys }
     {
         With {
             keys: self.entities.keys(),
@@ -135,8 +161,7 @@ impl<K: Key, E: Drop, T: Tables<K>> World<K, E, T> {
     where
         A::Table: 'a,
         B::Table: 'a,
-        ensures in_order { both_found_by (get (A.Table.pairs result.first.now)) (get (B.Table.pairs result.second.now)) result.keys
-            ≡ both_found_by (get (A.Table.pairs (A.table self.now.tables))) (get (B.Table.pairs (B.table self.now.tables))) self.now.entities.keys }
+        ensures in_order { result ≡ both_found_by (get (A.Table.pairs (A.table self.now.tables))) (get (B.Table.pairs (B.table self.now.tables))) self.now.entities.keys }
     {
         WithBoth {
             keys: self.entities.keys(),

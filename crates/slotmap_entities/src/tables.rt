@@ -4,9 +4,8 @@ ghost use Rattle.std.specs.FinMap as map;
 ghost use Rattle.std.specs.Prelude.{◌≡◌, ◌≢◌, ℕ, ◌+◌, ◌-◌, ◌≤◌, ◌||◌, Bool, true, false, refl, IfOk, OnOk, IsOk, IfErr, OnErr, option_copied};
 ghost use Rattle.std.specs.Option.{option_copied_mut};
 ghost use Rattle.std.specs.Borrow.{sem, LendsIf};
-ghost use Rattle.slotmap.specs.Words.{Key as KeyOf, Pairs, get, contains_key, put, bind, remove, most, RefusesCapacity, RefusesPut};
+ghost use Rattle.slotmap.specs.Words.{Key as KeyOf, Pairs, get, contains_key, put, bind, remove, most, RefusesCapacity, RefusesPut, RefusesRoom};
 ghost use Rattle.slotmap.specs.Words.{keyed, RetainsBy, CallableOnEach, side_with_value, sparse_with_value};
-ghost use Rattle.slotmap_entities.specs.World.{RefusesSparse};
 
 use slotmap::{Key, PutError, ReserveError, SecondaryMap, SparseSecondaryMap};
 use std::alloc::Global;
@@ -189,7 +188,7 @@ impl<K: Key, C: Drop> Table<K> for SparseSecondaryMap<K, C> {
 
     ghost fits = { λ m last count. map.len m.pairs + count ≤ m.capacity };
 
-    ghost refuses_room = { λ m last count. RefusesSparse (map.len m.pairs + count) };
+    ghost refuses_room = { λ m last count. RefusesRoom (map.len m.pairs + count) };
 
     fn new(alloc: Global) -> Result<Self, ReserveError> {
         SparseSecondaryMap::new(alloc)

@@ -80,9 +80,9 @@ module _ {E : Type 0} where
   kept_live d old new keeps k live = sym (contains-mapped seen_edge new.live k) ∙ ap (λ c. map.contains_key c.live k) keeps.seen ∙ contains-mapped seen_edge old.live k ∙ live
 
 module _ {N : Type 0} where
-  ends_with : (d : Direction) (ends : Ends Key) (n : Node N) → node_ends d (with_ends d ends n) ≡ ends
-  ends_with Out ends n = refl
-  ends_with Into ends n = refl
+  ends_of_with : (d : Direction) (ends : Ends Key) (n : Node N) → node_ends d (with_ends d ends n) ≡ ends
+  ends_of_with Out ends n = refl
+  ends_of_with Into ends n = refl
 
   ends_kept : (d : Direction) (ends : Ends Key) (n : Node N) → node_ends (turned d) (with_ends d ends n) ≡ node_ends (turned d) n
   ends_kept Out ends n = refl
@@ -95,7 +95,7 @@ module _ {N : Type 0} where
   -- a node has other ends in one direction
   module _ (d : Direction) (old : Content (Node N)) (k : Key) (ends : Ends Key) (n : Node N) (there : map.get old.live k ≡ Some n) (new : Content (Node N)) (is : new ≡ with_value old k (with_ends d ends n)) where
     pub ends_written : (q : Key) → ends_in d new.live q ≡ cond (is_key q k) ends (ends_in d old.live q)
-    ends_written q = ap (λ c. ends_in d c.live q) is ∙ part_written (node_ends d) no_ends old.live k (with_ends d ends n) q ∙ ap (λ l. cond (is_key q k) l (ends_in d old.live q)) (ends_with d ends n)
+    ends_written q = ap (λ c. ends_in d c.live q) is ∙ part_written (node_ends d) no_ends old.live k (with_ends d ends n) q ∙ ap (λ l. cond (is_key q k) l (ends_in d old.live q)) (ends_of_with d ends n)
 
     pub other_ends : (q : Key) → ends_in (turned d) new.live q ≡ ends_in (turned d) old.live q
     other_ends q = ap (λ c. ends_in (turned d) c.live q) is ∙ part_kept (node_ends (turned d)) no_ends old.live k (with_ends d ends n) n there (ends_kept d ends n) q

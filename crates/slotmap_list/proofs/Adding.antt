@@ -1,7 +1,6 @@
 -- Many values that are added at the back.
 use Rattle.std.specs.FinMap as map
 use Rattle.std.specs.FinSet as set
-use Rattle.std.specs.Cmp.{nat_cmp_total}
 use Rattle.std.proofs.Common.{ℕ, zero, suc, IsErr, ◌<◌, ◌≡◌, ◌≤◌, ◌⊎◌, cond, List, [], ◌∷◌, ◌++◌, length, map as list_map, Some, None, is_some, ◌+◌, IsSome, Result, Ok, Err, IsOk, IfOk, inl, inr, refl, sym, ap, subst, ◌∙◌, arith, append_assoc, append-nil}
 use Rattle.slotmap.specs.Words.{Key, key_cmp, Content, IsNew, IsSpent, KeepsSpent, Inserts, Keeps, Leaves, used}
 use Rattle.slotmap.proofs.Callers.{keys_total, exact_keys, leaves_in_turn, leaves_none, tied}
@@ -33,10 +32,6 @@ used_inserted old new k v fresh inserts =
 
 pub used_kept : (old new : Content (Unit {0})) → Keeps old new → used new ≡ used old
 used_kept old new keeps = omega (arith, ap map.len keeps.live, ap set.len keeps.detached, ap set.len keeps.retired)
-
--- a new key takes the slot of at most one
-pub vacant_less : {V : Type 0} (old new : Content V) (k : Key) (v : V) → Inserts old k v new → map.len old.next ≤ map.len new.next + 1
-vacant_less old new k v inserts = grind (arith, ap map.len inserts.next, map.len-remove nat_cmp_total old.next k.index)
 
 module _ {T : Type 0} where
   pub refused_is : (cursors : Content (Unit {0})) (v : T) (error : PushError T) → RefusesPush cursors v error → refused error ≡ v

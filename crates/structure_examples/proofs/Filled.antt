@@ -4,12 +4,11 @@ use Rattle.std.specs.FinMap as map
 use Rattle.slotmap.specs.Words.{Key, key_cmp, Content, IsContent, IsLive, IsNew, Inserts, is_last}
 use Rattle.std.specs.Ordering.{nat_cmp}
 use Rattle.std.specs.Cmp.{nat_cmp_total}
-use Rattle.slotmap.proofs.Callers.{keys_total, exact_keys, tied}
-use Rattle.slotmap_scheduler.proofs.Callers.{vacant_less, first_of_slot}
+use Rattle.slotmap.proofs.Callers.{keys_total, exact_keys, tied, vacant_less, first_of_slot}
 
 -- a schedule that succeeds takes one vacant slot at most
 pub vacant_after : {E : Type 0} (old new : Content (Unit {0})) (result : Result Key E) → IsOk result → IfOk result (λ k. Inserts old k tt new) → map.len old.next ≤ map.len new.next + 1
-vacant_after old new (Ok k) fits inserts = vacant_less old new k inserts
+vacant_after old new (Ok k) fits inserts = vacant_less old new k tt inserts
 vacant_after old new (Err e) fits inserts = absurd (cc)
 
 -- no slot is vacant, and no handle is the last of its slot
@@ -26,7 +25,7 @@ new_filled handles new = record {
 -- the same after a schedule that succeeds, which takes one more slot
 filled_by : (old new : Content (Unit {0})) (k : Key) → IsContent true old → IsFilled old → Inserts old k tt new → IsFilled new
 filled_by old new k valid filled inserts =
-    let first = first_of_slot old new k valid filled.none_vacant inserts in
+    let first = first_of_slot old new k tt valid filled.none_vacant inserts in
     record {
       none_vacant = grind (arith, filled.none_vacant, ap map.len inserts.next, map.len-remove nat_cmp_total old.next k.index);
       none_last = λ q live. grind (arith, inserts.live, map.get-insert keys_total old.live k tt q, tied keys_total exact_keys q k, filled.none_last q);

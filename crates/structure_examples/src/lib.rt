@@ -9,3 +9,4 @@ pub mod groups;
 pub mod heirs;
 pub mod room;
 pub mod timer;
+pub mod twins;

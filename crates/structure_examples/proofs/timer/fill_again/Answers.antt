@@ -1,5 +1,5 @@
 use Rattle.std.proofs.Common.{IsOk, refl, ◌∙◌, arith}
-use Rattle.slotmap_scheduler.proofs.Callers.{vacant_again}
+use Rattle.slotmap.proofs.Callers.{vacant_again}
 use Rattle.structure_examples.proofs.Filled.{vacant_after}
 use Rattle.structure_examples.proofs.timer.fill_again.Goals as goal
 

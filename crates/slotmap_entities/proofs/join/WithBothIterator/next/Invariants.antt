@@ -6,9 +6,7 @@ use Rattle.slotmap_entities.proofs.join.WithBothIterator.next.Given as goal
 -- the keys that were passed lack a component
 abbrev pub invariant-loop-key : goal.invariant-loop-key
 invariant-loop-key g l =
-    let a = get (g.A.Table.pairs l.fn.self.first.now) in
-    let b = get (g.B.Table.pairs l.fn.self.second.now) in
-    (l.self.first ≡ l.fn.self.first) × (l.self.second ≡ l.fn.self.second) × (both_found_by a b l.self.keys ≡ both_found_by a b l.fn.self.keys)
+    l.fn.self ≡ both_found_by (get (g.A.Table.pairs l.self-inside.first.now)) (get (g.B.Table.pairs l.self-inside.second.now)) l.self-inside.keys
 
 abbrev pub decreases-loop-key : goal.decreases-loop-key
-decreases-loop-key g l = length l.self.keys
+decreases-loop-key g l = length l.self-inside.keys

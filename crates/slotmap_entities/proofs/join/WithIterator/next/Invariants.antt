@@ -5,9 +5,7 @@ use Rattle.slotmap_entities.proofs.join.WithIterator.next.Given as goal
 
 -- the keys that were passed have no component
 abbrev pub invariant-loop-key : goal.invariant-loop-key
-invariant-loop-key g l =
-    let find = get (g.M.Table.pairs l.fn.self.table.now) in
-    (l.self.table ≡ l.fn.self.table) × (found_by find l.self.keys ≡ found_by find l.fn.self.keys)
+invariant-loop-key g l = l.fn.self ≡ found_by (get (g.M.Table.pairs l.self-inside.table.now)) l.self-inside.keys
 
 abbrev pub decreases-loop-key : goal.decreases-loop-key
-decreases-loop-key g l = length l.self.keys
+decreases-loop-key g l = length l.self-inside.keys
