@@ -1,5 +1,5 @@
 -- All slots are made vacant at once: then the sentinel's block is the only one.
-use Rattle.std.proofs.Common.{◌≡◌, ◌+◌, ◌-◌, ◌%◌, ◌<◌, ◌≤◌, ◌^◌, ◌∷◌, ◌++◌, take, drop, get_or, Option, Some, ℕ, zero, suc, true, false, List, [], length, map, set, slice_get}
+use Rattle.std.proofs.Common.{◌≡◌, ◌+◌, ◌-◌, ◌%◌, ◌<◌, ◌≤◌, ◌^◌, ◌∷◌, ◌++◌, take, drop, get_or, max, Option, Some, ℕ, zero, suc, true, false, List, [], length, map, set, slice_get}
 use Rattle.std.proofs.Common.{refl, sym, ap, ◌∙◌, inl, inr, arith}
 use Rattle.std.proofs.lemmas.List.{take_more, take_more_set, drop-set-lt, get_or-drop}
 use Rattle.std.proofs.lemmas.Grind.{drop_more_same}
@@ -14,6 +14,13 @@ use Rattle.slotmap_hop.proofs.BlockLemmas.{IsBlock-unique}
 use Rattle.slotmap_hop.proofs.Writes.{within, flag_read, links_here, links_other, vacancy_kept, apart_set}
 use Rattle.slotmap_hop.proofs.Circle.{shown, block_at, is_linked}
 use Rattle.slotmap_hop.proofs.SlotReads.{slot_cases, length-all_links}
+
+-- the version before, where 0 is after the last one
+abbrev pub before : ℕ → ℕ
+before version = (version + 4294967295) % 4294967296
+
+goes_on : (version greatest : ℕ) → version < 2 ^ 32 → before version ≤ greatest → greatest < 4294967294 → (0 < version) × (version < last_version)
+goes_on version greatest fits most below = (omega (arith, fits, most, below), omega (arith, fits, most, below))
 
 -- links of slots that are all vacant
 module _ (es : List (Option Links)) (all : (x : ℕ) → x < length es → vacant_at es x ≡ true) (some : 0 < length es) where
@@ -199,13 +206,15 @@ module _ {V : Type 0} where
       here (Vacant n) none = refl
       here Retired none = refl
 
-  -- the slots before this one go on
-  abbrev pub GoOnBefore : List (Slot V) → ℕ → Type 0
-  GoOnBefore slots end = (i : ℕ) (s : Slot V) → 0 < i → i < end → slice_get slots i ≡ Some s → (0 < version_in s) × (version_in s < last_version)
+  -- no version of the slots before this one is greater, if each counts as the one before it
+  abbrev pub AtMost : List (Slot V) → ℕ → ℕ → Type 0
+  AtMost slots end greatest = (i : ℕ) (s : Slot V) → 0 < i → i < end → slice_get slots i ≡ Some s → (version_in s < 2 ^ 32) × (before (version_in s) ≤ greatest)
 
-  pub goes_on : (slots : List (Slot V)) (end : ℕ) (t : Slot V) → GoOnBefore slots end → slice_get slots end ≡ Some t
-      → 0 < version_in t → version_in t < last_version → GoOnBefore slots (end + 1)
-  goes_on slots end t before there low high i s positive inside found = grind (arith, before i s positive)
+  pub at_most_on : (slots : List (Slot V)) (end greatest : ℕ) (t : Slot V) → AtMost slots end greatest → slice_get slots end ≡ Some t → version_in t < 2 ^ 32
+      → AtMost slots (end + 1) (max greatest (before (version_in t)))
+  at_most_on slots end greatest t so_far there fits i s positive inside found = grind (arith, so_far i s positive)
 
-  pub all_go : (slots : List (Slot V)) (end : ℕ) → GoOnBefore slots end → length slots ≤ end → AllGoOn slots
-  all_go slots end before past i s positive found = before i s positive (omega (arith, past, slice_get_within slots i s found)) found
+  pub all_go : (slots : List (Slot V)) (end greatest : ℕ) → AtMost slots end greatest → length slots ≤ end → greatest < 4294967294 → AllGoOn slots
+  all_go slots end greatest so_far past below i s positive found =
+      let at = so_far i s positive (omega (arith, past, slice_get_within slots i s found)) found in
+      goes_on (version_in s) greatest at.0 at.1 below

@@ -15,7 +15,8 @@ impl<K: Key, V: Drop> HopSlotMap<K, V> {
     /// Removes every live key and drops its value.
     ///
     /// The keys are removed as `remove` does, by ascending index, and the capacity stays. A block
-    /// of vacant slots is skipped in one step. At most linear in the number of slots.
+    /// of vacant slots is skipped in one step if more slots are vacant than live. At most linear in
+    /// the number of slots.
     ///
     /// ```
     /// map.clear();
