@@ -145,15 +145,15 @@ module _ {V : Type 0} where
       rw (is, length-map slots emptied, vacancy_kept (all_links (map emptied slots)) 0 l (flags_emptied slots 0 some)) (flags_emptied slots (length slots - 1) (omega (arith, some)))
 
   -- the slots before an index are vacant, the others as they were
-  pub record Vacating (old now : List (Slot V)) (i : ℕ) : Type 0 where
+  pub record VacantBefore (old now : List (Slot V)) (i : ℕ) : Type 0 where
     pub done : take i now ≡ map emptied (take i old)
     pub left : drop i now ≡ drop i old
 
-  module _ {old now : List (Slot V)} {i : ℕ} (vacating : Vacating old now i) (size : length now ≡ length old) (inside : i < length now) (d : Slot V) where
+  module _ {old now : List (Slot V)} {i : ℕ} (vacating : VacantBefore old now i) (size : length now ≡ length old) (inside : i < length now) (d : Slot V) where
     pub read_old : get_or now i d ≡ get_or old i d
     read_old = let at : i ≡ i + 0 = omega arith in rw at (sym (get_or-drop i now 0 d) ∙ ap (λ xs. get_or xs 0 d) vacating.left ∙ get_or-drop i old 0 d)
 
-    pub vacates_on : (v : ℕ) → v ≡ version_in (get_or now i d) → Vacating old (set now i (Empty SingleState (v + v % 2) 0 0)) (i + 1)
+    pub vacates_on : (v : ℕ) → v ≡ version_in (get_or now i d) → VacantBefore old (set now i (Empty SingleState (v + v % 2) 0 0)) (i + 1)
     vacates_on v is =
         let y : Slot V = Empty SingleState (v + v % 2) 0 0 in
         let same : emptied (get_or old i d) ≡ y = ap (λ v. Empty SingleState (v + v % 2) 0 0) (sym (is ∙ ap version_in read_old)) in

@@ -52,7 +52,7 @@ can_lead es before after to from leads head =
     }
 
 -- links that are right after a slot has joined the blocks
-record Joined (es : List (Option Links)) (i : ℕ) : Type 0 where
+record CanJoin (es : List (Option Links)) (i : ℕ) : Type 0 where
   after : List (Option Links)
   flags : map is_vacant after ≡ set (map is_vacant es) i true
   blocks : HasBlocks after (vacated (vacant_at es) (blocks_of es) i)
@@ -61,7 +61,7 @@ module _ {es : List (Option Links)} {i : ℕ} (can : CanVacate es i) where
   last_flags : (led : List (Option Links)) (own : Links) → map is_vacant led ≡ map is_vacant es → map is_vacant (set led i (Some own)) ≡ set (map is_vacant es) i true
   last_flags led own same = map-set is_vacant led i (Some own) ∙ ap (λ vacant. set vacant i true) same
 
-  joined_alone : vacant_at es (i - 1) ≡ false → vacant_at es (i + 1) ≡ false → Joined es i
+  joined_alone : vacant_at es (i - 1) ≡ false → vacant_at es (i + 1) ≡ false → CanJoin es i
   joined_alone left right =
       let leads = ap (λ x. has_next (links_at es x)) (sym (last_is can.sound)) ∙ last_leads can.sound in
       let led = can_lead es (prev_at es 0) 0 i i leads (zero_head can.sound) in
@@ -71,7 +71,7 @@ module _ {es : List (Option Links)} {i : ℕ} (can : CanVacate es i) where
         blocks = rw (left, right) (joins_alone can led.led left right refl led.links led.ends);
       }
 
-  joined_after : vacant_at es (i - 1) ≡ true → vacant_at es (i + 1) ≡ false → Joined es i
+  joined_after : vacant_at es (i - 1) ≡ true → vacant_at es (i + 1) ≡ false → CanJoin es i
   joined_after left right =
       let front = end_at es (i - 1) in
       let first = Front (next_at es front) i in
@@ -94,7 +94,7 @@ module _ {es : List (Option Links)} {i : ℕ} (can : CanVacate es i) where
     leads_before : has_next (links_at es before) ≡ true
     leads_before = ap (λ x. has_next (links_at es x)) (sym (prev_is can right {back = block_back} refl refl)) ∙ before_leads can right
 
-    joined_before : vacant_at es (i - 1) ≡ false → Joined es i
+    joined_before : vacant_at es (i - 1) ≡ false → CanJoin es i
     joined_before left =
         let led = can_lead es before after_it i i leads_before (after_head can right) in
         let there : vacant_at led.led block_back ≡ true = rw (flags_kept led.ends) (back_ready can right refl) in
@@ -104,7 +104,7 @@ module _ {es : List (Option Links)} {i : ℕ} (can : CanVacate es i) where
           blocks = rw (left, right) (joins_before can right led.led left refl refl refl led.links led.ends);
         }
 
-    joined_between : vacant_at es (i - 1) ≡ true → Joined es i
+    joined_between : vacant_at es (i - 1) ≡ true → CanJoin es i
     joined_between left =
         let led = can_lead es before after_it after_it before leads_before (after_head can right) in
         let front = end_at led.led (i - 1) in
@@ -120,7 +120,7 @@ module _ {es : List (Option Links)} {i : ℕ} (can : CanVacate es i) where
           blocks = rw (left, right) (joins_between can right led.led left refl refl refl led.links led.ends refl refl refl);
         }
 
-  can_join : Joined es i
+  can_join : CanJoin es i
   can_join =
       elim (cases_Bool (vacant_at es (i - 1))) [
         | inl left ↦ elim (cases_Bool (vacant_at es (i + 1))) [ inl right ↦ joined_between right left | inr right ↦ joined_after left right ]
