@@ -25,3 +25,6 @@ pub mod Sweeping
 pub mod Retaining
 pub mod FromListLemmas
 pub mod BlocksLeft
+pub mod Relinking
+pub mod OneBlock
+pub mod Emptying

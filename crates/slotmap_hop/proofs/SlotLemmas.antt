@@ -47,7 +47,7 @@ module _ {V : Type 0} (slots : List (Slot V)) (i : ℕ) where
       → (s : Slot V) × (slice_get slots i ≡ Some s) × (i < length slots) × (slice_get (places_of slots) i ≡ Some (Vacant (version_in s + 1)))
   vacant_slot vacant = grind (arith, slot_cases slots i)
 
-  place_vacant : (n : ℕ) → slice_get (places_of slots) i ≡ Some (Vacant n) → vacant_at (all_links slots) i ≡ true
+  pub place_vacant : (n : ℕ) → slice_get (places_of slots) i ≡ Some (Vacant n) → vacant_at (all_links slots) i ≡ true
   place_vacant n found = grind (arith, slot_cases slots i)
 
   pub place_not_vacant : (p : Place V) → slice_get (places_of slots) i ≡ Some p → ((n : ℕ) → p ≢ Vacant n) → vacant_at (all_links slots) i ≡ false

@@ -4,7 +4,7 @@ use Rattle.std.specs.FinSet as set
 use Rattle.std.specs.Prelude.{◌≡◌, ◌⊎◌, ◌+◌, ◌-◌, ◌<◌, ◌≤◌, if◌then◌else◌, ◌==◌, ◌||◌, ◌∷◌, ℕ, zero, suc, refl, Bool, true}
 use Rattle.std.specs.Prelude.{false, Option, Some, None, List, []}
 use Rattle.slotmap_core.specs.Words.{nat_cmp, Coded, code_by, coded×, Key, is_last, Content, content_code, IsContent, IsLive, used, places, most, freed}
-use Rattle.slotmap_core.specs.Words.{with_value, MakesRoom, with_values, Removes}
+use Rattle.slotmap_core.specs.Words.{with_value, MakesRoom, with_values, Removes, Leaves, FreesByIndex}
 use Rattle.slotmap_hop.specs.Blocks.{Blocks, coded_blocks, HasMaximalBlocks, vacated, offer_place}
 
 pub record HopContent (V : Type 0) : Type 0 where
@@ -89,6 +89,14 @@ module _ {V : Type 0} where
     pub had : map.get old.content.live key ≡ Some value
     pub removes : Removes old.content key new.content
     pub blocks : new.blocks ≡ blocks_without old key
+    pub valid : StaysHop old new
+
+  -- every live key was removed, by ascending index
+  pub record Clears (old new : HopContent V) : Type 0 where
+    pub empty : new.content.live ≡ map.empty
+    pub leaves : Leaves old.content new.content
+    pub order : FreesByIndex old.content new.content
+    pub blocks : new.blocks ≡ blocks_without_all old (map.keys old.content.live)
     pub valid : StaysHop old new
 
   -- A call that may allocate room for one more key: the map was and is well formed, and no capacity is lost. If there is room

@@ -1,12 +1,13 @@
 //! The calls that empty a map, and those that append what it holds to a vector.
 
 ghost use Rattle.std.specs.FinMap as map;
-ghost use Rattle.std.specs.Prelude.{◌≡◌, ◌+◌, ◌-◌, ◌<◌, ◌≤◌, ◌++◌, Some, OnOk, OnErr, List, map as list_map};
+ghost use Rattle.std.specs.Prelude.{◌≡◌, ◌+◌, ◌-◌, ◌<◌, ◌≤◌, ◌++◌, true, false, Some, OnOk, OnErr, List, map as list_map};
 ghost use Rattle.slotmap_core.specs.Words.{Leaves, FreesByIndex};
-ghost use Rattle.slotmap_hop.specs.HopContent.{IsHopContent, HasKeyAt, RemovesRun, StaysHop, blocks_without_all};
+ghost use Rattle.slotmap_hop.specs.HopContent.{IsHopContent, HasKeyAt, RemovesRun, Clears, StaysHop, blocks_without_all};
 
 use crate::HopSlotMap;
 use crate::blocks::free_run;
+use crate::one_block::{all_go_on, make_one_block};
 use slotmap_core::errors::OutOfMemory;
 use slotmap_core::keys::Key;
 
@@ -14,7 +15,8 @@ impl<K: Key, V: Drop> HopSlotMap<K, V> {
     /// Removes every live key and drops its value.
     ///
     /// The keys are removed as `remove` does, by ascending index, and the capacity stays. A block
-    /// of vacant slots is skipped in one step. At most linear in the number of slots.
+    /// of vacant slots is skipped in one step if more slots are vacant than live. At most linear in
+    /// the number of slots.
     ///
     /// ```
     /// map.clear();
@@ -27,6 +29,35 @@ impl<K: Key, V: Drop> HopSlotMap<K, V> {
         ensures order { FreesByIndex self.old.content self.new.content }
         ensures blocks { self.new.blocks ≡ blocks_without_all self.old (map.keys self.old.content.live) }
         ensures valid { StaysHop self.old self.new }
+    {
+        if self.clear_at_once() {
+            return;
+        }
+        self.clear_runs();
+    }
+
+    // Removes every live key, if no fewer are live than slots are vacant, and each slot may have
+    // further keys. Returns whether it did.
+    #[inline(always)]
+    fn clear_at_once(&mut self) -> bool
+        ensures clears { result ≡ true → Clears self.old self.new }
+        ensures unchanged { result ≡ false → self.new ≡ self.old }
+    {
+        if self.live_count < self.vacant_count {
+            return false;
+        }
+        if !all_go_on(self.slots.as_slice()) {
+            return false;
+        }
+        make_one_block(self.slots.as_mut_slice());
+        self.vacant_count += self.live_count;
+        self.live_count = 0;
+        true
+    }
+
+    // Removes every live key: those of adjacent indices one after the other.
+    fn clear_runs(&mut self)
+        ensures { Clears self.old self.new }
     {
         let mut next = self.first_place(0);
         while let Some(start) = next {

@@ -37,6 +37,7 @@ mod into_iter;
 mod iter;
 mod links;
 mod list;
+mod one_block;
 mod primary;
 mod remove;
 mod retain;

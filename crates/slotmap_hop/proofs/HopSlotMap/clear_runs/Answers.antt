@@ -2,8 +2,8 @@ use Rattle.std.proofs.Common.{◌≡◌, ◌+◌, ◌-◌, Some, sym, subst, ari
 use Rattle.slotmap_core.proofs.Common.{Key, None, common_steps}
 use Rattle.slotmap_hop.specs.HopContent.{HasKeyAt}
 use Rattle.slotmap_hop.proofs.Sweeping.{Clearing, ClearingAt, clearing_starts_at, clearing_run, clearing_removed_at, clearing_ends, clearing_blocks}
-use Rattle.slotmap_hop.proofs.HopSlotMap.clear.Goals.{In-Some, In_default, After-clear_run-index, After-key_at-key}
-use Rattle.slotmap_hop.proofs.HopSlotMap.clear.Goals as goal
+use Rattle.slotmap_hop.proofs.HopSlotMap.clear_runs.Goals.{In-Some, In_default, After-clear_run-index, After-key_at-key}
+use Rattle.slotmap_hop.proofs.HopSlotMap.clear_runs.Goals as goal
 
 pub loop-next-init : goal.loop-next-init
 loop-next-init g c = clearing_starts_at c.args.self.now _ c.first_place-next.ensures.valid c.first_place-next.ensures.comes
@@ -38,22 +38,17 @@ loop-next-preserved g c =
 ended : (g : _) (c : In_default g) → Clearing (λ (k : Key). k) c.args.self.now c.loop-next.self None
 ended g c = rw c.in_default.is at c.loop-next.invariant
 
-pub returns-clause-empty : goal.returns-clause-empty
-returns-clause-empty g c = clearing_ends (λ (k : Key). k) _ _ (ended g (goal.at.returns-clause-empty g c).In_default)
-
-pub returns-clause-leaves : goal.returns-clause-leaves
-returns-clause-leaves g c = (ended g (goal.at.returns-clause-leaves g c).In_default).sweep.swept.leaves
-
-pub returns-clause-order : goal.returns-clause-order
-returns-clause-order g c = (ended g (goal.at.returns-clause-order g c).In_default).sweep.swept.order
-
-pub returns-clause-blocks : goal.returns-clause-blocks
-returns-clause-blocks g c = clearing_blocks (λ (k : Key). k) _ _ (ended g (goal.at.returns-clause-blocks g c).In_default)
-
-pub returns-clause-valid : goal.returns-clause-valid
-returns-clause-valid g c =
-    let sweep = (ended g (goal.at.returns-clause-valid g c).In_default).sweep in
-    record { before = c.first_place-next.ensures.valid; after = sweep.valid; capacity = sweep.swept.capacity }
+pub returns : goal.returns
+returns g c =
+    let ended = ended g (goal.at.returns g c).In_default in
+    let swept = ended.sweep.swept in
+    record {
+      empty = clearing_ends (λ (k : Key). k) _ _ ended;
+      leaves = swept.leaves;
+      order = swept.order;
+      blocks = clearing_blocks (λ (k : Key). k) _ _ ended;
+      valid = record { before = c.first_place-next.ensures.valid; after = ended.sweep.valid; capacity = swept.capacity };
+    }
 
 pub overflow_add-index : goal.overflow_add-index
 overflow_add-index g c = grind (arith, common_steps)
