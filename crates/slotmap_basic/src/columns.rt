@@ -1,6 +1,6 @@
 //! The layout of the slots: three vectors of one length.
 
-ghost use Rattle.std.specs.Prelude.{◌≡◌, ◌+◌, ◌<◌, ◌≤◌, ◌^◌, ℕ, List, length, slice_get, Some, IfSome, IfNone, refl, vec_capacity};
+ghost use Rattle.std.specs.Prelude.{◌≡◌, ◌+◌, ◌<◌, ◌≤◌, ◌^◌, ℕ, List, length, slice_get, Some, IfSome, IfNone, IsSome, refl, vec_capacity};
 ghost use Rattle.slotmap_basic.specs.Columns.{zip_slots, uses_of};
 ghost use Rattle.slotmap_slots.specs.declared.layout.Use.{Use as UseOf};
 
@@ -120,6 +120,23 @@ impl<P> Columns<P> {
 impl<P> Columns<P> {
     ghost use Rattle.slotmap_basic.specs.Columns.{versions_of, AllEven, IsNextOdd};
     ghost use Rattle.slotmap_basic.specs.Odds.{IsAhead};
+    ghost use Rattle.slotmap_core.specs.Words.{slice_set};
+    ghost use Rattle.slotmap_slots.specs.Slot.{FitsEmpty, payload_at, empty};
+    ghost use Rattle.slotmap_slots.specs.declared.layout.Use.TheVariants.{Detached};
+
+    // Takes out the payload of a slot whose key is detached, and leaves this version there. The version
+    // last: so a `reattach` right after it has no version to test.
+    fn set_aside(&mut self, index: usize, version: u32) -> P
+        requires there { IsSome (payload_at self.old.slots index) }
+        requires out { FitsEmpty version Detached }
+        ensures value { payload_at self.old.slots index ≡ Some result }
+        ensures left { self.new ≡ record { slots = slice_set self.old.slots index (empty version Detached); capacity = self.old.capacity } }
+    {
+        let payload = sure(self.payloads[index].take());
+        self.numbers[index] = number_for(Use::Detached);
+        self.versions[index] = version;
+        payload
+    }
 
     // Returns the next index with an odd version, or `None` if there is none.
     #[inline(always)]
@@ -195,6 +212,9 @@ impl<P> Layout<P> for Columns<P> {
     }
 
     fn take(&mut self, index: usize, version: u32, usage: Use) -> P {
+        if let Use::Detached = usage {
+            return self.set_aside(index, version);
+        }
         // The version first: a look-up before has read it, and read where it lies.
         self.versions[index] = version;
         self.numbers[index] = number_for(usage);

@@ -6,7 +6,7 @@ use Rattle.std.proofs.Common.{[], length, drop, slice_get, Some, None}
 use Rattle.slotmap_core.proofs.Common.{is_some, refl, sym, ap, ◌∙◌, arith, slice_get_within, get_or_from_slice_get, drop_more, drop_all, All-nil, All-cons}
 use Rattle.slotmap_core.proofs.Common.{All-push, All-weaker, All, Key, last_version, Place, Live, Detached, Vacant, Retired as RetiredPlace, live, live_entry}
 use Rattle.slotmap_core.proofs.Common.{retired_entry, gather, HasVersion, live_at, key, get-live_at}
-use Rattle.slotmap_hop.specs.Slots.{Slot, value_in, links_in, hop_in, place_in, all_links, places_of}
+use Rattle.slotmap_hop.specs.Slots.{Slot, value_in, links_in, hop_in, back_in, place_in, all_links, places_of}
 use Rattle.slotmap_hop.specs.Slots.{State, SingleState, FrontState, BackState, Retired, Occupied, Empty}
 use Rattle.slotmap_hop.specs.Blocks.{Begins, IsBlock}
 use Rattle.slotmap_hop.specs.Links.{is_vacant, end_in, NamesApart, vacant_at, links_at, end_at}
@@ -81,6 +81,10 @@ module _ {V : Type 0} (slots : List (Slot V)) where
 hop_to_back : {V : Type 0} (index : ℕ) (s : Slot V) → is_vacant (links_in s) ≡ true → NamesApart index (links_in s) → index ≤ end_in index (links_in s)
     → hop_in index s ≡ end_in index (links_in s)
 hop_to_back index s vacant apart ordered = grind arith
+
+-- a walk goes from another slot to the next place
+pub hop_none : {V : Type 0} (index : ℕ) (s : Slot V) → back_in s ≡ None → hop_in index s ≡ index
+hop_none index s none = grind arith
 
 pub none_here : {V : Type 0} (s : Slot V) → is_some (value_in s) ≡ false → value_in s ≡ None
 none_here s is = grind arith
@@ -193,7 +197,7 @@ module _ {V : Type 0} (slots : List (Slot V)) (reads0 start : ℕ) where
         by (Empty Retired version unused nowhere) is none = rw is (way_passes version unused nowhere is)
 
     -- a slot with a value is what the search looks for
-    pub way_finds : is_some (value_in s) ≡ true → FindsSlot slots start index s × ReadsOnTheWay slots reads0 start (reads + 1) index
+    pub way_finds : is_some (value_in s) ≡ true → FindsSlot slots start index × ReadsOnTheWay slots reads0 start (reads + 1) index
     way_finds live =
         let slot : (state : State) × (version : ℕ) × (x : V) × (s ≡ Occupied state version x) = occupied s live in
         let version = slot.1 in
@@ -205,7 +209,7 @@ module _ {V : Type 0} (slots : List (Slot V)) (reads0 start : ℕ) where
             state = slot.0;
             version = version;
             value = x;
-            is = is;
+            is = found ∙ ap Some is;
             finds = record { there = live_there; first = way.same ∙ left-on slots pairs_from index (Live version x) live_there; least = way.none };
           },
           record {
@@ -230,7 +234,7 @@ module _ {V : Type 0} (slots : List (Slot V)) (reads0 start : ℕ) where
 
     module _ {new : Counted V} {s : Slot V} (read : IsRead now s new) where
       pub finds_here : is_some (value_in s) ≡ true
-          → FindsSlot slots start new.index s × (new.slots ≡ slots) × ReadsOnTheWay slots reads0 start new.reads new.index
+          → FindsSlot slots start new.index × (new.slots ≡ slots) × ReadsOnTheWay slots reads0 start new.reads new.index
       finds_here live =
           let finds = way_finds at.way (rw at.kept at read.value) live in
           rw (read.index, read.reads) (finds.0, read.slots ∙ at.kept, finds.1)

@@ -103,12 +103,12 @@ module _ {V : Type 0} where
     pub first : pairs_left slots index ≡ (record { index = found; version = version }, value) ∷ pairs_left slots (found + 1)
     pub least : (k : Key) → map.contains_key (live (places_of slots)) k ≡ true → index ≤ k.index → found ≤ k.index
 
-  -- the first live slot from `index` on is `found`; it is this slot
-  pub record FindsSlot (slots : List (Slot V)) (index found : ℕ) (slot : Slot V) : Type 0 where
+  -- the first live slot from `index` on is `found`
+  pub record FindsSlot (slots : List (Slot V)) (index found : ℕ) : Type 0 where
     pub state : State
     pub version : ℕ
     pub value : V
-    pub is : slot ≡ Occupied state version value
+    pub is : slice_get slots found ≡ Some (Occupied state version value)
     pub finds : FindsLive slots index found version value
 
   -- the first live slot from `index` on is `found`

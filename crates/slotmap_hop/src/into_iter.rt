@@ -31,22 +31,24 @@ use std::marker::{Model, PhantomData};
 pub struct IntoIter<K, V> {
     // A slot whose value was yielded counts as retired.
     slots: Vec<Slot<V>>,
-    // The slot to read next: a live or retired one, the first one of a block, or the end.
-    index: usize,
+    // The slot before the place to go on from. There is a live or retired slot, the first one of a
+    // block, or the end.
+    last: usize,
     // How many values are still to come.
     left: usize,
     keys: PhantomData<K>,
 }
 
 impl<K, V> Model for IntoIter<K, V> {
+    ghost use Rattle.std.specs.Prelude.{◌+◌};
     ghost use Rattle.slotmap_core.specs.Words.{List, Key};
     ghost use Rattle.slotmap_hop.specs.Iter.{pairs_left, IsIter};
 
     ghost Value = { List (Key × V) };
 
-    ghost view = { λ it. pairs_left it.slots.items it.index };
+    ghost view = { λ it. pairs_left it.slots.items (it.last + 1) };
 
-    ghost invariant = { λ it. IsIter it.slots.items 0 it.index it.left };
+    ghost invariant = { λ it. IsIter it.slots.items 0 (it.last + 1) it.left };
 }
 
 impl<K, V> IntoIter<K, V> {
@@ -85,7 +87,7 @@ impl<K, V: Clone> IntoIter<K, V> {
     {
         Ok(IntoIter {
             slots: clone_slots(&self.slots)?,
-            index: self.index,
+            last: self.last,
             left: self.left,
             keys: PhantomData,
         })
@@ -112,11 +114,11 @@ impl<K: Key, V: Drop> Iterator for IntoIter<K, V> {
         if self.left == 0 {
             return None;
         }
-        let mut counted = CountedSlots::new(self.slots.as_slice(), self.index);
-        let (index, slot) = next_live(&mut counted);
-        let version = slot.version();
+        let mut counted = CountedSlots::new(self.slots.as_slice(), self.last);
+        let index = next_live(&mut counted);
+        let version = counted.again().version();
         self.left -= 1;
-        self.index = index + 1;
+        self.last = index;
         let key = K::from(KeyData::exact(index as u32, version));
         let value = retire(self.slots.as_mut_slice(), index as u32);
         Some((key, value))
@@ -162,7 +164,7 @@ impl<K: Key, V: Drop> IntoIterator for HopSlotMap<K, V> {
         let back = back_of(slots.as_slice(), 0);
         IntoIter {
             slots,
-            index: back as usize + 1,
+            last: back as usize,
             left: live_count as usize,
             keys: PhantomData,
         }

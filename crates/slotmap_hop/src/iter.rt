@@ -45,31 +45,26 @@ impl<'a, K, V> Model for Iter<'a, K, V> {
     ghost invariant = { λ it. IsIter it.counted.slots it.counted.reads it.counted.index it.left };
 }
 
-// The next live slot from the place on, which is then the place. All iterators find their slots here.
-// Since there is one, no place is compared with the end. Unless a slot is retired, there are two tests
-// and no loop: so a loop over the items has none within.
-pub(crate) fn next_live<'a, V>(counted: &mut CountedSlots<'a, V>) -> (usize, &'a Slot<V>)
+// Goes to the next live slot from the place on, and returns its index. All iterators find their slots
+// here. Since there is one, no place is compared with the end. Unless a slot is retired, the loop ends
+// in its first round. The caller reads the slot by its place: it would cost a register beside that.
+pub(crate) fn next_live<'a, V>(counted: &mut CountedSlots<'a, V>) -> usize
     requires can { CanGoOn counted.old.slots counted.old.reads counted.old.index }
     requires some { 0 < length (pairs_left counted.old.slots counted.old.index) }
-    ensures found { FindsSlot counted.old.slots counted.old.index result.0 result.1.now }
+    ensures found { FindsSlot counted.old.slots counted.old.index result }
     ensures slots { counted.new.slots ≡ counted.old.slots }
-    ensures index { counted.new.index ≡ result.0 }
-    ensures reads { ReadsOnTheWay counted.old.slots counted.old.reads counted.old.index counted.new.reads result.0 }
+    ensures index { counted.new.index ≡ result }
+    ensures reads { ReadsOnTheWay counted.old.slots counted.old.reads counted.old.index counted.new.reads result }
 {
     let first = counted.read();
     if first.is_live() {
-        return (counted.index(), first);
+        return counted.index();
     }
     counted.hop(first);
-    let second = counted.read();
-    if second.is_live() {
-        return (counted.index(), second);
-    }
-    counted.hop(second);
     loop {
         let slot = counted.read();
         if slot.is_live() {
-            return (counted.index(), slot);
+            return counted.index();
         }
         counted.hop(slot);
     }
@@ -144,7 +139,8 @@ impl<'a, K: Key, V> Iter<'a, K, V> {
         if self.left == 0 {
             return None;
         }
-        let (index, slot) = next_live(&mut self.counted);
+        let index = next_live(&mut self.counted);
+        let slot = self.counted.again();
         self.counted.pass();
         self.left -= 1;
         let key = K::from(KeyData::exact(index as u32, slot.version()));
@@ -413,9 +409,9 @@ impl<K: Key, V> HopSlotMap<K, V> {
         ensures valid { IsHopContent self.now }
     {
         let slots = self.slots.as_slice();
-        let start = back_of(slots, 0) as usize + 1;
+        let back = back_of(slots, 0) as usize;
         Iter {
-            counted: CountedSlots::new(slots, start),
+            counted: CountedSlots::new(slots, back),
             left: self.live_count as usize,
             keys: PhantomData,
         }

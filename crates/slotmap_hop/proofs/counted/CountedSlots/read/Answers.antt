@@ -4,8 +4,8 @@ use Rattle.slotmap_hop.proofs.counted.CountedSlots.read.Goals as goal
 pub overflow_add-self : goal.overflow_add-self
 overflow_add-self g c = grind (arith, common_steps)
 
-pub bounds-rest-0 : goal.bounds-rest-0
-bounds-rest-0 g c = grind (arith, common_steps)
+pub bounds-rest-1 : goal.bounds-rest-1
+bounds-rest-1 g c = grind (arith, common_steps)
 
 pub invariant_of-self : goal.invariant_of-self
 invariant_of-self g c = grind (arith, common_steps)
