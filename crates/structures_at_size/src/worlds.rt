@@ -4,14 +4,9 @@ use crate::items::{increment, keep};
 use crate::random::Random;
 use crate::sums::{Sum, tell};
 use slotmap::{DefaultKey, SecondaryMap, SparseSecondaryMap};
-use slotmap_entities::{Apart, CloneTables, First, Kind, Second, Table, Tables, World};
+use slotmap_entities::{Apart, CloneTable, CloneTables, First, Kind, Second, Table, Tables, World};
 
 type Numbers<T> = World<DefaultKey, u64, T>;
-
-type Two = (
-    SecondaryMap<DefaultKey, u64>,
-    (SparseSecondaryMap<DefaultKey, u64>, ()),
-);
 
 // Spawns a number, with a component if it is even: the number, twice.
 fn spawn<T, C>(world: &mut Numbers<T>, keys: &mut Vec<DefaultKey>, number: u64) -> bool
@@ -362,7 +357,19 @@ where
     run_in::<T, F, S>(rt, &mut world, &mut keys, size)
 }
 
+// The same with tables of these types.
+fn run_tables<A, B>(rt: &HostRuntime, size: u64) -> bool
+where
+    A: CloneTable<DefaultKey> + Table<DefaultKey, Component = u64>,
+    B: CloneTable<DefaultKey> + Table<DefaultKey, Component = u64>,
+{
+    run_calls::<(A, (B, ())), First, Second>(rt, size)
+}
+
 /// Runs all calls of a world, and returns whether they succeeded.
 pub fn run(rt: &HostRuntime, size: u64) -> bool {
-    println!(rt; " world").is_ok() && run_calls::<Two, First, Second>(rt, size)
+    println!(rt; " world").is_ok()
+        && run_tables::<SecondaryMap<DefaultKey, u64>, SparseSecondaryMap<DefaultKey, u64>>(
+            rt, size,
+        )
 }
