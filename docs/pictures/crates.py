@@ -51,7 +51,6 @@ LIBRARIES = {
     "slotmap_rows_primary": "primary_rows", "slotmap_rows_secondary": "secondary_rows", "json_tests": "slotmap_json",
     "slotmap_script": "slotrun", "script_tests": "slotrun",
     **{f"{name}_tests": TESTS for name in ("list", "graph", "entities", "scene", "scheduler")}, "structures_at_size": TESTS,
-    **{f"slotmap_sizes{name}": TESTS for name in ("", "_list", "_graph", "_scene", "_scheduler", "_world")},
 }
 
 

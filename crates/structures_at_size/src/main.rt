@@ -5,17 +5,26 @@
 //! call fails.
 #![tactic(auto)]
 
+mod graphs;
+mod items;
+mod lists;
+mod random;
+mod scenes;
+mod schedulers;
+mod sums;
+mod worlds;
+
 use std::env;
 use std::process::ExitCode;
 
 // All structures at one size. It returns whether all calls succeeded.
 fn run_size(rt: &HostRuntime, size: u64) -> bool {
     println!(rt; "{size} elements").is_ok()
-        && slotmap_sizes_list::run(rt, size).is_some()
-        && slotmap_sizes_graph::run(rt, size).is_some()
-        && slotmap_sizes_scene::run(rt, size).is_some()
-        && slotmap_sizes_scheduler::run(rt, size).is_some()
-        && slotmap_sizes_world::run(rt, size).is_some()
+        && lists::run(rt, size)
+        && graphs::run(rt, size)
+        && scenes::run(rt, size)
+        && schedulers::run(rt, size)
+        && worlds::run(rt, size)
 }
 
 // The same at the size that a word names.

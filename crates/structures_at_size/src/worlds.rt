@@ -1,49 +1,53 @@
 //! Worlds of numbers, with numbers as components. [`run`] alone names the tables.
-#![tactic(auto)]
 
+use crate::items::{increment, keep};
+use crate::random::Random;
+use crate::sums::{Sum, tell};
 use slotmap::{DefaultKey, SecondaryMap, SparseSecondaryMap};
-use slotmap_entities::{Apart, CloneTables, First, Kind, Second, Table, Tables, World};
-use slotmap_sizes::{Random, Sum, tell};
+use slotmap_entities::{Apart, CloneTable, CloneTables, First, Kind, Second, Table, Tables, World};
 
 type Numbers<T> = World<DefaultKey, u64, T>;
 
-type Two = (
-    SecondaryMap<DefaultKey, u64>,
-    (SparseSecondaryMap<DefaultKey, u64>, ()),
-);
-
-// Spawns the numbers below `count`, the even ones with a component: the number, twice.
-fn spawn_all<T, C>(world: &mut Numbers<T>, keys: &mut Vec<DefaultKey>, count: u64) -> Option<()>
+// Spawns a number, with a component if it is even: the number, twice.
+fn spawn<T, C>(world: &mut Numbers<T>, keys: &mut Vec<DefaultKey>, number: u64) -> bool
 where
     T: Tables<DefaultKey>,
     C: Kind<DefaultKey, T>,
     C::Table: Table<DefaultKey, Component = u64>,
 {
-    for number in 0..count {
-        let key = if number % 2 == 0 {
-            world.spawn_with::<C>(number, number.wrapping_mul(2)).ok()?
-        } else {
-            world.spawn(number).ok()?
-        };
-        keys.push(key).ok()?;
+    match number % 2 {
+        0 => keep(keys, world.spawn_with::<C>(number, number.wrapping_mul(2))),
+        _ => keep(keys, world.spawn(number)),
     }
-    Some(())
 }
 
-// Gives each entity whose number is divisible by `step` a component: its number, so many times.
-fn attach_all<T, C>(world: &mut Numbers<T>, keys: &[DefaultKey], step: u64) -> Option<()>
+// Spawns the numbers below `count`. Like all that add, it returns whether all calls succeeded.
+fn spawn_all<T, C>(world: &mut Numbers<T>, keys: &mut Vec<DefaultKey>, count: u64) -> bool
 where
     T: Tables<DefaultKey>,
     C: Kind<DefaultKey, T>,
     C::Table: Table<DefaultKey, Component = u64>,
 {
-    for key in keys {
-        let number = *world.get(*key)?;
-        if number.checked_rem(step)? == 0 {
-            world.attach::<C>(*key, number.wrapping_mul(step)).ok()?;
-        }
+    let mut done = true;
+    for number in 0..count {
+        done &= spawn::<T, C>(world, keys, number);
     }
-    Some(())
+    done
+}
+
+// Gives each entity whose number is divisible by 3 a component: its number, three times.
+fn attach_all<T, C>(world: &mut Numbers<T>, keys: &[DefaultKey]) -> bool
+where
+    T: Tables<DefaultKey>,
+    C: Kind<DefaultKey, T>,
+    C::Table: Table<DefaultKey, Component = u64>,
+{
+    let mut done = true;
+    for key in keys {
+        let number = world.get(*key).copied().unwrap_or(0);
+        done &= number % 3 != 0 || world.attach::<C>(*key, number.wrapping_mul(3)).is_ok();
+    }
+    done
 }
 
 // The numbers in packed order.
@@ -111,15 +115,14 @@ fn despawn_some<T: Tables<DefaultKey>>(
     keys: &[DefaultKey],
     random: &mut Random,
     turns: u64,
-) -> Option<Sum> {
+) -> Sum {
     let mut sum = Sum::new();
     for _ in 0..turns {
-        let key = random.pick(keys)?;
-        if let Some((number, _)) = world.despawn(key) {
+        if let Some((number, _)) = world.despawn(random.pick(keys)) {
             sum.add(number);
         }
     }
-    Some(sum)
+    sum
 }
 
 // Takes components of a kind off entities by chance.
@@ -128,7 +131,7 @@ fn detach_some<T, C>(
     keys: &[DefaultKey],
     random: &mut Random,
     turns: u64,
-) -> Option<Sum>
+) -> Sum
 where
     T: Tables<DefaultKey>,
     C: Kind<DefaultKey, T>,
@@ -136,12 +139,9 @@ where
 {
     let mut sum = Sum::new();
     for _ in 0..turns {
-        let key = random.pick(keys)?;
-        if let Some(component) = world.detach::<C>(key) {
-            sum.add(component);
-        }
+        sum.add_some(world.detach::<C>(random.pick(keys)));
     }
-    Some(sum)
+    sum
 }
 
 // Adds 1 to the components of a kind.
@@ -152,9 +152,7 @@ where
     C::Table: Table<DefaultKey, Component = u64>,
 {
     for key in keys {
-        if let Some(component) = world.component_mut::<C>(*key) {
-            *component = component.wrapping_add(1);
-        }
+        increment(world.component_mut::<C>(*key));
     }
 }
 
@@ -169,7 +167,7 @@ where
 }
 
 // All entities and their components.
-fn tell_all<'a, T, F, S>(rt: &HostRuntime, world: &'a Numbers<T>) -> Option<()>
+fn tell_all<'a, T, F, S>(rt: &HostRuntime, world: &'a Numbers<T>) -> bool
 where
     T: Tables<DefaultKey>,
     F: Kind<DefaultKey, T>,
@@ -177,10 +175,10 @@ where
     F::Table: Table<DefaultKey, Component = u64> + 'a,
     S::Table: Table<DefaultKey, Component = u64> + 'a,
 {
-    tell(rt, "entities", sum_of(world))?;
-    tell(rt, "first components", sum_with::<T, F>(world))?;
-    tell(rt, "second components", sum_with::<T, S>(world))?;
-    tell(rt, "both", sum_with_both::<T, F, S>(world))
+    tell(rt, "entities", sum_of(world))
+        && tell(rt, "first components", sum_with::<T, F>(world))
+        && tell(rt, "second components", sum_with::<T, S>(world))
+        && tell(rt, "both", sum_with_both::<T, F, S>(world))
 }
 
 // Removes entities and components.
@@ -189,7 +187,7 @@ fn change<T, F, S>(
     world: &mut Numbers<T>,
     keys: &[DefaultKey],
     random: &mut Random,
-) -> Option<()>
+) -> bool
 where
     T: Tables<DefaultKey>,
     F: Kind<DefaultKey, T>,
@@ -198,17 +196,15 @@ where
     S::Table: Table<DefaultKey, Component = u64>,
 {
     let turns = keys.len() as u64 / 2;
-    let despawned = despawn_some(world, keys, random, turns)?;
-    tell(rt, "despawned", despawned)?;
-    let detached = detach_some::<T, S>(world, keys, random, turns)?;
-    tell(rt, "detached", detached)?;
+    let despawned = despawn_some(world, keys, random, turns);
+    let detached = detach_some::<T, S>(world, keys, random, turns);
     write_all::<T, F>(world, keys);
     retain_others::<T, F>(world);
-    Some(())
+    tell(rt, "despawned", despawned) && tell(rt, "detached", detached)
 }
 
 // Copies a world, and clears it.
-fn copy<T, F, S>(rt: &HostRuntime, world: &mut Numbers<T>) -> Option<()>
+fn copy<T, F, S>(rt: &HostRuntime, world: &mut Numbers<T>) -> bool
 where
     T: CloneTables<DefaultKey>,
     F: Kind<DefaultKey, T>,
@@ -216,10 +212,11 @@ where
     F::Table: Table<DefaultKey, Component = u64>,
     S::Table: Table<DefaultKey, Component = u64>,
 {
-    let copy = world.clone().ok()?;
+    let Ok(copy) = world.clone() else {
+        return false;
+    };
     world.clear();
-    tell_all::<T, F, S>(rt, world)?;
-    tell_all::<T, F, S>(rt, &copy)
+    tell_all::<T, F, S>(rt, world) && tell_all::<T, F, S>(rt, &copy)
 }
 
 // Spawns so many more numbers, each with both components: the number, twice and three times.
@@ -228,7 +225,7 @@ fn spawn_pairs<T, F, S>(
     keys: &mut Vec<DefaultKey>,
     first: u64,
     count: u64,
-) -> Option<()>
+) -> bool
 where
     T: Tables<DefaultKey>,
     F: Apart<DefaultKey, T, S>,
@@ -236,16 +233,31 @@ where
     F::Table: Table<DefaultKey, Component = u64>,
     S::Table: Table<DefaultKey, Component = u64>,
 {
+    let mut done = true;
     for number in first..first.wrapping_add(count) {
         let (twice, thrice) = (number.wrapping_mul(2), number.wrapping_mul(3));
-        let key = world.spawn_with_both::<F, S>(number, twice, thrice).ok()?;
-        keys.push(key).ok()?;
+        done &= keep(keys, world.spawn_with_both::<F, S>(number, twice, thrice));
     }
-    Some(())
+    done
+}
+
+// Replaces both components of an entity, and adds those that were there.
+fn replace<T, F, S>(world: &mut Numbers<T>, key: DefaultKey, pair: (u64, u64), sum: &mut Sum)
+where
+    T: Tables<DefaultKey>,
+    F: Apart<DefaultKey, T, S>,
+    S: Kind<DefaultKey, T>,
+    F::Table: Table<DefaultKey, Component = u64>,
+    S::Table: Table<DefaultKey, Component = u64>,
+{
+    if let Ok((first, second)) = world.replace_both::<F, S>(key, pair.0, pair.1) {
+        sum.add(first);
+        sum.add(second);
+    }
 }
 
 // Adds 1 to both components of each entity that has both. The sum is of those that were there.
-fn replace_all<T, F, S>(world: &mut Numbers<T>, keys: &[DefaultKey]) -> Option<Sum>
+fn replace_all<T, F, S>(world: &mut Numbers<T>, keys: &[DefaultKey]) -> Sum
 where
     T: Tables<DefaultKey>,
     F: Apart<DefaultKey, T, S>,
@@ -256,13 +268,11 @@ where
     let mut sum = Sum::new();
     for key in keys {
         if let Some((first, second)) = world.both::<F, S>(*key) {
-            let (first, second) = (first.wrapping_add(1), second.wrapping_add(1));
-            let (first, second) = world.replace_both::<F, S>(*key, first, second).ok()?;
-            sum.add(first);
-            sum.add(second);
+            let pair = (first.wrapping_add(1), second.wrapping_add(1));
+            replace::<T, F, S>(world, *key, pair, &mut sum);
         }
     }
-    Some(sum)
+    sum
 }
 
 // Makes entities with their components, and sums them up.
@@ -271,7 +281,7 @@ fn fill<T, F, S>(
     world: &mut Numbers<T>,
     keys: &mut Vec<DefaultKey>,
     size: u64,
-) -> Option<()>
+) -> bool
 where
     T: Tables<DefaultKey>,
     F: Kind<DefaultKey, T>,
@@ -279,12 +289,12 @@ where
     F::Table: Table<DefaultKey, Component = u64>,
     S::Table: Table<DefaultKey, Component = u64>,
 {
-    spawn_all::<T, F>(world, keys, size)?;
     let count = size as usize;
-    world.reserve_components::<S>(count, count).ok()?;
-    attach_all::<T, S>(world, keys.as_slice(), 3)?;
-    tell_all::<T, F, S>(rt, world)?;
-    tell(rt, "by key", sum_by_key::<T, F, S>(world, keys.as_slice()))
+    spawn_all::<T, F>(world, keys, size)
+        && world.reserve_components::<S>(count, count).is_ok()
+        && attach_all::<T, S>(world, keys.as_slice())
+        && tell_all::<T, F, S>(rt, world)
+        && tell(rt, "by key", sum_by_key::<T, F, S>(world, keys.as_slice()))
 }
 
 // Makes more entities, with both components, and replaces those.
@@ -293,7 +303,7 @@ fn grow<T, F, S>(
     world: &mut Numbers<T>,
     keys: &mut Vec<DefaultKey>,
     size: u64,
-) -> Option<()>
+) -> bool
 where
     T: Tables<DefaultKey>,
     F: Apart<DefaultKey, T, S>,
@@ -301,10 +311,13 @@ where
     F::Table: Table<DefaultKey, Component = u64>,
     S::Table: Table<DefaultKey, Component = u64>,
 {
-    world.reserve(size as usize).ok()?;
-    spawn_pairs::<T, F, S>(world, keys, size, size / 2)?;
-    let replaced = replace_all::<T, F, S>(world, keys.as_slice())?;
-    tell(rt, "replaced", replaced)
+    world.reserve(size as usize).is_ok()
+        && spawn_pairs::<T, F, S>(world, keys, size, size / 2)
+        && tell(
+            rt,
+            "replaced",
+            replace_all::<T, F, S>(world, keys.as_slice()),
+        )
 }
 
 // The calls on an empty world with two kinds of components. Its caller owns what it borrows, so that no early return
@@ -314,7 +327,7 @@ fn run_in<T, F, S>(
     world: &mut Numbers<T>,
     keys: &mut Vec<DefaultKey>,
     size: u64,
-) -> Option<()>
+) -> bool
 where
     T: CloneTables<DefaultKey>,
     F: Apart<DefaultKey, T, S>,
@@ -322,15 +335,14 @@ where
     F::Table: Table<DefaultKey, Component = u64>,
     S::Table: Table<DefaultKey, Component = u64>,
 {
-    let mut random = Random::new(6);
-    fill::<T, F, S>(rt, world, keys, size)?;
-    change::<T, F, S>(rt, world, keys.as_slice(), &mut random)?;
-    grow::<T, F, S>(rt, world, keys, size)?;
-    copy::<T, F, S>(rt, world)
+    fill::<T, F, S>(rt, world, keys, size)
+        && change::<T, F, S>(rt, world, keys.as_slice(), &mut Random::new(6))
+        && grow::<T, F, S>(rt, world, keys, size)
+        && copy::<T, F, S>(rt, world)
 }
 
 // The same, with the world made.
-fn run_calls<T, F, S>(rt: &HostRuntime, size: u64) -> Option<()>
+fn run_calls<T, F, S>(rt: &HostRuntime, size: u64) -> bool
 where
     T: CloneTables<DefaultKey>,
     F: Apart<DefaultKey, T, S>,
@@ -338,13 +350,26 @@ where
     F::Table: Table<DefaultKey, Component = u64>,
     S::Table: Table<DefaultKey, Component = u64>,
 {
-    let mut world: Numbers<T> = World::with_capacity_and_key(rt.alloc(), size as usize).ok()?;
+    let Ok(mut world) = World::with_capacity_and_key(rt.alloc(), size as usize) else {
+        return false;
+    };
     let mut keys = Vec::new(rt.alloc());
     run_in::<T, F, S>(rt, &mut world, &mut keys, size)
 }
 
-/// Runs all calls of a world.
-pub fn run(rt: &HostRuntime, size: u64) -> Option<()> {
-    println!(rt; " world").ok()?;
-    run_calls::<Two, First, Second>(rt, size)
+// The same with tables of these types.
+fn run_tables<A, B>(rt: &HostRuntime, size: u64) -> bool
+where
+    A: CloneTable<DefaultKey> + Table<DefaultKey, Component = u64>,
+    B: CloneTable<DefaultKey> + Table<DefaultKey, Component = u64>,
+{
+    run_calls::<(A, (B, ())), First, Second>(rt, size)
+}
+
+/// Runs all calls of a world, and returns whether they succeeded.
+pub fn run(rt: &HostRuntime, size: u64) -> bool {
+    println!(rt; " world").is_ok()
+        && run_tables::<SecondaryMap<DefaultKey, u64>, SparseSecondaryMap<DefaultKey, u64>>(
+            rt, size,
+        )
 }

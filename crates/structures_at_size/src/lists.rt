@@ -1,0 +1,321 @@
+//! Lists of numbers.
+
+use crate::items::{increment, keep};
+use crate::random::Random;
+use crate::sums::{Sum, tell};
+use slotmap_list::{Cursor, PushError, StableList};
+use std::alloc::{AllocError, Global};
+
+type Numbers = StableList<Cursor, u64>;
+
+// The numbers from front to back.
+fn sum_of(list: &Numbers) -> Sum {
+    let mut sum = Sum::new();
+    for value in list.values() {
+        sum.add(*value);
+    }
+    sum
+}
+
+// The numbers from back to front, each with that of the cursor behind it.
+fn sum_from_back(list: &Numbers) -> Sum {
+    let mut sum = Sum::new();
+    for (cursor, value) in list.iter().rev() {
+        sum.add(*value);
+        if let Some(next) = list.next(cursor) {
+            sum.add_found(list.get(next));
+        }
+    }
+    sum
+}
+
+// Adds a number at the back if it is even, and else at the front.
+fn push(list: &mut Numbers, cursors: &mut Vec<Cursor>, value: u64) -> bool {
+    match value % 2 {
+        0 => keep(cursors, list.push_back(value)),
+        _ => keep(cursors, list.push_front(value)),
+    }
+}
+
+// Adds the numbers below `count`. Like all that add, it returns whether all calls succeeded.
+fn push_all(list: &mut Numbers, cursors: &mut Vec<Cursor>, count: u64) -> bool {
+    let mut done = true;
+    for value in 0..count {
+        done &= push(list, cursors, value);
+    }
+    done
+}
+
+// Moves an element to one of the ends.
+fn move_to_end(list: &mut Numbers, turn: u64, cursor: Cursor) -> bool {
+    match turn % 2 {
+        0 => list.move_to_front(cursor),
+        _ => list.move_to_back(cursor),
+    }
+}
+
+// Moves elements to the ends.
+fn move_to_ends(list: &mut Numbers, cursors: &[Cursor], random: &mut Random, turns: u64) {
+    for turn in 0..turns {
+        move_to_end(list, turn, random.pick(cursors));
+    }
+}
+
+// Adds a number beside an element, on one side or the other.
+fn insert_beside(list: &mut Numbers, at: Cursor, value: u64) -> bool {
+    match value % 2 {
+        0 => list.insert_after(at, value).is_ok(),
+        _ => list.insert_before(at, value).is_ok(),
+    }
+}
+
+// Adds the numbers from `first` on beside elements.
+fn insert_all(
+    list: &mut Numbers,
+    cursors: &[Cursor],
+    random: &mut Random,
+    first: u64,
+    turns: u64,
+) -> bool {
+    let mut done = true;
+    for turn in 0..turns {
+        done &= insert_beside(list, random.pick(cursors), first.wrapping_add(turn));
+    }
+    done
+}
+
+// Moves an element beside another one, or into its place.
+fn move_one(list: &mut Numbers, turn: u64, cursor: Cursor, other: Cursor) -> bool {
+    match turn % 3 {
+        0 => list.move_after(cursor, other),
+        1 => list.move_before(cursor, other),
+        _ => list.swap(cursor, other),
+    }
+}
+
+// Moves elements beside others.
+fn move_beside(list: &mut Numbers, cursors: &[Cursor], random: &mut Random, turns: u64) -> Sum {
+    let mut sum = Sum::new();
+    for turn in 0..turns {
+        let cursor = random.pick(cursors);
+        let other = random.pick(cursors);
+        sum.add(u64::from(move_one(list, turn, cursor, other)));
+    }
+    sum
+}
+
+// Adds 1 to each number that has one of these cursors.
+fn write_all(list: &mut Numbers, cursors: &[Cursor]) {
+    for cursor in cursors {
+        increment(list.get_mut(*cursor));
+    }
+}
+
+// Removes numbers that are divisible by 3.
+#[tactic(auto, using(slotmap_list::proofs::Visiting::callable_in_order))]
+fn retain_others(list: &mut Numbers) {
+    list.retain(|_, value| *value % 3 != 0);
+}
+
+// Removes elements by their cursors.
+fn remove_some(list: &mut Numbers, cursors: &[Cursor], random: &mut Random, turns: u64) -> Sum {
+    let mut sum = Sum::new();
+    for _ in 0..turns {
+        sum.add_some(list.remove(random.pick(cursors)));
+    }
+    sum
+}
+
+// The numbers below a count.
+fn numbers(alloc: Global, count: u64) -> Result<Vec<u64>, AllocError> {
+    (0..count).collect(alloc)
+}
+
+// Prints the number that a list was refused: it isn't lost.
+fn tell_refused(rt: &HostRuntime, refused: Option<PushError<u64>>) -> bool {
+    let Some(PushError::Full(number) | PushError::Memory(number)) = refused else {
+        return false;
+    };
+    println!(rt; "  refused: {number}").is_ok()
+}
+
+// A list of the numbers below a count.
+fn collect(rt: &HostRuntime, count: u64) -> Option<Numbers> {
+    let numbers = numbers(rt.alloc(), count).ok()?;
+    match StableList::from_iter(rt.alloc(), numbers) {
+        Ok(list) => Some(list),
+        Err(refused) => {
+            tell_refused(rt, refused);
+            None
+        }
+    }
+}
+
+// Adds the numbers below a count at the back.
+fn extend(list: &mut Numbers, alloc: Global, count: u64) -> bool {
+    match numbers(alloc, count) {
+        Ok(numbers) => list.extend(numbers).is_ok(),
+        Err(_) => false,
+    }
+}
+
+// Takes the numbers from both ends in turn.
+fn pop_all(list: &mut Numbers) -> Sum {
+    let mut sum = Sum::new();
+    for _ in 0..list.len() {
+        if let Some((_, value)) = list.pop_front() {
+            sum.add(value);
+        }
+        if let Some((_, value)) = list.pop_back() {
+            sum.add(value);
+        }
+    }
+    sum
+}
+
+// Takes all numbers.
+fn drain_all(list: &mut Numbers) -> Sum {
+    let mut sum = Sum::new();
+    for (_, value) in list.drain() {
+        sum.add(value);
+    }
+    sum
+}
+
+// The numbers of a list that is consumed, from both ends in turn.
+fn consume(list: Numbers) -> Sum {
+    let mut sum = Sum::new();
+    let mut elements = list.into_iter();
+    while let Some((_, value)) = elements.next() {
+        sum.add(value);
+        if let Some((_, value)) = elements.next_back() {
+            sum.add(value);
+        }
+    }
+    sum
+}
+
+// Prints the numbers as a vector.
+fn tell_vector(rt: &HostRuntime, what: &str, list: &Numbers) -> bool {
+    match list.to_vec(rt.alloc()) {
+        Ok(numbers) => tell(rt, what, Sum::of(numbers.as_slice())),
+        Err(_) => false,
+    }
+}
+
+// Pushes, and moves to the ends.
+fn push_and_move(
+    rt: &HostRuntime,
+    list: &mut Numbers,
+    cursors: &mut Vec<Cursor>,
+    random: &mut Random,
+    size: u64,
+) -> bool {
+    let pushed = push_all(list, cursors, size) && tell(rt, "pushed", sum_of(list));
+    move_to_ends(list, cursors.as_slice(), random, size);
+    pushed && tell(rt, "moved to the ends", sum_from_back(list))
+}
+
+// Inserts and moves beside elements, and writes.
+fn insert_and_move(
+    rt: &HostRuntime,
+    list: &mut Numbers,
+    cursors: &[Cursor],
+    random: &mut Random,
+    size: u64,
+) -> bool {
+    let turns = size.min(1000);
+    let moved = insert_all(list, cursors, random, size, turns)
+        && tell(rt, "inserted", sum_of(list))
+        && tell(rt, "moves", move_beside(list, cursors, random, turns));
+    write_all(list, cursors);
+    moved && tell(rt, "moved and written", sum_of(list))
+}
+
+// Keeps some elements.
+fn retain_and_remove(
+    rt: &HostRuntime,
+    list: &mut Numbers,
+    cursors: &[Cursor],
+    random: &mut Random,
+    size: u64,
+) -> bool {
+    retain_others(list);
+    tell(rt, "retained", sum_of(list))
+        && tell(rt, "removed", remove_some(list, cursors, random, size / 2))
+        && tell_vector(rt, "left", list)
+}
+
+// Copies a list and clears it. The copy is used up.
+fn copy(rt: &HostRuntime, list: &mut Numbers) -> bool {
+    let Ok(copy) = list.clone() else {
+        return false;
+    };
+    list.clear();
+    let copied = consume(copy);
+    tell(rt, "cleared", sum_of(list)) && tell(rt, "copied", copied)
+}
+
+// The calls on an empty list.
+fn run_in(
+    rt: &HostRuntime,
+    list: &mut Numbers,
+    cursors: &mut Vec<Cursor>,
+    random: &mut Random,
+    size: u64,
+) -> bool {
+    push_and_move(rt, list, cursors, random, size)
+        && insert_and_move(rt, list, cursors.as_slice(), random, size)
+        && retain_and_remove(rt, list, cursors.as_slice(), random, size)
+        && copy(rt, list)
+}
+
+// A list in room that was made for it.
+fn run_reserved(rt: &HostRuntime, size: u64) -> bool {
+    let Ok(mut list) = StableList::with_capacity(rt.alloc(), size as usize) else {
+        return false;
+    };
+    let mut cursors = Vec::new(rt.alloc());
+    run_in(rt, &mut list, &mut cursors, &mut Random::new(1), size)
+}
+
+// Fills two lists with many values at once, appends one to the other, and empties both.
+fn append(rt: &HostRuntime, list: &mut Numbers, other: &mut Numbers, size: u64) -> bool {
+    extend(list, rt.alloc(), size)
+        && extend(other, rt.alloc(), size)
+        && list.append(other).is_ok()
+        && tell(rt, "appended", sum_of(list))
+        && tell(rt, "popped", pop_all(list))
+        && tell(rt, "drained", drain_all(other))
+}
+
+// Two lists of many values.
+fn run_append(rt: &HostRuntime, size: u64) -> bool {
+    match (collect(rt, size), collect(rt, size)) {
+        (Some(mut list), Some(mut other)) => append(rt, &mut list, &mut other, size),
+        _ => false,
+    }
+}
+
+// Fills an empty list with many values at once, in room that was reserved.
+fn extend_reserved(rt: &HostRuntime, list: &mut Numbers, size: u64) -> bool {
+    list.reserve(size as usize).is_ok()
+        && extend(list, rt.alloc(), size)
+        && tell(rt, "drained", drain_all(list))
+}
+
+// An empty list that takes many values.
+fn run_extend(rt: &HostRuntime, size: u64) -> bool {
+    match StableList::new(rt.alloc()) {
+        Ok(mut list) => extend_reserved(rt, &mut list, size),
+        Err(_) => false,
+    }
+}
+
+/// Runs all calls of a list, and returns whether they succeeded.
+pub fn run(rt: &HostRuntime, size: u64) -> bool {
+    println!(rt; " list").is_ok()
+        && run_reserved(rt, size)
+        && run_append(rt, size)
+        && run_extend(rt, size)
+}
