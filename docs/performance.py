@@ -318,11 +318,12 @@ def causes(page):
 
 
 def slow_operations(figures):
-    """The operations that take more than 1.25 times as long as the Rust crate's, or as many instructions, at any size."""
+    """The operations that take more than 1.25 times as long as the Rust crate's, or as many instructions, at any size. Of a time
+    the lower quartile counts, too: else one of the hundreds of rows is always slow by chance."""
     return {
         (kind, operation)
         for (measure, kind, operation, _), row in figures.rows.items()
-        if kind in PRIMARY + SECONDARY and measure in ("instructions", "time") and round(row.ratio, 2) > SLOW
+        if kind in PRIMARY + SECONDARY and measure in ("instructions", "time") and round(min(row.ratio, row.least), 2) > SLOW
         and operation in {it.name for it in operations.operations_of(MAPS[kind])} and row.slots in TIMES
     }
 
