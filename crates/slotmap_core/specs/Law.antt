@@ -64,7 +64,7 @@ module _ {K V R E : Type 0} (data_of : K → Key) (k : Key) where
   LeavesAttached (detaching.Detach other) (reply.Taken (Some v)) = data_of other ≢ k
   LeavesAttached _ _ = ⊤
 
-  -- if the command asks for k, the reply is that of a key that is neither live nor detached
+  -- if the command asks for k, the reply is that of a key that is neither live nor detached; no insert returns k, and no list has it
   abbrev pub FindsNothing : DetachCommand K V → Reply K V R E → Type 0
   FindsNothing (detaching.Plain (command.Get other)) answer = data_of other ≡ k → answer ≡ reply.Looked None
   FindsNothing (detaching.Plain (command.Contains other)) answer = data_of other ≡ k → answer ≡ reply.Flag false
@@ -72,7 +72,11 @@ module _ {K V R E : Type 0} (data_of : K → Key) (k : Key) where
   FindsNothing (detaching.Plain (command.Remove other)) answer = data_of other ≡ k → answer ≡ reply.Taken None
   FindsNothing (detaching.Detach other) answer = data_of other ≡ k → answer ≡ reply.Taken None
   FindsNothing (detaching.Reattach other v) answer = data_of other ≡ k → answer ≡ reply.NotDetached v
-  FindsNothing _ answer = ⊤
+  FindsNothing (detaching.Plain (command.Insert v)) (reply.Key other) = data_of other ≢ k
+  FindsNothing (detaching.Plain command.InsertWith) (reply.Key other) = data_of other ≢ k
+  FindsNothing (detaching.Plain command.Keys) (reply.Keys keys) = set.contains (set.from_list {R = key_cmp} (list_map data_of keys.items)) k ≡ false
+  FindsNothing (detaching.Plain command.Drain) (reply.Drained pairs) = map.contains_key (map.from_entries {R = key_cmp} (list_map (λ p. (data_of p.0, p.1)) pairs.items)) k ≡ false
+  FindsNothing _ _ = ⊤
 
 module _ {K V R E C : Type 0} (data_of : K → Key) (of : C → DetachCommand K V) where
   -- Once a Remove returned a key's value, or a Drain listed the key, no later command finds it. (`of` makes a command with

@@ -37,7 +37,7 @@ module _ {V : Type 0} where
   pub empty_good : IsGood empty_state
   empty_good = grind (arith, map.get-empty {X = V} key_cmp, set.contains-empty key_cmp, none_used V)
 
-  not_issued : (s : State V) (k : Key) → Fresh s k → IsIssued s k → ⊥
+  pub not_issued : (s : State V) (k : Key) → Fresh s k → IsIssued s k → ⊥
   not_issued s k f h = let less = f.newer k h refl in absurd (omega arith)
 
 module _ {K V R E : Type 0} (data_of : K → Key) where

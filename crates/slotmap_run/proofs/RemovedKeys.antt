@@ -10,7 +10,7 @@ use Rattle.slotmap_core.specs.declared.commands.DetachCommand.TheVariants as det
 use Rattle.slotmap_core.specs.declared.commands.Reply.{Reply}
 use Rattle.std.proofs.lemmas.Slice.Zip.{AllZip-long}
 use Rattle.slotmap_run.proofs.MapChanges.{changes}
-use Rattle.slotmap_run.proofs.Laws.{Gone, IsGood, good_stays, gone_stays}
+use Rattle.slotmap_run.proofs.Laws.{Gone, IsGood, good_stays, gone_stays, not_issued}
 use Rattle.slotmap_run.proofs.StepCases.{detach_machine}
 use Rattle.slotmap_run.proofs.Runs.{run_split, run_keeps, run_keeps_by}
 use Rattle.slotmap_run.proofs.NewRuns.{RunsWell}
@@ -45,7 +45,7 @@ module _ {K V R E : Type 0} (given : RunGiven K V R E) (k : Key) (old : State V)
   removes_gone removes good = grind (arith, changes, itself keys_total exact_keys k, good.apart k, good.held_issued k, map.get-empty {X = V} key_cmp k)
 
   pub gone_finds_nothing : Gone old k → FindsNothing given.data_of k c r
-  gone_finds_nothing gone = grind (arith, gone.not_standing)
+  gone_finds_nothing gone = grind (arith, gone.not_standing, gone.issued, not_issued old k)
 
   -- no key is live that Retain's closure rejects whatever its value
   pub rejected_not_live : c ≡ detaching.Plain command.Retain → ((key : K) (v w : V) (stays : Bool) → given.data_of key ≡ k → given.keeps key v w stays → stays ≡ false)
