@@ -5,6 +5,7 @@ pub mod RetainCallers
 pub mod Walks
 pub mod RunCallers
 pub mod RemovalCallers
+pub mod ToldCallers
 pub mod SecondaryCallers
 pub mod SecondaryRuns
 pub mod SideTables

@@ -7,6 +7,7 @@ use Rattle.std.specs.FinMap as map
 use Rattle.std.specs.FinSet as set
 use Rattle.slotmap_core.specs.Key.{Key, key_cmp}
 use Rattle.slotmap_core.specs.Lifo.{IsBasic, answers, no_places}
+use Rattle.slotmap_core.specs.Told.{Knowledge, ReadsWhatWasPut}
 use Rattle.slotmap_core.specs.declared.commands.Command.{Command}
 use Rattle.slotmap_core.specs.declared.commands.Command.TheVariants as command
 use Rattle.slotmap_core.specs.declared.commands.DetachCommand.{DetachCommand}
@@ -173,16 +174,19 @@ LastFreedFirst data_of commands replies =
     AllByRecursion IsBasic commands → AllByRecursion (λ answer. IsRefusal answer → ⊥) replies
     → keys_told data_of replies ≡ answers data_of no_places commands
 
-module _ {K V R E : Type 0} (data_of : K → Key) where
+-- `looks` says what a Get may return for a value, and `start` what is known of each key at first
+module _ {K V R E : Type 0} (data_of : K → Key) (looks : V → R → Type 0) where
   -- what holds of the replies to every list of commands
-  pub record Laws (commands : List (Command K V)) (replies : List (Reply K V R E)) : Type 0 where
+  pub record Laws (start : Key → Knowledge V) (commands : List (Command K V)) (replies : List (Reply K V R E)) : Type 0 where
+    pub reads : ReadsWhatWasPut data_of detaching.Plain looks start commands replies
     pub no_key_twice : NoKeyTwice data_of replies
     pub removed_for_good : RemovedForGood data_of detaching.Plain commands replies
     pub gone_for_good : GoneForGood data_of detaching.Plain commands replies
     pub reserve_holds : ReserveHolds (λ command. command) NeedsRoom commands replies
 
   -- the same on a map whose keys can be detached
-  pub record DetachLaws (reuses : Bool) (commands : List (DetachCommand K V)) (replies : List (Reply K V R E)) : Type 0 where
+  pub record DetachLaws (reuses : Bool) (start : Key → Knowledge V) (commands : List (DetachCommand K V)) (replies : List (Reply K V R E)) : Type 0 where
+    pub reads : ReadsWhatWasPut data_of (λ command. command) looks start commands replies
     pub no_key_twice : NoKeyTwice data_of replies
     pub removed_for_good : RemovedForGood data_of (λ command. command) commands replies
     pub gone_for_good : GoneForGood data_of (λ command. command) commands replies

@@ -15,6 +15,7 @@ pub mod Given
 pub mod Machine
 pub mod Step
 pub mod Run
+pub mod Told
 pub mod Fit
 pub mod Lifo
 pub mod Law

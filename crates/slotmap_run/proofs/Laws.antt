@@ -16,10 +16,11 @@ pub weaker : {A : Type 0} {P Q : A → Type 0} → ((x : A) → P x → Q x) →
 weaker f [] h = tt
 weaker f (x ∷ xs) h = (f x h.0, weaker f xs h.1)
 
+pub none_retired_at_first : (V : Type 0) → retired (empty_state {V = V}) ≡ set.empty
+none_retired_at_first V = set.same_set keys_total exact_keys _ _ (λ k. grind (arith, in_retired (empty_state {V = V}) k, set.contains-empty key_cmp k))
+
 none_used : (V : Type 0) → used (empty_state {V = V}) ≡ 0
-none_used V =
-    let none : retired (empty_state {V = V}) ≡ set.empty = set.same_set keys_total exact_keys _ _ (λ k. grind (arith, in_retired (empty_state {V = V}) k, set.contains-empty key_cmp k)) in
-    omega (arith, map.len-empty key_cmp V, set.len-empty key_cmp, ap set.len none)
+none_used V = omega (arith, map.len-empty key_cmp V, set.len-empty key_cmp, ap set.len (none_retired_at_first V))
 
 module _ {V : Type 0} where
   -- k was returned, and is neither live nor detached

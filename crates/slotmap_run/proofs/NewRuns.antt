@@ -2,7 +2,9 @@
 use Rattle.std.specs.FinSet as set
 use Rattle.std.proofs.Common.{◌≡◌, ◌+◌, ◌<◌, ◌^◌, ◌++◌, Result, IfOk, Bool, List, length, ◌∙◌, arith}
 use Rattle.slotmap_core.proofs.Common.{Content, IsContent, IsNew, State, empty_state, retired, Run, Unretiring, Follows, Starts, RunFollows, RunsAnew}
-use Rattle.slotmap_core.proofs.Common.{Continues, IfOk-weaker}
+use Rattle.slotmap_core.proofs.Common.{Key, Continues, IfOk-weaker}
+use Rattle.slotmap_core.specs.Told.{Knowledge, known_from, nothing_put}
+use Rattle.slotmap_run.proofs.HoldsIn.{HoldsIn, holds_from, holds_at_first}
 use Rattle.slotmap_run.proofs.StateOf.{first_state, first_fits, first_good}
 use Rattle.slotmap_run.proofs.Fits.{new_fits, new_lasts}
 use Rattle.slotmap_run.proofs.Runs.{run_seen, runs_follow, goes_on, goes_on_anew}
@@ -28,13 +30,14 @@ module _ {V C R : Type 0} (Step : State V → C → R → State V → Type 0) (c
       record { first = first_state reuses old ok; good = first_good reuses old ok; last = run.0; run = run.1 }
 
 -- a machine whose closures may do anything beside one with closures, and what follows from their runs
-pub record IsLawful {V C R : Type 0} (Step Any : State V → C → R → State V → Type 0) (Laws : List C → List R → Type 0) : Type 0 where
+pub record IsLawful {V C R : Type 0} (Step Any : State V → C → R → State V → Type 0) (Laws AnyLaws : (Key → Knowledge V) → List C → List R → Type 0) : Type 0 where
   pub freely : (old : State V) (c : C) (r : R) (new : State V) → Step old c r new → Any old c r new
-  pub laws : (cs : List C) (rs : List R) → RunsWell Any cs rs → Laws cs rs
+  pub laws : (cs : List C) (rs : List R) (well : RunsWell Step cs rs) (start : Key → Knowledge V) → HoldsIn start well.first → Laws start cs rs
+  pub any_laws : (cs : List C) (rs : List R) (well : RunsWell Any cs rs) (start : Key → Knowledge V) → HoldsIn start well.first → AnyLaws start cs rs
   -- if nothing is retired at the end, nothing ever was
   pub unretired : (cs : List C) (rs : List R) (s t : State V) → Run Step s cs rs t → retired t ≡ set.empty → Run (Unretiring Step) s cs rs t
 
-module _ {V C R : Type 0} {Step Any : State V → C → R → State V → Type 0} {Laws : List C → List R → Type 0} (machine : IsLawful Step Any Laws) (cs : List C) (rs : List R) where
+module _ {V C R : Type 0} {Step Any : State V → C → R → State V → Type 0} {Laws AnyLaws : (Key → Knowledge V) → List C → List R → Type 0} (machine : IsLawful Step Any Laws AnyLaws) (cs : List C) (rs : List R) where
   follows_freely : (old new : Content V) → RunFollows Step old cs rs new → RunFollows Any old cs rs new
   follows_freely old new follows = record {
     run = λ s fits. let run = follows.run s fits in (run.0, run_seen Step Any (λ s. s) machine.freely cs rs s run.0 run.1, run.2);
@@ -45,10 +48,11 @@ module _ {V C R : Type 0} {Step Any : State V → C → R → State V → Type 0
   pub record Ran (reuses : Bool) (old new : Content V) : Type 0 where
     pub run : RunFollows Step old cs rs new
     pub goes_on : RunFollows Any old cs rs new
-    pub continues : Continues Any Laws reuses old cs rs new
-    pub laws : Laws cs rs
+    pub continues : Continues Any AnyLaws reuses old cs rs new
+    pub laws : Laws (known_from old.live) cs rs
 
   pub ran : (reuses : Bool) (old new : Content V) → IsContent reuses old → Run (Follows Step) old cs rs new → Ran reuses old new
+  unfolding well_from well_anew
   ran reuses old new ok served =
       let follows = runs_follow Step cs rs old new served in
       let free = follows_freely old new follows in
@@ -58,12 +62,14 @@ module _ {V C R : Type 0} {Step Any : State V → C → R → State V → Type 0
         continues = record {
           run = λ first earlier told before. goes_on Any old new cs rs free earlier told first before;
           laws =
-              λ first earlier told start before. machine.laws (earlier ++ cs) (told ++ rs)
-              (well_from Any (earlier ++ cs) (told ++ rs) reuses first new start.valid (goes_on Any old new cs rs free earlier told first before));
+              λ first earlier told start before. machine.any_laws (earlier ++ cs) (told ++ rs)
+              (well_from Any (earlier ++ cs) (told ++ rs) reuses first new start.valid (goes_on Any old new cs rs free earlier told first before))
+              (known_from first.live) (holds_from (first_state reuses first start.valid));
           anew = λ earlier told before. goes_on_anew Any old new cs rs free earlier told before;
-          laws_anew = λ earlier told before. machine.laws (earlier ++ cs) (told ++ rs) (well_anew Any (earlier ++ cs) (told ++ rs) new (goes_on_anew Any old new cs rs free earlier told before));
+          laws_anew = λ earlier told before. machine.any_laws (earlier ++ cs) (told ++ rs)
+              (well_anew Any (earlier ++ cs) (told ++ rs) new (goes_on_anew Any old new cs rs free earlier told before)) nothing_put holds_at_first;
         };
-        laws = machine.laws cs rs (well_from Any cs rs reuses old new ok free);
+        laws = machine.laws cs rs (well_from Step cs rs reuses old new ok follows) (known_from old.live) (holds_from (first_state reuses old ok));
       }
 
   -- what is ensured of calls on a new map
@@ -71,9 +77,10 @@ module _ {V C R : Type 0} {Step Any : State V → C → R → State V → Type 0
     pub run : RunsAnew Step cs rs new
     pub none_retired : length cs < 2 ^ 32 → RunsAnew (Unretiring Step) cs rs new
     pub goes_on : RunsAnew Any cs rs new
-    pub laws : Laws cs rs
+    pub laws : Laws nothing_put cs rs
 
   ran_anew : (old new : Content V) → IsNew old → Run (Follows Step) old cs rs new → RanAnew new
+  unfolding well_anew
   ran_anew old new start served =
       let follows = runs_follow Step cs rs old new served in
       let run = follows.run empty_state (new_fits old start) in
@@ -85,17 +92,17 @@ module _ {V C R : Type 0} {Step Any : State V → C → R → State V → Type 0
             let lasts = follows.lasts 0 (rw same (new_lasts old start (length cs) few)) in
             (run.0, machine.unretired cs rs empty_state run.0 run.1 (run.2.retired ∙ lasts.unretired), run.2);
         goes_on = free;
-        laws = machine.laws cs rs (well_anew Any cs rs new free);
+        laws = machine.laws cs rs (well_anew Step cs rs new run) nothing_put holds_at_first;
       }
 
-module _ {V C R A B : Type 0} {Step Any : State V → C → R → State V → Type 0} {Laws : List C → List R → Type 0} (machine : IsLawful Step Any Laws)
+module _ {V C R A B : Type 0} {Step Any : State V → C → R → State V → Type 0} {Laws AnyLaws : (Key → Knowledge V) → List C → List R → Type 0} (machine : IsLawful Step Any Laws AnyLaws)
     (cs : List C) (result : Result A B) (told : A → List R) where
   -- what a function ensures that runs calls on a map, a field for each clause
   pub record RanIfOk (reuses : Bool) (old new : Content V) : Type 0 where
     pub run : IfOk result (λ a. RunFollows Step old cs (told a) new)
     pub goes_on : IfOk result (λ a. RunFollows Any old cs (told a) new)
-    pub continues : IfOk result (λ a. Continues Any Laws reuses old cs (told a) new)
-    pub laws : IfOk result (λ a. Laws cs (told a))
+    pub continues : IfOk result (λ a. Continues Any AnyLaws reuses old cs (told a) new)
+    pub laws : IfOk result (λ a. Laws (known_from old.live) cs (told a))
 
   pub ran_if_ok : (reuses : Bool) (old new : Content V) → IsContent reuses old → IfOk result (λ a. Run (Follows Step) old cs (told a) new) → RanIfOk reuses old new
   ran_if_ok reuses old new ok served =
@@ -112,7 +119,7 @@ module _ {V C R A B : Type 0} {Step Any : State V → C → R → State V → Ty
     pub run : IfOk result (λ a. RunsAnew Step cs (told a) (new a))
     pub none_retired : IfOk result (λ a. length cs < 2 ^ 32 → RunsAnew (Unretiring Step) cs (told a) (new a))
     pub goes_on : IfOk result (λ a. RunsAnew Any cs (told a) (new a))
-    pub laws : IfOk result (λ a. Laws cs (told a))
+    pub laws : IfOk result (λ a. Laws nothing_put cs (told a))
 
   pub anew_if_ok : (new : A → Content V) → IfOk result (λ a. (old : Content V) × IsNew old × Run (Follows Step) old cs (told a) (new a)) → RanAnewIfOk new
   anew_if_ok new served =

@@ -1,33 +1,40 @@
 -- The laws of the two machines, and calls on maps as a run on the contents of the maps.
 use Rattle.std.proofs.Common.{◌≡◌, Result, IfOk, List, Bool, true, is_some}
-use Rattle.slotmap_core.proofs.Common.{Content, IsContent, IsNew, State, RunGiven, any_closures, Step, DetachStep, Run, Follows, Laws, DetachLaws, LastFreedFirst}
+use Rattle.slotmap_core.proofs.Common.{Key, Content, IsContent, IsNew, State, RunGiven, any_closures, Step, DetachStep, Run, Follows, Laws, DetachLaws, LastFreedFirst}
 use Rattle.slotmap_core.proofs.Common.{NeedsRoom, DetachNeedsRoom, no_places, IfOk-weaker}
 use Rattle.slotmap_core.specs.declared.commands.Command.{Command}
 use Rattle.slotmap_core.specs.declared.commands.DetachCommand.{DetachCommand}
 use Rattle.slotmap_core.specs.declared.commands.DetachCommand.TheVariants as detaching
 use Rattle.slotmap_core.specs.declared.commands.Reply.{Reply}
+use Rattle.slotmap_core.specs.Told.{Knowledge}
 use Rattle.slotmap_run.specs.Order.{Served, StartsNew}
+use Rattle.slotmap_run.proofs.HoldsIn.{HoldsIn}
 use Rattle.slotmap_run.proofs.NewRuns.{RunsWell, IsLawful, RanIfOk, ran_if_ok, RanAnewIfOk, anew_if_ok}
 use Rattle.slotmap_run.proofs.AnyClosures.{freed, freely, detach_freely}
 use Rattle.slotmap_run.proofs.StepCases.{plain_machine, detach_machine}
 use Rattle.slotmap_run.proofs.Detached.{detached_not_reissued, detached_reattaches, reattach_binds}
 use Rattle.slotmap_run.proofs.RemovedKeys.{removed_for_good, gone_for_good}
+use Rattle.slotmap_run.proofs.ReadsPut.{reads_what_was_put}
 use Rattle.slotmap_run.proofs.Laws.{told_new, unretired}
 use Rattle.slotmap_run.proofs.Orders.{lifo_new, lifo_run}
 use Rattle.slotmap_run.proofs.Promised.{plain_refused, detach_refused, reserve_holds}
 use Rattle.slotmap_run.proofs.Runs.{run_seen}
 
 module _ {K V R E : Type 0} (given : RunGiven K V R E) where
-  laws : (commands : List (Command K V)) (replies : List (Reply K V R E)) → RunsWell (Step given) commands replies → Laws given.data_of commands replies
-  laws cs rs well = let m = plain_machine given in record {
+  laws : (commands : List (Command K V)) (replies : List (Reply K V R E)) (well : RunsWell (Step given) commands replies)
+      (start : Key → Knowledge V) → HoldsIn start well.first → Laws given.data_of given.looks start commands replies
+  laws cs rs well start holds = let m = plain_machine given in record {
+    reads = reads_what_was_put given detaching.Plain cs rs well.first well.last well.run start holds;
     no_key_twice = (told_new m cs rs well.first well.last well.run).1;
     removed_for_good = removed_for_good given detaching.Plain cs rs well;
     gone_for_good = gone_for_good given detaching.Plain cs rs well;
     reserve_holds = reserve_holds m NeedsRoom (plain_refused given) cs rs well;
   }
 
-  detach_laws : (commands : List (DetachCommand K V)) (replies : List (Reply K V R E)) → RunsWell (DetachStep given) commands replies → DetachLaws given.data_of given.reuses commands replies
-  detach_laws cs rs well = let m = detach_machine given in record {
+  detach_laws : (commands : List (DetachCommand K V)) (replies : List (Reply K V R E)) (well : RunsWell (DetachStep given) commands replies)
+      (start : Key → Knowledge V) → HoldsIn start well.first → DetachLaws given.data_of given.looks given.reuses start commands replies
+  detach_laws cs rs well start holds = let m = detach_machine given in record {
+    reads = reads_what_was_put given (λ command. command) cs rs well.first well.last well.run start holds;
     no_key_twice = (told_new m cs rs well.first well.last well.run).1;
     removed_for_good = removed_for_good given (λ command. command) cs rs well;
     gone_for_good = gone_for_good given (λ command. command) cs rs well;
@@ -38,14 +45,16 @@ module _ {K V R E : Type 0} (given : RunGiven K V R E) where
   }
 
 module _ {K V R E : Type 0} (given : RunGiven K V R E) where
-  pub plain_lawful : IsLawful (Step given) (Step (any_closures given.data_of given.reuses)) (Laws given.data_of)
-  plain_lawful = record { freely = freely given; laws = laws (freed given); unretired = unretired (plain_machine given) }
+  pub plain_lawful : IsLawful (Step given) (Step (any_closures given.data_of given.reuses)) (Laws given.data_of given.looks) (Laws given.data_of (λ v r. Unit {0}))
+  plain_lawful = record { freely = freely given; laws = laws given; any_laws = laws (freed given); unretired = unretired (plain_machine given) }
 
-  pub detach_lawful : IsLawful (DetachStep given) (DetachStep (any_closures given.data_of given.reuses)) (DetachLaws given.data_of given.reuses)
-  detach_lawful = record { freely = detach_freely given; laws = detach_laws (freed given); unretired = unretired (detach_machine given) }
+  pub detach_lawful : IsLawful (DetachStep given) (DetachStep (any_closures given.data_of given.reuses))
+      (DetachLaws given.data_of given.looks given.reuses) (DetachLaws given.data_of (λ v r. Unit {0}) given.reuses)
+  detach_lawful = record { freely = detach_freely given; laws = detach_laws given; any_laws = detach_laws (freed given); unretired = unretired (detach_machine given) }
 
 module _ {M K V R E C A B : Type 0} (Machine : RunGiven K V R E → State V → C → Reply K V R E → State V → Type 0) (of : C → DetachCommand K V) (given : RunGiven K V R E)
-    {Any : State V → C → Reply K V R E → State V → Type 0} {Laws : List C → List (Reply K V R E) → Type 0} (machine : IsLawful (Machine given) Any Laws)
+    {Any : State V → C → Reply K V R E → State V → Type 0} {Laws AnyLaws : (Key → Knowledge V) → List C → List (Reply K V R E) → Type 0}
+    (machine : IsLawful (Machine given) Any Laws AnyLaws)
     (content : M → Content V) (cs : List C) (result : Result A B) (told : A → List (Reply K V R E)) where
   -- the commands are run on a map, one after the other
   abbrev pub Serves : List (Reply K V R E) → M → M → Type 0

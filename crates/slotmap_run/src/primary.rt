@@ -3,6 +3,7 @@
 ghost use Rattle.std.specs.Prelude.{◌≡◌, ◌^◌, ◌<◌, length, Ok, IfOk, IfErr, OnErr, IsErr};
 ghost use Rattle.slotmap_core.specs.Words.{FnReturns, IsContent, Inserts, MayGrow, RefusesWith, given, any_closures, Step, DetachStep, Unretiring, Starts};
 ghost use Rattle.slotmap_core.specs.Words.{RunFollows, RunsAnew, Continues, Laws, DetachLaws, LastFreedFirst};
+ghost use Rattle.slotmap_core.specs.Words.{FnReturnsAt, IndexStaysSmall, known_from, nothing_put};
 ghost use Rattle.slotmap_core.specs.declared.commands.DetachCommand.TheVariants as detaching;
 ghost use Rattle.slotmap_run.specs.Order.{Served};
 
@@ -153,11 +154,12 @@ where
         IfOk result (λ replies. RunFollows (Step any)
         (M.content map.old) commands.items replies.items (M.content map.new)) }
     ensures continues { let any = any_closures K.data_of M.REUSES in
-        IfOk result (λ replies. Continues (Step any) (Laws K.data_of) M.REUSES
+        IfOk result (λ replies. Continues (Step any) (Laws K.data_of any.looks) M.REUSES
         (M.content map.old) commands.items replies.items (M.content map.new)) }
 
     // The laws that the replies therefore keep.
-    ensures laws { IfOk result (λ replies. Laws K.data_of commands.items replies.items) }
+    ensures laws { IfOk result (λ replies. Laws K.data_of (FnReturnsAt L.Fn look)
+        (known_from (M.content map.old).live) commands.items replies.items) }
 
     // If there is no memory for the replies, nothing is run.
     ensures err { IfErr result (λ back. back ≡ commands) }
@@ -237,7 +239,10 @@ where
         commands.items made.1.items (M.content made.0)) }
 
     // The laws that the replies therefore keep.
-    ensures laws { IfOk result (λ made. Laws K.data_of commands.items made.1.items) }
+    ensures laws { IfOk result (λ made. Laws K.data_of (FnReturnsAt L.Fn look) nothing_put
+        commands.items made.1.items) }
+    ensures index_stays_small { IfOk result (λ made. length commands.items < 2 ^ 32 →
+        IndexStaysSmall K.data_of detaching.Plain commands.items made.1.items) }
 
     // If there is no memory for the replies or the map, nothing is run.
     ensures err { IfErr result (λ back. back ≡ commands) }
@@ -332,11 +337,12 @@ where
         IfOk result (λ replies. RunFollows (DetachStep any)
         (M.content map.old) commands.items replies.items (M.content map.new)) }
     ensures continues { let any = any_closures K.data_of M.REUSES in
-        IfOk result (λ replies. Continues (DetachStep any) (DetachLaws K.data_of M.REUSES) M.REUSES
+        IfOk result (λ replies. Continues (DetachStep any) (DetachLaws K.data_of any.looks M.REUSES) M.REUSES
         (M.content map.old) commands.items replies.items (M.content map.new)) }
 
     // The laws that the replies therefore keep.
-    ensures laws { IfOk result (λ replies. DetachLaws K.data_of M.REUSES commands.items replies.items) }
+    ensures laws { IfOk result (λ replies. DetachLaws K.data_of (FnReturnsAt L.Fn look) M.REUSES
+        (known_from (M.content map.old).live) commands.items replies.items) }
 
     // If there is no memory for the replies, nothing is run.
     ensures err { IfErr result (λ back. back ≡ commands) }
@@ -408,7 +414,10 @@ where
         commands.items made.1.items (M.content made.0)) }
 
     // The laws that the replies therefore keep.
-    ensures laws { IfOk result (λ made. DetachLaws K.data_of M.REUSES commands.items made.1.items) }
+    ensures laws { IfOk result (λ made. DetachLaws K.data_of (FnReturnsAt L.Fn look) M.REUSES
+        nothing_put commands.items made.1.items) }
+    ensures index_stays_small { IfOk result (λ made. length commands.items < 2 ^ 32 →
+        IndexStaysSmall K.data_of (λ command. command) commands.items made.1.items) }
     ensures last_freed_first { IfOk result (λ made.
         LastFreedFirst K.data_of commands.items made.1.items) }
 

@@ -1,5 +1,6 @@
 use Rattle.slotmap_core.proofs.Common.{given, DetachStep, IfOk-weaker}
 use Rattle.slotmap_run.proofs.RunLaws.{detach_lawful, all_anew, in_order}
+use Rattle.slotmap_run.proofs.SmallIndex.{index_stays_small}
 use Rattle.slotmap_run.proofs.primary.run_detaching_new.Goals as goal
 
 pub returns : goal.returns
@@ -11,6 +12,9 @@ returns g c =
       none_retired = ran.none_retired;
       goes_on = ran.goes_on;
       laws = ran.laws;
+      index_stays_small =
+          IfOk-weaker c.run_all_new.result _ _ (λ made unretired few. let anew = unretired few in
+          index_stays_small what (λ c. c) _ _ anew.0 anew.1) ran.none_retired;
       last_freed_first =
           IfOk-weaker c.run_all_new.result _ _ (λ made ran.
           in_order what g.M.Primary.content _ _ _ _ ran.2 _ ran.1.valid ran.1.new (ran.1.stack g.met.M.Detaching.last_freed_first)) c.run_all_new.ensures.run;
