@@ -116,7 +116,7 @@ module _ {V : Type 0} where
             value = frees.value;
             at = refl;
             had = get-live_at (places_of old) (key i v) i frees.value refl frees.there;
-            removes = removes-slots old vacant elems sound mid c (key i v) frees.value frees.there (frees.places ∙ ap (set (places_of old) i) left);
+            removes = removes-slots old vacant elems sound mid c holds (key i v) frees.value frees.there (frees.places ∙ ap (set (places_of old) i) left);
             blocks = frees.blocks.are ∙ rw (ne_eqb v last_version frees.other) (ap (λ f. vacated f (blocks_of (all_links old)) i) (sym (same_counts old vacant elems sound c)));
             valid = record { before = valid old vacant elems sound c holds; after = valid mid _ _ after c (omega (arith, size, holds)); capacity = refl };
           },

@@ -33,9 +33,11 @@ module _ {V : Type 0} (slots : List (Slot V)) (vacant elems : ℕ) (sound : IsSo
       subst (λ m. Inserts m k w (holding (places_of new) o d)) (content_is slots vacant elems sound c)
       (subst (λ ps. Inserts (untold (content_of_places (ordered_map slots vacant elems sound c))) k w (holding ps o d)) (sym after) told)
 
-  pub removes-slots : (c : ℕ) (k : Key) (x : V) → slice_get (places_of slots) k.index ≡ Some (Live k.version x) → places_of new ≡ set (places_of slots) k.index (left_by k)
-      → Removes (hop_content slots c).content k (hop_content new c).content
-  removes-slots c k x was after = rw after (Removes-untold _ _ k _ _ (removes (ordered_map slots vacant elems sound c) (in_order slots vacant elems sound).ordered k x was))
+  pub removes-slots : (c : ℕ) → length slots ≤ c + 1 → (k : Key) (x : V) → slice_get (places_of slots) k.index ≡ Some (Live k.version x)
+      → places_of new ≡ set (places_of slots) k.index (left_by k) → Removes (hop_content slots c).content k (hop_content new c).content
+  removes-slots c holds k x was after =
+      let ordered = (in_order slots vacant elems sound).ordered in
+      rw after (Removes-untold _ _ k _ _ (removes (ordered_map slots vacant elems sound c) ordered k x was (omega (arith, length-places slots, holds))))
 
 module _ {V : Type 0} (slots : List (Slot V)) (vacant elems : ℕ) (sound : IsSound slots vacant elems) where
   pub none_left : next_place slots ≡ 0 → vacant ≡ 0

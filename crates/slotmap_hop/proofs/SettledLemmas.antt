@@ -45,7 +45,7 @@ module _ {K V : Type 0} (m : Inside K V) {now : HopContent V} (view : hop_conten
         let size = same_length m.slots.items new i p after in
         let items = with_items_is m.slots new (size ∙ sym m.slots.ok.0) in
         let sound_after = subst (λ xs. IsSound xs vacant (m.live_count - 1)) (sym items) sound_new in
-        let removes = removes-slots _ _ _ sound new c (key i v) _ found.index (after ∙ ap (set (places_of m.slots.items) i) left) in
+        let removes = removes-slots _ _ _ sound new c (omega (arith, m.slots.ok.0, m.slots.ok.1)) (key i v) _ found.index (after ∙ ap (set (places_of m.slots.items) i) left) in
         record {
           sound_after = sound_after;
           value = found.gives ∙ value_is _ _ _ sound i v found.value found.index x read;

@@ -62,7 +62,7 @@ module _ {P : Type 0} {slots : List (Slot P)} {fits head aside used_count : ℕ}
         let long = length-set slots k.index (empty 0 Retired) in
         let sound = (retired settled.sound _ _ _ there.there last).sound in
         changed _ _ head (vacancies slots used_count) (aside + 1) used_count _ sound (omega (arith, settled.among, positive)) (omega (arith, long, settled.fewer)) (omega (arith, long, settled.holds))
-        (rw (← view) (removes-retired settled.sound _ _ _ there.there last (fits - 1)))
+        (rw (← view) (removes-retired settled.sound _ _ _ there.there last (fits - 1) (omega (arith, settled.fewer, settled.holds))))
 
     -- or freed
     pub removed_other : nat_eq k.version last_version ≡ false
@@ -72,7 +72,7 @@ module _ {P : Type 0} {slots : List (Slot P)} {fits head aside used_count : ℕ}
         let sound = (freed settled.sound _ _ _ there.there other).sound in
         changed _ _ k.index (vacancies slots used_count + 1) aside (used_count - 1) _ sound (omega (arith, settled.among, positive))
         (omega (arith, long, settled.fewer, positive)) (omega (arith, long, settled.holds))
-        (rw (← view) (removes-freed settled.sound _ _ _ there.there other (fits - 1)))
+        (rw (← view) (removes-freed settled.sound _ _ _ there.there other (fits - 1) (omega (arith, settled.fewer, settled.holds))))
 
     -- or kept for the key
     pub detached_now : Changed now (Detaches now k) (set slots k.index (empty ((k.version + 1) % 2 ^ 32) Detached)) fits head (aside + 1) used_count

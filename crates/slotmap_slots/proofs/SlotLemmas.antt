@@ -202,23 +202,25 @@ module _ {P : Type 0} {slots : List (Slot P)} {head free count : ℕ} (sound : I
         (omega (arith, length_free)) (λ n is. omega arith)
         (IsStacked-freed (places_of slots) (free_indices slots free head) stacked_free i v (v + 1 + 1) x found_live (omega arith, omega arith) (omega arith))
 
-    pub removes-freed : (other : nat_eq v last_version ≡ false) (c : ℕ)
+    pub removes-freed : (other : nat_eq v last_version ≡ false) (c : ℕ) → length slots ≤ c + 1
         → Removes (content_of_places (map_of slots head free c)) (key i v) (content_of_places (map_of (set slots i (empty (v + 1) (Free head))) i (free + 1) c))
-    removes-freed other c =
+    removes-freed other c holds =
         let after : map_of (set slots i (empty (v + 1) (Free head))) i (free + 1) c ≡ removed (map_of slots head free c) (key i v) =
         (freed other).map_is c ∙ rw other (ap (λ n. record { places = set (places_of slots) i (Vacant n); vacant = i ∷ free_indices slots free head; capacity = c }) (omega arith)) in
-        subst (λ n. Removes (content_of_places (map_of slots head free c)) (key i v) (content_of_places n)) (sym after) (removes (map_of slots head free c) stacked_free (key i v) x found_live)
+        subst (λ n. Removes (content_of_places (map_of slots head free c)) (key i v) (content_of_places n)) (sym after)
+        (removes (map_of slots head free c) stacked_free (key i v) x found_live (omega (arith, length-map slots place_of, holds)))
 
     -- or it is retired
     pub retired : nat_eq v last_version ≡ true → Written slots i (empty 0 Retired) (free_indices slots free head) head free (count - 1)
     retired last = kept i (full v x) at (λ n e. absurd (cc)) (empty 0 Retired) (count - 1)
         (IsSlot-empty 0 Retired refl (λ e. absurd (cc)) (λ _. refl)) (λ n e. absurd (cc)) tt (λ n is. omega arith)
 
-    pub removes-retired : (last : nat_eq v last_version ≡ true) (c : ℕ)
+    pub removes-retired : (last : nat_eq v last_version ≡ true) (c : ℕ) → length slots ≤ c + 1
         → Removes (content_of_places (map_of slots head free c)) (key i v) (content_of_places (map_of (set slots i (empty 0 Retired)) head free c))
-    removes-retired last c =
+    removes-retired last c holds =
         let after : map_of (set slots i (empty 0 Retired)) head free c ≡ removed (map_of slots head free c) (key i v) = (retired last).map_is c ∙ rw last in
-        subst (λ n. Removes (content_of_places (map_of slots head free c)) (key i v) (content_of_places n)) (sym after) (removes (map_of slots head free c) stacked_free (key i v) x found_live)
+        subst (λ n. Removes (content_of_places (map_of slots head free c)) (key i v) (content_of_places n)) (sym after)
+        (removes (map_of slots head free c) stacked_free (key i v) x found_live (omega (arith, length-map slots place_of, holds)))
 
     -- another payload is written
     pub with_payload-is : (w : P) → with_payload slots i w ≡ set slots i (full v w)

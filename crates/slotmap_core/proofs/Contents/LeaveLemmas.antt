@@ -6,7 +6,7 @@ use Rattle.std.specs.FinSet as set
 use Rattle.slotmap_core.specs.Words.{eq_by_cmp, Key, next_version, key_cmp, Content, IsContent, IsLive, Removes, Leaves, Keeps, has_left, with_value}
 use Rattle.slotmap_core.proofs.General.KeyLemmas.{keys_total, exact_keys, tied, itself, nat_cmp_total, exact_unsigned}
 use Rattle.slotmap_core.proofs.Places.PlaceCount.{removed_places}
-use Rattle.slotmap_core.proofs.Contents.Retired.{in_freed}
+use Rattle.slotmap_core.proofs.Contents.Retired.{in_freed, len_freed}
 use Rattle.slotmap_core.proofs.General.Maps.{of_and, of_not, not_of, get_inserted, in_after_remove}
 
 module _ {V : Type 0} where
@@ -80,7 +80,7 @@ module _ {V : Type 0} where
         ],
       );
       same_places = removed_places reuses b c well k is_live removes;
-      room = removes.room;
+      room = omega (arith, removes.room, ap map.len removes.next, len_freed k b.next);
     }
 
     pub Leaves-removed : (a : Content V) → Leaves a b → Leaves a c

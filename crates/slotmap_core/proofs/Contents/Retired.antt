@@ -1,6 +1,6 @@
 -- Which keys are retired, in a state of the machine and in a map.
 -- For runs.
-use Rattle.std.proofs.Common.{◌≡◌, ℕ, ◌+◌, Some, true, false, ◌&&◌, ◌⊎◌, sym, ap, arith}
+use Rattle.std.proofs.Common.{◌≡◌, ℕ, ◌+◌, ◌≤◌, if◌then◌else◌, Some, true, false, ◌&&◌, ◌⊎◌, sym, ap, arith}
 use Rattle.std.specs.FinMap as map
 use Rattle.std.specs.FinSet as set
 use Rattle.slotmap_core.specs.Words.{nat_cmp, Key, is_last, next_version, key_cmp, freed, retired_after, State, IsIssued, StandsIn, is_retired, retired}
@@ -11,6 +11,10 @@ module _ (k : Key) where
   pub in_freed : (next : map.FinMap nat_cmp ℕ) (i v : ℕ) → map.get (freed next k) i ≡ Some v
       → ((i ≡ k.index) × (v ≡ next_version k) × (is_last k ≡ false)) ⊎ (map.get next i ≡ Some v)
   in_freed next i v h = grind (arith, get_after_insert nat_cmp_total exact_unsigned next k.index (next_version k) i v)
+
+  -- one more place is vacant at most, and no more if k is the last key of its place
+  pub len_freed : (next : map.FinMap nat_cmp ℕ) → map.len (freed next k) ≤ map.len next + (if is_last k then 0 else 1)
+  len_freed next = grind (arith, map.len-insert nat_cmp_total next k.index (next_version k))
 
   -- the place of k is counted as retired or as vacant
   pub len_retired_freed : (r : set.FinSet key_cmp) (next : map.FinMap nat_cmp ℕ) → set.contains r k ≡ false → map.contains_key next k.index ≡ false

@@ -31,14 +31,15 @@ module _ {V : Type 0} (m : StackMap V) (stacked : IsStacked m.places m.vacant) (
   live_positive : 0 < k.index
   live_positive = not_first m.places m.vacant stacked k.index (Live k.version x) found was_live
 
-  pub removes : Removes (content_of_places m) k (content_of_places (removed m k))
-  removes = record {
+  -- where there is memory for all places
+  pub removes : length m.places ≤ m.capacity + 1 → Removes (content_of_places m) k (content_of_places (removed m k))
+  removes fits = record {
     live = grind (arith, live-set m.places k.index _ (left_by k) found);
     detached = grind (arith, detached-set m.places k.index _ (left_by k) found);
     retired = grind (arith, retired-set m.places k.index _ (left_by k) found, eqb-true k.version last_version);
     next = grind (arith, next-set m.places k.index _ (left_by k) live_positive found);
     stack = refl;
-    room = grind (arith, taken-set m.places m.vacant k.index (Live k.version x) (left_by k) stacked live_positive found);
+    room = grind (arith, taken-set m.places m.vacant k.index (Live k.version x) (left_by k) stacked live_positive found, total m.places 1 stacked.sentinel, stacked.fits);
   }
 
   pub detaches : Detaches (content_of_places m) k (content_of_places (detached_at m k))
