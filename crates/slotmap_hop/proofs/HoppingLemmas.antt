@@ -245,6 +245,9 @@ module _ {V : Type 0} (slots : List (Slot V)) (reads0 start : ℕ) where
       pub may_leave : value_in s ≡ None → hop_in new.index s < length new.slots
       may_leave none = rw (read.index, read.slots, at.kept) (leaves none).within
 
-      pub left_here : value_in s ≡ None → {next : Counted V} → GoesTo new (hop_in new.index s + 1) next
-          → IsAt next × (length next.slots - next.index < length now.slots - now.index)
+      pub goes_onward : value_in s ≡ None → now.index ≤ hop_in new.index s
+      goes_onward none = rw read.index (leaves none).onward
+
+      -- such a slot is left
+      pub left_here : value_in s ≡ None → {next : Counted V} → GoesTo new (hop_in new.index s + 1) next → IsAt next
       left_here none {next} goes = grind (arith, leaves)

@@ -115,8 +115,9 @@ impl<K: Key, V: Drop> Iterator for IntoIter<K, V> {
             return None;
         }
         let mut counted = CountedSlots::new(self.slots.as_slice(), self.last);
-        let index = next_live(&mut counted);
-        let version = counted.again().version();
+        let slot = next_live(&mut counted);
+        let index = counted.index();
+        let version = slot.version();
         self.left -= 1;
         self.last = index;
         let key = K::from(KeyData::exact(index as u32, version));

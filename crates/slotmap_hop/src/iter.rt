@@ -1,7 +1,7 @@
 //! Iterators over the keys and values of a map, by ascending index.
 
 ghost use Rattle.std.specs.FinMap as map;
-ghost use Rattle.std.specs.Prelude.{◌≡◌, ◌<◌, ◌≤◌, [], length, Some, IfSome, IfNone, ⊤};
+ghost use Rattle.std.specs.Prelude.{◌≡◌, ◌<◌, ◌≤◌, [], length, slice_get, Some, IfSome, IfNone, ⊤};
 ghost use Rattle.slotmap_core.specs.Words.{YieldsFirstBy, item_count, at_most, UpTo, IsListing, IsKeyListing, IsValueListing};
 ghost use Rattle.slotmap_hop.specs.HopContent.{IsHopContent};
 ghost use Rattle.slotmap_hop.specs.Iter.{pairs_left, CanGoOn, FindsSlot, StepsOn, ReadsOnTheWay, CountsReads, CountsReadsSomewhere, ListsRetired, StartsIter};
@@ -45,26 +45,26 @@ impl<'a, K, V> Model for Iter<'a, K, V> {
     ghost invariant = { λ it. IsIter it.counted.slots it.counted.reads it.counted.index it.left };
 }
 
-// Goes to the next live slot from the place on, and returns its index. All iterators find their slots
-// here. Since there is one, no place is compared with the end. Unless a slot is retired, the loop ends
-// in its first round. The caller reads the slot by its place: it would cost a register beside that.
-pub(crate) fn next_live<'a, V>(counted: &mut CountedSlots<'a, V>) -> usize
+// Goes to the next live slot from the place on, and returns it. All iterators find their slots here.
+// Since there is one, no place is compared with the end. Unless a slot is retired, the loop ends in
+// its first round.
+pub(crate) fn next_live<'a, V>(counted: &mut CountedSlots<'a, V>) -> &'a Slot<V>
     requires can { CanGoOn counted.old.slots counted.old.reads counted.old.index }
     requires some { 0 < length (pairs_left counted.old.slots counted.old.index) }
-    ensures found { FindsSlot counted.old.slots counted.old.index result }
+    ensures found { FindsSlot counted.old.slots counted.old.index counted.new.index }
+    ensures slot { slice_get counted.old.slots counted.new.index ≡ Some result.now }
     ensures slots { counted.new.slots ≡ counted.old.slots }
-    ensures index { counted.new.index ≡ result }
-    ensures reads { ReadsOnTheWay counted.old.slots counted.old.reads counted.old.index counted.new.reads result }
+    ensures reads { ReadsOnTheWay counted.old.slots counted.old.reads counted.old.index counted.new.reads counted.new.index }
 {
     let first = counted.read();
     if first.is_live() {
-        return counted.index();
+        return first;
     }
     counted.hop(first);
     loop {
         let slot = counted.read();
         if slot.is_live() {
-            return counted.index();
+            return slot;
         }
         counted.hop(slot);
     }
@@ -139,8 +139,8 @@ impl<'a, K: Key, V> Iter<'a, K, V> {
         if self.left == 0 {
             return None;
         }
-        let index = next_live(&mut self.counted);
-        let slot = self.counted.again();
+        let slot = next_live(&mut self.counted);
+        let index = self.counted.index();
         self.counted.pass();
         self.left -= 1;
         let key = K::from(KeyData::exact(index as u32, slot.version()));
