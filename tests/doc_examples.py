@@ -152,8 +152,9 @@ def rows_of_table():
 
 
 def calls_without_example():
-    """The public calls of the facade's types, traits and functions that have no block in their comment."""
+    """The public calls of what the facade and the structures' crates export that have no block in their comment."""
     found, exported = [], {(crate, name) for _, crate, name in facade()}
+    exported |= {(crate, path.split("::")[-1]) for crate in STRUCTURES for path in names_of_structure(crate)}
     for crate in sorted({crate for crate, _ in exported}):
         for item in items_of(crate):
             if (crate, item.of or item.name) not in exported or item.of_trait:
