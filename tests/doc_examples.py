@@ -201,6 +201,9 @@ def write_crate(folder, examples):
         mine = [it for it in examples if it.crate == crate]
         text = "\n".join(line for it in mine for _, line in it.lines) + HEADS.get(crate, OTHER_HEAD)
         words = set(re.findall(r"\w+", text))
+        if crate in STRUCTURES:
+            # The calls of a trait, such as `First::table`, need it in scope.
+            words |= {it.name for it in items_of(crate) if it.kind == "trait"}
         names = [it for it in facade_names() + ["Key"] if it in words or it == "Key"]
         out, where = [f"use slotmap::{{{', '.join(sorted(set(names)))}}};"], {}
         if crate in STRUCTURES:
