@@ -152,8 +152,9 @@ def rows_of_table():
 
 
 def calls_without_example():
-    """The public calls of the facade's types, traits and functions that have no block in their comment."""
+    """The public calls of what the facade and the structures' crates export that have no block in their comment."""
     found, exported = [], {(crate, name) for _, crate, name in facade()}
+    exported |= {(crate, path.split("::")[-1]) for crate in STRUCTURES for path in names_of_structure(crate)}
     for crate in sorted({crate for crate, _ in exported}):
         for item in items_of(crate):
             if (crate, item.of or item.name) not in exported or item.of_trait:
@@ -200,6 +201,9 @@ def write_crate(folder, examples):
         mine = [it for it in examples if it.crate == crate]
         text = "\n".join(line for it in mine for _, line in it.lines) + HEADS.get(crate, OTHER_HEAD)
         words = set(re.findall(r"\w+", text))
+        if crate in STRUCTURES:
+            # The calls of a trait, such as `First::table`, need it in scope.
+            words |= {it.name for it in items_of(crate) if it.kind == "trait"}
         names = [it for it in facade_names() + ["Key"] if it in words or it == "Key"]
         out, where = [f"use slotmap::{{{', '.join(sorted(set(names)))}}};"], {}
         if crate in STRUCTURES:

@@ -13,7 +13,15 @@ pub trait CloneTable<K: Key>: Table<K> {
     ghost is_clone: { Self.Component → Self.Component → Type 0 };
 
     /// Returns a copy of the table: the same entities, each with a clone of its component. It fails only
-    /// if memory runs out.
+    /// if memory runs out, or if the clone of a component fails.
+    ///
+    /// ```
+    /// let hero = DefaultKey::from(KeyData::new(1, 1));
+    /// let mut table: SparseSecondaryMap<DefaultKey, u32> = Table::new(alloc)?;
+    /// Table::insert(&mut table, hero, 7)?;
+    /// let copy = CloneTable::clone_table(&table)?;
+    /// assert_eq!(rt; Table::get(&copy, hero), Some(&7));
+    /// ```
     fn clone_table(&self) -> Result<Self, AllocError>
         ensures { IfOk result (λ copy. HasClones is_clone (Self.Table.pairs self.now) (Self.Table.pairs copy)) };
 }
@@ -40,7 +48,15 @@ pub trait CloneTables<K: Key>: Tables<K> {
     ghost are_clones: { Self → Self → Type 0 };
 
     /// Returns a copy of the tables: each entity has clones of its components. It fails only if memory
-    /// runs out.
+    /// runs out, or if the clone of a component fails.
+    ///
+    /// ```
+    /// let hero = DefaultKey::from(KeyData::new(1, 1));
+    /// let mut tables: (SecondaryMap<DefaultKey, u32>, ()) = Tables::new(alloc)?;
+    /// tables.0.insert(hero, 7)?;
+    /// let copy = CloneTables::clone_tables(&tables)?;
+    /// assert_eq!(rt; copy.0.get(hero), Some(&7));
+    /// ```
     fn clone_tables(&self) -> Result<Self, AllocError>
         ensures clones { IfOk result (are_clones self.now) }
         ensures same { IfOk result (λ copy. (q : KeyOf) → Self.Tables.has copy q ≡ Self.Tables.has self.now q) };
@@ -68,8 +84,9 @@ impl<K: Key, E: Clone + Drop, T: CloneTables<K>> World<K, E, T> {
     /// Returns a copy of the world: the same entities under the same keys, with clones of their values
     /// and components.
     ///
-    /// Both worlds will return the same new keys. If memory runs out, the call fails, and what was
-    /// copied is dropped. It takes time linear in the number of slots and in the size of the tables.
+    /// Both worlds will return the same new keys. If memory runs out, or the clone of a value or of a
+    /// component fails, the call fails, and what was copied is dropped. It takes time linear in the number
+    /// of slots and in the size of the tables.
     ///
     /// ```
     /// let mut world: World<DefaultKey, u8, (SecondaryMap<DefaultKey, u32>, ())> = World::new(alloc)?;

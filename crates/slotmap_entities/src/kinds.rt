@@ -21,10 +21,24 @@ pub trait Kind<K: Key, T: Tables<K>> {
     ghost with_table: { T → Self.Table → T };
 
     /// Returns its table.
+    ///
+    /// ```
+    /// let hero = DefaultKey::from(KeyData::new(1, 1));
+    /// let mut tables: (SecondaryMap<DefaultKey, u32>, ()) = Tables::new(alloc)?;
+    /// tables.0.insert(hero, 7)?;
+    /// assert_eq!(rt; First::table(&tables).get(hero), Some(&7));
+    /// ```
     fn table(tables: &T) -> &Self::Table
         ensures { result.now ≡ table tables.now };
 
     /// Returns a mutable reference to its table.
+    ///
+    /// ```
+    /// let hero = DefaultKey::from(KeyData::new(1, 1));
+    /// let mut tables: (SecondaryMap<DefaultKey, u32>, ()) = Tables::new(alloc)?;
+    /// First::table_mut(&mut tables).insert(hero, 7)?;
+    /// assert_eq!(rt; tables.0.get(hero), Some(&7));
+    /// ```
     fn table_mut(tables: &mut T) -> &mut Self::Table
         ensures* writes_back { sem 𝓛 (Lends T.row Self.Table.row tables.entry result (with_table tables.old)) }
         ensures value { result.now ≡ table tables.old };

@@ -91,6 +91,11 @@ impl<E: Drop, T: Tables<DefaultKey>> World<DefaultKey, E, T> {
     /// Makes a world with no entity, whose entities have keys of type `DefaultKey`.
     ///
     /// It fails only if memory runs out.
+    ///
+    /// ```
+    /// let world: World<DefaultKey, u8, ()> = World::new(alloc)?;
+    /// assert!(rt; world.is_empty());
+    /// ```
     pub fn new(alloc: Global) -> Result<Self, ReserveError>
         ensures entities { IfOk result (λ world. IsNew world.entities.content × IsEmpty world.entities) }
         ensures tables { IfOk result (λ world. (q : KeyOf) → T.has world.tables q ≡ false) }
@@ -142,8 +147,8 @@ impl<K: Key, E: Drop, T: Tables<K>> World<K, E, T> {
     /// Reserves room for `additional` more entities: to spawn them can't fail then. The tables grow
     /// by themselves.
     ///
-    /// It fails with `TooGreat` if more than 4294967294 entities would be there, and with `Memory` if
-    /// memory runs out. The world has the same entities then.
+    /// It fails with `TooGreat` if more than 4294967294 entities would be there, counting those whose
+    /// slots are retired, and with `Memory` if memory runs out. The world has the same entities then.
     ///
     /// ```
     /// let mut world: World<DefaultKey, u8, ()> = World::new(alloc)?;
@@ -159,13 +164,29 @@ impl<K: Key, E: Drop, T: Tables<K>> World<K, E, T> {
     }
 
     /// Returns for how many entities there is memory, in constant time.
+    ///
+    /// ```
+    /// let mut world: World<DefaultKey, u8, ()> = World::with_capacity_and_key(alloc, 2)?;
+    /// let capacity = world.capacity();
+    /// assert!(rt; capacity >= 2);
+    /// world.spawn(1)?;
+    /// assert_eq!(rt; world.capacity(), capacity);
+    /// ```
     pub fn capacity(&self) -> usize
         ensures { result ≡ self.now.entities.content.capacity }
     {
         self.entities.capacity()
     }
 
-    /// Returns how many entities there are.
+    /// Returns how many entities there are, in constant time.
+    ///
+    /// ```
+    /// let mut world: World<DefaultKey, u8, ()> = World::new(alloc)?;
+    /// let hero = world.spawn(1)?;
+    /// assert_eq!(rt; world.len(), 1);
+    /// world.despawn(hero);
+    /// assert_eq!(rt; world.len(), 0);
+    /// ```
     pub fn len(&self) -> usize
         ensures { result ≡ map.len self.now.entities.content.live }
     {
@@ -173,6 +194,13 @@ impl<K: Key, E: Drop, T: Tables<K>> World<K, E, T> {
     }
 
     /// Returns whether there is no entity, in constant time.
+    ///
+    /// ```
+    /// let mut world: World<DefaultKey, u8, ()> = World::new(alloc)?;
+    /// assert!(rt; world.is_empty());
+    /// world.spawn(1)?;
+    /// assert!(rt; !world.is_empty());
+    /// ```
     pub fn is_empty(&self) -> bool
         ensures { IsTrue result ↔ (map.len self.now.entities.content.live ≡ 0) }
     {
@@ -180,6 +208,14 @@ impl<K: Key, E: Drop, T: Tables<K>> World<K, E, T> {
     }
 
     /// Returns whether an entity exists, in constant time.
+    ///
+    /// ```
+    /// let mut world: World<DefaultKey, u8, ()> = World::new(alloc)?;
+    /// let hero = world.spawn(1)?;
+    /// assert!(rt; world.contains_key(hero));
+    /// world.despawn(hero);
+    /// assert!(rt; !world.contains_key(hero));
+    /// ```
     pub fn contains_key(&self, key: K) -> bool
         ensures { result ≡ map.contains_key self.now.entities.content.live (K.data_of key) }
     {

@@ -36,6 +36,11 @@ pub trait Table<K: Key>: Drop {
     ghost refuses_room: { Self → ℕ → ℕ → WhyNoRoom → Type 0 };
 
     /// Makes an empty table. It fails only if memory runs out.
+    ///
+    /// ```
+    /// let table: SparseSecondaryMap<DefaultKey, u32> = Table::new(alloc)?;
+    /// assert!(rt; table.is_empty());
+    /// ```
     fn new(alloc: Global) -> Result<Self, ReserveError>
         ensures empty { IfOk result (λ table. pairs table ≡ map.empty) }
         ensures err { IfErr result (λ error. error ≡ ReserveError.Memory) };
@@ -48,6 +53,13 @@ pub trait Table<K: Key>: Drop {
     /// `TooGreat` if there would be more than 4294967295. Each fails with `Memory` if memory runs out.
     /// The table has the same components then. If they fit already, nothing changes, and only a number
     /// that is too great is refused.
+    ///
+    /// ```
+    /// let hero = DefaultKey::from(KeyData::new(1, 1));
+    /// let mut table: SparseSecondaryMap<DefaultKey, u32> = Table::new(alloc)?;
+    /// Table::reserve(&mut table, 1, 1)?;
+    /// assert!(rt; Table::insert(&mut table, hero, 7).is_ok());
+    /// ```
     fn reserve(&mut self, additional: usize, last: usize) -> Result<(), ReserveError>
         ensures ok { OnOk result (fits self.new last additional) }
         ensures err { IfErr result (refuses_room self.old last additional) }
@@ -57,20 +69,53 @@ pub trait Table<K: Key>: Drop {
         ensures had_room { fits self.old last additional → self.new ≡ self.old };
 
     /// Returns whether an entity has a component here.
+    ///
+    /// ```
+    /// let hero = DefaultKey::from(KeyData::new(1, 1));
+    /// let mut table: SparseSecondaryMap<DefaultKey, u32> = Table::new(alloc)?;
+    /// assert!(rt; !Table::contains_key(&table, hero));
+    /// Table::insert(&mut table, hero, 7)?;
+    /// assert!(rt; Table::contains_key(&table, hero));
+    /// ```
     fn contains_key(&self, key: K) -> bool
         ensures { result ≡ contains_key (pairs self.now) (K.data_of key) };
 
     /// Returns the component of an entity, or `None` if it has none here.
+    ///
+    /// ```
+    /// let hero = DefaultKey::from(KeyData::new(1, 1));
+    /// let mut table: SparseSecondaryMap<DefaultKey, u32> = Table::new(alloc)?;
+    /// assert_eq!(rt; Table::get(&table, hero), None);
+    /// Table::insert(&mut table, hero, 7)?;
+    /// assert_eq!(rt; Table::get(&table, hero), Some(&7));
+    /// ```
     fn get(&self, key: K) -> Option<&Self::Component>
         ensures { option_copied result ≡ get (pairs self.now) (K.data_of key) };
 
     /// Returns a mutable reference to the component of an entity, or `None` if it has none here.
+    ///
+    /// ```
+    /// let hero = DefaultKey::from(KeyData::new(1, 1));
+    /// let mut table: SparseSecondaryMap<DefaultKey, u32> = Table::new(alloc)?;
+    /// Table::insert(&mut table, hero, 7)?;
+    /// if let Some(component) = Table::get_mut(&mut table, hero) {
+    ///     *component = 8;
+    /// }
+    /// assert_eq!(rt; Table::get(&table, hero), Some(&8));
+    /// ```
     fn get_mut(&mut self, key: K) -> Option<&mut Self::Component>
         ensures* writes_back { sem 𝓛 (LendsIf Self.row Self.Component.row self.entry result (with_value self.old (K.data_of key)) self.old) }
         ensures value { option_copied_mut result ≡ get (pairs self.old) (K.data_of key) };
 
     /// Inserts a component, and returns the one that the entity had. If memory runs out, the error
     /// holds the component, and the table has the same components.
+    ///
+    /// ```
+    /// let hero = DefaultKey::from(KeyData::new(1, 1));
+    /// let mut table: SparseSecondaryMap<DefaultKey, u32> = Table::new(alloc)?;
+    /// assert_eq!(rt; Table::insert(&mut table, hero, 7)?, None);
+    /// assert_eq!(rt; Table::insert(&mut table, hero, 8)?, Some(7));
+    /// ```
     fn insert(
         &mut self,
         key: K,
@@ -84,6 +129,14 @@ pub trait Table<K: Key>: Drop {
         ensures less_room { (i count : ℕ) → fits self.old i (count + 1) → fits self.new i count };
 
     /// Removes the component of an entity, and returns it, or `None` if it has none here.
+    ///
+    /// ```
+    /// let hero = DefaultKey::from(KeyData::new(1, 1));
+    /// let mut table: SparseSecondaryMap<DefaultKey, u32> = Table::new(alloc)?;
+    /// Table::insert(&mut table, hero, 7)?;
+    /// assert_eq!(rt; Table::remove(&mut table, hero), Some(7));
+    /// assert_eq!(rt; Table::remove(&mut table, hero), None);
+    /// ```
     fn remove(&mut self, key: K) -> Option<Self::Component>
         ensures value { result ≡ get (pairs self.old) (K.data_of key) }
         ensures removes { pairs self.new ≡ remove (pairs self.old) (K.data_of key) }
@@ -91,6 +144,14 @@ pub trait Table<K: Key>: Drop {
 
     /// Calls `f` once for each component, which it may change, and removes those for which it returns
     /// false.
+    ///
+    /// ```
+    /// let hero = DefaultKey::from(KeyData::new(1, 1));
+    /// let mut table: SparseSecondaryMap<DefaultKey, u32> = Table::new(alloc)?;
+    /// Table::insert(&mut table, hero, 7)?;
+    /// Table::retain(&mut table, |_, component| *component > 7);
+    /// assert!(rt; !Table::contains_key(&table, hero));
+    /// ```
     fn retain<F: FnMut(K, &mut Self::Component) -> bool>(&mut self, f: F)
     where
         F: Drop,
@@ -99,6 +160,14 @@ pub trait Table<K: Key>: Drop {
         ensures room { (i count : ℕ) → fits self.old i count → fits self.new i count };
 
     /// Removes all components.
+    ///
+    /// ```
+    /// let hero = DefaultKey::from(KeyData::new(1, 1));
+    /// let mut table: SparseSecondaryMap<DefaultKey, u32> = Table::new(alloc)?;
+    /// Table::insert(&mut table, hero, 7)?;
+    /// Table::clear(&mut table);
+    /// assert!(rt; table.is_empty());
+    /// ```
     fn clear(&mut self)
         ensures empty { pairs self.new ≡ map.empty }
         ensures room { (i count : ℕ) → fits self.old i count → fits self.new i count };
@@ -290,11 +359,24 @@ pub trait Tables<K: Key>: Drop {
     ghost keeps_room: { Self → Self → Type 0 };
 
     /// Makes empty tables. It fails only if memory runs out.
+    ///
+    /// ```
+    /// let tables: (SecondaryMap<DefaultKey, u32>, ()) = Tables::new(alloc)?;
+    /// assert!(rt; tables.0.is_empty());
+    /// ```
     fn new(alloc: Global) -> Result<Self, ReserveError>
         ensures empty { IfOk result (λ tables. (q : KeyOf) → has tables q ≡ false) }
         ensures err { IfErr result (λ error. error ≡ ReserveError.Memory) };
 
     /// Removes the components of an entity from all tables, and returns them.
+    ///
+    /// ```
+    /// let hero = DefaultKey::from(KeyData::new(1, 1));
+    /// let mut tables: (SecondaryMap<DefaultKey, u32>, ()) = Tables::new(alloc)?;
+    /// tables.0.insert(hero, 7)?;
+    /// assert_eq!(rt; Tables::remove(&mut tables, hero), (Some(7), ()));
+    /// assert!(rt; tables.0.is_empty());
+    /// ```
     fn remove(&mut self, key: K) -> Self::Parts
         ensures value { result ≡ parts self.old (K.data_of key) }
         ensures gone { has self.new (K.data_of key) ≡ false }
@@ -302,6 +384,14 @@ pub trait Tables<K: Key>: Drop {
         ensures room { keeps_room self.old self.new };
 
     /// Removes all components of all entities.
+    ///
+    /// ```
+    /// let hero = DefaultKey::from(KeyData::new(1, 1));
+    /// let mut tables: (SecondaryMap<DefaultKey, u32>, ()) = Tables::new(alloc)?;
+    /// tables.0.insert(hero, 7)?;
+    /// Tables::clear(&mut tables);
+    /// assert!(rt; tables.0.is_empty());
+    /// ```
     fn clear(&mut self)
         ensures empty { (q : KeyOf) → has self.new q ≡ false }
         ensures room { keeps_room self.old self.new };

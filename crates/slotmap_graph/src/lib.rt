@@ -145,6 +145,11 @@ impl<N: Drop, E: Drop> Graph<NodeKey, N, E> {
     /// Makes a graph with no node, whose nodes have keys of type `NodeKey`.
     ///
     /// It fails only if memory runs out.
+    ///
+    /// ```
+    /// let graph: Graph<NodeKey, &str, u64> = Graph::new(alloc)?;
+    /// assert!(rt; graph.is_empty());
+    /// ```
     pub fn new(alloc: Global) -> Result<Self, ReserveError>
         ensures nodes { IfOk result (λ graph. IsNew graph.nodes) }
         ensures edges { IfOk result (λ graph. IsNew graph.edges) }
@@ -160,6 +165,11 @@ impl<K: Key, N: Drop, E: Drop> Graph<K, N, E> {
     /// Makes a graph with no node, with any type of keys of nodes.
     ///
     /// It fails only if memory runs out.
+    ///
+    /// ```
+    /// let graph: Graph<DefaultKey, &str, u64> = Graph::with_key(alloc)?;
+    /// assert!(rt; graph.is_empty());
+    /// ```
     pub fn with_key(alloc: Global) -> Result<Self, ReserveError>
         ensures nodes { IfOk result (λ graph. IsNew graph.nodes) }
         ensures edges { IfOk result (λ graph. IsNew graph.edges) }
@@ -200,8 +210,8 @@ impl<K: Key, N: Drop, E: Drop> Graph<K, N, E> {
     /// Reserves room for `additional` more nodes: to add them can't fail then, and the
     /// capacity stays.
     ///
-    /// It fails with `TooGreat` if more than 4294967294 nodes would be there, and with `Memory` if
-    /// memory runs out. The graph has the same nodes then.
+    /// It fails with `TooGreat` if more than 4294967294 nodes would be there, counting those whose slots
+    /// are retired, and with `Memory` if memory runs out. The graph has the same nodes then.
     ///
     /// ```
     /// let mut graph: Graph<NodeKey, &str, u64> = Graph::new(alloc)?;
@@ -222,8 +232,8 @@ impl<K: Key, N: Drop, E: Drop> Graph<K, N, E> {
     /// Reserves room for `additional` more edges: to add them can't fail then, if their nodes exist,
     /// and the capacity stays.
     ///
-    /// It fails with `TooGreat` if more than 4294967294 edges would be there, and with `Memory` if
-    /// memory runs out. The graph has the same edges then.
+    /// It fails with `TooGreat` if more than 4294967294 edges would be there, counting those whose slots
+    /// are retired, and with `Memory` if memory runs out. The graph has the same edges then.
     ///
     /// ```
     /// let mut graph: Graph<NodeKey, &str, u64> = Graph::new(alloc)?;
@@ -267,6 +277,14 @@ impl<K: Key, N: Drop, E: Drop> Graph<K, N, E> {
     }
 
     /// Returns the number of nodes, in constant time.
+    ///
+    /// ```
+    /// let mut graph: Graph<NodeKey, &str, u64> = Graph::new(alloc)?;
+    /// let a = graph.add_node("a")?;
+    /// assert_eq!(rt; graph.node_count(), 1);
+    /// graph.remove_node(a);
+    /// assert_eq!(rt; graph.node_count(), 0);
+    /// ```
     pub fn node_count(&self) -> usize
         ensures { result ≡ map.len self.now.nodes.live }
     {
@@ -286,6 +304,15 @@ impl<K: Key, N: Drop, E: Drop> Graph<K, N, E> {
     }
 
     /// Returns the number of edges, in constant time.
+    ///
+    /// ```
+    /// let mut graph: Graph<NodeKey, &str, u64> = Graph::new(alloc)?;
+    /// let a = graph.add_node("a")?;
+    /// graph.add_edge(a, a, 5)?;
+    /// assert_eq!(rt; graph.edge_count(), 1);
+    /// graph.remove_node(a);
+    /// assert_eq!(rt; graph.edge_count(), 0);
+    /// ```
     pub fn edge_count(&self) -> usize
         ensures { result ≡ map.len self.now.edges.live }
     {
@@ -293,6 +320,14 @@ impl<K: Key, N: Drop, E: Drop> Graph<K, N, E> {
     }
 
     /// Returns whether a node exists, in constant time.
+    ///
+    /// ```
+    /// let mut graph: Graph<NodeKey, &str, u64> = Graph::new(alloc)?;
+    /// let a = graph.add_node("a")?;
+    /// assert!(rt; graph.contains_node(a));
+    /// graph.remove_node(a);
+    /// assert!(rt; !graph.contains_node(a));
+    /// ```
     pub fn contains_node(&self, node: K) -> bool
         ensures { result ≡ map.contains_key self.now.nodes.live (K.data_of node) }
     {
@@ -300,6 +335,15 @@ impl<K: Key, N: Drop, E: Drop> Graph<K, N, E> {
     }
 
     /// Returns whether an edge exists, in constant time.
+    ///
+    /// ```
+    /// let mut graph: Graph<NodeKey, &str, u64> = Graph::new(alloc)?;
+    /// let a = graph.add_node("a")?;
+    /// let edge = graph.add_edge(a, a, 5)?;
+    /// assert!(rt; graph.contains_edge(edge));
+    /// graph.remove_node(a);
+    /// assert!(rt; !graph.contains_edge(edge));
+    /// ```
     pub fn contains_edge(&self, edge: EdgeKey) -> bool
         ensures { result ≡ map.contains_key self.now.edges.live edge }
     {
@@ -344,6 +388,14 @@ impl<K: Key, N: Drop, E: Drop> Graph<K, N, E> {
     }
 
     /// Returns the value of a node, or `None` if the node doesn't exist, in constant time.
+    ///
+    /// ```
+    /// let mut graph: Graph<NodeKey, &str, u64> = Graph::new(alloc)?;
+    /// let a = graph.add_node("a")?;
+    /// assert_eq!(rt; graph.node(a), Some(&"a"));
+    /// graph.remove_node(a);
+    /// assert_eq!(rt; graph.node(a), None);
+    /// ```
     pub fn node(&self, node: K) -> Option<&N>
         ensures { option_copied result ≡ map.get self.now.nodes.live (K.data_of node) }
     {
@@ -372,6 +424,15 @@ impl<K: Key, N: Drop, E: Drop> Graph<K, N, E> {
     }
 
     /// Returns the value of an edge, or `None` if the edge doesn't exist, in constant time.
+    ///
+    /// ```
+    /// let mut graph: Graph<NodeKey, &str, u64> = Graph::new(alloc)?;
+    /// let a = graph.add_node("a")?;
+    /// let edge = graph.add_edge(a, a, 5)?;
+    /// assert_eq!(rt; graph.edge(edge), Some(&5));
+    /// graph.remove_edge(edge);
+    /// assert_eq!(rt; graph.edge(edge), None);
+    /// ```
     pub fn edge(&self, edge: EdgeKey) -> Option<&E>
         ensures { option_copied result ≡ option_map value (map.get self.now.edges.live edge) }
     {
@@ -476,6 +537,15 @@ impl<K: Key, N: Drop, E: Drop> Graph<K, N, E> {
     }
 
     /// Returns how many edges go out of a node, in constant time.
+    ///
+    /// ```
+    /// let mut graph: Graph<NodeKey, &str, u64> = Graph::new(alloc)?;
+    /// let a = graph.add_node("a")?;
+    /// let b = graph.add_node("b")?;
+    /// graph.add_edge(a, b, 5)?;
+    /// assert_eq!(rt; graph.out_degree(a), 1);
+    /// assert_eq!(rt; graph.out_degree(b), 0);
+    /// ```
     pub fn out_degree(&self, node: K) -> usize
         ensures { result ≡ length (edges_at self.now.out (K.data_of node)) }
     {
@@ -483,6 +553,15 @@ impl<K: Key, N: Drop, E: Drop> Graph<K, N, E> {
     }
 
     /// Returns how many edges come into a node, in constant time.
+    ///
+    /// ```
+    /// let mut graph: Graph<NodeKey, &str, u64> = Graph::new(alloc)?;
+    /// let a = graph.add_node("a")?;
+    /// let b = graph.add_node("b")?;
+    /// graph.add_edge(a, b, 5)?;
+    /// assert_eq!(rt; graph.in_degree(b), 1);
+    /// assert_eq!(rt; graph.in_degree(a), 0);
+    /// ```
     pub fn in_degree(&self, node: K) -> usize
         ensures { result ≡ length (edges_at self.now.into (K.data_of node)) }
     {

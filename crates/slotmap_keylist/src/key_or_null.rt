@@ -29,14 +29,24 @@ impl<K: Key> Model for KeyOrNull<K> {
 }
 
 impl<K: Key> KeyOrNull<K> {
-    /// No key.
+    /// Returns no key.
+    ///
+    /// ```
+    /// let end: KeyOrNull<DefaultKey> = KeyOrNull::none();
+    /// assert_eq!(rt; end.get(), None);
+    /// ```
     pub fn none() -> KeyOrNull<K>
         ensures { result ≡ None }
     {
         KeyOrNull { key: K::null() }
     }
 
-    /// This key, which isn't null.
+    /// Returns this key. The caller proves that it isn't null.
+    ///
+    /// ```
+    /// let key = DefaultKey::from(KeyData::new(1, 1));
+    /// assert_eq!(rt; KeyOrNull::some(key).get(), Some(key));
+    /// ```
     pub fn some(key: K) -> KeyOrNull<K>
         requires { K.data_of key ≢ null_key }
         ensures { result ≡ Some key }
@@ -44,7 +54,13 @@ impl<K: Key> KeyOrNull<K> {
         KeyOrNull { key }
     }
 
-    /// The key, if there is one.
+    /// Returns the key, which isn't null, or `None` if there is none.
+    ///
+    /// ```
+    /// let key = DefaultKey::from(KeyData::new(1, 1));
+    /// let end = KeyOrNull::some(key);
+    /// assert_eq!(rt; end.get(), Some(key));
+    /// ```
     pub fn get(&self) -> Option<K>
         ensures value { result ≡ self.now }
         ensures not_null { IfSome result (λ key. K.data_of key ≢ null_key) }
@@ -55,7 +71,13 @@ impl<K: Key> KeyOrNull<K> {
         Some(self.key)
     }
 
-    /// The same once more.
+    /// Returns a copy.
+    ///
+    /// ```
+    /// let key = DefaultKey::from(KeyData::new(1, 1));
+    /// let end = KeyOrNull::some(key);
+    /// assert_eq!(rt; end.copied().get(), end.get());
+    /// ```
     pub fn copied(&self) -> KeyOrNull<K>
         ensures { result ≡ self.now }
     {

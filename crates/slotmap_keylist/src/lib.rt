@@ -45,7 +45,13 @@ impl<K: Key> Ends<K> {
         }
     }
 
-    /// The same once more.
+    /// Returns a copy.
+    ///
+    /// ```
+    /// let key = DefaultKey::from(KeyData::new(1, 1));
+    /// let ends = Ends { first: KeyOrNull::some(key), last: KeyOrNull::some(key), len: 1 };
+    /// assert_eq!(rt; ends.copied().first.get(), Some(key));
+    /// ```
     pub fn copied(&self) -> Ends<K>
         ensures { result ≡ self.now }
     {
@@ -73,7 +79,13 @@ impl<K: Key> Link<K> {
         }
     }
 
-    /// The same once more.
+    /// Returns a copy.
+    ///
+    /// ```
+    /// let key = DefaultKey::from(KeyData::new(1, 1));
+    /// let link = Link { prev: KeyOrNull::none(), next: KeyOrNull::some(key) };
+    /// assert_eq!(rt; link.copied().next.get(), Some(key));
+    /// ```
     pub fn copied(&self) -> Link<K>
         ensures { result ≡ self.now }
     {

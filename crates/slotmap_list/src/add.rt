@@ -54,8 +54,16 @@ impl<K: Key, T: Drop> StableList<K, T> {
 
     /// Adds an element at the back, and returns its cursor.
     ///
-    /// If a slot is vacant or room was reserved, memory can't run out, and the capacity stays. If the
-    /// call fails, the error holds the value, and the list has the same elements.
+    /// If a slot is vacant or room was reserved, it can't fail, and the capacity stays. If the call
+    /// fails, the error holds the value, and the list has the same elements.
+    ///
+    /// ```
+    /// let mut list = StableList::new(alloc)?;
+    /// let one = list.push_back(1)?;
+    /// list.push_back(2)?;
+    /// assert_eq!(rt; list.first(), Some(one));
+    /// assert_eq!(rt; list.to_vec(alloc)?.as_slice(), [1, 2].as_slice());
+    /// ```
     pub fn push_back(&mut self, value: T) -> Result<K, PushError<T>>
         ensures ok { IfOk result (λ key. self.new.elements ≡ self.old.elements ++ (K.data_of key, value) ∷ []) }
         ensures fresh { IfOk result (λ key. value_of (K.data_of key) self.old.elements ≡ None) }
@@ -75,8 +83,16 @@ impl<K: Key, T: Drop> StableList<K, T> {
 
     /// Adds an element at the front, and returns its cursor.
     ///
-    /// If a slot is vacant or room was reserved, memory can't run out, and the capacity stays. If the
-    /// call fails, the error holds the value, and the list has the same elements.
+    /// If a slot is vacant or room was reserved, it can't fail, and the capacity stays. If the call
+    /// fails, the error holds the value, and the list has the same elements.
+    ///
+    /// ```
+    /// let mut list = StableList::new(alloc)?;
+    /// let one = list.push_back(1)?;
+    /// list.push_front(2)?;
+    /// assert_eq!(rt; list.last(), Some(one));
+    /// assert_eq!(rt; list.to_vec(alloc)?.as_slice(), [2, 1].as_slice());
+    /// ```
     pub fn push_front(&mut self, value: T) -> Result<K, PushError<T>>
         ensures ok { IfOk result (λ key. self.new.elements ≡ (K.data_of key, value) ∷ self.old.elements) }
         ensures fresh { IfOk result (λ key. value_of (K.data_of key) self.old.elements ≡ None) }
@@ -125,8 +141,18 @@ impl<K: Key, T: Drop> StableList<K, T> {
 
     /// Adds an element after that of a cursor, and returns its cursor.
     ///
-    /// If a slot is vacant or room was reserved, memory can't run out, and the capacity stays. If the
-    /// call fails, the error holds the value, and the list has the same elements.
+    /// It fails with `Gone` exactly if the cursor isn't in the list. If a slot is vacant or room was
+    /// reserved, it fails for no other reason, and the capacity stays. If the call fails, the error holds
+    /// the value, and the list has the same elements.
+    ///
+    /// ```
+    /// let mut list = StableList::new(alloc)?;
+    /// let one = list.push_back(1)?;
+    /// list.insert_after(one, 2)?;
+    /// assert_eq!(rt; list.to_vec(alloc)?.as_slice(), [1, 2].as_slice());
+    /// list.remove(one);
+    /// assert!(rt; matches!(list.insert_after(one, 3), Err(PlaceError::Gone(3))));
+    /// ```
     pub fn insert_after(&mut self, cursor: K, value: T) -> Result<K, PlaceError<T>>
         ensures ok { IfOk result (λ key. self.new.elements ≡ put_after (K.data_of cursor) (K.data_of key, value) self.old.elements) }
         ensures fresh { IfOk result (λ key. value_of (K.data_of key) self.old.elements ≡ None) }
@@ -146,8 +172,18 @@ impl<K: Key, T: Drop> StableList<K, T> {
 
     /// Adds an element before that of a cursor, and returns its cursor.
     ///
-    /// If a slot is vacant or room was reserved, memory can't run out, and the capacity stays. If the
-    /// call fails, the error holds the value, and the list has the same elements.
+    /// It fails with `Gone` exactly if the cursor isn't in the list. If a slot is vacant or room was
+    /// reserved, it fails for no other reason, and the capacity stays. If the call fails, the error holds
+    /// the value, and the list has the same elements.
+    ///
+    /// ```
+    /// let mut list = StableList::new(alloc)?;
+    /// let one = list.push_back(1)?;
+    /// list.insert_before(one, 2)?;
+    /// assert_eq!(rt; list.to_vec(alloc)?.as_slice(), [2, 1].as_slice());
+    /// list.remove(one);
+    /// assert!(rt; matches!(list.insert_before(one, 3), Err(PlaceError::Gone(3))));
+    /// ```
     pub fn insert_before(&mut self, cursor: K, value: T) -> Result<K, PlaceError<T>>
         ensures ok { IfOk result (λ key. self.new.elements ≡ put_before (K.data_of cursor) (K.data_of key, value) self.old.elements) }
         ensures fresh { IfOk result (λ key. value_of (K.data_of key) self.old.elements ≡ None) }

@@ -134,6 +134,11 @@ impl<T: Drop> StableList<Cursor, T> {
     /// Makes an empty list, whose elements have cursors of type `Cursor`.
     ///
     /// It fails only if memory runs out.
+    ///
+    /// ```
+    /// let list: StableList<Cursor, u64> = StableList::new(alloc)?;
+    /// assert!(rt; list.is_empty());
+    /// ```
     pub fn new(alloc: Global) -> Result<Self, ReserveError>
         ensures empty { IfOk result (λ list. list.elements ≡ []) }
         ensures cursors { IfOk result (λ list. IsNew list.cursors) }
@@ -166,6 +171,11 @@ impl<K: Key, T: Drop> StableList<K, T> {
     /// Makes an empty list, with any type of cursors.
     ///
     /// It fails only if memory runs out.
+    ///
+    /// ```
+    /// let list: StableList<NodeKey, u64> = StableList::with_key(alloc)?;
+    /// assert!(rt; list.is_empty());
+    /// ```
     pub fn with_key(alloc: Global) -> Result<Self, ReserveError>
         ensures empty { IfOk result (λ list. list.elements ≡ []) }
         ensures cursors { IfOk result (λ list. IsNew list.cursors) }
@@ -229,6 +239,14 @@ impl<K: Key, T: Drop> StableList<K, T> {
     }
 
     /// Returns for how many elements there is memory, in constant time.
+    ///
+    /// ```
+    /// let mut list = StableList::with_capacity(alloc, 2)?;
+    /// let capacity = list.capacity();
+    /// assert!(rt; capacity >= 2);
+    /// list.push_back(1)?;
+    /// assert_eq!(rt; list.capacity(), capacity);
+    /// ```
     pub fn capacity(&self) -> usize
         ensures { result ≡ self.now.cursors.capacity }
     {
@@ -260,6 +278,14 @@ impl<K: Key, T: Drop> StableList<K, T> {
     }
 
     /// Returns the number of elements, in constant time. No cursor occurs twice.
+    ///
+    /// ```
+    /// let mut list = StableList::new(alloc)?;
+    /// let one = list.push_back(1)?;
+    /// assert_eq!(rt; list.len(), 1);
+    /// list.remove(one);
+    /// assert_eq!(rt; list.len(), 0);
+    /// ```
     pub fn len(&self) -> usize
         ensures value { result ≡ length self.now.elements }
         ensures once { IsOnce self.now.elements }
@@ -267,7 +293,14 @@ impl<K: Key, T: Drop> StableList<K, T> {
         self.nodes.len()
     }
 
-    /// Returns whether the list has no element.
+    /// Returns whether the list has no element, in constant time.
+    ///
+    /// ```
+    /// let mut list = StableList::new(alloc)?;
+    /// assert!(rt; list.is_empty());
+    /// list.push_back(1)?;
+    /// assert!(rt; !list.is_empty());
+    /// ```
     pub fn is_empty(&self) -> bool
         ensures { IsTrue result ↔ (length self.now.elements ≡ 0) }
     {
@@ -275,6 +308,15 @@ impl<K: Key, T: Drop> StableList<K, T> {
     }
 
     /// Returns the cursor of the element at the front, or `None` if the list is empty.
+    ///
+    /// ```
+    /// let mut list = StableList::new(alloc)?;
+    /// let one = list.push_back(1)?;
+    /// list.push_back(2)?;
+    /// assert_eq!(rt; list.first(), Some(one));
+    /// list.clear();
+    /// assert_eq!(rt; list.first(), None);
+    /// ```
     pub fn first(&self) -> Option<K>
         ensures { option_map K.data_of result ≡ first_or self.now.elements None }
     {
@@ -282,6 +324,15 @@ impl<K: Key, T: Drop> StableList<K, T> {
     }
 
     /// Returns the cursor of the element at the back, or `None` if the list is empty.
+    ///
+    /// ```
+    /// let mut list = StableList::new(alloc)?;
+    /// let one = list.push_back(1)?;
+    /// let two = list.push_back(2)?;
+    /// assert_eq!(rt; list.last(), Some(two));
+    /// list.remove(two);
+    /// assert_eq!(rt; list.last(), Some(one));
+    /// ```
     pub fn last(&self) -> Option<K>
         ensures { option_map K.data_of result ≡ last_or self.now.elements None }
     {
@@ -289,6 +340,14 @@ impl<K: Key, T: Drop> StableList<K, T> {
     }
 
     /// Returns the value of a cursor, or `None` if it isn't in the list.
+    ///
+    /// ```
+    /// let mut list = StableList::new(alloc)?;
+    /// let one = list.push_back(1)?;
+    /// assert_eq!(rt; list.get(one), Some(&1));
+    /// list.remove(one);
+    /// assert_eq!(rt; list.get(one), None);
+    /// ```
     pub fn get(&self, cursor: K) -> Option<&T>
         ensures value { option_copied result ≡ value_of (K.data_of cursor) self.now.elements }
         ensures gone { IsSpent self.now.cursors (K.data_of cursor) → result ≡ None }
@@ -299,6 +358,14 @@ impl<K: Key, T: Drop> StableList<K, T> {
 
     /// Returns the cursor after this one, or `None` at the back and for a cursor that isn't in the
     /// list.
+    ///
+    /// ```
+    /// let mut list = StableList::new(alloc)?;
+    /// let one = list.push_back(1)?;
+    /// let two = list.push_back(2)?;
+    /// assert_eq!(rt; list.next(one), Some(two));
+    /// assert_eq!(rt; list.next(two), None);
+    /// ```
     pub fn next(&self, cursor: K) -> Option<K>
         ensures { option_map K.data_of result ≡ key_after (K.data_of cursor) self.now.elements }
     {
@@ -307,6 +374,14 @@ impl<K: Key, T: Drop> StableList<K, T> {
 
     /// Returns the cursor before this one, or `None` at the front and for a cursor that isn't in the
     /// list.
+    ///
+    /// ```
+    /// let mut list = StableList::new(alloc)?;
+    /// let one = list.push_back(1)?;
+    /// let two = list.push_back(2)?;
+    /// assert_eq!(rt; list.prev(two), Some(one));
+    /// assert_eq!(rt; list.prev(one), None);
+    /// ```
     pub fn prev(&self, cursor: K) -> Option<K>
         ensures { option_map K.data_of result ≡ key_before None (K.data_of cursor) self.now.elements }
     {
@@ -356,6 +431,13 @@ impl<K: Key, T: Drop> StableList<K, T> {
     }
 
     /// Returns the values from front to back, in time linear in their number.
+    ///
+    /// ```
+    /// let mut list = StableList::new(alloc)?;
+    /// list.push_back(1)?;
+    /// list.push_front(2)?;
+    /// assert_eq!(rt; list.to_vec(alloc)?.as_slice(), [2, 1].as_slice());
+    /// ```
     pub fn to_vec(&self, alloc: Global) -> Result<Vec<T>, AllocError>
     where
         T: Copy,

@@ -98,6 +98,14 @@ impl<K: Key, T: Drop> StableList<K, T> {
     /// Moves the element of a cursor to the front. It returns `false` if the cursor isn't in the list.
     ///
     /// Constant time. The element keeps its cursor, and the capacity stays.
+    ///
+    /// ```
+    /// let mut list = StableList::new(alloc)?;
+    /// list.push_back(1)?;
+    /// let two = list.push_back(2)?;
+    /// assert!(rt; list.move_to_front(two));
+    /// assert_eq!(rt; list.to_vec(alloc)?.as_slice(), [2, 1].as_slice());
+    /// ```
     pub fn move_to_front(&mut self, cursor: K) -> bool
         ensures which { result ≡ is_some (value_of (K.data_of cursor) self.old.elements) }
         ensures moved { self.new ≡ record self.old { elements = moved_to_front (K.data_of cursor) self.old.elements } }
@@ -110,6 +118,14 @@ impl<K: Key, T: Drop> StableList<K, T> {
     /// Moves the element of a cursor to the back. It returns `false` if the cursor isn't in the list.
     ///
     /// Constant time. The element keeps its cursor, and the capacity stays.
+    ///
+    /// ```
+    /// let mut list = StableList::new(alloc)?;
+    /// let one = list.push_back(1)?;
+    /// list.push_back(2)?;
+    /// assert!(rt; list.move_to_back(one));
+    /// assert_eq!(rt; list.to_vec(alloc)?.as_slice(), [2, 1].as_slice());
+    /// ```
     pub fn move_to_back(&mut self, cursor: K) -> bool
         ensures which { result ≡ is_some (value_of (K.data_of cursor) self.old.elements) }
         ensures moved { self.new ≡ record self.old { elements = moved_to_back (K.data_of cursor) self.old.elements } }
@@ -123,6 +139,15 @@ impl<K: Key, T: Drop> StableList<K, T> {
     /// nothing, if one of the two isn't in the list, or if they are the same.
     ///
     /// Constant time. The element keeps its cursor, and the capacity stays.
+    ///
+    /// ```
+    /// let mut list = StableList::new(alloc)?;
+    /// let one = list.push_back(1)?;
+    /// let two = list.push_back(2)?;
+    /// assert!(rt; list.move_after(one, two));
+    /// assert_eq!(rt; list.to_vec(alloc)?.as_slice(), [2, 1].as_slice());
+    /// assert!(rt; !list.move_after(one, one));
+    /// ```
     pub fn move_after(&mut self, cursor: K, other: K) -> bool
         ensures which { result ≡ are_two (K.data_of cursor) (K.data_of other) self.old.elements }
         ensures moved { self.new ≡ record self.old

@@ -12,6 +12,13 @@ use slotmap_keylist::{KeyOrNull, inner, outer};
 impl<K: Key, T: Drop> StableList<K, T> {
     /// Removes the element of a cursor, and returns its value, or `None` if the cursor isn't in the
     /// list. The cursor is never used again. The room and the capacity stay.
+    ///
+    /// ```
+    /// let mut list = StableList::new(alloc)?;
+    /// let one = list.push_back(1)?;
+    /// assert_eq!(rt; list.remove(one), Some(1));
+    /// assert_eq!(rt; list.remove(one), None);
+    /// ```
     pub fn remove(&mut self, cursor: K) -> Option<T>
         ensures value { result ≡ value_of (K.data_of cursor) self.old.elements }
         ensures removed { self.new.elements ≡ without (K.data_of cursor) self.old.elements }
@@ -53,6 +60,14 @@ impl<K: Key, T: Drop> StableList<K, T> {
 
     /// Removes the element at the front, and returns its cursor and its value, or `None` if the list
     /// is empty. The cursor is never used again. The room and the capacity stay.
+    ///
+    /// ```
+    /// let mut list = StableList::new(alloc)?;
+    /// let one = list.push_back(1)?;
+    /// list.push_back(2)?;
+    /// assert_eq!(rt; list.pop_front(), Some((one, 1)));
+    /// assert_eq!(rt; list.to_vec(alloc)?.as_slice(), [2].as_slice());
+    /// ```
     pub fn pop_front(&mut self) -> Option<(K, T)>
         ensures front { TakesFront self.old.elements (option_map (λ e. (K.data_of e.0, e.1)) result) self.new.elements }
         ensures cursors { IfSome result (λ element. Removes self.old.cursors (K.data_of element.0) self.new.cursors) }
@@ -69,6 +84,14 @@ impl<K: Key, T: Drop> StableList<K, T> {
 
     /// Removes the element at the back, and returns its cursor and its value, or `None` if the list
     /// is empty. The cursor is never used again. The room and the capacity stay.
+    ///
+    /// ```
+    /// let mut list = StableList::new(alloc)?;
+    /// list.push_back(1)?;
+    /// let two = list.push_back(2)?;
+    /// assert_eq!(rt; list.pop_back(), Some((two, 2)));
+    /// assert_eq!(rt; list.to_vec(alloc)?.as_slice(), [1].as_slice());
+    /// ```
     pub fn pop_back(&mut self) -> Option<(K, T)>
         ensures back { TakesBack self.old.elements (option_map (λ e. (K.data_of e.0, e.1)) result) self.new.elements }
         ensures cursors { IfSome result (λ element. Removes self.old.cursors (K.data_of element.0) self.new.cursors) }
@@ -84,6 +107,14 @@ impl<K: Key, T: Drop> StableList<K, T> {
     }
 
     /// Removes all elements. Their cursors are never used again. The room and the capacity stay.
+    ///
+    /// ```
+    /// let mut list = StableList::new(alloc)?;
+    /// let one = list.push_back(1)?;
+    /// list.clear();
+    /// assert!(rt; list.is_empty());
+    /// assert_eq!(rt; list.get(one), None);
+    /// ```
     pub fn clear(&mut self)
         ensures empty { self.new.elements ≡ [] }
         ensures for_good { (k : KeyOf) → IsSome (value_of k self.old.elements) → IsSpent self.new.cursors k }

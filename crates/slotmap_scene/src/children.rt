@@ -59,6 +59,16 @@ impl<'a, K, T> ChildKeys<'a, K, T> {
     }
 
     /// Returns how many keys are left, in constant time.
+    ///
+    /// ```
+    /// let mut scene: Scene<DefaultKey, &str> = Scene::new(alloc)?;
+    /// let car = scene.add_root("car")?;
+    /// scene.add_child(car, "wheel")?;
+    /// let mut children = scene.children(car);
+    /// assert_eq!(rt; children.len(), 1);
+    /// children.next();
+    /// assert_eq!(rt; children.len(), 0);
+    /// ```
     pub fn len(&self) -> usize
         ensures { result ≡ length self.now }
     {

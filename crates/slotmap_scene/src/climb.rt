@@ -9,6 +9,16 @@ use slotmap_keylist::inner;
 
 impl<K: Key, T: Drop> Scene<K, T> {
     /// Returns how many nodes are above a node, or `None` if it doesn't exist.
+    ///
+    /// ```
+    /// let mut scene: Scene<DefaultKey, &str> = Scene::new(alloc)?;
+    /// let car = scene.add_root("car")?;
+    /// let wheel = scene.add_child(car, "wheel")?;
+    /// assert_eq!(rt; scene.depth(car), Some(0));
+    /// assert_eq!(rt; scene.depth(wheel), Some(1));
+    /// scene.remove(wheel);
+    /// assert_eq!(rt; scene.depth(wheel), None);
+    /// ```
     pub fn depth(&self, node: K) -> Option<usize>
         ensures some { IfSome result (λ steps. ClimbsTo self.now.live steps (K.data_of node)) }
         ensures none { IfNone result (lacks_node self.now.live (K.data_of node)) }

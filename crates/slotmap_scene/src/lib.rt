@@ -166,6 +166,11 @@ impl<T: Drop> Scene<DefaultKey, T> {
     /// Makes a scene with no node, with the default type of keys.
     ///
     /// It fails only if memory runs out.
+    ///
+    /// ```
+    /// let scene: Scene<DefaultKey, &str> = Scene::new(alloc)?;
+    /// assert!(rt; scene.is_empty());
+    /// ```
     pub fn new(alloc: Global) -> Result<Self, ReserveError>
         ensures empty { IfOk result IsNew }
         ensures err { IfErr result (λ error. error ≡ ReserveError.Memory) }
@@ -196,6 +201,11 @@ impl<K: Key, T: Drop> Scene<K, T> {
     /// Makes a scene with no node, with any type of keys.
     ///
     /// It fails only if memory runs out.
+    ///
+    /// ```
+    /// let scene: Scene<NodeKey, &str> = Scene::with_key(alloc)?;
+    /// assert!(rt; scene.is_empty());
+    /// ```
     pub fn with_key(alloc: Global) -> Result<Self, ReserveError>
         ensures empty { IfOk result IsNew }
         ensures err { IfErr result (λ error. error ≡ ReserveError.Memory) }
@@ -206,6 +216,11 @@ impl<K: Key, T: Drop> Scene<K, T> {
     /// Makes a scene with no node and with room for `capacity` nodes, with any type of keys.
     ///
     /// It fails with `TooGreat` if `capacity` is over 4294967294, and with `Memory` if memory runs out.
+    ///
+    /// ```
+    /// let scene: Scene<NodeKey, &str> = Scene::with_capacity_and_key(alloc, 2)?;
+    /// assert!(rt; scene.capacity() >= 2);
+    /// ```
     pub fn with_capacity_and_key(alloc: Global, capacity: usize) -> Result<Self, ReserveError>
         ensures empty { IfOk result IsNew }
         ensures room { IfOk result (λ scene. capacity ≤ scene.room) }
@@ -222,8 +237,8 @@ impl<K: Key, T: Drop> Scene<K, T> {
     /// Reserves room for `additional` more nodes: to add so many, roots or children, can't fail then, and
     /// the capacity stays.
     ///
-    /// It fails with `TooGreat` if more than 4294967294 nodes would be there, and with `Memory` if
-    /// memory runs out. The scene has the same nodes then.
+    /// It fails with `TooGreat` if more than 4294967294 nodes would be there, counting those whose slots
+    /// are retired, and with `Memory` if memory runs out. The scene has the same nodes then.
     ///
     /// ```
     /// let mut scene: Scene<DefaultKey, &str> = Scene::new(alloc)?;
@@ -239,6 +254,15 @@ impl<K: Key, T: Drop> Scene<K, T> {
     }
 
     /// Returns how many nodes there are, in constant time.
+    ///
+    /// ```
+    /// let mut scene: Scene<DefaultKey, &str> = Scene::new(alloc)?;
+    /// let car = scene.add_root("car")?;
+    /// scene.add_child(car, "wheel")?;
+    /// assert_eq!(rt; scene.len(), 2);
+    /// scene.remove(car);
+    /// assert_eq!(rt; scene.len(), 0);
+    /// ```
     pub fn len(&self) -> usize
         ensures { result ≡ map.len self.now.live }
     {
@@ -260,6 +284,13 @@ impl<K: Key, T: Drop> Scene<K, T> {
     }
 
     /// Returns whether there is no node, in constant time.
+    ///
+    /// ```
+    /// let mut scene: Scene<DefaultKey, &str> = Scene::new(alloc)?;
+    /// assert!(rt; scene.is_empty());
+    /// scene.add_root("car")?;
+    /// assert!(rt; !scene.is_empty());
+    /// ```
     pub fn is_empty(&self) -> bool
         ensures { IsTrue result ↔ (map.len self.now.live ≡ 0) }
     {
@@ -267,6 +298,15 @@ impl<K: Key, T: Drop> Scene<K, T> {
     }
 
     /// Returns whether a node exists, in constant time.
+    ///
+    /// ```
+    /// let mut scene: Scene<DefaultKey, &str> = Scene::new(alloc)?;
+    /// let car = scene.add_root("car")?;
+    /// let wheel = scene.add_child(car, "wheel")?;
+    /// assert!(rt; scene.contains_key(wheel));
+    /// scene.remove(car);
+    /// assert!(rt; !scene.contains_key(wheel));
+    /// ```
     pub fn contains_key(&self, node: K) -> bool
         ensures { result ≡ map.contains_key self.now.live (K.data_of node) }
     {
@@ -274,6 +314,14 @@ impl<K: Key, T: Drop> Scene<K, T> {
     }
 
     /// Returns the value of a node, or `None` if it doesn't exist, in constant time.
+    ///
+    /// ```
+    /// let mut scene: Scene<DefaultKey, &str> = Scene::new(alloc)?;
+    /// let car = scene.add_root("car")?;
+    /// assert_eq!(rt; scene.get(car), Some(&"car"));
+    /// scene.remove(car);
+    /// assert_eq!(rt; scene.get(car), None);
+    /// ```
     pub fn get(&self, node: K) -> Option<&T>
         ensures { option_copied result ≡ value_of self.now.live (K.data_of node) }
     {
@@ -302,6 +350,17 @@ impl<K: Key, T: Drop> Scene<K, T> {
     /// is, once.
     ///
     /// A removed node has none. It is made in constant time, and each step takes constant time.
+    ///
+    /// ```
+    /// let mut scene: Scene<DefaultKey, &str> = Scene::new(alloc)?;
+    /// let car = scene.add_root("car")?;
+    /// let wheel = scene.add_child(car, "wheel")?;
+    /// let door = scene.add_child(car, "door")?;
+    /// let mut children = scene.children(car);
+    /// assert_eq!(rt; children.next(), Some(wheel));
+    /// assert_eq!(rt; children.next(), Some(door));
+    /// assert_eq!(rt; children.next(), None);
+    /// ```
     pub fn children(&self, node: K) -> ChildKeys<'_, K, T>
         ensures value { result ≡ children_of self.now.live (K.data_of node) }
         ensures listed { (k : KeyOf) → times k result ≡ is_parent (parent_of self.now.live k) (K.data_of node) }
@@ -311,6 +370,14 @@ impl<K: Key, T: Drop> Scene<K, T> {
 
     /// Returns the key of the parent of a node, or `None` if the node is a root or doesn't
     /// exist. The parent exists.
+    ///
+    /// ```
+    /// let mut scene: Scene<DefaultKey, &str> = Scene::new(alloc)?;
+    /// let car = scene.add_root("car")?;
+    /// let wheel = scene.add_child(car, "wheel")?;
+    /// assert_eq!(rt; scene.parent(wheel), Some(car));
+    /// assert_eq!(rt; scene.parent(car), None);
+    /// ```
     pub fn parent(&self, node: K) -> Option<K>
         ensures value { option_map K.data_of result ≡ parent_of self.now.live (K.data_of node) }
         ensures live { IfSome result (λ parent. has_node self.now.live (K.data_of parent)) }

@@ -16,6 +16,13 @@ impl<K: Key, T: Drop> Scene<K, T> {
     ///
     /// If a slot is vacant or room was reserved, the call can't fail, and the capacity stays. If the
     /// call fails, the error holds the value, and the scene is unchanged.
+    ///
+    /// ```
+    /// let mut scene: Scene<DefaultKey, &str> = Scene::new(alloc)?;
+    /// let car = scene.add_root("car")?;
+    /// assert_eq!(rt; scene.parent(car), None);
+    /// assert_eq!(rt; scene.children(car).len(), 0);
+    /// ```
     pub fn add_root(&mut self, value: T) -> Result<K, InsertError<T>>
         ensures adds { IfOk result (λ key. Inserts self.old (K.data_of key) (child None value) self.new) }
         ensures fresh { IfOk result (λ key. lacks_node self.old.live (K.data_of key)) }
@@ -36,6 +43,15 @@ impl<K: Key, T: Drop> Scene<K, T> {
     ///
     /// If a slot is vacant or room was reserved, it fails exactly if the parent doesn't exist, and the
     /// capacity stays. If the call fails, the error holds the value, and the scene is unchanged.
+    ///
+    /// ```
+    /// let mut scene: Scene<DefaultKey, &str> = Scene::new(alloc)?;
+    /// let car = scene.add_root("car")?;
+    /// let wheel = scene.add_child(car, "wheel")?;
+    /// assert_eq!(rt; scene.children(car).next(), Some(wheel));
+    /// scene.remove(wheel);
+    /// assert!(rt; matches!(scene.add_child(wheel, "tyre"), Err(AddError::Gone("tyre"))));
+    /// ```
     pub fn add_child(&mut self, parent: K, value: T) -> Result<K, AddError<T>>
         // The parent has one more child, under a new key.
         ensures adds { IfOk result (λ key. Inserts (record self.old { live = with_child self.old.live (K.data_of parent) (K.data_of key) })
@@ -67,6 +83,15 @@ impl<K: Key, T: Drop> Scene<K, T> {
     ///
     /// It fails exactly if one of the two doesn't exist, or if the new parent is the node or below it. The
     /// scene is then unchanged. The capacity stays.
+    ///
+    /// ```
+    /// let mut scene: Scene<DefaultKey, &str> = Scene::new(alloc)?;
+    /// let car = scene.add_root("car")?;
+    /// let wheel = scene.add_root("wheel")?;
+    /// assert!(rt; scene.reparent(wheel, car).is_ok());
+    /// assert_eq!(rt; scene.parent(wheel), Some(car));
+    /// assert_eq!(rt; scene.reparent(car, wheel), Err(ReparentError::Cycle));
+    /// ```
     pub fn reparent(&mut self, node: K, parent: K) -> Result<(), ReparentError>
         ensures moved { OnOk result (self.new ≡ record self.old { live = as_last_child self.old.live (K.data_of node) (K.data_of parent) }) }
         ensures trees { OnOk result (IsMoved self.old.live self.new.live (K.data_of node) (Some (K.data_of parent)) (λ ks. ks ++ K.data_of node ∷ [])) }
@@ -96,6 +121,15 @@ impl<K: Key, T: Drop> Scene<K, T> {
     /// Makes a node a root, with its subtree, and returns whether the node exists.
     ///
     /// It takes constant time. It can't fail, and the capacity stays.
+    ///
+    /// ```
+    /// let mut scene: Scene<DefaultKey, &str> = Scene::new(alloc)?;
+    /// let car = scene.add_root("car")?;
+    /// let wheel = scene.add_child(car, "wheel")?;
+    /// assert!(rt; scene.make_root(wheel));
+    /// assert_eq!(rt; scene.parent(wheel), None);
+    /// assert_eq!(rt; scene.children(car).len(), 0);
+    /// ```
     pub fn make_root(&mut self, node: K) -> bool
         ensures which { IsTrue result ↔ has_node self.old.live (K.data_of node) }
         ensures new { self.new ≡ record self.old { live = as_root self.old.live (K.data_of node) } }
@@ -115,6 +149,15 @@ impl<K: Key, T: Drop> Scene<K, T> {
     /// are never used again.
     ///
     /// It can't fail. The room and the capacity stay.
+    ///
+    /// ```
+    /// let mut scene: Scene<DefaultKey, &str> = Scene::new(alloc)?;
+    /// let car = scene.add_root("car")?;
+    /// let wheel = scene.add_child(car, "wheel")?;
+    /// assert_eq!(rt; scene.remove(car), Some("car"));
+    /// assert!(rt; !scene.contains_key(wheel));
+    /// assert_eq!(rt; scene.remove(car), None);
+    /// ```
     pub fn remove(&mut self, node: K) -> Option<T>
         ensures value { result ≡ value_of self.old.live (K.data_of node) }
         ensures removed { (k : KeyOf) → IsWithin self.old.live k (K.data_of node) → lacks_node self.new.live k }

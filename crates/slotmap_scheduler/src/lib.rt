@@ -116,6 +116,11 @@ impl<T: Drop> Scheduler<DefaultKey, T> {
     /// Makes a scheduler with no job, with the default type of handles.
     ///
     /// It fails only if memory runs out.
+    ///
+    /// ```
+    /// let scheduler: Scheduler<DefaultKey, &str> = Scheduler::new(alloc)?;
+    /// assert!(rt; scheduler.is_empty());
+    /// ```
     pub fn new(alloc: Global) -> Result<Self, ReserveError>
         ensures waiting { IfOk result (λ made. made.waiting ≡ []) }
         ensures handles { IfOk result (λ made. IsNew made.handles) }
@@ -130,6 +135,11 @@ impl<T: Drop> Scheduler<DefaultKey, T> {
     ///
     /// The next `capacity` schedules don't fail for memory. It fails with `TooGreat` if `capacity`
     /// is over 4294967294, and with `Memory` if memory runs out.
+    ///
+    /// ```
+    /// let mut scheduler: Scheduler<DefaultKey, &str> = Scheduler::with_capacity(alloc, 1)?;
+    /// assert!(rt; scheduler.schedule(30, "tea").is_ok());
+    /// ```
     pub fn with_capacity(alloc: Global, capacity: usize) -> Result<Self, ReserveError>
         ensures waiting { IfOk result (λ made. made.waiting ≡ []) }
         ensures handles { IfOk result (λ made. IsNew made.handles) }
@@ -147,6 +157,11 @@ impl<K: Key, T: Drop> Scheduler<K, T> {
     /// Makes a scheduler with no job, with any type of handles.
     ///
     /// It fails only if memory runs out.
+    ///
+    /// ```
+    /// let scheduler: Scheduler<NodeKey, &str> = Scheduler::with_key(alloc)?;
+    /// assert!(rt; scheduler.is_empty());
+    /// ```
     pub fn with_key(alloc: Global) -> Result<Self, ReserveError>
         ensures waiting { IfOk result (λ made. made.waiting ≡ []) }
         ensures handles { IfOk result (λ made. IsNew made.handles) }
@@ -160,6 +175,11 @@ impl<K: Key, T: Drop> Scheduler<K, T> {
     ///
     /// The next `capacity` schedules don't fail for memory. It fails with `TooGreat` if `capacity`
     /// is over 4294967294, and with `Memory` if memory runs out.
+    ///
+    /// ```
+    /// let mut scheduler: Scheduler<NodeKey, &str> = Scheduler::with_capacity_and_key(alloc, 1)?;
+    /// assert!(rt; scheduler.schedule(30, "tea").is_ok());
+    /// ```
     pub fn with_capacity_and_key(alloc: Global, capacity: usize) -> Result<Self, ReserveError>
         ensures waiting { IfOk result (λ made. made.waiting ≡ []) }
         ensures handles { IfOk result (λ made. IsNew made.handles) }
@@ -178,6 +198,14 @@ impl<K: Key, T: Drop> Scheduler<K, T> {
     }
 
     /// Returns how many jobs wait, in constant time.
+    ///
+    /// ```
+    /// let mut scheduler: Scheduler<DefaultKey, &str> = Scheduler::new(alloc)?;
+    /// scheduler.schedule(30, "tea")?;
+    /// assert_eq!(rt; scheduler.len(), 1);
+    /// scheduler.pop_due(30);
+    /// assert_eq!(rt; scheduler.len(), 0);
+    /// ```
     pub fn len(&self) -> usize
         ensures value { result ≡ length self.now.waiting }
         ensures live { result ≡ map.len self.now.handles.live }
@@ -188,6 +216,13 @@ impl<K: Key, T: Drop> Scheduler<K, T> {
     }
 
     /// Returns whether no job waits, in constant time.
+    ///
+    /// ```
+    /// let mut scheduler: Scheduler<DefaultKey, &str> = Scheduler::new(alloc)?;
+    /// assert!(rt; scheduler.is_empty());
+    /// scheduler.schedule(30, "tea")?;
+    /// assert!(rt; !scheduler.is_empty());
+    /// ```
     pub fn is_empty(&self) -> bool
         ensures { IsTrue result ↔ (self.now.waiting ≡ []) }
     {
@@ -195,6 +230,14 @@ impl<K: Key, T: Drop> Scheduler<K, T> {
     }
 
     /// Returns for how many jobs there is memory, in constant time.
+    ///
+    /// ```
+    /// let mut scheduler: Scheduler<DefaultKey, &str> = Scheduler::with_capacity(alloc, 2)?;
+    /// let capacity = scheduler.capacity();
+    /// assert!(rt; capacity >= 2);
+    /// scheduler.schedule(30, "tea")?;
+    /// assert_eq!(rt; scheduler.capacity(), capacity);
+    /// ```
     pub fn capacity(&self) -> usize
         ensures value { result ≡ self.now.handles.capacity }
         ensures valid { IsContent true self.now.handles }
@@ -203,6 +246,14 @@ impl<K: Key, T: Drop> Scheduler<K, T> {
     }
 
     /// Returns whether a job waits under a handle, in constant time.
+    ///
+    /// ```
+    /// let mut scheduler: Scheduler<DefaultKey, &str> = Scheduler::new(alloc)?;
+    /// let tea = scheduler.schedule(30, "tea")?;
+    /// assert!(rt; scheduler.contains(tea));
+    /// scheduler.pop_due(30);
+    /// assert!(rt; !scheduler.contains(tea));
+    /// ```
     pub fn contains(&self, handle: K) -> bool
         ensures value { result ≡ is_some (job_of (K.data_of handle) self.now.waiting) }
         ensures live { result ≡ map.contains_key self.now.handles.live (K.data_of handle) }
@@ -211,6 +262,14 @@ impl<K: Key, T: Drop> Scheduler<K, T> {
     }
 
     /// Returns the job of a handle, or `None` if no job waits under it, in constant time.
+    ///
+    /// ```
+    /// let mut scheduler: Scheduler<DefaultKey, &str> = Scheduler::new(alloc)?;
+    /// let tea = scheduler.schedule(30, "tea")?;
+    /// assert_eq!(rt; scheduler.get(tea), Some(&"tea"));
+    /// scheduler.cancel(tea);
+    /// assert_eq!(rt; scheduler.get(tea), None);
+    /// ```
     pub fn get(&self, handle: K) -> Option<&T>
         ensures { option_copied result ≡ option_map (λ due. due.1) (job_of (K.data_of handle) self.now.waiting) }
     {
@@ -218,6 +277,14 @@ impl<K: Key, T: Drop> Scheduler<K, T> {
     }
 
     /// Returns when the job of a handle is due, or `None` if no job waits under it, in constant time.
+    ///
+    /// ```
+    /// let mut scheduler: Scheduler<DefaultKey, &str> = Scheduler::new(alloc)?;
+    /// let tea = scheduler.schedule(30, "tea")?;
+    /// assert_eq!(rt; scheduler.due(tea), Some(30));
+    /// scheduler.cancel(tea);
+    /// assert_eq!(rt; scheduler.due(tea), None);
+    /// ```
     pub fn due(&self, handle: K) -> Option<u64>
         ensures { result ≡ option_map (λ due. due.0) (job_of (K.data_of handle) self.now.waiting) }
     {
