@@ -1,6 +1,6 @@
 -- Each reply agrees with what the replies before it tell.
 use Rattle.std.specs.FinMap as map
-use Rattle.std.proofs.Common.{◌≡◌, List, [], ◌∷◌, map as list_map, arith}
+use Rattle.std.proofs.Common.{List, [], ◌∷◌, map as list_map, arith}
 use Rattle.slotmap_core.proofs.Common.{Key, key_cmp, State, RunGiven, DetachStep, Run}
 use Rattle.slotmap_core.specs.Told.{Knowledge, learnt, told, Reads, ReadsWhatWasPut}
 use Rattle.slotmap_core.specs.declared.commands.Command.TheVariants as command
