@@ -17,8 +17,7 @@ pub use Rattle.slotmap_core.specs.Law.{Laws, DetachLaws, NoKeyTwice, RemovedForG
 pub use Rattle.slotmap_core.specs.Law.{GoneForGood, ShowsLive, ShowsNotLive, RemovesKey, LeavesAttached, FindsNothing}
 pub use Rattle.slotmap_core.specs.Law.{IsRefusal, NeedsRoom, DetachNeedsRoom, Spares, keys_told}
 -- what replies tell of a key
-pub use Rattle.slotmap_core.specs.Told.{Knowledge, unknown, not_live, is_live, has, known_from, nothing_put, told, learnt, Agrees, AgreesLive, Reads, ReadsWhatWasPut}
-pub use Rattle.slotmap_core.specs.Told.{Tally, no_tally, tallied, tally, IndexStaysSmall}
+pub use Rattle.slotmap_core.specs.Told.{Knowledge, unknown, not_live, is_live, has, known_from, told, Agrees, AgreesLive, Reads, ReadsWhatWasPut, IndexStaysSmall}
 pub use Rattle.slotmap_core.specs.SecondaryStep.{SideStep, SideGiven, given_secondary, LooksAt}
 pub use Rattle.slotmap_core.specs.SecondaryLaw.{HadMemory, Shows, seen_by, EachAgrees}
 pub use Rattle.slotmap_core.specs.Joined.{JoinedStep, JoinedDetachStep, Joined, given_joined, named, RunsBeside}
