@@ -5,6 +5,7 @@ pub use Rattle.slotmap_core.specs.declared.commands.Reply.TheVariants.{Key as Ke
 pub use Rattle.slotmap_core.specs.declared.joined.JoinedReply.TheVariants.{Old as JoinedOld, Looked as JoinedLooked}
 -- a plain command as one of a list in which keys can be detached: what makes it, for the laws that speak of both kinds of lists
 pub use Rattle.slotmap_core.specs.declared.commands.DetachCommand.TheVariants.{Plain as PlainCommand}
+pub use Rattle.slotmap_core.specs.declared.commands.Command.TheVariants.{Get as GetCommand, Remove as RemoveCommand}
 pub use Rattle.slotmap_core.specs.declared.joined.JoinedDetachCommand.TheVariants.{Plain as PlainJoined}
 -- runs: the machine, what a run is given, the laws of its replies
 pub use Rattle.slotmap_core.specs.Machine.{State, StandsIn, IsIssued, Fresh, empty_state, retired}
@@ -15,6 +16,8 @@ pub use Rattle.slotmap_core.specs.Fit.{Fits, Starts, RunFollows, RunsAnew, Conti
 pub use Rattle.slotmap_core.specs.Law.{Laws, DetachLaws, NoKeyTwice, RemovedForGood, ReserveHolds, DetachedNotReissued, DetachedReattaches, ReattachBinds, LastFreedFirst}
 pub use Rattle.slotmap_core.specs.Law.{GoneForGood, ShowsLive, ShowsNotLive, RemovesKey, LeavesAttached, FindsNothing}
 pub use Rattle.slotmap_core.specs.Law.{IsRefusal, NeedsRoom, DetachNeedsRoom, Spares, keys_told}
+-- what replies tell of a key
+pub use Rattle.slotmap_core.specs.Told.{Knowledge, unknown, not_live, is_live, has, known_from, told, Agrees, AgreesLive, Reads, ReadsWhatWasPut, IndexStaysSmall}
 pub use Rattle.slotmap_core.specs.SecondaryStep.{SideStep, SideGiven, given_secondary, LooksAt}
 pub use Rattle.slotmap_core.specs.SecondaryLaw.{HadMemory, Shows, seen_by, EachAgrees}
 pub use Rattle.slotmap_core.specs.Joined.{JoinedStep, JoinedDetachStep, Joined, given_joined, named, RunsBeside}

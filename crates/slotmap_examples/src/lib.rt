@@ -22,5 +22,6 @@ pub mod side_writes;
 pub mod sparse_table;
 pub mod stale;
 pub mod strangers;
+pub mod told;
 pub mod tour;
 pub mod walks;

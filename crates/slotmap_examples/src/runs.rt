@@ -1,8 +1,8 @@
 //! What follows from the replies to a list of commands, by their positions: two keys differ, a
 //! removed key finds nothing, however it was removed, a detached key is bound again.
 
-ghost use Rattle.std.specs.Prelude.{◌≡◌, ◌≢◌, IfSome, Some, None, slice_get, true, false};
-ghost use Rattle.slotmap.specs.Words.{KeyReply, TakenReply, LookedReply, DoneReply, FlagReply, IsLive};
+ghost use Rattle.std.specs.Prelude.{◌≡◌, ◌≢◌, IfSome, Some, None, Ok, slice_get, true, false};
+ghost use Rattle.slotmap.specs.Words.{KeyReply, PutReply, TakenReply, LookedReply, DoneReply, FlagReply, IsLive};
 
 use slotmap::{
     Command, DefaultKey, DetachCommand, Detaching, Primary, Reply, run, run_detaching_new, run_new,
@@ -24,7 +24,7 @@ fn make(_key: DefaultKey) -> Result<u64, ()> {
 }
 
 /// Returns the key in a reply.
-fn key_at(replies: &Replies, at: usize) -> Option<DefaultKey>
+pub(crate) fn key_at(replies: &Replies, at: usize) -> Option<DefaultKey>
     ensures { IfSome result (λ key. slice_get replies.now.items at ≡ Some (KeyReply key)) }
 {
     match replies.get(at) {
@@ -34,7 +34,7 @@ fn key_at(replies: &Replies, at: usize) -> Option<DefaultKey>
 }
 
 /// Returns the value that a removal or a detach took.
-fn taken_at(replies: &Replies, at: usize) -> Option<u64>
+pub(crate) fn taken_at(replies: &Replies, at: usize) -> Option<u64>
     ensures { IfSome result (λ value. slice_get replies.now.items at ≡ Some (TakenReply (Some value))) }
 {
     match replies.get(at) {
@@ -43,8 +43,28 @@ fn taken_at(replies: &Replies, at: usize) -> Option<u64>
     }
 }
 
+/// Returns what a removal or a detach took, if anything.
+pub(crate) fn any_taken_at(replies: &Replies, at: usize) -> Option<Option<u64>>
+    ensures { IfSome result (λ taken. slice_get replies.now.items at ≡ Some (TakenReply taken)) }
+{
+    match replies.get(at) {
+        Some(Reply::Taken(taken)) => Some(*taken),
+        _ => None,
+    }
+}
+
+/// Returns the value that a replacement found.
+pub(crate) fn put_at(replies: &Replies, at: usize) -> Option<u64>
+    ensures { IfSome result (λ old. slice_get replies.now.items at ≡ Some (PutReply (Ok old))) }
+{
+    match replies.get(at) {
+        Some(Reply::Put(Ok(old))) => Some(*old),
+        _ => None,
+    }
+}
+
 /// Returns what a look-up found.
-fn looked_at(replies: &Replies, at: usize) -> Option<Option<u64>>
+pub(crate) fn looked_at(replies: &Replies, at: usize) -> Option<Option<u64>>
     ensures { IfSome result (λ seen. slice_get replies.now.items at ≡ Some (LookedReply seen)) }
 {
     match replies.get(at) {

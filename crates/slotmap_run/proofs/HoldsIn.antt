@@ -2,7 +2,7 @@
 use Rattle.std.specs.FinMap as map
 use Rattle.std.proofs.Common.{◌≡◌, Option, Some, None, is_some, true, arith}
 use Rattle.slotmap_core.proofs.Common.{Key, key_cmp, State, empty_state}
-use Rattle.slotmap_core.specs.Told.{Knowledge, unknown, not_live, is_live, has, known_from, nothing_put}
+use Rattle.slotmap_core.specs.Told.{Knowledge, unknown, not_live, is_live, has, known_from}
 
 module _ {V : Type 0} where
   -- what is known of a key holds of its value in a map
@@ -19,5 +19,5 @@ module _ {V : Type 0} where
   pub holds_from : (s : State V) → HoldsIn (known_from s.live) s
   holds_from s k = grind arith
 
-  pub holds_at_first : HoldsIn nothing_put empty_state
+  pub holds_at_first : HoldsIn (λ k. not_live) empty_state
   holds_at_first k = map.get-empty {X = V} key_cmp k

@@ -3,7 +3,7 @@ use Rattle.std.specs.FinSet as set
 use Rattle.std.proofs.Common.{◌≡◌, ◌+◌, ◌<◌, ◌^◌, ◌++◌, Result, IfOk, Bool, List, length, ◌∙◌, arith}
 use Rattle.slotmap_core.proofs.Common.{Content, IsContent, IsNew, State, empty_state, retired, Run, Unretiring, Follows, Starts, RunFollows, RunsAnew}
 use Rattle.slotmap_core.proofs.Common.{Key, Continues, IfOk-weaker}
-use Rattle.slotmap_core.specs.Told.{Knowledge, known_from, nothing_put}
+use Rattle.slotmap_core.specs.Told.{Knowledge, not_live, known_from}
 use Rattle.slotmap_run.proofs.HoldsIn.{HoldsIn, holds_from, holds_at_first}
 use Rattle.slotmap_run.proofs.StateOf.{first_state, first_fits, first_good}
 use Rattle.slotmap_run.proofs.Fits.{new_fits, new_lasts}
@@ -67,7 +67,7 @@ module _ {V C R : Type 0} {Step Any : State V → C → R → State V → Type 0
               (known_from first.live) (holds_from (first_state reuses first start.valid));
           anew = λ earlier told before. goes_on_anew Any old new cs rs free earlier told before;
           laws_anew = λ earlier told before. machine.any_laws (earlier ++ cs) (told ++ rs)
-              (well_anew Any (earlier ++ cs) (told ++ rs) new (goes_on_anew Any old new cs rs free earlier told before)) nothing_put holds_at_first;
+              (well_anew Any (earlier ++ cs) (told ++ rs) new (goes_on_anew Any old new cs rs free earlier told before)) (λ k. not_live) holds_at_first;
         };
         laws = machine.laws cs rs (well_from Step cs rs reuses old new ok follows) (known_from old.live) (holds_from (first_state reuses old ok));
       }
@@ -77,7 +77,7 @@ module _ {V C R : Type 0} {Step Any : State V → C → R → State V → Type 0
     pub run : RunsAnew Step cs rs new
     pub none_retired : length cs < 2 ^ 32 → RunsAnew (Unretiring Step) cs rs new
     pub goes_on : RunsAnew Any cs rs new
-    pub laws : Laws nothing_put cs rs
+    pub laws : Laws (λ k. not_live) cs rs
 
   ran_anew : (old new : Content V) → IsNew old → Run (Follows Step) old cs rs new → RanAnew new
   unfolding well_anew
@@ -92,7 +92,7 @@ module _ {V C R : Type 0} {Step Any : State V → C → R → State V → Type 0
             let lasts = follows.lasts 0 (rw same (new_lasts old start (length cs) few)) in
             (run.0, machine.unretired cs rs empty_state run.0 run.1 (run.2.retired ∙ lasts.unretired), run.2);
         goes_on = free;
-        laws = machine.laws cs rs (well_anew Step cs rs new run) nothing_put holds_at_first;
+        laws = machine.laws cs rs (well_anew Step cs rs new run) (λ k. not_live) holds_at_first;
       }
 
 module _ {V C R A B : Type 0} {Step Any : State V → C → R → State V → Type 0} {Laws AnyLaws : (Key → Knowledge V) → List C → List R → Type 0} (machine : IsLawful Step Any Laws AnyLaws)
@@ -119,7 +119,7 @@ module _ {V C R A B : Type 0} {Step Any : State V → C → R → State V → Ty
     pub run : IfOk result (λ a. RunsAnew Step cs (told a) (new a))
     pub none_retired : IfOk result (λ a. length cs < 2 ^ 32 → RunsAnew (Unretiring Step) cs (told a) (new a))
     pub goes_on : IfOk result (λ a. RunsAnew Any cs (told a) (new a))
-    pub laws : IfOk result (λ a. Laws nothing_put cs (told a))
+    pub laws : IfOk result (λ a. Laws (λ k. not_live) cs (told a))
 
   pub anew_if_ok : (new : A → Content V) → IfOk result (λ a. (old : Content V) × IsNew old × Run (Follows Step) old cs (told a) (new a)) → RanAnewIfOk new
   anew_if_ok new served =

@@ -1,12 +1,13 @@
 -- The laws of the two machines, and calls on maps as a run on the contents of the maps.
-use Rattle.std.proofs.Common.{◌≡◌, Result, IfOk, List, Bool, true, is_some}
+use Rattle.std.proofs.Common.{◌≡◌, Result, IfOk, List, Bool, true, is_some, subst}
+use Rattle.std.proofs.lemmas.List.{map-id}
 use Rattle.slotmap_core.proofs.Common.{Key, Content, IsContent, IsNew, State, RunGiven, any_closures, Step, DetachStep, Run, Follows, Laws, DetachLaws, LastFreedFirst}
 use Rattle.slotmap_core.proofs.Common.{NeedsRoom, DetachNeedsRoom, no_places, IfOk-weaker}
 use Rattle.slotmap_core.specs.declared.commands.Command.{Command}
 use Rattle.slotmap_core.specs.declared.commands.DetachCommand.{DetachCommand}
 use Rattle.slotmap_core.specs.declared.commands.DetachCommand.TheVariants as detaching
 use Rattle.slotmap_core.specs.declared.commands.Reply.{Reply}
-use Rattle.slotmap_core.specs.Told.{Knowledge}
+use Rattle.slotmap_core.specs.Told.{Knowledge, ReadsWhatWasPut}
 use Rattle.slotmap_run.specs.Order.{Served, StartsNew}
 use Rattle.slotmap_run.proofs.HoldsIn.{HoldsIn}
 use Rattle.slotmap_run.proofs.NewRuns.{RunsWell, IsLawful, RanIfOk, ran_if_ok, RanAnewIfOk, anew_if_ok}
@@ -34,7 +35,7 @@ module _ {K V R E : Type 0} (given : RunGiven K V R E) where
   detach_laws : (commands : List (DetachCommand K V)) (replies : List (Reply K V R E)) (well : RunsWell (DetachStep given) commands replies)
       (start : Key → Knowledge V) → HoldsIn start well.first → DetachLaws given.data_of given.looks given.reuses start commands replies
   detach_laws cs rs well start holds = let m = detach_machine given in record {
-    reads = reads_what_was_put given (λ command. command) cs rs well.first well.last well.run start holds;
+    reads = subst (λ l. ReadsWhatWasPut given.data_of given.looks start l rs) (map-id cs) (reads_what_was_put given (λ command. command) cs rs well.first well.last well.run start holds);
     no_key_twice = (told_new m cs rs well.first well.last well.run).1;
     removed_for_good = removed_for_good given (λ command. command) cs rs well;
     gone_for_good = gone_for_good given (λ command. command) cs rs well;

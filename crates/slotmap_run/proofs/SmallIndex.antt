@@ -1,18 +1,35 @@
 -- No key's index is above the most keys that were live or detached at one moment, by the replies, if no key is ever retired.
 use Rattle.std.specs.FinMap as map
 use Rattle.std.specs.FinSet as set
-use Rattle.std.proofs.Common.{◌≡◌, ◌+◌, ◌-◌, ◌≤◌, None, true, List, [], ◌∷◌, map as list_map, refl, ap, ◌∙◌, arith}
+use Rattle.std.proofs.Common.{ℕ, max, Some, ◌≡◌, ◌+◌, ◌-◌, ◌≤◌, None, true, List, [], ◌∷◌, map as list_map, refl, ap, ◌∙◌, arith}
 use Rattle.slotmap_core.proofs.Common.{Key, key_cmp, State, RunGiven, DetachStep, Run, Unretiring, empty_state, retired, keys_total}
-use Rattle.slotmap_core.specs.Told.{Tally, no_tally, tallied, tally, IndexStaysSmall}
+use Rattle.slotmap_core.specs.Told.{IndexStaysSmall}
+use Rattle.slotmap_core.specs.declared.commands.Command.TheVariants as command
 use Rattle.slotmap_core.specs.declared.commands.DetachCommand.{DetachCommand}
+use Rattle.slotmap_core.specs.declared.commands.DetachCommand.TheVariants as detaching
 use Rattle.slotmap_core.specs.declared.commands.Reply.{Reply}
 use Rattle.slotmap_core.specs.declared.commands.Reply.TheVariants as reply
 use Rattle.slotmap_run.proofs.SetCounts.{all_keys, contains-all_keys, len-all_keys, len-subset}
 use Rattle.slotmap_run.proofs.Laws.{none_retired_at_first}
 use Rattle.slotmap_run.proofs.RemovedKeys.{StepOf}
-use Rattle.slotmap_run.proofs.Runs.{run_split}
 
--- the state has no more keys than the tally, and no key is retired
+-- the numbers of `IndexStaysSmall`
+pub record Tally : Type 0 where
+  pub live : ℕ
+  pub detached : ℕ
+  pub most : ℕ
+
+-- the numbers after this command with this reply
+abbrev pub tallied : {K V R E : Type 0} → DetachCommand K V → Reply K V R E → Tally → Tally
+tallied (detaching.Plain c) (reply.Key k) n = record { live = n.live + 1; detached = n.detached; most = max n.most (n.live + n.detached + 1) }
+tallied (detaching.Plain (command.Remove k)) (reply.Taken (Some v)) n = record n { live = n.live - 1 }
+tallied (detaching.Detach k) (reply.Taken (Some v)) n = record n { live = n.live - 1; detached = n.detached + 1 }
+tallied (detaching.Reattach k v) reply.Done n = record n { live = n.live + 1; detached = n.detached - 1 }
+tallied (detaching.Plain command.Clear) reply.Done n = record n { live = 0 }
+tallied (detaching.Plain command.Drain) (reply.Drained pairs) n = record n { live = 0 }
+tallied _ _ n = n
+
+-- the state has no more keys than these, and no key is retired
 pub record IsTallied {V : Type 0} (s : State V) (n : Tally) : Type 0 where
   pub live : map.len s.live ≤ n.live
   pub detached : set.len s.detached ≤ n.detached
@@ -64,24 +81,31 @@ module _ {K V R E : Type 0} (given : RunGiven K V R E) (old : State V) (c : Deta
   small : (n : Tally) → IsTallied old n → (k : K) → r ≡ reply.Key k → (given.data_of k).index ≤ (tallied c r n).most
   small n t k is = grind (arith, t.live, t.detached, t.peak, t.unretired)
 
+module _ {K V R E : Type 0} (data_of : K → Key) (c : DetachCommand K V) (r : Reply K V R E) (cs : List (DetachCommand K V)) (rs : List (Reply K V R E)) (n : Tally) where
+  abbrev Small : Tally → List (DetachCommand K V) → List (Reply K V R E) → Type 0
+  Small n cs rs = IndexStaysSmall data_of n.live n.detached n.most cs rs
+
+  small_step : ((k : K) → r ≡ reply.Key k → (data_of k).index ≤ (tallied c r n).most) → Small (tallied c r n) cs rs → Small n (c ∷ cs) (r ∷ rs)
+  small_step here rest = grind arith
+
 module _ {K V R E C : Type 0} (given : RunGiven K V R E) (of : C → DetachCommand K V) where
   abbrev pub FreeStep : State V → C → Reply K V R E → State V → Type 0
   FreeStep = Unretiring (StepOf given of)
 
-  run_tallied : (cs : List C) (rs : List (Reply K V R E)) (s t : State V) → Run FreeStep s cs rs t → (n : Tally) → IsTallied s n → IsTallied t (tally (list_map of cs) rs n)
-  run_tallied [] [] s t run n h = rw run h
-  run_tallied (c ∷ cs) (r ∷ rs) s t run n h =
+  all_small : (cs : List C) (rs : List (Reply K V R E)) (s t : State V) → Run FreeStep s cs rs t → (n : Tally) → IsTallied s n
+      → IndexStaysSmall given.data_of n.live n.detached n.most (list_map of cs) rs
+  all_small [] [] s t run n h = tt
+  all_small (c ∷ cs) (r ∷ rs) s t run n h =
       let none = ap set.len run.1.1 ∙ set.len-empty key_cmp in
-      run_tallied cs rs run.0 t run.2 (tallied (of c) r n) (still_tallied given s (of c) r run.0 run.1.0 n h none)
-  run_tallied _ _ s t run n h = absurd run
+      small_step given.data_of (of c) r (list_map of cs) rs n (small given s (of c) r run.0 run.1.0 n h)
+      (all_small cs rs run.0 t run.2 (tallied (of c) r n) (still_tallied given s (of c) r run.0 run.1.0 n h none))
+  all_small _ _ s t run n h = absurd run
 
-  pub index_stays_small : (commands : List C) (replies : List (Reply K V R E)) (t : State V) → Run FreeStep empty_state commands replies t → IndexStaysSmall given.data_of of commands replies
-  index_stays_small commands replies t run before after told_before told_after c k e is js =
-      let cut = run_split FreeStep before told_before c (reply.Key k) after told_after empty_state t e (rw (is, js) at run) in
-      let first : IsTallied empty_state no_tally = record {
-        live = omega (arith, map.len-empty key_cmp V);
-        detached = omega (arith, set.len-empty key_cmp);
-        peak = omega arith;
-        unretired = ap set.len (none_retired_at_first V) ∙ set.len-empty key_cmp;
-      } in
-      small given cut.0 (of c) (reply.Key k) cut.1 cut.3.0 (tally (list_map of before) told_before no_tally) (run_tallied before told_before empty_state cut.0 cut.2 no_tally first) k refl
+  pub index_stays_small : (commands : List C) (replies : List (Reply K V R E)) (t : State V) → Run FreeStep empty_state commands replies t
+      → IndexStaysSmall given.data_of 0 0 0 (list_map of commands) replies
+  index_stays_small commands replies t run = all_small commands replies empty_state t run (record { live = 0; detached = 0; most = 0 }) (record {
+    live = omega (arith, map.len-empty key_cmp V);
+    detached = omega (arith, set.len-empty key_cmp);
+    peak = omega arith;
+    unretired = ap set.len (none_retired_at_first V) ∙ set.len-empty key_cmp;
+  })

@@ -1,9 +1,9 @@
 //! Runs of commands on primary maps, which hand out keys.
 
-ghost use Rattle.std.specs.Prelude.{◌≡◌, ◌^◌, ◌<◌, length, Ok, IfOk, IfErr, OnErr, IsErr};
+ghost use Rattle.std.specs.Prelude.{◌≡◌, ◌^◌, ◌<◌, length, map, Ok, IfOk, IfErr, OnErr, IsErr};
 ghost use Rattle.slotmap_core.specs.Words.{FnReturns, IsContent, Inserts, MayGrow, RefusesWith, given, any_closures, Step, DetachStep, Unretiring, Starts};
 ghost use Rattle.slotmap_core.specs.Words.{RunFollows, RunsAnew, Continues, Laws, DetachLaws, LastFreedFirst};
-ghost use Rattle.slotmap_core.specs.Words.{FnReturnsAt, IndexStaysSmall, known_from, nothing_put};
+ghost use Rattle.slotmap_core.specs.Words.{FnReturnsAt, IndexStaysSmall, known_from, not_live};
 ghost use Rattle.slotmap_core.specs.declared.commands.DetachCommand.TheVariants as detaching;
 ghost use Rattle.slotmap_run.specs.Order.{Served};
 
@@ -239,10 +239,10 @@ where
         commands.items made.1.items (M.content made.0)) }
 
     // The laws that the replies therefore keep.
-    ensures laws { IfOk result (λ made. Laws K.data_of (FnReturnsAt L.Fn look) nothing_put
-        commands.items made.1.items) }
+    ensures laws { IfOk result (λ made. Laws K.data_of (FnReturnsAt L.Fn look)
+        (λ k. not_live) commands.items made.1.items) }
     ensures index_stays_small { IfOk result (λ made. length commands.items < 2 ^ 32 →
-        IndexStaysSmall K.data_of detaching.Plain commands.items made.1.items) }
+        IndexStaysSmall K.data_of 0 0 0 (map detaching.Plain commands.items) made.1.items) }
 
     // If there is no memory for the replies or the map, nothing is run.
     ensures err { IfErr result (λ back. back ≡ commands) }
@@ -415,9 +415,9 @@ where
 
     // The laws that the replies therefore keep.
     ensures laws { IfOk result (λ made. DetachLaws K.data_of (FnReturnsAt L.Fn look) M.REUSES
-        nothing_put commands.items made.1.items) }
+        (λ k. not_live) commands.items made.1.items) }
     ensures index_stays_small { IfOk result (λ made. length commands.items < 2 ^ 32 →
-        IndexStaysSmall K.data_of (λ command. command) commands.items made.1.items) }
+        IndexStaysSmall K.data_of 0 0 0 commands.items made.1.items) }
     ensures last_freed_first { IfOk result (λ made.
         LastFreedFirst K.data_of commands.items made.1.items) }
 

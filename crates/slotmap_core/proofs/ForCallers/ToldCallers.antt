@@ -1,11 +1,10 @@
 -- What was put under a key is found, by positions, if no command in between writes the key or takes it out.
 -- For callers.
-use Rattle.std.proofs.Common.{◌≡◌, ◌≢◌, ℕ, zero, suc, ◌+◌, ◌-◌, ◌<◌, List, [], ◌∷◌, length, take, drop, slice_get, Option, Some, None, Ok, Err, true, false}
-use Rattle.std.proofs.Common.{refl, sym, ap, ◌∙◌, arith}
+use Rattle.std.proofs.Common.{◌≡◌, ◌≢◌, ℕ, zero, suc, ◌+◌, ◌-◌, ◌<◌, List, [], ◌∷◌, take, drop, slice_get, Some, Ok, true}
+use Rattle.std.proofs.Common.{refl, ap, ◌∙◌, arith}
 use Rattle.std.specs.List.{AllByRecursion}
-use Rattle.slotmap_core.specs.Key.{Key, key_cmp}
-use Rattle.slotmap_core.specs.Told.{Knowledge, has, learnt, Reads, ReadsWhatWasPut}
-use Rattle.slotmap_core.specs.declared.commands.Command.{Command}
+use Rattle.slotmap_core.specs.Key.{Key}
+use Rattle.slotmap_core.specs.Told.{Knowledge, has, told, Reads, ReadsWhatWasPut}
 use Rattle.slotmap_core.specs.declared.commands.Command.TheVariants as command
 use Rattle.slotmap_core.specs.declared.commands.DetachCommand.{DetachCommand}
 use Rattle.slotmap_core.specs.declared.commands.DetachCommand.TheVariants as detaching
@@ -26,16 +25,16 @@ module _ {K V : Type 0} (data_of : K → Key) (k : Key) where
   LeavesAlone (detaching.Reattach other w) = data_of other ≢ k
   LeavesAlone _ = Unit {0}
 
-module _ {K V C : Type 0} (data_of : K → Key) (of : C → DetachCommand K V) (k : Key) where
+module _ {K V : Type 0} (data_of : K → Key) (k : Key) where
   -- between the two positions no command writes k or takes it out
-  abbrev pub StaysPut : List C → ℕ → ℕ → Type 0
-  StaysPut commands i j = (n : ℕ) (b : C) → i < n → n < j → slice_get commands n ≡ Some b → LeavesAlone data_of k (of b)
+  abbrev pub StaysPut : List (DetachCommand K V) → ℕ → ℕ → Type 0
+  StaysPut commands i j = (n : ℕ) (b : DetachCommand K V) → i < n → n < j → slice_get commands n ≡ Some b → LeavesAlone data_of k b
 
   -- the same of commands that are written out
-  pub stays_put : (commands : List C) (i j : ℕ) → AllByRecursion (λ b. LeavesAlone data_of k (of b)) (take (j - (i + 1)) (drop (i + 1) commands)) → StaysPut commands i j
+  pub stays_put : (commands : List (DetachCommand K V)) (i j : ℕ) → AllByRecursion (LeavesAlone data_of k) (take (j - (i + 1)) (drop (i + 1) commands)) → StaysPut commands i j
   stays_put commands i j all n b more less is_b =
       let at : i + 1 + (n - (i + 1)) ≡ n = omega arith in
-      at_in_part (λ x. LeavesAlone data_of k (of x)) (i + 1) (j - (i + 1)) (n - (i + 1)) commands b all (omega arith) (ap (slice_get commands) at ∙ is_b)
+      at_in_part (LeavesAlone data_of k) (i + 1) (j - (i + 1)) (n - (i + 1)) commands b all (omega arith) (ap (slice_get commands) at ∙ is_b)
 
 module _ {K V R E : Type 0} (data_of : K → Key) (k : Key) where
   -- the command binds k to v: an Insert that returns k, a Replace of it that finds it, a Reattach of it that succeeds
@@ -55,49 +54,42 @@ module _ {K V R E : Type 0} (data_of : K → Key) (k : Key) where
   Finds looks v _ _ = Unit {0}
 
   module _ (v : V) (c : DetachCommand K V) (r : Reply K V R E) where
-    put_learnt : (known : Knowledge V) → Puts v c r → learnt data_of k c r known ≡ has v
-    put_learnt known puts = grind (arith, itself keys_total exact_keys k)
+    put_told : (known : Knowledge V) → Puts v c r → told data_of k c r known ≡ has v
+    put_told known puts = grind (arith, itself keys_total exact_keys k)
 
-    still_known : (looks : V → R → Type 0) (known : Key → Knowledge V) → known k ≡ has v → LeavesAlone data_of k c → Reads data_of looks known c r → learnt data_of k c r (known k) ≡ has v
+    still_known : (looks : V → R → Type 0) (known : Key → Knowledge V) → known k ≡ has v → LeavesAlone data_of k c → Reads data_of looks known c r → told data_of k c r (known k) ≡ has v
     still_known looks known is alone reads = grind (arith, is, tied keys_total exact_keys)
 
     known_found : (looks : V → R → Type 0) (known : Key → Knowledge V) → known k ≡ has v → Reads data_of looks known c r → Finds looks v c r
     known_found looks known is reads = grind (arith, is)
 
-module _ {K V R E C : Type 0} (data_of : K → Key) (of : C → DetachCommand K V) (looks : V → R → Type 0) (k : Key) (v : V) where
-  -- the law of the rest of a list
-  rest_reads : (start : Key → Knowledge V) (b : C) (q : Reply K V R E) (bs : List C) (qs : List (Reply K V R E)) → ReadsWhatWasPut data_of of looks start (b ∷ bs) (q ∷ qs)
-      → ReadsWhatWasPut data_of of looks (λ other. learnt data_of other (of b) q (start other)) bs qs
-  rest_reads start b q bs qs law before after told_before told_after c r e is js =
-      law (b ∷ before) after (q ∷ told_before) told_after c r (omega arith) (ap (λ l. b ∷ l) is) (ap (λ l. q ∷ l) js)
-
-  module _ (d : C) (answer : Reply K V R E) where
-    known_read : (j : ℕ) (start : Key → Knowledge V) (cs : List C) (rs : List (Reply K V R E)) → ReadsWhatWasPut data_of of looks start cs rs → start k ≡ has v
-        → ((n : ℕ) (b : C) → n < j → slice_get cs n ≡ Some b → LeavesAlone data_of k (of b))
-        → slice_get cs j ≡ Some d → slice_get rs j ≡ Some answer → Finds data_of k looks v (of d) answer
+module _ {K V R E : Type 0} (data_of : K → Key) (looks : V → R → Type 0) (k : Key) (v : V) where
+  module _ (d : DetachCommand K V) (answer : Reply K V R E) where
+    known_read : (j : ℕ) (start : Key → Knowledge V) (cs : List (DetachCommand K V)) (rs : List (Reply K V R E)) → ReadsWhatWasPut data_of looks start cs rs → start k ≡ has v
+        → ((n : ℕ) (b : DetachCommand K V) → n < j → slice_get cs n ≡ Some b → LeavesAlone data_of k b)
+        → slice_get cs j ≡ Some d → slice_get rs j ≡ Some answer → Finds data_of k looks v d answer
     known_read j start [] rs law is alone h g = absurd (cc)
     known_read j start (b ∷ bs) [] law is alone h g = absurd (cc)
     known_read zero start (b ∷ bs) (q ∷ qs) law is alone h g =
         let here : b ≡ d = cc in
         let said : q ≡ answer = cc in
-        known_found data_of k v (of d) answer looks start is (law [] bs [] qs d answer refl (ap (λ x. x ∷ bs) here) (ap (λ x. x ∷ qs) said))
+        known_found data_of k v d answer looks start is (rw (here, said) at law.0)
     known_read (suc j) start (b ∷ bs) (q ∷ qs) law is alone h g =
-        let here = law [] bs [] qs b q refl refl refl in
-        known_read j (λ other. learnt data_of other (of b) q (start other)) bs qs (rest_reads start b q bs qs law)
-        (still_known data_of k v (of b) q looks start is (alone 0 b (omega arith) refl) here) (λ n x less. alone (suc n) x (omega arith)) h g
+        known_read j (λ other. told data_of other b q (start other)) bs qs law.1
+        (still_known data_of k v b q looks start is (alone 0 b (omega arith) refl) law.0) (λ n x less. alone (suc n) x (omega arith)) h g
 
   -- once the command at one position bound k to v, the command at a later one finds v
-  pub put_found : (start : Key → Knowledge V) (commands : List C) (replies : List (Reply K V R E)) (i j : ℕ) (c d : C) (r answer : Reply K V R E)
-      → ReadsWhatWasPut data_of of looks start commands replies → i < j → StaysPut data_of of k commands i j
-      → slice_get commands i ≡ Some c → slice_get replies i ≡ Some r → Puts data_of k v (of c) r
-      → slice_get commands j ≡ Some d → slice_get replies j ≡ Some answer → Finds data_of k looks v (of d) answer
+  pub put_found : (start : Key → Knowledge V) (commands : List (DetachCommand K V)) (replies : List (Reply K V R E)) (i j : ℕ) (c d : DetachCommand K V) (r answer : Reply K V R E)
+      → ReadsWhatWasPut data_of looks start commands replies → i < j → StaysPut data_of k commands i j
+      → slice_get commands i ≡ Some c → slice_get replies i ≡ Some r → Puts data_of k v c r
+      → slice_get commands j ≡ Some d → slice_get replies j ≡ Some answer → Finds data_of k looks v d answer
   put_found start [] replies i j c d r answer law less stays is_c is_r puts is_d is_answer = absurd (cc)
   put_found start (b ∷ bs) [] i j c d r answer law less stays is_c is_r puts is_d is_answer = absurd (cc)
   put_found start (b ∷ bs) (q ∷ qs) i zero c d r answer law less stays is_c is_r puts is_d is_answer = absurd (omega arith)
   put_found start (b ∷ bs) (q ∷ qs) zero (suc j) c d r answer law less stays is_c is_r puts is_d is_answer =
       let here : b ≡ c = cc in
       let said : q ≡ r = cc in
-      known_read d answer j (λ other. learnt data_of other (of b) q (start other)) bs qs (rest_reads start b q bs qs law) (rw (here, said) (put_learnt data_of k v (of c) r (start k) puts))
+      known_read d answer j (λ other. told data_of other b q (start other)) bs qs law.1 (rw (here, said) (put_told data_of k v c r (start k) puts))
       (λ n x inside. stays (suc n) x (omega arith) (omega arith)) is_d is_answer
   put_found start (b ∷ bs) (q ∷ qs) (suc i) (suc j) c d r answer law less stays is_c is_r puts is_d is_answer =
-      put_found (λ other. learnt data_of other (of b) q (start other)) bs qs i j c d r answer (rest_reads start b q bs qs law) (omega arith) (λ n x more inside. stays (suc n) x (omega arith) (omega arith)) is_c is_r puts is_d is_answer
+      put_found (λ other. told data_of other b q (start other)) bs qs i j c d r answer law.1 (omega arith) (λ n x more inside. stays (suc n) x (omega arith) (omega arith)) is_c is_r puts is_d is_answer

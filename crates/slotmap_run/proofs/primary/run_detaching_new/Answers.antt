@@ -1,4 +1,6 @@
-use Rattle.slotmap_core.proofs.Common.{given, DetachStep, IfOk-weaker}
+use Rattle.std.proofs.lemmas.List.{map-id}
+use Rattle.slotmap_core.proofs.Common.{given, DetachStep, IfOk-weaker, subst}
+use Rattle.slotmap_core.specs.Told.{IndexStaysSmall}
 use Rattle.slotmap_run.proofs.RunLaws.{detach_lawful, all_anew, in_order}
 use Rattle.slotmap_run.proofs.SmallIndex.{index_stays_small}
 use Rattle.slotmap_run.proofs.primary.run_detaching_new.Goals as goal
@@ -14,7 +16,7 @@ returns g c =
       laws = ran.laws;
       index_stays_small =
           IfOk-weaker c.run_all_new.result _ _ (λ made unretired few. let anew = unretired few in
-          index_stays_small what (λ c. c) _ _ anew.0 anew.1) ran.none_retired;
+          subst (λ l. IndexStaysSmall g.K.Key.data_of 0 0 0 l made.1.items) (map-id _) (index_stays_small what (λ c. c) _ _ anew.0 anew.1)) ran.none_retired;
       last_freed_first =
           IfOk-weaker c.run_all_new.result _ _ (λ made ran.
           in_order what g.M.Primary.content _ _ _ _ ran.2 _ ran.1.valid ran.1.new (ran.1.stack g.met.M.Detaching.last_freed_first)) c.run_all_new.ensures.run;

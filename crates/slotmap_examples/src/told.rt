@@ -1,0 +1,98 @@
+//! What was put is what is got: the replies of a run, by what earlier commands and replies tell.
+
+ghost use Rattle.std.specs.Prelude.{◌≡◌, ◌<◌, IfSome, Some, None, slice_get};
+ghost use Rattle.slotmap.specs.Words.{PlainCommand, GetCommand, RemoveCommand};
+
+use crate::runs::{any_taken_at, key_at, looked_at, put_at, taken_at};
+use slotmap::{Command, DefaultKey, DetachCommand, Detaching, Reply, run_detaching_new};
+use std::alloc::Global;
+
+type Commands = Vec<DetachCommand<DefaultKey, u64>>;
+
+type Replies = Vec<Reply<DefaultKey, u64, u64, ()>>;
+
+fn look(value: &u64) -> u64
+    ensures { result ≡ value.now }
+{
+    *value
+}
+
+fn keep(_key: DefaultKey, _value: &mut u64) -> bool {
+    true
+}
+
+fn make(_key: DefaultKey) -> Result<u64, ()> {
+    Err(())
+}
+
+/// A key that was put and not taken out is found with its value.
+pub fn look_for_put<M: Detaching<DefaultKey, u64> + Drop>(
+    alloc: Global,
+    key: DefaultKey,
+) -> Option<Option<u64>>
+    ensures found { IfSome result (λ seen. seen ≡ Some 5) }
+{
+    let listed = vec![in alloc;
+        DetachCommand::Plain(Command::Insert(5)),
+        DetachCommand::Plain(Command::Insert(6)),
+        DetachCommand::Plain(Command::InsertWith),
+        DetachCommand::Plain(Command::Get(key)),
+    ];
+    let Ok(commands) = listed else {
+        return None;
+    };
+    let made: Result<(M, Replies), _> = run_detaching_new(alloc, commands, look, keep, make);
+    let Ok((_map, replies)) = made else {
+        return None;
+    };
+    let put = key_at(&replies, 0)?;
+    if put != key {
+        return None;
+    }
+    looked_at(&replies, 3)
+}
+
+/// A value that was replaced is the new one.
+pub fn take_replaced<M: Detaching<DefaultKey, u64> + Drop>(
+    alloc: Global,
+    key: DefaultKey,
+) -> Option<Option<u64>>
+    ensures new { IfSome result (λ taken. taken ≡ Some 8) }
+{
+    let listed = vec![in alloc;
+        DetachCommand::Plain(Command::Insert(5)),
+        DetachCommand::Plain(Command::Replace(key, 8)),
+        DetachCommand::Plain(Command::Insert(6)),
+        DetachCommand::Detach(key),
+    ];
+    let Ok(commands) = listed else {
+        return None;
+    };
+    let made: Result<(M, Replies), _> = run_detaching_new(alloc, commands, look, keep, make);
+    let Ok((_map, replies)) = made else {
+        return None;
+    };
+    let _old = put_at(&replies, 1)?;
+    any_taken_at(&replies, 3)
+}
+
+/// A key that was taken out stays out, whatever the other commands do.
+pub fn look_for_taken<M: Detaching<DefaultKey, u64> + Drop>(
+    alloc: Global,
+    commands: Commands,
+    key: DefaultKey,
+    takes: usize,
+    asks: usize,
+) -> Option<Option<u64>>
+    requires later { takes < asks }
+    requires takes { slice_get commands.items takes ≡ Some (PlainCommand (RemoveCommand key)) }
+    requires asks { slice_get commands.items asks ≡ Some (PlainCommand (GetCommand key)) }
+    ensures gone { IfSome result (λ seen. seen ≡ None) }
+{
+    let made: Result<(M, Replies), _> = run_detaching_new(alloc, commands, look, keep, make);
+    let Ok((_map, replies)) = made else {
+        return None;
+    };
+    let _value = taken_at(&replies, takes)?;
+    looked_at(&replies, asks)
+}
