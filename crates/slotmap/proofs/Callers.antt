@@ -25,8 +25,10 @@ pub use Rattle.slotmap.proofs.MapSpent.{spent_insert-dense, insert_not_spent-den
 pub use Rattle.slotmap.proofs.MapSpent.{spent_insert-hop, insert_not_spent-hop, spent_remove-hop, live_remove_spent-hop, remove_spent-hop}
 -- a content without its values
 pub use Rattle.slotmap.proofs.KeysAlone.{contains-keys_of, len-keys_of, spent_alone, alone_spent, keeps_spent_alone}
--- how many slots there are and how many are vacant, after an insert and once all keys were removed
+-- how many slots there are, how many are vacant, and for how many keys there is room: after an insert, after a removal, and
+-- once all keys were removed
 pub use Rattle.slotmap.proofs.Vacant.{vacant_again, vacant_less, places_inserted, first_of_slot}
+pub use Rattle.slotmap.proofs.Vacant.{vacant_at_most, room_again, freed_one, AllFirst, new_first, inserted_first}
 -- a structure over a map that lends a value
 pub use Rattle.slotmap.proofs.Loans.{same_lent, same_unlent}
 pub use Rattle.slotmap_core.proofs.ForCallers.Walks.{Walks, walk_start, walk_here, walk_next, walk_step, walk_end, none_found}

@@ -44,9 +44,10 @@ module _ {V : Type 0} (slots : Content ℕ) (keys : List Key) (values : List V) 
   pub IsSound-closed : IsContent true new → IsSound new (swap_remove keys i k) (swap_remove values i v)
   IsSound-closed well = grind (arith, inside, length-swap_remove)
 
-  pub removes-dense : (spare : ℕ) → Removes slots k left → new ≡ record left { live = new.live }
+  -- where there is memory for the pairs that there are
+  pub removes-dense : (spare : ℕ) → length keys ≤ spare → Removes slots k left → new ≡ record left { live = new.live }
       → Removes (dense_of slots keys values spare).content k (dense_of new (swap_remove keys i k) (swap_remove values i v) spare).content
-  removes-dense spare rem rest = grind (arith, live-left, length-swap_remove keys i k inside)
+  removes-dense spare fits rem rest = grind (arith, live-left, length-swap_remove keys i k inside)
 
   pub detaches-dense : (spare : ℕ) → Detaches slots k left → new ≡ record left { live = new.live }
       → Detaches (dense_of slots keys values spare).content k (dense_of new (swap_remove keys i k) (swap_remove values i v) spare).content

@@ -96,7 +96,7 @@ module _ {V : Type 0} where
       × (old.keys ≡ new.keys ++ data_of pair.0 ∷ []) × (old.values ≡ new.values ++ pair.1 ∷ [])
 
   -- every live key is removed
-  pub record Empties (old new : Dense V) : Type 0 where
+  pub record EmptiesDense (old new : Dense V) : Type 0 where
     pub live : new.content.live ≡ map.empty
     pub none : IsEmpty new
     pub leaves : Leaves old.content new.content

@@ -2,7 +2,7 @@
 
 ghost use Rattle.std.specs.Prelude.{◌≡◌, ◌≤◌, Some, IfSome};
 ghost use Rattle.slotmap_core.specs.Words.{size, UpTo, drain_count, KeepsLoan, Along, KeepsAlong, ListsAlong};
-ghost use Rattle.slotmap_dense.specs.Dense.{IsDense, Empties};
+ghost use Rattle.slotmap_dense.specs.Dense.{IsDense, EmptiesDense};
 ghost use Rattle.slotmap_dense.specs.Drain.{dense_drain_loan, dense_drain_live, DenseDrainSteps, DrainsFromBack};
 
 use crate::DenseSlotMap;
@@ -20,7 +20,7 @@ pub struct Drain<'a, K: Key, V> {
 
 impl<'a, K: Key, V: Drop> Drop for Drain<'a, K, V> {
     fn drop(self)
-        ensures ends { Empties (dense_drain_loan self.entry).now self.exit.0.now }
+        ensures ends { EmptiesDense (dense_drain_loan self.entry).now self.exit.0.now }
         ensures valid { IsDense self.exit.0.now }
     {
         let Drain { map } = self;
@@ -88,7 +88,7 @@ impl<K: Key, V: Drop> DenseSlotMap<K, V> {
         ensures map { (dense_drain_loan result).now ≡ self.old }
         ensures same_reference { (dense_drain_loan result).ghost_name ≡ self.entry.ghost_name }
         // Laws of the steps, for callers that take more of them.
-        ensures stays { KeepsAlong (DenseDrainSteps K.data_of) (KeepsLoan dense_drain_loan Empties) result }
+        ensures stays { KeepsAlong (DenseDrainSteps K.data_of) (KeepsLoan dense_drain_loan EmptiesDense) result }
         ensures lists { ListsAlong K.data_of dense_drain_live (DenseDrainSteps K.data_of) result }
         ensures in_order { Along (DenseDrainSteps K.data_of) (DrainsFromBack K.data_of) result }
         ensures valid { IsDense self.old }

@@ -2,6 +2,7 @@
 use Rattle.std.proofs.Common.{◌≡◌, ◌+◌, ◌-◌, ◌≤◌, ◌∙◌}
 use Rattle.std.specs.FinMap as map
 use Rattle.slotmap.specs.KeysAlone.{keys_of}
+use Rattle.slotmap.proofs.Callers.{vacant_at_most}
 use Rattle.slotmap_keylist.specs.Mapped.{map_values}
 use Rattle.slotmap_scheduler.proofs.Common.{ℕ, true, refl, ap, arith, vec_len, vec_capacity, min, Vec, Key, key_cmp, Content, IsContent, IsLive, IsSpent, KeepsSpent, IsNew, Inserts, Removes}
 use Rattle.slotmap_scheduler.proofs.Common.{Leaves, MakesRoom, contains-keys_of, len-keys_of, shown_content, shown_leaves, alone-keeps, mapped-empty}
@@ -33,11 +34,23 @@ module _ {T Z : Type 0} where
       pub handles_inserted : vec_len heap' ≡ vec_len heap + 1 → vec_capacity heap ≤ vec_capacity heap' → Inserts (handles_of old heap) k tt (handles_of new heap')
       handles_inserted len capacity = let alone = alone-inserts old new k v inserts in search arith
 
-    pub handles_removed : (k : Key) → Removes old k new → vec_len heap' ≤ vec_len heap → vec_capacity heap' ≡ vec_capacity heap → Removes (handles_of old heap) k (handles_of new heap')
-    handles_removed k removes len capacity = let alone = alone-removes old new k removes in search arith
+    pub handles_removed : (k : Key) → Removes old k new → vec_len heap' + 1 ≡ vec_len heap → vec_capacity heap' ≡ vec_capacity heap → Removes (handles_of old heap) k (handles_of new heap')
+    handles_removed k removes len capacity =
+        let alone = alone-removes old new k removes in
+        record {
+          live = alone.live;
+          detached = alone.detached;
+          retired = alone.retired;
+          next = alone.next;
+          stack = alone.stack;
+          room = grind (arith, alone.room, len, capacity, heap.ok.1);
+        }
 
-    pub handles_left : Leaves old new → vec_len heap' ≤ vec_len heap → vec_capacity heap' ≡ vec_capacity heap → Leaves (handles_of old heap) (handles_of new heap')
+    -- as many entries leave the heap as jobs leave the map, or more
+    pub handles_left : Leaves old new → vec_len heap' + map.len old.live ≤ vec_len heap + map.len new.live → vec_capacity heap' ≡ vec_capacity heap
+        → Leaves (handles_of old heap) (handles_of new heap')
     handles_left leaves len capacity =
+        let vacant = vacant_at_most old new leaves in
         let alone = shown_leaves old new (keys_of old.live) (keys_of new.live) (contains-keys_of old.live) (len-keys_of old.live) (contains-keys_of new.live) (len-keys_of new.live) leaves in
         record {
           no_more = alone.no_more;
@@ -45,7 +58,7 @@ module _ {T Z : Type 0} where
           retired = alone.retired;
           next = alone.next;
           same_places = alone.same_places;
-          room = (let more = alone.room in omega arith);
+          room = (let more = alone.room in omega (arith, heap.ok.1));
         }
 
     pub same_capacity : new.capacity ≡ old.capacity → vec_capacity heap' ≡ vec_capacity heap → (handles_of new heap').capacity ≡ (handles_of old heap).capacity

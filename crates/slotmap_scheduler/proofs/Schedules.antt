@@ -6,7 +6,7 @@ use Rattle.slotmap_scheduler.proofs.Common.{exact_keys, inserted_fresh, inserted
 use Rattle.slotmap_scheduler.proofs.Common.{mapped-insert, mapped-with, map_values, Job, Entry, Schedule, job_of, in_turn, without, with_job, Turn, waiting_of, InOrder, unplaced}
 use Rattle.slotmap_scheduler.proofs.Common.{timed, spot_of, heap_entry, IsIndexed, handles_of, IsSchedule, IsLive, MakesRoom, cond, get-insert_here, get-insert_other}
 use Rattle.slotmap_scheduler.proofs.Common.{leaves_by_removal, shown_content, mapped-room}
-use Rattle.slotmap.proofs.Callers.{some_entry}
+use Rattle.slotmap.proofs.Callers.{some_entry, vacant_at_most}
 use Rattle.std.specs.FinMap as map
 use Rattle.std.specs.FinSet as set
 use Rattle.slotmap_scheduler.proofs.Order.{added, removed, written, none_in_order, none_wait, job_is, job_stays, len_is}
@@ -220,33 +220,12 @@ reserved_room jobs count heap is jobs' heap' n made ok makes items len more same
     handles_room (timed jobs) (timed jobs') heap heap' n made ok (mapped-room unplaced jobs jobs' n made makes) (schedule_content jobs count heap is)
     (schedule_content jobs' count heap' (reserved_schedule jobs count heap is jobs' heap' n made makes items len more)) is.indexed.len len more same has had
 
-some_item : (s : set.FinSet key_cmp) (n : ℕ) (ks : List Key) → set.items s ≡ ks → set.len s ≡ suc n → (k : Key) × (set.contains s k ≡ true)
-some_item s n [] at len =
-    let none : s ≡ set.empty = set.same_set keys_total exact_keys s set.empty (λ q. set.contains-items s q ∙ ap (list_any (eq_by_cmp key_cmp q)) at ∙ sym (set.contains-empty key_cmp q)) in
-    absurd (omega (arith, ap set.len none, set.len-empty key_cmp))
-some_item s n (k ∷ ks) at len = (k, set.contains-items s k ∙ ap (list_any (eq_by_cmp key_cmp k)) at ∙ grind (arith, itself keys_total exact_keys k))
-
-item_removed : (s : set.FinSet key_cmp) (k : Key) → set.contains s k ≡ true → set.len (set.remove s k) + 1 ≡ set.len s
-item_removed s k there = grind (arith, set.len-remove keys_total s k, set.empty_of_len s, set.contains-empty key_cmp k)
-
--- a subset has no more items
-len-subset : (n : ℕ) (s t : set.FinSet key_cmp) → set.len s ≡ n → ((q : Key) → set.contains s q ≡ true → set.contains t q ≡ true) → set.len s ≤ set.len t
-len-subset zero s t len within = omega arith
-len-subset (suc n) s t len within =
-    let some = some_item s n (set.items s) refl len in
-    let a = item_removed s some.0 some.1 in
-    let b = item_removed t some.0 (within some.0 some.1) in
-    let rest = len-subset n (set.remove s some.0) (set.remove t some.0) (omega arith) (λ q there. grind (arith, set.contains-remove keys_total s some.0 q, set.contains-remove keys_total t some.0 q, within q)) in
-    omega arith
-
 -- all jobs were taken out
 pub schedule_cleared : {T Z : Type 0} (jobs jobs' : Content (Job T)) (count : ℕ) (heap heap' : Vec Entry Z) → IsSchedule jobs count heap → IsContent true jobs' → jobs'.live ≡ map.empty → Leaves jobs jobs'
     → vec_len heap' ≡ 0 → vec_capacity heap' ≡ vec_capacity heap → IsSchedule jobs' count heap'
 schedule_cleared {T} jobs jobs' count heap heap' is valid empty leaves none capacity =
     let live = ap map.len empty ∙ map.len-empty key_cmp (Job T) in
     let was = len-mapped unplaced jobs.live in
-    let retired = len-subset (set.len jobs.retired) jobs.retired jobs'.retired refl (λ q there. grind (arith, leaves.retired q)) in
-    let detached = ap set.len leaves.detached in
-    let places = leaves.same_places in
+    let vacant = vacant_at_most jobs jobs' leaves in
     let room = is.room in
     schedule_none jobs' empty count heap' valid none (omega arith)

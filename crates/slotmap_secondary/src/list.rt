@@ -4,7 +4,7 @@ ghost use Rattle.std.specs.FinMap as map;
 ghost use Rattle.std.specs.Prelude.{◌≡◌, length, IfOk, IsOk, IfErr};
 ghost use Rattle.slotmap_core.specs.Words.{ClonesEqual, IsCloneOf, Key, get, keyed, start_live, Accepts, side_list_limit, RefusesStart};
 ghost use Rattle.slotmap_secondary.specs.Content.{IsSideContent};
-ghost use Rattle.slotmap_secondary.specs.Written.{Writes, WritesClones};
+ghost use Rattle.slotmap_secondary.specs.Written.{WritesSide, WritesSideClones};
 
 use crate::SecondaryMap;
 use crate::slot::Slot;
@@ -37,12 +37,12 @@ impl<K: Key, V: Drop> SecondaryMap<K, V> {
     where
         V: Clone,
         // The list is that of a copy, and has a clone under each key.
-        ensures writes { IfOk result (λ slots. WritesClones V.is_clone self.now slots.items) }
+        ensures writes { IfOk result (λ slots. WritesSideClones V.is_clone self.now slots.items) }
         ensures contents { IfOk result (λ slots.
             (k : Key) → IsCloneOf V.is_clone (get self.now.pairs k) (map.get (start_live slots.items) k)) }
 
         // Where clones equal their values, it is the map's own list.
-        ensures writes_if_clones_equal { IfOk result (λ slots. ClonesEqual V.is_clone → Writes self.now slots.items) }
+        ensures writes_if_clones_equal { IfOk result (λ slots. ClonesEqual V.is_clone → WritesSide self.now slots.items) }
         ensures contents_if_clones_equal { IfOk result (λ slots.
             ClonesEqual V.is_clone → start_live slots.items ≡ keyed self.now.pairs) }
 

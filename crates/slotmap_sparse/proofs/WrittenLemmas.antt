@@ -5,7 +5,7 @@ use Rattle.slotmap_core.proofs.Common.{nat_cmp_total, unsigned_tied, ClonesEqual
 use Rattle.slotmap_core.proofs.Common.{length, slice_get, Option, Some, refl, sym, ap, subst, ◌∙◌, nat_cmp, arith, length_push, slice_get_push}
 use Rattle.slotmap_core.proofs.Common.{slice_get_push_other, get-keyed, none_of, some_is, IsPairClone, HasClones-by_index, contents_written}
 use Rattle.slotmap_core.specs.declared.serial.SlotRecord.{SlotRecord}
-use Rattle.slotmap_sparse.specs.Written.{ReachesLargest, Writes, WritesClones, IsCloneSlot}
+use Rattle.slotmap_sparse.specs.Written.{ReachesLargest, WritesSparse, WritesSparseClones, IsCloneSlot}
 use Rattle.slotmap_sparse.proofs.CloneLemmas.{IsSecondary-cloned, pairs_equal}
 
 module _ {V : Type 0} (is_clone : V → V → Type 0) (m : Pairs V) where
@@ -68,10 +68,10 @@ module _ {V : Type 0} (is_clone : V → V → Type 0) (m : Pairs V) where
     copy_within : (i : ℕ) → map.contains_key done.copy i ≡ true → i < length slots
     copy_within i there = grind (arith, done.above i, some_is)
 
-    writes_copy : Writes done.copy slots
+    writes_copy : WritesSparse done.copy slots
     writes_copy = grind (arith, copy_within, copied_there)
 
-    pub writes_clones : IsSecondary m → WritesClones is_clone m slots
+    pub writes_clones : IsSecondary m → WritesSparseClones is_clone m slots
     writes_clones valid = record {
       copy = done.copy;
       clones = HasClones-by_index is_clone m done.copy each_index;
@@ -87,8 +87,8 @@ module _ {V : Type 0} (is_clone : V → V → Type 0) (m : Pairs V) where
         subst (IsCloneOf is_clone (get m k)) (sym (ap (λ c. map.get c k) (contents_copy valid) ∙ get-keyed done.copy k)) (HasClones-by_index is_clone m done.copy each_index k)
 
     -- if clones equal their values, the list is that of the map itself
-    pub writes_equal : ClonesEqual is_clone → Writes m slots
-    writes_equal equal = subst (λ p. Writes p slots) (pairs_equal is_clone m done.copy each_index equal) writes_copy
+    pub writes_equal : ClonesEqual is_clone → WritesSparse m slots
+    writes_equal equal = subst (λ p. WritesSparse p slots) (pairs_equal is_clone m done.copy each_index equal) writes_copy
 
     pub contents_equal : ClonesEqual is_clone → IsSecondary m → start_live slots ≡ keyed m
     contents_equal equal valid = contents_copy valid ∙ ap keyed (pairs_equal is_clone m done.copy each_index equal)

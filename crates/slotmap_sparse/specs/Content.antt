@@ -38,7 +38,7 @@ module _ {V : Type 0} where
     pub fits : map.len c.pairs ≤ c.capacity
 
   -- a call that asks for memory for n more keys succeeded or failed
-  pub record MakesRoom (n : ℕ) (old : SparseContent V) (result : Result (Unit {0}) ReserveError) (new : SparseContent V) : Type 0 where
+  pub record MakesSparseRoom (n : ℕ) (old : SparseContent V) (result : Result (Unit {0}) ReserveError) (new : SparseContent V) : Type 0 where
     pub ok : OnOk result (map.len old.pairs + n ≤ new.capacity × (map.len old.pairs + n ≤ most_keys))
     pub err : IfErr result (RefusesRoom (map.len old.pairs + n))
     -- in either case the map holds what it held

@@ -12,17 +12,17 @@ module _ {V : Type 0} where
     pub last : (places ≡ 1) ⊎ (map.contains_key pairs (places - 1) ≡ true)
 
   -- a record for each index up to the largest, and for index 0
-  pub record Writes (pairs : Pairs V) (slots : List (SlotRecord V)) : Type 0 where
+  pub record WritesSparse (pairs : Pairs V) (slots : List (SlotRecord V)) : Type 0 where
     pub all : ReachesLargest pairs (length slots)
     pub each : (i : ℕ) → i < length slots → slice_get slots i ≡ Some (record_of_pair (map.get pairs i))
 
   -- the list that a copy of the map is written as
-  pub record WritesClones (is_clone : V → V → Type 0) (pairs : Pairs V) (slots : List (SlotRecord V)) : Type 0 where
+  pub record WritesSparseClones (is_clone : V → V → Type 0) (pairs : Pairs V) (slots : List (SlotRecord V)) : Type 0 where
     pub copy : Pairs V
     -- the copy has the same keys, each with a clone of its value
     pub clones : HasClones is_clone pairs copy
     pub valid : IsSecondary copy
-    pub writes : Writes copy slots
+    pub writes : WritesSparse copy slots
 
   -- the record of an index that holds this, with a clone of the value
   abbrev pub IsCloneSlot : (V → V → Type 0) → Option (ℕ × V) → SlotRecord V → Type 0

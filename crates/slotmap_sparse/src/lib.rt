@@ -21,7 +21,7 @@
 
 ghost use Rattle.std.specs.FinMap as map;
 ghost use Rattle.std.specs.Prelude.{◌≡◌, ◌≤◌, ◌↔◌, IsTrue, IfOk, OnOk, IfErr, IsOk};
-ghost use Rattle.slotmap_sparse.specs.Content.{IsSparseContent, MakesRoom, RefusesRoom, most_keys};
+ghost use Rattle.slotmap_sparse.specs.Content.{IsSparseContent, MakesSparseRoom, RefusesRoom, most_keys};
 
 mod access;
 mod clear;
@@ -276,7 +276,7 @@ impl<K: Key, V: Drop, S: BuildHasher + Drop> SparseSecondaryMap<K, V, S> {
     /// assert!(rt; map.insert(b, 2).is_ok()); // can't run out of memory
     /// ```
     pub fn reserve(&mut self, additional: usize) -> Result<(), ReserveError>
-        ensures makes_room { MakesRoom additional self.old result self.new }
+        ensures makes_room { MakesSparseRoom additional self.old result self.new }
         ensures valid { IsSparseContent self.new }
     {
         if self.len().saturating_add(additional) > MOST_PAIRS {
@@ -298,7 +298,7 @@ impl<K: Key, V: Drop, S: BuildHasher + Drop> SparseSecondaryMap<K, V, S> {
     /// assert!(rt; matches!(failed, Err(ReserveError::TooGreat)));
     /// ```
     pub fn try_reserve(&mut self, additional: usize) -> Result<(), ReserveError>
-        ensures makes_room { MakesRoom additional self.old result self.new }
+        ensures makes_room { MakesSparseRoom additional self.old result self.new }
         ensures valid { IsSparseContent self.new }
     {
         self.reserve(additional)

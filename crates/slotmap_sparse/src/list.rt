@@ -4,7 +4,7 @@ ghost use Rattle.std.specs.FinMap as map;
 ghost use Rattle.std.specs.Prelude.{◌≡◌, ◌<◌, ◌≤◌, ◌^◌, ◌%◌, None, IfOk, OnOk, IsOk, IfErr, IsSome};
 ghost use Rattle.slotmap_core.specs.Words.{ClonesEqual, IsCloneOf, Key, null_key, get, keyed, start_live, Accepts, side_list_limit, RefusesStart};
 ghost use Rattle.slotmap_sparse.specs.Content.{IsSparseContent};
-ghost use Rattle.slotmap_sparse.specs.Written.{ReachesLargest, Writes, WritesClones, IsCloneSlot, with_slot};
+ghost use Rattle.slotmap_sparse.specs.Written.{ReachesLargest, WritesSparse, WritesSparseClones, IsCloneSlot, with_slot};
 
 use crate::SparseSecondaryMap;
 use slotmap_core::errors::{OutOfMemory, SlotsError};
@@ -36,13 +36,13 @@ impl<K: Key, V: Drop, S: BuildHasher + Drop> SparseSecondaryMap<K, V, S> {
     pub fn to_slots(&self) -> Result<Vec<SlotRecord<V>>, OutOfMemory>
     where
         V: Clone,
-        ensures writes { IfOk result (λ slots. WritesClones V.is_clone self.now.pairs slots.items) }
+        ensures writes { IfOk result (λ slots. WritesSparseClones V.is_clone self.now.pairs slots.items) }
         ensures contents { IfOk result (λ slots.
             (k : Key) → IsCloneOf V.is_clone (get self.now.pairs k) (map.get (start_live slots.items) k)) }
 
         // If a clone of a value always equals it, the list is that of the map itself.
         ensures writes_if_clones_equal { IfOk result (λ slots.
-            ClonesEqual V.is_clone → Writes self.now.pairs slots.items) }
+            ClonesEqual V.is_clone → WritesSparse self.now.pairs slots.items) }
         ensures contents_if_clones_equal { IfOk result (λ slots.
             ClonesEqual V.is_clone → start_live slots.items ≡ keyed self.now.pairs) }
 
