@@ -20,7 +20,7 @@
 
 ghost use Rattle.std.specs.FinMap as map;
 ghost use Rattle.std.specs.Prelude.{◌≡◌, ◌+◌, ◌≤◌, ◌↔◌, [], Some, IsTrue, IfOk, IfErr, IsOk, true};
-ghost use Rattle.slotmap_core.specs.Words.{IsContent, used, IsNew, RefusesCapacity, MakesRoom};
+ghost use Rattle.slotmap_core.specs.Words.{IsContent, used, places, IsNew, RefusesCapacity, MakesRoom};
 
 mod access;
 mod clear;
@@ -221,8 +221,10 @@ impl<K: Key, V: Drop> SlotMap<K, V> {
     /// ```
     pub fn capacity(&self) -> usize
         ensures value { result ≡ self.now.capacity }
+        ensures places { places self.now ≤ result }
         ensures valid { IsContent true self.now }
     {
+        let _ = self.slots.layout();
         self.slots.capacity()
     }
 

@@ -1,16 +1,18 @@
 //! The next live key after another: an iteration that keeps a key and no reference.
 
 ghost use Rattle.std.specs.FinMap as map;
-ghost use Rattle.std.specs.Prelude.{◌≡◌, ◌<◌, ◌≤◌, IfNone, IfSome, Some, true};
+ghost use Rattle.std.specs.Prelude.{◌≡◌, ◌^◌, ◌<◌, ◌≤◌, IfNone, IfSome, Some, true};
 ghost use Rattle.slotmap_core.specs.Words.{Key as KeyOf, IsContent, IsLive};
 ghost use Rattle.slotmap_basic.specs.After.{index_after};
 
 use crate::SlotMap;
+use crate::search::NEAR;
 use slotmap_core::keys::Key;
 
 // Returns the index at which a search after a key begins.
 fn index_after<K: Key>(key: Option<K>) -> usize
-    ensures { result ≡ index_after K.data_of key }
+    ensures value { result ≡ index_after K.data_of key }
+    ensures bound { result ≤ 2 ^ 32 }
 {
     match key {
         Some(key) => key.data().idx() as usize + 1,
@@ -42,7 +44,11 @@ impl<K: Key, V: Drop> SlotMap<K, V> {
         ensures none { IfNone result ((other : KeyOf) → IsLive self.now other → other.index < index_after K.data_of key) }
         ensures valid { IsContent true self.now }
     {
-        let mut cursor = self.cursor_from(index_after(key));
+        let start = index_after(key);
+        if let Some(found) = self.near(start) {
+            return Some((found, self.get_unchecked(found)));
+        }
+        let mut cursor = self.cursor_from(start + NEAR);
         let found = self.next_live(&mut cursor)?;
         Some((found, self.get_unchecked(found)))
     }

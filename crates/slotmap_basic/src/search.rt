@@ -1,7 +1,7 @@
 //! The search for the next live key, and the loop that removes all of them.
 
 ghost use Rattle.std.specs.FinMap as map;
-ghost use Rattle.std.specs.Prelude.{◌≡◌, ◌+◌, ◌<◌, ◌≤◌, IfNone, IfSome, true};
+ghost use Rattle.std.specs.Prelude.{◌≡◌, ◌≢◌, ◌+◌, ◌^◌, ◌<◌, ◌≤◌, IfNone, IfSome, true};
 ghost use Rattle.slotmap_core.specs.Words.{Key as KeyOf, IsContent, IsLive, NoneBelow, Leaves, FreesByIndex, StaysValid};
 ghost use Rattle.slotmap_basic.specs.Ahead.{KnowsLiveKeys};
 
@@ -11,6 +11,9 @@ use slotmap_core::keys::{Key, KeyData};
 use slotmap_core::limits::NULL_INDEX;
 use slotmap_core::sure::rule_out;
 use slotmap_slots::layout::Layout;
+
+// How many slots a step looks at one by one, before it looks at 64 at a time.
+pub(crate) const NEAR: usize = 8;
 
 impl<K: Key, V: Drop> SlotMap<K, V> {
     // Returns where a loop over the live keys from an index on begins.
@@ -45,6 +48,46 @@ impl<K: Key, V: Drop> SlotMap<K, V> {
         rule_out(index > NULL_INDEX);
         let version = columns.version(index);
         Some(K::from(KeyData::exact(index as u32, version)))
+    }
+
+    // Returns the live key at an index, if there is one.
+    #[inline(always)]
+    pub(crate) fn live_at(&self, index: usize) -> Option<K>
+        ensures live { IfSome result (λ key. IsLive self.now (K.data_of key) × ((K.data_of key).index ≡ index)) }
+        ensures none { IfNone result ((k : KeyOf) → IsLive self.now k → k.index ≢ index) }
+        ensures valid { IsContent true self.now }
+    {
+        let columns = self.slots.layout();
+        if index >= columns.len() {
+            return None;
+        }
+        let version = columns.version(index);
+        if version % 2 == 0 {
+            return None;
+        }
+        Some(K::from(KeyData::exact(index as u32, version)))
+    }
+
+    // Returns the first live key of the next eight slots from an index on.
+    #[inline(always)]
+    pub(crate) fn near(&self, start: usize) -> Option<K>
+        requires { start ≤ 2 ^ 32 }
+        ensures live { IfSome result (λ key. IsLive self.now (K.data_of key) × (start ≤ (K.data_of key).index)) }
+        ensures first { IfSome result (λ key. (other : KeyOf) → IsLive self.now other →
+            start ≤ other.index → (K.data_of key).index ≤ other.index) }
+        ensures none { IfNone result ((other : KeyOf) → IsLive self.now other → start ≤ other.index → start + 8 ≤ other.index) }
+        ensures valid { IsContent true self.now }
+    {
+        self.slots.note_valid();
+        let end = start + NEAR;
+        let mut at = start;
+        while at < end {
+            if let Some(found) = self.live_at(at) {
+                return Some(found);
+            }
+            at += 1;
+        }
+        None
     }
 
     // Removes the live keys from this index on, by ascending index, and drops their values.
