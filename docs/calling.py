@@ -26,7 +26,7 @@ PAGES = {
     "docs/STRUCTURES.md": "structure_examples",
 }
 BLOCK = re.compile(r"(<!-- from (?P<file>\S+?)(?:: (?P<items>[^;]*?))?(?P<bare>; no head)? -->\n)\n?```\w+\n.*?\n```\n", re.S)
-ITEM = re.compile(r"(?:pub )?(?:fn|struct|enum|trait|type) (\w+)|impl\b[^{]*? for (\w+)|impl(?:<[^>]*>)? (\w+)")
+ITEM = re.compile(r"(?:pub(?:\(\w+\))? )?(?:fn|struct|enum|trait|type) (\w+)|impl\b[^{]*? for (\w+)|impl(?:<[^>]*>)? (\w+)")
 
 
 def read(path):
