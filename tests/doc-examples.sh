@@ -10,5 +10,5 @@
 #
 # An example is the body of a function that is given `rt` and returns Result<(), Fail>. It comes after the common head
 # of its crate, which doc_examples.py has. The examples are the tests of one crate, which is written to a copy of this
-# repository and run there by `rt try --test`. Nothing is proved. It takes one to two minutes.
+# repository and run there by `rt try --test`. Nothing is proved. It takes three minutes of one processor.
 exec python3 "$(dirname "$0")/doc_examples.py" "$@"
