@@ -116,8 +116,8 @@ impl<K: Key, V: Drop> Iterator for IntoIter<K, V> {
         }
         let mut counted = CountedSlots::new(self.slots.as_slice(), self.last);
         let slot = next_live(&mut counted);
+        let version = counted.again(slot).version();
         let index = counted.index();
-        let version = slot.version();
         self.left -= 1;
         self.last = index;
         let key = K::from(KeyData::exact(index as u32, version));

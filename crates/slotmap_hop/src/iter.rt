@@ -140,6 +140,7 @@ impl<'a, K: Key, V> Iter<'a, K, V> {
             return None;
         }
         let slot = next_live(&mut self.counted);
+        let slot = self.counted.again(slot);
         let index = self.counted.index();
         self.counted.pass();
         self.left -= 1;

@@ -16,11 +16,11 @@ found g c = rw c.index-index.ensures (rw (c.new-counted.ensures.slots, c.new-cou
 
 -- the slot there
 slot_is : (g : _) (c : After-index-index g) (found : FindsSlot c.self.inside.slots.items (c.self.inside.last + 1) c.index-index.result)
-    → c.next_live-slot.result.now ≡ Occupied found.state found.version found.value
+    → c.again.result.now ≡ Occupied found.state found.version found.value
 slot_is g c found =
     let there = rw (c.new-counted.ensures.slots, c.as_slice.ensures.value) at c.next_live-slot.ensures.slot in
     let is = rw c.index-index.ensures at found.is in
-    same_Some _ _ (sym there ∙ is)
+    c.again.ensures ∙ same_Some _ _ (sym there ∙ is)
 
 pub exact-requires : goal.exact-requires
 exact-requires g c =

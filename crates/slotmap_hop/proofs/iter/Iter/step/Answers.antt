@@ -13,10 +13,10 @@ pub overflow_cast-index : goal.overflow_cast-index
 overflow_cast-index g c = omega (arith, c.index-index.ensures, (live_key _ _ _ c.self.invariant.stands.sound _ _ _ c.next_live-slot.ensures.found.finds.there).index_fits)
 
 -- the slot that was found
-slot_is : (g : _) (c : After-index-index g) → c.next_live-slot.result.now ≡ Occupied c.next_live-slot.ensures.found.state c.next_live-slot.ensures.found.version c.next_live-slot.ensures.found.value
+slot_is : (g : _) (c : After-index-index g) → c.again-slot.result.now ≡ Occupied c.next_live-slot.ensures.found.state c.next_live-slot.ensures.found.version c.next_live-slot.ensures.found.value
 slot_is g c =
     let found = c.next_live-slot.ensures in
-    same_Some _ _ (sym found.slot ∙ found.found.is)
+    c.again-slot.ensures ∙ same_Some _ _ (sym found.slot ∙ found.found.is)
 
 pub exact-requires : goal.exact-requires
 exact-requires g c =
