@@ -132,7 +132,7 @@ module _ {K V : Type 0} (data_of : K → Key) (m : Inside K V) {now : Dense V} (
         (rw keys (IsSound-closed m.slots _ _ sound left slots' k v i at closes well)) in
         let is : dense_of slots' (swap_remove (list_map data_of m.keys.items) i k) (swap_remove m.values.items i v) spare ≡ new =
         λ j. dense_of slots' (sym keys j) (sym values j) (min (sym keys_same j) (sym values_same j)) in
-        let fits = omega (arith, length-map m.keys.items data_of, m.keys.ok.0, m.keys.ok.1, m.values.ok.0, m.values.ok.1, sound.same_length) in
+        let fits : length (list_map data_of m.keys.items) ≤ spare = omega (arith, length-map m.keys.items data_of, m.keys.ok.0, m.keys.ok.1, m.values.ok.0, m.values.ok.1, sound.same_length) in
         let removes : Removes m.slots k left → Removes now.content k new.content =
         λ rem. subst (λ d. Removes now.content k d.content) is (rw (← view) (removes-dense m.slots _ _ sound left slots' k v i at closes spare fits rem rest)) in
         record {
