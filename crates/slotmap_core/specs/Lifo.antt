@@ -11,6 +11,7 @@ use Rattle.slotmap_core.specs.declared.commands.Command.TheVariants as command
 use Rattle.slotmap_core.specs.declared.commands.DetachCommand.{DetachCommand}
 use Rattle.slotmap_core.specs.declared.commands.DetachCommand.TheVariants as detaching
 
+-- what this machine holds
 pub record Lifo : Type 0 where
   -- the keys that have a value
   pub live : set.FinSet key_cmp

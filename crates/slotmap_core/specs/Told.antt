@@ -63,8 +63,8 @@ module _ {K V R E : Type 0} (data_of : K → Key) where
   ReadsWhatWasPut looks known (c ∷ cs) (r ∷ rs) = Reads looks known c r × ReadsWhatWasPut looks (λ k. told k c r (known k)) cs rs
   ReadsWhatWasPut looks known _ _ = ⊤
 
-  -- No insert returns an index above the most keys that were live or detached at one moment: the numbers are of the live ones, the detached ones, and the most
-  -- at one moment. They are counted from the replies, and the keys of a Retain, whose reply doesn't tell how many it removed, count as live
+  -- no insert returns an index above the most keys live or detached at one moment so far: the three numbers, counted from the
+  -- replies, where a Retain's keys still count as live
   abbrev pub IndexStaysSmall : ℕ → ℕ → ℕ → List (DetachCommand K V) → List (Reply K V R E) → Type 0
   IndexStaysSmall live detached peak (detaching.Plain c ∷ cs) (reply.Key k ∷ rs) =
       ((data_of k).index ≤ max peak (live + detached + 1)) × IndexStaysSmall (live + 1) detached (max peak (live + detached + 1)) cs rs
