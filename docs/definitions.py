@@ -85,7 +85,7 @@ class File:
             line = self.lines[number]
             if not line.strip():
                 continue
-            goes_on = indent_of(line) > indent or (indent_of(line) == indent and line.split()[0] == name)
+            goes_on = indent_of(line) > indent or (indent_of(line) == indent and line.split()[0] in (name, "}"))
             if not goes_on:
                 break
             end = number + 1

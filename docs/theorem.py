@@ -1,8 +1,10 @@
 #!/usr/bin/env python3
-"""Writes docs/THEOREM.md: the clauses of `run_new`, and each definition that they rest on, in reading order. With --check it
-writes nothing, and fails if the page is out of date.
+"""Writes docs/THEOREM.md. Its first part has the laws of the replies with the definitions that they rest on, in FIRST lines at
+most; its second part the clauses of `run_new` and `run_detaching_new`, and each other definition that these rest on, in reading
+order. With --check it writes nothing, and fails if the page is out of date.
 
 The sentence of a definition is the comment above it. A definition without one, or of a file that no section is about, is a fault.
+So is a bracket that isn't closed in a definition, a name that two of the definitions have, and a parameter with the name of one.
 """
 
 import os
@@ -17,7 +19,19 @@ from definitions import TOP, files, reached_from
 from sources import items_of
 
 PAGE = os.path.join(TOP, "docs/THEOREM.md")
-CRATE, CALL = "slotmap_run", "run_new"
+CRATE, CALLS = "slotmap_run", ("run_new", "run_detaching_new")
+FIRST = 90
+# The definitions of the first part: each law after those that it rests on.
+LAWS = "Knowledge Agrees AgreesLive told Reads ReadsWhatWasPut reply_keys keys_told NoKeyTwice IndexStaysSmall".split()
+# Six commands on a new map, which all concern the key k, with their replies.
+EXAMPLE = [
+    ("Insert(5)", "Key(k)"),
+    ("Replace(k, 6)", "Put(Ok(5))"),
+    ("Get(k)", "Looked(Some(seen))"),
+    ("Retain", "Done"),
+    ("Remove(k)", "Taken(None)"),
+    ("Contains(k)", "Flag(false)"),
+]
 # The files of slotmap_core/specs in reading order, with what each is about.
 SECTIONS = {
     "Key": ("Keys", "A clause sees a key as the record of its index and its version."),
@@ -27,7 +41,10 @@ SECTIONS = {
     "Given": ("What a run is given", "How keys are read, and what the three closures may do."),
     "Step": ("The steps", "For each command: which replies are possible, and the state after each. No other reply is possible."),
     "Run": ("A run", "A list of steps, with the reply to each command at its position."),
+    "Told": ("What replies tell", "These laws are those of the first part."),
     "Fit": ("What ties the machine to a map", "The machine's last state fits what the map holds."),
+    "Transition": ("What a removal does to vacant slots", "The next version at a freed index, and the stack of such indices."),
+    "Lifo": ("Maps that reuse the slot freed last", "A machine over a stack of vacant indices. The commands alone decide its states."),
     "Law": ("The laws", "What follows for the replies alone. The clause `laws` is proved from the clause `run`."),
 }
 CLAUSES = {
@@ -38,24 +55,55 @@ CLAUSES = {
     "none_retired": "In a run of fewer than 2^32 commands no slot is retired.",
     "goes_on": "It is also a run whose closures may do anything. So a later run on the map can continue it.",
     "laws": "The laws hold of commands and replies.",
+    "index_stays_small": "So does this one, of fewer than 2^32 commands.",
+    "last_freed_first": "Inserts reuse the slot freed last, if the commands only insert, remove, detach and reattach.",
     "err": "If there is no memory for the replies or the map, nothing is run, and the commands are returned.",
 }
 
 
-def call():
-    return next(it for it in items_of(CRATE) if it.kind == "fn" and it.name == CALL)
+def call(name):
+    return next(it for it in items_of(CRATE) if it.kind == "fn" and it.name == name)
 
 
-def definitions():
-    """What the clauses of the call rest on, by file in reading order, and within a file as it stands there."""
-    reached = reached_from(words.roots_of_call(CRATE, CALL))
+def clauses_of(name):
+    """The clauses of a call, without comments, by their names."""
+    text = re.sub(r"\n *//.*", "", "\n".join(call(name).lines))
+    found = (it.strip("\n").split("\n") for it in re.split(r"\n(?= *(?:requires|ensures)\b)", text)[1:])
+    return {re.match(r"\s*\w+\*? (\w+) \{", it[0]).group(1): dedent(it) for it in found}
+
+
+def reached(*names):
+    """What the clauses of these calls rest on, by file in reading order, and within a file as it stands there."""
+    found = reached_from([it for name in names for it in words.roots_of_call(CRATE, name)])
     order = [f"crates/slotmap_core/specs/{it}.antt" for it in SECTIONS]
-    for it in reached:
+    for it in found:
         if it.path not in order:
             sys.exit(f"theorem.py: no section is about {it.path}")
         if not it.comment:
             sys.exit(f"theorem.py: {it.path}:{it.line}: {it.name} has no comment")
-    return sorted(reached, key=lambda it: (order.index(it.path), it.line))
+    return sorted(found, key=lambda it: (order.index(it.path), it.line))
+
+
+def bound_in(definition):
+    """The parameters of a definition, of the modules around it, and of the functions in it."""
+    text = "\n".join([*definition.around, *definition.code()])
+    groups = re.findall(r"[({]([^(){}:]*?) :(?= )", text) + re.findall(r"λ ([^.]*)\.", text)
+    return {name for group in groups for name in group.split()}
+
+
+def faults_of(found):
+    """What a reader could take for something else, or isn't whole."""
+    faults, seen = [], {}
+    for it in found:
+        text = "\n".join(it.code())
+        if any(text.count(a) != text.count(b) for a, b in ("()", "{}", "[]")):
+            faults.append(f"{it.path}:{it.line}: {it.name} has a bracket that isn't closed")
+        if it.name in seen:
+            faults.append(f"{it.path}:{it.line}: {it.name} is also defined in {seen[it.name].path}")
+        seen.setdefault(it.name, it)
+    for it in found:
+        faults += [f"{it.path}:{it.line}: {it.name} has a parameter {name}, which {seen[name].path} defines" for name in sorted(bound_in(it) & set(seen))]
+    return faults
 
 
 def sentence(definition):
@@ -83,39 +131,87 @@ def dedent(lines):
     return [it[least:].rstrip() for it in lines]
 
 
+def wrapped(text, head="", width=150):
+    return textwrap.wrap(head + text, width, break_long_words=False, break_on_hyphens=False, subsequent_indent=head and "> ")
+
+
+def known_after(told, command, reply, known):
+    """What is known of k by the lines of the definition `told`, where the command and the reply name k."""
+    for line in told.code()[1:-1]:
+        head, value = line.strip().split(" = ", 1)
+        pattern = re.match(r"told k \((?:detaching\.Plain \(?)?\w+\.(\w+)((?: \w+)*)\)+ \(?reply\.(\w+)", head)
+        if (pattern.group(1), pattern.group(3)) != (re.match(r"\w+", command).group(), re.match(r"\w+", reply).group()):
+            continue
+        chosen = re.match(r"if .* then (.*) else known$", value)
+        if value.startswith("elim known"):
+            return re.search(rf"[\[|] {known.split()[0]}(?: \w+)? ↦ (\w+)", value).group(1)
+        value = chosen.group(1) if chosen else value
+        return value.replace(" v", " " + command.rstrip(")").split("(")[-1].split(", ")[-1])
+    return known
+
+
+def laws(found):
+    """The first part."""
+    by_name = {it.name: it for it in found}
+    lines = ["# What was put is what is got", ""]
+    lines += wrapped(
+        "`run_new` runs a list of commands on a new map and returns the replies. What the map promises by them is, for a reader, in these laws of the clauses `laws` and "
+        "`index_stays_small`: each reply agrees with what the commands before it and their replies tell, where no key is live at first (`ReadsWhatWasPut`); no two inserts return "
+        "the same key (`NoKeyTwice`); and in a list of fewer than 2^32 commands, from `0 0 0`, no index is above the most keys at one moment (`IndexStaysSmall`). The laws "
+        f"rest on these {len(LAWS)} definitions, on keys, and on no map, slot or machine. `docs/theorem.py` writes this page, and with `--check` fails if it is out of date.", width=158)
+    lines += ["", "```text"]
+    around = []
+    for name in LAWS:
+        it = by_name[name]
+        lines += [head.rstrip() for head in it.around if head not in around]
+        around = it.around
+        indent = " " * (len(it.lines[0]) - len(it.lines[0].lstrip(" ")))
+        lines += [indent + "-- " + line for line in wrapped(" ".join(it.comment), width=190)] + [line.rstrip() for line in it.code()]
+    lines += ["```", "", "An example: what is known of the key `k` after each of six commands. At first it is `not_live`.", ""]
+    lines += ["| Command | Reply | Known of `k` |", "|---|---|---|"]
+    known = "not_live"
+    for command, reply in EXAMPLE:
+        known = known_after(by_name["told"], command, reply, known)
+        lines.append(f"| `{command}` | `{reply}` | `{known}` |")
+    return lines
+
+
 def page():
-    found, item = definitions(), call()
-    clauses = re.split(r"\n(?= *(?:requires|ensures)\b)", re.sub(r"\n *//.*", "", "\n".join(item.lines)))[1:]
+    found = reached(*CALLS)
+    faults = faults_of(found)
+    first = laws(found)
+    if len(first) > FIRST:
+        faults.append(f"the first part has {len(first)} lines, more than {FIRST}")
+    if faults:
+        sys.exit("\n".join(["theorem.py:", *faults]))
+    plain = reached("run_new")
     text = (
-        f"The library's main theorem is the contract of `{CALL}`, which runs a list of commands on a new map. This page prints its clauses, "
-        f"and each definition that they rest on: {len(found)}, of {sum(len(it.code()) for it in found)} lines without comments. "
-        "Whoever has read them knows what is proved. Behind them stand only the checker, the logic and std. Of std they use finite maps and sets, "
-        "and the words below. The commands and replies are [enums of the library](api/runs.md)."
+        "The clause `run` says more: replies and content are a run of one machine over keys and values. This part has all clauses of `run_new`, and those of "
+        "`run_detaching_new`, whose commands may also detach and reattach keys. And it prints each other definition that they rest on. "
+        f"`run_new` rests on {len(plain)}, of {sum(len(it.code()) for it in plain)} lines without comments; both together on {len(found)}, of "
+        f"{sum(len(it.code()) for it in found)}. A line that begins with `module _` names the parameters that the definitions below it take first. "
+        "Behind them stand only the checker, the logic and std. Of std they use finite maps and sets, and the words below. The commands and replies are "
+        "[enums of the library](api/runs.md)."
     )
-    of_std = ", ".join(f"`{it}`" for it in names_of_std(found))
-    lines = [
-        "# The run theorem, and all that it stands on",
-        "",
-        "Written by `docs/theorem.py` from the sources. Don't edit it by hand: `docs/theorem.py --check` fails if this page is out of date.",
-        "",
-        *textwrap.wrap(text, 150, break_long_words=False, break_on_hyphens=False),
-        "",
-        *textwrap.wrap("> " + of_std, 150, break_long_words=False, break_on_hyphens=False, subsequent_indent="> "),
-        "",
-        "## The theorem",
-        "",
-        "The map `M` is any map with the trait `Primary`: `SlotMap`, `DenseSlotMap` or `HopSlotMap`.",
-        "",
-    ]
-    for clause in clauses:
-        name = re.match(r"\s*\w+\*? (\w+) \{", clause).group(1)
-        lines += [f"**`{name}`.** {CLAUSES[name]}", "", "```rust", *dedent(clause.strip("\n").split("\n")), "```", ""]
+    lines = [*first, "", "# The machine, and all that the theorem stands on", "", *wrapped(text), ""]
+    lines += [*wrapped(", ".join(f"`{it}`" for it in names_of_std(found)), "> "), "", "## The theorem", ""]
+    lines += ["The map `M` is any map with the trait `Primary`: `SlotMap`, `DenseSlotMap` or `HopSlotMap`.", ""]
+    for name, clause in clauses_of("run_new").items():
+        lines += [f"**`{name}`.** {CLAUSES[name]}", "", "```rust", *clause, "```", ""]
+    lines += ["With detached keys, on a map with the trait `Detaching` (`SlotMap` or `DenseSlotMap`), the clauses of `run_detaching_new` are these:", "", "```rust"]
+    lines += [line for name, clause in clauses_of("run_detaching_new").items() if clause != clauses_of("run_new").get(name) for line in clause]
+    lines += ["```", ""]
     for section, (title, text) in SECTIONS.items():
         path = f"crates/slotmap_core/specs/{section}.antt"
+        here = [it for it in found if it.path == path and it.name not in LAWS]
+        if not here:
+            continue
         lines += [f"## {title}", "", f"[`{section}.antt`](../{path}). {text}", ""]
-        for definition in (it for it in found if it.path == path):
-            head = "\n".join(dedent([it for it in definition.lines if it.strip()]))
-            lines += [f"**`{definition.name}`.** {sentence(definition)}", "", "```text", head, "```", ""]
+        around = []
+        for it in here:
+            heads = dedent(it.around) if it.around and it.around != around else []
+            around = it.around
+            lines += [f"**`{it.name}`.** {sentence(it)}", "", "```text", *heads, *dedent([line for line in it.lines if line.strip()]), "```", ""]
     return "\n".join(lines).rstrip("\n") + "\n"
 
 

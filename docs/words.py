@@ -153,9 +153,10 @@ def size_of(first):
 def fault_of_readme(found):
     """What README.md should say of the definitions, if it says something else."""
     every, alone = size_of(roots(found)), size_of(roots(words_of_clauses(["slotmap_basic"])))
-    theorem = size_of(roots_of_call("slotmap_run", "run_new"))
-    wanted = "on some {} definitions of {:,} lines in all, those of `SlotMap` on {} of {}, and the run theorem on {} of {}".format(
-        *(round(it, -1) for it in (*every, *alone)), *theorem
+    plain = roots_of_call("slotmap_run", "run_new")
+    both = size_of(plain + [it for it in roots_of_call("slotmap_run", "run_detaching_new") if it not in plain])
+    wanted = "on some {} definitions of {:,} lines in all, those of `SlotMap` on {} of {}, and the run theorem on {} of {}, with detached keys on {} of {}".format(
+        *(round(it, -1) for it in (*every, *alone)), *size_of(plain), *both
     )
     with open(os.path.join(TOP, "README.md"), encoding="utf-8") as file:
         return "" if wanted in " ".join(file.read().split()) else f"README.md, definitions: {wanted}"

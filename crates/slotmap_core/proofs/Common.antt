@@ -109,7 +109,7 @@ pub use Rattle.slotmap_core.specs.Words.{MayGrow, ClonesEqual, IsCloneOf, AreClo
 pub use Rattle.slotmap_core.specs.Words.{RefusesReattach, LacksRoom, Visit, RetainsBy, CallsAt, CallableOnEach, seen, MayCome, kept, RunGiven, given, any_closures}
 pub use Rattle.slotmap_core.specs.Words.{KeepsAt, State, IsIssued, retired, StandsIn, Fresh, after_insert, empty_state, after_remove, after_replace}
 pub use Rattle.slotmap_core.specs.Words.{after_reserve, after_detach, after_reattach, DetachStep, Step, MayLackMemory, MayLackRoom, Run, Unretiring, Fits}
-pub use Rattle.slotmap_core.specs.Words.{Follows, Lasts, Starts, RunFollows, RunsAnew, Continues, Lifo, IsBasic, answer, after_command, offer_of, top_key}
+pub use Rattle.slotmap_core.specs.Words.{Follows, Lasts, Starts, RunFollows, RunsAnew, Continues, Lifo, IsBasic, stack_reply, after_command, offer_of, top_key}
 pub use Rattle.slotmap_core.specs.Words.{places_after, no_places, reply_keys, IsRefusal, keys_told, Laws, DetachLaws, Spares, NoKeyTwice, LastFreedFirst}
 pub use Rattle.slotmap_core.specs.Words.{RemovedForGood, DetachedNotReissued, DetachedReattaches, ReattachBinds, NeedsRoom, DetachNeedsRoom, ReserveHolds}
 pub use Rattle.slotmap_core.specs.Words.{gather, Vacant, Live, Place, Detached, Retired, live_entry, retired_entry, left_by, live_value, IsPlaceClone}

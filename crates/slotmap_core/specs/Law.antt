@@ -6,7 +6,7 @@ use Rattle.std.specs.Ordering.{eq_by_cmp}
 use Rattle.std.specs.FinMap as map
 use Rattle.std.specs.FinSet as set
 use Rattle.slotmap_core.specs.Key.{Key, key_cmp}
-use Rattle.slotmap_core.specs.Lifo.{IsBasic, answers, no_places}
+use Rattle.slotmap_core.specs.Lifo.{IsBasic, stack_replies, no_places}
 use Rattle.slotmap_core.specs.Told.{Knowledge, ReadsWhatWasPut}
 use Rattle.slotmap_core.specs.declared.commands.Command.{Command}
 use Rattle.slotmap_core.specs.declared.commands.Command.TheVariants as command
@@ -97,12 +97,12 @@ module _ {K V R E C : Type 0} (data_of : K → Key) (of : C → DetachCommand K 
   GoneForGood commands replies =
       (before between after : List C) (told_before told_between told_after : List (Reply K V R E)) (k : Key) (c d : C) (r answer : Reply K V R E)
       → length before ≡ length told_before
-      → AllZip (λ other told. LeavesAttached data_of k (of other) told) between told_between
+      → AllZip (λ other said. LeavesAttached data_of k (of other) said) between told_between
       → commands ≡ before ++ c ∷ (between ++ d ∷ after)
       → replies ≡ told_before ++ r ∷ (told_between ++ answer ∷ told_after)
       → ShowsLive data_of k (of c) r
       → ShowsNotLive data_of k (of d) answer
-      → AllZip (λ other told. FindsNothing data_of k (of other) told) after told_after
+      → AllZip (λ other said. FindsNothing data_of k (of other) said) after told_after
 
 -- the command inserts
 abbrev pub NeedsRoom : {K V : Type 0} → Command K V → Type 0
@@ -172,7 +172,7 @@ ReattachBinds {K} {V} {R} {E} commands replies =
 abbrev pub LastFreedFirst : {K V R E : Type 0} → (K → Key) → List (DetachCommand K V) → List (Reply K V R E) → Type 0
 LastFreedFirst data_of commands replies =
     AllByRecursion IsBasic commands → AllByRecursion (λ answer. IsRefusal answer → ⊥) replies
-    → keys_told data_of replies ≡ answers data_of no_places commands
+    → keys_told data_of replies ≡ stack_replies data_of no_places commands
 
 -- `looks` says what a Get may return for a value, and `start` what is known of each key at first
 module _ {K V R E : Type 0} (data_of : K → Key) (looks : V → R → Type 0) where

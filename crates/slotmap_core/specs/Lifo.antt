@@ -11,6 +11,7 @@ use Rattle.slotmap_core.specs.declared.commands.Command.TheVariants as command
 use Rattle.slotmap_core.specs.declared.commands.DetachCommand.{DetachCommand}
 use Rattle.slotmap_core.specs.declared.commands.DetachCommand.TheVariants as detaching
 
+-- what this machine holds
 pub record Lifo : Type 0 where
   -- the keys that have a value
   pub live : set.FinSet key_cmp
@@ -29,8 +30,8 @@ no_places = record { live = set.empty; detached = set.empty; next = map.empty; s
 
 -- the key of the index on top of the stack, with its next version; or the first key of a new place
 abbrev pub top_key : map.FinMap nat_cmp ℕ → ℕ → List ℕ → Key
-top_key next places [] = record { index = places + 1; version = 1 }
-top_key next places (i ∷ rest) = record { index = i; version = unwrap_or (map.get next i) 1 }
+top_key next made [] = record { index = made + 1; version = 1 }
+top_key next made (i ∷ rest) = record { index = i; version = unwrap_or (map.get next i) 1 }
 
 -- the key that the next insert returns
 abbrev pub offer_of : Lifo → Key
@@ -38,12 +39,12 @@ offer_of s = top_key s.next s.places s.stack
 
 -- the number of places after an insert: one more, unless a place is vacant
 abbrev pub places_after : ℕ → List ℕ → ℕ
-places_after places [] = places + 1
-places_after places (i ∷ rest) = places
+places_after made [] = made + 1
+places_after made (i ∷ rest) = made
 
 -- the offer is live, and its index is no longer vacant
-abbrev pub after_insert : Lifo → Lifo
-after_insert s = record {
+abbrev pub stack_insert : Lifo → Lifo
+stack_insert s = record {
   live = set.insert s.live (offer_of s);
   detached = s.detached;
   next = map.remove s.next (offer_of s).index;
@@ -52,16 +53,16 @@ after_insert s = record {
 }
 
 -- k is no longer live, and its index is on top of the stack, if a key can follow k there
-abbrev pub after_remove : Lifo → Key → Lifo
-after_remove s k = record s { live = set.remove s.live k; next = freed s.next k; stack = pushed s.stack k }
+abbrev pub stack_remove : Lifo → Key → Lifo
+stack_remove s k = record s { live = set.remove s.live k; next = freed s.next k; stack = pushed s.stack k }
 
 -- k is detached, and no longer live
-abbrev pub after_detach : Lifo → Key → Lifo
-after_detach s k = record s { live = set.remove s.live k; detached = set.insert s.detached k }
+abbrev pub stack_detach : Lifo → Key → Lifo
+stack_detach s k = record s { live = set.remove s.live k; detached = set.insert s.detached k }
 
 -- k is live, and no longer detached
-abbrev pub after_reattach : Lifo → Key → Lifo
-after_reattach s k = record s { live = set.insert s.live k; detached = set.remove s.detached k }
+abbrev pub stack_reattach : Lifo → Key → Lifo
+stack_reattach s k = record s { live = set.insert s.live k; detached = set.remove s.detached k }
 
 -- the commands of this machine: insert, remove, detach and reattach
 abbrev pub IsBasic : {K V : Type 0} → DetachCommand K V → Type 0
@@ -74,18 +75,18 @@ IsBasic (detaching.Reattach k v) = ⊤
 module _ {K V : Type 0} (data_of : K → Key) where
   -- the state that a command leaves
   abbrev pub after_command : Lifo → DetachCommand K V → Lifo
-  after_command s (detaching.Plain (command.Insert v)) = after_insert s
-  after_command s (detaching.Plain (command.Remove k)) = if set.contains s.live (data_of k) then after_remove s (data_of k) else s
+  after_command s (detaching.Plain (command.Insert v)) = stack_insert s
+  after_command s (detaching.Plain (command.Remove k)) = if set.contains s.live (data_of k) then stack_remove s (data_of k) else s
   after_command s (detaching.Plain _) = s
-  after_command s (detaching.Detach k) = if set.contains s.live (data_of k) then after_detach s (data_of k) else s
-  after_command s (detaching.Reattach k v) = if set.contains s.detached (data_of k) then after_reattach s (data_of k) else s
+  after_command s (detaching.Detach k) = if set.contains s.live (data_of k) then stack_detach s (data_of k) else s
+  after_command s (detaching.Reattach k v) = if set.contains s.detached (data_of k) then stack_reattach s (data_of k) else s
 
   -- the key in a command's reply, if it is an insert
-  abbrev pub answer : Lifo → DetachCommand K V → List Key
-  answer s (detaching.Plain (command.Insert v)) = offer_of s ∷ []
-  answer s _ = []
+  abbrev pub stack_reply : Lifo → DetachCommand K V → List Key
+  stack_reply s (detaching.Plain (command.Insert v)) = offer_of s ∷ []
+  stack_reply s _ = []
 
   -- the keys in the replies to a list of commands, in order
-  abbrev pub answers : Lifo → List (DetachCommand K V) → List Key
-  answers s [] = []
-  answers s (c ∷ cs) = answer s c ++ answers (after_command s c) cs
+  abbrev pub stack_replies : Lifo → List (DetachCommand K V) → List Key
+  stack_replies s [] = []
+  stack_replies s (c ∷ cs) = stack_reply s c ++ stack_replies (after_command s c) cs

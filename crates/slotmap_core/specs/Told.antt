@@ -63,18 +63,18 @@ module _ {K V R E : Type 0} (data_of : K → Key) where
   ReadsWhatWasPut looks known (c ∷ cs) (r ∷ rs) = Reads looks known c r × ReadsWhatWasPut looks (λ k. told k c r (known k)) cs rs
   ReadsWhatWasPut looks known _ _ = ⊤
 
-  -- No insert returns an index above the most keys that were live or detached at one moment: the numbers are of the live ones, the detached ones, and the most
-  -- at one moment. They are counted from the replies, and the keys of a Retain, whose reply doesn't tell how many it removed, count as live
+  -- no insert returns an index above the most keys live or detached at one moment so far: the three numbers, counted from the
+  -- replies, where a Retain's keys still count as live
   abbrev pub IndexStaysSmall : ℕ → ℕ → ℕ → List (DetachCommand K V) → List (Reply K V R E) → Type 0
-  IndexStaysSmall live detached most (detaching.Plain c ∷ cs) (reply.Key k ∷ rs) =
-      ((data_of k).index ≤ max most (live + detached + 1)) × IndexStaysSmall (live + 1) detached (max most (live + detached + 1)) cs rs
-  IndexStaysSmall live detached most (detaching.Plain (command.Remove k) ∷ cs) (reply.Taken (Some v) ∷ rs) = IndexStaysSmall (live - 1) detached most cs rs
-  IndexStaysSmall live detached most (detaching.Detach k ∷ cs) (reply.Taken (Some v) ∷ rs) = IndexStaysSmall (live - 1) (detached + 1) most cs rs
-  IndexStaysSmall live detached most (detaching.Reattach k v ∷ cs) (reply.Done ∷ rs) = IndexStaysSmall (live + 1) (detached - 1) most cs rs
-  IndexStaysSmall live detached most (detaching.Plain command.Clear ∷ cs) (reply.Done ∷ rs) = IndexStaysSmall 0 detached most cs rs
-  IndexStaysSmall live detached most (detaching.Plain command.Drain ∷ cs) (reply.Drained pairs ∷ rs) = IndexStaysSmall 0 detached most cs rs
-  IndexStaysSmall live detached most (c ∷ cs) (r ∷ rs) = IndexStaysSmall live detached most cs rs
-  IndexStaysSmall live detached most _ _ = ⊤
+  IndexStaysSmall live detached peak (detaching.Plain c ∷ cs) (reply.Key k ∷ rs) =
+      ((data_of k).index ≤ max peak (live + detached + 1)) × IndexStaysSmall (live + 1) detached (max peak (live + detached + 1)) cs rs
+  IndexStaysSmall live detached peak (detaching.Plain (command.Remove k) ∷ cs) (reply.Taken (Some v) ∷ rs) = IndexStaysSmall (live - 1) detached peak cs rs
+  IndexStaysSmall live detached peak (detaching.Detach k ∷ cs) (reply.Taken (Some v) ∷ rs) = IndexStaysSmall (live - 1) (detached + 1) peak cs rs
+  IndexStaysSmall live detached peak (detaching.Reattach k v ∷ cs) (reply.Done ∷ rs) = IndexStaysSmall (live + 1) (detached - 1) peak cs rs
+  IndexStaysSmall live detached peak (detaching.Plain command.Clear ∷ cs) (reply.Done ∷ rs) = IndexStaysSmall 0 detached peak cs rs
+  IndexStaysSmall live detached peak (detaching.Plain command.Drain ∷ cs) (reply.Drained pairs ∷ rs) = IndexStaysSmall 0 detached peak cs rs
+  IndexStaysSmall live detached peak (c ∷ cs) (r ∷ rs) = IndexStaysSmall live detached peak cs rs
+  IndexStaysSmall live detached peak _ _ = ⊤
 
 -- what is known of each key at first, where these are the live pairs
 abbrev pub known_from : {V : Type 0} → map.FinMap key_cmp V → Key → Knowledge V

@@ -47,7 +47,7 @@ pub use Rattle.slotmap_core.specs.Machine.{after_detach, after_reattach, is_reti
 pub use Rattle.slotmap_core.specs.Step.{DetachStep, Step, MayLackMemory, MayLackRoom}
 pub use Rattle.slotmap_core.specs.Run.{Run, Unretiring}
 pub use Rattle.slotmap_core.specs.Fit.{Fits, Follows, Lasts, Starts, RunFollows, RunsAnew, Continues}
-pub use Rattle.slotmap_core.specs.Lifo.{Lifo, IsBasic, answer, after_command, offer_of, top_key, places_after, no_places}
+pub use Rattle.slotmap_core.specs.Lifo.{Lifo, IsBasic, stack_reply, after_command, offer_of, top_key, places_after, no_places}
 pub use Rattle.slotmap_core.specs.Law.{reply_keys, IsRefusal, keys_told, Laws, DetachLaws, Spares, NoKeyTwice, LastFreedFirst, RemovedForGood}
 pub use Rattle.slotmap_core.specs.Law.{GoneForGood, ShowsLive, ShowsNotLive, RemovesKey, LeavesAttached, FindsNothing}
 pub use Rattle.slotmap_core.specs.Told.{Knowledge, unknown, not_live, is_live, has, known_from, Agrees, AgreesLive, told, Reads, ReadsWhatWasPut, IndexStaysSmall}

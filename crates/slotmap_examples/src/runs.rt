@@ -24,7 +24,7 @@ fn make(_key: DefaultKey) -> Result<u64, ()> {
 }
 
 /// Returns the key in a reply.
-pub(crate) fn key_at(replies: &Replies, at: usize) -> Option<DefaultKey>
+pub fn key_at(replies: &Replies, at: usize) -> Option<DefaultKey>
     ensures { IfSome result (λ key. slice_get replies.now.items at ≡ Some (KeyReply key)) }
 {
     match replies.get(at) {
@@ -34,7 +34,7 @@ pub(crate) fn key_at(replies: &Replies, at: usize) -> Option<DefaultKey>
 }
 
 /// Returns the value that a removal or a detach took.
-pub(crate) fn taken_at(replies: &Replies, at: usize) -> Option<u64>
+pub fn taken_at(replies: &Replies, at: usize) -> Option<u64>
     ensures { IfSome result (λ value. slice_get replies.now.items at ≡ Some (TakenReply (Some value))) }
 {
     match replies.get(at) {
@@ -44,7 +44,7 @@ pub(crate) fn taken_at(replies: &Replies, at: usize) -> Option<u64>
 }
 
 /// Returns what a removal or a detach took, if anything.
-pub(crate) fn any_taken_at(replies: &Replies, at: usize) -> Option<Option<u64>>
+pub fn any_taken_at(replies: &Replies, at: usize) -> Option<Option<u64>>
     ensures { IfSome result (λ taken. slice_get replies.now.items at ≡ Some (TakenReply taken)) }
 {
     match replies.get(at) {
@@ -54,7 +54,7 @@ pub(crate) fn any_taken_at(replies: &Replies, at: usize) -> Option<Option<u64>>
 }
 
 /// Returns the value that a replacement found.
-pub(crate) fn put_at(replies: &Replies, at: usize) -> Option<u64>
+pub fn put_at(replies: &Replies, at: usize) -> Option<u64>
     ensures { IfSome result (λ old. slice_get replies.now.items at ≡ Some (PutReply (Ok old))) }
 {
     match replies.get(at) {
@@ -64,7 +64,7 @@ pub(crate) fn put_at(replies: &Replies, at: usize) -> Option<u64>
 }
 
 /// Returns what a look-up found.
-pub(crate) fn looked_at(replies: &Replies, at: usize) -> Option<Option<u64>>
+pub fn looked_at(replies: &Replies, at: usize) -> Option<Option<u64>>
     ensures { IfSome result (λ seen. slice_get replies.now.items at ≡ Some (LookedReply seen)) }
 {
     match replies.get(at) {

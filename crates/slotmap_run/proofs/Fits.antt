@@ -16,10 +16,10 @@ module _ {V : Type 0} (s : State V) (c : Content V) (fits : Fits s c) where
   pub held_of : (k : Key) → Stands c k → StandsIn s k
   held_of k h = grind (arith, fits.live, fits.detached)
 
-  pub used_same : machine.used s ≡ used c
+  pub used_same : machine.in_use s ≡ used c
   used_same = omega (arith, ap map.len fits.live, ap set.len fits.detached, ap set.len fits.retired)
 
-  pub below : used c < most → machine.used s ≢ most
+  pub below : used c < most → machine.in_use s ≢ most
   below h e = omega (arith, used_same)
 
 module _ {V : Type 0} (reuses : Bool) (s : State V) (old : Content V) (ok : IsContent reuses old) (fits : Fits s old) where

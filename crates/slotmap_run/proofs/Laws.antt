@@ -4,7 +4,7 @@ use Rattle.std.specs.FinSet as set
 use Rattle.std.proofs.Common.{◌≡◌, ◌≢◌, ◌+◌, ◌≤◌, ◌∷◌, ◌⊎◌, List, [], length, true, false, inl, inr, refl, ap, arith}
 use Rattle.slotmap_core.proofs.Common.{IsDistinct, AllByRecursion, eq_by_cmp, Key, key_cmp, most, State, IsIssued, StandsIn, Fresh, after_insert, empty_state}
 use Rattle.slotmap_core.proofs.Common.{retired, Run, Unretiring, RunGiven, reply_keys, keys_told, NoKeyTwice, keys_total, exact_keys, itself, in_retired}
-use Rattle.slotmap_core.specs.Machine.{used}
+use Rattle.slotmap_core.specs.Machine.{in_use}
 use Rattle.slotmap_core.specs.Step as plain
 use Rattle.slotmap_core.specs.declared.commands.Command.{Command}
 use Rattle.slotmap_core.specs.declared.commands.Reply.{Reply}
@@ -19,7 +19,7 @@ weaker f (x ∷ xs) h = (f x h.0, weaker f xs h.1)
 pub none_retired_at_first : (V : Type 0) → retired (empty_state {V = V}) ≡ set.empty
 none_retired_at_first V = set.same_set keys_total exact_keys _ _ (λ k. grind (arith, in_retired (empty_state {V = V}) k, set.contains-empty key_cmp k))
 
-none_used : (V : Type 0) → used (empty_state {V = V}) ≡ 0
+none_used : (V : Type 0) → in_use (empty_state {V = V}) ≡ 0
 none_used V = omega (arith, map.len-empty key_cmp V, set.len-empty key_cmp, ap set.len (none_retired_at_first V))
 
 module _ {V : Type 0} where
@@ -33,7 +33,7 @@ module _ {V : Type 0} where
     pub held_issued : (k : Key) → StandsIn s k → IsIssued s k
     pub apart : IsApart s
     -- the inserts that are owed don't exceed the limit
-    pub within : used s + s.promised ≤ most
+    pub within : in_use s + s.promised ≤ most
 
   pub empty_good : IsGood empty_state
   empty_good = grind (arith, map.get-empty {X = V} key_cmp, set.contains-empty key_cmp, none_used V)
@@ -47,7 +47,7 @@ module _ {K V R E : Type 0} (data_of : K → Key) where
     pub key : Key
     pub value : V
     pub by_dictionary : reply_keys data_of r ≡ key ∷ []
-    pub below_limit : used old ≢ most
+    pub below_limit : in_use old ≢ most
     pub fresh : Fresh old key
     pub is : new ≡ after_insert old key value
 
@@ -59,7 +59,7 @@ module _ {K V R E : Type 0} (data_of : K → Key) where
     pub apart : IsApart old → IsApart new
     pub promised : old.promised ≤ new.promised + 1
     -- what is newly promised doesn't exceed the limit
-    pub within : used old + old.promised ≤ most → used old + new.promised ≤ most
+    pub within : in_use old + old.promised ≤ most → in_use old + new.promised ≤ most
 
 -- A machine of primary maps: each step binds a fresh key, or none; and its steps for plain commands are those of the plain machine (`of`
 -- makes a command of this machine from a plain one)

@@ -7,7 +7,7 @@ use Rattle.slotmap_core.proofs.Common.{Removes, Detaches, Reattaches, Lifo, offe
 use Rattle.slotmap_core.proofs.Common.{nil_from_length, keys_total, some_is, some_entry, places_grow, kept_places, removed_places, detached_places}
 use Rattle.slotmap_core.proofs.Common.{reattached_places}
 use Rattle.slotmap_core.specs.Lifo as lifo
-use Rattle.slotmap_core.specs.Lifo.{after_insert}
+use Rattle.slotmap_core.specs.Lifo.{stack_insert}
 use Rattle.slotmap_core.specs.declared.commands.DetachCommand.{DetachCommand}
 use Rattle.slotmap_core.specs.declared.commands.Reply.{Reply}
 use Rattle.slotmap_run.specs.Order.{IsLifo, Orders}
@@ -20,20 +20,20 @@ module _ {V : Type 0} (reuses : Bool) (old new : Content V) (ok : IsContent reus
       → (old.offer ≡ top_key old.next (places old) stack) × (places_after (places old) stack ≡ max (places old) (used old + 1))
   offer_by room stack e = grind (arith, ok.offers room, ok.stacked stack e, some_entry nat_cmp_total exact_unsigned old.next old.offer.index)
 
-  pub lifo_inserts : (k : Key) (v : V) → Inserts old k v new → (k ≡ offer_of l) × IsLifo (after_insert l) new
+  pub lifo_inserts : (k : Key) (v : V) → Inserts old k v new → (k ≡ offer_of l) × IsLifo (stack_insert l) new
   lifo_inserts k v i =
       grind (arith, offer_by, set.contains-insert keys_total l.live k, map.get-insert keys_total old.live k v, places_grow reuses old new ok k v i)
 
   pub lifo_keeps : Keeps old new → IsLifo l new
   lifo_keeps k = grind (arith, is.live, k.live, kept_places reuses old new ok k)
 
-  pub lifo_removes : (k : Key) → IsLive old k → Removes old k new → IsLifo (if set.contains l.live k then lifo.after_remove l k else l) new
+  pub lifo_removes : (k : Key) → IsLive old k → Removes old k new → IsLifo (if set.contains l.live k then lifo.stack_remove l k else l) new
   lifo_removes k is_live r = grind (arith, is.live, r.live, changes, removed_places reuses old new ok k is_live r)
 
-  pub lifo_detaches : (k : Key) → IsLive old k → Detaches old k new → IsLifo (if set.contains l.live k then lifo.after_detach l k else l) new
+  pub lifo_detaches : (k : Key) → IsLive old k → Detaches old k new → IsLifo (if set.contains l.live k then lifo.stack_detach l k else l) new
   lifo_detaches k is_live r = grind (arith, is.live, r.live, changes, detached_places reuses old new ok k is_live r)
 
-  pub lifo_reattaches : (k : Key) (v : V) → Reattaches old k v new → IsLifo (if set.contains l.detached k then lifo.after_reattach l k else l) new
+  pub lifo_reattaches : (k : Key) (v : V) → Reattaches old k v new → IsLifo (if set.contains l.detached k then lifo.stack_reattach l k else l) new
   lifo_reattaches k v r = grind (arith, is.live, r.live, r.was_detached, changes, reattached_places reuses old new ok k v r)
 
 module _ {V : Type 0} (reuses : Bool) (c : Content V) (ok : IsContent reuses c) (new : IsNew c) where
@@ -46,7 +46,7 @@ module _ {V : Type 0} (reuses : Bool) (c : Content V) (ok : IsContent reuses c) 
 
 module _ {K V R E : Type 0} (data_of : K → Key) where
   pub lifo_run : (l : Lifo) (old new : Content V) (cs : List (DetachCommand K V)) (rs : List (Reply K V R E)) → IsLifo l old → Run (Orders data_of) old cs rs new
-      → AllByRecursion lifo.IsBasic cs → AllByRecursion (λ r. IsRefusal r → ⊥) rs → keys_told data_of rs ≡ lifo.answers data_of l cs
+      → AllByRecursion lifo.IsBasic cs → AllByRecursion (λ r. IsRefusal r → ⊥) rs → keys_told data_of rs ≡ lifo.stack_replies data_of l cs
   lifo_run l old new [] [] is run basic told = refl
   lifo_run l old new (c ∷ cs) (r ∷ rs) is run basic told = grind (arith, lifo_run (lifo.after_command data_of l c) run.0 new cs rs)
   lifo_run l old new _ _ is run basic told = absurd run

@@ -1,7 +1,7 @@
 -- No key's index is above the most keys that were live or detached at one moment, by the replies, if no key is ever retired.
 use Rattle.std.specs.FinMap as map
 use Rattle.std.specs.FinSet as set
-use Rattle.std.proofs.Common.{ℕ, max, Some, ◌≡◌, ◌+◌, ◌-◌, ◌≤◌, None, true, List, [], ◌∷◌, map as list_map, refl, ap, ◌∙◌, arith}
+use Rattle.std.proofs.Common.{ℕ, max, Some, ◌≡◌, ◌+◌, ◌-◌, ◌≤◌, None, true, List, [], ◌∷◌, map as list_map, ap, ◌∙◌, arith}
 use Rattle.slotmap_core.proofs.Common.{Key, key_cmp, State, RunGiven, DetachStep, Run, Unretiring, empty_state, retired, keys_total}
 use Rattle.slotmap_core.specs.Told.{IndexStaysSmall}
 use Rattle.slotmap_core.specs.declared.commands.Command.TheVariants as command

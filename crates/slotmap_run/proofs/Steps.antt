@@ -6,7 +6,7 @@ use Rattle.slotmap_core.specs.Words.{Bor, MutBor}
 use Rattle.slotmap_core.proofs.Common.{Mut, Key, key_cmp, Content, IsContent, IsLive, used, most, IsListing, IsKeyListing, Inserts, Keeps, Removes, Replaces}
 use Rattle.slotmap_core.proofs.Common.{Leaves, Detaches, Reattaches, with_value, MayGrow, MakesRoom, LacksRoom, Refuses, RefusesWith, RefusesCapacity}
 use Rattle.slotmap_core.proofs.Common.{RefusesReattach, Visit, CallsAt, RetainsBy, RunGiven, State, Fresh, after_insert, MayLackMemory, MayLackRoom, Step}
-use Rattle.slotmap_core.proofs.Common.{DetachStep, Fits, Follows, Lifo, IsBasic, answer, after_command, IsRefusal, reply_keys, Result, Ok, Err, IfOk, OnOk}
+use Rattle.slotmap_core.proofs.Common.{DetachStep, Fits, Follows, Lifo, IsBasic, stack_reply, after_command, IsRefusal, reply_keys, Result, Ok, Err, IfOk, OnOk}
 use Rattle.slotmap_core.proofs.Common.{IfErr, OnErr, IsErr, IsOk, Option, Some, None, Bool, false, refl, sym, ap, ◌∙◌, subst, arith, is_some, none_of, false_of}
 use Rattle.slotmap_core.proofs.Common.{retained_none, retained_at}
 use Rattle.slotmap_core.specs.Machine as machine
@@ -65,7 +65,7 @@ module _ {K V R E : Type 0} (given : RunGiven K V R E) (old new : Content V) (ok
 
   -- an insert binds a fresh key
   binds : {c : Command K V} {r : Reply K V R E} (key : K) (v : V) → IsContent given.reuses new → Inserts old (given.data_of key) v new
-      → ((s : State V) → machine.used s ≢ most → Fresh s (given.data_of key) → Step given s c r (after_insert s (given.data_of key) v)) → Follows (Step given) old c r new
+      → ((s : State V) → machine.in_use s ≢ most → Fresh s (given.data_of key) → Step given s c r (after_insert s (given.data_of key) v)) → Follows (Step given) old c r new
   binds key v new_ok i step =
       by (inserts_moves given.reuses old new ok (given.data_of key) v i new_ok)
       (λ s fits. step s (below s old fits i.below_limit) (inserts_fresh given.reuses s old ok fits new (given.data_of key) v i new_ok))
@@ -122,7 +122,7 @@ module _ {K V R E : Type 0} (given : RunGiven K V R E) (old new : Content V) (ok
 
   -- a command that leaves the machine that reuses the slot freed last as it is
   unmoved : {C : Type 0} {Machine : RunGiven K V R E → State V → C → Reply K V R E → State V → Type 0} {of : C → DetachCommand K V} {c : C} {r : Reply K V R E}
-      → Keeps old new → ((s : State V) → Fits s old → Machine given s c r s) → ((l : Lifo) → reply_keys given.data_of r ≡ answer given.data_of l (of c))
+      → Keeps old new → ((s : State V) → Fits s old → Machine given s c r s) → ((l : Lifo) → reply_keys given.data_of r ≡ stack_reply given.data_of l (of c))
       → ((l : Lifo) → IsLifo l old → after_command given.data_of l (of c) ≡ l) → Served Machine of given old c r new
   unmoved kept step told same = record {
     follows = by (keeps given.reuses old new ok kept) step;
@@ -136,7 +136,7 @@ module _ {K V R E : Type 0} (given : RunGiven K V R E) (old new : Content V) (ok
       → (IsLive old (given.data_of key) → Does → (l : Lifo) → IsLifo l old → IsLifo (after_command given.data_of l (of c)) new)
       → ((s : State V) (v : V) → map.get s.live (given.data_of key) ≡ Some v → Machine given s c (reply.Taken (Some v)) (after s))
       → ((s : State V) → map.get s.live (given.data_of key) ≡ None → Machine given s c (reply.Taken None) s)
-      → ((l : Lifo) → [] ≡ answer given.data_of l (of c)) → ((l : Lifo) → set.contains l.live (given.data_of key) ≡ false → after_command given.data_of l (of c) ≡ l)
+      → ((l : Lifo) → [] ≡ stack_reply given.data_of l (of c)) → ((l : Lifo) → set.contains l.live (given.data_of key) ≡ false → after_command given.data_of l (of c) ≡ l)
       → Served Machine of given old c (reply.Taken taken) new
   takes key (Some v) is some none moves orders found lacks quiet same = record {
     follows = by (moves (ap is_some (sym is)) some) (λ s fits. found s v (rw fits.live (sym is)));

@@ -3,7 +3,7 @@ use Rattle.std.specs.FinMap as map
 use Rattle.std.specs.FinSet as set
 use Rattle.std.proofs.Common.{◌≡◌, ◌+◌, ◌≤◌, ◌&&◌, ◌||◌, ◌⊎◌, true, arith}
 use Rattle.slotmap_core.proofs.Common.{Key, key_cmp, is_last, State, StandsIn, Fresh, after_insert, retired, keys_total, in_retired}
-use Rattle.slotmap_core.specs.Machine.{used}
+use Rattle.slotmap_core.specs.Machine.{in_use}
 use Rattle.slotmap_run.proofs.MapChanges.{changes}
 use Rattle.slotmap_run.proofs.SetCounts.{all_keys, contains-all_keys, len-all_keys, len-subset}
 
@@ -19,11 +19,11 @@ module _ {V : Type 0} where
   in_used : (s : State V) (q : Key) → set.contains (used_keys s) q ≡ (map.contains_key s.live q || (set.contains s.detached q || (set.contains s.issued q && is_last q)))
   in_used s q = grind (arith, contains-all_keys s.live s.detached (retired s) q, in_retired s q)
 
-  len-used_keys : (s : State V) → IsApart s → set.len (used_keys s) ≡ used s
+  len-used_keys : (s : State V) → IsApart s → set.len (used_keys s) ≡ in_use s
   len-used_keys s apart = len-all_keys s.live s.detached (retired s) apart (λ q held h. grind (arith, in_retired s q))
 
   -- if no key is returned, and none is held that wasn't, no more indices are taken
-  pub no_more_used : (s t : State V) → IsApart s → IsApart t → t.issued ≡ s.issued → ((q : Key) → StandsIn t q → StandsIn s q) → used t ≤ used s
+  pub no_more_used : (s t : State V) → IsApart s → IsApart t → t.issued ≡ s.issued → ((q : Key) → StandsIn t q → StandsIn s q) → in_use t ≤ in_use s
   no_more_used s t apart after issued held = grind (arith, len-subset, in_used, in_used s, len-used_keys s apart, len-used_keys t after)
 
   pub bound_held : (s : State V) (k : Key) (v : V) (q : Key) → StandsIn (after_insert s k v) q → (q ≡ k) ⊎ StandsIn s q
@@ -34,7 +34,7 @@ module _ {V : Type 0} where
     apart_after q h g = grind (arith, changes, fresh.apart q, apart q)
 
     -- the key that an insert returns is one more
-    pub one_more_used : used (after_insert s k v) ≤ used s + 1
+    pub one_more_used : in_use (after_insert s k v) ≤ in_use s + 1
     one_more_used =
         let more = len-subset (used_keys (after_insert s k v)) (set.insert (used_keys s) k) (λ q h. grind (arith, changes, in_used (after_insert s k v) q, in_used s q)) in
         grind (arith, len-used_keys s apart, len-used_keys (after_insert s k v) apart_after, set.len-insert keys_total (used_keys s) k)

@@ -2,7 +2,7 @@
 use Rattle.std.specs.FinMap as map
 use Rattle.std.specs.FinSet as set
 use Rattle.std.specs.Prelude.{◌≡◌, Bool, true, Some, IsSome}
-use Rattle.slotmap_core.specs.Words.{Key, Content, IsContent, places, IsNew, State, RunGiven, Follows, Lifo, IsBasic, after_command, answer, reply_keys, IsRefusal}
+use Rattle.slotmap_core.specs.Words.{Key, Content, IsContent, places, IsNew, State, RunGiven, Follows, Lifo, IsBasic, after_command, stack_reply, reply_keys, IsRefusal}
 use Rattle.slotmap_core.specs.declared.commands.DetachCommand.{DetachCommand}
 use Rattle.slotmap_core.specs.declared.commands.Reply.{Reply}
 
@@ -17,7 +17,7 @@ pub record IsLifo {V : Type 0} (l : Lifo) (c : Content V) : Type 0 where
 module _ {K V R E : Type 0} (data_of : K → Key) where
   -- the reply to a basic command that doesn't fail is that of the machine that reuses the slot freed last
   abbrev pub Orders : Content V → DetachCommand K V → Reply K V R E → Content V → Type 0
-  Orders old c r new = (l : Lifo) → IsLifo l old → IsBasic c → (IsRefusal r → ⊥) → (reply_keys data_of r ≡ answer data_of l c) × IsLifo (after_command data_of l c) new
+  Orders old c r new = (l : Lifo) → IsLifo l old → IsBasic c → (IsRefusal r → ⊥) → (reply_keys data_of r ≡ stack_reply data_of l c) × IsLifo (after_command data_of l c) new
 
 -- a command is run: it is a step of this machine, and slots are reused in that order (`of` makes a command of a list with detaching from
 -- it)
