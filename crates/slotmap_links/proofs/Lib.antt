@@ -1,7 +1,9 @@
 pub mod Counts
+pub mod Covers
 pub mod Keeping
 pub mod Linking
 pub mod Relisting
+pub mod Seen
 pub mod Segments
 pub mod Splicing
 pub mod Written

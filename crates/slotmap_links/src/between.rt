@@ -10,6 +10,19 @@ use crate::{Ends, Link};
 // Stands for no member.
 pub(crate) const NOBODY: u32 = u32::MAX;
 
+// The ends of a list with no members.
+pub(crate) const NO_ENDS: Ends = Ends {
+    first: NOBODY,
+    last: NOBODY,
+    len: 0,
+};
+
+// The link of a number that is in no list.
+pub(crate) const NO_LINK: Link = Link {
+    prev: NOBODY,
+    next: NOBODY,
+};
+
 // The member with this number, or none.
 pub(crate) fn option_of(number: u32) -> Option<u32>
     ensures { result ≡ unless_nobody number }

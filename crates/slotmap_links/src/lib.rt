@@ -31,7 +31,8 @@
 //! ```
 #![tactic(auto)]
 
-ghost use Rattle.std.specs.Prelude.{◌≡◌, ℕ, ◌+◌, ◌-◌, ◌<◌, ◌≤◌, ◌≢◌, ◌^◌, ◌++◌, ◌∷◌, [], OnOk, OnErr, IfOk, None, length};
+ghost use Rattle.std.specs.Prelude.{◌≡◌, ℕ, ◌+◌, ◌-◌, ◌<◌, ◌≤◌, ◌≢◌, ◌^◌, ◌++◌, ◌∷◌, [], OnOk, OnErr, IsOk, IsTrue, ◌↔◌, None, length};
+ghost use Rattle.slotmap_links.specs.Kept.{IsPlace, unless_nobody};
 ghost use Rattle.slotmap_links.specs.Lists.{AreDisjoint, IsFree, IsIn, first_or, last_or, list_of, number_after, number_before, put_before, put_behind, with_list, with_members, with_owners, without};
 
 use std::alloc::{AllocError, Global};
@@ -39,7 +40,7 @@ use std::marker::Model;
 
 mod between;
 
-use between::option_of;
+use between::{NO_ENDS, NO_LINK, NOBODY, option_of, put_between, take_between};
 
 // The two ends of an owner's list, and how many members it has.
 #[derive(Clone, Copy, Debug, Drop)]
@@ -90,7 +91,51 @@ impl Links {
         }
     }
 
-    /// Returns the number of owners.
+    /// Lets all numbers below `owners` be owners. Those that are new have an empty list.
+    ///
+    /// If there are so many already, it changes nothing. It fails only if memory runs out, and has
+    /// changed nothing then.
+    ///
+    /// ```
+    /// let mut links = Links::new(alloc);
+    /// links.cover_owners(2)?;
+    /// assert_eq!(rt; links.owners(), 2);
+    /// assert_eq!(rt; links.first(1), None);
+    /// ```
+    pub fn cover_owners(&mut self, owners: usize) -> Result<(), AllocError>
+        ensures ok { OnOk result (self.new ≡ with_owners self.old owners) }
+        ensures err { OnErr result (self.new ≡ self.old) }
+        ensures had_room { owners ≤ length self.old.lists → IsOk result }
+    {
+        if owners <= self.ends.len() {
+            return Ok(());
+        }
+        self.ends.resize(owners, NO_ENDS)
+    }
+
+    /// Lets all numbers below `members` be members of a list. Those that are new are in none.
+    ///
+    /// If there are so many already, it changes nothing. It fails only if memory runs out, and has
+    /// changed nothing then.
+    ///
+    /// ```
+    /// let mut links = Links::new(alloc);
+    /// links.cover_members(8)?;
+    /// assert_eq!(rt; links.members(), 8);
+    /// ```
+    pub fn cover_members(&mut self, members: usize) -> Result<(), AllocError>
+        requires { members < 2 ^ 32 }
+        ensures ok { OnOk result (self.new ≡ with_members self.old members) }
+        ensures err { OnErr result (self.new ≡ self.old) }
+        ensures had_room { members ≤ self.old.members → IsOk result }
+    {
+        if members <= self.links.len() {
+            return Ok(());
+        }
+        self.links.resize(members, NO_LINK)
+    }
+
+    /// Returns the number of owners: they are the numbers below it.
     pub fn owners(&self) -> usize
         ensures value { result ≡ length self.now.lists }
         ensures disjoint { AreDisjoint self.now }
@@ -107,11 +152,124 @@ impl Links {
         self.links.len()
     }
 
+    /// Returns the number of members in an owner's list.
+    pub fn len(&self, owner: u32) -> usize
+        requires { owner < length self.now.lists }
+        ensures { result ≡ length (list_of self.now owner) }
+    {
+        self.ends[owner as usize].len as usize
+    }
+
+    /// Returns whether an owner's list has no members.
+    pub fn is_empty(&self, owner: u32) -> bool
+        requires { owner < length self.now.lists }
+        ensures { IsTrue result ↔ (length (list_of self.now owner) ≡ 0) }
+    {
+        self.len(owner) == 0
+    }
+
     /// Returns the first member of an owner's list, or `None` if it has none.
     pub fn first(&self, owner: u32) -> Option<u32>
         requires { owner < length self.now.lists }
         ensures { result ≡ first_or (list_of self.now owner) None }
     {
         option_of(self.ends[owner as usize].first)
+    }
+
+    /// Returns the last member of an owner's list, or `None` if it has none.
+    pub fn last(&self, owner: u32) -> Option<u32>
+        requires { owner < length self.now.lists }
+        ensures { result ≡ last_or (list_of self.now owner) None }
+    {
+        option_of(self.ends[owner as usize].last)
+    }
+
+    /// Returns the member after this one in its list, or `None` if it is the last. Of a number that is
+    /// in no list it may return any.
+    ///
+    /// ```
+    /// let mut links = Links::new(alloc);
+    /// links.cover_owners(1)?;
+    /// links.cover_members(8)?;
+    /// links.put_last(0, 5);
+    /// links.put_last(0, 2);
+    /// assert_eq!(rt; links.next(5), Some(2));
+    /// assert_eq!(rt; links.next(2), None);
+    /// ```
+    pub fn next(&self, member: u32) -> Option<u32>
+        requires { member < self.now.members }
+        ensures { (p : ℕ) → IsIn self.now p member → result ≡ number_after member (list_of self.now p) }
+    {
+        option_of(self.links[member as usize].next)
+    }
+
+    /// Returns the member before this one in its list, or `None` if it is the first. Of a number that
+    /// is in no list it may return any.
+    pub fn prev(&self, member: u32) -> Option<u32>
+        requires { member < self.now.members }
+        ensures { (p : ℕ) → IsIn self.now p member → result ≡ number_before None member (list_of self.now p) }
+    {
+        option_of(self.links[member as usize].prev)
+    }
+
+    // Puts a number that is in no list between two members of an owner's list, or at an end of it.
+    fn put(&mut self, owner: u32, member: u32, prev: u32, next: u32)
+        requires owner { owner < length self.old.lists }
+        requires free { IsFree self.old member }
+        requires place { IsPlace (list_of self.old owner) (unless_nobody prev) (unless_nobody next) }
+        ensures { (place : IsPlace (list_of self.old owner) (unless_nobody prev) (unless_nobody next)) → self.new ≡ with_list self.old owner (place.before ++ member ∷ place.after) }
+    {
+        put_between(&mut self.ends, &mut self.links, owner, member, prev, next);
+    }
+
+    /// Puts a number that is in no list before the members of an owner's list.
+    pub fn put_first(&mut self, owner: u32, member: u32)
+        requires owner { owner < length self.old.lists }
+        requires free { IsFree self.old member }
+        ensures { self.new ≡ with_list self.old owner (member ∷ list_of self.old owner) }
+    {
+        let next = self.ends[owner as usize].first;
+        self.put(owner, member, NOBODY, next);
+    }
+
+    /// Puts a number that is in no list behind the members of an owner's list.
+    pub fn put_last(&mut self, owner: u32, member: u32)
+        requires owner { owner < length self.old.lists }
+        requires free { IsFree self.old member }
+        ensures { self.new ≡ with_list self.old owner (list_of self.old owner ++ member ∷ []) }
+    {
+        let prev = self.ends[owner as usize].last;
+        self.put(owner, member, prev, NOBODY);
+    }
+
+    /// Puts a number that is in no list right before a member of an owner's list.
+    pub fn put_before(&mut self, owner: u32, at: u32, member: u32)
+        requires owner { owner < length self.old.lists }
+        requires at { IsIn self.old owner at }
+        requires free { IsFree self.old member }
+        ensures { self.new ≡ with_list self.old owner (put_before at member (list_of self.old owner)) }
+    {
+        let prev = self.links[at as usize].prev;
+        self.put(owner, member, prev, at);
+    }
+
+    /// Puts a number that is in no list right behind a member of an owner's list.
+    pub fn put_behind(&mut self, owner: u32, at: u32, member: u32)
+        requires owner { owner < length self.old.lists }
+        requires at { IsIn self.old owner at }
+        requires free { IsFree self.old member }
+        ensures { self.new ≡ with_list self.old owner (put_behind at member (list_of self.old owner)) }
+    {
+        let next = self.links[at as usize].next;
+        self.put(owner, member, at, next);
+    }
+
+    /// Takes a member out of its owner's list.
+    pub fn take_out(&mut self, owner: u32, member: u32)
+        requires owner { owner < length self.old.lists }
+        requires member { IsIn self.old owner member }
+        ensures { self.new ≡ with_list self.old owner (without member (list_of self.old owner)) }
+    {
+        take_between(&mut self.ends, &mut self.links, owner, member);
     }
 }
