@@ -79,16 +79,16 @@ module _ (ends : List Ends) (links : List Link) (kept : AreKept ends links) (n :
     }
 
 -- what `resize` leaves of the ends, and of the links
-module _ {A B : Type 0} (ends : List Ends) (links : List Link) (kept : AreKept ends links) (n len : ℕ) where
+module _ (ends : List Ends) (links : List Link) (kept : AreKept ends links) (n len : ℕ) where
   module _ (len_is : len ≡ length ends) (more : length ends ≤ n) where
     grown_ends : take n ends ++ replicate (n - len) no_ends ≡ more_ends ends links kept n
     grown_ends = (λ i. take_all n ends more i ++ replicate (n - len_is i) no_ends)
 
-    pub resized_owners : (r : Result A B) (now : List Ends) → now ≡ (if is_ok r then take n ends ++ replicate (n - len) no_ends else ends) → AreKept now links
+    pub resized_owners : {A B : Type 0} (r : Result A B) (now : List Ends) → now ≡ (if is_ok r then take n ends ++ replicate (n - len) no_ends else ends) → AreKept now links
     resized_owners (Ok x) now is = subst (λ l. AreKept l links) (sym (is ∙ grown_ends)) (kept_owners ends links kept n)
     resized_owners (Err e) now is = subst (λ l. AreKept l links) (sym is) kept
 
-    pub seen_resized_owners : (s : Lists) → lists_by ends links ≡ s → (r : Result A B) (now : List Ends) → now ≡ (if is_ok r then take n ends ++ replicate (n - len) no_ends else ends)
+    pub seen_resized_owners : {A B : Type 0} (s : Lists) → lists_by ends links ≡ s → (r : Result A B) (now : List Ends) → now ≡ (if is_ok r then take n ends ++ replicate (n - len) no_ends else ends)
         → OnOk r (lists_by now links ≡ with_owners s n)
     seen_resized_owners s seen (Ok x) now is = ap (λ l. lists_by l links) (is ∙ grown_ends) ∙ seen_owners_more ends links kept n ∙ ap (λ s. with_owners s n) seen
     seen_resized_owners s seen (Err e) now is = tt
@@ -97,11 +97,11 @@ module _ {A B : Type 0} (ends : List Ends) (links : List Link) (kept : AreKept e
     grown_links : take n links ++ replicate (n - len) no_link ≡ more_links ends links kept n few
     grown_links = (λ i. take_all n links more i ++ replicate (n - len_is i) no_link)
 
-    pub resized_members : (r : Result A B) (now : List Link) → now ≡ (if is_ok r then take n links ++ replicate (n - len) no_link else links) → AreKept ends now
+    pub resized_members : {A B : Type 0} (r : Result A B) (now : List Link) → now ≡ (if is_ok r then take n links ++ replicate (n - len) no_link else links) → AreKept ends now
     resized_members (Ok x) now is = subst (λ l. AreKept ends l) (sym (is ∙ grown_links)) (kept_members ends links kept n few)
     resized_members (Err e) now is = subst (λ l. AreKept ends l) (sym is) kept
 
-    pub seen_resized_members : (s : Lists) → lists_by ends links ≡ s → (r : Result A B) (now : List Link) → now ≡ (if is_ok r then take n links ++ replicate (n - len) no_link else links)
+    pub seen_resized_members : {A B : Type 0} (s : Lists) → lists_by ends links ≡ s → (r : Result A B) (now : List Link) → now ≡ (if is_ok r then take n links ++ replicate (n - len) no_link else links)
         → OnOk r (lists_by ends now ≡ with_members s n)
     seen_resized_members s seen (Ok x) now is = ap (λ l. lists_by ends l) (is ∙ grown_links) ∙ seen_members_more ends links kept n few ∙ ap (λ s. with_members s n) seen
     seen_resized_members s seen (Err e) now is = tt

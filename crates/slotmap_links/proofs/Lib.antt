@@ -1,3 +1,4 @@
+pub mod Begins
 pub mod Counts
 pub mod Covers
 pub mod Keeping

@@ -15,10 +15,10 @@ use Rattle.slotmap_links.proofs.Written.{somebody}
 
 -- a number of a list, where it is not before the place
 module _ (at : ℕ) (after : List ℕ) where
-  not_first : (q : ℕ) (before : List ℕ) → times at (q ∷ before) ≡ 0 → nat_eq q at ≡ false
+  pub not_first : (q : ℕ) (before : List ℕ) → times at (q ∷ before) ≡ 0 → nat_eq q at ≡ false
   not_first q before none = is_other q at (λ e. (let f = times_first at q before in let o = ap (λ x. times at (x ∷ before)) e ∙ times_first at at before in let i = one_itself at in omega arith))
 
-  not_later : (q : ℕ) (before : List ℕ) → times at (q ∷ before) ≡ 0 → times at before ≡ 0
+  pub not_later : (q : ℕ) (before : List ℕ) → times at (q ∷ before) ≡ 0 → times at before ≡ 0
   not_later q before none = let f = times_first at q before in omega arith
 
   pub after_there : (before : List ℕ) → times at before ≡ 0 → number_after at (before ++ at ∷ after) ≡ first_or after None
@@ -47,7 +47,7 @@ pub record Stands (s : Lists) (p k : ℕ) : Type 0 where
   pub not_before : times k before ≡ 0
 
 -- the places at the two ends of a list
-module _ {s : Lists} {p : ℕ} {other : Option ℕ} where
+module _ (s : Lists) (p : ℕ) {other : Option ℕ} where
   abbrev pub front_place : other ≡ first_or (list_of s p) None → IsPlace (list_of s p) None other
   front_place next_is = record { before = []; after = list_of s p; is = refl; prev_is = refl; next_is = next_is }
 

@@ -1,8 +1,8 @@
 -- Steps of an iterator along the links of a list, from either end.
-use Rattle.std.proofs.Common.{◌≡◌, ℕ, suc, ◌-◌, ◌<◌, ◌⊎◌, Option, Some, None, List, [], ◌∷◌, ◌++◌, length, inl, inr, refl, sym, ap, ◌∙◌, arith, append_assoc, append-nil, length-append}
+use Rattle.std.proofs.Common.{◌≡◌, ℕ, zero, suc, ◌-◌, ◌<◌, ◌≤◌, ◌⊎◌, Option, Some, None, List, [], ◌∷◌, ◌++◌, length, inl, inr, refl, sym, ap, ◌∙◌, arith, append_assoc, append-nil, length-append}
 use Rattle.slotmap_links.specs.Lists.{first_or, last_or}
 use Rattle.slotmap_links.specs.Linked.{Bounds, Neighbours, link_between, follow, AreLinked}
-use Rattle.slotmap_links.specs.Segment.{IsSegment}
+use Rattle.slotmap_links.specs.Segment.{IsSegment, IsTail}
 use Rattle.slotmap_links.proofs.Linking.{last_or-append}
 
 -- a list has a last number, or none
@@ -92,3 +92,43 @@ module _ (link : ℕ → Neighbours) (left : ℕ) (first last : Option ℕ) (s :
         let rest : follow link (left - 1) first ≡ es = ap (λ n. follow link n first) r.left_is ∙ ap (follow link (length es)) r.first_is ∙ follow_ahead link r.before es r.after r.links_are in
         (k, back_end es k some.2, r, segment_is ∙ some.2 ∙ ap (λ l. l ++ k ∷ []) (sym rest)))
   ]
+
+-- the rest of a list, from a place on
+module _ (link : ℕ → Neighbours) (most : ℕ) (first : Option ℕ) (t : IsTail link most first) where
+  -- following more links than are left leads to the same
+  follow_tail : (n : ℕ) (before ahead : List ℕ) → ((b : List ℕ) (k : ℕ) (a : List ℕ) → before ++ ahead ≡ b ++ k ∷ a → link k ≡ link_between b a) → length ahead ≤ n → follow link n (first_or ahead None) ≡ ahead
+  follow_tail zero before [] links few = refl
+  follow_tail zero before (k ∷ ks) links few = absurd (omega arith)
+  follow_tail (suc n) before [] links few = refl
+  follow_tail (suc n) before (k ∷ ks) links few =
+      ap (λ (l : Neighbours). k ∷ follow link n l.next) (links before k ks refl)
+      ∙ ap (λ l. k ∷ l) (follow_tail n (before ++ k ∷ []) ks (λ b x a is. links b x a (sym (append_assoc before (k ∷ []) ks) ∙ is)) (omega arith))
+
+  pub tail_is : follow link most first ≡ t.ahead
+  tail_is = ap (follow link most) t.first_is ∙ follow_tail most t.before t.ahead t.links_are t.few
+
+  -- at its end nothing is left
+  pub tail_end : first ≡ None → follow link most first ≡ []
+  tail_end none = by t.ahead refl
+    where
+      by : (ks : List ℕ) → t.ahead ≡ ks → follow link most first ≡ []
+      by [] is = tail_is ∙ is
+      by (k ∷ ks) is = absurd (let h = sym none ∙ t.first_is ∙ ap (λ l. first_or l None) is in cc)
+
+  -- before that, one number and the rest
+  pub tail_front : (k : ℕ) → first ≡ Some k → IsTail link most (link k).next × (follow link most first ≡ k ∷ follow link most (link k).next)
+  tail_front k some = by t.ahead refl
+    where
+      rest : (ks : List ℕ) → t.ahead ≡ k ∷ ks → IsTail link most (link k).next × (follow link most (link k).next ≡ ks)
+      rest ks is =
+          let next = ap (λ (n : Neighbours). n.next) (t.links_are t.before k ks (ap (λ l. t.before ++ l) is)) in
+          let links : (b : List ℕ) (x : ℕ) (a : List ℕ) → (t.before ++ k ∷ []) ++ ks ≡ b ++ x ∷ a → link x ≡ link_between b a = λ b x a at. t.links_are b x a (ap (λ l. t.before ++ l) is ∙ sym (append_assoc t.before (k ∷ []) ks) ∙ at) in
+          let few : length ks ≤ most = (let n = ap length is in let f = t.few in omega arith) in
+          (record { before = t.before ++ k ∷ []; ahead = ks; links_are = links; few = few; first_is = next }, ap (follow link most) next ∙ follow_tail most (t.before ++ k ∷ []) ks links few)
+
+      by : (ks : List ℕ) → t.ahead ≡ ks → IsTail link most (link k).next × (follow link most first ≡ k ∷ follow link most (link k).next)
+      by [] is = absurd (let h = sym some ∙ t.first_is ∙ ap (λ l. first_or l None) is in cc)
+      by (q ∷ ks) is =
+          let same : q ≡ k = (let h = sym (t.first_is ∙ ap (λ l. first_or l None) is) ∙ some in cc) in
+          let r = rest ks (is ∙ ap (λ x. x ∷ ks) same) in
+          (r.0, tail_is ∙ is ∙ ap (λ x. x ∷ ks) same ∙ ap (λ l. k ∷ l) (sym r.1))

@@ -37,6 +37,11 @@ abbrev pub number_before : Option ℕ → ℕ → List ℕ → Option ℕ
 number_before other k [] = None
 number_before other k (q ∷ ks) = cond (nat_eq q k) other (number_before (Some q) k ks)
 
+-- the numbers from k on; where k isn't there, none
+abbrev pub numbers_from : ℕ → List ℕ → List ℕ
+numbers_from k [] = []
+numbers_from k (q ∷ ks) = cond (nat_eq q k) (q ∷ ks) (numbers_from k ks)
+
 -- a list without a number
 abbrev pub without : ℕ → List ℕ → List ℕ
 without k ks = filter (λ q. not (nat_eq q k)) ks

@@ -31,16 +31,18 @@
 //! ```
 #![tactic(auto)]
 
-ghost use Rattle.std.specs.Prelude.{◌≡◌, ℕ, ◌+◌, ◌-◌, ◌<◌, ◌≤◌, ◌≢◌, ◌^◌, ◌++◌, ◌∷◌, [], OnOk, OnErr, IsOk, IsTrue, ◌↔◌, None, length};
+ghost use Rattle.std.specs.Prelude.{◌≡◌, ℕ, ◌+◌, ◌-◌, ◌<◌, ◌≤◌, ◌≢◌, ◌^◌, ◌++◌, ◌∷◌, [], IfOk, OnOk, OnErr, IsOk, IsTrue, ◌↔◌, None, length, replicate};
 ghost use Rattle.slotmap_links.specs.Kept.{IsPlace, unless_nobody};
-ghost use Rattle.slotmap_links.specs.Lists.{AreDisjoint, IsFree, IsIn, first_or, last_or, list_of, number_after, number_before, put_before, put_behind, with_list, with_members, with_owners, without};
+ghost use Rattle.slotmap_links.specs.Lists.{AreDisjoint, IsFree, IsIn, first_or, last_or, list_of, number_after, number_before, numbers_from, put_before, put_behind, with_list, with_members, with_owners, without};
 
 use std::alloc::{AllocError, Global};
 use std::marker::Model;
 
 mod between;
+mod iter;
 
 use between::{NO_ENDS, NO_LINK, NOBODY, option_of, put_between, take_between};
+pub use iter::{Members, MembersFrom};
 
 // The two ends of an owner's list, and how many members it has.
 #[derive(Clone, Copy, Debug, Drop)]
@@ -133,6 +135,33 @@ impl Links {
             return Ok(());
         }
         self.links.resize(members, NO_LINK)
+    }
+
+    /// Empties all lists. The owners stay, and so do the numbers that may be members.
+    ///
+    /// ```
+    /// let mut links = Links::new(alloc);
+    /// links.cover_owners(1)?;
+    /// links.cover_members(8)?;
+    /// links.put_last(0, 5);
+    /// links.clear();
+    /// assert!(rt; links.is_empty(0));
+    /// assert_eq!(rt; links.members(), 8);
+    /// ```
+    pub fn clear(&mut self)
+        ensures { self.new ≡ record { lists = replicate (length self.old.lists) []; members = self.old.members } }
+    {
+        self.ends.fill(NO_ENDS);
+    }
+
+    /// Returns a copy, with the same lists. It fails only if memory runs out.
+    pub fn clone(&self) -> Result<Links, AllocError>
+        ensures { IfOk result (λ copy. copy ≡ self.now) }
+    {
+        Ok(Links {
+            ends: self.ends.clone()?,
+            links: self.links.clone()?,
+        })
     }
 
     /// Returns the number of owners: they are the numbers below it.
@@ -271,5 +300,57 @@ impl Links {
         ensures { self.new ≡ with_list self.old owner (without member (list_of self.old owner)) }
     {
         take_between(&mut self.ends, &mut self.links, owner, member);
+    }
+
+    /// Returns an iterator over an owner's list, from both ends. It knows how many members are left.
+    ///
+    /// ```
+    /// let mut links = Links::new(alloc);
+    /// links.cover_owners(1)?;
+    /// links.cover_members(8)?;
+    /// links.put_last(0, 5);
+    /// links.put_last(0, 2);
+    /// let mut members = links.iter(0);
+    /// assert_eq!(rt; members.len(), 2);
+    /// assert_eq!(rt; members.next_back(), Some(2));
+    /// assert_eq!(rt; members.next(), Some(5));
+    /// assert_eq!(rt; members.next(), None);
+    /// ```
+    pub fn iter(&self, owner: u32) -> Members<'_>
+        requires { owner < length self.now.lists }
+        ensures { result ≡ list_of self.now owner }
+    {
+        let ends = self.ends[owner as usize];
+        Members {
+            links: &self.links,
+            first: ends.first,
+            last: ends.last,
+            left: ends.len as usize,
+        }
+    }
+
+    /// Returns an iterator over an owner's list from a member on, forward only. It doesn't know how
+    /// many members are left.
+    ///
+    /// ```
+    /// let mut links = Links::new(alloc);
+    /// links.cover_owners(1)?;
+    /// links.cover_members(8)?;
+    /// links.put_last(0, 5);
+    /// links.put_last(0, 2);
+    /// links.put_last(0, 7);
+    /// let mut members = links.iter_from(2);
+    /// assert_eq!(rt; members.next(), Some(2));
+    /// assert_eq!(rt; members.next(), Some(7));
+    /// assert_eq!(rt; members.next(), None);
+    /// ```
+    pub fn iter_from(&self, member: u32) -> MembersFrom<'_>
+        requires { (p : ℕ) × IsIn self.now p member }
+        ensures { (p : ℕ) → IsIn self.now p member → result ≡ numbers_from member (list_of self.now p) }
+    {
+        MembersFrom {
+            links: &self.links,
+            at: member,
+        }
     }
 }
