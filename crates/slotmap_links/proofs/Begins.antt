@@ -1,14 +1,14 @@
 -- Where the iterators begin.
-use Rattle.std.proofs.Common.{◌≡◌, ℕ, ◌<◌, ◌≤◌, Option, None, Some, cond, nat_eq, List, [], ◌∷◌, ◌++◌, length, get_or, refl, sym, ap, subst, ◌∙◌, arith, length-append}
+use Rattle.std.proofs.Common.{◌≡◌, ℕ, ◌<◌, cond, List, [], ◌∷◌, ◌++◌, length, get_or, sym, ap, subst, ◌∙◌, arith, length-append}
 use Rattle.std.proofs.lemmas.List.{get_or_default}
-use Rattle.slotmap_links.specs.Lists.{Lists, times, first_or, list_of, IsIn, numbers_from}
+use Rattle.slotmap_links.specs.Lists.{Lists, times, list_of, IsIn, numbers_from}
 use Rattle.slotmap_links.specs.Linked.{Bounds, follow}
 use Rattle.slotmap_links.specs.Segment.{IsSegment, IsTail}
-use Rattle.slotmap_links.specs.Kept.{ends_at, link_at, listed, lists_by, bounds, unless_nobody, no_ends, AreKept}
+use Rattle.slotmap_links.specs.Kept.{link_at, listed, lists_by, bounds, unless_nobody, no_ends, AreKept}
 use Rattle.slotmap_links.specs.declared.Ends.{Ends}
 use Rattle.slotmap_links.specs.declared.Link.{Link}
 use Rattle.slotmap_links.proofs.Counts.{is_itself}
-use Rattle.slotmap_links.proofs.Keeping.{seen_owners, list_fits}
+use Rattle.slotmap_links.proofs.Keeping.{list_fits}
 use Rattle.slotmap_links.proofs.Segments.{segment_start, tail_is}
 use Rattle.slotmap_links.proofs.Seen.{list_here, member_stands, not_first, not_later, owner_here, somebody_is}
 

@@ -1,5 +1,5 @@
 -- How often a number is in a list, and a list without one of its numbers.
-use Rattle.std.proofs.Common.{◌≡◌, ◌≢◌, ℕ, zero, suc, ◌+◌, ◌<◌, ◌≤◌, ◌⊎◌, true, false, Bool, cond, not, if◌then◌else◌, nat_eq, List, [], ◌∷◌, ◌++◌, length, refl, sym, ap, ◌∙◌, inl, inr, arith, eq-eqb, eqb-true}
+use Rattle.std.proofs.Common.{◌≡◌, ◌≢◌, ℕ, zero, suc, ◌+◌, ◌<◌, ◌≤◌, ◌⊎◌, true, false, cond, not, if◌then◌else◌, nat_eq, List, [], ◌∷◌, ◌++◌, length, refl, sym, ap, ◌∙◌, inl, inr, arith, eq-eqb, eqb-true}
 use Rattle.std.proofs.lemmas.List.Sums.{sum_by-cons, sum_by-append}
 use Rattle.slotmap_links.specs.Lists.{times, without}
 
@@ -81,12 +81,12 @@ few_below (suc n) ks once below =
     let long = length_without n ks in
     let one = once n in
     let rest = few_below n (without n ks)
-      (λ k. elim (same_or_other k n) [
-        | inl is ↦ (let gone = times_gone n ks in let e = ap (λ x. times x (without n ks)) is in omega arith)
-        | inr other ↦ (let kept = times_without n k ks other in let h = once k in omega arith)
-      ])
-      (λ k more. elim (same_or_other k n) [
-        | inl is ↦ absurd (let gone = times_gone n ks in let e = ap (λ x. times x (without n ks)) is in omega arith)
-        | inr other ↦ (let kept = times_without n k ks other in let h = below k (omega arith) in omega (arith, other))
-      ]) in
+    (λ k. elim (same_or_other k n) [
+      | inl is ↦ (let gone = times_gone n ks in let e = ap (λ x. times x (without n ks)) is in omega arith)
+      | inr other ↦ (let kept = times_without n k ks other in let h = once k in omega arith)
+    ])
+    (λ k more. elim (same_or_other k n) [
+      | inl is ↦ absurd (let gone = times_gone n ks in let e = ap (λ x. times x (without n ks)) is in omega arith)
+      | inr other ↦ (let kept = times_without n k ks other in let h = below k (omega arith) in omega (arith, other))
+    ]) in
     omega arith

@@ -1,31 +1,31 @@
 -- More owners, or more numbers that may be members: the lists stay, and new ones are empty.
-use Rattle.std.proofs.Common.{◌≡◌, ◌≢◌, ℕ, ◌+◌, ◌-◌, ◌<◌, ◌≤◌, ◌⊎◌, Result, Ok, Err, OnOk, is_ok, if◌then◌else◌, max, map as list_map, List, [], ◌∷◌, ◌++◌, length, get_or, take, replicate, zero, suc, refl, sym, ap, subst, ◌∙◌, inl, inr, arith, length-append}
+use Rattle.std.proofs.Common.{◌≡◌, ℕ, ◌-◌, ◌<◌, ◌≤◌, ◌⊎◌, Result, Ok, Err, OnOk, is_ok, if◌then◌else◌, max, map as list_map, List, [], ◌∷◌, ◌++◌, length, get_or, take, replicate, zero, suc, refl, sym, ap, subst, ◌∙◌, inl, inr, arith, length-append}
 use Rattle.std.proofs.Math.ListN.{get_or-append, get_or-eq_default}
 use Rattle.std.proofs.Math.Seq.{get_or-append_right}
 use Rattle.std.proofs.lemmas.List.{map-append, length-replicate, take_all, get_or-replicate}
 use Rattle.slotmap_links.specs.Lists.{Lists, times, with_owners, with_members}
-use Rattle.slotmap_links.specs.Linked.{Bounds, Neighbours, followed, AreLinked, AreApart}
+use Rattle.slotmap_links.specs.Linked.{followed}
 use Rattle.slotmap_links.specs.Kept.{ends_at, link_at, listed, lists_by, bounds, neighbours, nobody, no_ends, no_link, AreKept}
 use Rattle.slotmap_links.specs.declared.Ends.{Ends}
 use Rattle.slotmap_links.specs.declared.Link.{Link}
-use Rattle.slotmap_links.proofs.Keeping.{seen_owners}
+use Rattle.slotmap_links.proofs.Keeping.{kept_empty, seen_owners}
 use Rattle.slotmap_links.proofs.Splicing.{linked_along}
 
--- a list of defaults behind a list changes no read
-read_padded : {X : Type 0} (xs : List X) (n q : ℕ) (d : X) → get_or (xs ++ replicate n d) q d ≡ get_or xs q d
-read_padded xs n q d = elim (split q (length xs)) [
-  | inl below ↦ get_or-append xs (replicate n d) d q below
-  | inr past ↦ get_or-append_right xs (replicate n d) q d past ∙ padding (q - length xs) ∙ sym (get_or-eq_default xs d {n = q} past)
-]
-  where
-    split : (a b : ℕ) → (a < b) ⊎ (b ≤ a)
-    split a b = search arith
+below_or_past : (a b : ℕ) → (a < b) ⊎ (b ≤ a)
+below_or_past a b = search arith
 
-    padding : (i : ℕ) → get_or (replicate n d) i d ≡ d
-    padding i = elim (split i n) [
-      | inl below ↦ get_or-replicate n i d d below
-      | inr past ↦ get_or-eq_default (replicate n d) d {n = i} (let l = length-replicate n d in omega arith)
-    ]
+-- a list of defaults has the default everywhere, and changes no read of a list before it
+read_default : {X : Type 0} (n q : ℕ) (d : X) → get_or (replicate n d) q d ≡ d
+read_default n q d = elim (below_or_past q n) [
+  | inl below ↦ get_or-replicate n q d d below
+  | inr past ↦ get_or-eq_default (replicate n d) d {n = q} (let l = length-replicate n d in omega arith)
+]
+
+read_padded : {X : Type 0} (xs : List X) (n q : ℕ) (d : X) → get_or (xs ++ replicate n d) q d ≡ get_or xs q d
+read_padded xs n q d = elim (below_or_past q (length xs)) [
+  | inl below ↦ get_or-append xs (replicate n d) d q below
+  | inr past ↦ get_or-append_right xs (replicate n d) q d past ∙ read_default n (q - length xs) d ∙ sym (get_or-eq_default xs d {n = q} past)
+]
 
 map_replicate : {X Y : Type 0} (f : X → Y) (n : ℕ) (x : X) → list_map f (replicate n x) ≡ replicate n (f x)
 map_replicate f zero x = refl
@@ -105,3 +105,15 @@ module _ (ends : List Ends) (links : List Link) (kept : AreKept ends links) (n l
         → OnOk r (lists_by ends now ≡ with_members s n)
     seen_resized_members s seen (Ok x) now is = ap (λ l. lists_by ends l) (is ∙ grown_links) ∙ seen_members_more ends links kept n few ∙ ap (λ s. with_members s n) seen
     seen_resized_members s seen (Err e) now is = tt
+
+-- all lists are emptied
+module _ (ends : List Ends) (links : List Link) (kept : AreKept ends links) (now : List Ends) (n : ℕ) (is : now ≡ replicate n no_ends) where
+  pub kept_cleared : AreKept now links
+  kept_cleared = subst (λ l. AreKept l links) (sym is) (kept_empty (replicate n no_ends) links kept.few (λ p. read_default n p no_ends))
+
+  pub seen_cleared : (s : Lists) → lists_by ends links ≡ s → n ≡ length ends → lists_by now links ≡ record { lists = replicate (length s.lists) []; members = s.members }
+  seen_cleared s seen long =
+      ap (λ l. lists_by l links) is
+      ∙ (λ i. record { lists = map_replicate (λ e. followed (link_at links) (bounds e)) n no_ends i; members = length links })
+      ∙ (λ i. record { lists = replicate ((long ∙ sym (seen_owners ends links)) i) []; members = length links })
+      ∙ ap (λ (s : Lists). record { lists = replicate (length s.lists) []; members = s.members }) seen

@@ -1,14 +1,14 @@
 -- Lists of numbers in two vectors: what a change of the links and of the ends makes of them, and how the user sees them.
-use Rattle.std.proofs.Common.{◌≡◌, ◌≢◌, ℕ, ◌+◌, ◌-◌, ◌<◌, ◌≤◌, ◌⊎◌, Option, Some, None, cond, nat_eq, map as list_map, List, [], ◌∷◌, ◌++◌, length, get_or, set, replicate, refl, sym, ap, subst, ◌∙◌, inl, inr, arith, append-nil, append_assoc, length-append}
+use Rattle.std.proofs.Common.{◌≡◌, ℕ, ◌<◌, ◌≤◌, List, [], ◌∷◌, ◌++◌, length, get_or, set, sym, ap, ◌∙◌, inl, inr, arith}
 use Rattle.std.proofs.Math.ListN.{get_or-map as read_map, get_or-eq_default}
-use Rattle.std.proofs.lemmas.List.{length-map, length-set, get_or-set_same, get_or-set_other, ext_get_or, length-replicate}
-use Rattle.slotmap_links.specs.Lists.{Lists, times, first_or, last_or, list_of, with_list, IsFree, IsIn, AreDisjoint, without}
-use Rattle.slotmap_links.specs.Linked.{Bounds, Neighbours, ends_of, link_between, follow, followed, AreLinked, AreApart, Relinks, IsListed}
-use Rattle.slotmap_links.specs.Kept.{ends_at, link_at, listed, lists_by, bounds, neighbours, no_ends, no_link, AreKept, Relists}
+use Rattle.std.proofs.lemmas.List.{length-map, length-set, get_or-set_same, get_or-set_other, ext_get_or}
+use Rattle.slotmap_links.specs.Lists.{times, list_of, with_list, AreDisjoint}
+use Rattle.slotmap_links.specs.Linked.{ends_of, followed}
+use Rattle.slotmap_links.specs.Kept.{link_at, listed, lists_by, bounds, nobody, no_ends, AreKept, Relists}
 use Rattle.slotmap_links.specs.declared.Ends.{Ends}
 use Rattle.slotmap_links.specs.declared.Link.{Link}
 use Rattle.slotmap_links.proofs.Counts.{same_or_other, few_below}
-use Rattle.slotmap_links.proofs.Linking.{followed_is}
+use Rattle.slotmap_links.proofs.Linking.{cons_not_nil}
 
 module _ (ends : List Ends) (links : List Link) where
   -- the list that the user sees
@@ -29,24 +29,28 @@ module _ (ends : List Ends) (links : List Link) where
   pub list_fits : AreKept ends links → (p : ℕ) → length (listed ends links p) ≤ length links
   list_fits kept p = few_below (length links) (listed ends links p) (kept.apart.once p) (kept.within p)
 
+-- where all ends are those of a list with no members, there are none
+module _ (ends : List Ends) (links : List Link) (few : length links ≤ nobody) (all : (p : ℕ) → get_or ends p no_ends ≡ no_ends) where
+  none : (p : ℕ) → listed ends links p ≡ []
+  none p = ap (λ (e : Ends). followed (link_at links) (bounds e)) (all p)
+
+  nothing : (p : ℕ) (before : List ℕ) (k : ℕ) (after : List ℕ) → listed ends links p ≡ before ++ k ∷ after → ⊥
+  nothing p before k after at = cons_not_nil before k after (sym (none p) ∙ at)
+
+  pub kept_empty : AreKept ends links
+  kept_empty = record {
+    linked = record {
+      ends_are = λ p. (ap bounds (all p) ∙ ap ends_of (sym (none p)));
+      links_are = λ p before k after at. absurd (nothing p before k after at);
+    };
+    apart = record { once = λ p k. (let e = ap (times k) (none p) in omega arith); alone = λ p q k more _. absurd (let e = ap (times k) (none p) in omega arith) };
+    within = λ p k more. absurd (let e = ap (times k) (none p) in omega arith);
+    few = few;
+  }
+
 -- no owner and no member
 pub kept_none : AreKept [] []
-kept_none = record {
-  linked = record {
-    ends_are = λ p. ap (λ (e : Ends). bounds e) (get_or-eq_default [] no_ends {n = p} (omega arith));
-    links_are = λ p before k after at. absurd (nothing p before k after at);
-  };
-  apart = record { once = λ p k. (let e = ap (times k) (none p) in omega arith); alone = λ p q k more _. absurd (let e = ap (times k) (none p) in omega arith) };
-  within = λ p k more. absurd (let e = ap (times k) (none p) in omega arith);
-  few = omega arith;
-}
-  where
-    none : (p : ℕ) → listed [] [] p ≡ []
-    none p = ap (λ (e : Ends). followed (link_at []) (bounds e)) (get_or-eq_default [] no_ends {n = p} (omega arith))
-
-    nothing : (p : ℕ) (before : List ℕ) (k : ℕ) (after : List ℕ) → listed [] [] p ≡ before ++ k ∷ after → ⊥
-    nothing p [] k after at = (let h = sym (none p) ∙ at in cc)
-    nothing p (q ∷ before) k after at = (let h = sym (none p) ∙ at in cc)
+kept_none = kept_empty [] [] (omega arith) (λ p. get_or-eq_default [] no_ends {n = p} (omega arith))
 
 -- the user sees that one list changed
 module _ (ends : List Ends) (links : List Link) (p : ℕ) (ks : List ℕ) (ends' : List Ends) (links' : List Link) (there : p < length ends) (relists : Relists ends links p ks ends' links') where

@@ -1,14 +1,14 @@
 -- One list is another one now: what holds of all of them then.
-use Rattle.std.proofs.Common.{◌≡◌, ◌≢◌, ℕ, ◌+◌, ◌-◌, ◌<◌, ◌≤◌, ◌⊎◌, true, Option, Some, None, cond, nat_eq, List, [], ◌∷◌, ◌++◌, length, refl, sym, ap, ◌∙◌, inl, inr, arith}
+use Rattle.std.proofs.Common.{◌≡◌, ◌≢◌, ℕ, ◌+◌, ◌-◌, ◌<◌, ◌≤◌, Some, None, cond, nat_eq, List, [], ◌∷◌, ◌++◌, length, refl, sym, ap, ◌∙◌, inl, inr, arith}
 use Rattle.std.proofs.Math.Nat.{eq-zero-or-pos}
-use Rattle.slotmap_links.specs.Lists.{times, first_or, last_or, without}
-use Rattle.slotmap_links.specs.Linked.{Bounds, Neighbours, ends_of, link_between, followed, AreLinked, AreApart, Relinks, IsListed}
+use Rattle.slotmap_links.specs.Lists.{times, first_or, last_or}
+use Rattle.slotmap_links.specs.Linked.{Neighbours, ends_of, link_between, AreLinked, AreApart, IsListed}
 use Rattle.slotmap_links.specs.Splice.{with_next, with_prev, own}
-use Rattle.slotmap_links.specs.Kept.{ends_at, link_at, listed, AreKept, Relists, IsPlace}
+use Rattle.slotmap_links.specs.Kept.{ends_at, link_at, listed, AreKept, Relists}
 use Rattle.slotmap_links.specs.declared.Ends.{Ends}
 use Rattle.slotmap_links.specs.declared.Link.{Link}
 use Rattle.slotmap_links.proofs.Counts.{same, same_or_other, is_itself, is_other, one_itself, one_other, times_first, times_joined}
-use Rattle.slotmap_links.proofs.Linking.{followed_is, in_midst, split_at, without_split, linked_put, linked_taken}
+use Rattle.slotmap_links.proofs.Linking.{followed_is, in_midst, linked_put, linked_taken}
 use Rattle.slotmap_links.proofs.Splicing.{spliced, spliced_own, two_neighbours, ends_put, ends_taken, linked_self}
 
 -- the list of p is ks, in which no number but k is more often than before
@@ -19,8 +19,8 @@ module _ (lists : ℕ → List ℕ) (apart : AreApart lists) (p k : ℕ) (ks : L
   was_there q x other in_p in_q = elim (same_or_other x k) [
     | inl is ↦ absurd (let a = ap (λ x. times x (lists' q)) is in let b = ap (times k) (others q other) in let c = elsewhere q other in omega arith)
     | inr not_k ↦ apart.alone p q x
-      (let a = ap (times x) here in let b = fewer x not_k in omega arith)
-      (let b = ap (times x) (others q other) in omega arith)
+        (let a = ap (times x) here in let b = fewer x not_k in omega arith)
+        (let b = ap (times x) (others q other) in omega arith)
   ]
 
   pub apart_now : AreApart lists'

@@ -1,9 +1,9 @@
 -- A number that is put into a list that is kept as links, or taken out of it: what is written makes the links of the new list.
-use Rattle.std.proofs.Common.{ℕ, ◌≡◌, ◌≢◌, ◌+◌, ◌-◌, ◌<◌, ◌≤◌, true, Option, Some, None, List, [], ◌∷◌, ◌++◌, length, cond, refl, sym, ap, subst, ◌∙◌, arith, append-nil, length-append}
+use Rattle.std.proofs.Common.{ℕ, ◌≡◌, ◌≢◌, ◌+◌, ◌-◌, ◌≤◌, Option, Some, None, List, [], ◌∷◌, ◌++◌, length, cond, refl, sym, ap, subst, ◌∙◌, arith, append-nil, length-append}
 use Rattle.slotmap_links.specs.Lists.{times, first_or, last_or}
 use Rattle.slotmap_links.specs.Linked.{Bounds, Neighbours, ends_of, followed, AreLinked, Relinks}
 use Rattle.slotmap_links.specs.Splice.{with_next, with_prev, own}
-use Rattle.slotmap_links.proofs.Counts.{same, is_itself, is_other, one_itself, times_first}
+use Rattle.slotmap_links.proofs.Counts.{same, is_itself, is_other}
 use Rattle.slotmap_links.proofs.Linking.{last_or-append, first_in, last_in, in_midst, followed_is}
 
 module _ (to : Option ℕ) (link : ℕ → Neighbours) (q : ℕ) where

@@ -1,4 +1,3 @@
-use Rattle.std.proofs.Common.{rules}
 use Rattle.slotmap_links.proofs.Keeping.{kept_none}
 use Rattle.slotmap_links.proofs.Links.new.Goals as goal
 

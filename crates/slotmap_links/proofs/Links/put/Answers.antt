@@ -1,4 +1,3 @@
-use Rattle.slotmap_links.specs.Kept.{Relists}
 use Rattle.slotmap_links.proofs.Seen.{free_here, kept_written, place_at, put_relists, seen_written}
 use Rattle.slotmap_links.proofs.Links.put.Goals as goal
 

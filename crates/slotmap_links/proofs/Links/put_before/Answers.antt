@@ -1,5 +1,5 @@
-use Rattle.std.proofs.Common.{◌≡◌, ◌<◌, ◌∷◌, ap, sym, ◌∙◌, length, arith}
-use Rattle.slotmap_links.specs.Lists.{list_of, put_before, with_list}
+use Rattle.std.proofs.Common.{ap, sym, ◌∙◌, arith}
+use Rattle.slotmap_links.specs.Lists.{put_before, with_list}
 use Rattle.slotmap_links.proofs.Seen.{before_place, member_below, member_stands, prev_is, put_before_there, somebody_is}
 use Rattle.slotmap_links.proofs.Links.put_before.Goals as goal
 

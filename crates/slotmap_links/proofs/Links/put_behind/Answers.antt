@@ -1,5 +1,5 @@
-use Rattle.std.proofs.Common.{◌≡◌, ◌<◌, ◌++◌, ◌∷◌, [], ap, sym, ◌∙◌, length, arith, append_assoc}
-use Rattle.slotmap_links.specs.Lists.{list_of, put_behind, with_list}
+use Rattle.std.proofs.Common.{◌∷◌, [], ap, sym, ◌∙◌, arith, append_assoc}
+use Rattle.slotmap_links.specs.Lists.{put_behind, with_list}
 use Rattle.slotmap_links.proofs.Seen.{behind_place, member_below, member_stands, next_is, put_behind_there, somebody_is}
 use Rattle.slotmap_links.proofs.Links.put_behind.Goals as goal
 
@@ -23,4 +23,4 @@ returns c =
     (somebody_is c.self.inside.ends.items c.self.inside.links.items c.self.invariant c.args.self.now c.self.view_is c.args.owner c.args.at c.requires.at)
     (next_is c.self.inside.ends.items c.self.inside.links.items c.self.invariant c.args.self.now c.self.view_is c.args.owner c.args.at c.index.result.now c.index.ensures c.requires.at stands))
     ∙ ap (with_list c.args.self.now c.args.owner) (append_assoc stands.before (c.args.at ∷ []) (c.args.member ∷ stands.after)
-      ∙ sym (ap (put_behind c.args.at c.args.member) stands.is ∙ put_behind_there c.args.at stands.after c.args.member stands.before stands.not_before))
+    ∙ sym (ap (put_behind c.args.at c.args.member) stands.is ∙ put_behind_there c.args.at stands.after c.args.member stands.before stands.not_before))

@@ -1,4 +1,4 @@
-use Rattle.std.proofs.Common.{◌≡◌, ◌≤◌, ◌∙◌, ap, sym, length, arith}
+use Rattle.std.proofs.Common.{◌∙◌, ap, sym, length, arith}
 use Rattle.slotmap_links.specs.Kept.{link_at, unless_nobody}
 use Rattle.slotmap_links.proofs.Segments.{tail_is}
 use Rattle.slotmap_links.proofs.iter.MembersFromIterator.size_hint.Goals as goal
