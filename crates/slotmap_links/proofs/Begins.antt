@@ -8,9 +8,9 @@ use Rattle.slotmap_links.specs.Kept.{link_at, listed, lists_by, bounds, unless_n
 use Rattle.slotmap_links.specs.declared.Ends.{Ends}
 use Rattle.slotmap_links.specs.declared.Link.{Link}
 use Rattle.slotmap_links.proofs.Counts.{is_itself}
-use Rattle.slotmap_links.proofs.Keeping.{list_fits}
+use Rattle.slotmap_links.proofs.KeptLists.{list_fits}
 use Rattle.slotmap_links.proofs.Segments.{segment_start, tail_is}
-use Rattle.slotmap_links.proofs.Seen.{list_here, member_stands, not_first, not_later, owner_here, somebody_is}
+use Rattle.slotmap_links.proofs.SeenLists.{list_here, member_stands, not_first, not_later, owner_here, somebody_is}
 
 -- the numbers from a number on
 from_there : (k : ℕ) (before after : List ℕ) → times k before ≡ 0 → numbers_from k (before ++ k ∷ after) ≡ k ∷ after

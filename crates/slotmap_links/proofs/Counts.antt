@@ -41,7 +41,7 @@ by_first k q P ks here later = elim (nat_eq q k) as (λ t. nat_eq q k ≡ t → 
   | false ↦ λ is. later (λ same. (let t = eq-eqb q k same in cc))
 ] refl
 
-times_gone : (k : ℕ) (ks : List ℕ) → times k (without k ks) ≡ 0
+pub times_gone : (k : ℕ) (ks : List ℕ) → times k (without k ks) ≡ 0
 times_gone k [] = refl
 times_gone k (q ∷ ks) = by_first k q (λ l. times k l ≡ 0) ks
     (λ is. times_gone k ks)

@@ -5,10 +5,10 @@ use Rattle.std.proofs.Math.Seq.{get_or-append_right}
 use Rattle.std.proofs.lemmas.List.{map-append, length-replicate, take_all, get_or-replicate}
 use Rattle.slotmap_links.specs.Lists.{Lists, times, with_owners, with_members}
 use Rattle.slotmap_links.specs.Linked.{followed}
-use Rattle.slotmap_links.specs.Kept.{ends_at, link_at, listed, lists_by, bounds, neighbours, nobody, no_ends, no_link, AreKept}
+use Rattle.slotmap_links.specs.Kept.{bounds_at, link_at, listed, lists_by, bounds, neighbours, nobody, no_ends, no_link, AreKept}
 use Rattle.slotmap_links.specs.declared.Ends.{Ends}
 use Rattle.slotmap_links.specs.declared.Link.{Link}
-use Rattle.slotmap_links.proofs.Keeping.{kept_empty, seen_owners}
+use Rattle.slotmap_links.proofs.KeptLists.{kept_empty, seen_owners}
 use Rattle.slotmap_links.proofs.Splicing.{linked_along}
 
 below_or_past : (a b : ℕ) → (a < b) ⊎ (b ≤ a)
@@ -21,7 +21,7 @@ read_default n q d = elim (below_or_past q n) [
   | inr past ↦ get_or-eq_default (replicate n d) d {n = q} (let l = length-replicate n d in omega arith)
 ]
 
-read_padded : {X : Type 0} (xs : List X) (n q : ℕ) (d : X) → get_or (xs ++ replicate n d) q d ≡ get_or xs q d
+pub read_padded : {X : Type 0} (xs : List X) (n q : ℕ) (d : X) → get_or (xs ++ replicate n d) q d ≡ get_or xs q d
 read_padded xs n q d = elim (below_or_past q (length xs)) [
   | inl below ↦ get_or-append xs (replicate n d) d q below
   | inr past ↦ get_or-append_right xs (replicate n d) q d past ∙ read_default n (q - length xs) d ∙ sym (get_or-eq_default xs d {n = q} past)
@@ -32,7 +32,7 @@ map_replicate f zero x = refl
 map_replicate f (suc n) x = ap (λ l. f x ∷ l) (map_replicate f n x)
 
 -- the same ends and the same links at each number
-module _ (ends ends' : List Ends) (links links' : List Link) (same_ends : (q : ℕ) → ends_at ends' q ≡ ends_at ends q) (same_links : (q : ℕ) → link_at links' q ≡ link_at links q) where
+module _ (ends ends' : List Ends) (links links' : List Link) (same_ends : (q : ℕ) → bounds_at ends' q ≡ bounds_at ends q) (same_links : (q : ℕ) → link_at links' q ≡ link_at links q) where
   list_stays : (p : ℕ) → listed ends' links' p ≡ listed ends links p
   list_stays p = λ i. followed (λ q. same_links q i) (same_ends p i)
 

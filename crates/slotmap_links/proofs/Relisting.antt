@@ -4,7 +4,7 @@ use Rattle.std.proofs.Math.Nat.{eq-zero-or-pos}
 use Rattle.slotmap_links.specs.Lists.{times, first_or, last_or}
 use Rattle.slotmap_links.specs.Linked.{Neighbours, ends_of, link_between, AreLinked, AreApart, IsListed}
 use Rattle.slotmap_links.specs.Splice.{with_next, with_prev, own}
-use Rattle.slotmap_links.specs.Kept.{ends_at, link_at, listed, AreKept, Relists}
+use Rattle.slotmap_links.specs.Kept.{bounds_at, link_at, listed, AreKept, Relists}
 use Rattle.slotmap_links.specs.declared.Ends.{Ends}
 use Rattle.slotmap_links.specs.declared.Link.{Link}
 use Rattle.slotmap_links.proofs.Counts.{same, same_or_other, is_itself, is_other, one_itself, one_other, times_first, times_joined}
@@ -59,7 +59,7 @@ module _ (ends : List Ends) (links : List Link) (kept : AreKept ends links) (p k
 
   -- the list of p is ks, with these ends and links
   module _ (ks : List ℕ) (ends' : List Ends) (links' : List Link) (owners : length ends' ≡ length ends) (members : length links' ≡ length links)
-      (here : ends_at ends' p ≡ ends_of ks) (there : (q : ℕ) → q ≢ p → ends_at ends' q ≡ ends_at ends q) where
+      (here : bounds_at ends' p ≡ ends_of ks) (there : (q : ℕ) → q ≢ p → bounds_at ends' q ≡ bounds_at ends q) where
     abbrev lists_now : ℕ → List ℕ
     lists_now q = cond (nat_eq q p) ks (listed ends links q)
 
@@ -69,10 +69,10 @@ module _ (ends : List Ends) (links : List Link) (kept : AreKept ends links) (p k
     now_there : (q : ℕ) → q ≢ p → lists_now q ≡ listed ends links q
     now_there q other = ap (λ b. cond b ks (listed ends links q)) (is_other q p other)
 
-    is_listed : IsListed (listed ends links) lists_now (ends_at ends) (ends_at ends') p ks
+    is_listed : IsListed (listed ends links) lists_now (bounds_at ends) (bounds_at ends') p ks
     is_listed = record { list = now_here; ends = here; others = now_there; other_ends = there }
 
-    relists_by : AreLinked (ends_at ends') (link_at links') lists_now → (fewer : (x : ℕ) → x ≢ k → times x ks ≤ times x list) (one : times k ks ≤ 1) (elsewhere : (q : ℕ) → q ≢ p → times k (listed ends links q) ≡ 0)
+    relists_by : AreLinked (bounds_at ends') (link_at links') lists_now → (fewer : (x : ℕ) → x ≢ k → times x ks ≤ times x list) (one : times k ks ≤ 1) (elsewhere : (q : ℕ) → q ≢ p → times k (listed ends links q) ≡ 0)
         → Relists ends links p ks ends' links'
     relists_by linked fewer one elsewhere =
         let is : (q : ℕ) → listed ends' links' q ≡ lists_now q = followed_is linked in
@@ -105,10 +105,10 @@ module _ (ends : List Ends) (links : List Link) (kept : AreKept ends links) (p k
     apart_at : (x : ℕ) → last_or before None ≡ Some x → first_or after None ≢ Some x
     apart_at = two_neighbours before [] after (λ x. (let h = kept.apart.once p x in let e = ap (times x) is ∙ times_joined x before after in omega arith))
 
-    pub relists_put : ends_at ends' p ≡ record { first = own (last_or before None) (ends_at ends p).first (Some k); last = own (first_or after None) (ends_at ends p).last (Some k); len = (ends_at ends p).len + 1 }
-        → ((q : ℕ) → q ≢ p → ends_at ends' q ≡ ends_at ends q) → Relists ends links p (before ++ k ∷ after) ends' links'
+    pub relists_put : bounds_at ends' p ≡ record { first = own (last_or before None) (bounds_at ends p).first (Some k); last = own (first_or after None) (bounds_at ends p).last (Some k); len = (bounds_at ends p).len + 1 }
+        → ((q : ℕ) → q ≢ p → bounds_at ends' q ≡ bounds_at ends q) → Relists ends links p (before ++ k ∷ after) ends' links'
     relists_put here there =
-        let new = here ∙ ends_put before k after (ends_at ends p) (kept.linked.ends_are p ∙ ap ends_of is) in
+        let new = here ∙ ends_put before k after (bounds_at ends p) (kept.linked.ends_are p ∙ ap ends_of is) in
         relists_by (before ++ k ∷ after) ends' links' owners members new there
         (linked_put kept.linked kept.apart p k before after is nowhere
         (spliced_own before after k not_before not_after (link_at links) mid (link_at links') (Some k) (Some k) but written ∙ at)
@@ -133,10 +133,10 @@ module _ (ends : List Ends) (links : List Link) (kept : AreKept ends links) (p k
     gone_after : times k after ≡ 0
     gone_after = let h = once_there k in let o = one_itself k in omega arith
 
-    pub relists_taken : ends_at ends' p ≡ record { first = own (last_or before None) (ends_at ends p).first (first_or after None); last = own (first_or after None) (ends_at ends p).last (last_or before None); len = (ends_at ends p).len - 1 }
-        → ((q : ℕ) → q ≢ p → ends_at ends' q ≡ ends_at ends q) → Relists ends links p (before ++ after) ends' links'
+    pub relists_taken : bounds_at ends' p ≡ record { first = own (last_or before None) (bounds_at ends p).first (first_or after None); last = own (first_or after None) (bounds_at ends p).last (last_or before None); len = (bounds_at ends p).len - 1 }
+        → ((q : ℕ) → q ≢ p → bounds_at ends' q ≡ bounds_at ends q) → Relists ends links p (before ++ after) ends' links'
     relists_taken here rest =
-        let new = here ∙ ends_taken before k after (ends_at ends p) (kept.linked.ends_are p ∙ ap ends_of is) in
+        let new = here ∙ ends_taken before k after (bounds_at ends p) (kept.linked.ends_are p ∙ ap ends_of is) in
         relists_by (before ++ after) ends' links' owners members new rest
         (linked_taken kept.linked kept.apart p k before after is
         (spliced before after k gone_before gone_after (link_at links) (link_at links) (link_at links') (first_or after None) (last_or before None) (λ q _. refl) written apart_now_at)

@@ -4,7 +4,7 @@ use Rattle.std.proofs.lemmas.List.{length-set, get_or-set_same, get_or-set_other
 use Rattle.slotmap_links.specs.Lists.{times, first_or, last_or, without}
 use Rattle.slotmap_links.specs.Linked.{Bounds, Neighbours, link_between}
 use Rattle.slotmap_links.specs.Splice.{with_next, with_prev, own}
-use Rattle.slotmap_links.specs.Kept.{ends_at, link_at, listed, bounds, neighbours, nobody, unless_nobody, no_ends, no_link, AreKept, Relists, IsPlace}
+use Rattle.slotmap_links.specs.Kept.{bounds_at, link_at, listed, bounds, neighbours, nobody, unless_nobody, no_ends, no_link, AreKept, Relists, IsGap}
 use Rattle.slotmap_links.specs.declared.Ends.{Ends}
 use Rattle.slotmap_links.specs.declared.Link.{Link}
 use Rattle.slotmap_links.proofs.Counts.{same, same_or_other, is_itself, is_other, one_itself, one_other, times_first, times_joined, few_below}
@@ -27,14 +27,14 @@ module _ (ends : List Ends) (p : ℕ) (there : p < length ends) (d : Ends) (n : 
   abbrev new : Ends
   new = record { first = old.first; last = old.last; len = n }
 
-  counted_here : ends_at (set ends p new) p ≡ record { first = (ends_at ends p).first; last = (ends_at ends p).last; len = n }
+  counted_here : bounds_at (set ends p new) p ≡ record { first = (bounds_at ends p).first; last = (bounds_at ends p).last; len = n }
   counted_here = ap bounds (get_or-set_same ends p new no_ends there)
       ∙ ap (λ (e : Ends). record { first = unless_nobody e.first; last = unless_nobody e.last; len = n }) (get_or_default ends p d no_ends there)
 
-  counted_there : (q : ℕ) → q ≢ p → ends_at (set ends p new) q ≡ ends_at ends q
+  counted_there : (q : ℕ) → q ≢ p → bounds_at (set ends p new) q ≡ bounds_at ends q
   counted_there q other = ap bounds (get_or-set_other ends p q new no_ends other)
 
-  pub len_is : old.len ≡ (ends_at ends p).len
+  pub len_is : old.len ≡ (bounds_at ends p).len
   len_is = ap (λ (e : Ends). e.len) (get_or_default ends p d no_ends there)
 
 -- the ends of an owner's list, once both may be written
@@ -55,14 +55,14 @@ module _ (ends : List Ends) (links : List Link) (kept : AreKept ends links) (p :
   list = listed ends links p
 
   -- the two beside a place are members
-  module _ (prev next : Option ℕ) (place : IsPlace list prev next) where
+  module _ (prev next : Option ℕ) (place : IsGap list prev next) where
     pub prev_below : IfSome prev (λ k. k < length links)
     prev_below = if_some prev _ (λ l is. kept.within p l (let h = last_in place.before l (sym place.prev_is ∙ is) in let e = ap (times l) place.is ∙ times_joined l place.before place.after in omega arith))
 
     pub next_below : IfSome next (λ k. k < length links)
     next_below = if_some next _ (λ f is. kept.within p f (let h = first_in place.after f (sym place.next_is ∙ is) in let e = ap (times f) place.is ∙ times_joined f place.before place.after in omega arith))
 
-  len_of : (ends_at ends p).len ≡ length list
+  len_of : (bounds_at ends p).len ≡ length list
   len_of = ap (λ (e : Bounds). e.len) (kept.linked.ends_are p)
 
   module _ (k : ℕ) (below : k < length links) where
@@ -74,13 +74,13 @@ module _ (ends : List Ends) (links : List Link) (kept : AreKept ends links) (p :
         (members : length new_links ≡ length links) (owners : length new_ends ≡ length ends)
         (links_one : (q : ℕ) → link_at mid_links q ≡ with_next (unless_nobody link.prev) (unless_nobody k) (link_at (set links k link)) q)
         (links_two : (q : ℕ) → link_at new_links q ≡ with_prev (unless_nobody link.next) (unless_nobody k) (link_at mid_links) q)
-        (ends_one : (q : ℕ) → ends_at mid_ends q ≡ cond (nat_eq q p) (record (ends_at ends q) { first = own (unless_nobody link.prev) (ends_at ends q).first (unless_nobody k) }) (ends_at ends q))
-        (ends_two : (q : ℕ) → ends_at new_ends q ≡ cond (nat_eq q p) (record (ends_at mid_ends q) { last = own (unless_nobody link.next) (ends_at mid_ends q).last (unless_nobody k) }) (ends_at mid_ends q)) (d : Ends) where
+        (ends_one : (q : ℕ) → bounds_at mid_ends q ≡ cond (nat_eq q p) (record (bounds_at ends q) { first = own (unless_nobody link.prev) (bounds_at ends q).first (unless_nobody k) }) (bounds_at ends q))
+        (ends_two : (q : ℕ) → bounds_at new_ends q ≡ cond (nat_eq q p) (record (bounds_at mid_ends q) { last = own (unless_nobody link.next) (bounds_at mid_ends q).last (unless_nobody k) }) (bounds_at mid_ends q)) (d : Ends) where
       there : p < length new_ends
       there = omega arith
 
-      both_ends : ends_at new_ends p ≡ record { first = own (unless_nobody link.prev) (ends_at ends p).first (unless_nobody k); last = own (unless_nobody link.next) (ends_at ends p).last (unless_nobody k); len = (ends_at ends p).len }
-      both_ends = end_here (ends_at ends) (ends_at mid_ends) (ends_at new_ends) p (unless_nobody link.prev) (unless_nobody link.next) (unless_nobody k) (unless_nobody k) ends_one ends_two
+      both_ends : bounds_at new_ends p ≡ record { first = own (unless_nobody link.prev) (bounds_at ends p).first (unless_nobody k); last = own (unless_nobody link.next) (bounds_at ends p).last (unless_nobody k); len = (bounds_at ends p).len }
+      both_ends = end_here (bounds_at ends) (bounds_at mid_ends) (bounds_at new_ends) p (unless_nobody link.prev) (unless_nobody link.next) (unless_nobody k) (unless_nobody k) ends_one ends_two
 
       long : (get_or new_ends p d).len ≡ length list
       long = len_is new_ends p there d 0 ∙ ap (λ (e : Bounds). e.len) both_ends ∙ len_of
@@ -99,7 +99,7 @@ module _ (ends : List Ends) (links : List Link) (kept : AreKept ends links) (p :
           ]) in
           let f = kept.few in let l = long in omega arith
 
-      module _ (place : IsPlace list (unless_nobody link.prev) (unless_nobody link.next)) where
+      module _ (place : IsGap list (unless_nobody link.prev) (unless_nobody link.next)) where
         abbrev mid : ℕ → Neighbours
         mid = link_at (set links k link)
 
@@ -115,14 +115,14 @@ module _ (ends : List Ends) (links : List Link) (kept : AreKept ends links) (p :
         abbrev bumped : List Ends
         bumped = set new_ends p (record { first = (get_or new_ends p d).first; last = (get_or new_ends p d).last; len = (get_or new_ends p d).len + 1 })
 
-        ends_put_here : ends_at bumped p ≡ record { first = own (last_or place.before None) (ends_at ends p).first (Some k); last = own (first_or place.after None) (ends_at ends p).last (Some k); len = (ends_at ends p).len + 1 }
+        ends_put_here : bounds_at bumped p ≡ record { first = own (last_or place.before None) (bounds_at ends p).first (Some k); last = own (first_or place.after None) (bounds_at ends p).last (Some k); len = (bounds_at ends p).len + 1 }
         ends_put_here = counted_here new_ends p there d ((get_or new_ends p d).len + 1)
             ∙ (λ i. record { first = (both_ends i).first; last = (both_ends i).last; len = (long ∙ sym len_of) i + 1 })
-            ∙ (λ i. record { first = own (place.prev_is i) (ends_at ends p).first (k_is i); last = own (place.next_is i) (ends_at ends p).last (k_is i); len = (ends_at ends p).len + 1 })
+            ∙ (λ i. record { first = own (place.prev_is i) (bounds_at ends p).first (k_is i); last = own (place.next_is i) (bounds_at ends p).last (k_is i); len = (bounds_at ends p).len + 1 })
 
-        ends_put_there : (q : ℕ) → q ≢ p → ends_at bumped q ≡ ends_at ends q
+        ends_put_there : (q : ℕ) → q ≢ p → bounds_at bumped q ≡ bounds_at ends q
         ends_put_there q other = counted_there new_ends p there d ((get_or new_ends p d).len + 1) q other
-            ∙ end_there (ends_at ends) (ends_at mid_ends) (ends_at new_ends) p (unless_nobody link.prev) (unless_nobody link.next) (unless_nobody k) (unless_nobody k) ends_one ends_two q other
+            ∙ end_there (bounds_at ends) (bounds_at mid_ends) (bounds_at new_ends) p (unless_nobody link.prev) (unless_nobody link.next) (unless_nobody k) (unless_nobody k) ends_one ends_two q other
 
         pub put_written : Relists ends links p (place.before ++ k ∷ place.after) bumped new_links
         put_written = relists_put ends links kept p k below nowhere place.before place.after place.is bumped new_links (length-set new_ends p _ ∙ owners) members mid own_here own_there written ends_put_here ends_put_there
@@ -150,7 +150,7 @@ module _ (ends : List Ends) (links : List Link) (kept : AreKept ends links) (p :
     between : neighbours link ≡ link_between before after
     between = at_k ∙ kept.linked.links_are p before k after list_is
 
-    taken_place : IsPlace list (unless_nobody link.prev) (first_or (k ∷ after) None)
+    taken_place : IsGap list (unless_nobody link.prev) (first_or (k ∷ after) None)
     taken_place = record { before = before; after = k ∷ after; is = list_is; prev_is = ap (λ (n : Neighbours). n.prev) between; next_is = refl }
 
     pub taken_prev_below : IfSome (unless_nobody link.prev) (λ k. k < length links)
@@ -169,15 +169,15 @@ module _ (ends : List Ends) (links : List Link) (kept : AreKept ends links) (p :
         (members : length new_links ≡ length links) (owners : length new_ends ≡ length ends)
         (links_one : (q : ℕ) → link_at mid_links q ≡ with_next (unless_nobody link.prev) (unless_nobody link.next) (link_at links) q)
         (links_two : (q : ℕ) → link_at new_links q ≡ with_prev (unless_nobody link.next) (unless_nobody link.prev) (link_at mid_links) q)
-        (ends_one : (q : ℕ) → ends_at mid_ends q ≡ cond (nat_eq q p) (record (ends_at ends q) { first = own (unless_nobody link.prev) (ends_at ends q).first (unless_nobody link.next) }) (ends_at ends q))
-        (ends_two : (q : ℕ) → ends_at new_ends q ≡ cond (nat_eq q p) (record (ends_at mid_ends q) { last = own (unless_nobody link.next) (ends_at mid_ends q).last (unless_nobody link.prev) }) (ends_at mid_ends q)) (d' : Ends) where
+        (ends_one : (q : ℕ) → bounds_at mid_ends q ≡ cond (nat_eq q p) (record (bounds_at ends q) { first = own (unless_nobody link.prev) (bounds_at ends q).first (unless_nobody link.next) }) (bounds_at ends q))
+        (ends_two : (q : ℕ) → bounds_at new_ends q ≡ cond (nat_eq q p) (record (bounds_at mid_ends q) { last = own (unless_nobody link.next) (bounds_at mid_ends q).last (unless_nobody link.prev) }) (bounds_at mid_ends q)) (d' : Ends) where
       still_there : p < length new_ends
       still_there = omega arith
 
-      both_ends_now : ends_at new_ends p ≡ record { first = own (unless_nobody link.prev) (ends_at ends p).first (unless_nobody link.next); last = own (unless_nobody link.next) (ends_at ends p).last (unless_nobody link.prev); len = (ends_at ends p).len }
-      both_ends_now = end_here (ends_at ends) (ends_at mid_ends) (ends_at new_ends) p (unless_nobody link.prev) (unless_nobody link.next) (unless_nobody link.next) (unless_nobody link.prev) ends_one ends_two
+      both_ends_now : bounds_at new_ends p ≡ record { first = own (unless_nobody link.prev) (bounds_at ends p).first (unless_nobody link.next); last = own (unless_nobody link.next) (bounds_at ends p).last (unless_nobody link.prev); len = (bounds_at ends p).len }
+      both_ends_now = end_here (bounds_at ends) (bounds_at mid_ends) (bounds_at new_ends) p (unless_nobody link.prev) (unless_nobody link.next) (unless_nobody link.next) (unless_nobody link.prev) ends_one ends_two
 
-      long_still : (get_or new_ends p d').len ≡ (ends_at ends p).len
+      long_still : (get_or new_ends p d').len ≡ (bounds_at ends p).len
       long_still = len_is new_ends p still_there d' 0 ∙ ap (λ (e : Bounds). e.len) both_ends_now
 
       -- the list had a member
@@ -190,14 +190,14 @@ module _ (ends : List Ends) (links : List Link) (kept : AreKept ends links) (p :
       abbrev lowered : List Ends
       lowered = set new_ends p (record { first = (get_or new_ends p d').first; last = (get_or new_ends p d').last; len = (get_or new_ends p d').len - 1 })
 
-      ends_taken_here : ends_at lowered p ≡ record { first = own (last_or before None) (ends_at ends p).first (first_or after None); last = own (first_or after None) (ends_at ends p).last (last_or before None); len = (ends_at ends p).len - 1 }
+      ends_taken_here : bounds_at lowered p ≡ record { first = own (last_or before None) (bounds_at ends p).first (first_or after None); last = own (first_or after None) (bounds_at ends p).last (last_or before None); len = (bounds_at ends p).len - 1 }
       ends_taken_here = counted_here new_ends p still_there d' ((get_or new_ends p d').len - 1)
           ∙ (λ i. record { first = (both_ends_now i).first; last = (both_ends_now i).last; len = long_still i - 1 })
-          ∙ (λ i. record { first = own ((between i).prev) (ends_at ends p).first ((between i).next); last = own ((between i).next) (ends_at ends p).last ((between i).prev); len = (ends_at ends p).len - 1 })
+          ∙ (λ i. record { first = own ((between i).prev) (bounds_at ends p).first ((between i).next); last = own ((between i).next) (bounds_at ends p).last ((between i).prev); len = (bounds_at ends p).len - 1 })
 
-      ends_taken_there : (q : ℕ) → q ≢ p → ends_at lowered q ≡ ends_at ends q
+      ends_taken_there : (q : ℕ) → q ≢ p → bounds_at lowered q ≡ bounds_at ends q
       ends_taken_there q other = counted_there new_ends p still_there d' ((get_or new_ends p d').len - 1) q other
-          ∙ end_there (ends_at ends) (ends_at mid_ends) (ends_at new_ends) p (unless_nobody link.prev) (unless_nobody link.next) (unless_nobody link.next) (unless_nobody link.prev) ends_one ends_two q other
+          ∙ end_there (bounds_at ends) (bounds_at mid_ends) (bounds_at new_ends) p (unless_nobody link.prev) (unless_nobody link.next) (unless_nobody link.next) (unless_nobody link.prev) ends_one ends_two q other
 
       pub take_written : Relists ends links p (without k list) lowered new_links
       take_written = rw (ap (without k) list_is, without_split k before after (let o = kept.apart.once p k in let e = ap (times k) list_is in omega arith))

@@ -26,8 +26,8 @@ abbrev pub neighbours : Link → Neighbours
 neighbours l = record { prev = unless_nobody l.prev; next = unless_nobody l.next }
 
 -- the ends of each owner's list
-abbrev pub ends_at : List Ends → ℕ → Bounds
-ends_at ends p = bounds (slice_index_or ends p no_ends)
+abbrev pub bounds_at : List Ends → ℕ → Bounds
+bounds_at ends p = bounds (slice_index_or ends p no_ends)
 
 -- the neighbours of each number
 abbrev pub link_at : List Link → ℕ → Neighbours
@@ -35,7 +35,7 @@ link_at links k = neighbours (slice_index_or links k no_link)
 
 -- the list of each owner, by the links
 abbrev pub listed : List Ends → List Link → ℕ → List ℕ
-listed ends links p = followed (link_at links) (ends_at ends p)
+listed ends links p = followed (link_at links) (bounds_at ends p)
 
 -- all lists, as the user sees them
 abbrev pub lists_by : List Ends → List Link → Lists
@@ -43,13 +43,13 @@ lists_by ends links = record { lists = list_map (λ e. followed (link_at links) 
 
 -- what holds of the two vectors
 pub record AreKept (ends : List Ends) (links : List Link) : Type 0 where
-  pub linked : AreLinked (ends_at ends) (link_at links) (listed ends links)
+  pub linked : AreLinked (bounds_at ends) (link_at links) (listed ends links)
   pub apart : AreApart (listed ends links)
   pub within : (p k : ℕ) → 0 < times k (listed ends links p) → k < length links
   pub few : length links ≤ nobody
 
 -- a place in a list, between these two numbers of it, or at an end
-pub record IsPlace (ks : List ℕ) (prev next : Option ℕ) : Type 0 where
+pub record IsGap (ks : List ℕ) (prev next : Option ℕ) : Type 0 where
   pub before : List ℕ
   pub after : List ℕ
   pub is : ks ≡ before ++ after

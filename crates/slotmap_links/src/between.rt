@@ -1,7 +1,7 @@
 //! The links of one member, and of the two beside it.
 
 ghost use Rattle.std.specs.Prelude.{◌≡◌, ℕ, ◌+◌, ◌-◌, ◌<◌, ◌≤◌, ◌≢◌, ◌++◌, ◌∷◌, None, cond, nat_eq, length, IfSome};
-ghost use Rattle.slotmap_links.specs.Kept.{AreKept, IsPlace, Relists, ends_at, link_at, listed, unless_nobody};
+ghost use Rattle.slotmap_links.specs.Kept.{AreKept, IsGap, Relists, bounds_at, link_at, listed, unless_nobody};
 ghost use Rattle.slotmap_links.specs.Lists.{times, without};
 ghost use Rattle.slotmap_links.specs.Splice.{own, with_next, with_prev};
 
@@ -38,7 +38,7 @@ fn set_next(ends: &mut [Ends], links: &mut [Link], owner: u32, at: u32, to: u32)
     requires owner { owner < length ends.old }
     requires at { IfSome (unless_nobody at) (λ k. k < length links.old) }
     ensures links { (q : ℕ) → link_at links.new q ≡ with_next (unless_nobody at) (unless_nobody to) (link_at links.old) q }
-    ensures ends { (q : ℕ) → ends_at ends.new q ≡ cond (nat_eq q owner) (record (ends_at ends.old q) { first = own (unless_nobody at) (ends_at ends.old q).first (unless_nobody to) }) (ends_at ends.old q) }
+    ensures ends { (q : ℕ) → bounds_at ends.new q ≡ cond (nat_eq q owner) (record (bounds_at ends.old q) { first = own (unless_nobody at) (bounds_at ends.old q).first (unless_nobody to) }) (bounds_at ends.old q) }
 {
     if at == NOBODY {
         ends[owner as usize].first = to;
@@ -52,7 +52,7 @@ fn set_prev(ends: &mut [Ends], links: &mut [Link], owner: u32, at: u32, to: u32)
     requires owner { owner < length ends.old }
     requires at { IfSome (unless_nobody at) (λ k. k < length links.old) }
     ensures links { (q : ℕ) → link_at links.new q ≡ with_prev (unless_nobody at) (unless_nobody to) (link_at links.old) q }
-    ensures ends { (q : ℕ) → ends_at ends.new q ≡ cond (nat_eq q owner) (record (ends_at ends.old q) { last = own (unless_nobody at) (ends_at ends.old q).last (unless_nobody to) }) (ends_at ends.old q) }
+    ensures ends { (q : ℕ) → bounds_at ends.new q ≡ cond (nat_eq q owner) (record (bounds_at ends.old q) { last = own (unless_nobody at) (bounds_at ends.old q).last (unless_nobody to) }) (bounds_at ends.old q) }
 {
     if at == NOBODY {
         ends[owner as usize].last = to;
@@ -74,8 +74,8 @@ pub(crate) fn put_between(
     requires owner { owner < length ends.old }
     requires member { member < length links.old }
     requires free { (p : ℕ) → times member (listed ends.old links.old p) ≡ 0 }
-    requires place { IsPlace (listed ends.old links.old owner) (unless_nobody prev) (unless_nobody next) }
-    ensures { (place : IsPlace (listed ends.old links.old owner) (unless_nobody prev) (unless_nobody next)) → Relists ends.old links.old owner (place.before ++ member ∷ place.after) ends.new links.new }
+    requires place { IsGap (listed ends.old links.old owner) (unless_nobody prev) (unless_nobody next) }
+    ensures { (place : IsGap (listed ends.old links.old owner) (unless_nobody prev) (unless_nobody next)) → Relists ends.old links.old owner (place.before ++ member ∷ place.after) ends.new links.new }
 {
     links[member as usize] = Link { prev, next };
     set_next(ends, links, owner, prev, member);

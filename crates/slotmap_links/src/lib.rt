@@ -32,7 +32,7 @@
 #![tactic(auto)]
 
 ghost use Rattle.std.specs.Prelude.{◌≡◌, ℕ, ◌+◌, ◌-◌, ◌<◌, ◌≤◌, ◌≢◌, ◌^◌, ◌++◌, ◌∷◌, [], IfOk, OnOk, OnErr, IsOk, IsTrue, ◌↔◌, None, length, replicate};
-ghost use Rattle.slotmap_links.specs.Kept.{IsPlace, unless_nobody};
+ghost use Rattle.slotmap_links.specs.Kept.{IsGap, unless_nobody};
 ghost use Rattle.slotmap_links.specs.Lists.{AreDisjoint, IsFree, IsIn, first_or, last_or, list_of, number_after, number_before, numbers_from, put_before, put_behind, with_list, with_members, with_owners, without};
 
 use std::alloc::{AllocError, Global};
@@ -245,8 +245,8 @@ impl Links {
     fn put(&mut self, owner: u32, member: u32, prev: u32, next: u32)
         requires owner { owner < length self.old.lists }
         requires free { IsFree self.old member }
-        requires place { IsPlace (list_of self.old owner) (unless_nobody prev) (unless_nobody next) }
-        ensures { (place : IsPlace (list_of self.old owner) (unless_nobody prev) (unless_nobody next)) → self.new ≡ with_list self.old owner (place.before ++ member ∷ place.after) }
+        requires place { IsGap (list_of self.old owner) (unless_nobody prev) (unless_nobody next) }
+        ensures { (place : IsGap (list_of self.old owner) (unless_nobody prev) (unless_nobody next)) → self.new ≡ with_list self.old owner (place.before ++ member ∷ place.after) }
     {
         put_between(&mut self.ends, &mut self.links, owner, member, prev, next);
     }

@@ -1,4 +1,4 @@
-use Rattle.slotmap_links.proofs.Keeping.{kept_none}
+use Rattle.slotmap_links.proofs.KeptLists.{kept_none}
 use Rattle.slotmap_links.proofs.Links.new.Goals as goal
 
 pub invariant_of-result : goal.invariant_of-result

@@ -1,4 +1,4 @@
-use Rattle.slotmap_links.proofs.Keeping.{kept_disjoint}
+use Rattle.slotmap_links.proofs.KeptLists.{kept_disjoint}
 use Rattle.slotmap_links.proofs.Links.owners.Goals as goal
 
 pub returns-clause-disjoint : goal.returns-clause-disjoint

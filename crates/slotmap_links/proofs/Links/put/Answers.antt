@@ -1,4 +1,4 @@
-use Rattle.slotmap_links.proofs.Seen.{free_here, kept_written, place_at, put_relists, seen_written}
+use Rattle.slotmap_links.proofs.SeenLists.{free_here, kept_written, place_at, put_relists, seen_written}
 use Rattle.slotmap_links.proofs.Links.put.Goals as goal
 
 pub put_between-requires-clause-free : goal.put_between-requires-clause-free

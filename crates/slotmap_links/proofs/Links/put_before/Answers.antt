@@ -1,6 +1,6 @@
 use Rattle.std.proofs.Common.{ap, sym, ◌∙◌, arith}
 use Rattle.slotmap_links.specs.Lists.{put_before, with_list}
-use Rattle.slotmap_links.proofs.Seen.{before_place, member_below, member_stands, prev_is, put_before_there, somebody_is}
+use Rattle.slotmap_links.proofs.SeenLists.{before_place, member_below, member_stands, prev_is, put_before_there, somebody_is}
 use Rattle.slotmap_links.proofs.Links.put_before.Goals as goal
 
 pub index-requires : goal.index-requires

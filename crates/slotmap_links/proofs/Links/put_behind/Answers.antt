@@ -1,6 +1,6 @@
 use Rattle.std.proofs.Common.{◌∷◌, [], ap, sym, ◌∙◌, arith, append_assoc}
 use Rattle.slotmap_links.specs.Lists.{put_behind, with_list}
-use Rattle.slotmap_links.proofs.Seen.{behind_place, member_below, member_stands, next_is, put_behind_there, somebody_is}
+use Rattle.slotmap_links.proofs.SeenLists.{behind_place, member_below, member_stands, next_is, put_behind_there, somebody_is}
 use Rattle.slotmap_links.proofs.Links.put_behind.Goals as goal
 
 pub index-requires : goal.index-requires

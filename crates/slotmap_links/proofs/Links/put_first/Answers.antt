@@ -1,4 +1,4 @@
-use Rattle.slotmap_links.proofs.Seen.{first_is, front_place}
+use Rattle.slotmap_links.proofs.SeenLists.{first_is, front_place}
 use Rattle.slotmap_links.proofs.Links.put_first.Goals as goal
 
 pub put-requires-clause-place : goal.put-requires-clause-place

@@ -1,4 +1,4 @@
-use Rattle.slotmap_links.proofs.Seen.{last_is, back_place}
+use Rattle.slotmap_links.proofs.SeenLists.{last_is, back_place}
 use Rattle.slotmap_links.proofs.Links.put_last.Goals as goal
 
 pub put-requires-clause-place : goal.put-requires-clause-place

@@ -1,4 +1,4 @@
-use Rattle.slotmap_links.proofs.Seen.{seen_written, take_relists}
+use Rattle.slotmap_links.proofs.SeenLists.{seen_written, take_relists}
 use Rattle.slotmap_links.proofs.Links.take_out.Goals as goal
 
 pub returns : goal.returns

@@ -5,11 +5,11 @@ use Rattle.std.specs.declared.vec.Vec.{Vec}
 use Rattle.std.proofs.lemmas.List.{get_or_default, with_items_is}
 use Rattle.slotmap_links.specs.Lists.{Lists, times, first_or, last_or, list_of, with_list, IsFree, IsIn, without, number_after, number_before, put_before, put_behind}
 use Rattle.slotmap_links.specs.Linked.{Bounds, Neighbours}
-use Rattle.slotmap_links.specs.Kept.{listed, lists_by, bounds, neighbours, unless_nobody, no_ends, no_link, AreKept, Relists, IsPlace}
+use Rattle.slotmap_links.specs.Kept.{listed, lists_by, bounds, neighbours, unless_nobody, no_ends, no_link, AreKept, Relists, IsGap}
 use Rattle.slotmap_links.specs.declared.Ends.{Ends}
 use Rattle.slotmap_links.specs.declared.Link.{Link}
 use Rattle.slotmap_links.proofs.Counts.{is_itself, is_other, one_itself, times_first}
-use Rattle.slotmap_links.proofs.Keeping.{seen_list, seen_owners, seen_relisted}
+use Rattle.slotmap_links.proofs.KeptLists.{seen_list, seen_owners, seen_relisted}
 use Rattle.slotmap_links.proofs.Linking.{in_midst, last_or-append, split_at}
 use Rattle.slotmap_links.proofs.Written.{somebody}
 
@@ -48,18 +48,18 @@ pub record Stands (s : Lists) (p k : ℕ) : Type 0 where
 
 -- the places at the two ends of a list
 module _ (s : Lists) (p : ℕ) {other : Option ℕ} where
-  abbrev pub front_place : other ≡ first_or (list_of s p) None → IsPlace (list_of s p) None other
+  abbrev pub front_place : other ≡ first_or (list_of s p) None → IsGap (list_of s p) None other
   front_place next_is = record { before = []; after = list_of s p; is = refl; prev_is = refl; next_is = next_is }
 
-  abbrev pub back_place : other ≡ last_or (list_of s p) None → IsPlace (list_of s p) other None
+  abbrev pub back_place : other ≡ last_or (list_of s p) None → IsGap (list_of s p) other None
   back_place prev_is = record { before = list_of s p; after = []; is = sym (append-nil (list_of s p)); prev_is = prev_is; next_is = refl }
 
 -- the places on the two sides of a member
 module _ {s : Lists} {p k : ℕ} (stands : Stands s p k) {here other : Option ℕ} (is : here ≡ Some k) where
-  abbrev pub before_place : other ≡ last_or stands.before None → IsPlace (list_of s p) other here
+  abbrev pub before_place : other ≡ last_or stands.before None → IsGap (list_of s p) other here
   before_place prev_is = record { before = stands.before; after = k ∷ stands.after; is = stands.is; prev_is = prev_is; next_is = is }
 
-  abbrev pub behind_place : other ≡ first_or stands.after None → IsPlace (list_of s p) here other
+  abbrev pub behind_place : other ≡ first_or stands.after None → IsGap (list_of s p) here other
   behind_place next_is = record {
     before = stands.before ++ k ∷ [];
     after = stands.after;
@@ -146,15 +146,15 @@ module _ (ends : List Ends) (links : List Link) (s : Lists) (seen : lists_by end
   pub list_here : listed ends links p ≡ list_of s p
   list_here = sym (seen_list ends links p) ∙ ap (λ s. list_of s p) seen
 
-  abbrev pub place_at : {prev next : Option ℕ} → IsPlace (list_of s p) prev next → IsPlace (listed ends links p) prev next
+  abbrev pub place_at : {prev next : Option ℕ} → IsGap (list_of s p) prev next → IsGap (listed ends links p) prev next
   place_at place = record { before = place.before; after = place.after; is = list_here ∙ place.is; prev_is = place.prev_is; next_is = place.next_is }
 
   -- two vectors with the same elements
   module _ (ends' : List Ends) (links' : List Link) (same_ends : ends' ≡ ends) (same_links : links' ≡ links) (k : ℕ) (new_ends : List Ends) (new_links : List Link) where
-    pub put_relists : {prev next : Option ℕ} → ((place : IsPlace (listed ends' links' p) prev next) → Relists ends' links' p (place.before ++ k ∷ place.after) new_ends new_links)
-        → (place : IsPlace (list_of s p) prev next) → Relists ends links p (place.before ++ k ∷ place.after) new_ends new_links
+    pub put_relists : {prev next : Option ℕ} → ((place : IsGap (listed ends' links' p) prev next) → Relists ends' links' p (place.before ++ k ∷ place.after) new_ends new_links)
+        → (place : IsGap (list_of s p) prev next) → Relists ends links p (place.before ++ k ∷ place.after) new_ends new_links
     put_relists {prev} {next} put place =
-        subst (λ (x : List Ends × List Link). (place : IsPlace (listed x.0 x.1 p) prev next) → Relists x.0 x.1 p (place.before ++ k ∷ place.after) new_ends new_links) (λ i. (same_ends i, same_links i)) put (place_at place)
+        subst (λ (x : List Ends × List Link). (place : IsGap (listed x.0 x.1 p) prev next) → Relists x.0 x.1 p (place.before ++ k ∷ place.after) new_ends new_links) (λ i. (same_ends i, same_links i)) put (place_at place)
 
     pub take_relists : Relists ends' links' p (without k (listed ends' links' p)) new_ends new_links → Relists ends links p (without k (list_of s p)) new_ends new_links
     take_relists taken =
