@@ -11,7 +11,7 @@ use Rattle.slotmap_links.specs.declared.Link.{Link}
 use Rattle.slotmap_links.proofs.KeptLists.{kept_empty, seen_owners}
 use Rattle.slotmap_links.proofs.Splicing.{linked_along}
 
-below_or_past : (a b : ℕ) → (a < b) ⊎ (b ≤ a)
+pub below_or_past : (a b : ℕ) → (a < b) ⊎ (b ≤ a)
 below_or_past a b = search arith
 
 -- a list of defaults has the default everywhere, and changes no read of a list before it
