@@ -34,7 +34,7 @@ GROUPS = [
     ("Looking up", ["contains_key", "get", "get_mut", "get_unchecked", "get_unchecked_mut", "replace"]),
     ("Several keys at once", ["can_replace", "replace_disjoint", "get_disjoint_mut", "get_disjoint_unchecked_mut"]),
     ("Removing", ["remove", "detach", "reattach", "retain", "clear", "drain", "drain_into", "keys_into"]),
-    ("Iterating", ["iter", "keys", "values", "next_after", "iter_mut", "values_mut", "keys_as_slice", "values_as_slice",
+    ("Iterating", ["iter", "keys", "values", "next_after", "key_at", "iter_mut", "values_mut", "keys_as_slice", "values_as_slice",
                    "as_slices", "values_as_mut_slice", "as_mut_slices"]),
     ("Pairs and lists of slots", ["extend", "extend_refs", "from_iter", "from_iter_with_hasher", "to_slots",
                                   "from_slots", "from_slots_with_hasher"]),
@@ -74,6 +74,8 @@ SAME_CALLS = [
 ]
 # What the structures share, with a page of its own.
 SHARED = "slotmap_keylist"
+# A library that needs no map.
+ALONE = "slotmap_links"
 # What a caller's clauses import.
 CALLERS = "crates/slotmap/specs/Words.antt"
 WRITTEN = "Written by `docs/api.py` from the sources. Don't edit it by hand: `docs/api.py --check` fails if this page is out of date."
@@ -280,10 +282,11 @@ def new_page(name, title):
 
 def pages_of_structures():
     """A page for each structure."""
-    for crate in [*STRUCTURES, SHARED]:
+    for crate in [*STRUCTURES, SHARED, ALONE]:
         head, items = module_items(crate, "")
         page = new_page(crate, crate)
-        page.add(f"To use it, list `slotmap {crate}` in `crates.txt`.", "", *prose(head), "")
+        listed = crate if crate == ALONE else f"slotmap {crate}"
+        page.add(f"To use it, list `{listed}` in `crates.txt`.", "", *prose(head), "")
         for item in items:
             if not item.public or item.kind not in ("struct", "enum", "type", "fn", "trait"):
                 continue
@@ -321,6 +324,7 @@ def first_page(all_items):
     add_table(page, all_items)
     page.heading(2, "Structures")
     page.add(f"Each is a crate of its own. What they share is the crate [`{SHARED}`](api/{SHARED}.md).", "")
+    page.add(f"The crate [`{ALONE}`](api/{ALONE}.md) needs no map: it has lists of numbers that are kept as links, one list for each owner.", "")
     page.add("| Type | What it is | Calls |", "|---|---|---|")
     for crate, (name, what) in STRUCTURES.items():
         calls = calls_of(name, module_items(crate, "")[1])

@@ -37,6 +37,7 @@ HEADS = {
 STRUCTURES = (
     "slotmap_list",
     "slotmap_keylist",
+    "slotmap_links",
     "slotmap_graph",
     "slotmap_entities",
     "slotmap_scene",

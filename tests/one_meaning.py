@@ -29,6 +29,7 @@ SOURCES = {
 LEMMAS = {
     'Callers': 'what callers cite: of the core, of a structure, and by the facade',
     'CloneLemmas': 'clones of values',
+    'Counts Linking Segments Splicing': 'the same of lists of keys and of lists of numbers',
     'Common': 'what the proofs of a crate cite, passed on by one file',
     'ContentLemmas': 'what a map holds',
     'DrainLemmas': 'drains',
@@ -51,6 +52,7 @@ SPECS = {
     'Extend': 'calls that put many pairs',
     'Found': 'what a look-up finds',
     'Iter': 'iterators',
+    'Linked Segment Splice': 'lists that are kept as links, of keys and of numbers',
     'Lends': 'what a map ends as once a reference into it ends',
     'Pass': 'passes of a closure',
     'Retain': '`retain`',
@@ -70,6 +72,7 @@ WORDS = {
     'CanReplace AreValuesOf with_values dropped CallsAt': 'several keys or calls of a closure, of each kind of map',
     'Given Step DetachStep StepInsert StepRemove StepDetach StepReattach after_insert after_remove after_detach after_reattach': 'the same of each machine',
     'IsOnce without is_key same times': 'lists of indices or keys: none twice; all but one; how often a key is in one',
+    'AreApart AreLinked IsListed IsSegment followed link_between listed no_ends no_link own put_before': 'the same of lists of keys or edges, and of numbers',
     'Nodes IsChain Unlinks Relinks IsWalk follow with_link with_next with_prev link_in ends_in ends_of first_or last_or': 'what is linked both ways: nodes, slots, or the keys of a list',
 }
 
@@ -82,6 +85,7 @@ LEMMA_NAMES = {
 
 # Lemmas of one name and one statement in two files
 PROVED_TWICE = {
+    'as_many linked_along next_here not_first not_last prev_here segment_is segment_long': 'the same of lists of keys, and of numbers',
     'dropped_push slots_equal': 'of words that each map has for itself',
     'first second some_is last_some': 'a line of logic that a structure proves for itself',
     'closed_spec end_spec into_unboxed_spec of_unboxed_spec': 'that function of each handle for C, by the name that the checker wants',

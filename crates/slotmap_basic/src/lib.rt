@@ -31,6 +31,7 @@ mod drain;
 mod insert;
 mod into_iter;
 mod iter;
+mod key_at;
 mod list;
 mod next_after;
 mod primary;

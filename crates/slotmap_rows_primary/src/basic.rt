@@ -2,9 +2,9 @@
 
 use crate::held::Held;
 use crate::maps::Maps;
-use slotmap::{DefaultKey, OutOfMemory, ReserveError, SlotMap, SlotsError};
+use slotmap::{DefaultKey, Key, OutOfMemory, ReserveError, SlotMap, SlotsError};
 use slotmap_rows::{
-    Call, Exchanged, ExchangedThree, ExchangedTwo, Number, Shown, Slots, Stop, Way, looked,
+    Call, Exchanged, ExchangedThree, ExchangedTwo, Number, Shown, Slots, Stop, Way, Words, looked,
     write_item, write_taken, write_walked, written,
 };
 use std::alloc::{AllocError, Global};
@@ -91,6 +91,25 @@ impl<'a> Held<'a> for SlotMap<DefaultKey, Number<'a>> {
     }
 
     fn own(maps: &mut Maps<'a, Self>, call: &Call<'_>, reply: &mut String) -> Result<(), Stop> {
-        maps.on_detached(call, reply)
+        match (call.name, call.words) {
+            ("key_at", Words::Number(index)) => write_key_at(reply, &maps.map, index),
+            _ => maps.on_detached(call, reply),
+        }
     }
+}
+
+// Writes the live key of an index.
+fn write_key_at(
+    reply: &mut String,
+    map: &SlotMap<DefaultKey, Number<'_>>,
+    index: u64,
+) -> Result<(), Stop> {
+    let Ok(index) = u32::try_from(index) else {
+        return Err(Stop::Unknown);
+    };
+    match map.key_at(index) {
+        Some(key) => write!(reply, "{:?}", key.data())?,
+        None => reply.push_str("none")?,
+    }
+    Ok(())
 }

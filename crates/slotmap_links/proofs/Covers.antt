@@ -1,0 +1,119 @@
+-- More owners, or more numbers that may be members: the lists stay, and new ones are empty.
+use Rattle.std.proofs.Common.{◌≡◌, ℕ, ◌-◌, ◌<◌, ◌≤◌, ◌⊎◌, Result, Ok, Err, OnOk, is_ok, if◌then◌else◌, max, map as list_map, List, [], ◌∷◌, ◌++◌, length, get_or, take, replicate, zero, suc, refl, sym, ap, subst, ◌∙◌, inl, inr, arith, length-append}
+use Rattle.std.proofs.Math.ListN.{get_or-append, get_or-eq_default}
+use Rattle.std.proofs.Math.Seq.{get_or-append_right}
+use Rattle.std.proofs.lemmas.List.{map-append, length-replicate, take_all, get_or-replicate}
+use Rattle.slotmap_links.specs.Lists.{Lists, times, with_owners, with_members}
+use Rattle.slotmap_links.specs.Linked.{followed}
+use Rattle.slotmap_links.specs.Kept.{bounds_at, link_at, listed, lists_by, bounds, neighbours, nobody, no_ends, no_link, AreKept}
+use Rattle.slotmap_links.specs.declared.Ends.{Ends}
+use Rattle.slotmap_links.specs.declared.Link.{Link}
+use Rattle.slotmap_links.proofs.KeptLists.{kept_empty, seen_owners}
+use Rattle.slotmap_links.proofs.Splicing.{linked_along}
+
+pub below_or_past : (a b : ℕ) → (a < b) ⊎ (b ≤ a)
+below_or_past a b = search arith
+
+-- a list of defaults has the default everywhere, and changes no read of a list before it
+read_default : {X : Type 0} (n q : ℕ) (d : X) → get_or (replicate n d) q d ≡ d
+read_default n q d = elim (below_or_past q n) [
+  | inl below ↦ get_or-replicate n q d d below
+  | inr past ↦ get_or-eq_default (replicate n d) d {n = q} (let l = length-replicate n d in omega arith)
+]
+
+pub read_padded : {X : Type 0} (xs : List X) (n q : ℕ) (d : X) → get_or (xs ++ replicate n d) q d ≡ get_or xs q d
+read_padded xs n q d = elim (below_or_past q (length xs)) [
+  | inl below ↦ get_or-append xs (replicate n d) d q below
+  | inr past ↦ get_or-append_right xs (replicate n d) q d past ∙ read_default n (q - length xs) d ∙ sym (get_or-eq_default xs d {n = q} past)
+]
+
+map_replicate : {X Y : Type 0} (f : X → Y) (n : ℕ) (x : X) → list_map f (replicate n x) ≡ replicate n (f x)
+map_replicate f zero x = refl
+map_replicate f (suc n) x = ap (λ l. f x ∷ l) (map_replicate f n x)
+
+-- the same ends and the same links at each number
+module _ (ends ends' : List Ends) (links links' : List Link) (same_ends : (q : ℕ) → bounds_at ends' q ≡ bounds_at ends q) (same_links : (q : ℕ) → link_at links' q ≡ link_at links q) where
+  list_stays : (p : ℕ) → listed ends' links' p ≡ listed ends links p
+  list_stays p = λ i. followed (λ q. same_links q i) (same_ends p i)
+
+  kept_along : AreKept ends links → length links ≤ length links' → length links' ≤ nobody → AreKept ends' links'
+  kept_along kept more few = record {
+    linked = linked_along same_ends same_links kept.linked;
+    apart = record {
+      once = λ p k. (let e = ap (times k) (list_stays p) in let o = kept.apart.once p k in omega arith);
+      alone = λ p q k in_p in_q. kept.apart.alone p q k (let e = ap (times k) (list_stays p) in omega arith) (let e = ap (times k) (list_stays q) in omega arith);
+    };
+    within = λ p k inside. (let w = kept.within p k (let e = ap (times k) (list_stays p) in omega arith) in omega arith);
+    few = few;
+  }
+
+module _ (ends : List Ends) (links : List Link) (kept : AreKept ends links) (n : ℕ) where
+  abbrev more_ends : List Ends
+  more_ends = ends ++ replicate (n - length ends) no_ends
+
+  pub kept_owners : AreKept more_ends links
+  kept_owners = kept_along ends more_ends links links (λ q. ap bounds (read_padded ends (n - length ends) q no_ends)) (λ q. refl) kept (omega arith) kept.few
+
+  pub seen_owners_more : lists_by more_ends links ≡ with_owners (lists_by ends links) n
+  seen_owners_more = λ i. record {
+    lists = (map-append (λ e. followed (link_at links) (bounds e)) ends (replicate (n - length ends) no_ends)
+        ∙ ap (λ l. (lists_by ends links).lists ++ l) (map_replicate (λ e. followed (link_at links) (bounds e)) (n - length ends) no_ends)
+        ∙ ap (λ m. (lists_by ends links).lists ++ replicate (n - m) []) (sym (seen_owners ends links))) i;
+    members = length links;
+  }
+
+  module _ (few : n ≤ nobody) where
+    abbrev more_links : List Link
+    more_links = links ++ replicate (n - length links) no_link
+
+    long : length more_links ≡ max (length links) n
+    long = let a = length-append links (replicate (n - length links) no_link) in let b = length-replicate (n - length links) no_link in omega arith
+
+    pub kept_members : AreKept ends more_links
+    kept_members = kept_along ends ends links more_links (λ q. refl) (λ q. ap neighbours (read_padded links (n - length links) q no_link)) kept (let l = long in omega arith) (let l = long in let f = kept.few in omega arith)
+
+    pub seen_members_more : lists_by ends more_links ≡ with_members (lists_by ends links) n
+    seen_members_more = λ i. record {
+      lists = list_map (λ e. followed (λ q. neighbours (read_padded links (n - length links) q no_link i)) (bounds e)) ends;
+      members = long i;
+    }
+
+-- what `resize` leaves of the ends, and of the links
+module _ (ends : List Ends) (links : List Link) (kept : AreKept ends links) (n len : ℕ) where
+  module _ (len_is : len ≡ length ends) (more : length ends ≤ n) where
+    grown_ends : take n ends ++ replicate (n - len) no_ends ≡ more_ends ends links kept n
+    grown_ends = (λ i. take_all n ends more i ++ replicate (n - len_is i) no_ends)
+
+    pub resized_owners : {A B : Type 0} (r : Result A B) (now : List Ends) → now ≡ (if is_ok r then take n ends ++ replicate (n - len) no_ends else ends) → AreKept now links
+    resized_owners (Ok x) now is = subst (λ l. AreKept l links) (sym (is ∙ grown_ends)) (kept_owners ends links kept n)
+    resized_owners (Err e) now is = subst (λ l. AreKept l links) (sym is) kept
+
+    pub seen_resized_owners : {A B : Type 0} (s : Lists) → lists_by ends links ≡ s → (r : Result A B) (now : List Ends) → now ≡ (if is_ok r then take n ends ++ replicate (n - len) no_ends else ends)
+        → OnOk r (lists_by now links ≡ with_owners s n)
+    seen_resized_owners s seen (Ok x) now is = ap (λ l. lists_by l links) (is ∙ grown_ends) ∙ seen_owners_more ends links kept n ∙ ap (λ s. with_owners s n) seen
+    seen_resized_owners s seen (Err e) now is = tt
+
+  module _ (len_is : len ≡ length links) (more : length links ≤ n) (few : n ≤ nobody) where
+    grown_links : take n links ++ replicate (n - len) no_link ≡ more_links ends links kept n few
+    grown_links = (λ i. take_all n links more i ++ replicate (n - len_is i) no_link)
+
+    pub resized_members : {A B : Type 0} (r : Result A B) (now : List Link) → now ≡ (if is_ok r then take n links ++ replicate (n - len) no_link else links) → AreKept ends now
+    resized_members (Ok x) now is = subst (λ l. AreKept ends l) (sym (is ∙ grown_links)) (kept_members ends links kept n few)
+    resized_members (Err e) now is = subst (λ l. AreKept ends l) (sym is) kept
+
+    pub seen_resized_members : {A B : Type 0} (s : Lists) → lists_by ends links ≡ s → (r : Result A B) (now : List Link) → now ≡ (if is_ok r then take n links ++ replicate (n - len) no_link else links)
+        → OnOk r (lists_by ends now ≡ with_members s n)
+    seen_resized_members s seen (Ok x) now is = ap (λ l. lists_by ends l) (is ∙ grown_links) ∙ seen_members_more ends links kept n few ∙ ap (λ s. with_members s n) seen
+    seen_resized_members s seen (Err e) now is = tt
+
+-- all lists are emptied
+module _ (ends : List Ends) (links : List Link) (kept : AreKept ends links) (now : List Ends) (n : ℕ) (is : now ≡ replicate n no_ends) where
+  pub kept_cleared : AreKept now links
+  kept_cleared = subst (λ l. AreKept l links) (sym is) (kept_empty (replicate n no_ends) links kept.few (λ p. read_default n p no_ends))
+
+  pub seen_cleared : (s : Lists) → lists_by ends links ≡ s → n ≡ length ends → lists_by now links ≡ record { lists = replicate (length s.lists) []; members = s.members }
+  seen_cleared s seen long =
+      ap (λ l. lists_by l links) is
+      ∙ (λ i. record { lists = map_replicate (λ e. followed (link_at links) (bounds e)) n no_ends i; members = length links })
+      ∙ (λ i. record { lists = replicate ((long ∙ sym (seen_owners ends links)) i) []; members = length links })
+      ∙ ap (λ (s : Lists). record { lists = replicate (length s.lists) []; members = s.members }) seen

@@ -1,0 +1,11 @@
+pub mod Begins
+pub mod Callers
+pub mod Counts
+pub mod Covers
+pub mod KeptLists
+pub mod Linking
+pub mod Relisting
+pub mod SeenLists
+pub mod Segments
+pub mod Splicing
+pub mod Written

@@ -1,0 +1,134 @@
+-- Steps of an iterator along the links of a list, from either end.
+use Rattle.std.proofs.Common.{◌≡◌, ℕ, zero, suc, ◌-◌, ◌<◌, ◌≤◌, ◌⊎◌, Option, Some, None, List, [], ◌∷◌, ◌++◌, length, inl, inr, refl, sym, ap, ◌∙◌, arith, append_assoc, append-nil, length-append}
+use Rattle.slotmap_links.specs.Lists.{first_or, last_or}
+use Rattle.slotmap_links.specs.Linked.{Bounds, Neighbours, link_between, follow, AreLinked}
+use Rattle.slotmap_links.specs.Segment.{IsSegment, IsTail}
+use Rattle.slotmap_links.proofs.Linking.{last_or-append}
+
+-- a list has a last number, or none
+at_back : (ks : List ℕ) → (ks ≡ []) ⊎ ((es : List ℕ) × (e : ℕ) × (ks ≡ es ++ e ∷ []))
+at_back [] = inl refl
+at_back (k ∷ ks) = elim (at_back ks) [
+  | inl none ↦ inr ([], k, ap (λ l. k ∷ l) none)
+  | inr some ↦ inr (k ∷ some.0, some.1, ap (λ l. k ∷ l) some.2)
+]
+
+follow_ahead : (link : ℕ → Neighbours) (before ahead after : List ℕ) → ((b : List ℕ) (k : ℕ) (a : List ℕ) → before ++ (ahead ++ after) ≡ b ++ k ∷ a → link k ≡ link_between b a)
+    → follow link (length ahead) (first_or (ahead ++ after) None) ≡ ahead
+follow_ahead link before [] after links = refl
+follow_ahead link before (k ∷ ks) after links =
+    ap (λ (l : Neighbours). k ∷ follow link (length ks) l.next) (links before k (ks ++ after) refl)
+    ∙ ap (λ l. k ∷ l) (follow_ahead link (before ++ k ∷ []) ks after (λ b x a is. links b x a (sym (append_assoc before (k ∷ []) (ks ++ after)) ∙ is)))
+
+-- the whole list is left at the beginning
+pub segment_start : {ends : ℕ → Bounds} {link : ℕ → Neighbours} {lists : ℕ → List ℕ} → AreLinked ends link lists → (p : ℕ) → IsSegment link (ends p).len (ends p).first (ends p).last
+segment_start {lists = lists} linked p = record {
+  before = [];
+  ahead = lists p;
+  after = [];
+  links_are = λ b k a is. linked.links_are p b k a (sym (append-nil (lists p)) ∙ is);
+  left_is = ap (λ (e : Bounds). e.len) (linked.ends_are p);
+  first_is = ap (λ (e : Bounds). e.first) (linked.ends_are p) ∙ ap (λ l. first_or l None) (sym (append-nil (lists p)));
+  last_is = ap (λ (e : Bounds). e.last) (linked.ends_are p);
+}
+
+module _ (link : ℕ → Neighbours) (left : ℕ) (first last : Option ℕ) (s : IsSegment link left first last) where
+  segment_is : follow link left first ≡ s.ahead
+  segment_is = ap (λ n. follow link n first) s.left_is ∙ ap (follow link (length s.ahead)) s.first_is ∙ follow_ahead link s.before s.ahead s.after s.links_are
+
+  pub segment_long : left ≡ length (follow link left first)
+  segment_long = s.left_is ∙ ap length (sym segment_is)
+
+  front_by : (k : ℕ) (es : List ℕ) → s.ahead ≡ k ∷ es → IsSegment link (left - 1) (link k).next last
+  front_by k es is =
+      let whole : s.before ++ (s.ahead ++ s.after) ≡ s.before ++ k ∷ (es ++ s.after) = ap (λ l. s.before ++ (l ++ s.after)) is in
+      record {
+        before = s.before ++ k ∷ [];
+        ahead = es;
+        after = s.after;
+        links_are = λ b x a at. s.links_are b x a (whole ∙ sym (append_assoc s.before (k ∷ []) (es ++ s.after)) ∙ at);
+        left_is = (let n = s.left_is ∙ ap length is in omega arith);
+        first_is = ap (λ (l : Neighbours). l.next) (s.links_are s.before k (es ++ s.after) whole);
+        last_is = s.last_is ∙ ap (λ l. last_or l None) (ap (λ l. s.before ++ l) is ∙ sym (append_assoc s.before (k ∷ []) es));
+      }
+
+  back_by : (k : ℕ) (es : List ℕ) → s.ahead ≡ es ++ k ∷ [] → IsSegment link (left - 1) first (link k).prev
+  back_by k es is =
+      let behind : s.ahead ++ s.after ≡ es ++ k ∷ s.after = ap (λ l. l ++ s.after) is ∙ append_assoc es (k ∷ []) s.after in
+      let whole : s.before ++ (s.ahead ++ s.after) ≡ (s.before ++ es) ++ k ∷ s.after = ap (λ l. s.before ++ l) behind ∙ sym (append_assoc s.before es (k ∷ s.after)) in
+      record {
+        before = s.before;
+        ahead = es;
+        after = k ∷ s.after;
+        links_are = λ b x a at. s.links_are b x a (ap (λ l. s.before ++ l) behind ∙ at);
+        left_is = (let n = s.left_is ∙ ap length is ∙ length-append es (k ∷ []) in omega arith);
+        first_is = s.first_is ∙ ap (λ l. first_or l None) behind;
+        last_is = ap (λ (l : Neighbours). l.prev) (s.links_are (s.before ++ es) k s.after whole);
+      }
+
+  back_end : (es : List ℕ) (e : ℕ) → s.ahead ≡ es ++ e ∷ [] → last ≡ Some e
+  back_end es e is = s.last_is ∙ ap (λ l. last_or (s.before ++ l) None) is ∙ last_or-append s.before (es ++ e ∷ []) None ∙ last_or-append es (e ∷ []) (last_or s.before None)
+
+  -- as long as numbers are left, there is one at each end
+  pub segment_front : 0 < left → (k : ℕ) × (first ≡ Some k) × IsSegment link (left - 1) (link k).next last × (follow link left first ≡ k ∷ follow link (left - 1) (link k).next)
+  unfolding front_by
+  segment_front more = by s.ahead refl
+    where
+      by : (ks : List ℕ) → s.ahead ≡ ks → (k : ℕ) × (first ≡ Some k) × IsSegment link (left - 1) (link k).next last × (follow link left first ≡ k ∷ follow link (left - 1) (link k).next)
+      by [] is = absurd (let n = s.left_is ∙ ap length is in omega arith)
+      by (k ∷ es) is =
+          let r = front_by k es is in
+          let rest : follow link (left - 1) (link k).next ≡ es = ap (λ n. follow link n (link k).next) r.left_is ∙ ap (follow link (length es)) r.first_is ∙ follow_ahead link r.before es r.after r.links_are in
+          (k, s.first_is ∙ ap (λ l. first_or (l ++ s.after) None) is, r, segment_is ∙ is ∙ ap (λ l. k ∷ l) (sym rest))
+
+  pub segment_back : 0 < left → (k : ℕ) × (last ≡ Some k) × IsSegment link (left - 1) first (link k).prev × (follow link left first ≡ follow link (left - 1) first ++ k ∷ [])
+  unfolding back_by
+  segment_back more = elim (at_back s.ahead) [
+    | inl none ↦ absurd (let n = s.left_is ∙ ap length none in omega arith)
+    | inr some ↦ (
+        let es = some.0 in
+        let k = some.1 in
+        let r = back_by k es some.2 in
+        let rest : follow link (left - 1) first ≡ es = ap (λ n. follow link n first) r.left_is ∙ ap (follow link (length es)) r.first_is ∙ follow_ahead link r.before es r.after r.links_are in
+        (k, back_end es k some.2, r, segment_is ∙ some.2 ∙ ap (λ l. l ++ k ∷ []) (sym rest)))
+  ]
+
+-- the rest of a list, from a place on
+module _ (link : ℕ → Neighbours) (most : ℕ) (first : Option ℕ) (t : IsTail link most first) where
+  -- following more links than are left leads to the same
+  follow_tail : (n : ℕ) (before ahead : List ℕ) → ((b : List ℕ) (k : ℕ) (a : List ℕ) → before ++ ahead ≡ b ++ k ∷ a → link k ≡ link_between b a) → length ahead ≤ n → follow link n (first_or ahead None) ≡ ahead
+  follow_tail zero before [] links few = refl
+  follow_tail zero before (k ∷ ks) links few = absurd (omega arith)
+  follow_tail (suc n) before [] links few = refl
+  follow_tail (suc n) before (k ∷ ks) links few =
+      ap (λ (l : Neighbours). k ∷ follow link n l.next) (links before k ks refl)
+      ∙ ap (λ l. k ∷ l) (follow_tail n (before ++ k ∷ []) ks (λ b x a is. links b x a (sym (append_assoc before (k ∷ []) ks) ∙ is)) (omega arith))
+
+  pub tail_is : follow link most first ≡ t.ahead
+  tail_is = ap (follow link most) t.first_is ∙ follow_tail most t.before t.ahead t.links_are t.few
+
+  -- at its end nothing is left
+  pub tail_end : first ≡ None → follow link most first ≡ []
+  tail_end none = by t.ahead refl
+    where
+      by : (ks : List ℕ) → t.ahead ≡ ks → follow link most first ≡ []
+      by [] is = tail_is ∙ is
+      by (k ∷ ks) is = absurd (let h = sym none ∙ t.first_is ∙ ap (λ l. first_or l None) is in cc)
+
+  -- before that, one number and the rest
+  pub tail_front : (k : ℕ) → first ≡ Some k → IsTail link most (link k).next × (follow link most first ≡ k ∷ follow link most (link k).next)
+  tail_front k some = by t.ahead refl
+    where
+      rest : (ks : List ℕ) → t.ahead ≡ k ∷ ks → IsTail link most (link k).next × (follow link most (link k).next ≡ ks)
+      rest ks is =
+          let next = ap (λ (n : Neighbours). n.next) (t.links_are t.before k ks (ap (λ l. t.before ++ l) is)) in
+          let links : (b : List ℕ) (x : ℕ) (a : List ℕ) → (t.before ++ k ∷ []) ++ ks ≡ b ++ x ∷ a → link x ≡ link_between b a = λ b x a at. t.links_are b x a (ap (λ l. t.before ++ l) is ∙ sym (append_assoc t.before (k ∷ []) ks) ∙ at) in
+          let few : length ks ≤ most = (let n = ap length is in let f = t.few in omega arith) in
+          (record { before = t.before ++ k ∷ []; ahead = ks; links_are = links; few = few; first_is = next }, ap (follow link most) next ∙ follow_tail most (t.before ++ k ∷ []) ks links few)
+
+      by : (ks : List ℕ) → t.ahead ≡ ks → IsTail link most (link k).next × (follow link most first ≡ k ∷ follow link most (link k).next)
+      by [] is = absurd (let h = sym some ∙ t.first_is ∙ ap (λ l. first_or l None) is in cc)
+      by (q ∷ ks) is =
+          let same : q ≡ k = (let h = sym (t.first_is ∙ ap (λ l. first_or l None) is) ∙ some in cc) in
+          let r = rest ks (is ∙ ap (λ x. x ∷ ks) same) in
+          (r.0, tail_is ∙ is ∙ ap (λ x. x ∷ ks) same ∙ ap (λ l. k ∷ l) (sym r.1))

@@ -1,0 +1,5 @@
+pub mod Kept
+pub mod Linked
+pub mod Lists
+pub mod Segment
+pub mod Splice

@@ -1,0 +1,17 @@
+-- What is written where a number is put into a list that is kept as links, or taken out of it.
+use Rattle.std.specs.Prelude.{ℕ, Option, Some, None, cond, nat_eq}
+use Rattle.slotmap_links.specs.Linked.{Neighbours}
+
+-- the links, where that of a number, if there is one, leads on to another next number, or back to another previous one
+abbrev pub with_next : Option ℕ → Option ℕ → (ℕ → Neighbours) → ℕ → Neighbours
+with_next None next link q = link q
+with_next (Some k) next link q = cond (nat_eq q k) (record (link q) { next = next }) (link q)
+
+abbrev pub with_prev : Option ℕ → Option ℕ → (ℕ → Neighbours) → ℕ → Neighbours
+with_prev None prev link q = link q
+with_prev (Some k) prev link q = cond (nat_eq q k) (record (link q) { prev = prev }) (link q)
+
+-- an end of the list: the new one, where no number is between it and the place
+abbrev pub own : Option ℕ → Option ℕ → Option ℕ → Option ℕ
+own None old new = new
+own (Some k) old new = old
