@@ -1,6 +1,6 @@
 #!/usr/bin/env python3
 """Writes the figures of docs/RELATED.md from the sources: lines of code, of clauses, of specs/ and of proofs/ of the libraries
-of maps, without blank lines and comments, how many functions they have, and what the gate takes for each. With --check it
+of maps, without blank lines and comments and to the next hundred, how many functions they have, and what the gate takes for each. With --check it
 writes nothing, and fails if they are out of date.
 
 The minutes are those of the table in docs/ARCHITECTURE.md, of the rows of these libraries.
@@ -70,7 +70,8 @@ def block():
     return (
         "| Code | Clauses | Definitions | Proofs | Lines beside a line of code | Functions | Seconds of a processor, a function |\n"
         "|---|---|---|---|---|---|---|\n"
-        f"| {code:,} | {clauses:,} | {specs:,} | {proofs:,} | {(clauses + specs + proofs) / code:.1f} | {functions:,} | {60 * minutes / functions:.1f} |\n"
+        + "| " + " | ".join(f"{round(it, -2):,}" for it in (code, clauses, specs, proofs))
+        + f" | {(clauses + specs + proofs) / code:.1f} | {round(functions, -1)} | {60 * minutes / functions:.1f} |\n"
     )
 
 
