@@ -39,7 +39,9 @@ module _ {K V R E C : Type 0} (given : RunGiven K V R E) (of : C → DetachComma
   pub reads_what_was_put : (commands : List C) (replies : List (Reply K V R E)) (s t : State V) → Run (StepOf given of) s commands replies t
       → (known : Key → Knowledge V) → HoldsIn known s → ReadsWhatWasPut given.data_of given.looks known (list_map of commands) replies
   reads_what_was_put [] [] s t run known holds = tt
-  reads_what_was_put (c ∷ cs) (r ∷ rs) s t run known holds =
-      (reads given s (of c) r run.0 run.1 known holds, reads_what_was_put cs rs run.0 t run.2 (λ k. told given.data_of k (of c) r (known k))
-      (λ k. told_holds given k (known k) s (of c) r run.0 run.1 (holds k)))
+  reads_what_was_put (c ∷ cs) (r ∷ rs) s t run known holds = (
+    reads given s (of c) r run.0 run.1 known holds,
+    reads_what_was_put cs rs run.0 t run.2 (λ k. told given.data_of k (of c) r (known k))
+        (λ k. told_holds given k (known k) s (of c) r run.0 run.1 (holds k)),
+  )
   reads_what_was_put _ _ s t run known holds = absurd run

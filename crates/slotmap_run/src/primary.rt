@@ -186,7 +186,9 @@ where
 /// - No index exceeds the largest number of live, detached and retired keys at one moment.
 /// - A call that fails changes nothing.
 ///
-/// Fewer than 2^32 commands retire no slot.
+/// So what was put is what is got: each reply agrees with what the commands before it and their
+/// replies tell of its key. Fewer than 2^32 commands retire no slot. For these, no index exceeds the
+/// largest number of keys that were live or detached at one moment, counted from the replies.
 ///
 /// The closures are those of [`run`]. Memory for the replies is allocated first, then the map is
 /// made. If either fails no command is run, and the error holds the commands. After that all
