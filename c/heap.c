@@ -1,11 +1,22 @@
-/* The heap of libslotmap_c.a: the three functions that it calls, over malloc, realloc and free.
+/* The heap of libslotmap_c.a, as C or as C++: the three functions that it calls, over malloc, realloc and free.
  *
- * They are the same as those of the kit's liblibc_c.a. Write your own if your program has another allocator: one that aligns a
- * block to each power of two up to 16 that divides its size.
+ * They do what those of the kit's liblibc_c.a do. Their names are weak: two libraries of this kind may each bring them, and the
+ * linker takes one. Write your own if your program has another allocator: one that aligns a block to each power of two up to 16
+ * that divides its size. Nothing of this file is proved.
  */
 #include <stdbool.h>
 #include <stddef.h>
 #include <stdlib.h>
+
+#if defined(__GNUC__)
+#define HEAP_WEAK __attribute__((weak))
+#else
+#define HEAP_WEAK
+#endif
+
+#ifdef __cplusplus
+extern "C" {
+#endif
 
 /* A block, or the address of a byte that is never read. */
 struct block {
@@ -13,9 +24,9 @@ struct block {
     void *at;
 };
 
-struct block rattle_alloc(size_t size, size_t align);
-struct block rattle_realloc(void *old, size_t kept, size_t size, size_t align);
-void rattle_dealloc(void *block);
+HEAP_WEAK struct block rattle_alloc(size_t size, size_t align);
+HEAP_WEAK struct block rattle_realloc(void *old, size_t kept, size_t size, size_t align);
+HEAP_WEAK void rattle_dealloc(void *block);
 
 static struct block block_at(void *at)
 {
@@ -42,3 +53,7 @@ void rattle_dealloc(void *block)
 {
     free(block);
 }
+
+#ifdef __cplusplus
+}
+#endif

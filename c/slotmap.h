@@ -2,18 +2,26 @@
  *
  * The map makes a key for each value that is inserted. Insertion, look-up and removal take constant time. A removed key is
  * never found again: its slot is reused under a newer key. Keys and values are uint64_t. A value is a number, an index or a
- * pointer, as you like. A side table, at the end of this file, has further values under the keys of a map. What the calls do is
- * proved: docs/C.md says what that covers.
+ * pointer, as you like. A side table, at the end of this file, has further values under the keys of a map.
+ *
+ * What the library does at each call is proved, but not this header: docs/C.md says what that covers.
  *
  * What the caller owes; nothing checks it:
- * 1. A slotmap_t, as a slotmap_side_t, begins as SLOTMAP_INIT, or as zeros. No other code writes to it, and no copy of an open one is used.
- * 2. No pointer is NULL. An `out` pointer leads to an initialised variable. No two arguments of a call overlap.
+ * 1. A slotmap_t, as a slotmap_side_t, begins as SLOTMAP_INIT, or as zeros. No other code writes to it. An open one may be moved:
+ *    copied, if the old one isn't used again. Of two copies that are both used, one may free what the other reads.
+ * 2. No pointer is NULL. An `out` pointer leads to an initialised variable: the proof presumes that. No two arguments overlap.
  * 3. An array has as many elements as the number after it says. With 0 elements its pointer still isn't NULL.
- * 4. One call at a time uses a slotmap_t. Calls of two threads on it are ordered, as by a lock or a join.
+ * 4. One call at a time uses a slotmap_t, also of the calls that only read: each writes to the handle. So a read lock doesn't
+ *    suffice, and no parameter is const. Calls of two threads on one handle are ordered, as by a mutex or a join.
  * 5. No call is made from a signal handler, or from the forked child of a process with threads.
  *
  * All else is answered: any number may be passed as a key, and a closed slotmap_t reads as an empty map. A call that can fail
  * returns a status. Where it fails, it leaves its `out` variables and the map as they were.
+ *
+ * The low half of a key is its index, from 1 on; the high half is its version, which is odd. So keys can be guessed: they are no
+ * secret. A number with an even version is read as the key with the next version. So slotmap_contains(&map, 1) is true if the
+ * first slot has its first key. Numbers of index 0, as SLOTMAP_START, are no keys of a map. SLOTMAP_NULL is none either, and
+ * any number of index 4294967295 is read as it.
  */
 #ifndef SLOTMAP_H
 #define SLOTMAP_H
@@ -25,6 +33,9 @@
 #ifdef __cplusplus
 extern "C" {
 #endif
+
+/* The version of the Rust crate whose calls these are, and a number for each change here. */
+#define SLOTMAP_VERSION "1.1.1-port.6"
 
 /* A handle: open, with a map, or closed. `at` is for the library alone; it is null in a closed handle. */
 typedef struct slotmap {
@@ -49,8 +60,28 @@ enum {
     SLOTMAP_NO_ENTRY = 8      /* the key is null, or older than the one at its index of a side table */
 };
 
-/* No map returns this number as a key. From it slotmap_next begins. */
+/* Returns a text for a status, which is never freed. */
+static inline const char *slotmap_status_text(slotmap_status status)
+{
+    switch (status) {
+    case SLOTMAP_OK: return "ok";
+    case SLOTMAP_FULL: return "over the limit of 4294967294 keys";
+    case SLOTMAP_NO_MEMORY: return "out of memory";
+    case SLOTMAP_CLOSED: return "the handle is closed";
+    case SLOTMAP_OPEN: return "the handle is open already";
+    case SLOTMAP_NOT_LIVE: return "the key isn't live";
+    case SLOTMAP_NOT_DETACHED: return "the key isn't detached";
+    case SLOTMAP_NO_MORE: return "no live key comes later";
+    case SLOTMAP_NO_ENTRY: return "the key is null, or older than the one at its index";
+    default: return "no status of slotmap.h";
+    }
+}
+
+/* No map returns this number as a key. From it slotmap_next and slotmap_list_after begin. */
 #define SLOTMAP_START UINT64_C(0)
+
+/* The null key: never live, and refused by a side table. */
+#define SLOTMAP_NULL UINT64_C(0x1ffffffff)
 
 /* ---- The map as a whole ---- */
 
@@ -61,15 +92,16 @@ slotmap_status slotmap_new(slotmap_t *map);
 /* Frees the map and closes the handle. On a closed handle it does nothing. */
 void slotmap_free(slotmap_t *map);
 
-/* Opens the closed handle `copy` with a copy of the map. It has the same keys and values, and will return the same new keys.
- * Linear in the number of slots.
+/* Opens the closed handle `copy` with a copy of the map. It has the same keys and values, and will return the same new keys; its
+ * capacity may be less. The two are different handles: slotmap_clone(&map, &map) would lose the map. Linear in the number of slots.
  * SLOTMAP_OK, SLOTMAP_NO_MEMORY, SLOTMAP_CLOSED if `map` is closed, or SLOTMAP_OPEN if `copy` is open. */
 slotmap_status slotmap_clone(slotmap_t *map, slotmap_t *copy);
 
 /* Returns the number of live keys. */
 size_t slotmap_len(slotmap_t *map);
 
-/* Returns the number of slots for which memory is allocated: those of live, detached, vacant and retired keys together. */
+/* Returns the number of slots for which memory is allocated: those of live, detached, vacant and retired keys together. No key
+ * that the map returned has a greater index. */
 size_t slotmap_capacity(slotmap_t *map);
 
 /* Reserves room for `additional` more keys: the next `additional` calls of slotmap_insert and slotmap_reattach can't fail for
@@ -103,6 +135,10 @@ slotmap_status slotmap_set(slotmap_t *map, uint64_t key, uint64_t value, uint64_
  * SLOTMAP_OK or SLOTMAP_NOT_LIVE. */
 slotmap_status slotmap_remove(slotmap_t *map, uint64_t key, uint64_t *value_out);
 
+/* The same, for who doesn't want the value.
+ * SLOTMAP_OK or SLOTMAP_NOT_LIVE. */
+slotmap_status slotmap_delete(slotmap_t *map, uint64_t key);
+
 /* Takes the value of a live key out, and writes it. The key is detached then: it isn't live, and its slot is kept.
  * SLOTMAP_OK or SLOTMAP_NOT_LIVE. */
 slotmap_status slotmap_detach(slotmap_t *map, uint64_t key, uint64_t *value_out);
@@ -119,18 +155,32 @@ slotmap_status slotmap_reattach(slotmap_t *map, uint64_t key, uint64_t value);
  *     uint64_t key = SLOTMAP_START, value = 0;
  *     while (slotmap_next(&map, key, &key, &value) == SLOTMAP_OK) { .. }
  *
- * Here `key` is passed by value and as an `out`, which is no overlap. Linear in the number of slots that it passes over.
+ * Here `key` is passed by value and as an `out`, which is no overlap. A loop that inserts at each step may not end. Linear in the
+ * number of slots that it passes over.
  * SLOTMAP_OK or SLOTMAP_NO_MORE. */
 slotmap_status slotmap_next(slotmap_t *map, uint64_t key, uint64_t *key_out, uint64_t *value_out);
 
 /* Writes the first live keys and their values, by ascending index, as far as both arrays go. Returns how many it wrote. */
 size_t slotmap_list(slotmap_t *map, uint64_t *keys, size_t keys_len, uint64_t *values, size_t values_len);
 
+/* The same of the live keys whose index is above that of `key`. So a loop over all keys takes arrays of any length:
+ *
+ *     uint64_t keys[64] = {0}, values[64] = {0}, last = SLOTMAP_START;
+ *     size_t count;
+ *     while ((count = slotmap_list_after(&map, last, keys, 64, values, 64)) > 0) { last = keys[count - 1]; .. }
+ */
+size_t slotmap_list_after(slotmap_t *map, uint64_t key, uint64_t *keys, size_t keys_len, uint64_t *values, size_t values_len);
+
 /* ---- Side tables ----
  *
- * A side table has further values under the keys of a map. It has one value for each index, that of the newest key which it was
- * given: a put under a newer key takes the place of an older one, never the reverse. So a value under a removed key is never
- * found again. To go over a table, go over the keys of the map. The caller owes the same as for a map. */
+ * A side table has further values under the keys of a map. It has one value for each index. A put under a newer key takes the
+ * place of an older one, never the reverse: so a value that was put under a removed key is never found under the next key of that
+ * slot. Versions wrap around: of two versions more than 2147483648 apart, the larger one is the older.
+ *
+ * A table knows nothing of removals. A value under a removed key is found, and may be put again, until a newer key is put at its
+ * index: so remove a key from its tables too. Numbers of index 0 are keys like any other here, and all of them share one entry.
+ *
+ * The caller owes the same as for a map. */
 
 typedef struct slotmap_side {
     void *at;
@@ -143,7 +193,7 @@ slotmap_status slotmap_side_new(slotmap_side_t *side);
 /* Frees the table and closes the handle. On a closed handle it does nothing. */
 void slotmap_side_free(slotmap_side_t *side);
 
-/* Opens the closed handle `copy` with a copy of the table. Linear in the number of slots.
+/* Opens the closed handle `copy` with a copy of the table. The two are different handles. Linear in the number of slots.
  * SLOTMAP_OK, SLOTMAP_NO_MEMORY, SLOTMAP_CLOSED if `side` is closed, or SLOTMAP_OPEN if `copy` is open. */
 slotmap_status slotmap_side_clone(slotmap_side_t *side, slotmap_side_t *copy);
 
@@ -154,19 +204,25 @@ size_t slotmap_side_len(slotmap_side_t *side);
 size_t slotmap_side_capacity(slotmap_side_t *side);
 
 /* Allocates memory for each index up to `capacity`: a put at such an index can't fail for want of memory. With the capacity of a
- * map that holds for all its keys.
+ * map that holds for all its keys. If there is memory already, the call succeeds and changes nothing.
  * SLOTMAP_OK, SLOTMAP_FULL if `capacity` is over 4294967294, SLOTMAP_NO_MEMORY or SLOTMAP_CLOSED. */
 slotmap_status slotmap_side_reserve(slotmap_side_t *side, size_t capacity);
 
 /* Removes all keys. The capacity stays. Linear in the number of slots. */
 void slotmap_side_clear(slotmap_side_t *side);
 
-/* Puts a value under a key, in place of the value of this key or of an older one at its index. Constant time, unless the table
- * grows.
+/* Puts a value under a key, in place of the value of this key or of an older one at its index, which is lost: slotmap_side_exchange
+ * hands it out. A table takes 16 bytes for each index up to the largest that was put. So one key from outside may take 64 GiB: ask
+ * the map first whether it is live. Constant time, unless the table grows.
  * SLOTMAP_OK, SLOTMAP_NO_ENTRY, SLOTMAP_NO_MEMORY or SLOTMAP_CLOSED. */
 slotmap_status slotmap_side_put(slotmap_side_t *side, uint64_t key, uint64_t value);
 
-/* Returns whether the key has a value. Constant time, as are the calls below. */
+/* The same, and writes the key that stood at this index before, with its value: this key or an older one. If none stood there,
+ * it writes the key 0, and no value.
+ * SLOTMAP_OK, SLOTMAP_NO_ENTRY, SLOTMAP_NO_MEMORY or SLOTMAP_CLOSED. */
+slotmap_status slotmap_side_exchange(slotmap_side_t *side, uint64_t key, uint64_t value, uint64_t *key_out, uint64_t *value_out);
+
+/* Returns whether the key has a value. Constant time, as are the two calls below. */
 bool slotmap_side_contains(slotmap_side_t *side, uint64_t key);
 
 /* Writes the value of a key.
@@ -176,6 +232,9 @@ slotmap_status slotmap_side_get(slotmap_side_t *side, uint64_t key, uint64_t *va
 /* Removes a key, and writes its value.
  * SLOTMAP_OK or SLOTMAP_NOT_LIVE. */
 slotmap_status slotmap_side_remove(slotmap_side_t *side, uint64_t key, uint64_t *value_out);
+
+/* Writes the keys and their values, by ascending index, as far as both arrays go. Returns how many it wrote. */
+size_t slotmap_side_list(slotmap_side_t *side, uint64_t *keys, size_t keys_len, uint64_t *values, size_t values_len);
 
 #ifdef __cplusplus
 }

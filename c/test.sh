@@ -1,67 +1,135 @@
 #!/usr/bin/env bash
-# c/test.sh
+# c/test.sh [ARCHIVE]
 #
-# Tests the calls for C, C++, Rust and Python over the archive crates/slotmap_c/out/libslotmap_c.a, which `rt lib` in that crate
-# builds:
+# Tests the calls for C, C++, Rust and Python over the archive of c/dist for this machine, or over ARCHIVE:
 #
 # - every call, from C99 and from C++17, also with clang's address and undefined-behaviour sanitizers and under valgrind;
 # - each allocation refused in turn, also under valgrind;
+# - the classes of slotmap.hpp, also with sanitizers;
+# - `make install` into a folder, with a program by pkg-config, static and shared, and the names that the shared library has;
+# - the Cargo package: its tests, its examples and its page;
+# - the Python package, installed by pip into a folder: every call, also from several threads;
 # - the program of docs/C.md in C, C++, Python and Rust: each prints what the page says;
-# - every call from Python and from Rust, by their modules slotmap.py and slotmap.rs.
+# - the archive for AArch64 under qemu;
+# - that the prototypes of slotmap.h are the exports, and that its version is that of CHANGELOG.md.
 #
-# It is outside the gate, and needs gcc, g++, clang, valgrind, python3 and rustc. Where one is missing it says so and ends with 1.
+# It is outside the gate, and needs a C compiler and make. What else a machine lacks it leaves out, and says so. It needs no kit.
 set -euo pipefail
 top=$(cd "$(dirname "$0")/.." && pwd)
-archive=$top/crates/slotmap_c/out/libslotmap_c.a
-[ -e "$archive" ] || { echo "c/test.sh: first run (cd crates/slotmap_c && rt lib)" >&2; exit 2; }
+machine=$(uname -m)
+archive=$(realpath -m "${1:-$top/c/dist/$machine-linux/libslotmap_c.a}")
+[ -e "$archive" ] || { echo "c/test.sh: there is no $archive: run c/dist.sh, or name another" >&2; exit 2; }
 out=$(mktemp -d)
 trap 'rm -rf "$out"' EXIT
 cd "$top/c"
-for tool in gcc g++ clang valgrind python3 rustc; do
-    command -v "$tool" >"$out/tool" || { echo "c/test.sh: $tool is missing" >&2; exit 1; }
-done
 
-strict="-Wall -Wextra -pedantic -Werror -O2 -I."
-gcc -std=c99 $strict -fPIC -c heap.c -o "$out/heap.o"
-gcc -std=c99 $strict tests/calls.c "$out/heap.o" "$archive" -o "$out/calls"
-g++ -std=c++17 $strict -x c++ tests/calls.c -x none "$out/heap.o" "$archive" -o "$out/calls-cpp"
-gcc -std=c99 $strict tests/refused.c "$out/heap.o" "$archive" -Wl,--wrap=malloc,--wrap=realloc -o "$out/refused"
-clang -std=c99 $strict -g -fsanitize=address,undefined -fno-sanitize-recover tests/calls.c heap.c "$archive" -o "$out/calls-sanitized"
+# has TOOL ..: whether the machine has these, with a word if not.
+has() {
+    local tool
+    for tool in "$@"; do
+        command -v "$tool" >/dev/null || { echo "left out, since $tool is missing: ${left:-}"; return 1; }
+    done
+}
 
 checked() {
     printf '%s: ' "$1"
     shift
     "$@"
 }
-grind=(valgrind -q --error-exitcode=9 --leak-check=full)
-checked "C99" "$out/calls"
-checked "C++17" "$out/calls-cpp"
-checked "sanitizers" "$out/calls-sanitized"
-checked "valgrind" "${grind[@]}" "$out/calls"
-checked "C99" "$out/refused"
-checked "valgrind" "${grind[@]}" "$out/refused"
-
-gcc -std=c99 $strict examples/names.c "$out/heap.o" "$archive" -o "$out/names"
-g++ -std=c++17 $strict -x c++ examples/names.c -x none "$out/heap.o" "$archive" -o "$out/names-cpp"
-gcc -shared -o "$out/libslotmap_c.so" "$out/heap.o" -Wl,--whole-archive "$archive" -Wl,--no-whole-archive
-link=(-C "link-arg=$archive" -C "link-arg=$out/heap.o")
-rustc --edition 2021 -O -D warnings examples/names.rs -o "$out/names-rust" "${link[@]}"
-rustc --edition 2021 -O -D warnings tests/calls.rs -o "$out/calls-rust" "${link[@]}"
 
 # The lines between the marks of the page.
 sed -n '/<!-- printed -->/,/<!-- end -->/s/^    //p' ../docs/C.md >"$out/expected"
 [ -s "$out/expected" ] || { echo "c/test.sh: docs/C.md doesn't say what the program prints" >&2; exit 1; }
 same() {
     "$@" >"$out/printed"
-    diff "$out/expected" "$out/printed" || { echo "c/test.sh: $1 prints something else than docs/C.md says" >&2; exit 1; }
+    diff "$out/expected" "$out/printed" || { echo "c/test.sh: $* prints something else than docs/C.md says" >&2; exit 1; }
+    echo "the page's program: the same lines from $*"
 }
-same "$out/names"
-same "$out/names-cpp"
-same python3 examples/names.py "$out/libslotmap_c.so"
-same "$out/names-rust"
-echo "the page's program: the same lines from C, C++, Python and Rust"
 
-checked "Rust" "$out/calls-rust"
-checked "valgrind" "${grind[@]}" "$out/calls-rust"
-checked "Python" python3 tests/calls.py "$out/libslotmap_c.so"
+strict=(-Wall -Wextra -pedantic -Werror -O2 -I.)
+grind=(valgrind -q --error-exitcode=9 --leak-check=full)
+
+cc -std=c99 "${strict[@]}" -fPIC -c heap.c -o "$out/heap.o"
+cc -std=c99 "${strict[@]}" tests/calls.c "$out/heap.o" "$archive" -o "$out/calls"
+cc -std=c99 "${strict[@]}" tests/refused.c "$out/heap.o" "$archive" -Wl,--wrap=malloc,--wrap=realloc -o "$out/refused"
+cc -std=c99 "${strict[@]}" examples/names.c "$out/heap.o" "$archive" -o "$out/names"
+cc -std=c99 "${strict[@]}" examples/items.c "$out/heap.o" "$archive" -o "$out/items"
+checked "C99" "$out/calls"
+checked "C99" "$out/refused"
+checked "C99" "$out/items"
+same "$out/names"
+if left="valgrind" has valgrind; then
+    for program in calls refused items; do
+        checked "valgrind" "${grind[@]}" "$out/$program"
+    done
+fi
+
+if left="C++" has c++; then
+    # heap.c as C++ too, and two libraries that each bring one.
+    c++ -std=c++17 "${strict[@]}" -x c++ -c heap.c -o "$out/heap-cpp.o"
+    c++ -std=c++17 "${strict[@]}" -x c++ tests/calls.c -x none "$out/heap.o" "$out/heap-cpp.o" "$archive" -o "$out/calls-cpp"
+    c++ -std=c++17 "${strict[@]}" tests/classes.cpp "$out/heap-cpp.o" "$archive" -o "$out/classes"
+    c++ -std=c++17 "${strict[@]}" examples/names.cpp "$out/heap-cpp.o" "$archive" -o "$out/names-cpp"
+    checked "C++17" "$out/calls-cpp"
+    checked "C++17" "$out/classes"
+    same "$out/names-cpp"
+fi
+if left="sanitizers" has clang clang++; then
+    sanitize=(-g -fsanitize=address,undefined -fno-sanitize-recover)
+    clang -std=c99 "${strict[@]}" "${sanitize[@]}" tests/calls.c heap.c "$archive" -o "$out/calls-sanitized"
+    clang -std=c99 "${strict[@]}" "${sanitize[@]}" -c heap.c -o "$out/heap-sanitized.o"
+    clang++ -std=c++17 "${strict[@]}" "${sanitize[@]}" tests/classes.cpp "$out/heap-sanitized.o" "$archive" -o "$out/classes-sanitized"
+    checked "sanitizers" "$out/calls-sanitized"
+    checked "sanitizers" "$out/classes-sanitized"
+fi
+
+# A copy, so that nothing is built in the folder c.
+cp -r Makefile slotmap.h slotmap.hpp heap.c tests examples "$out/"
+make -s -C "$out" install ARCHIVE="$archive" PREFIX=/opt/slotmap DESTDIR="$out/root"
+root=$out/root/opt/slotmap
+if left="pkg-config" has pkg-config; then
+    flags=$(PKG_CONFIG_PATH=$root/lib/pkgconfig PKG_CONFIG_SYSROOT_DIR=$out/root pkg-config --cflags --libs slotmap)
+    # shellcheck disable=SC2086
+    cc -std=c99 -O2 examples/names.c $flags -o "$out/names-shared"
+    # shellcheck disable=SC2086
+    cc -std=c99 -O2 examples/names.c $flags -Wl,-Bstatic -lslotmap -Wl,-Bdynamic -o "$out/names-static"
+    same env LD_LIBRARY_PATH="$root/lib" "$out/names-shared"
+fi
+sed -n 's/^[a-z_0-9]* \(slotmap_[a-z_]*\)(.*);$/\1/p' slotmap.h | sort >"$out/declared"
+nm -D --defined-only "$root/lib/libslotmap.so" | awk '$2 == "T" { print $3 }' | sort | diff "$out/declared" -
+echo "make install: the shared library has the $(wc -l <"$out/declared") names of slotmap.h, and no other"
+
+if left="the Cargo package" has cargo; then
+    mkdir "$out/archive"
+    cp "$archive" "$out/archive/libslotmap_c.a"
+    cargo() { SLOTMAP_C_LIB=$out/archive CARGO_TARGET_DIR=$out/target command cargo "$@" --offline --quiet --manifest-path cargo/Cargo.toml; }
+    cargo test
+    RUSTDOCFLAGS="-D warnings" cargo doc --no-deps
+    cargo build --example names
+    same "$out/target/debug/examples/names"
+fi
+
+if left="the Python package" has python3 && python3 -m pip --version >/dev/null; then
+    SLOTMAP_ARCHIVE=$archive python3 -m pip install --quiet --no-index --disable-pip-version-check --root-user-action ignore --target "$out/python" ./python
+    export PYTHONPATH=$out/python PYTHONDONTWRITEBYTECODE=1
+    checked "Python" python3 tests/calls.py
+    same python3 examples/names.py
+fi
+
+arm=dist/aarch64-linux/libslotmap_c.a
+if [ "$machine" != aarch64 ] && left="AArch64" has aarch64-linux-gnu-gcc qemu-aarch64-static; then
+    for program in tests/calls examples/names; do
+        aarch64-linux-gnu-gcc -std=c99 "${strict[@]}" -static "$program.c" heap.c "$arm" -o "$out/$(basename "$program")-arm"
+    done
+    checked "AArch64" qemu-aarch64-static "$out/calls-arm"
+    same qemu-aarch64-static "$out/names-arm"
+fi
+
+if left="prototypes" has python3; then
+    python3 tests/prototypes.py
+fi
+version=$(sed -n 's/.*SLOTMAP_VERSION "\(.*\)"/\1/p' slotmap.h)
+newest=$(sed -n 's/^## //p' ../CHANGELOG.md | head -n 1)
+[ "$version" = "$newest" ] || { echo "c/test.sh: slotmap.h has version $version, CHANGELOG.md has $newest" >&2; exit 1; }
+grep -q "^version = \"$version\"" cargo/Cargo.toml || { echo "c/test.sh: cargo/Cargo.toml has another version than $version" >&2; exit 1; }
 echo "c/test.sh: ok"

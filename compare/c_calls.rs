@@ -1,7 +1,7 @@
 //! Random calls on maps and side tables of the archive, through the C interface, and on a `SlotMap` and a `SecondaryMap` of the
 //! Rust crate: each result is compared. See c-calls.sh.
 
-#[path = "../c/slotmap.rs"]
+#[path = "../c/cargo/src/words.rs"]
 mod port;
 
 use slotmap::{DefaultKey, Key, KeyData, SecondaryMap, SlotMap};
@@ -112,6 +112,24 @@ impl Both {
         }
     }
 
+    /// Blocks of the keys above any number.
+    fn list_after(&mut self) {
+        let at = self.some_key();
+        let above = self.rust.iter().map(|(it, value)| (number(it), *value)).filter(|(it, _)| *it as u32 > at as u32);
+        let len = self.random.below(20);
+        let rust: Vec<(u64, u64)> = above.take(len).collect();
+        let (mut keys, mut values) = (vec![7; len], vec![7; len + 1]);
+        let count = self.port.list_after(at, &mut keys, &mut values);
+        let port: Vec<(u64, u64)> = keys.iter().copied().zip(values.iter().copied()).take(count).collect();
+        assert_eq!(port, rust, "list of {len} after {at:#x}");
+        assert!(keys[count..].iter().chain(&values[count..]).all(|it| *it == 7), "list of {len} after {at:#x} writes more");
+    }
+
+    fn delete(&mut self) {
+        let at = self.some_key();
+        assert_eq!(self.port.delete(at), self.rust.remove(key(at)).is_some(), "delete {at:#x}");
+    }
+
     fn walk(&mut self) {
         let mut at = 0;
         for (it, value) in &self.rust {
@@ -147,8 +165,10 @@ impl Both {
         let full = self.rust.len() + self.detached.len() >= self.most;
         match self.random.below(40) {
             0..10 if !full => self.insert(),
-            0..20 => self.remove(),
-            20..24 => {
+            0..17 => self.remove(),
+            17..20 => self.delete(),
+            20..22 => self.list_after(),
+            22..24 => {
                 let at = self.some_key();
                 assert_eq!(self.port.get(at), self.rust.get(key(at)).copied(), "get {at:#x}");
             }
@@ -210,6 +230,26 @@ impl Beside {
         assert_eq!(self.port.put(8589934591, value), Err(port::Status(8)), "put of the null key");
     }
 
+    /// What stood at the index is handed out. The crate hands out this key's value alone, so an older one is looked for.
+    fn exchange(&mut self) {
+        let (at, value) = (self.some_key(false), self.random.next());
+        let stood = self.rust.iter().map(|(it, old)| (number(it), *old)).find(|(it, _)| *it as u32 == at as u32);
+        self.rust.insert(key(at), value);
+        let expected = if self.rust.contains_key(key(at)) { Ok(stood) } else { Err(port::Status(8)) };
+        assert_eq!(self.port.exchange(at, value), expected, "exchange {at:#x}");
+    }
+
+    /// The crate's order is that of the slots too.
+    fn list(&mut self) {
+        let rust: Vec<(u64, u64)> = self.rust.iter().map(|(it, value)| (number(it), *value)).collect();
+        let len = self.random.below(rust.len() + 2);
+        let (mut keys, mut values) = (vec![7; len], vec![7; len + 1]);
+        let count = self.port.list(&mut keys, &mut values);
+        let port: Vec<(u64, u64)> = keys.iter().copied().zip(values.iter().copied()).take(count).collect();
+        assert_eq!(port, rust[..len.min(rust.len())], "list of {len}");
+        assert!(keys[count..].iter().chain(&values[count..]).all(|it| *it == 7), "list of {len} writes more");
+    }
+
     fn change_keys(&mut self) {
         if self.map.len() < self.most && self.random.below(3) > 0 {
             self.known.push(number(self.map.insert(0)));
@@ -247,8 +287,10 @@ impl Beside {
 
     fn call(&mut self) {
         match self.random.below(40) {
-            0..12 => self.put(),
-            12..20 => {
+            0..10 => self.put(),
+            10..11 => self.exchange(),
+            11..12 if self.random.below(self.most) < 4 => self.list(),
+            11..20 => {
                 let at = self.some_key(true);
                 assert_eq!(self.port.get(at), self.rust.get(key(at)).copied(), "get {at:#x}");
             }

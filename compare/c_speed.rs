@@ -1,10 +1,11 @@
 //! Measures the calls of the archive, through the C interface, beside the maps of the Rust crate, which are inlined here. See
 //! c-speed.sh.
 //!
-//!     c_speed                                prints the least time of each operation, of many runs in turn
-//!     c_speed SIDE OPERATION SLOTS ROUNDS    does so many rounds, for a count of instructions
+//!     c_speed                                     prints the least time of each operation, of many runs in turn
+//!     c_speed SIDE OPERATION SLOTS LIVE ROUNDS    does so many rounds with so many live slots, for a count of instructions, and
+//!                                                 prints how many calls a round makes
 
-#[path = "../c/slotmap.rs"]
+#[path = "../c/cargo/src/words.rs"]
 mod port;
 
 use slotmap::{DefaultKey, Key, SecondaryMap, SlotMap};
@@ -51,6 +52,13 @@ impl Port {
         Port { map, side, keys, stale, order: order(n) }
     }
 
+    /// Leaves so many keys, by chance.
+    fn thin(&mut self, live: usize) {
+        for at in &self.order[live..] {
+            self.map.remove(self.keys[*at]);
+        }
+    }
+
     fn round(&mut self, operation: &str) -> u64 {
         let mut sum: u64 = 0;
         match operation {
@@ -73,6 +81,18 @@ impl Port {
                     key = next;
                 }
             }
+            "a key of a list" => {
+                let (mut last, mut keys, mut values) = (0, [0; 64], [0; 64]);
+                loop {
+                    let count = self.map.list_after(last, &mut keys, &mut values);
+                    if count == 0 {
+                        break;
+                    }
+                    sum += values[..count].iter().sum::<u64>();
+                    last = keys[count - 1];
+                }
+            }
+            "set" => self.order.iter().for_each(|at| sum += self.map.set(self.keys[*at], *at as u64).unwrap()),
             "put" => self.order.iter().for_each(|at| self.side.put(self.keys[*at], *at as u64).unwrap()),
             _ => self.order.iter().for_each(|at| sum += self.side.get(self.keys[*at]).unwrap()),
         }
@@ -81,6 +101,12 @@ impl Port {
 }
 
 impl Rust {
+    fn thin(&mut self, live: usize) {
+        for at in &self.order[live..] {
+            self.map.remove(self.keys[*at]);
+        }
+    }
+
     fn new(n: usize) -> Rust {
         let (mut map, mut side) = (SlotMap::new(), SecondaryMap::new());
         let stale: Vec<DefaultKey> = (0..n as u64).map(|i| map.insert(i)).collect();
@@ -139,16 +165,18 @@ fn times(operation: &str, n: usize) -> (f64, f64) {
 
 fn main() {
     let words: Vec<String> = std::env::args().skip(1).collect();
-    if let [side, operation, slots, rounds] = &words[..] {
-        let (n, rounds) = (slots.parse().expect("a number"), rounds.parse::<usize>().expect("a number"));
+    if let [side, operation, slots, live, rounds] = &words[..] {
+        let [n, live, rounds] = [slots, live, rounds].map(|it| it.parse::<usize>().expect("a number"));
         let sum = if side == "port" {
             let mut port = Port::new(n);
+            port.thin(live);
             (0..rounds).fold(0, |sum: u64, _| sum.wrapping_add(port.round(operation)))
         } else {
             let mut rust = Rust::new(n);
+            rust.thin(live);
             (0..rounds).fold(0, |sum: u64, _| sum.wrapping_add(rust.round(operation)))
         };
-        println!("{sum}");
+        println!("{live} calls, sum {sum}");
         return;
     }
     for n in [1000, 100_000] {

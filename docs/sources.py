@@ -20,7 +20,7 @@ CONTRACTS = {
     "can_next", "next_gives", "remaining", "into_iter_gives", "can_index", "index_gives", "is_clone", "is_infallible",
     "eq", "from_gives", "is_default", "hash_input", "REUSES", "STACKED", "content", "pairs", "data_of", "of_data",
 }
-HEAD = re.compile(r"(pub )?(?:const )?(fn|struct|enum|trait|type) (\w+)|(impl)\b")
+HEAD = re.compile(r'(pub )?(?:const |extern "C" )?(fn|struct|enum|trait|type) (\w+)|(impl)\b')
 
 
 class Item:

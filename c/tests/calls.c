@@ -2,7 +2,9 @@
 #include "check.h"
 #include "slotmap.h"
 
-#define NULL_KEY UINT64_C(0x1ffffffff)
+#include <string.h>
+
+#define NULL_KEY SLOTMAP_NULL
 #define UNWRITTEN UINT64_C(77)
 
 enum { COUNT = 1000, TURNS = 1000000 };
@@ -21,10 +23,12 @@ static void check_closed(slotmap_t *map)
     CHECK(slotmap_get(map, UINT64_C(0x100000001), &out) == SLOTMAP_NOT_LIVE);
     CHECK(slotmap_set(map, UINT64_C(0x100000001), 5, &out) == SLOTMAP_NOT_LIVE);
     CHECK(slotmap_remove(map, UINT64_C(0x100000001), &out) == SLOTMAP_NOT_LIVE);
+    CHECK(slotmap_delete(map, UINT64_C(0x100000001)) == SLOTMAP_NOT_LIVE);
     CHECK(slotmap_detach(map, UINT64_C(0x100000001), &out) == SLOTMAP_NOT_LIVE);
     CHECK(slotmap_reattach(map, UINT64_C(0x100000001), 5) == SLOTMAP_NOT_DETACHED);
     CHECK(slotmap_next(map, SLOTMAP_START, &key, &out) == SLOTMAP_NO_MORE);
     CHECK(slotmap_list(map, listed, 2, values, 2) == 0);
+    CHECK(slotmap_list_after(map, SLOTMAP_START, listed, 2, values, 2) == 0);
     CHECK(slotmap_clone(map, &other) == SLOTMAP_CLOSED && other.at == NULL);
     slotmap_clear(map);
     slotmap_free(map);
@@ -133,6 +137,28 @@ static void check_walk(slotmap_t *map)
     CHECK(i == COUNT && slotmap_len(map) == COUNT / 2);
 }
 
+/* slotmap_list_after goes on where the last call stopped, with arrays of each length. */
+static void check_blocks(slotmap_t *map)
+{
+    size_t size, count, len = slotmap_len(map), before = slotmap_list(map, listed, COUNT + 5, values, COUNT + 5);
+    CHECK(before == len);
+    for (size = 1; size < 70; size++) {
+        uint64_t some[70], theirs[70], last = SLOTMAP_START;
+        size_t at = 0, i;
+        some[size] = theirs[size] = UNWRITTEN;
+        while ((count = slotmap_list_after(map, last, some, size, theirs, size)) > 0) {
+            for (i = 0; i < count; i++)
+                CHECK(some[i] == listed[at + i] && theirs[i] == values[at + i]);
+            at += count;
+            last = some[count - 1];
+            CHECK(count == size || at == len);
+        }
+        CHECK(at == len && some[size] == UNWRITTEN && theirs[size] == UNWRITTEN);
+        CHECK(slotmap_list_after(map, SLOTMAP_START, some, size, theirs, size / 2) == size / 2);
+        CHECK(slotmap_list_after(map, NULL_KEY, some, size, theirs, size) == 0);
+    }
+}
+
 /* A copy has the same keys and values, returns the same new keys, and lives apart. */
 static void check_clone(slotmap_t *map)
 {
@@ -179,6 +205,43 @@ static void check_side(slotmap_t *map)
     CHECK(side.at == NULL && copy.at == NULL);
 }
 
+/* What stood at an index is handed out, and all pairs are listed. */
+static void check_exchange(slotmap_t *map)
+{
+    slotmap_side_t side = SLOTMAP_INIT;
+    uint64_t a = 0, b = 0, c = 0, key = UNWRITTEN, out = UNWRITTEN, some[4], theirs[4];
+    CHECK(slotmap_insert(map, 1, &a) == SLOTMAP_OK && slotmap_insert(map, 2, &b) == SLOTMAP_OK);
+    CHECK(slotmap_side_exchange(&side, a, 5, &key, &out) == SLOTMAP_CLOSED && slotmap_side_list(&side, some, 4, theirs, 4) == 0);
+    CHECK(key == UNWRITTEN && out == UNWRITTEN && slotmap_side_new(&side) == SLOTMAP_OK);
+    CHECK(slotmap_side_exchange(&side, a, 5, &key, &out) == SLOTMAP_OK && key == 0 && out == UNWRITTEN);
+    CHECK(slotmap_side_exchange(&side, a, 6, &key, &out) == SLOTMAP_OK && key == a && out == 5);
+    CHECK(slotmap_delete(map, a) == SLOTMAP_OK && slotmap_delete(map, a) == SLOTMAP_NOT_LIVE && slotmap_len(map) == 1);
+    /* a table knows nothing of removals, until a newer key is put */
+    CHECK(slotmap_side_contains(&side, a) && slotmap_side_exchange(&side, a, 7, &key, &out) == SLOTMAP_OK && key == a && out == 6);
+    CHECK(slotmap_insert(map, 3, &c) == SLOTMAP_OK && slotmap_side_exchange(&side, c, 8, &key, &out) == SLOTMAP_OK);
+    CHECK(key == a && out == 7);
+    key = out = UNWRITTEN;
+    CHECK(slotmap_side_exchange(&side, a, 9, &key, &out) == SLOTMAP_NO_ENTRY);
+    CHECK(slotmap_side_exchange(&side, NULL_KEY, 9, &key, &out) == SLOTMAP_NO_ENTRY && key == UNWRITTEN && out == UNWRITTEN);
+    CHECK(slotmap_side_put(&side, b, 4) == SLOTMAP_OK && slotmap_side_put(&side, 0, 3) == SLOTMAP_OK);
+    some[3] = theirs[3] = UNWRITTEN;
+    CHECK(slotmap_side_list(&side, some, 4, theirs, 4) == 3 && some[3] == UNWRITTEN && theirs[3] == UNWRITTEN);
+    CHECK(some[0] == UINT64_C(0x100000000) && theirs[0] == 3 && some[1] == c && theirs[1] == 8 && some[2] == b && theirs[2] == 4);
+    CHECK(slotmap_side_list(&side, some, 1, theirs, 4) == 1 && slotmap_side_list(&side, some, 4, theirs, 0) == 0);
+    CHECK(slotmap_side_remove(&side, c, &out) == SLOTMAP_OK && slotmap_side_list(&side, some, 4, theirs, 4) == 2 && some[1] == b);
+    slotmap_side_free(&side);
+}
+
+/* Each status has a text of its own. */
+static void check_texts(void)
+{
+    slotmap_status a, b;
+    for (a = 0; a <= SLOTMAP_NO_ENTRY + 1; a++)
+        for (b = 0; b < a; b++)
+            CHECK(strcmp(slotmap_status_text(a), slotmap_status_text(b)) != 0);
+    CHECK(strcmp(slotmap_status_text(SLOTMAP_NO_MEMORY), "out of memory") == 0 && strlen(SLOTMAP_VERSION) > 0);
+}
+
 static void with_new(void (*check)(slotmap_t *))
 {
     slotmap_t map = SLOTMAP_INIT;
@@ -193,6 +256,7 @@ static void check_all_keys(slotmap_t *map)
 {
     check_turns(map);
     check_walk(map);
+    check_blocks(map);
     check_clone(map);
 }
 
@@ -206,6 +270,8 @@ int main(void)
     with_new(check_detached);
     with_new(check_room);
     with_new(check_side);
+    with_new(check_exchange);
+    check_texts();
     with_new(check_all_keys);
     CHECK(slotmap_new(&map) == SLOTMAP_OK);
     slotmap_free(&map);

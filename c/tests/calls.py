@@ -1,10 +1,11 @@
-"""Every call of slotmap.py."""
+"""Every call of the module slotmap_proved, also from several threads."""
 
-import os
-import sys
+import gc
+import threading
 
-sys.path.insert(0, os.path.join(os.path.dirname(os.path.abspath(__file__)), ".."))
-import slotmap
+from slotmap_proved import Side, SlotMap
+
+A, B, MOST = 0x100000001, 0x100000002, 2**64 - 1
 
 
 def fails(error, call, *arguments):
@@ -15,39 +16,102 @@ def fails(error, call, *arguments):
     return False
 
 
-library = slotmap.load(sys.argv[1])
-with slotmap.SlotMap(library) as names:
-    a, b = names.insert(10), names.insert(20)
-    assert (a, b, len(names)) == (0x100000001, 0x100000002, 2)
-    assert (names[a], names.set(a, 11), names[a], names.remove(a)) == (10, 10, 11, 11)
-    assert a not in names and b in names and -1 not in names and 2**64 - 1 not in names
-    assert all(fails(KeyError, call, a) for call in (names.remove, names.detach, names.__getitem__))
-    assert fails(KeyError, names.set, a, 5) and fails(KeyError, names.reattach, b, 5)
-    assert names.detach(b) == 20 and b not in names
-    names.reattach(b, 2**64 - 1)
-    assert names[b] == 2**64 - 1
+def one_key(names):
+    assert (names.insert(10), names.insert(20), len(names), repr(names)) == (A, B, 2, "<SlotMap of 2 keys>")
+    names[A] = 11
+    assert (names[A], names.get(A), names.pop(A), names.get(A)) == (11, 11, 11, None)
+    assert A not in names and B in names and -1 not in names and MOST not in names and B + 2**64 not in names and "x" not in names
+    assert all(fails(KeyError, call, key) for call in (names.pop, names.detach, names.__getitem__, names.__delitem__) for key in (A, -1, 2**64))
+    assert fails(KeyError, names.__setitem__, A, 5) and fails(KeyError, names.reattach, B, 5)
+    assert names.detach(B) == 20 and B not in names
+    names.reattach(B, MOST)
+    assert names[B] == MOST
+    for number in (-1, 2**64):
+        assert fails(OverflowError, names.insert, number) and fails(OverflowError, names.__setitem__, B, number)
+        assert fails(OverflowError, names.reserve, number)
+    assert fails(TypeError, names.insert, 1.5) and (len(names), names[B]) == (1, MOST)
+    del names[B]
+
+
+def all_keys(names):
     names.clear()
     names.reserve(100)
-    assert names.capacity() >= 100 and fails(MemoryError, names.reserve, 2**33)
+    assert names.capacity() >= 100 and fails(OverflowError, names.reserve, 2**33)
     keys = [names.insert(value) for value in range(100)]
-    copy = names.clone()
-    assert list(names) == names.items() == copy.items() and sorted(key for key, _ in names) == sorted(keys)
-    for key, _ in names:
-        names.remove(key)
-    assert len(names) == 0 and len(copy) == 100
-    copy.free()
-    assert len(copy) == 0 and fails(MemoryError, copy.insert, 1) and list(copy) == copy.items() == []
-with slotmap.SlotMap(library) as names, slotmap.Side(library) as ages:
-    a = names.insert(1)
-    ages[a] = 5
-    assert (ages[a], a in ages, len(ages), names.remove(a)) == (5, True, 1, 1)
-    c = names.insert(2)
-    ages[c] = 6
-    assert (ages[c], a in ages, len(ages)) == (6, False, 1) and fails(KeyError, ages.__setitem__, a, 7)
-    ages.reserve(100)
-    older = ages.clone()
-    assert ages.remove(c) == 6 and fails(KeyError, ages.remove, c) and older[c] == 6 and ages.capacity() >= 100
-    older.clear()
-    assert len(older) == len(ages) == 0
-    older.free()
-print("calls of slotmap.py: ok")
+    assert sorted(names) == sorted(keys) == sorted(names.keys()) and dict(names) == dict(names.pairs()) == dict(zip(keys, range(100)))
+    assert all(key in names for key in names) and sorted(names.values()) == list(range(100))
+    indices = [key % 2**32 for key in names]
+    assert indices == sorted(indices)
+    copy = names.copy()
+    assert copy == names and copy.pairs() == names.pairs() and copy.insert(1) == names.insert(1)
+    for key in names:
+        del names[key]
+    assert len(names) == 0 and len(copy) == 101
+    copy.close()
+    assert len(copy) == 0 and fails(ValueError, copy.insert, 1) and list(copy) == copy.pairs() == []
+
+
+def beside(names):
+    with Side() as ages:
+        a = names.insert(1)
+        assert (ages.exchange(a, 4), ages.exchange(a, 5)) == (None, (a, 4))
+        assert (ages[a], a in ages, len(ages), names.pop(a)) == (5, True, 1, 1)
+        c = names.insert(2)
+        assert a in ages and c not in ages and ages.exchange(c, 6) == (a, 5)
+        assert (ages[c], a in ages, len(ages), list(ages), dict(ages)) == (6, False, 1, [c], {c: 6})
+        assert fails(KeyError, ages.__setitem__, a, 7) and fails(KeyError, ages.exchange, a, 7) and fails(OverflowError, ages.__setitem__, c, -1)
+        ages.reserve(100)
+        older = ages.copy()
+        assert ages.pop(c) == 6 and fails(KeyError, ages.pop, c) and older[c] == 6 and ages.capacity() >= 100
+        older[c] = 7
+        del older[c]
+        assert len(older) == len(ages) == 0
+
+
+def threads():
+    """Some threads insert and remove, others list: no call fails, and each list has the keys that stay."""
+    names, errors = SlotMap(), []
+    stay = {names.insert(value): value for value in range(100)}
+
+    def change():
+        for value in range(20000):
+            try:
+                del names[names.insert(value)]
+            except Exception as error:
+                errors.append(error)
+
+    def read():
+        for _ in range(2000):
+            try:
+                if not stay.items() <= dict(names.pairs()).items() or not stay.keys() <= set(names):
+                    errors.append("a key is missing")
+            except Exception as error:
+                errors.append(error)
+
+    workers = [threading.Thread(target=call) for call in (change, change, read)]
+    for worker in workers:
+        worker.start()
+    for worker in workers:
+        worker.join()
+    assert errors == [] and dict(names) == stay, errors[:5]
+
+
+def finalizers():
+    """A map that is dropped is freed, once."""
+    for _ in range(100):
+        names = SlotMap()
+        names.reserve(100000)
+        finalizer = names._finalizer
+        del names
+        gc.collect()
+        assert not finalizer.alive
+
+
+with SlotMap() as names:
+    one_key(names)
+    all_keys(names)
+with SlotMap() as names:
+    beside(names)
+threads()
+finalizers()
+print("calls of slotmap_proved: ok")

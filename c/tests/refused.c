@@ -76,13 +76,14 @@ static void beside(uint64_t *keys)
     }
     CHECK(status == SLOTMAP_OK);
     for (i = 0; i < COUNT; i++) {
-        status = slotmap_side_put(&side, keys[i], i);
+        uint64_t stood = 77, old = 77;
+        status = slotmap_side_exchange(&side, keys[i], i, &stood, &old);
         if (status == SLOTMAP_NO_MEMORY) {
             refused_side++;
-            CHECK(slotmap_side_len(&side) == i && !slotmap_side_contains(&side, keys[i]));
+            CHECK(stood == 77 && slotmap_side_len(&side) == i && !slotmap_side_contains(&side, keys[i]));
             status = slotmap_side_put(&side, keys[i], i);
         }
-        CHECK(status == SLOTMAP_OK);
+        CHECK(status == SLOTMAP_OK && old == 77);
     }
     for (i = 0; i < COUNT; i++)
         CHECK(slotmap_side_get(&side, keys[i], &value) == SLOTMAP_OK && value == i);

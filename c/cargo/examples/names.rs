@@ -1,19 +1,14 @@
-#[path = "../slotmap.rs"]
-mod slotmap;
+use slotmap_proved::SlotMap;
 
-const TEXTS: [&str; 3] = ["river", "hill", "lake"];
-
-fn main() -> Result<(), slotmap::Status> {
-    let mut names = slotmap::SlotMap::new()?;
-    let _river = names.insert(0)?;
-    let hill = names.insert(1)?;
+fn main() -> Result<(), Box<dyn std::error::Error>> {
+    let mut names = SlotMap::new();
+    let _river = names.insert("river")?;
+    let hill = names.insert("hill")?;
     names.remove(hill);
-    let _lake = names.insert(2)?; // reuses hill's slot, under a new key
-    let mut at = 0;
-    while let Some((key, value)) = names.next_after(at) {
-        println!("{key:#x}: {}", TEXTS[value as usize]);
-        at = key;
+    let _lake = names.insert("lake")?; // reuses hill's slot, under a new key
+    for (key, name) in &names {
+        println!("{:#x}: {name}", key.as_number());
     }
-    println!("hill is {}", if names.contains(hill) { "found" } else { "stale" });
+    println!("hill is {}", if names.contains_key(hill) { "found" } else { "stale" });
     Ok(())
 }

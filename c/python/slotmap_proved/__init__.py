@@ -1,144 +1,242 @@
-"""The slot map of slotmap.h from Python: keys and values are integers below 2**64."""
+"""A slot map whose calls are proved: values under keys that the map makes. Keys and values are integers from 0 to 2**64 - 1.
+
+    from slotmap_proved import SlotMap
+
+    with SlotMap() as names:
+        river = names.insert(1)
+        assert names[river] == 1 and names.pop(river) == 1 and river not in names
+
+The calls of the shared library are proved; this module, which makes them by ctypes, isn't. A call keeps the interpreter's lock, so two
+threads never make calls at once. It takes microseconds: a dict's insert takes a tenth of that.
+"""
+
+from __future__ import annotations
 
 import ctypes
+import os
+import weakref
+from collections.abc import Iterator, Mapping
+from operator import index
+from typing import Any, TypeVar
 
-OK, FULL, NO_MEMORY, CLOSED, OPEN, NOT_LIVE, NOT_DETACHED, NO_MORE, NO_ENTRY = range(9)
-U64, SIZE = ctypes.c_uint64, ctypes.c_size_t
+__version__ = "1.1.1.6"
+__all__ = ["Side", "SlotMap"]
+
+_U64, _U32, _SIZE = ctypes.c_uint64, ctypes.c_uint32, ctypes.c_size_t
+_OUT = ctypes.POINTER(_U64)
+_OK, _FULL, _NO_MEMORY, _CLOSED = range(4)
 
 
-class Handle(ctypes.Structure):
+class _Handle(ctypes.Structure):
     _fields_ = [("at", ctypes.c_void_p)]
 
 
-def load(path):
-    """Loads the shared library at this path, and declares its calls."""
-    library = ctypes.CDLL(path)
-    handle, out = ctypes.POINTER(Handle), ctypes.POINTER(U64)
-    for name, result, parameters in [
-        ("new", ctypes.c_uint32, []),
-        ("free", None, []),
-        ("clone", ctypes.c_uint32, [handle]),
-        ("len", SIZE, []),
-        ("capacity", SIZE, []),
-        ("reserve", ctypes.c_uint32, [SIZE]),
-        ("clear", None, []),
-        ("insert", ctypes.c_uint32, [U64, out]),
-        ("contains", ctypes.c_bool, [U64]),
-        ("get", ctypes.c_uint32, [U64, out]),
-        ("set", ctypes.c_uint32, [U64, U64, out]),
-        ("remove", ctypes.c_uint32, [U64, out]),
-        ("detach", ctypes.c_uint32, [U64, out]),
-        ("reattach", ctypes.c_uint32, [U64, U64]),
-        ("next", ctypes.c_uint32, [U64, out, out]),
-        ("list", SIZE, [out, SIZE, out, SIZE]),
-        ("side_new", ctypes.c_uint32, []),
-        ("side_free", None, []),
-        ("side_clone", ctypes.c_uint32, [handle]),
-        ("side_len", SIZE, []),
-        ("side_capacity", SIZE, []),
-        ("side_reserve", ctypes.c_uint32, [SIZE]),
-        ("side_clear", None, []),
-        ("side_put", ctypes.c_uint32, [U64, U64]),
-        ("side_contains", ctypes.c_bool, [U64]),
-        ("side_get", ctypes.c_uint32, [U64, out]),
-        ("side_remove", ctypes.c_uint32, [U64, out]),
-    ]:
-        call = getattr(library, "slotmap_" + name)
-        call.restype, call.argtypes = result, [handle, *parameters]
+_BOTH: list[tuple[str, Any, list[Any]]] = [
+    ("new", _U32, []),
+    ("free", None, []),
+    ("clone", _U32, [ctypes.POINTER(_Handle)]),
+    ("len", _SIZE, []),
+    ("capacity", _SIZE, []),
+    ("reserve", _U32, [_SIZE]),
+    ("clear", None, []),
+    ("contains", ctypes.c_bool, [_U64]),
+    ("get", _U32, [_U64, _OUT]),
+    ("remove", _U32, [_U64, _OUT]),
+    ("list", _SIZE, [_OUT, _SIZE, _OUT, _SIZE]),
+]
+_MAP = _BOTH + [
+    ("insert", _U32, [_U64, _OUT]),
+    ("set", _U32, [_U64, _U64, _OUT]),
+    ("delete", _U32, [_U64]),
+    ("detach", _U32, [_U64, _OUT]),
+    ("reattach", _U32, [_U64, _U64]),
+    ("next", _U32, [_U64, _OUT, _OUT]),
+    ("list_after", _SIZE, [_U64, _OUT, _SIZE, _OUT, _SIZE]),
+]
+_SIDE = _BOTH + [("put", _U32, [_U64, _U64]), ("exchange", _U32, [_U64, _U64, _OUT, _OUT])]
+
+
+def _load(path: str) -> ctypes.PyDLL:
+    # PyDLL keeps the interpreter's lock during a call, CDLL doesn't: then the calls of two threads could overlap.
+    library = ctypes.PyDLL(path)
+    for prefix, calls in ("slotmap_", _MAP), ("slotmap_side_", _SIDE):
+        for name, result, parameters in calls:
+            call = getattr(library, prefix + name)
+            call.restype, call.argtypes = result, [ctypes.POINTER(_Handle), *parameters]
     return library
 
 
-class Table:
-    """What a map and a side table share. Use one in a `with` block, or call `free`. A freed one reads as empty."""
+_library = _load(os.environ.get("SLOTMAP_LIBRARY") or os.path.join(os.path.dirname(__file__), "libslotmap_c.so"))
 
-    prefix = "slotmap_"
 
-    def __init__(self, library):
-        self.library, self.handle, self.out = library, Handle(), U64()
-        self.checked("new")
+def _word(number: int, what: str) -> int:
+    # ctypes would cut a number that is out of range in silence.
+    number = index(number)
+    if not 0 <= number < 1 << 64:
+        raise OverflowError(f"the {what} {number} isn't from 0 to 2**64 - 1")
+    return number
 
-    def __enter__(self):
+
+def _is_key(key: object) -> bool:
+    return isinstance(key, int) and 0 <= key < 1 << 64
+
+
+def _key(key: object) -> int:
+    if not isinstance(key, int) or not 0 <= key < 1 << 64:
+        raise KeyError(key)
+    return key
+
+
+def _free(free: Any, handle: _Handle) -> None:
+    free(ctypes.byref(handle))
+
+
+_Self = TypeVar("_Self", bound="_Table")
+
+
+class _Table(Mapping[int, int]):
+    """What a map and a side table share. `with` or `close` frees the memory, and else the garbage collector."""
+
+    _prefix = ""
+
+    def __init__(self) -> None:
+        self._own(_Handle())
+        self._check("new")
+
+    def _own(self, handle: _Handle) -> None:
+        self._handle = handle
+        self._finalizer = weakref.finalize(self, _free, getattr(_library, self._prefix + "free"), handle)
+
+    def _call(self, name: str, *arguments: Any) -> Any:
+        return getattr(_library, self._prefix + name)(ctypes.byref(self._handle), *arguments)
+
+    def _check(self, name: str, *arguments: Any) -> None:
+        status = self._call(name, *arguments)
+        if status == _NO_MEMORY:
+            raise MemoryError
+        if status == _CLOSED:
+            raise ValueError("it is closed")
+        if status == _FULL:
+            raise OverflowError("over the limit of 4294967294 keys")
+        if status != _OK:
+            raise KeyError(arguments[0])
+
+    def _written(self, name: str, *arguments: Any) -> int:
+        out = _U64()
+        self._check(name, *arguments, ctypes.byref(out))
+        return out.value
+
+    def _listed(self, name: str, *arguments: Any, most: int) -> list[tuple[int, int]]:
+        keys, values = (_U64 * (most + 1))(), (_U64 * (most + 1))()
+        count = self._call(name, *arguments, keys, most, values, most)
+        return list(zip(keys[:count], values[:count]))
+
+    def __enter__(self: _Self) -> _Self:
         return self
 
-    def __exit__(self, *error):
-        self.free()
+    def __exit__(self, *error: object) -> None:
+        self.close()
 
-    def __len__(self):
-        return self.call("len")
+    def __repr__(self) -> str:
+        return f"<{type(self).__name__} of {len(self)} keys>"
 
-    def __contains__(self, key):
-        return self.call("contains", key)
+    def close(self) -> None:
+        """Frees the memory. A closed one reads as empty, and an insert into it raises ValueError."""
+        self._call("free")
 
-    def __getitem__(self, key):
-        return self.written("get", key)
-
-    def call(self, name, *arguments):
-        return getattr(self.library, self.prefix + name)(ctypes.byref(self.handle), *arguments)
-
-    def checked(self, name, *arguments):
-        status = self.call(name, *arguments)
-        if status != OK:
-            raise (KeyError if status in (NOT_LIVE, NOT_DETACHED, NO_ENTRY) else MemoryError)(f"{self.prefix}{name}: status {status}")
-
-    def written(self, name, *arguments):
-        self.checked(name, *arguments, ctypes.byref(self.out))
-        return self.out.value
-
-    def free(self):
-        self.call("free")
-
-    def clone(self):
+    def copy(self: _Self) -> _Self:
+        """Returns a copy: that of a map has the same keys, and will return the same new keys."""
         copy = object.__new__(type(self))
-        copy.library, copy.handle, copy.out = self.library, Handle(), U64()
-        self.checked("clone", ctypes.byref(copy.handle))
+        copy._own(_Handle())
+        self._check("clone", ctypes.byref(copy._handle))
         return copy
 
-    def capacity(self):
-        return self.call("capacity")
+    def __len__(self) -> int:
+        return self._call("len")
 
-    def reserve(self, count):
-        self.checked("reserve", count)
+    def __contains__(self, key: object) -> bool:
+        return _is_key(key) and self._call("contains", key)
 
-    def clear(self):
-        self.call("clear")
+    def __getitem__(self, key: int) -> int:
+        return self._written("get", _key(key))
 
-    def remove(self, key):
-        return self.written("remove", key)
+    def pop(self, key: int) -> int:
+        """Removes a key, and returns its value."""
+        return self._written("remove", _key(key))
 
+    def capacity(self) -> int:
+        """Returns the largest index for which there is memory."""
+        return self._call("capacity")
 
-class SlotMap(Table):
-    """A map, which makes a key for each value."""
+    def clear(self) -> None:
+        """Removes every key."""
+        self._call("clear")
 
-    def __iter__(self):
-        """The live keys with their values, by ascending index. The map may change meanwhile."""
-        key, value = U64(), U64()
-        while self.call("next", key, ctypes.byref(key), ctypes.byref(value)) == OK:
-            yield key.value, value.value
-
-    def insert(self, value):
-        return self.written("insert", value)
-
-    def set(self, key, value):
-        return self.written("set", key, value)
-
-    def detach(self, key):
-        return self.written("detach", key)
-
-    def reattach(self, key, value):
-        self.checked("reattach", key, value)
-
-    def items(self):
-        """The live keys with their values, in one call."""
-        count = len(self)
-        keys, values = (U64 * (count + 1))(), (U64 * (count + 1))()
-        written = self.call("list", keys, count, values, count)
-        return list(zip(keys[:written], values[:written]))
+    def pairs(self) -> list[tuple[int, int]]:
+        """Returns all keys with their values, by ascending index, in one call."""
+        return self._listed("list", most=len(self))
 
 
-class Side(Table):
-    """A side table: further values under the keys of a map."""
+class SlotMap(_Table):
+    """Values under keys that `insert` makes. A removed key is never found again."""
 
-    prefix = "slotmap_side_"
+    _prefix = "slotmap_"
 
-    def __setitem__(self, key, value):
-        self.checked("put", key, value)
+    def __iter__(self) -> Iterator[int]:
+        """The live keys, by ascending index. The map may change meanwhile."""
+        last = 0
+        while listed := self._listed("list_after", last, most=64):
+            for key, _ in listed:
+                if key in self:
+                    yield key
+            last = listed[-1][0]
+
+    def insert(self, value: int) -> int:
+        """Returns the new key of a value."""
+        return self._written("insert", _word(value, "value"))
+
+    def __setitem__(self, key: int, value: int) -> None:
+        """Sets the value of a live key; KeyError if it isn't live."""
+        self._written("set", _key(key), _word(value, "value"))
+
+    def __delitem__(self, key: int) -> None:
+        self._check("delete", _key(key))
+
+    def detach(self, key: int) -> int:
+        """Takes the value of a live key out, and keeps the slot for the key."""
+        return self._written("detach", _key(key))
+
+    def reattach(self, key: int, value: int) -> None:
+        """Binds a detached key to a value again."""
+        self._check("reattach", _key(key), _word(value, "value"))
+
+    def reserve(self, additional: int) -> None:
+        """Makes room for so many more keys."""
+        self._check("reserve", _word(additional, "number"))
+
+
+class Side(_Table):
+    """Further values under the keys of a map. It has one value for each index, and knows nothing of removals: remove a key here too."""
+
+    _prefix = "slotmap_side_"
+
+    def __iter__(self) -> Iterator[int]:
+        """The keys, by ascending index, as they are now."""
+        return (key for key, _ in self.pairs())
+
+    def __setitem__(self, key: int, value: int) -> None:
+        """Puts a value under a key. KeyError if a newer key stands at its index."""
+        self._check("put", _key(key), _word(value, "value"))
+
+    def exchange(self, key: int, value: int) -> tuple[int, int] | None:
+        """The same, and returns the key that stood at this index, this or an older one, with its value."""
+        stood, old = _U64(), _U64()
+        self._check("exchange", _key(key), _word(value, "value"), ctypes.byref(stood), ctypes.byref(old))
+        return (stood.value, old.value) if stood.value else None
+
+    def __delitem__(self, key: int) -> None:
+        self.pop(key)
+
+    def reserve(self, capacity: int) -> None:
+        """Allocates memory for each index up to a number."""
+        self._check("reserve", _word(capacity, "index"))

@@ -1,0 +1,44 @@
+#!/usr/bin/env bash
+# c/dist.sh [--check]
+#
+# Proves crates/slotmap_c, and writes what is taken without the kit to the folder c/dist:
+#
+#     x86_64-linux/libslotmap_c.a, aarch64-linux/libslotmap_c.a     the archives
+#     SHA256SUMS                                                    their sums and those of slotmap.h and heap.c
+#     VERDICT                                                       the kit, and what it said of the crate
+#
+# With --check it builds all of this anew in another folder, compares it byte by byte with what is there, and fails at the first
+# difference. It needs the kit, and some ten minutes of processor time in a fresh clone, later one.
+set -euo pipefail
+top=$(cd "$(dirname "$0")/.." && pwd)
+dist=$top/c/dist
+check=
+[ "${1:-}" != --check ] || check=yes
+out=$(mktemp -d)
+trap 'rm -rf "$out"' EXIT
+
+# archive MACHINE TARGET: proves the crate, and builds its archive for a machine.
+archive() {
+    (cd "$top/crates/slotmap_c" && rt lib ${2:+--target "$2"}) >"$out/$1.log" 2>&1 || { cat "$out/$1.log" >&2; exit 1; }
+    mkdir -p "$out/dist/$1-linux"
+    cp "$top/crates/slotmap_c/out/libslotmap_c.a" "$out/dist/$1-linux/"
+}
+
+archive aarch64 aarch64-unknown-linux-gnu
+# Last, so that the archive in the crate's folder is that of this machine.
+archive x86_64 ""
+{
+    rt version
+    grep -h -o '^logic=proved functions=[0-9]*\( axioms=[0-9]*\)\{0,1\}' "$out/x86_64.log"
+} >"$out/dist/VERDICT"
+(cd "$top/c" && sha256sum slotmap.h heap.c) >"$out/dist/SHA256SUMS"
+(cd "$out/dist" && sha256sum -- */libslotmap_c.a) >>"$out/dist/SHA256SUMS"
+
+if [ -n "$check" ]; then
+    diff -r "$dist" "$out/dist" || { echo "c/dist.sh: c/dist differs from what was built; run c/dist.sh" >&2; exit 1; }
+    echo "c/dist.sh: the same bytes:"
+else
+    rm -rf "$dist"
+    cp -r "$out/dist" "$dist"
+fi
+cat "$out/dist/VERDICT" "$out/dist/SHA256SUMS"
