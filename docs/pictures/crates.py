@@ -50,7 +50,7 @@ HEIGHT = 56
 LIBRARIES = {
     "slotmap_rows_primary": "primary_rows", "slotmap_rows_secondary": "secondary_rows", "json_tests": "slotmap_json",
     "slotmap_script": "slotrun", "script_tests": "slotrun",
-    **{f"{name}_tests": TESTS for name in ("list", "graph", "entities", "scene", "scheduler")}, "structures_at_size": TESTS,
+    **{f"{name}_tests": TESTS for name in ("list", "links", "graph", "entities", "scene", "scheduler")}, "structures_at_size": TESTS,
 }
 
 
