@@ -13,7 +13,6 @@ pub mod null_key;
 pub mod packed;
 pub mod registry;
 pub mod retains;
-pub mod room_again;
 pub mod runs;
 pub mod same_keys;
 pub mod scheduler;
