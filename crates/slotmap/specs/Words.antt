@@ -1,8 +1,13 @@
 -- The words that callers' clauses cite, all in one module. Declares nothing.
 pub use Rattle.slotmap_core.specs.Lifo.{IsBasic}
 -- replies to commands, as a caller's clauses name them
-pub use Rattle.slotmap_core.specs.declared.commands.Reply.TheVariants.{Key as KeyReply, Looked as LookedReply, Put as PutReply, Taken as TakenReply, Done as DoneReply, Flag as FlagReply}
-pub use Rattle.slotmap_core.specs.declared.joined.JoinedReply.TheVariants.{Old as JoinedOld, Looked as JoinedLooked}
+pub use Rattle.slotmap_core.specs.declared.commands.Reply.TheVariants.{Key as KeyReply, Full as FullReply, Memory as MemoryReply, TooGreat as TooGreatReply, Failed as FailedReply}
+pub use Rattle.slotmap_core.specs.declared.commands.Reply.TheVariants.{Looked as LookedReply, Flag as FlagReply, Put as PutReply, Taken as TakenReply, Done as DoneReply}
+pub use Rattle.slotmap_core.specs.declared.commands.Reply.TheVariants.{Drained as DrainedReply, Keys as KeysReply, Len as LenReply, NotDetached as NotDetachedReply}
+pub use Rattle.slotmap_core.specs.declared.joined.JoinedReply.TheVariants.{Key as JoinedKey, Full as JoinedFull, Memory as JoinedMemory, Taken as JoinedTaken, Old as JoinedOld, NoRoom as JoinedNoRoom}
+pub use Rattle.slotmap_core.specs.declared.joined.JoinedReply.TheVariants.{Looked as JoinedLooked, TakenSecond as JoinedTakenSecond, Done as JoinedDone, NotDetached as JoinedNotDetached}
+pub use Rattle.slotmap_core.specs.declared.joined.JoinedReply.TheVariants.{NoKey as JoinedNoKey, NoKeyFirst as JoinedNoKeyFirst, NoKeySecond as JoinedNoKeySecond}
+pub use Rattle.slotmap_core.specs.declared.secondary.SecondaryReply.TheVariants.{Old as SideOld, Memory as SideMemory, Looked as SideLooked, Flag as SideFlag, Taken as SideTaken, Entry as SideEntry, Len as SideLen}
 -- a plain command as one of a list in which keys can be detached: what makes it, for the laws that speak of both kinds of lists
 pub use Rattle.slotmap_core.specs.declared.commands.DetachCommand.TheVariants.{Plain as PlainCommand}
 pub use Rattle.slotmap_core.specs.declared.commands.Command.TheVariants.{Get as GetCommand, Remove as RemoveCommand}
@@ -50,6 +55,8 @@ pub use Rattle.slotmap_hop.specs.HopContent.{blocks_without, blocks_without_all,
 pub use Rattle.slotmap_hop.specs.Blocks.{Blocks, HasMaximalBlocks, IsBlock, vacated, offer_place, shorter}
 pub use Rattle.slotmap_hop.specs.Iter.{HopIter, StartsIter, CountsReads, CountsReadsSomewhere, ListsRetired, ReadsFew}
 pub use Rattle.slotmap_hop.specs.Retain.{RetainsByIndex}
+-- the least index after that of a key, where `next_after` goes on
+pub use Rattle.slotmap_basic.specs.After.{index_after}
 -- side tables
 pub use Rattle.slotmap_core.specs.SecondaryClones.{HasClones}
 pub use Rattle.slotmap_core.specs.Secondary.{Pairs, pairs_code, IsSecondary, get, contains_key, entry, has_entry, is_null, put, bind, remove, RefusesPut, keyed}

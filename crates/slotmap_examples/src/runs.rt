@@ -2,7 +2,7 @@
 //! removed key finds nothing, however it was removed, a detached key is bound again.
 
 ghost use Rattle.std.specs.Prelude.{◌≡◌, ◌≢◌, IfSome, Some, None, Ok, slice_get, true, false};
-ghost use Rattle.slotmap.specs.Words.{KeyReply, PutReply, TakenReply, LookedReply, DoneReply, FlagReply, IsLive};
+ghost use Rattle.slotmap.specs.Words.{KeyReply, PutReply, TakenReply, LookedReply, DoneReply, DrainedReply, FlagReply, IsLive};
 
 use slotmap::{
     Command, DefaultKey, DetachCommand, Detaching, Primary, Reply, run, run_detaching_new, run_new,
@@ -168,6 +168,77 @@ pub fn look_for_cleared<M: Primary<DefaultKey, u64>>(
     Some(flag)
 }
 
+/// A key that a reply showed to be live isn't found after a `Clear`.
+pub fn look_for_shown<M: Primary<DefaultKey, u64>>(
+    alloc: Global,
+    map: &mut M,
+    key: DefaultKey,
+) -> Option<Option<u64>>
+    ensures gone { IfSome result (λ seen. seen ≡ None) }
+{
+    let listed = vec![in alloc;
+        Command::Contains(key),
+        Command::Clear,
+        Command::Insert(7),
+        Command::Get(key),
+    ];
+    let Ok(commands) = listed else {
+        return None;
+    };
+    let made: Result<Replies, _> = run(alloc, map, commands, look, keep, make);
+    let Ok(replies) = made else {
+        return None;
+    };
+    let flag = flag_at(&replies, 0)?;
+    if !flag {
+        return None;
+    }
+    done_at(&replies, 1)?;
+    let seen = looked_at(&replies, 3)?;
+    Some(seen)
+}
+
+/// Returns the pairs that a drain listed.
+fn drained_at(replies: &Replies, at: usize) -> Option<&Vec<(DefaultKey, u64)>>
+    ensures { IfSome result (λ pairs. slice_get replies.now.items at ≡ Some (DrainedReply pairs.now)) }
+{
+    match replies.get(at) {
+        Some(Reply::Drained(pairs)) => Some(pairs),
+        _ => None,
+    }
+}
+
+/// Returns the first pair of a list.
+fn first_pair(pairs: &Vec<(DefaultKey, u64)>) -> Option<(DefaultKey, u64)>
+    ensures { IfSome result (λ pair. slice_get pairs.now.items 0 ≡ Some pair) }
+{
+    match pairs.get(0) {
+        Some(pair) => Some(*pair),
+        None => None,
+    }
+}
+
+/// The key of an insert after a `Drain` isn't one that the `Drain` listed.
+pub fn insert_after_drain<M: Primary<DefaultKey, u64>>(
+    alloc: Global,
+    map: &mut M,
+) -> Option<(DefaultKey, DefaultKey)>
+    ensures differ { IfSome result (λ keys. keys.1 ≢ keys.0) }
+{
+    let listed = vec![in alloc; Command::Drain, Command::Insert(7)];
+    let Ok(commands) = listed else {
+        return None;
+    };
+    let made: Result<Replies, _> = run(alloc, map, commands, look, keep, make);
+    let Ok(replies) = made else {
+        return None;
+    };
+    let pairs = drained_at(&replies, 0)?;
+    let drained = first_pair(pairs)?;
+    let key = key_at(&replies, 1)?;
+    Some((drained.0, key))
+}
+
 /// A key that `keep` rejects isn't found after a `Retain`.
 pub fn look_for_rejected<M: Primary<DefaultKey, u64>>(
     alloc: Global,
@@ -188,6 +259,35 @@ pub fn look_for_rejected<M: Primary<DefaultKey, u64>>(
     done_at(&replies, 0)?;
     let flag = flag_at(&replies, 1)?;
     Some(flag)
+}
+
+/// A key that a reply showed to be live isn't found after a `Retain` that rejects it.
+pub fn look_for_shown_rejected<M: Primary<DefaultKey, u64> + Drop>(
+    alloc: Global,
+    key: DefaultKey,
+) -> Option<Option<u64>>
+    ensures gone { IfSome result (λ seen. seen ≡ None) }
+{
+    let listed = vec![in alloc;
+        Command::Insert(5),
+        Command::Contains(key),
+        Command::Retain,
+        Command::Get(key),
+    ];
+    let Ok(commands) = listed else {
+        return None;
+    };
+    let made: Result<(M, Replies), _> = run_new(alloc, commands, look, reject, make);
+    let Ok((_map, replies)) = made else {
+        return None;
+    };
+    let flag = flag_at(&replies, 1)?;
+    if !flag {
+        return None;
+    }
+    done_at(&replies, 2)?;
+    let seen = looked_at(&replies, 3)?;
+    Some(seen)
 }
 
 /// Returns the reply at a position.

@@ -1,10 +1,10 @@
 //! Runs on side tables: two tables of whichever kinds reply the same, and a table beside a map shows
 //! what was put.
 
-ghost use Rattle.std.specs.Prelude.{◌≡◌, IfSome, Some, slice_get};
+ghost use Rattle.std.specs.Prelude.{◌≡◌, ◌≤◌, IfSome, Some, None, slice_get};
 ghost use Rattle.std.specs.FinMap as map;
 ghost use Rattle.std.specs.List.{AllByRecursion};
-ghost use Rattle.slotmap.specs.Words.{HadMemory, JoinedOld, JoinedLooked, places};
+ghost use Rattle.slotmap.specs.Words.{HadMemory, JoinedOld, JoinedLooked, JoinedTaken, places};
 
 use slotmap::{
     DefaultKey, Detaching, JoinedCommand, JoinedDetachCommand, JoinedReply, Primary, Secondary,
@@ -129,4 +129,109 @@ pub fn put_and_detach<M: Detaching<DefaultKey, u64>, S: Secondary<DefaultKey, u6
     let _before = replaced_at(&replies, 2)?;
     let seen = looked_at(&replies, 6)?;
     Some(seen)
+}
+
+/// Returns at most the value: what is shown isn't told.
+fn look_below(value: &u64) -> u64
+    ensures { result ≤ value.now }
+{
+    *value / 2
+}
+
+/// What is shown of the value that was put is what the closure may return for it.
+pub fn put_and_look_below<M: Primary<DefaultKey, u64>, S: Secondary<DefaultKey, u64>>(
+    alloc: Global,
+    store: &mut M,
+    beside: &mut S,
+) -> Option<Option<u64>>
+    requires unused { places (M.content store.old) ≡ 0 }
+    requires empty { S.pairs beside.old ≡ map.empty }
+    ensures below { IfSome result (λ seen. IfSome seen (λ shown. shown ≤ 50)) }
+{
+    let listed = vec![in alloc;
+        JoinedCommand::Insert(5),
+        JoinedCommand::Put(1, 50),
+        JoinedCommand::Look(1),
+    ];
+    let Ok(commands) = listed else {
+        return None;
+    };
+    let Ok(replies) = run_joined(alloc, store, beside, commands, look_below) else {
+        return None;
+    };
+    let _before = replaced_at(&replies, 1)?;
+    let seen = looked_at(&replies, 2)?;
+    Some(seen)
+}
+
+/// The same of a key that is detached meanwhile.
+pub fn put_detach_and_look_below<M: Detaching<DefaultKey, u64>, S: Secondary<DefaultKey, u64>>(
+    alloc: Global,
+    store: &mut M,
+    beside: &mut S,
+) -> Option<Option<u64>>
+    requires unused { places (M.content store.old) ≡ 0 }
+    requires empty { S.pairs beside.old ≡ map.empty }
+    ensures below { IfSome result (λ seen. IfSome seen (λ shown. shown ≤ 50)) }
+{
+    let listed = vec![in alloc;
+        JoinedDetachCommand::Plain(JoinedCommand::Insert(5)),
+        JoinedDetachCommand::Plain(JoinedCommand::Put(1, 50)),
+        JoinedDetachCommand::Detach(1),
+        JoinedDetachCommand::Plain(JoinedCommand::Look(1)),
+    ];
+    let Ok(commands) = listed else {
+        return None;
+    };
+    let Ok(replies) = run_joined_detaching(alloc, store, beside, commands, look_below) else {
+        return None;
+    };
+    let _before = replaced_at(&replies, 1)?;
+    let seen = looked_at(&replies, 3)?;
+    Some(seen)
+}
+
+/// Returns what a removal took.
+fn taken_at(replies: &JoinedReplies, at: usize) -> Option<Option<u64>>
+    ensures { IfSome result (λ taken. slice_get replies.now.items at ≡ Some (JoinedTaken taken)) }
+{
+    match replies.get(at) {
+        Some(JoinedReply::Taken(taken)) => Some(*taken),
+        _ => None,
+    }
+}
+
+/// Returns the value that a removal took.
+fn value_taken_at(replies: &JoinedReplies, at: usize) -> Option<u64>
+    ensures { IfSome result (λ value. slice_get replies.now.items at ≡ Some (JoinedTaken (Some value))) }
+{
+    match replies.get(at) {
+        Some(JoinedReply::Taken(Some(value))) => Some(*value),
+        _ => None,
+    }
+}
+
+/// A key that was removed isn't found by a later removal.
+pub fn remove_twice<M: Primary<DefaultKey, u64>, S: Secondary<DefaultKey, u64>>(
+    alloc: Global,
+    store: &mut M,
+    beside: &mut S,
+) -> Option<Option<u64>>
+    ensures gone { IfSome result (λ taken. taken ≡ None) }
+{
+    let listed = vec![in alloc;
+        JoinedCommand::Insert(5),
+        JoinedCommand::Remove(1),
+        JoinedCommand::Insert(6),
+        JoinedCommand::Remove(1),
+    ];
+    let Ok(commands) = listed else {
+        return None;
+    };
+    let Ok(replies) = run_joined(alloc, store, beside, commands, look) else {
+        return None;
+    };
+    let _value = value_taken_at(&replies, 1)?;
+    let taken = taken_at(&replies, 3)?;
+    Some(taken)
 }
