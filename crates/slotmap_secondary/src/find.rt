@@ -46,11 +46,19 @@ impl<K: Key, V: Drop> SecondaryMap<K, V> {
         self.slots.len()
     }
 
-    // The key at this index.
-    pub(crate) fn key_at(&self, index: usize) -> Option<K>
+    /// Returns the key at an index, or `None` if no key of this index is in the map.
+    ///
+    /// Constant time; allocates nothing. Rust lacks this call.
+    ///
+    /// ```
+    /// assert_eq!(rt; map.key_at(a.data().idx() as usize), Some(a));
+    /// assert_eq!(rt; map.key_at(b.data().idx() as usize), None);
+    /// ```
+    pub fn key_at(&self, index: usize) -> Option<K>
         ensures there { IfSome result (λ key.
             (contains_key self.now.pairs (K.data_of key) ≡ true) × ((K.data_of key).index ≡ index)) }
         ensures none { IfNone result (map.get self.now.pairs index ≡ None) }
+        ensures valid { IsSideContent self.now }
     {
         match self.slots.get(index)? {
             Slot::Vacant(_) => None,
