@@ -1,6 +1,6 @@
 //! Iteration over a map: by a loop, and by a chain of iterators.
 
-ghost use Rattle.std.specs.Prelude.{◌≡◌, ℕ, ◌+◌, ◌<◌, ◌≤◌, ◌↔◌, ◌^◌, ◌%◌, ◌==◌, IsTrue, IfSome, IfNone, IfOk, OnOk, Some, sum, count_by};
+ghost use Rattle.std.specs.Prelude.{◌≡◌, ℕ, ◌+◌, ◌<◌, ◌≤◌, ◌↔◌, ◌^◌, ◌%◌, ◌==◌, false, IsTrue, IfSome, IfNone, IfOk, OnOk, Some, sum, count_by};
 ghost use Rattle.std.specs.FinMap as map;
 ghost use Rattle.slotmap.specs.Words.{Key as KeyOf};
 
@@ -18,6 +18,20 @@ pub fn find_key<K: Key>(store: &SlotMap<K, u64>, wanted: u64) -> Option<K>
         }
     }
     None
+}
+
+/// Whether a live key has this value: each is looked at, by a call for each that keeps no reference.
+pub fn has_value<K: Key>(store: &SlotMap<K, u64>, wanted: u64) -> bool
+    ensures none { result ≡ false → (k : KeyOf) → map.get store.now.live k ≡ Some wanted → ⊥ }
+{
+    let mut last: Option<K> = None;
+    while let Some((key, value)) = store.next_after(last) {
+        if *value == wanted {
+            return true;
+        }
+        last = Some(key);
+    }
+    false
 }
 
 /// Whether each value is at most `most`.
