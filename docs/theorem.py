@@ -195,7 +195,11 @@ def page():
     )
     lines = [*first, "", "# The machine, and all that the theorem stands on", "", *wrapped(text), ""]
     lines += [*wrapped(", ".join(f"`{it}`" for it in names_of_std(found)), "> "), "", "## The theorem", ""]
-    lines += ["The map `M` is any map with the trait `Primary`: `SlotMap`, `DenseSlotMap` or `HopSlotMap`.", ""]
+    lines += wrapped(
+        "The map `M` is any map with the trait `Primary`: `SlotMap`, `DenseSlotMap` or `HopSlotMap`. `M.content` is what it holds, `M.REUSES` whether vacant slots need no "
+        "memory, and `K.data_of` the index and the version of a key. `IfOk` speaks of the value of an `Ok`, `IfErr` of that of an `Err`. "
+        "`F.IsAlwaysCallable f` says that `f` may be called on every argument.")
+    lines += [""]
     for name, clause in clauses_of("run_new").items():
         lines += [f"**`{name}`.** {CLAUSES[name]}", "", "```rust", *clause, "```", ""]
     lines += ["With detached keys, on a map with the trait `Detaching` (`SlotMap` or `DenseSlotMap`), the clauses of `run_detaching_new` are these:", "", "```rust"]

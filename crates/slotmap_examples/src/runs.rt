@@ -24,11 +24,21 @@ fn make(_key: DefaultKey) -> Result<u64, ()> {
 }
 
 /// Returns the key in a reply.
-pub fn key_at(replies: &Replies, at: usize) -> Option<DefaultKey>
+fn key_at(replies: &Replies, at: usize) -> Option<DefaultKey>
     ensures { IfSome result (λ key. slice_get replies.now.items at ≡ Some (KeyReply key)) }
 {
     match replies.get(at) {
         Some(Reply::Key(key)) => Some(*key),
+        _ => None,
+    }
+}
+
+/// Returns something if the reply at a position is this key.
+pub fn has_key_at(replies: &Replies, at: usize, key: DefaultKey) -> Option<()>
+    ensures { IfSome result (λ done. slice_get replies.now.items at ≡ Some (KeyReply key)) }
+{
+    match replies.get(at) {
+        Some(Reply::Key(found)) if *found == key => Some(()),
         _ => None,
     }
 }

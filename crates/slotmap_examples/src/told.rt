@@ -3,7 +3,7 @@
 ghost use Rattle.std.specs.Prelude.{◌≡◌, ◌<◌, IfSome, Some, None, slice_get};
 ghost use Rattle.slotmap.specs.Words.{PlainCommand, GetCommand, RemoveCommand};
 
-use crate::runs::{any_taken_at, key_at, looked_at, put_at, taken_at};
+use crate::runs::{any_taken_at, has_key_at, looked_at, put_at, taken_at};
 use slotmap::{Command, DefaultKey, DetachCommand, Detaching, Reply, run_detaching_new};
 use std::alloc::Global;
 
@@ -45,11 +45,9 @@ pub fn look_for_put<M: Detaching<DefaultKey, u64> + Drop>(
     let Ok((_map, replies)) = made else {
         return None;
     };
-    let put = key_at(&replies, 0)?;
-    if put != key {
-        return None;
-    }
-    looked_at(&replies, 3)
+    has_key_at(&replies, 0, key)?;
+    let seen = looked_at(&replies, 3)?;
+    Some(seen)
 }
 
 /// A value that was replaced is the new one.
@@ -73,7 +71,8 @@ pub fn take_replaced<M: Detaching<DefaultKey, u64> + Drop>(
         return None;
     };
     let _old = put_at(&replies, 1)?;
-    any_taken_at(&replies, 3)
+    let taken = any_taken_at(&replies, 3)?;
+    Some(taken)
 }
 
 /// A key that was taken out stays out, whatever the other commands do.
@@ -94,5 +93,6 @@ pub fn look_for_taken<M: Detaching<DefaultKey, u64> + Drop>(
         return None;
     };
     let _value = taken_at(&replies, takes)?;
-    looked_at(&replies, asks)
+    let seen = looked_at(&replies, asks)?;
+    Some(seen)
 }
