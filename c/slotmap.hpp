@@ -98,7 +98,8 @@ template <class T> struct word {
         std::memcpy(bytes, &number, sizeof bytes);
         return *std::launder(reinterpret_cast<T *>(bytes));
     }
-    static std::optional<T> found(slotmap_status status, std::uint64_t number)
+    /* By reference: the call that writes the number is the other argument, and either may be evaluated first. */
+    static std::optional<T> found(slotmap_status status, const std::uint64_t &number)
     {
         return status == SLOTMAP_OK ? std::optional<T>(back(number)) : std::nullopt;
     }
