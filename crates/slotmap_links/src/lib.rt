@@ -8,9 +8,14 @@
 //! its own. An owner takes three: the two ends of its list, and its length. So a step along a list
 //! reads 8 bytes, and no value lies between two links.
 //!
-//! Each call takes constant time, but for [`Links::cover_owners`] and [`Links::cover_members`], which
-//! take time linear in what they add and may move what is there, [`Links::clear`], which takes time linear in the
-//! number of owners, and [`Links::clone`]. The two covers and `clone` are the only calls that ask for memory.
+//! Each call takes constant time, with these exceptions:
+//!
+//! - [`Links::cover_owners`] and [`Links::cover_members`] take time linear in what they add, and may
+//!   move what is there.
+//! - [`Links::clear`] takes time linear in the number of owners, and [`Links::clone`] in that of owners
+//!   and of members.
+//!
+//! The two covers and `clone` are the only calls that ask for memory.
 //!
 //! ```
 //! let mut links = Links::new(alloc);
