@@ -4,11 +4,11 @@
 # Says which of the pages and pictures that scripts write is out of date, which link or quoted path leads nowhere, which
 # names of files and of definitions have two meanings, which words of public clauses docs/DEFINITIONS.md lacks, which clauses
 # docs/PROVED.md names that don't exist in the calls beside them, which slow operation has no cause in docs/PERFORMANCE.md, which
-# cost is said more than once, and which text of a picture is wider than its box. It takes some seconds. The status is 0 if there
-# is no fault.
+# cost is said more than once, which number of crates, wrong bodies or lines is out of date, and which text of a picture is wider
+# than its box. It takes some seconds. The status is 0 if there is no fault.
 cd "$(dirname "$0")/../docs"
 status=0
-for script in ../tests/links.py ../tests/one_meaning.py api.py words.py theorem.py calling.py performance.py pictures/crates.py pictures/hop_blocks.py pictures/slot.py pictures/speed.py; do
+for script in ../tests/links.py ../tests/one_meaning.py api.py words.py counts.py theorem.py calling.py performance.py pictures/crates.py pictures/hop_blocks.py pictures/slot.py pictures/speed.py; do
     python3 "$script" --check || status=1
 done
 exit $status

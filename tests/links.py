@@ -227,7 +227,7 @@ def check_proved(fault):
 # What takes how long is said in one paragraph or table each: sentences with a number of minutes, seconds or hours, about one of
 # these.
 COSTS = {
-    "the gate": r"\bgate\b|`rt ci`|`bash \.ci/run`|proofs-and-tests",
+    "the gate": r"\bgate\b|`rt ci`|`bash \.ci/run`|prove\.sh",
     "a first check": r"\bfirst (check|time)\b|proves? (the |its )?(ten |three )?librar",
     "a faulty body": r"\b(wrong|faulty) bod(y|ies)\b",
 }

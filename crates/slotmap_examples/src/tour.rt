@@ -17,7 +17,7 @@ pub enum TourError {
     Print(#[from] io::Error),
 }
 
-/// Two words are stored, and one of them makes way for a third.
+/// Two words are stored, and one of them is replaced by a third.
 pub fn tour(rt: &impl Print, alloc: Global) -> Result<(), TourError> {
     let mut words = SlotMap::new(alloc)?;
     let river = words.insert("river")?;

@@ -1,0 +1,86 @@
+#!/usr/bin/env python3
+"""Counts crates, wrong bodies and lines, and says which page has another number. `docs/counts.py --check` does the same.
+
+A number of crates or of wrong bodies in the gate is exact. The wrong bodies outside of it and the lines are rounded to hundreds.
+"""
+
+import glob
+import os
+import re
+import sys
+
+TOP = os.path.dirname(os.path.dirname(os.path.abspath(__file__)))
+WORDS = "no one two three four five six seven eight nine ten eleven twelve thirteen fourteen fifteen sixteen".split()
+
+
+def read(path):
+    with open(os.path.join(TOP, path), encoding="utf-8") as file:
+        return file.read()
+
+
+def found(pattern):
+    return glob.glob(os.path.join(TOP, pattern), recursive=True)
+
+
+def below():
+    """For each crate of crates.txt the crates that it lists."""
+    lines = re.findall(r"^(\w+)(?: staticlib)?:(.*)$", read("crates.txt"), re.M)
+    return {name: listed.split() for name, listed in lines}
+
+
+def with_those_below(name, listed):
+    reached, ahead = set(), [name]
+    while ahead:
+        crate = ahead.pop()
+        if crate in listed and crate not in reached:
+            reached.add(crate)
+            ahead += listed[crate]
+    return reached
+
+
+def lines_of(crate, parts, comment):
+    """The lines of a crate's files without those that are blank or a comment."""
+    texts = [read(it) for part in parts for it in found(f"crates/{crate}/{part}")]
+    return sum(not re.match(rf"\s*({comment}|$)", line) for text in texts for line in text.split("\n"))
+
+
+def hundreds(number):
+    return f"{round(number, -2):,}"
+
+
+def sentences():
+    """What each page has to say."""
+    tried, others = found("crates/*/must-fail/*.edit"), found("crates/*/more-wrong-bodies/*.edit")
+    crates = len({os.path.dirname(it) for it in tried})
+    library = with_those_below("slotmap", below())
+    code = lines_of("slotmap_basic", ["src/**/*.rt"], "//|ghost|requires|ensures|#")
+    proofs = lines_of("slotmap_basic", ["specs/**/*.antt", "proofs/**/*.antt"], "--")
+    return {
+        "docs/DECISIONS.md": [
+            f"**The gate tries {len(tried)} wrong bodies**",
+            f"these {hundreds(len(others))} would",
+            f"**The library is {WORDS[len(library)]} crates**",
+        ],
+        "docs/ARCHITECTURE.md": [
+            f"tries {len(tried)}, in {WORDS[crates]} crates",
+            f"some {hundreds(code)} lines of code and {hundreds(proofs)} of specs and proofs",
+        ],
+        "crates/slotmap/CALLING.md": [f"This proves the {WORDS[len(library)]} libraries"],
+    }
+
+
+def main():
+    if sys.argv[1:] not in ([], ["--check"]):
+        sys.exit("usage: docs/counts.py [--check]")
+    wrong = [
+        f"{page} doesn't say: {sentence}"
+        for page, wanted in sentences().items()
+        for sentence in wanted
+        if sentence not in " ".join(read(page).split())
+    ]
+    print("\n".join(wrong), end="\n" if wrong else "")
+    return 1 if wrong else 0
+
+
+if __name__ == "__main__":
+    sys.exit(main())
