@@ -8,10 +8,14 @@
 //! its own. An owner takes three: the two ends of its list, and its length. So a step along a list
 //! reads 8 bytes, and no value lies between two links.
 //!
-//! Each call takes constant time, but for [`Links::cover_owners`] and [`Links::cover_members`], which
-//! take time linear in what they add, and [`Links::clear`] and [`Links::clone`], which take time linear
-//! in the number of owners or of both. These two covers and `clone` are the only calls that ask for
-//! memory.
+//! Each call takes constant time, with these exceptions:
+//!
+//! - [`Links::cover_owners`] and [`Links::cover_members`] take time linear in what they add, and may
+//!   move what is there.
+//! - [`Links::clear`] takes time linear in the number of owners, and [`Links::clone`] in that of owners
+//!   and of members.
+//!
+//! The two covers and `clone` are the only calls that ask for memory.
 //!
 //! ```
 //! let mut links = Links::new(alloc);
@@ -155,6 +159,15 @@ impl Links {
     }
 
     /// Returns a copy, with the same lists. It fails only if memory runs out.
+    ///
+    /// ```
+    /// let mut links = Links::new(alloc);
+    /// links.cover_owners(1)?;
+    /// links.cover_members(8)?;
+    /// links.put_last(0, 5);
+    /// let copy = links.clone()?;
+    /// assert_eq!(rt; copy.first(0), Some(5));
+    /// ```
     pub fn clone(&self) -> Result<Links, AllocError>
         ensures { IfOk result (λ copy. copy ≡ self.now) }
     {
@@ -182,6 +195,14 @@ impl Links {
     }
 
     /// Returns the number of members in an owner's list.
+    ///
+    /// ```
+    /// let mut links = Links::new(alloc);
+    /// links.cover_owners(1)?;
+    /// links.cover_members(8)?;
+    /// links.put_last(0, 5);
+    /// assert_eq!(rt; links.len(0), 1);
+    /// ```
     pub fn len(&self, owner: u32) -> usize
         requires { owner < length self.now.lists }
         ensures { result ≡ length (list_of self.now owner) }
@@ -252,6 +273,15 @@ impl Links {
     }
 
     /// Puts a number that is in no list before the members of an owner's list.
+    ///
+    /// ```
+    /// let mut links = Links::new(alloc);
+    /// links.cover_owners(1)?;
+    /// links.cover_members(8)?;
+    /// links.put_first(0, 5);
+    /// links.put_first(0, 2);
+    /// assert_eq!(rt; (links.first(0), links.last(0)), (Some(2), Some(5)));
+    /// ```
     pub fn put_first(&mut self, owner: u32, member: u32)
         requires owner { owner < length self.old.lists }
         requires free { IsFree self.old member }
@@ -262,6 +292,15 @@ impl Links {
     }
 
     /// Puts a number that is in no list behind the members of an owner's list.
+    ///
+    /// ```
+    /// let mut links = Links::new(alloc);
+    /// links.cover_owners(1)?;
+    /// links.cover_members(8)?;
+    /// links.put_last(0, 5);
+    /// links.put_last(0, 2);
+    /// assert_eq!(rt; (links.first(0), links.last(0)), (Some(5), Some(2)));
+    /// ```
     pub fn put_last(&mut self, owner: u32, member: u32)
         requires owner { owner < length self.old.lists }
         requires free { IsFree self.old member }
@@ -272,6 +311,15 @@ impl Links {
     }
 
     /// Puts a number that is in no list right before a member of an owner's list.
+    ///
+    /// ```
+    /// let mut links = Links::new(alloc);
+    /// links.cover_owners(1)?;
+    /// links.cover_members(8)?;
+    /// links.put_last(0, 5);
+    /// links.put_before(0, 5, 2);
+    /// assert_eq!(rt; links.prev(5), Some(2));
+    /// ```
     pub fn put_before(&mut self, owner: u32, at: u32, member: u32)
         requires owner { owner < length self.old.lists }
         requires at { IsIn self.old owner at }
@@ -283,6 +331,15 @@ impl Links {
     }
 
     /// Puts a number that is in no list right behind a member of an owner's list.
+    ///
+    /// ```
+    /// let mut links = Links::new(alloc);
+    /// links.cover_owners(1)?;
+    /// links.cover_members(8)?;
+    /// links.put_last(0, 5);
+    /// links.put_behind(0, 5, 2);
+    /// assert_eq!(rt; links.next(5), Some(2));
+    /// ```
     pub fn put_behind(&mut self, owner: u32, at: u32, member: u32)
         requires owner { owner < length self.old.lists }
         requires at { IsIn self.old owner at }
@@ -294,6 +351,15 @@ impl Links {
     }
 
     /// Takes a member out of its owner's list.
+    ///
+    /// ```
+    /// let mut links = Links::new(alloc);
+    /// links.cover_owners(1)?;
+    /// links.cover_members(8)?;
+    /// links.put_last(0, 5);
+    /// links.take_out(0, 5);
+    /// assert!(rt; links.is_empty(0));
+    /// ```
     pub fn take_out(&mut self, owner: u32, member: u32)
         requires owner { owner < length self.old.lists }
         requires member { IsIn self.old owner member }
