@@ -2,9 +2,9 @@
 
 use crate::held::Held;
 use crate::maps::Maps;
-use slotmap::{DefaultKey, OutOfMemory, ReserveError, SlotMap, SlotsError};
+use slotmap::{DefaultKey, Key, OutOfMemory, ReserveError, SlotMap, SlotsError};
 use slotmap_rows::{
-    Call, Exchanged, ExchangedThree, ExchangedTwo, Number, Shown, Slots, Stop, Way, looked,
+    Call, Exchanged, ExchangedThree, ExchangedTwo, Number, Shown, Slots, Stop, Way, Words, looked,
     write_item, write_taken, write_walked, written,
 };
 use std::alloc::{AllocError, Global};
@@ -91,6 +91,19 @@ impl<'a> Held<'a> for SlotMap<DefaultKey, Number<'a>> {
     }
 
     fn own(maps: &mut Maps<'a, Self>, call: &Call<'_>, reply: &mut String) -> Result<(), Stop> {
-        maps.on_detached(call, reply)
+        match (call.name, call.words) {
+            ("next_after", Words::Nothing) => write_found(reply, maps.map.next_after(None)),
+            ("next_after", Words::Key(key)) => write_found(reply, maps.map.next_after(Some(key))),
+            _ => maps.on_detached(call, reply),
+        }
     }
+}
+
+// Writes the key that was found and its value.
+fn write_found(reply: &mut String, found: Option<(DefaultKey, &Number<'_>)>) -> Result<(), Stop> {
+    match found {
+        Some((key, value)) => write!(reply, "pair {:?}:{}", key.data(), value.value)?,
+        None => reply.push_str("none")?,
+    }
+    Ok(())
 }

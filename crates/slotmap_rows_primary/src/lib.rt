@@ -35,6 +35,8 @@
 //!
 //! Of more than a thousand items a result has only how many they are: `keys (100000)`.
 //!
+//! Calls of `SlotMap` alone: `next_after` and `next_after K` return the next live key and its value, as `pair 2v3:5`, or `none`.
+//!
 //! Calls of `DenseSlotMap` alone: `iter_mut N`, `values_mut N` and `for_mut` show the items of N steps, or all, and append the
 //! digit 1, 2 or 3 to each value. `keys_as_slice`, `values_as_slice` and `as_slices` show the slices.
 //! `values_as_mut_slice N V` and `as_mut_slices N V` store V at a position: the value before, or `none`.
