@@ -8,7 +8,9 @@
 #   all as it was, and was made once more. Only the number of calls made twice may be 1 once. Where memory for the
 #   program's own work is refused, for the text of a file or for its maps before the first row, it ends with 3: these
 #   requests are counted. With all requests from one on refused it ends with 0, 1 or 3, and each difference that it prints
-#   says `out of memory`. A call behind `surely` has its room, and may not be refused.
+#   says `out of memory`. A call behind `surely` has its room, and may not be refused. A call behind `displacing` puts a value by the
+#   entry of a key, where an older pair is. A sparse map takes that pair out before it asks for memory, so a refused put may lose it. Whether
+#   it asks depends on where the hash map has its keys, and so in a map of the kind `random` on the seed.
 # - `slotrun` prints what it prints without, up to a line that says `memory`, or `no script` at the end. Where one request
 #   was refused, the other lines are then those of the script without the refused line.
 # - `slotdemo`, whose five structures do without a second try, prints what it prints without, or stops on the way with status 1.

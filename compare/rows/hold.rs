@@ -54,6 +54,7 @@ impl<'t> Row<'t> {
     /// Makes the call of a line, as often as it says. `expected` has a `#` for the turn.
     fn make(&mut self, call: &str, expected: &str) -> Answer {
         let call = call.strip_prefix("surely ").unwrap_or(call);
+        let call = call.strip_prefix("displacing ").unwrap_or(call);
         if let Some((times, call)) = made_often(call, "repeat ") {
             return self.repeat(call, times, expected);
         }

@@ -46,7 +46,7 @@ fn append(number: &mut Number, digit: u64) -> u64 {
 /// The calls that can't be asked, and change nothing.
 fn not_asked(name: &str) -> Made {
     match name {
-        "to_slots" | "has_capacity" | "capacity_is_within" | "reads" | "key_at" => Some(Answer::LeftOut),
+        "to_slots" | "has_capacity" | "capacity_is_within" | "reads" | "next_after" | "key_at" => Some(Answer::LeftOut),
         _ => None,
     }
 }

@@ -5,7 +5,9 @@ use serde_json::Value;
 use slotmap_core::errors::{JsonError, OutOfMemory};
 use slotmap_core::keys::{DefaultKey, Key, KeyData};
 use slotmap_core::serial::SlotRecord;
-use slotmap_json::{key_from_value, key_to_value, slots_from_value, slots_to_value};
+use slotmap_json::{
+    key_from_value, key_to_value, slot_from_value, slots_from_value, slots_to_value,
+};
 use std::alloc::{AllocError, Global};
 use std::cell::Cell;
 use std::test::Fail;
@@ -122,6 +124,46 @@ fn read_list(alloc: Global, json: &str) -> Result<String, Fail> {
 fn lists_are_read(rt: HostRuntime) -> Result<(), Fail> {
     for (json, wanted) in &READ {
         assert!(rt; read_list(rt.alloc(), json)?.as_str() == *wanted);
+    }
+    Ok(())
+}
+
+// Texts, and the slots that are read from them.
+static SLOTS: [(&str, &str); 16] = [
+    ("{\"version\":2}", "-@2"),
+    ("{\"value\":null,\"version\":4294967295}", "-@4294967295"),
+    ("{\"idx\":9,\"version\":0,\"value\":7}", "7@0"),
+    ("{\"version\":1,\"version\":3,\"value\":7}", "7@3"),
+    ("null", "shape"),
+    ("3", "shape"),
+    ("\"version\"", "shape"),
+    ("[{\"version\":1}]", "shape"),
+    ("{}", "shape"),
+    ("{\"value\":7}", "shape"),
+    ("{\"version\":null,\"value\":7}", "shape"),
+    ("{\"version\":-1}", "shape"),
+    ("{\"version\":1.5}", "shape"),
+    ("{\"version\":4294967296}", "shape"),
+    ("{\"version\":18446744073709551615}", "shape"),
+    ("{\"version\":1,\"value\":{\"value\":7}}", "shape"),
+];
+
+fn read_slot(alloc: Global, json: &str) -> Result<String, Fail> {
+    let value = Value::from_str(alloc, json)?;
+    let text = match slot_from_value(&value, &read_number) {
+        Ok(slot) => match slot.value {
+            Some(value) => format!(in alloc; "{value}@{}", slot.version),
+            None => format!(in alloc; "-@{}", slot.version),
+        },
+        Err(error) => format!(in alloc; "{error}"),
+    };
+    Ok(text?)
+}
+
+#[test]
+fn slots_are_read(rt: HostRuntime) -> Result<(), Fail> {
+    for (json, wanted) in &SLOTS {
+        assert!(rt; read_slot(rt.alloc(), json)?.as_str() == *wanted, "{json}");
     }
     Ok(())
 }

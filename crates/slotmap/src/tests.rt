@@ -11,3 +11,4 @@ mod names;
 mod not_cloned;
 mod text;
 mod two_runs;
+mod wide;

@@ -15,7 +15,10 @@
 //! - `last N CALL WORDS -> RESULT`: the same, with the result of the last call alone;
 //! - `sum N CALL WORDS -> SUM`: the same, with one number for all N results, their [`Sum`];
 //! - `surely CALL WORDS -> RESULT`, or with one of these words behind `surely`: a call for which
-//!   there is room, so that it may not run out of memory.
+//!   there is room, so that it may not run out of memory;
+//! - `displacing CALL WORDS -> RESULT`, or with one of these words behind `displacing`: a put by the
+//!   entry of a key, which takes an older pair out before it asks for memory. If memory runs out,
+//!   that pair may be lost.
 //!
 //! A [`Subject`] makes the calls. These calls are [`File::hold`]'s own:
 //!
@@ -28,7 +31,7 @@
 //! twice.
 //!
 //! A call that runs out of memory is made once more, since it must change nothing. No
-//! value may be lost or left over by it, and the second call must have the result of the row. So a
+//! value may be lost or left over by it, but for a displaced pair, and the second call must have the result of the row. So a
 //! program prints the same whichever of its allocations fails, but for the number of calls made
 //! twice. Where no allocation fails it is 0.
 #![tactic(auto)]

@@ -62,6 +62,8 @@ struct Desk<'s, 'a, S> {
     reply: String,
     // Whether the call may not run out of memory.
     is_sure: bool,
+    // Whether the call may lose an older pair where memory runs out.
+    is_displacing: bool,
 }
 
 impl<'s, 'a, S: Subject> Desk<'s, 'a, S> {
@@ -80,6 +82,7 @@ impl<'s, 'a, S: Subject> Desk<'s, 'a, S> {
             words: Vec::with_capacity(alloc, 100)?,
             reply,
             is_sure: false,
+            is_displacing: false,
         })
     }
 
@@ -140,6 +143,9 @@ impl<'s, 'a, S: Subject> Desk<'s, 'a, S> {
         let sure = call.strip_prefix("surely ");
         self.is_sure = sure.is_some();
         let call = sure.unwrap_or(call);
+        let displacing = call.strip_prefix("displacing ");
+        self.is_displacing = displacing.is_some();
+        let call = displacing.unwrap_or(call);
         if let Some((times, call)) = made_often(call, "repeat ") {
             return self.repeat(call, times, expected);
         }
@@ -191,7 +197,7 @@ impl<'s, 'a, S: Subject> Desk<'s, 'a, S> {
     }
 
     // Makes a call in turn `turn`, and leaves its result in the reply. A call that runs out of
-    // memory is made once more, unless it may not.
+    // memory is made once more, unless it may not. A pair that it displaced before stays dropped.
     fn make(&mut self, call: &str, turn: u64) -> Result<(), Stop> {
         let counts = self.supply.counts;
         let (alive, seen) = (counts.alive(), counts.seen());
@@ -202,10 +208,11 @@ impl<'s, 'a, S: Subject> Desk<'s, 'a, S> {
         if self.is_sure {
             return self.say("out of memory in spite of its room");
         }
-        if counts.alive() != alive {
+        let lost = alive.wrapping_sub(counts.alive());
+        if lost != 0 && !(lost == 1 && self.is_displacing) {
             return self.say("lost or kept a value as memory ran out");
         }
-        counts.set_back(seen);
+        counts.set_back([seen[0], seen[1], seen[2].wrapping_add(lost)]);
         counts.count_made_twice();
         let made = self.call_once(call, turn);
         self.tell(made)

@@ -93,6 +93,8 @@ impl<'a> Held<'a> for SlotMap<DefaultKey, Number<'a>> {
     fn own(maps: &mut Maps<'a, Self>, call: &Call<'_>, reply: &mut String) -> Result<(), Stop> {
         match (call.name, call.words) {
             ("key_at", Words::Number(index)) => write_key_at(reply, &maps.map, index),
+            ("next_after", Words::Nothing) => write_found(reply, maps.map.next_after(None)),
+            ("next_after", Words::Key(key)) => write_found(reply, maps.map.next_after(Some(key))),
             _ => maps.on_detached(call, reply),
         }
     }
@@ -109,6 +111,15 @@ fn write_key_at(
     };
     match map.key_at(index) {
         Some(key) => write!(reply, "{:?}", key.data())?,
+        None => reply.push_str("none")?,
+    }
+    Ok(())
+}
+
+// Writes the key that was found and its value.
+fn write_found(reply: &mut String, found: Option<(DefaultKey, &Number<'_>)>) -> Result<(), Stop> {
+    match found {
+        Some((key, value)) => write!(reply, "pair {:?}:{}", key.data(), value.value)?,
         None => reply.push_str("none")?,
     }
     Ok(())

@@ -35,7 +35,8 @@
 //!
 //! Of more than a thousand items a result has only how many they are: `keys (100000)`.
 //!
-//! A call of `SlotMap` alone: `key_at N` returns the live key of an index, or `none`.
+//! Calls of `SlotMap` alone: `next_after` and `next_after K` return the next live key and its value, as `pair 2v3:5`, or `none`. And `key_at N`
+//! returns the live key of an index.
 //!
 //! Calls of `DenseSlotMap` alone: `iter_mut N`, `values_mut N` and `for_mut` show the items of N steps, or all, and append the
 //! digit 1, 2 or 3 to each value. `keys_as_slice`, `values_as_slice` and `as_slices` show the slices.
