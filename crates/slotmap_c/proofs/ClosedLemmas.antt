@@ -1,10 +1,11 @@
 -- What a closed handle reads as: nothing is found in it. For this crate alone.
 use Rattle.std.specs.FinMap as map
 use Rattle.std.specs.FinSet as set
-use Rattle.std.proofs.Common.{◌≡◌, ℕ, Bool, false, not, None, min, is_some, refl, sym, subst, ap, ◌∙◌, inr, arith}
+use Rattle.std.proofs.Common.{◌≡◌, ℕ, Bool, false, not, None, length, min, is_some, refl, sym, subst, ap, ◌∙◌, inr, arith}
 use lib.Dec.{T}
 use Rattle.slotmap_core.proofs.Common.{Content, Key, key_cmp, IsLive, keys_total, exact_keys}
-use Rattle.slotmap_c.specs.Calls.{FindSays, ReattachSays, NextSays}
+use Rattle.slotmap_c.proofs.AboveLemmas.{none_above}
+use Rattle.slotmap_c.specs.Calls.{FindSays, ReattachSays, NextSays, above}
 use Rattle.slotmap_c.specs.Held.{nothing}
 use Rattle.slotmap_c.specs.Status.{not_live, not_detached, no_more}
 
@@ -20,6 +21,11 @@ module _ (m : Content ℕ) (is : m ≡ nothing) where
 
   pub none_listed : (n : ℕ) → 0 ≡ min n (map.len m.live)
   none_listed n = let empty : 0 ≡ map.len m.live = none_live in omega (arith, empty)
+
+  pub none_listed_above : (i n : ℕ) → 0 ≡ min n (map.len (above i m.live))
+  none_listed_above i n =
+      let empty : 0 ≡ map.len (above i m.live) = sym (map.len-entries (above i m.live) ∙ ap length (none_above m i (λ q live. absurd (none q live)))) in
+      omega (arith, empty)
 
   pub none_contained : (k : Key) → false ≡ map.contains_key m.live k
   none_contained k = sym (ap is_some (found k))

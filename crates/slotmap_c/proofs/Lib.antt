@@ -1,3 +1,4 @@
+pub mod AboveLemmas
 pub mod ArrayLemmas
 pub mod ClosedLemmas
 pub mod SideLemmas

@@ -1,12 +1,13 @@
 -- What a closed handle of a side table reads as, and which keys a put leaves out. For this crate alone.
 use Rattle.std.specs.FinMap as map
-use Rattle.std.proofs.Common.{◌≡◌, ℕ, Bool, true, false, not, None, is_some, nat_cmp, if◌then◌else◌, refl, sym, subst, ap, ◌∙◌}
+use Rattle.std.proofs.Common.{◌≡◌, ℕ, Bool, true, false, not, Option, Some, None, is_some, nat_cmp, if◌then◌else◌, refl, sym, subst, ap, ◌∙◌, arith}
 use lib.Dec.{T}
-use Rattle.slotmap_core.specs.Words.{Key, Pairs, get, contains_key, put, remove, entry, has_entry, value_at}
+use Rattle.slotmap_core.specs.Words.{Key, Pairs, ffi, get, contains_key, put, remove, entry, has_entry, value_at}
 use Rattle.slotmap_core.proofs.SecondaryMaps.SecondaryLemmas.{put_bound}
 use Rattle.slotmap_core.proofs.SecondaryMaps.AtIndexLemmas.{in_own}
 use Rattle.slotmap_secondary.specs.Content.{SideContent}
 use Rattle.slotmap_c.specs.Side.{no_side}
+use Rattle.slotmap_c.specs.SideCalls.{numbered}
 
 module _ (s : SideContent ℕ) (is : s ≡ no_side) where
   pub no_value : (k : Key) → get s.pairs k ≡ None
@@ -28,3 +29,12 @@ has_no_entry m k v out = by_entry (has_entry (entry m k)) refl where
   by_entry : (b : Bool) → has_entry (entry m k) ≡ b → has_entry (entry m k) ≡ false
   by_entry true e = absurd (subst (λ (y : Bool). T (not y)) (sym out ∙ ap (λ (n : Pairs ℕ). contains_key n k) (put_bound m k v e) ∙ in_own m k v) tt)
   by_entry false e = e
+
+-- the pair at a key's index, if the key has a value
+numbered_found : (i version : ℕ) (o : Option (ℕ × ℕ)) (v : ℕ) → value_at version o ≡ Some v
+    → numbered i o ≡ Some (ffi (record { index = i; version = version }), v)
+numbered_found i version None v has = grind arith
+numbered_found i version (Some p) v has = grind arith
+
+pub pair_numbered : (m : Pairs ℕ) (k : Key) (i v : ℕ) → k.index ≡ i → get m k ≡ Some v → numbered i (map.get m i) ≡ Some (ffi k, v)
+pair_numbered m k i v at has = ap (λ j. numbered j (map.get m j)) (sym at) ∙ numbered_found k.index k.version (map.get m k.index) v has

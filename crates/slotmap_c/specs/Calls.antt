@@ -1,8 +1,8 @@
 -- What each call for C says by its status, and by what it writes. `was` is what stood at an `out` before, `now` what stands there
 -- after it; `old` is the map of the handle before, `new` the map after.
-use Rattle.std.specs.Prelude.{◌≡◌, ℕ, ◌+◌, ◌/◌, ◌%◌, ◌^◌, ◌<◌, ◌≤◌, Bool, true, false, Option, Some, None, List, [], take, drop, length, ◌⊎◌}
+use Rattle.std.specs.Prelude.{◌≡◌, ℕ, ◌+◌, ◌/◌, ◌%◌, ◌^◌, ◌<◌, ◌≤◌, Bool, true, false, nat_le, Option, Some, None, List, [], take, drop, length, ◌⊎◌}
 use Rattle.std.specs.FinMap as map
-use Rattle.slotmap_core.specs.Words.{Content, Key, IsKey, IsLive, IsDetached, IsNew, Inserts, Reattaches, Keeps, IsCopy, LacksRoom, ffi, key_from, used, most}
+use Rattle.slotmap_core.specs.Words.{Content, Key, key_cmp, IsKey, IsLive, IsDetached, IsNew, Inserts, Reattaches, Keeps, IsCopy, LacksRoom, ffi, key_from, used, most}
 use Rattle.slotmap_c.specs.Status.{ok, full_map, no_memory, closed, opened, not_live, not_detached, no_more}
 
 -- the key that a number stands for
@@ -58,6 +58,12 @@ ReattachSays old k value status new =
     ((status ≡ ok) × Reattaches old k value new)
     ⊎ ((status ≡ not_detached) × ¬ (IsDetached old k) × (new ≡ old))
 
+-- whether the key was live before the call
+abbrev pub DeleteSays : (was_live : Bool) (status : ℕ) → Type 0
+DeleteSays was_live status =
+    ((status ≡ ok) × (was_live ≡ true))
+    ⊎ ((status ≡ not_live) × (was_live ≡ false))
+
 -- k is the live key with the least index above i
 pub record IsNextAfter (c : Content ℕ) (i : ℕ) (k : Key) : Type 0 where
   pub live : IsLive c k
@@ -69,6 +75,10 @@ abbrev pub NextSays : (c : Content ℕ) (i status key_was key_now value_was valu
 NextSays c i status key_was key_now value_was value_now =
     ((status ≡ ok) × ((k : Key) × IsNextAfter c i k × (key_now ≡ ffi k) × (map.get c.live k ≡ Some value_now)))
     ⊎ ((status ≡ no_more) × ((other : Key) → IsLive c other → other.index ≤ i) × (key_now ≡ key_was) × (value_now ≡ value_was))
+
+-- the keys of an index above i, with their values
+abbrev pub above : ℕ → map.FinMap key_cmp ℕ → map.FinMap key_cmp ℕ
+above i m = map.retain_keys m (λ k. nat_le (i + 1) k.index)
 
 -- the first n of these stand at the head of the array, and the rest of it is as it was
 pub record ListsFirst (n : ℕ) (from was now : List ℕ) : Type 0 where

@@ -1,7 +1,7 @@
 -- What each call of a side table says by its status. `old` is the table of the handle before, `new` the table after.
-use Rattle.std.specs.Prelude.{◌≡◌, ℕ, ◌<◌, ◌≤◌, Bool, true, false, ◌⊎◌}
+use Rattle.std.specs.Prelude.{◌≡◌, ℕ, ◌<◌, ◌≤◌, Bool, true, false, Option, Some, None, ◌⊎◌}
 use Rattle.std.specs.FinMap as map
-use Rattle.slotmap_core.specs.Words.{Key, most, bind, entry, has_entry, vacant}
+use Rattle.slotmap_core.specs.Words.{Key, ffi, most, bind, entry, has_entry, vacant}
 use Rattle.slotmap_secondary.specs.Content.{SideContent, Reaches}
 use Rattle.slotmap_c.specs.Status.{ok, full_map, no_memory, closed, opened, no_entry_found}
 
@@ -47,3 +47,13 @@ abbrev pub SidePutSays : (was_open : Bool) (old : SideContent ℕ) (k : Key) (va
 SidePutSays was_open old k value status new =
     ((was_open ≡ true) × PutSays old k value status new)
     ⊎ ((status ≡ closed) × (was_open ≡ false) × (new ≡ old))
+
+-- a version at the index i and its value, as the number of the key and the value
+abbrev pub numbered : (i : ℕ) → Option (ℕ × ℕ) → Option (ℕ × ℕ)
+numbered i (Some p) = Some (ffi (record { index = i; version = p.0 }), p.1)
+numbered i None = None
+
+-- the number of a key and its value are written, or 0 if there is none
+abbrev pub WritesPair : Option (ℕ × ℕ) → (key_now value_was value_now : ℕ) → Type 0
+WritesPair (Some p) key_now value_was value_now = (key_now ≡ p.0) × (value_now ≡ p.1)
+WritesPair None key_now value_was value_now = (key_now ≡ 0) × (value_now ≡ value_was)

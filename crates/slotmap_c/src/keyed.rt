@@ -3,7 +3,7 @@
 ghost use Rattle.std.specs.FinMap as map;
 ghost use Rattle.std.specs.Prelude.{◌≡◌, ◌≢◌, ◌<◌, true, false};
 ghost use Rattle.slotmap_core.specs.Words.{Removes, Detaches, StaysValid, MayGrow, with_value};
-ghost use Rattle.slotmap_c.specs.Calls.{key_of, InsertSays, FindSays, ReattachSays};
+ghost use Rattle.slotmap_c.specs.Calls.{key_of, InsertSays, FindSays, DeleteSays, ReattachSays};
 ghost use Rattle.slotmap_c.specs.Status.{ok};
 
 use crate::handle::Handle;
@@ -134,6 +134,20 @@ pub extern "C" fn slotmap_remove(
     let value = inside.remove(key(number));
     this.put(inside);
     found(value, out)
+}
+
+/// Removes a live key, and drops its value.
+#[unsafe(no_mangle)]
+pub extern "C" fn slotmap_delete(alloc: Global, this: &mut Handle, number: u64) -> u32
+    ensures says { DeleteSays (map.contains_key this.old.map.live (key_of number)) result }
+    ensures removes { result ≡ ok → Removes this.old.map (key_of number) this.new.map }
+    ensures unchanged { result ≢ ok → this.new.map ≡ this.old.map }
+    ensures live { this.new.map.live ≡ map.remove this.old.map.live (key_of number) }
+    ensures valid { this.old.is_open ≡ true → StaysValid true this.old.map this.new.map }
+    ensures open { this.new.is_open ≡ this.old.is_open }
+{
+    let mut unread = 0;
+    slotmap_remove(alloc, this, number, &mut unread)
 }
 
 /// Takes out the value of a live key, whose slot is kept, and writes it.

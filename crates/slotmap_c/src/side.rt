@@ -1,18 +1,18 @@
 //! The calls of a side table: values of 64 bits under the keys of a map.
 
 ghost use Rattle.std.specs.FinMap as map;
-ghost use Rattle.std.specs.Prelude.{◌≡◌, ◌≢◌, ◌≤◌, true, false};
-ghost use Rattle.slotmap_core.specs.Words.{get, contains_key, remove};
+ghost use Rattle.std.specs.Prelude.{◌≡◌, ◌≢◌, ◌≤◌, true, false, length, min, map as list_map};
+ghost use Rattle.slotmap_core.specs.Words.{get, contains_key, remove, most, keyed, ffi};
 ghost use Rattle.slotmap_secondary.specs.Content.{IsSideContent};
-ghost use Rattle.slotmap_c.specs.Calls.{key_of, FindSays};
+ghost use Rattle.slotmap_c.specs.Calls.{key_of, FindSays, ListsFirst};
 ghost use Rattle.slotmap_c.specs.Side.{no_side};
-ghost use Rattle.slotmap_c.specs.SideCalls.{SideOpensWith, SideNewSays, SideCloneSays, SideReserveSays, PutSays, SidePutSays};
-ghost use Rattle.slotmap_c.specs.Status.{ok};
+ghost use Rattle.slotmap_c.specs.SideCalls.{SideOpensWith, SideNewSays, SideCloneSays, SideReserveSays, PutSays, SidePutSays, numbered, WritesPair};
+ghost use Rattle.slotmap_c.specs.Status.{ok, no_memory};
 
 use crate::keyed::{found, key};
 use crate::status::{CLOSED, FULL, NO_ENTRY, NO_MEMORY, OK, OPEN};
 use slotmap_core::errors::ReserveError;
-use slotmap_core::keys::DefaultKey;
+use slotmap_core::keys::{DefaultKey, Key};
 use std::alloc::Global;
 
 pub(crate) mod handle;
@@ -121,6 +121,10 @@ pub extern "C" fn slotmap_side_capacity(alloc: Global, this: &mut SideHandle) ->
 pub extern "C" fn slotmap_side_reserve(alloc: Global, this: &mut SideHandle, capacity: usize) -> u32
     ensures says { SideReserveSays this.old.is_open this.old.side capacity result this.new.side }
     ensures keeps { this.new.side ≡ record this.old.side { capacity = this.new.side.capacity } }
+    ensures limit { result ≡ ok → capacity ≤ most }
+    ensures grows { this.old.side.capacity ≤ this.new.side.capacity }
+    ensures room { this.old.is_open ≡ true → capacity ≤ this.old.side.capacity → capacity ≤ most → result ≡ ok }
+    ensures had_room { capacity ≤ this.old.side.capacity → this.new.side ≡ this.old.side }
     ensures unchanged { result ≢ ok → this.new.side ≡ this.old.side }
     ensures valid { this.old.is_open ≡ true → IsSideContent this.new.side }
     ensures open { this.new.is_open ≡ this.old.is_open }
@@ -153,6 +157,7 @@ pub extern "C" fn slotmap_side_clear(alloc: Global, this: &mut SideHandle)
 // Puts a value under a key that has an entry.
 fn put(inside: &mut Side, key: DefaultKey, value: u64) -> u32
     ensures says { PutSays inside.old key value result inside.new }
+    ensures room { key.index ≤ inside.old.capacity → result ≢ no_memory }
     ensures valid { IsSideContent inside.new }
 {
     match inside.insert(key, value) {
@@ -176,6 +181,7 @@ pub extern "C" fn slotmap_side_put(
     value: u64,
 ) -> u32
     ensures says { SidePutSays this.old.is_open this.old.side (key_of number) value result this.new.side }
+    ensures room { (key_of number).index ≤ this.old.side.capacity → result ≢ no_memory }
     ensures valid { this.old.is_open ≡ true → IsSideContent this.new.side }
     ensures open { this.new.is_open ≡ this.old.is_open }
 {
@@ -184,6 +190,61 @@ pub extern "C" fn slotmap_side_put(
     };
     let status = put(&mut inside, key(number), value);
     this.put(inside);
+    status
+}
+
+// Returns the key at an index as a number, and its value.
+fn pair_at(inside: &Side, index: usize) -> Option<(u64, u64)>
+    ensures { result ≡ numbered index (map.get inside.now.pairs index) }
+{
+    match inside.key_at(index) {
+        Some(key) => Some((key.data().as_ffi(), *inside.get_unchecked(key))),
+        None => None,
+    }
+}
+
+// Writes a key and its value, or the key 0 and no value.
+fn write_pair(pair: Option<(u64, u64)>, key_out: &mut u64, value_out: &mut u64)
+    ensures { WritesPair pair key_out.new value_out.old value_out.new }
+{
+    match pair {
+        Some((key, value)) => {
+            *key_out = key;
+            *value_out = value;
+        }
+        None => *key_out = 0,
+    }
+}
+
+/// Puts a value under a key as `slotmap_side_put` does, and writes the key that stood at its index,
+/// with its value. It writes the key 0 if none stood there.
+#[unsafe(no_mangle)]
+pub extern "C" fn slotmap_side_exchange(
+    alloc: Global,
+    this: &mut SideHandle,
+    number: u64,
+    value: u64,
+    key_out: &mut u64,
+    value_out: &mut u64,
+) -> u32
+    ensures says { SidePutSays this.old.is_open this.old.side (key_of number) value result this.new.side }
+    ensures displaces { result ≡ ok → WritesPair (numbered (key_of number).index (map.get this.old.side.pairs (key_of number).index))
+        key_out.new value_out.old value_out.new }
+    ensures unwritten { result ≢ ok → (key_out.new ≡ key_out.old) × (value_out.new ≡ value_out.old) }
+    ensures room { (key_of number).index ≤ this.old.side.capacity → result ≢ no_memory }
+    ensures valid { this.old.is_open ≡ true → IsSideContent this.new.side }
+    ensures open { this.new.is_open ≡ this.old.is_open }
+{
+    let Some(mut inside) = this.take(alloc) else {
+        return CLOSED;
+    };
+    let key = key(number);
+    let stood = pair_at(&inside, key.data().idx() as usize);
+    let status = put(&mut inside, key, value);
+    this.put(inside);
+    if status == OK {
+        write_pair(stood, key_out, value_out);
+    }
     status
 }
 
@@ -244,4 +305,45 @@ pub extern "C" fn slotmap_side_remove(
     let value = inside.remove(key(number));
     this.put(inside);
     found(value, out)
+}
+
+// Writes the keys and their values, by ascending index, as far as both arrays go.
+fn list(inside: &Side, keys: &mut [u64], values: &mut [u64]) -> usize
+    ensures count { result ≡ min (min (length keys.old) (length values.old)) (map.len (keyed inside.now.pairs)) }
+    ensures keys { ListsFirst result (list_map (λ pair. ffi pair.0) (map.entries (keyed inside.now.pairs))) keys.old keys.new }
+    ensures values { ListsFirst result (list_map (λ pair. pair.1) (map.entries (keyed inside.now.pairs))) values.old values.new }
+{
+    let mut count = 0;
+    for (key, value) in inside.iter() {
+        if count >= keys.len() || count >= values.len() {
+            break;
+        }
+        keys[count] = key.data().as_ffi();
+        values[count] = *value;
+        count += 1;
+    }
+    count
+}
+
+/// Writes the keys and their values, by ascending index, as far as both arrays go, and returns how
+/// many it wrote.
+#[unsafe(no_mangle)]
+pub extern "C" fn slotmap_side_list(
+    alloc: Global,
+    this: &mut SideHandle,
+    keys: &mut [u64],
+    values: &mut [u64],
+) -> usize
+    ensures count { result ≡ min (min (length keys.old) (length values.old)) (map.len (keyed this.old.side.pairs)) }
+    ensures keys { ListsFirst result (list_map (λ pair. ffi pair.0) (map.entries (keyed this.old.side.pairs))) keys.old keys.new }
+    ensures values { ListsFirst result (list_map (λ pair. pair.1) (map.entries (keyed this.old.side.pairs))) values.old values.new }
+    ensures open { this.new.is_open ≡ this.old.is_open }
+    ensures side { this.new.side ≡ this.old.side }
+{
+    let Some(inside) = this.take(alloc) else {
+        return 0;
+    };
+    let count = list(&inside, keys, values);
+    this.put(inside);
+    count
 }

@@ -1,15 +1,15 @@
 //! The calls, as C makes them, with ample memory.
 
 use crate::handle::Handle;
-use crate::iterating::{slotmap_list, slotmap_next};
+use crate::iterating::{slotmap_list, slotmap_list_after, slotmap_next};
 use crate::keyed::{
-    slotmap_contains, slotmap_detach, slotmap_get, slotmap_insert, slotmap_reattach,
-    slotmap_remove, slotmap_set,
+    slotmap_contains, slotmap_delete, slotmap_detach, slotmap_get, slotmap_insert,
+    slotmap_reattach, slotmap_remove, slotmap_set,
 };
 use crate::side::handle::SideHandle;
 use crate::side::{
-    slotmap_side_contains, slotmap_side_free, slotmap_side_get, slotmap_side_len, slotmap_side_new,
-    slotmap_side_put, slotmap_side_remove,
+    slotmap_side_contains, slotmap_side_exchange, slotmap_side_free, slotmap_side_get,
+    slotmap_side_len, slotmap_side_list, slotmap_side_new, slotmap_side_put, slotmap_side_remove,
 };
 use crate::status::{CLOSED, NO_ENTRY, NO_MORE, NOT_DETACHED, NOT_LIVE, OK, OPEN};
 use crate::whole::{
@@ -31,7 +31,10 @@ fn keyed_well(alloc: Global, map: &mut Handle) -> bool {
     let stale = slotmap_get(alloc, map, a, &mut out);
     let well = well && (stale, out, slotmap_contains(alloc, map, a)) == (NOT_LIVE, 11, false);
     let live = slotmap_get(alloc, map, c, &mut out);
-    well && (live, out, slotmap_contains(alloc, map, c)) == (OK, 20, true)
+    let well = well && (live, out, slotmap_contains(alloc, map, c)) == (OK, 20, true);
+    let deleted = slotmap_delete(alloc, map, c);
+    let again = slotmap_delete(alloc, map, c);
+    well && (deleted, again, slotmap_contains(alloc, map, c)) == (OK, NOT_LIVE, false)
 }
 
 fn detached_well(alloc: Global, map: &mut Handle) -> bool {
@@ -53,6 +56,8 @@ fn listed_well(alloc: Global, map: &mut Handle) -> bool {
     let (mut keys, mut values) = ([0; 3], [0; 3]);
     let count = slotmap_list(alloc, map, &mut keys, &mut values);
     let well = (first, second, count) == (OK, OK, 2) && (keys, values) == ([a, b, 0], [10, 20, 0]);
+    let count = slotmap_list_after(alloc, map, a, &mut keys, &mut values);
+    let well = well && count == 1 && (keys, values) == ([b, b, 0], [20, 20, 0]);
     let mut key = 0;
     let next = slotmap_next(alloc, map, 0, &mut key, &mut value);
     let well = well && (next, key, value) == (OK, a, 10);
@@ -94,6 +99,19 @@ fn side_well(alloc: Global, side: &mut SideHandle) -> bool {
     let well = well && (stale, out) == (NOT_LIVE, 0);
     let removed = slotmap_side_remove(alloc, side, newer, &mut out);
     well && (removed, out, slotmap_side_contains(alloc, side, newer)) == (OK, 6, false)
+}
+
+fn side_listed_well(alloc: Global, side: &mut SideHandle) -> bool {
+    let (newer, mut key, mut out) = (0x3_0000_0001, 7, 7);
+    let first = slotmap_side_exchange(alloc, side, FIRST, 5, &mut key, &mut out);
+    let well = (first, key, out) == (OK, 0, 7);
+    let second = slotmap_side_exchange(alloc, side, newer, 6, &mut key, &mut out);
+    let well = well && (second, key, out) == (OK, FIRST, 5);
+    let older = slotmap_side_exchange(alloc, side, FIRST, 8, &mut key, &mut out);
+    let well = well && (older, key, out) == (NO_ENTRY, FIRST, 5);
+    let (mut keys, mut values) = ([0; 2], [0; 2]);
+    let count = slotmap_side_list(alloc, side, &mut keys, &mut values);
+    well && count == 1 && (keys, values) == ([newer, 0], [6, 0])
 }
 
 #[test]
@@ -140,6 +158,7 @@ fn calls_of_a_side_table(rt: HostRuntime) {
     let mut side = SideHandle::closed();
     let made = slotmap_side_new(alloc, &mut side);
     let well = side_well(alloc, &mut side);
+    let well = well && side_listed_well(alloc, &mut side);
     slotmap_side_free(alloc, &mut side);
     side.end();
     assert_eq!(rt; (made, well), (OK, true));

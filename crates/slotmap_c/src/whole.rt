@@ -1,8 +1,8 @@
 //! The calls for a map as a whole.
 
 ghost use Rattle.std.specs.FinMap as map;
-ghost use Rattle.std.specs.Prelude.{◌≡◌, ◌<◌, true, false};
-ghost use Rattle.slotmap_core.specs.Words.{IsContent, Leaves, FreesByIndex, MakesRoom, StaysValid};
+ghost use Rattle.std.specs.Prelude.{◌≡◌, ◌<◌, ◌≤◌, true, false};
+ghost use Rattle.slotmap_core.specs.Words.{IsContent, Leaves, FreesByIndex, MakesRoom, StaysValid, places};
 ghost use Rattle.slotmap_c.specs.Calls.{OpensWith, NewSays, CloneSays, ReserveSays};
 ghost use Rattle.slotmap_c.specs.Held.{nothing};
 ghost use Rattle.slotmap_c.specs.Status.{ok};
@@ -94,6 +94,7 @@ pub extern "C" fn slotmap_len(alloc: Global, this: &mut Handle) -> usize
 #[unsafe(no_mangle)]
 pub extern "C" fn slotmap_capacity(alloc: Global, this: &mut Handle) -> usize
     ensures value { result ≡ this.old.map.capacity }
+    ensures places { this.old.is_open ≡ true → places this.old.map ≤ result }
     ensures open { this.new.is_open ≡ this.old.is_open }
     ensures map { this.new.map ≡ this.old.map }
 {
