@@ -13,6 +13,7 @@ pub mod null_key;
 pub mod packed;
 pub mod registry;
 pub mod retains;
+pub mod reuse;
 pub mod runs;
 pub mod same_keys;
 pub mod scheduler;
