@@ -47,9 +47,9 @@ module _ {T Z : Type 0} where
         }
 
     -- as many entries leave the heap as jobs leave the map, or more
-    pub handles_left : Leaves old new → vec_len heap' + map.len old.live ≤ vec_len heap + map.len new.live → vec_capacity heap' ≡ vec_capacity heap
-        → Leaves (handles_of old heap) (handles_of new heap')
-    handles_left leaves len capacity =
+    pub handles_left : Leaves old new → vec_len heap' ≤ vec_len heap → vec_len heap' + map.len old.live ≤ vec_len heap + map.len new.live
+        → vec_capacity heap' ≡ vec_capacity heap → Leaves (handles_of old heap) (handles_of new heap')
+    handles_left leaves fewer len capacity =
         let vacant = vacant_at_most old new leaves in
         let alone = shown_leaves old new (keys_of old.live) (keys_of new.live) (contains-keys_of old.live) (len-keys_of old.live) (contains-keys_of new.live) (len-keys_of new.live) leaves in
         record {

@@ -32,7 +32,7 @@ returns g c =
       unchanged = search rules;
       capacity = rw (← c.self.view_is) (same_capacity (timed c.self.inside.jobs) (timed c.take_out.new.jobs) c.self.inside.heap c.take_out.new.heap out.valid.capacity out.capacity);
       leaves = rw (← c.self.view_is) (handles_left (timed c.self.inside.jobs) (timed c.take_out.new.jobs) c.self.inside.heap c.take_out.new.heap
-          (left_leaves c.self.inside.jobs c.self.inside.count c.self.inside.heap c.self.invariant c.inner.result c.in_ok-removed.removed found c.take_out.new.jobs removes) (omega arith) out.capacity);
+          (left_leaves c.self.inside.jobs c.self.inside.count c.self.inside.heap c.self.invariant c.inner.result c.in_ok-removed.removed found c.take_out.new.jobs removes) (omega arith) (omega arith) out.capacity);
       for_good = rw (← c.inner.ensures) (handles_spent (timed c.take_out.new.jobs) c.take_out.new.heap c.inner.result (removed_spent _ _ true well c.inner.result live removes));
       stale = rw (← c.self.view_is) (handles_stale _ _ c.self.inside.heap c.take_out.new.heap (spent_removes _ _ true well c.inner.result live removes));
     }

@@ -25,7 +25,7 @@ pub returns-clause-leaves : goal.returns-clause-leaves
 returns-clause-leaves g c =
     let waiting = c.self.invariant.indexed.len in
     rw (← c.self.view_is) (handles_left (timed c.self.inside.jobs) (timed c.clear.new.self) c.self.inside.heap c.clear-2.new.self (mapped-leaves unplaced c.self.inside.jobs c.clear.new.self c.clear.ensures.leaves)
-    (omega (arith, c.clear-2.ensures.len)) c.clear-2.ensures.capacity)
+    (omega (arith, c.clear-2.ensures.len)) (omega (arith, c.clear-2.ensures.len)) c.clear-2.ensures.capacity)
 
 pub returns-clause-for_good : goal.returns-clause-for_good
 returns-clause-for_good g c k waits =
