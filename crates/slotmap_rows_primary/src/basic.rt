@@ -93,8 +93,8 @@ impl<'a> Held<'a> for SlotMap<DefaultKey, Number<'a>> {
     fn own(maps: &mut Maps<'a, Self>, call: &Call<'_>, reply: &mut String) -> Result<(), Stop> {
         match (call.name, call.words) {
             ("key_at", Words::Number(index)) => write_key_at(reply, &maps.map, index),
-            ("next_after", Words::Nothing) => write_found(reply, maps.map.next_after(None)),
-            ("next_after", Words::Key(key)) => write_found(reply, maps.map.next_after(Some(key))),
+            ("next_after", Words::Nothing) => write_next_after(reply, &maps.map, None),
+            ("next_after", Words::Key(key)) => write_next_after(reply, &maps.map, Some(key)),
             _ => maps.on_detached(call, reply),
         }
     }
@@ -116,9 +116,13 @@ fn write_key_at(
     Ok(())
 }
 
-// Writes the key that was found and its value.
-fn write_found(reply: &mut String, found: Option<(DefaultKey, &Number<'_>)>) -> Result<(), Stop> {
-    match found {
+// Writes the next live key and its value.
+fn write_next_after(
+    reply: &mut String,
+    map: &SlotMap<DefaultKey, Number<'_>>,
+    key: Option<DefaultKey>,
+) -> Result<(), Stop> {
+    match map.next_after(key) {
         Some((key, value)) => write!(reply, "pair {:?}:{}", key.data(), value.value)?,
         None => reply.push_str("none")?,
     }
