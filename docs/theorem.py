@@ -155,10 +155,10 @@ def laws(found):
     by_name = {it.name: it for it in found}
     lines = ["# What was put is what is got", ""]
     lines += wrapped(
-        "`run_new` runs a list of commands on a new map and returns the replies. What the map promises by them is, for a reader, in these laws of the clauses `laws` and "
-        "`index_stays_small`: each reply agrees with what the commands before it and their replies tell, where no key is live at first (`ReadsWhatWasPut`); no two inserts return "
-        "the same key (`NoKeyTwice`); and in a list of fewer than 2^32 commands, from `0 0 0`, no index is above the most keys at one moment (`IndexStaysSmall`). The laws "
-        f"rest on these {len(LAWS)} definitions, on keys, and on no map, slot or machine. `docs/theorem.py` writes this page, and with `--check` fails if it is out of date.", width=158)
+        "`run_new` runs a list of commands on a new map and returns the replies. For a reader its clauses `laws` and `index_stays_small` promise this. Each reply agrees with "
+        "what the commands before it and their replies tell, where no key is live at first (`ReadsWhatWasPut`). No two inserts return the same key (`NoKeyTwice`). In a list "
+        "of fewer than 2^32 commands no index is above the most keys at one moment (`IndexStaysSmall`, from `0 0 0`). "
+        f"The laws rest on these {len(LAWS)} definitions, on keys, and on no map, slot or machine. `docs/theorem.py` writes this page, and with `--check` fails if it is out of date.", width=158)
     lines += ["", "```text"]
     around = []
     for name in LAWS:
@@ -196,8 +196,8 @@ def page():
     lines = [*first, "", "# The machine, and all that the theorem stands on", "", *wrapped(text), ""]
     lines += [*wrapped(", ".join(f"`{it}`" for it in names_of_std(found)), "> "), "", "## The theorem", ""]
     lines += wrapped(
-        "The map `M` is any map with the trait `Primary`: `SlotMap`, `DenseSlotMap` or `HopSlotMap`. `M.content` is what it holds, `M.REUSES` whether vacant slots need no "
-        "memory, and `K.data_of` the index and the version of a key. `IfOk` speaks of the value of an `Ok`, `IfErr` of that of an `Err`. "
+        "The map `M` has the trait `Primary`: it is a `SlotMap`, `DenseSlotMap` or `HopSlotMap`. What it holds is `M.content`. Whether vacant slots need no "
+        "memory is `M.REUSES`. The index and the version of a key are `K.data_of`. `IfOk` speaks of the value of an `Ok`, `IfErr` of that of an `Err`. "
         "`F.IsAlwaysCallable f` says that `f` may be called on every argument.")
     lines += [""]
     for name, clause in clauses_of("run_new").items():
