@@ -4,8 +4,7 @@ ghost use Rattle.std.specs.Prelude.{◌≡◌, ◌≢◌, IfNone, IfSome, true};
 ghost use Rattle.slotmap_core.specs.Words.{Key as KeyOf, IsContent, IsLive};
 
 use crate::SlotMap;
-use slotmap_core::keys::{Key, KeyData};
-use slotmap_slots::layout::Layout;
+use slotmap_core::keys::Key;
 
 impl<K: Key, V: Drop> SlotMap<K, V> {
     /// Returns the live key with this index, or `None` if no live key has it.
@@ -25,14 +24,6 @@ impl<K: Key, V: Drop> SlotMap<K, V> {
         ensures none { IfNone result ((other : KeyOf) → IsLive self.now other → other.index ≢ index) }
         ensures valid { IsContent true self.now }
     {
-        let columns = self.slots.layout();
-        if index as usize >= columns.len() {
-            return None;
-        }
-        let version = columns.version(index as usize);
-        if version % 2 == 0 {
-            return None;
-        }
-        Some(K::from(KeyData::exact(index, version)))
+        self.live_at(index as usize)
     }
 }

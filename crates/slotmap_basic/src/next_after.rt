@@ -36,6 +36,7 @@ impl<K: Key, V: Drop> SlotMap<K, V> {
     /// assert_eq!(rt; map.next_after(Some(a)), Some((b, &2)));
     /// assert_eq!(rt; map.next_after(Some(b)), None);
     /// ```
+    #[inline(always)]
     pub fn next_after(&self, key: Option<K>) -> Option<(K, &V)>
         ensures value { IfSome result (λ found. map.get self.now.live (K.data_of found.0) ≡ Some found.1.now) }
         ensures after { IfSome result (λ found. index_after K.data_of key ≤ (K.data_of found.0).index) }
@@ -48,8 +49,7 @@ impl<K: Key, V: Drop> SlotMap<K, V> {
         if let Some(found) = self.near(start) {
             return Some((found, self.get_unchecked(found)));
         }
-        let mut cursor = self.cursor_from(start + NEAR);
-        let found = self.next_live(&mut cursor)?;
+        let found = self.far(start + NEAR)?;
         Some((found, self.get_unchecked(found)))
     }
 }

@@ -90,6 +90,21 @@ impl<K: Key, V: Drop> SlotMap<K, V> {
         None
     }
 
+    // Returns the first live key from an index on. Out of line, so that a step to a near slot pays nothing
+    // for the search.
+    #[cold]
+    #[inline(never)]
+    pub(crate) fn far(&self, start: usize) -> Option<K>
+        ensures live { IfSome result (λ key. IsLive self.now (K.data_of key) × (start ≤ (K.data_of key).index)) }
+        ensures first { IfSome result (λ key. (other : KeyOf) → IsLive self.now other →
+            start ≤ other.index → (K.data_of key).index ≤ other.index) }
+        ensures none { IfNone result ((other : KeyOf) → IsLive self.now other → other.index < start) }
+        ensures valid { IsContent true self.now }
+    {
+        let mut cursor = self.cursor_from(start);
+        self.next_live(&mut cursor)
+    }
+
     // Removes the live keys from this index on, by ascending index, and drops their values.
     pub(crate) fn clear_from(&mut self, start: usize)
         ensures empty { NoneBelow self.old.live start → self.new.live ≡ map.empty }
