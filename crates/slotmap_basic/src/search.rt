@@ -1,7 +1,7 @@
 //! The search for the next live key, and the loop that removes all of them.
 
 ghost use Rattle.std.specs.FinMap as map;
-ghost use Rattle.std.specs.Prelude.{◌≡◌, ◌≢◌, ◌+◌, ◌^◌, ◌<◌, ◌≤◌, IfNone, IfSome, true};
+ghost use Rattle.std.specs.Prelude.{◌≡◌, ◌+◌, ◌^◌, ◌<◌, ◌≤◌, IfNone, IfSome, true};
 ghost use Rattle.slotmap_core.specs.Words.{Key as KeyOf, IsContent, IsLive, NoneBelow, Leaves, FreesByIndex, StaysValid};
 ghost use Rattle.slotmap_basic.specs.Ahead.{KnowsLiveKeys};
 
@@ -47,24 +47,6 @@ impl<K: Key, V: Drop> SlotMap<K, V> {
         // So no step cuts the index to 32 bits.
         rule_out(index > NULL_INDEX);
         let version = columns.version(index);
-        Some(K::from(KeyData::exact(index as u32, version)))
-    }
-
-    // Returns the live key at an index, if there is one.
-    #[inline(always)]
-    pub(crate) fn live_at(&self, index: usize) -> Option<K>
-        ensures live { IfSome result (λ key. IsLive self.now (K.data_of key) × ((K.data_of key).index ≡ index)) }
-        ensures none { IfNone result ((k : KeyOf) → IsLive self.now k → k.index ≢ index) }
-        ensures valid { IsContent true self.now }
-    {
-        let columns = self.slots.layout();
-        if index >= columns.len() {
-            return None;
-        }
-        let version = columns.version(index);
-        if version % 2 == 0 {
-            return None;
-        }
         Some(K::from(KeyData::exact(index as u32, version)))
     }
 
