@@ -83,8 +83,8 @@ impl<K: Key, V: Drop> SlotMap<K, V> {
         ensures none { IfNone result ((other : KeyOf) → IsLive self.now other → other.index < start) }
         ensures valid { IsContent true self.now }
     {
-        let mut cursor = self.cursor_from(start);
-        self.next_live(&mut cursor)
+        let mut ahead = self.cursor_from(start);
+        self.next_live(&mut ahead)
     }
 
     // Removes the live keys from this index on, by ascending index, and drops their values.
