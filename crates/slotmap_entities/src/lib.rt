@@ -35,7 +35,7 @@
 //! ```
 #![tactic(auto, using(slotmap::proofs::Callers::keys))]
 
-ghost use Rattle.std.specs.Prelude.{◌≡◌, ◌≢◌, ◌+◌, ◌<◌, ◌≤◌, ◌↔◌, Some, None, IfOk, IsOk, OnErr, IfErr, IfSome, OnSome, IfNone, IsTrue, true, false, zip, option_copied, option_map};
+ghost use Rattle.std.specs.Prelude.{◌≡◌, ◌≢◌, ◌+◌, ◌<◌, ◌≤◌, ◌↔◌, Some, None, IfOk, IsOk, OnErr, IfErr, IfSome, OnSome, IfNone, IsTrue, true, false, zip, option_copied, option_map, map as list_map};
 ghost use Rattle.std.specs.FinMap as map;
 ghost use Rattle.std.specs.Option.{option_copied_mut};
 ghost use Rattle.std.specs.Borrow.{sem};
@@ -376,6 +376,13 @@ impl<K: Key, E: Drop, T: Tables<K>> World<K, E, T> {
         ensures in_order { result ≡ zip self.now.entities.keys self.now.entities.values }
     {
         self.entities.iter()
+    }
+
+    /// Returns the keys of the entities, in packed order, in constant time.
+    pub fn keys_as_slice(&self) -> &[K]
+        ensures { list_map K.data_of result.now ≡ self.now.entities.keys }
+    {
+        self.entities.keys_as_slice()
     }
 
     /// Returns an iterator over the keys of the entities, in packed order.

@@ -126,7 +126,9 @@ pub trait Table<K: Key>: Drop {
         ensures err { IfErr result (λ error. RefusesPut (pairs self.old) (K.data_of key) component error.0) }
         ensures unchanged { OnErr result (pairs self.new ≡ pairs self.old) }
         ensures room { fits self.old (K.data_of key).index 1 → IsOk result }
-        ensures less_room { (i count : ℕ) → fits self.old i (count + 1) → fits self.new i count };
+        ensures less_room { (i count : ℕ) → fits self.old i (count + 1) → fits self.new i count }
+        ensures same_room { OnErr result ((i count : ℕ) → fits self.old i count → fits self.new i count) }
+        ensures replaced_room { contains_key (pairs self.old) (K.data_of key) ≡ true → (i count : ℕ) → fits self.old i count → fits self.new i count };
 
     /// Removes the component of an entity, and returns it, or `None` if it has none here.
     ///
