@@ -17,6 +17,7 @@ module _ {V : Type 0} where
   put_no_more m k v there = grind (arith, map.len-insert nat_cmp_total m k.index (k.version, v))
 
   -- a put where there is a value already adds none, whatever it returns
-  pub none_more : {A B : Type 0} (answer : Result A B) (old new : Pairs V) (k : Key) (v : V) → OnOk answer (new ≡ put old k v) → OnErr answer (new ≡ old) → contains_key old k ≡ true → map.len new ≤ map.len old
+  pub none_more : {A B : Type 0} (answer : Result A B) (old new : Pairs V) (k : Key) (v : V) → OnOk answer (new ≡ put old k v) → OnErr answer (new ≡ old)
+      → contains_key old k ≡ true → map.len new ≤ map.len old
   none_more (Ok x) old new k v puts keeps there = let none = put_no_more old k v there in grind arith
   none_more (Err e) old new k v puts keeps there = grind arith

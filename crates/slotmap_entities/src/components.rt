@@ -40,7 +40,7 @@ pub(crate) fn attach<K: Key, E: Drop, M: Table<K>>(
     ensures others { (q : KeyOf) → q ≢ K.data_of key → get (M.pairs table.new) q ≡ get (M.pairs table.old) q }
     ensures room { IsLive entities.now.content (K.data_of key) → M.fits table.old (K.data_of key).index 1 → IsOk result }
     ensures less_room { (i count : ℕ) → M.fits table.old i (count + 1) → M.fits table.new i count }
-    ensures same_room { OnErr result ((i count : ℕ) → M.fits table.old i count → M.fits table.new i count) }
+    ensures refused_room { OnErr result ((i count : ℕ) → M.fits table.old i count → M.fits table.new i count) }
     ensures replaced_room { contains_key (M.pairs table.old) (K.data_of key) ≡ true → (i count : ℕ) → M.fits table.old i count → M.fits table.new i count }
     ensures beside { IsBeside entities.now.content (M.pairs table.new) }
 {
@@ -60,7 +60,8 @@ impl<K: Key, E: Drop, T: Tables<K>> World<K, E, T> {
     ///
     /// If the call fails, the error holds the component, and the world has the same components. Memory
     /// can't run out where the entity has such a component already, nor where there is room, as after
-    /// [`World::reserve_components`]. Constant time, unless the table grows.
+    /// [`World::reserve_components`]. A call that fails or replaces a component takes up no room. Constant
+    /// time, unless the table grows.
     ///
     /// ```
     /// let mut world: World<DefaultKey, u8, (SecondaryMap<DefaultKey, u32>, ())> = World::new(alloc)?;
@@ -82,7 +83,7 @@ impl<K: Key, E: Drop, T: Tables<K>> World<K, E, T> {
         ensures room { IsLive self.old.entities.content (K.data_of key) → C.Table.fits (C.table self.old.tables) (K.data_of key).index 1 → IsOk result }
         ensures less_room { (i count : ℕ) → C.Table.fits (C.table self.old.tables) i (count + 1) → C.Table.fits (C.table self.new.tables) i count }
         // A call that fails takes up none, and neither does one that replaces a component.
-        ensures same_room { OnErr result ((i count : ℕ) → C.Table.fits (C.table self.old.tables) i count → C.Table.fits (C.table self.new.tables) i count) }
+        ensures refused_room { OnErr result ((i count : ℕ) → C.Table.fits (C.table self.old.tables) i count → C.Table.fits (C.table self.new.tables) i count) }
         ensures replaced_room { contains_key (C.Table.pairs (C.table self.old.tables)) (K.data_of key) ≡ true
             → (i count : ℕ) → C.Table.fits (C.table self.old.tables) i count → C.Table.fits (C.table self.new.tables) i count }
 
@@ -145,7 +146,7 @@ impl<K: Key, E: Drop, T: Tables<K>> World<K, E, T> {
     /// ```
     pub fn detach<C: Kind<K, T>>(&mut self, key: K) -> Option<ComponentOf<K, T, C>>
         ensures value { result ≡ get (C.Table.pairs (C.table self.old.tables)) (K.data_of key) }
-        ensures gone { get (C.Table.pairs (C.table self.new.tables)) (K.data_of key) ≡ None }
+        ensures none_now { get (C.Table.pairs (C.table self.new.tables)) (K.data_of key) ≡ None }
         ensures room { (i count : ℕ) → C.Table.fits (C.table self.old.tables) i count → C.Table.fits (C.table self.new.tables) i count }
         ensures others { (q : KeyOf) → q ≢ K.data_of key → get (C.Table.pairs (C.table self.new.tables)) q ≡ get (C.Table.pairs (C.table self.old.tables)) q }
         ensures kinds { self.new.tables ≡ C.with_table self.old.tables (C.table self.new.tables) }
@@ -219,8 +220,7 @@ impl<K: Key, E: Drop, T: Tables<K>> World<K, E, T> {
     /// entity where it returns false.
     ///
     /// The caller has to prove that `f` may be called for each component of the kind, and for no other. The
-    /// components come in the order of their table, by ascending index in a `SecondaryMap`. It takes time
-    /// linear in the size of the table, and allocates nothing.
+    /// components come in some order, and no room is lost. It takes time linear in the size of the table.
     ///
     /// ```
     /// let mut world: World<DefaultKey, u8, (SecondaryMap<DefaultKey, u32>, ())> = World::new(alloc)?;
