@@ -1,10 +1,12 @@
 -- What callers of a world cite: a loop over the positions of its keys, which may change the components on the way.
 use Rattle.std.proofs.Common.{◌≡◌, ◌≢◌, ℕ, zero, suc, ◌+◌, ◌<◌, ◌≤◌, true, false, Some, List}
-use Rattle.std.proofs.Common.{[], ◌∷◌, length, zip, slice_get, map as list_map, inl, inr, refl, sym, ap, ◌∙◌, arith}
+use Rattle.std.proofs.Common.{[], ◌∷◌, length, zip, slice_get, get_or, map as list_map, inl, inr, refl, sym, ap, ◌∙◌, arith}
 use Rattle.std.specs.FinMap as map
 use Rattle.slotmap.specs.Words.{Key, key_cmp, Dense, IsDense, IsLive}
 use Rattle.std.specs.Option.{option_map}
-use Rattle.std.proofs.lemmas.Option.{slice_get-map, slice_get_within}
+use Rattle.std.proofs.lemmas.Option.{slice_get-get_or, slice_get-map, slice_get_within}
+use Rattle.std.proofs.lemmas.List.{length-map}
+use Rattle.std.proofs.lemmas.Slice.Zip.{length-zip}
 use Rattle.slotmap.proofs.Callers.{keys_total, exact_keys, tied, alike_or_apart}
 
 module _ {V : Type 0} where
@@ -51,6 +53,19 @@ module _ {V : Type 0} where
   ]
 
   module _ (d : Dense V) (valid : IsDense d) where
+    pub key_count : length d.keys ≡ map.len d.content.live
+    key_count = omega (arith, valid.listed.once, valid.same_length, length-zip d.keys d.values)
+
+    -- the slice of the keys: how long it is, and the key at a position
+    module _ {K : Type 0} (data_of : K → Key) (slice : List K) (is : list_map data_of slice ≡ d.keys) where
+      pub slice_count : length slice ≡ map.len d.content.live
+      slice_count = sym (length-map slice data_of) ∙ ap length is ∙ key_count
+
+      pub key_at : (i : ℕ) (k : K) → i < map.len d.content.live → k ≡ get_or slice i k → slice_get d.keys i ≡ Some (data_of k)
+      key_at i k within there =
+          let at = slice_get-get_or slice i k (omega (arith, slice_count, within)) in
+          rw (← is) (slice_get-map data_of slice i ∙ ap (option_map data_of) (at ∙ ap Some (sym there)))
+
     pub stands_once : (i j : ℕ) (k : Key) → slice_get d.keys i ≡ Some k → slice_get d.keys j ≡ Some k → i ≡ j
     stands_once = once_in d.keys d.values valid.same_length (valid.listed.once ∙ ap map.len (sym valid.listed.all))
 
@@ -64,11 +79,6 @@ pub record Passes (keys : List Key) (at : ℕ) (Done Ahead : Key → Type 0) : T
 
 pub pass_start : (keys : List Key) (Done Ahead : Key → Type 0) → ((k : Key) → Ahead k) → Passes keys 0 Done Ahead
 pass_start keys Done Ahead all = record { done = λ i k less found. absurd (omega (arith, less)); ahead = λ i k less found. all k }
-
--- the key at a position of the slice
-pub at_position : {K : Type 0} (data_of : K → Key) (slice : List K) (keys : List Key) → list_map data_of slice ≡ keys → (i : ℕ) (k : K) → slice_get slice i ≡ Some k
-    → slice_get keys i ≡ Some (data_of k)
-at_position data_of slice keys is i k found = rw (← is) (slice_get-map data_of slice i ∙ ap (option_map data_of) found)
 
 module _ {V : Type 0} (d : Dense V) (valid : IsDense d) (at : ℕ) (Done Ahead : Key → Type 0) (passes : Passes d.keys at Done Ahead) where
   -- a step that is about the key at the position: what is done stays done, and what is ahead stays ahead

@@ -46,6 +46,8 @@ mod both;
 mod clone;
 mod components;
 mod join;
+mod join_three;
+mod join_without;
 mod kinds;
 mod spawn;
 mod spawn_both;
@@ -54,6 +56,8 @@ mod tables;
 pub use clone::{CloneTable, CloneTables};
 pub use components::AttachError;
 pub use join::{With, WithBoth};
+pub use join_three::WithThree;
+pub use join_without::WithWithout;
 pub use kinds::{Apart, First, Fourth, Kind, Second, Then, Third};
 use slotmap::dense::{Iter, Keys, Values};
 use slotmap::{DefaultKey, DenseSlotMap, InsertError, Key, ReserveError};
@@ -188,7 +192,8 @@ impl<K: Key, E: Drop, T: Tables<K>> World<K, E, T> {
     /// assert_eq!(rt; world.len(), 0);
     /// ```
     pub fn len(&self) -> usize
-        ensures { result ≡ map.len self.now.entities.content.live }
+        ensures value { result ≡ map.len self.now.entities.content.live }
+        ensures valid { IsDense self.now.entities }
     {
         self.entities.len()
     }
