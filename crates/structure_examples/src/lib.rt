@@ -7,6 +7,8 @@ pub mod cycles;
 pub mod forward;
 pub mod groups;
 pub mod heirs;
+pub mod moves;
 pub mod room;
+pub mod stores;
 pub mod timer;
 pub mod twins;
