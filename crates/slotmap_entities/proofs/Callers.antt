@@ -1,8 +1,10 @@
 -- What callers of a world cite: a loop over the positions of its keys, which may change the components on the way.
 use Rattle.std.proofs.Common.{◌≡◌, ◌≢◌, ℕ, zero, suc, ◌+◌, ◌<◌, ◌≤◌, true, false, Some, List}
+use Rattle.std.proofs.Common.{Option, None, IfSome, IfNone, swap_remove}
+use Rattle.std.proofs.lemmas.Grind.{common_steps}
 use Rattle.std.proofs.Common.{[], ◌∷◌, length, zip, slice_get, get_or, map as list_map, inl, inr, refl, sym, ap, ◌∙◌, arith}
 use Rattle.std.specs.FinMap as map
-use Rattle.slotmap.specs.Words.{Key, key_cmp, Dense, IsDense, IsLive}
+use Rattle.slotmap.specs.Words.{Key, key_cmp, ClosesGap, Dense, IsDense, IsLive}
 use Rattle.std.specs.Option.{option_map}
 use Rattle.std.proofs.lemmas.Option.{slice_get-get_or, slice_get-map, slice_get_within}
 use Rattle.std.proofs.lemmas.List.{length-map}
@@ -101,3 +103,17 @@ module _ {V : Type 0} (d : Dense V) (valid : IsDense d) (at : ℕ) (Done Ahead :
   -- after the loop each entity is done
   pub pass_end : length d.keys ≤ at → (k : Key) → IsLive d.content k → Done k
   pass_end all k live = let stands = stands_somewhere d valid k live in passes.done stands.0 k (omega (arith, all, slice_get_within d.keys stands.0 k stands.1)) stands.1
+
+module _ {X : Type 0} where
+  before_gap : (xs : List X) (p i : ℕ) (d : X) → i < p → p < length xs → slice_get (swap_remove xs p d) i ≡ slice_get xs i
+  before_gap xs p i d less inside = grind (arith, common_steps, slice_get-get_or xs i d, slice_get-get_or (swap_remove xs p d) i d)
+
+module _ {V : Type 0} where
+  -- once an entity was removed, the keys before its position stand where they stood
+  module _ (old new : Dense V) (valid : IsDense old) (at : ℕ) (k : Key) (here : slice_get old.keys at ≡ Some k) where
+    pub kept_before : {P : Type 0} (result : Option (V × P)) → IfSome result (λ removed. ClosesGap old k removed.0 new) → IfNone result (new ≡ old)
+        → (i : ℕ) → i < at → slice_get new.keys i ≡ slice_get old.keys i
+    kept_before None closes same i less = ap (λ (d : Dense V). slice_get d.keys i) same
+    kept_before (Some removed) closes same i less =
+        let is = stands_once old valid closes.position at k closes.stood here in
+        ap (λ ks. slice_get ks i) closes.keys ∙ before_gap old.keys closes.position i k (omega (arith, is, less)) (slice_get_within old.keys closes.position k closes.stood)

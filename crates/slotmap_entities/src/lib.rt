@@ -107,6 +107,26 @@ impl<E: Drop, T: Tables<DefaultKey>> World<DefaultKey, E, T> {
     {
         World::with_key(alloc)
     }
+
+    /// Makes a world with no entity and with room for `capacity` of them, whose entities have keys of
+    /// type `DefaultKey`.
+    ///
+    /// It fails with `TooGreat` if `capacity` is over 4294967294, and with `Memory` if memory runs
+    /// out.
+    ///
+    /// ```
+    /// let mut world: World<DefaultKey, u8, ()> = World::with_capacity(alloc, 2)?;
+    /// assert!(rt; world.capacity() >= 2);
+    /// assert!(rt; world.spawn(1).is_ok());
+    /// ```
+    pub fn with_capacity(alloc: Global, capacity: usize) -> Result<Self, ReserveError>
+        ensures entities { IfOk result (λ world. IsNew world.entities.content × IsEmpty world.entities) }
+        ensures tables { IfOk result (λ world. (q : KeyOf) → T.has world.tables q ≡ false) }
+        ensures room { IfOk result (λ world. capacity ≤ world.entities.content.room) }
+        ensures err { IfErr result (RefusesCapacity capacity) }
+    {
+        World::with_capacity_and_key(alloc, capacity)
+    }
 }
 
 impl<K: Key, E: Drop, T: Tables<K>> World<K, E, T> {

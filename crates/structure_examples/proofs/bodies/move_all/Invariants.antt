@@ -2,7 +2,7 @@ use Rattle.std.proofs.Common.{◌≡◌}
 use Rattle.slotmap.specs.Words.{get}
 use Rattle.slotmap_entities.proofs.Callers.{Passes}
 use Rattle.structure_examples.specs.Moves.{place_after}
-use Rattle.structure_examples.proofs.moves.move_all.Given as goal
+use Rattle.structure_examples.proofs.bodies.move_all.Given as goal
 
 -- the entities before this position are moved, and the others are where they were
 abbrev pub invariant-loop-at : goal.invariant-loop-at

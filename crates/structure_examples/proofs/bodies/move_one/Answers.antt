@@ -1,6 +1,6 @@
 use Rattle.std.proofs.Common.{◌+◌, ◌%◌, ◌^◌, sym, arith}
 use Rattle.slotmap.proofs.Callers.{get-bind_here, get-bind_other}
-use Rattle.structure_examples.proofs.moves.move_one.Goals as goal
+use Rattle.structure_examples.proofs.bodies.move_one.Goals as goal
 
 pub returns-in-Some-component_mut-clause-moved : goal.returns-in-Some-component_mut-clause-moved
 returns-in-Some-component_mut-clause-moved c =

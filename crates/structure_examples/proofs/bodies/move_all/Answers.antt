@@ -1,7 +1,7 @@
 use Rattle.std.proofs.Common.{ap, ◌∙◌, arith}
 use Rattle.std.specs.FinMap as map
 use Rattle.slotmap_entities.proofs.Callers.{key_at, key_count, pass_end, pass_step, slice_count}
-use Rattle.structure_examples.proofs.moves.move_all.Goals as goal
+use Rattle.structure_examples.proofs.bodies.move_all.Goals as goal
 
 pub bounds-keys_as_slice-at : goal.bounds-keys_as_slice-at
 bounds-keys_as_slice-at c =
