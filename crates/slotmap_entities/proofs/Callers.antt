@@ -9,6 +9,7 @@ use Rattle.std.specs.Option.{option_map}
 use Rattle.std.proofs.lemmas.Option.{slice_get-get_or, slice_get-map, slice_get_within}
 use Rattle.std.proofs.lemmas.List.{length-map}
 use Rattle.std.proofs.lemmas.Slice.Zip.{length-zip}
+use Rattle.slotmap_entities.specs.World.{World}
 use Rattle.slotmap.proofs.Callers.{keys_total, exact_keys, tied, alike_or_apart}
 
 module _ {V : Type 0} where
@@ -108,12 +109,11 @@ module _ {X : Type 0} where
   before_gap : (xs : List X) (p i : ℕ) (d : X) → i < p → p < length xs → slice_get (swap_remove xs p d) i ≡ slice_get xs i
   before_gap xs p i d less inside = grind (arith, common_steps, slice_get-get_or xs i d, slice_get-get_or (swap_remove xs p d) i d)
 
-module _ {V : Type 0} where
-  -- once an entity was removed, the keys before its position stand where they stood
-  module _ (old new : Dense V) (valid : IsDense old) (at : ℕ) (k : Key) (here : slice_get old.keys at ≡ Some k) where
-    pub kept_before : {P : Type 0} (result : Option (V × P)) → IfSome result (λ removed. ClosesGap old k removed.0 new) → IfNone result (new ≡ old)
-        → (i : ℕ) → i < at → slice_get new.keys i ≡ slice_get old.keys i
-    kept_before None closes same i less = ap (λ (d : Dense V). slice_get d.keys i) same
-    kept_before (Some removed) closes same i less =
-        let is = stands_once old valid closes.position at k closes.stood here in
-        ap (λ ks. slice_get ks i) closes.keys ∙ before_gap old.keys closes.position i k (omega (arith, is, less)) (slice_get_within old.keys closes.position k closes.stood)
+-- once an entity was removed, the keys before its position stand where they stood
+module _ {V T : Type 0} (old new : World V T) (valid : IsDense old.entities) (at : ℕ) (k : Key) (here : slice_get old.entities.keys at ≡ Some k) where
+  pub kept_before : {P : Type 0} (result : Option (V × P)) → IfSome result (λ removed. ClosesGap old.entities k removed.0 new.entities) → IfNone result (new ≡ old)
+      → (i : ℕ) → i < at → slice_get new.entities.keys i ≡ slice_get old.entities.keys i
+  kept_before None closes same i less = ap (λ (w : World V T). slice_get w.entities.keys i) same
+  kept_before (Some removed) closes same i less =
+      let is = stands_once old.entities valid closes.position at k closes.stood here in
+      ap (λ ks. slice_get ks i) closes.keys ∙ before_gap old.entities.keys closes.position i k (omega (arith, is, less)) (slice_get_within old.entities.keys closes.position k closes.stood)

@@ -8,6 +8,7 @@ pub mod cycles;
 pub mod forward;
 pub mod groups;
 pub mod heirs;
+pub mod reaper;
 pub mod room;
 pub mod stores;
 pub mod timer;
