@@ -441,6 +441,12 @@ def world_part(size):
     detached = [second.pop(key, None) for key in (random.pick(keys) for _ in range(size // 2))]
     tell("detached", [component for component in detached if component is not None])
     first = {key: value + 1 for key, value in first.items() if (value + 1) % 4 != 0}
+    tell("three", [n for key in packed if key in first and key in second for n in (first[key], second[key], first[key])])
+    tell("without the first", [second[key] for key in packed if key in second and key not in first])
+    for key in packed:
+        if key in first and key in second:
+            first[key] += second[key]
+    tell("moved", [first[key] for key in packed if key in first])
     for key in range(size, size + size // 2):
         packed.append(key)
         first[key], second[key] = key * 2, key * 3

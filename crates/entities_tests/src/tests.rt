@@ -155,6 +155,48 @@ where
     Ok(refused && world.component::<F>(a) == Some(&10) && !world.has::<S>(a))
 }
 
+// Adds 1 to the first components by a loop over the positions of the keys.
+fn positions<T, F, S>(alloc: Global) -> Result<bool, Fail>
+where
+    T: Tables<DefaultKey>,
+    F: Kind<DefaultKey, T>,
+    S: Kind<DefaultKey, T>,
+    F::Table: Table<DefaultKey, Component = u32>,
+    S::Table: Table<DefaultKey, Component = u8>,
+{
+    let (mut world, a) = one::<T, F, S>(alloc)?;
+    let b = world.spawn_with::<F>(2, 20)?;
+    for at in 0..world.len() {
+        if let Some(key) = world.keys_as_slice().get(at).copied() {
+            if let Some(component) = world.component_mut::<F>(key) {
+                *component = component.wrapping_add(1);
+            }
+        }
+    }
+    let seen = (
+        world.component::<F>(a).copied(),
+        world.component::<F>(b).copied(),
+    );
+    Ok(seen == (Some(11), Some(21)))
+}
+
+// Joins three kinds, and one without another.
+fn join<T, F, S>(alloc: Global) -> Result<bool, Fail>
+where
+    T: Tables<DefaultKey>,
+    F: Kind<DefaultKey, T>,
+    S: Kind<DefaultKey, T>,
+    F::Table: Table<DefaultKey, Component = u32>,
+    S::Table: Table<DefaultKey, Component = u8>,
+{
+    let (mut world, a) = one::<T, F, S>(alloc)?;
+    let b = world.spawn_with::<F>(2, 20)?;
+    let mut three = world.with_three::<F, S, F>();
+    let all = three.next() == Some((a, &10, &5, &10)) && three.next().is_none();
+    let mut without = world.with_without::<F, S>();
+    Ok(all && without.next() == Some((b, &20)) && without.next().is_none())
+}
+
 // Whether a number was too great.
 fn is_too_great(answer: Result<(), ReserveError>) -> bool {
     matches!(answer, Err(ReserveError::TooGreat))
@@ -187,6 +229,8 @@ enum Calls {
     Pair,
     Lack,
     Reserve,
+    Positions,
+    Join,
 }
 
 // Whether the calls return what they should.
@@ -208,6 +252,8 @@ where
         Calls::Pair => pair::<T, F, S>(alloc),
         Calls::Lack => lack::<T, F, S>(alloc),
         Calls::Reserve => reserve::<T, F, S>(alloc),
+        Calls::Positions => positions::<T, F, S>(alloc),
+        Calls::Join => join::<T, F, S>(alloc),
     }
 }
 
@@ -277,5 +323,12 @@ fn joins_well(world: &Small<Two>, a: DefaultKey) -> bool {
 fn joins(rt: HostRuntime) -> Result<(), Fail> {
     let (world, a) = one::<Two, First, Second>(rt.alloc())?;
     assert!(rt; joins_well(&world, a));
+    Ok(())
+}
+
+#[test]
+fn loops(rt: HostRuntime) -> Result<(), Fail> {
+    assert!(rt; do_well(rt.alloc(), Calls::Positions)?);
+    assert!(rt; do_well(rt.alloc(), Calls::Join)?);
     Ok(())
 }

@@ -1,3 +1,4 @@
+pub mod Callers
 mod Fewer
 mod LiveOnly
 mod Spawned

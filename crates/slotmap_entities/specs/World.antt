@@ -1,5 +1,5 @@
 -- A world as its user sees it.
-use Rattle.std.specs.Prelude.{◌≡◌, ◌≢◌, ◌<◌, refl, true, false, Bool, Option, Some, option_map, List}
+use Rattle.std.specs.Prelude.{◌≡◌, ◌≢◌, ◌<◌, refl, true, false, Bool, if◌then◌else◌, Option, Some, None, option_map, List}
 use Rattle.std.specs.List.{filter_map}
 use Rattle.std.specs.Option.{option_and_then}
 use Rattle.std.specs.FinMap as map
@@ -58,3 +58,11 @@ found_by find ks = filter_map (λ k. option_map (λ c. (k, c)) (find k)) ks
 -- the keys of a list for which there are two things, each with both
 abbrev pub both_found_by : {A B : Type 0} → (Key → Option A) → (Key → Option B) → List Key → List (Key × (A × B))
 both_found_by a b ks = filter_map (λ k. option_and_then (λ x. option_map (λ y. (k, (x, y))) (b k)) (a k)) ks
+
+-- the keys of a list for which there are three things, each with them
+abbrev pub three_found_by : {A B C : Type 0} → (Key → Option A) → (Key → Option B) → (Key → Option C) → List Key → List (Key × (A × (B × C)))
+three_found_by a b c ks = filter_map (λ k. option_and_then (λ x. option_and_then (λ y. option_map (λ z. (k, (x, (y, z)))) (c k)) (b k)) (a k)) ks
+
+-- the keys of a list for which there is something and `has` is false, each with it
+abbrev pub found_without : {C : Type 0} → (Key → Bool) → (Key → Option C) → List Key → List (Key × C)
+found_without has find ks = filter_map (λ k. if has k then None else option_map (λ c. (k, c)) (find k)) ks

@@ -55,8 +55,8 @@ impl<K: Key, E: Drop, T: Tables<K>> World<K, E, T> {
     /// Puts two components in the place of those of an entity, and returns what it had.
     ///
     /// If the entity lacks one of them or doesn't exist, the error holds what was given, and the world is
-    /// unchanged. It takes constant time, and allocates nothing. With one kind twice the call doesn't
-    /// compile (see [`Apart`]).
+    /// unchanged. It takes constant time. Each table has room for as many components as before. With one
+    /// kind twice the call doesn't compile (see [`Apart`]).
     ///
     /// ```
     /// let mut world: World<DefaultKey, u8, (SecondaryMap<DefaultKey, u32>, (SecondaryMap<DefaultKey, bool>, ()))> =
@@ -79,9 +79,11 @@ impl<K: Key, E: Drop, T: Tables<K>> World<K, E, T> {
         ensures first { OnOk result (Gains (A.Table.pairs (A.table self.old.tables)) (K.data_of key) first (A.Table.pairs (A.table self.new.tables))) }
         ensures second { OnOk result (Gains (B.Table.pairs (B.table self.old.tables)) (K.data_of key) second (B.Table.pairs (B.table self.new.tables))) }
         ensures live { OnOk result (IsLive self.old.entities.content (K.data_of key)) }
-        // No room is lost.
+        // No room is lost, and none is made.
         ensures first_room { (i count : ℕ) → A.Table.fits (A.table self.old.tables) i count → A.Table.fits (A.table self.new.tables) i count }
         ensures second_room { (i count : ℕ) → B.Table.fits (B.table self.old.tables) i count → B.Table.fits (B.table self.new.tables) i count }
+        ensures no_more_first_room { (i count : ℕ) → A.Table.fits (A.table self.new.tables) i count → A.Table.fits (A.table self.old.tables) i count }
+        ensures no_more_second_room { (i count : ℕ) → B.Table.fits (B.table self.new.tables) i count → B.Table.fits (B.table self.old.tables) i count }
 
         // It fails if the entity lacks one of them, which changes nothing.
         ensures lacks { OnErr result

@@ -1,7 +1,7 @@
 //! Copies of a world.
 
-ghost use Rattle.std.specs.Prelude.{◌≡◌, IfOk, ⊤};
-ghost use Rattle.slotmap.specs.Words.{Key as KeyOf, ClonesInOrder, HasClones, IsCloneBy};
+ghost use Rattle.std.specs.Prelude.{◌≡◌, IfOk, ⊤, refl};
+ghost use Rattle.slotmap.specs.Words.{Key as KeyOf, ClonesEqual, ClonesInOrder, HasClones, IsCloneBy, IsCopy, SameOrder};
 
 use crate::{Table, Tables, World};
 use slotmap::{Key, SecondaryMap, SparseSecondaryMap};
@@ -47,6 +47,9 @@ pub trait CloneTables<K: Key>: Tables<K> {
     // What a copy of the tables may be.
     ghost are_clones: { Self → Self → Type 0 };
 
+    // That a clone of a component equals the component.
+    ghost clones_equal: { Type 0 };
+
     /// Returns a copy of the tables: each entity has clones of its components. It fails only if memory
     /// runs out, or if the clone of a component fails.
     ///
@@ -60,31 +63,47 @@ pub trait CloneTables<K: Key>: Tables<K> {
     fn clone_tables(&self) -> Result<Self, AllocError>
         ensures clones { IfOk result (are_clones self.now) }
         ensures same { IfOk result (λ copy. (q : KeyOf) → Self.Tables.has copy q ≡ Self.Tables.has self.now q) };
+
+    // Then each entity has the same in a copy.
+    ghost same_parts: { (t u : Self) (k : KeyOf) → clones_equal → are_clones t u → Self.Tables.parts u k ≡ Self.Tables.parts t k };
 }
 
 impl<K: Key> CloneTables<K> for () {
     ghost are_clones = { λ _ _. ⊤ };
 
+    ghost clones_equal = { ⊤ };
+
     fn clone_tables(&self) -> Result<(), AllocError> {
         Ok(())
     }
+
+    ghost same_parts = { λ t u k equal clones. refl };
 }
 
 impl<K: Key, A: CloneTable<K>, B: CloneTables<K>> CloneTables<K> for (A, B) {
+    ghost use Rattle.std.proofs.Common.{arith};
+    ghost use Rattle.slotmap.specs.Words.{get};
+
     ghost are_clones = { λ tables copy. HasClones A.is_clone (A.Table.pairs tables.0) (A.Table.pairs copy.0) × B.are_clones tables.1 copy.1 };
+
+    ghost clones_equal = { ClonesEqual A.is_clone × B.clones_equal };
 
     fn clone_tables(&self) -> Result<(A, B), AllocError> {
         let table = self.0.clone_table()?;
         let others = self.1.clone_tables()?;
         Ok((table, others))
     }
+
+    ghost same_parts = { λ t u k equal clones.
+        let own = clones.0 k in let same = equal.0 in let rest = B.same_parts t.1 u.1 k equal.1 clones.1 in Prim.grind arith };
 }
 
 impl<K: Key, E: Clone + Drop, T: CloneTables<K>> World<K, E, T> {
     /// Returns a copy of the world: the same entities under the same keys, with clones of their values
     /// and components.
     ///
-    /// Both worlds will return the same new keys. If memory runs out, or the clone of a value or of a
+    /// Both worlds will return the same new keys. Where clones equal what they are of, the copy has the same
+    /// values and components. If memory runs out, or the clone of a value or of a
     /// component fails, the call fails, and what was copied is dropped. It takes time linear in the number
     /// of slots and in the size of the tables.
     ///
@@ -100,6 +119,12 @@ impl<K: Key, E: Clone + Drop, T: CloneTables<K>> World<K, E, T> {
         ensures entities { IfOk result (λ copy. IsCloneBy E.is_clone self.now.entities.content copy.entities.content) }
         ensures order { IfOk result (λ copy. ClonesInOrder E.is_clone self.now.entities copy.entities) }
         ensures tables { IfOk result (λ copy. T.are_clones self.now.tables copy.tables) }
+        ensures same { IfOk result (λ copy. (q : KeyOf) → T.Tables.has copy.tables q ≡ T.Tables.has self.now.tables q) }
+
+        // Where clones equal their values and their components.
+        ensures copies_if_clones_equal { IfOk result (λ copy. ClonesEqual E.is_clone → IsCopy self.now.entities.content copy.entities.content) }
+        ensures order_if_clones_equal { IfOk result (λ copy. ClonesEqual E.is_clone → SameOrder self.now.entities copy.entities) }
+        ensures same_if_clones_equal { IfOk result (λ copy. T.clones_equal → (q : KeyOf) → T.Tables.parts copy.tables q ≡ T.Tables.parts self.now.tables q) }
     {
         let entities = self.entities.clone()?;
         let tables = self.tables.clone_tables()?;

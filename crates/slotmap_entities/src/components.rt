@@ -1,6 +1,6 @@
 //! The calls on one component of one entity.
 
-ghost use Rattle.std.specs.Prelude.{◌≡◌, ◌≢◌, ℕ, ◌+◌, IfOk, OnOk, IsOk, IfErr, OnErr, IsSome, Some, None, option_copied};
+ghost use Rattle.std.specs.Prelude.{◌≡◌, ◌≢◌, ℕ, ◌+◌, IfOk, OnOk, IsOk, IfErr, OnErr, IsSome, Some, None, true, option_copied};
 ghost use Rattle.std.specs.Option.{option_copied_mut};
 ghost use Rattle.std.specs.Borrow.{sem};
 ghost use Rattle.slotmap.specs.Words.{Key as KeyOf, IsBeside, IsLive, get, contains_key, keyed, RetainsBy, CallableOnEach};
@@ -40,6 +40,8 @@ pub(crate) fn attach<K: Key, E: Drop, M: Table<K>>(
     ensures others { (q : KeyOf) → q ≢ K.data_of key → get (M.pairs table.new) q ≡ get (M.pairs table.old) q }
     ensures room { IsLive entities.now.content (K.data_of key) → M.fits table.old (K.data_of key).index 1 → IsOk result }
     ensures less_room { (i count : ℕ) → M.fits table.old i (count + 1) → M.fits table.new i count }
+    ensures refused_room { OnErr result ((i count : ℕ) → M.fits table.old i count → M.fits table.new i count) }
+    ensures replaced_room { contains_key (M.pairs table.old) (K.data_of key) ≡ true → (i count : ℕ) → M.fits table.old i count → M.fits table.new i count }
     ensures beside { IsBeside entities.now.content (M.pairs table.new) }
 {
     if !entities.contains_key(key) {
@@ -58,7 +60,8 @@ impl<K: Key, E: Drop, T: Tables<K>> World<K, E, T> {
     ///
     /// If the call fails, the error holds the component, and the world has the same components. Memory
     /// can't run out where the entity has such a component already, nor where there is room, as after
-    /// [`World::reserve_components`]. Constant time, unless the table grows.
+    /// [`World::reserve_components`]. A call that fails or replaces a component takes up no room. Constant
+    /// time, unless the table grows.
     ///
     /// ```
     /// let mut world: World<DefaultKey, u8, (SecondaryMap<DefaultKey, u32>, ())> = World::new(alloc)?;
@@ -79,6 +82,10 @@ impl<K: Key, E: Drop, T: Tables<K>> World<K, E, T> {
         // If there is room in the table, it can't fail. It takes up room for one component at most.
         ensures room { IsLive self.old.entities.content (K.data_of key) → C.Table.fits (C.table self.old.tables) (K.data_of key).index 1 → IsOk result }
         ensures less_room { (i count : ℕ) → C.Table.fits (C.table self.old.tables) i (count + 1) → C.Table.fits (C.table self.new.tables) i count }
+        // A call that fails takes up none, and neither does one that replaces a component.
+        ensures refused_room { OnErr result ((i count : ℕ) → C.Table.fits (C.table self.old.tables) i count → C.Table.fits (C.table self.new.tables) i count) }
+        ensures replaced_room { contains_key (C.Table.pairs (C.table self.old.tables)) (K.data_of key) ≡ true
+            → (i count : ℕ) → C.Table.fits (C.table self.old.tables) i count → C.Table.fits (C.table self.new.tables) i count }
 
         // Why the call failed, and what that leaves.
         ensures err { IfErr result (RefusesAttach self.old.entities.content (C.Table.pairs (C.table self.old.tables)) (K.data_of key) component) }
@@ -139,7 +146,7 @@ impl<K: Key, E: Drop, T: Tables<K>> World<K, E, T> {
     /// ```
     pub fn detach<C: Kind<K, T>>(&mut self, key: K) -> Option<ComponentOf<K, T, C>>
         ensures value { result ≡ get (C.Table.pairs (C.table self.old.tables)) (K.data_of key) }
-        ensures gone { get (C.Table.pairs (C.table self.new.tables)) (K.data_of key) ≡ None }
+        ensures none_now { get (C.Table.pairs (C.table self.new.tables)) (K.data_of key) ≡ None }
         ensures room { (i count : ℕ) → C.Table.fits (C.table self.old.tables) i count → C.Table.fits (C.table self.new.tables) i count }
         ensures others { (q : KeyOf) → q ≢ K.data_of key → get (C.Table.pairs (C.table self.new.tables)) q ≡ get (C.Table.pairs (C.table self.old.tables)) q }
         ensures kinds { self.new.tables ≡ C.with_table self.old.tables (C.table self.new.tables) }
@@ -213,8 +220,7 @@ impl<K: Key, E: Drop, T: Tables<K>> World<K, E, T> {
     /// entity where it returns false.
     ///
     /// The caller has to prove that `f` may be called for each component of the kind, and for no other. The
-    /// components come in the order of their table, by ascending index in a `SecondaryMap`. It takes time
-    /// linear in the size of the table, and allocates nothing.
+    /// components come in some order, and no room is lost. It takes time linear in the size of the table.
     ///
     /// ```
     /// let mut world: World<DefaultKey, u8, (SecondaryMap<DefaultKey, u32>, ())> = World::new(alloc)?;

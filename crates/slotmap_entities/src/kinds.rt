@@ -2,7 +2,7 @@
 
 ghost use Rattle.std.specs.Prelude.{◌≡◌, ◌⊎◌, true, refl};
 ghost use Rattle.std.specs.Borrow.{sem, Lends};
-ghost use Rattle.slotmap.specs.Words.{Key as KeyOf, contains_key};
+ghost use Rattle.slotmap.specs.Words.{Key as KeyOf, contains_key, get};
 
 use crate::tables::{Table, Tables};
 use slotmap::Key;
@@ -56,6 +56,10 @@ pub trait Kind<K: Key, T: Tables<K>> {
 
     ghost has_no_more: { (t : T) (m : Self.Table) (k : KeyOf) → T.has (with_table t m) k ≡ true
         → (T.has t k ≡ true) ⊎ (contains_key (Self.Table.pairs m) k ≡ true) };
+
+    // What an entity has in its table is part of what it has in the tables.
+    ghost own_part: { (t u : T) (k : KeyOf) → T.parts u k ≡ T.parts t k
+        → get (Self.Table.pairs (table u)) k ≡ get (Self.Table.pairs (table t)) k };
 }
 
 /// Two kinds of components with a table each: no kind is apart from itself.
@@ -101,7 +105,7 @@ pub type Fourth = Then<Third>;
 impl<K: Key, A: Table<K>, B: Tables<K>> Kind<K, (A, B)> for First {
     type Table = A;
 
-    ghost use Rattle.std.proofs.Common.{arith};
+    ghost use Rattle.std.proofs.Common.{arith, ap};
 
     ghost table = { λ tables. tables.0 };
 
@@ -124,6 +128,8 @@ impl<K: Key, A: Table<K>, B: Tables<K>> Kind<K, (A, B)> for First {
     ghost has_own = { λ t k. Prim.grind arith };
 
     ghost has_no_more = { λ t m k. Prim.grind arith };
+
+    ghost own_part = { λ t u k same. ap (λ p. p.0) same };
 }
 
 impl<K: Key, A: Table<K>, B: Tables<K>, C: Kind<K, B>> Kind<K, (A, B)> for Then<C> {
@@ -152,6 +158,8 @@ impl<K: Key, A: Table<K>, B: Tables<K>, C: Kind<K, B>> Kind<K, (A, B)> for Then<
     ghost has_own = { λ t k h. let own = C.has_own t.1 k in Prim.grind arith };
 
     ghost has_no_more = { λ t m k h. let more = C.has_no_more t.1 m k in Prim.grind arith };
+
+    ghost own_part = { λ t u k same. C.own_part t.1 u.1 k (ap (λ p. p.1) same) };
 }
 
 impl<K: Key, A: Table<K>, B: Tables<K>, C: Kind<K, B>> Apart<K, (A, B), Then<C>> for First {

@@ -35,17 +35,19 @@
 //! ```
 #![tactic(auto, using(slotmap::proofs::Callers::keys))]
 
-ghost use Rattle.std.specs.Prelude.{◌≡◌, ◌≢◌, ◌+◌, ◌<◌, ◌≤◌, ◌↔◌, Some, None, IfOk, IsOk, OnErr, IfErr, IfSome, OnSome, IfNone, IsTrue, true, false, zip, option_copied, option_map};
+ghost use Rattle.std.specs.Prelude.{◌≡◌, ◌≢◌, ◌+◌, ◌<◌, ◌≤◌, ◌↔◌, Some, None, IfOk, IsOk, OnErr, IfErr, IfSome, OnSome, IfNone, IsTrue, true, false, zip, option_copied, option_map, map as list_map};
 ghost use Rattle.std.specs.FinMap as map;
 ghost use Rattle.std.specs.Option.{option_copied_mut};
 ghost use Rattle.std.specs.Borrow.{sem};
-ghost use Rattle.slotmap.specs.Words.{Key as KeyOf, Inserts, IsLive, IsNew, IsSpent, Keeps, KeepsSpent, Leaves, Refuses, RefusesCapacity, MakesDenseRoom, places, used};
-ghost use Rattle.slotmap.specs.Words.{Appends, ClosesGap, SameOrder, IsEmpty, IsListing, ListsPairs};
+ghost use Rattle.slotmap.specs.Words.{Key as KeyOf, Inserts, IsLive, IsNew, IsSpent, Keeps, KeepsSpent, Leaves, Removes, Refuses, RefusesCapacity, MakesDenseRoom, places, used};
+ghost use Rattle.slotmap.specs.Words.{Appends, ClosesGap, IsDense, SameOrder, IsEmpty, IsListing, ListsPairs};
 
 mod both;
 mod clone;
 mod components;
 mod join;
+mod join_three;
+mod join_without;
 mod kinds;
 mod spawn;
 mod spawn_both;
@@ -54,6 +56,8 @@ mod tables;
 pub use clone::{CloneTable, CloneTables};
 pub use components::AttachError;
 pub use join::{With, WithBoth};
+pub use join_three::WithThree;
+pub use join_without::WithWithout;
 pub use kinds::{Apart, First, Fourth, Kind, Second, Then, Third};
 use slotmap::dense::{Iter, Keys, Values};
 use slotmap::{DefaultKey, DenseSlotMap, InsertError, Key, ReserveError};
@@ -102,6 +106,26 @@ impl<E: Drop, T: Tables<DefaultKey>> World<DefaultKey, E, T> {
         ensures err { IfErr result (λ error. error ≡ ReserveError.Memory) }
     {
         World::with_key(alloc)
+    }
+
+    /// Makes a world with no entity and with room for `capacity` of them, whose entities have keys of
+    /// type `DefaultKey`.
+    ///
+    /// It fails with `TooGreat` if `capacity` is over 4294967294, and with `Memory` if memory runs
+    /// out.
+    ///
+    /// ```
+    /// let mut world: World<DefaultKey, u8, ()> = World::with_capacity(alloc, 2)?;
+    /// assert!(rt; world.capacity() >= 2);
+    /// assert!(rt; world.spawn(1).is_ok());
+    /// ```
+    pub fn with_capacity(alloc: Global, capacity: usize) -> Result<Self, ReserveError>
+        ensures entities { IfOk result (λ world. IsNew world.entities.content × IsEmpty world.entities) }
+        ensures tables { IfOk result (λ world. (q : KeyOf) → T.has world.tables q ≡ false) }
+        ensures room { IfOk result (λ world. capacity ≤ world.entities.content.room) }
+        ensures err { IfErr result (RefusesCapacity capacity) }
+    {
+        World::with_capacity_and_key(alloc, capacity)
     }
 }
 
@@ -188,7 +212,8 @@ impl<K: Key, E: Drop, T: Tables<K>> World<K, E, T> {
     /// assert_eq!(rt; world.len(), 0);
     /// ```
     pub fn len(&self) -> usize
-        ensures { result ≡ map.len self.now.entities.content.live }
+        ensures value { result ≡ map.len self.now.entities.content.live }
+        ensures valid { IsDense self.now.entities }
     {
         self.entities.len()
     }
@@ -262,7 +287,8 @@ impl<K: Key, E: Drop, T: Tables<K>> World<K, E, T> {
     }
 
     /// Removes an entity with its components. It returns the entity's value and what it had in each
-    /// table, or `None` if it doesn't exist. The key is never used again, and the capacity stays.
+    /// table, or `None` if it doesn't exist. The key is never used again. The capacity stays, and there is
+    /// room for one more entity, unless the key was the last of its slot.
     ///
     /// ```
     /// let mut world: World<DefaultKey, u8, (SecondaryMap<DefaultKey, u32>, ())> = World::new(alloc)?;
@@ -277,6 +303,8 @@ impl<K: Key, E: Drop, T: Tables<K>> World<K, E, T> {
         ensures removed { self.new.entities.content.live ≡ map.remove self.old.entities.content.live (K.data_of key) }
         ensures no_component { T.has self.new.tables (K.data_of key) ≡ false }
         ensures for_good { IsLive self.old.entities.content (K.data_of key) → IsSpent self.new.entities.content (K.data_of key) }
+        // There is room for one more entity, unless its slot is retired.
+        ensures removes { OnSome result (Removes self.old.entities.content (K.data_of key) self.new.entities.content) }
         // The last entity takes its position in the packed order.
         ensures order { IfSome result (λ removed. ClosesGap self.old.entities (K.data_of key) removed.0 self.new.entities) }
 
@@ -293,7 +321,9 @@ impl<K: Key, E: Drop, T: Tables<K>> World<K, E, T> {
     }
 
     /// Removes all entities and all components. The keys are never used again. The capacity stays, and
-    /// no room is lost.
+    /// there is room for as many entities more as were removed, but for the keys that were the last of
+    /// their slots. No table loses room. It takes time linear in the number of entities and in the sizes of
+    /// the tables.
     ///
     /// ```
     /// let mut world: World<DefaultKey, u8, ()> = World::new(alloc)?;
@@ -307,6 +337,7 @@ impl<K: Key, E: Drop, T: Tables<K>> World<K, E, T> {
         ensures leaves { Leaves self.old.entities.content self.new.entities.content }
         ensures capacity { self.new.entities.content.capacity ≡ self.old.entities.content.capacity }
         ensures for_good { (k : KeyOf) → IsLive self.old.entities.content k → IsSpent self.new.entities.content k }
+        ensures gone { KeepsSpent self.old.entities.content self.new.entities.content }
         ensures tables { (q : KeyOf) → T.has self.new.tables q ≡ false }
         ensures room { T.keeps_room self.old.tables self.new.tables }
     {
@@ -376,6 +407,30 @@ impl<K: Key, E: Drop, T: Tables<K>> World<K, E, T> {
         ensures in_order { result ≡ zip self.now.entities.keys self.now.entities.values }
     {
         self.entities.iter()
+    }
+
+    /// Returns the keys of the entities, in packed order, in constant time.
+    ///
+    /// By it a loop over the positions may change the world and allocates nothing: components may be
+    /// written, attached and detached. Those of [`World::keys`] and of a join borrow the world meanwhile.
+    ///
+    /// ```
+    /// let mut world: World<DefaultKey, u8, (SecondaryMap<DefaultKey, u32>, ())> = World::new(alloc)?;
+    /// let hero = world.spawn_with::<First>(1, 7)?;
+    /// for at in 0..world.len() {
+    ///     let key = world.keys_as_slice()[at];
+    ///     if let Some(component) = world.component_mut::<First>(key) {
+    ///         *component += 1;
+    ///     }
+    /// }
+    /// assert_eq!(rt; world.component::<First>(hero), Some(&8));
+    /// ```
+    pub fn keys_as_slice(&self) -> &[K]
+        ensures keys { list_map K.data_of result.now ≡ self.now.entities.keys }
+        // So each entity is there once.
+        ensures valid { IsDense self.now.entities }
+    {
+        self.entities.keys_as_slice()
     }
 
     /// Returns an iterator over the keys of the entities, in packed order.

@@ -79,6 +79,7 @@ pub(crate) fn spawn_with<K: Key, E: Drop, M: Table<K>>(
     ensures order { IfOk result (λ key. Appends entities.old (K.data_of key) entity entities.new) }
     ensures room { 0 < entities.old.content.room → M.fits table.old entities.old.content.offer.index 1 → IsOk result }
     ensures less_room { (i count : ℕ) → M.fits table.old i (count + 1) → M.fits table.new i count }
+    ensures refused_room { OnErr result ((i count : ℕ) → M.fits table.old i count → M.fits table.new i count) }
     ensures err { IfErr result (RefusesSpawn entities.old.content entity component) }
     ensures unchanged { OnErr result (Keeps entities.old.content entities.new.content) }
     ensures same_order { OnErr result (SameOrder entities.old entities.new) }
@@ -134,9 +135,10 @@ impl<K: Key, E: Drop, T: Tables<K>> World<K, E, T> {
         ensures order { IfOk result (λ key. Appends self.old.entities (K.data_of key) entity self.new.entities) }
 
         // If there is room for the entity, and for its component in the table, it can't fail. It takes up
-        // room for one component at most.
+        // room for one component at most, and none if it fails.
         ensures room { 0 < self.old.entities.content.room → C.Table.fits (C.table self.old.tables) self.old.entities.content.offer.index 1 → IsOk result }
         ensures less_room { (i count : ℕ) → C.Table.fits (C.table self.old.tables) i (count + 1) → C.Table.fits (C.table self.new.tables) i count }
+        ensures refused_room { OnErr result ((i count : ℕ) → C.Table.fits (C.table self.old.tables) i count → C.Table.fits (C.table self.new.tables) i count) }
         // The index of the next key is at most one more than there are slots.
         ensures offered { 0 < self.old.entities.content.room → self.old.entities.content.offer.index ≤ places self.old.entities.content + 1 }
         // If there is room for the entity, the capacity stays.

@@ -28,6 +28,8 @@ fn spawn_with_both<K: Key, E: Drop, T: Tables<K>, A: Apart<K, T, B>, B: Kind<K, 
         → B.Table.fits (B.table tables.old) entities.old.content.offer.index 1 → IsOk result }
     ensures less_first_room { (i count : ℕ) → A.Table.fits (A.table tables.old) i (count + 1) → A.Table.fits (A.table tables.new) i count }
     ensures less_second_room { (i count : ℕ) → B.Table.fits (B.table tables.old) i (count + 1) → B.Table.fits (B.table tables.new) i count }
+    ensures refused_first_room { OnErr result ((i count : ℕ) → A.Table.fits (A.table tables.old) i count → A.Table.fits (A.table tables.new) i count) }
+    ensures refused_second_room { OnErr result ((i count : ℕ) → B.Table.fits (B.table tables.old) i count → B.Table.fits (B.table tables.new) i count) }
     ensures err { IfErr result (RefusesSpawn entities.old.content entity (first, second)) }
     ensures unchanged { OnErr result (Keeps entities.old.content entities.new.content) }
     ensures same_order { OnErr result (SameOrder entities.old entities.new) }
@@ -90,11 +92,13 @@ impl<K: Key, E: Drop, T: Tables<K>> World<K, E, T> {
         ensures order { IfOk result (λ key. Appends self.old.entities (K.data_of key) entity self.new.entities) }
 
         // If there is room for the entity, and for its components in both tables, it can't fail. It takes
-        // up room for one component at most in each.
+        // up room for one component at most in each, and none if it fails.
         ensures room { 0 < self.old.entities.content.room → A.Table.fits (A.table self.old.tables) self.old.entities.content.offer.index 1
             → B.Table.fits (B.table self.old.tables) self.old.entities.content.offer.index 1 → IsOk result }
         ensures less_first_room { (i count : ℕ) → A.Table.fits (A.table self.old.tables) i (count + 1) → A.Table.fits (A.table self.new.tables) i count }
         ensures less_second_room { (i count : ℕ) → B.Table.fits (B.table self.old.tables) i (count + 1) → B.Table.fits (B.table self.new.tables) i count }
+        ensures refused_first_room { OnErr result ((i count : ℕ) → A.Table.fits (A.table self.old.tables) i count → A.Table.fits (A.table self.new.tables) i count) }
+        ensures refused_second_room { OnErr result ((i count : ℕ) → B.Table.fits (B.table self.old.tables) i count → B.Table.fits (B.table self.new.tables) i count) }
         // The index of the next key is at most one more than there are slots.
         ensures offered { 0 < self.old.entities.content.room → self.old.entities.content.offer.index ≤ places self.old.entities.content + 1 }
         // If there is room for the entity, the capacity stays.

@@ -1,7 +1,7 @@
 //! Tables of components, one for each kind.
 
 ghost use Rattle.std.specs.FinMap as map;
-ghost use Rattle.std.specs.Prelude.{◌≡◌, ◌≢◌, ℕ, ◌+◌, ◌-◌, ◌≤◌, ◌||◌, Bool, true, false, refl, IfOk, OnOk, IsOk, IfErr, OnErr, option_copied};
+ghost use Rattle.std.specs.Prelude.{◌≡◌, ◌≢◌, ℕ, ◌+◌, ◌-◌, ◌≤◌, ◌||◌, Bool, true, false, None, refl, IfOk, OnOk, IsOk, IfErr, OnErr, option_copied};
 ghost use Rattle.std.specs.Option.{option_copied_mut};
 ghost use Rattle.std.specs.Borrow.{sem, LendsIf};
 ghost use Rattle.slotmap.specs.Words.{Key as KeyOf, Pairs, get, contains_key, put, bind, remove, most, RefusesCapacity, RefusesPut, RefusesRoom};
@@ -108,7 +108,8 @@ pub trait Table<K: Key>: Drop {
         ensures value { option_copied_mut result ≡ get (pairs self.old) (K.data_of key) };
 
     /// Inserts a component, and returns the one that the entity had. If memory runs out, the error
-    /// holds the component, and the table has the same components.
+    /// holds the component, and the table has the same components. A call that fails or replaces a
+    /// component takes up no room.
     ///
     /// ```
     /// let hero = DefaultKey::from(KeyData::new(1, 1));
@@ -126,7 +127,9 @@ pub trait Table<K: Key>: Drop {
         ensures err { IfErr result (λ error. RefusesPut (pairs self.old) (K.data_of key) component error.0) }
         ensures unchanged { OnErr result (pairs self.new ≡ pairs self.old) }
         ensures room { fits self.old (K.data_of key).index 1 → IsOk result }
-        ensures less_room { (i count : ℕ) → fits self.old i (count + 1) → fits self.new i count };
+        ensures less_room { (i count : ℕ) → fits self.old i (count + 1) → fits self.new i count }
+        ensures refused_room { OnErr result ((i count : ℕ) → fits self.old i count → fits self.new i count) }
+        ensures replaced_room { contains_key (pairs self.old) (K.data_of key) ≡ true → (i count : ℕ) → fits self.old i count → fits self.new i count };
 
     /// Removes the component of an entity, and returns it, or `None` if it has none here.
     ///
@@ -179,6 +182,9 @@ pub trait Table<K: Key>: Drop {
 
     // Where some fit, they do once a component that is there has another value.
     ghost with_value_room: { (m : Self) (k : KeyOf) (v : Self.Component) (i n : ℕ) → contains_key (pairs m) k ≡ true → fits m i n → fits (with_value m k v) i n };
+
+    // And no more of them do.
+    ghost with_value_no_more: { (m : Self) (k : KeyOf) (v : Self.Component) (i n : ℕ) → contains_key (pairs m) k ≡ true → fits (with_value m k v) i n → fits m i n };
 
     // Components of as many entities as a world can have aren't too many.
     ghost within_limit: { (m : Self) (i n : ℕ) → i ≤ most → map.len (pairs m) + n ≤ most → refuses_room m i n TooGreat → ⊥ };
@@ -241,6 +247,8 @@ impl<K: Key, C: Drop> Table<K> for SecondaryMap<K, C> {
     ghost fewer_fit = { λ m i j n p low less fit. Prim.omega arith };
 
     ghost with_value_room = { λ m k v i n there fit. fit };
+
+    ghost with_value_no_more = { λ m k v i n there fit. fit };
 
     ghost within_limit = { λ m i n low less great. Prim.omega arith };
 }
@@ -305,6 +313,9 @@ impl<K: Key, C: Drop> Table<K> for SparseSecondaryMap<K, C> {
     ghost with_value_room = { λ m k v i n there fit.
         let long = map.len-insert nat_cmp_total m.pairs k.index (k.version, v) in Prim.grind (arith, long) };
 
+    ghost with_value_no_more = { λ m k v i n there fit.
+        let long = map.len-insert nat_cmp_total m.pairs k.index (k.version, v) in Prim.grind (arith, long) };
+
     ghost within_limit = { λ m i n low less great. Prim.omega arith };
 }
 
@@ -322,8 +333,11 @@ impl<K: Key, C: Drop> Table<K> for SparseSecondaryMap<K, C> {
 ///
 ///     ghost parts = { λ tables k. (get tables.health.pairs k, get tables.armour.pairs k) };
 ///
+///     ghost no_parts = { (None, None) };
+///
 ///     ghost keeps_room = { λ old new. old.health.capacity ≤ new.health.capacity };
 ///     ..
+///     ghost has_none = { λ tables k none. Prim.grind arith };
 /// }
 ///
 /// impl Kind<DefaultKey, Parts> for Health {
@@ -352,8 +366,10 @@ pub trait Tables<K: Key>: Drop {
     // Whether an entity has a component in one of the tables.
     ghost has: { Self → KeyOf → Bool };
 
-    // What it has in each of them.
+    // What it has in each of them, and what one without components has.
     ghost parts: { Self → KeyOf → Self.Parts };
+
+    ghost no_parts: { Self.Parts };
 
     // That no table has less room than before.
     ghost keeps_room: { Self → Self → Type 0 };
@@ -379,7 +395,7 @@ pub trait Tables<K: Key>: Drop {
     /// ```
     fn remove(&mut self, key: K) -> Self::Parts
         ensures value { result ≡ parts self.old (K.data_of key) }
-        ensures gone { has self.new (K.data_of key) ≡ false }
+        ensures no_component { has self.new (K.data_of key) ≡ false }
         ensures others { (q : KeyOf) → q ≢ K.data_of key → (has self.new q ≡ has self.old q) × (parts self.new q ≡ parts self.old q) }
         ensures room { keeps_room self.old self.new };
 
@@ -395,6 +411,9 @@ pub trait Tables<K: Key>: Drop {
     fn clear(&mut self)
         ensures empty { (q : KeyOf) → has self.new q ≡ false }
         ensures room { keeps_room self.old self.new };
+
+    // An entity without components has nothing in each of them.
+    ghost has_none: { (t : Self) (k : KeyOf) → has t k ≡ false → parts t k ≡ no_parts };
 }
 
 impl<K: Key> Tables<K> for () {
@@ -403,6 +422,8 @@ impl<K: Key> Tables<K> for () {
     ghost has = { λ tables k. false };
 
     ghost parts = { λ tables k. tables };
+
+    ghost no_parts = { tt };
 
     ghost keeps_room = { λ old new. Unit {0} };
 
@@ -413,15 +434,21 @@ impl<K: Key> Tables<K> for () {
     fn remove(&mut self, _key: K) {}
 
     fn clear(&mut self) {}
+
+    ghost has_none = { λ t k none. refl };
 }
 
 #[tactic(auto, using(slotmap::proofs::Callers::secondary))]
 impl<K: Key, A: Table<K>, B: Tables<K>> Tables<K> for (A, B) {
     type Parts = (Option<A::Component>, B::Parts);
 
+    ghost use Rattle.std.proofs.Common.{arith};
+
     ghost has = { λ tables k. contains_key (A.pairs tables.0) k || B.has tables.1 k };
 
     ghost parts = { λ tables k. (get (A.pairs tables.0) k, B.parts tables.1 k) };
+
+    ghost no_parts = { (None, B.no_parts) };
 
     ghost keeps_room = { λ old new. ((i count : ℕ) → A.fits old.0 i count → A.fits new.0 i count) × B.keeps_room old.1 new.1 };
 
@@ -439,4 +466,6 @@ impl<K: Key, A: Table<K>, B: Tables<K>> Tables<K> for (A, B) {
         self.0.clear();
         self.1.clear();
     }
+
+    ghost has_none = { λ t k none. let rest = B.has_none t.1 k in Prim.grind (arith, rest) };
 }

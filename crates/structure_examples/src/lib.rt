@@ -2,11 +2,14 @@
 #![tactic(auto, using(slotmap::proofs::Callers::keys))]
 
 pub mod arm;
+pub mod bodies;
 pub mod cursors;
 pub mod cycles;
 pub mod forward;
 pub mod groups;
 pub mod heirs;
+pub mod reaper;
 pub mod room;
+pub mod stores;
 pub mod timer;
 pub mod twins;

@@ -1,12 +1,15 @@
 //! Worlds of numbers, with numbers as components. [`run`] alone names the tables.
 
+mod loops;
+
 use crate::items::{increment, keep};
 use crate::random::Random;
 use crate::sums::{Sum, tell};
+use crate::worlds::loops::run_loops;
 use slotmap::{DefaultKey, SecondaryMap, SparseSecondaryMap};
 use slotmap_entities::{Apart, CloneTable, CloneTables, First, Kind, Second, Table, Tables, World};
 
-type Numbers<T> = World<DefaultKey, u64, T>;
+pub(crate) type Numbers<T> = World<DefaultKey, u64, T>;
 
 // Spawns a number, with a component if it is even: the number, twice.
 fn spawn<T, C>(world: &mut Numbers<T>, keys: &mut Vec<DefaultKey>, number: u64) -> bool
@@ -60,7 +63,7 @@ fn sum_of<T: Tables<DefaultKey>>(world: &Numbers<T>) -> Sum {
 }
 
 // The components of a kind, in packed order.
-fn sum_with<'a, T, C>(world: &'a Numbers<T>) -> Sum
+pub(crate) fn sum_with<'a, T, C>(world: &'a Numbers<T>) -> Sum
 where
     T: Tables<DefaultKey>,
     C: Kind<DefaultKey, T>,
@@ -337,6 +340,7 @@ where
 {
     fill::<T, F, S>(rt, world, keys, size)
         && change::<T, F, S>(rt, world, keys.as_slice(), &mut Random::new(6))
+        && run_loops::<T, F, S>(rt, world)
         && grow::<T, F, S>(rt, world, keys, size)
         && copy::<T, F, S>(rt, world)
 }
@@ -350,7 +354,7 @@ where
     F::Table: Table<DefaultKey, Component = u64>,
     S::Table: Table<DefaultKey, Component = u64>,
 {
-    let Ok(mut world) = World::with_capacity_and_key(rt.alloc(), size as usize) else {
+    let Ok(mut world) = World::with_capacity(rt.alloc(), size as usize) else {
         return false;
     };
     let mut keys = Vec::new(rt.alloc());

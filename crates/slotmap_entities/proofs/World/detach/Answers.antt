@@ -9,8 +9,8 @@ invariant_of-self g c =
     table_live c.self.inside.entities.content (g.T.Tables.has c.self.inside.tables) c.self.invariant _ _
     (rw (c.remove.ensures.removes, c.table_mut.ensures.value) (beside_taken c.self.inside.entities.content m (g.K.Key.data_of c.args.key) beside)) (g.met.C.Kind.has_no_more c.self.inside.tables c.remove.new.self)
 
-pub returns-clause-gone : goal.returns-clause-gone
-returns-clause-gone g c = rw (g.met.C.Kind.table_put c.self.inside.tables c.remove.new.self, c.remove.ensures.removes) (removed_gone _ (g.K.Key.data_of c.args.key))
+pub returns-clause-none_now : goal.returns-clause-none_now
+returns-clause-none_now g c = rw (g.met.C.Kind.table_put c.self.inside.tables c.remove.new.self, c.remove.ensures.removes) (removed_gone _ (g.K.Key.data_of c.args.key))
 
 pub returns-clause-others : goal.returns-clause-others
 returns-clause-others g c q other =

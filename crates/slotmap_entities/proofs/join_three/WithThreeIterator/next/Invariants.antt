@@ -1,0 +1,12 @@
+use Rattle.std.proofs.Common.{◌≡◌, length}
+use Rattle.slotmap.specs.Words.{get}
+use Rattle.slotmap_entities.specs.World.{three_found_by}
+use Rattle.slotmap_entities.proofs.join_three.WithThreeIterator.next.Given as goal
+
+-- the keys that were passed lack a component
+abbrev pub invariant-loop-key : goal.invariant-loop-key
+invariant-loop-key g l =
+    l.fn.self ≡ three_found_by (get (g.A.Table.pairs l.self-inside.first.now)) (get (g.B.Table.pairs l.self-inside.second.now)) (get (g.C.Table.pairs l.self-inside.third.now)) l.self-inside.keys
+
+abbrev pub decreases-loop-key : goal.decreases-loop-key
+decreases-loop-key g l = length l.self-inside.keys

@@ -1,0 +1,92 @@
+//! Loops over a world of numbers: joins of three kinds and of one without another, and a loop over the positions of the keys,
+//! which writes components on the way.
+
+use crate::sums::{Sum, tell};
+use crate::worlds::{Numbers, sum_with};
+use slotmap::DefaultKey;
+use slotmap_entities::{Kind, Table, Tables};
+
+// The components of the entities that have both kinds, the first one twice, in packed order.
+fn sum_with_three<'a, T, F, S>(world: &'a Numbers<T>) -> Sum
+where
+    T: Tables<DefaultKey>,
+    F: Kind<DefaultKey, T>,
+    S: Kind<DefaultKey, T>,
+    F::Table: Table<DefaultKey, Component = u64> + 'a,
+    S::Table: Table<DefaultKey, Component = u64> + 'a,
+{
+    let mut sum = Sum::new();
+    for (_, first, second, third) in world.with_three::<F, S, F>() {
+        sum.add(*first);
+        sum.add(*second);
+        sum.add(*third);
+    }
+    sum
+}
+
+// The second components of the entities that have no first one, in packed order.
+fn sum_with_without<'a, T, F, S>(world: &'a Numbers<T>) -> Sum
+where
+    T: Tables<DefaultKey>,
+    F: Kind<DefaultKey, T>,
+    S: Kind<DefaultKey, T>,
+    F::Table: Table<DefaultKey, Component = u64> + 'a,
+    S::Table: Table<DefaultKey, Component = u64> + 'a,
+{
+    let mut sum = Sum::new();
+    for (_, second) in world.with_without::<S, F>() {
+        sum.add(*second);
+    }
+    sum
+}
+
+// Adds the second component of an entity to its first one.
+fn move_one<T, F, S>(world: &mut Numbers<T>, key: DefaultKey)
+where
+    T: Tables<DefaultKey>,
+    F: Kind<DefaultKey, T>,
+    S: Kind<DefaultKey, T>,
+    F::Table: Table<DefaultKey, Component = u64>,
+    S::Table: Table<DefaultKey, Component = u64>,
+{
+    let Some((first, second)) = world.both::<F, S>(key) else {
+        return;
+    };
+    let next = first.wrapping_add(*second);
+    if let Some(first) = world.component_mut::<F>(key) {
+        *first = next;
+    }
+}
+
+// The same for each entity that has both.
+fn move_all<T, F, S>(world: &mut Numbers<T>)
+where
+    T: Tables<DefaultKey>,
+    F: Kind<DefaultKey, T>,
+    S: Kind<DefaultKey, T>,
+    F::Table: Table<DefaultKey, Component = u64>,
+    S::Table: Table<DefaultKey, Component = u64>,
+{
+    for at in 0..world.len() {
+        if let Some(key) = world.keys_as_slice().get(at).copied() {
+            move_one::<T, F, S>(world, key);
+        }
+    }
+}
+
+/// Runs the loops, and returns whether all was printed.
+pub(crate) fn run_loops<T, F, S>(rt: &HostRuntime, world: &mut Numbers<T>) -> bool
+where
+    T: Tables<DefaultKey>,
+    F: Kind<DefaultKey, T>,
+    S: Kind<DefaultKey, T>,
+    F::Table: Table<DefaultKey, Component = u64>,
+    S::Table: Table<DefaultKey, Component = u64>,
+{
+    let three = sum_with_three::<T, F, S>(world);
+    let without = sum_with_without::<T, F, S>(world);
+    move_all::<T, F, S>(world);
+    tell(rt, "three", three)
+        && tell(rt, "without the first", without)
+        && tell(rt, "moved", sum_with::<T, F>(world))
+}
