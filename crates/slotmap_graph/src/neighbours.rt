@@ -5,10 +5,11 @@ ghost use Rattle.std.specs.Iterator.{YieldsFirstBy, item_count};
 ghost use Rattle.slotmap_graph.specs.Parts.{edges_at, from, to};
 ghost use Rattle.slotmap_graph.specs.Search.{ends_along};
 
-use crate::links::{Direction, Edges};
-use crate::{EdgesAt, Graph};
+use crate::lists::{Direction, Edges};
+use crate::{Graph, iter::owner_of};
 use slotmap::Key;
 use slotmap_keylist::outer;
+use slotmap_links::Members;
 use std::iter::FusedIterator;
 use std::marker::{Model, PhantomData};
 
@@ -21,7 +22,7 @@ use std::marker::{Model, PhantomData};
 pub struct Neighbours<'a, K, E> {
     edges: &'a Edges<E>,
     direction: Direction,
-    keys: EdgesAt<'a, E>,
+    members: Members<'a>,
     key_type: PhantomData<K>,
 }
 
@@ -31,11 +32,12 @@ impl<'a, K, E> Model for Neighbours<'a, K, E> {
 
     ghost Value = { List Key };
 
-    ghost use Rattle.slotmap_keylist.specs.Mapped.{map_values};
     ghost use Rattle.slotmap_graph.specs.Search.{ends_along};
-    ghost use Rattle.slotmap_graph.specs.Threads.{end, seen_edge, turned};
+    ghost use Rattle.slotmap_graph.specs.Threads.{AreIndices, HaveIndices, far_end, keys_at};
 
-    ghost view = { λ it. ends_along (end (turned it.direction)) (map_values seen_edge it.edges.now.live) it.keys };
+    ghost view = { λ it. ends_along (far_end it.direction) it.edges.now.live (keys_at it.edges.now.live it.members) };
+
+    ghost invariant = { λ it. HaveIndices it.edges.now × AreIndices it.edges.now.live it.members };
 }
 
 impl<'a, K: Key, E: Drop> Iterator for Neighbours<'a, K, E> {
@@ -46,16 +48,13 @@ impl<'a, K: Key, E: Drop> Iterator for Neighbours<'a, K, E> {
     ghost remaining = { item_count (λ rest. rest) };
 
     fn next(&mut self) -> Option<K> {
-        while let Some(key) = self.keys.next() {
-            if let Some(edge) = self.edges.get(key) {
-                return Some(outer(edge.far_end(self.direction)));
-            }
-        }
-        None
+        let index = self.members.next()?;
+        let key = self.edges.key_at(index)?;
+        Some(outer(self.edges.value(key).far_end(self.direction)))
     }
 
     fn size_hint(&self) -> (usize, Option<usize>) {
-        (0, Some(self.keys.len()))
+        (0, Some(self.members.len()))
     }
 }
 
@@ -82,7 +81,7 @@ impl<K: Key, N: Drop, E: Drop> Graph<K, N, E> {
         Neighbours {
             edges: &self.edges,
             direction: Direction::Out,
-            keys: self.edges_from(node),
+            members: self.out.iter(owner_of(&self.nodes, node)),
             key_type: PhantomData,
         }
     }
@@ -107,7 +106,7 @@ impl<K: Key, N: Drop, E: Drop> Graph<K, N, E> {
         Neighbours {
             edges: &self.edges,
             direction: Direction::Into,
-            keys: self.edges_to(node),
+            members: self.into.iter(owner_of(&self.nodes, node)),
             key_type: PhantomData,
         }
     }
