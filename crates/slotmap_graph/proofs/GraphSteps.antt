@@ -5,12 +5,13 @@ use Rattle.slotmap_graph.proofs.Common.{refl, sym, ap, subst, inl, inr, arith, K
 use Rattle.slotmap_graph.proofs.Common.{IsBeside, with_value, keys, same_or_other, get-insert_here, get-insert_other, get-put_live, get-put_other, leaves_none}
 use Rattle.slotmap_graph.proofs.Common.{leaves_by_removal, inserted_fresh, live-insert_still, live-remove_other, is_key, times, without, is_itself, is_other, times_first}
 use Rattle.slotmap_graph.proofs.Common.{one_itself, Lists, IsIn, AreDisjoint, list_of, often, most, SeenEdge, Edges, EndsLive, IsJoined, ListsEdges, PutsAlone, SameEdges}
-use Rattle.slotmap_graph.proofs.Common.{edges_at, from, to, touches, HaveIndices, IsThreaded, IsGraph, Grows, by_node, IsFree, PutsBehind, with_list, IsCloneBy, IsCloneOf, clones_edge, clone_live}
+use Rattle.slotmap_graph.proofs.Common.{edges_at, from, to, touches, HaveIndices, IsThreaded, IsGraph, Grows, by_node, IsFree, PutsBehind, with_list, with_members, with_owners, list_covered, disjoint_still, length-append, Result, Ok, Err, ClonesEqual, IsCloneBy, IsCloneOf, clones_edge, clone_live}
+use Rattle.std.proofs.Common.{◌-◌, OnOk, OnErr, replicate}
 use Rattle.slotmap.specs.Words.{MakesRoom, used}
 use Rattle.std.specs.FinMap as map
 use Rattle.slotmap_graph.proofs.Adjacent.{absent_unlisted, listed_edge, none_listed, nothing_listed}
 use Rattle.slotmap_graph.proofs.Indices.{indices_still}
-use Rattle.slotmap_graph.proofs.Threaded.{empty_at, lists, other_nodes, put_free, put_seen, put_threaded, same_seen, threaded_along}
+use Rattle.slotmap_graph.proofs.Threaded.{at_none, empty_at, lists, other_nodes, put_free, put_seen, put_threaded, same_seen, threaded_along}
 
 pub puts_alone : {N V : Type 0} (nodes : Content N) (m : Pairs V) (k : Key) → IsBeside nodes m → IsLive nodes k → IsContent true nodes → PutsAlone m k
 puts_alone nodes m k beside live well = record { here = get-put_live true nodes well m beside k live; others = get-put_other true nodes well m beside k live }
@@ -184,3 +185,125 @@ ends_apart k e none = (
   λ at. (let h : is_key e.from k ≡ true = ap (λ q. is_key q k) at ∙ is_itself k in let t : touches k e ≡ true = ap (λ b. b || is_key e.to k) h in cc),
   λ at. (let h : is_key e.to k ≡ true = ap (λ q. is_key q k) at ∙ is_itself k in let t : touches k e ≡ true = grind arith in cc),
 )
+
+-- nothing is listed where there is no node and no edge
+module _ {N E : Type 0} (end : SeenEdge E → Key) (nodes : Content N) (edges : Content (SeenEdge E)) (links : Lists) (no_nodes : nodes.live ≡ map.empty) (no_edges : edges.live ≡ map.empty) where
+  no_node : (k : Key) → map.contains_key nodes.live k ≡ false
+  no_node k = ap (λ m. map.contains_key m k) no_nodes ∙ ap is_some (map.get-empty {X = N} key_cmp k)
+
+  no_edge : (k : Key) → map.contains_key edges.live k ≡ false
+  no_edge k = ap (λ m. map.contains_key m k) no_edges ∙ ap is_some (map.get-empty {X = SeenEdge E} key_cmp k)
+
+  pub bare_threaded : ((p : ℕ) → list_of links p ≡ []) → nodes.capacity < length links.lists → edges.capacity < links.members → IsThreaded end nodes edges links
+  bare_threaded none owners members = record {
+    node_indices = record { within = λ k live. absurd (let gone = no_node k in cc); apart = λ a b live. absurd (let gone = no_node a in cc) };
+    edge_indices = record { within = λ k live. absurd (let gone = no_edge k in cc); apart = λ a b live. absurd (let gone = no_edge a in cc) };
+    owners = owners;
+    members = members;
+    disjoint = record {
+      once = λ p k. (let e = ap (often k) (none p) in omega arith);
+      alone = λ p q k inside. absurd (let e = ap (often k) (none p) in omega arith);
+      within = λ p k inside. absurd (let e = ap (often k) (none p) in omega arith);
+    };
+    ends = λ x e there. absurd (let gone = no_edge x in let f = ap is_some there in cc);
+    listed = λ x e there. absurd (let gone = no_edge x in let f = ap is_some there in cc);
+    live = λ p i inside. absurd (let e = ap (often i) (none p) in omega arith);
+  }
+
+  pub bare_seen : (k : Key) → edges_at (by_node nodes.live edges.live links) k ≡ []
+  bare_seen k = at_none nodes.live edges.live links k (no_node k)
+
+covers_more : (s : Lists) → AreDisjoint s → (n m : ℕ) (mid new : Lists) → mid ≡ with_owners s n → (new ≡ with_members mid m) ⊎ (new ≡ mid) → Grows s new
+covers_more s disjoint n m mid new is either = record {
+  lists = same;
+  owners = (let more = ap (λ (l : Lists). length l.lists) is ∙ length-append s.lists (replicate (n - length s.lists) []) in let now = lists_now either in omega arith);
+  members = (let same = ap (λ (l : Lists). l.members) is in let more = members_now either in omega arith);
+  disjoint = disjoint_still s new disjoint same (let same = ap (λ (l : Lists). l.members) is in let more = members_now either in omega arith);
+}
+  where
+    lists_now : (new ≡ with_members mid m) ⊎ (new ≡ mid) → length new.lists ≡ length mid.lists
+    lists_now (inl is) = ap (λ (l : Lists). length l.lists) is
+    lists_now (inr is) = ap (λ (l : Lists). length l.lists) is
+
+    members_now : (new ≡ with_members mid m) ⊎ (new ≡ mid) → mid.members ≤ new.members
+    members_now (inl is) = let e = ap (λ (l : Lists). l.members) is in omega arith
+    members_now (inr is) = let e = ap (λ (l : Lists). l.members) is in omega arith
+
+    of_mid : (new ≡ with_members mid m) ⊎ (new ≡ mid) → (p : ℕ) → list_of new p ≡ list_of mid p
+    of_mid (inl is) p = ap (λ l. list_of l p) is
+    of_mid (inr is) p = ap (λ l. list_of l p) is
+
+    same : (p : ℕ) → list_of new p ≡ list_of s p
+    same p = of_mid either p ∙ ap (λ l. list_of l p) is ∙ list_covered s n p
+
+-- the same lists, for more owners and members
+pub covered : (s : Lists) → AreDisjoint s → (n m : ℕ) (mid new : Lists) {A B : Type 0} (r : Result A B) → mid ≡ with_owners s n → OnOk r (new ≡ with_members mid m) → OnErr r (new ≡ mid) → Grows s new
+covered s disjoint n m mid new (Ok a) is ok err = covers_more s disjoint n m mid new is (inl ok)
+covered s disjoint n m mid new (Err b) is ok err = covers_more s disjoint n m mid new is (inr err)
+
+-- the copies of nodes and edges are listed alike
+module _ {N E : Type 0} (end : SeenEdge E → Key) (nodes : Content N) (edges : Content (SeenEdge E)) (links : Lists) (t : IsThreaded end nodes edges links)
+    (clones_node : N → N → Type 0) (clones_value : E → E → Type 0) (new : Content N) (cloned : IsCloneBy clones_node nodes new) (same_nodes : new.capacity ≡ nodes.capacity)
+    (copies : Content (SeenEdge E)) (clones : IsCloneBy (clones_edge clones_value) edges copies) (same_edges : copies.capacity ≡ edges.capacity)
+    (same : (o p : Option (SeenEdge E)) → IsCloneOf (clones_edge clones_value) o p → option_map end p ≡ option_map end o) where
+  node_copies : HaveIndices new
+  node_copies = indices_still nodes new t.node_indices (λ k live. sym (clone_live clones_node nodes new cloned k) ∙ live) (omega arith)
+
+  edge_copies : HaveIndices copies
+  edge_copies = indices_still edges copies t.edge_indices (λ k live. sym (clone_live (clones_edge clones_value) edges copies clones k) ∙ live) (omega arith)
+
+  pub copied : (now : Lists) → now ≡ links → IsThreaded end new copies now
+  copied now is = subst (IsThreaded end new copies) (sym is) (threaded_along end nodes edges links t end new copies links (λ x. same _ _ (clones.live x)) (λ p. refl) node_copies edge_copies
+      (let o = t.owners in omega arith) (let m = t.members in omega arith) t.disjoint (λ x e there. clone_live clones_node nodes new cloned (end e) ∙ t.ends x e there))
+
+  pub copied_seen : (now : Lists) → now ≡ links → SameEdges (by_node nodes.live edges.live links) (by_node new.live copies.live now)
+  copied_seen now is k = ap (λ l. edges_at (by_node new.live copies.live l) k) is
+      ∙ ap (λ b. edges_at b k) (same_seen end nodes edges links t end new copies links (λ x. same _ _ (clones.live x)) (λ p. refl) edge_copies (clone_live clones_node nodes new cloned))
+
+pub copied_from : {E : Type 0} (clones_value : E → E → Type 0) (o p : Option (SeenEdge E)) → IsCloneOf (clones_edge clones_value) o p → option_map from p ≡ option_map from o
+copied_from clones_value None p is = ap (option_map from) is
+copied_from clones_value (Some e) None is = absurd is
+copied_from clones_value (Some e) (Some copy) is = ap Some is.0
+
+pub copied_to : {E : Type 0} (clones_value : E → E → Type 0) (o p : Option (SeenEdge E)) → IsCloneOf (clones_edge clones_value) o p → option_map to p ≡ option_map to o
+copied_to clones_value None p is = ap (option_map to) is
+copied_to clones_value (Some e) None is = absurd is
+copied_to clones_value (Some e) (Some copy) is = ap Some is.1
+
+pub edges_equal : {E : Type 0} (is_clone : E → E → Type 0) → ClonesEqual is_clone → ClonesEqual (clones_edge is_clone)
+edges_equal is_clone same e copy is = λ i. record { from = is.0 i; to = is.1 i; value = same e.value copy.value is.2 i }
+
+-- a value is written
+module _ {N E : Type 0} (end : SeenEdge E → Key) (nodes : Content N) (edges : Content (SeenEdge E)) (links : Lists) (t : IsThreaded end nodes edges links) where
+  module _ (k : Key) (was v : N) (there : map.get nodes.live k ≡ Some was) where
+    same_node : (q : Key) → map.contains_key (map.insert nodes.live k v) q ≡ map.contains_key nodes.live q
+    same_node q = elim (same_or_other q k) [
+      | inl is ↦ rw is (ap is_some (get-insert_here nodes.live k v) ∙ sym (ap is_some there))
+      | inr other ↦ ap is_some (get-insert_other nodes.live k v q other)
+    ]
+
+    pub node_written : IsThreaded end (with_value nodes k v) edges links
+    node_written = threaded_beside end nodes edges links t (with_value nodes k v) (indices_still nodes (with_value nodes k v) t.node_indices (λ q live. sym (same_node q) ∙ live) (omega arith)) refl
+        (λ x e found. same_node (end e) ∙ t.ends x e found)
+
+    pub node_written_seen : by_node (map.insert nodes.live k v) edges.live links ≡ by_node nodes.live edges.live links
+    node_written_seen = same_seen end nodes edges links t end (with_value nodes k v) edges links (λ x. refl) (λ p. refl) t.edge_indices same_node
+
+  module _ (k : Key) (was e : SeenEdge E) (there : map.get edges.live k ≡ Some was) (same_end : end e ≡ end was) where
+    same_ends : (x : Key) → option_map end (map.get (map.insert edges.live k e) x) ≡ option_map end (map.get edges.live x)
+    same_ends x = elim (same_or_other x k) [
+      | inl is ↦ rw is (ap (option_map end) (get-insert_here edges.live k e) ∙ ap Some same_end ∙ sym (ap (option_map end) there))
+      | inr other ↦ ap (option_map end) (get-insert_other edges.live k e x other)
+    ]
+
+    written_indices : HaveIndices (with_value edges k e)
+    written_indices = indices_still edges (with_value edges k e) t.edge_indices (λ q live. elim (same_or_other q k) [
+      | inl is ↦ ap (map.contains_key edges.live) is ∙ ap is_some there
+      | inr other ↦ sym (ap is_some (get-insert_other edges.live k e q other)) ∙ live
+    ]) (omega arith)
+
+    pub edge_written : IsThreaded end nodes (with_value edges k e) links
+    edge_written = threaded_along end nodes edges links t end nodes (with_value edges k e) links same_ends (λ p. refl) t.node_indices written_indices t.owners t.members t.disjoint t.ends
+
+    pub edge_written_seen : by_node nodes.live (map.insert edges.live k e) links ≡ by_node nodes.live edges.live links
+    edge_written_seen = same_seen end nodes edges links t end nodes (with_value edges k e) links same_ends (λ p. refl) written_indices (λ q. refl)
