@@ -15,7 +15,7 @@ pub use Rattle.std.specs.Option.{option_and_then, option_or}
 pub use Rattle.slotmap.proofs.Callers.{beside_empty, clone_copies, clone_live, exact_keys, get-bind_here, get-bind_other, get-insert_here, get-insert_other}
 pub use Rattle.slotmap.proofs.Callers.{get-put_live, get-put_other, insert_still, inserted_fresh, keys, keys_total, leaves_by_removal, leaves_in_turn}
 pub use Rattle.slotmap.proofs.Callers.{leaves_none, left_spent, len_removed, live-insert_still, live-remove_other, none_of, of_some, remove_spent}
-pub use Rattle.slotmap.proofs.Callers.{removed_spent, same_lent, same_or_other, tied, itself, secondary, spent_insert, spent_leaves, spent_remove, spent_removes}
+pub use Rattle.slotmap.proofs.Callers.{removed_spent, same_lent, same_or_other, tied, itself, secondary, spent_insert, spent_inserts, spent_keeps, spent_leaves, spent_remove, spent_removes}
 pub use Rattle.slotmap.specs.Words.{ClonesEqual, contains_key, Content, get, Inserts, IsBeside, IsCloneBy, IsCloneOf, IsContent, IsLive, IsSpent, Keeps}
 pub use Rattle.slotmap.specs.Words.{KeepsSpent, Key, key_cmp, Leaves, most, Pairs, Removes, with_value}
 pub use Rattle.slotmap_keylist.proofs.Counts.{behind_split, filter_all, filter_less, here_or_behind, is_itself, is_other, no_more_than, none_behind, one_itself}

@@ -62,7 +62,6 @@ module _ {E : Type 0} (edges : Edges E) (k : Key) (untouched : (x : Key) (e : Se
   pub none_to : ListsEdges to edges k ks → ks ≡ []
   none_to lists = nothing_listed to edges k ks lists (λ x e there at. let none = untouched x e there in let h : is_key e.to k ≡ true = rw at (is_itself k) in let t : touches k e ≡ true = grind arith in absurd (cc))
 
-
 -- every graph is joined
 pub graph_joined : {N E : Type 0} (nodes : Content N) (edges : Content (SeenEdge E)) (outs intos : Lists) → IsGraph nodes edges outs intos
     → IsJoined (record { nodes = nodes; edges = edges; out = by_node nodes.live edges.live outs; into = by_node nodes.live edges.live intos })

@@ -105,10 +105,10 @@ module _ {V : Type 0} (c : Content V) (indices : HaveIndices c) where
         let rest = keys_without k live still is (later_indices i is all) in
         by_first_number k.index i (λ l. keys_at d.live l ≡ without k (keys_at c.live (i ∷ is))) is
         (λ at. (let is_k : key_at c.live i ≡ k = found.3 ∙ indices.apart found.0 k found.1 live (found.2 ∙ at) in
-            rest ∙ sym (ap (λ b. cond (not b) (key_at c.live i ∷ without k (keys_at c.live is)) (without k (keys_at c.live is))) (ap (λ q. is_key q k) is_k ∙ is_itself k))))
+        rest ∙ sym (ap (λ b. cond (not b) (key_at c.live i ∷ without k (keys_at c.live is)) (without k (keys_at c.live is))) (ap (λ q. is_key q k) is_k ∙ is_itself k))))
         (λ other. (let apart : found.0 ≢ k = λ e. other (sym found.2 ∙ ap (λ (q : Key). q.index) e) in
-            let one : key_at d.live i ≡ key_at c.live i = ap (key_at d.live) (sym found.2) ∙ key_at_live d also found.0 (still found.0 found.1 apart) ∙ sym found.3 in
-            (λ n. one n ∷ rest n) ∙ sym (ap (λ b. cond (not b) (key_at c.live i ∷ without k (keys_at c.live is)) (without k (keys_at c.live is))) (ap (λ q. is_key q k) found.3 ∙ is_other found.0 k apart))))
+        let one : key_at d.live i ≡ key_at c.live i = ap (key_at d.live) (sym found.2) ∙ key_at_live d also found.0 (still found.0 found.1 apart) ∙ sym found.3 in
+        (λ n. one n ∷ rest n) ∙ sym (ap (λ b. cond (not b) (key_at c.live i ∷ without k (keys_at c.live is)) (without k (keys_at c.live is))) (ap (λ q. is_key q k) found.3 ∙ is_other found.0 k apart))))
 
   -- the key that is found at an index
   pub key_found : (i : ℕ) (is : List ℕ) → AreIndices c.live (i ∷ is) → (o : Option Key) → IfSome o (IsLive c) → IfSome o (λ k. k.index ≡ i) → IfNone o ((k : Key) → IsLive c k → k.index ≢ i) → o ≡ Some (key_at c.live i)

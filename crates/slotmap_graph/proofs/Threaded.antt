@@ -63,7 +63,7 @@ module _ {N E : Type 0} (nodes : map.FinMap key_cmp N) (edges : Edges E) (links 
 
 -- by whether a key is there
 by_live : {V : Type 0} (m : map.FinMap key_cmp V) (k : Key) (P : Type 0) → (map.contains_key m k ≡ true → P) → (map.contains_key m k ≡ false → P) → P
-by_live m k P here gone = elim (map.contains_key m k) as (λ b. map.contains_key m k ≡ b → P) [ | true ↦ here | false ↦ gone ] refl
+by_live m k P here gone = elim (map.contains_key m k) as (λ b. map.contains_key m k ≡ b → P) [ true ↦ here | false ↦ gone ] refl
 
 module _ {N E : Type 0} (end : SeenEdge E → Key) (nodes : Content N) (edges : Content (SeenEdge E)) (links : Lists) (t : IsThreaded end nodes edges links) where
   pub indices_at : (p : ℕ) → AreIndices edges.live (list_of links p)
@@ -316,8 +316,8 @@ module _ {N E : Type 0} (end : SeenEdge E → Key) (nodes : Content N) (edges : 
     pub left_seen : (q : Key) → edges_at (by_node nodes.live new.live now) q ≡ without k (edges_at (by_node nodes.live edges.live links) q)
     left_seen q = by_live nodes.live q _
         (λ of_nodes. at_node nodes.live new.live now q of_nodes ∙ ap (keys_at new.live) (lists_left q.index)
-            ∙ keys_without edges t.edge_indices new left_indices k (ap is_some there) (λ x live other. ap is_some (left_others x other) ∙ live) (list_of links q.index) (indices_at q.index)
-            ∙ ap (without k) (sym (at_node nodes.live edges.live links q of_nodes)))
+        ∙ keys_without edges t.edge_indices new left_indices k (ap is_some there) (λ x live other. ap is_some (left_others x other) ∙ live) (list_of links q.index) (indices_at q.index)
+        ∙ ap (without k) (sym (at_node nodes.live edges.live links q of_nodes)))
         (λ gone. at_none nodes.live new.live now q gone ∙ ap (without k) (sym (at_none nodes.live edges.live links q gone)))
 
   -- nodes come or go at which no edge is

@@ -2,14 +2,18 @@
 
 ghost use Rattle.std.specs.Prelude.{◌≡◌};
 ghost use Rattle.std.specs.Iterator.{YieldsFirstBy, item_count};
-ghost use Rattle.slotmap_graph.specs.Parts.{edges_at, from, to};
+ghost use Rattle.slotmap.specs.Words.{Key as KeyOf};
+ghost use Rattle.slotmap_graph.specs.Parts.{SeenEdge, edges_at, from, to};
 ghost use Rattle.slotmap_graph.specs.Search.{ends_along};
+ghost use Rattle.slotmap_graph.specs.Threads.{IsThreaded, by_node, far_end};
 
+use crate::Graph;
+use crate::iter::owner_of;
 use crate::lists::{Direction, Edges};
-use crate::{Graph, iter::owner_of};
 use slotmap::Key;
+use slotmap_bounded::BoundedMap;
 use slotmap_keylist::outer;
-use slotmap_links::Members;
+use slotmap_links::{Links, Members};
 use std::iter::FusedIterator;
 use std::marker::{Model, PhantomData};
 
@@ -78,12 +82,7 @@ impl<K: Key, N: Drop, E: Drop> Graph<K, N, E> {
     pub fn neighbours_from(&self, node: K) -> Neighbours<'_, K, E>
         ensures { result ≡ ends_along to self.now.edges.live (edges_at self.now.out (K.data_of node)) }
     {
-        Neighbours {
-            edges: &self.edges,
-            direction: Direction::Out,
-            members: self.out.iter(owner_of(&self.nodes, node)),
-            key_type: PhantomData,
-        }
+        neighbours_of(Direction::Out, &self.nodes, &self.edges, &self.out, node)
     }
 
     /// Returns an iterator over the nodes where this node's incoming edges begin, one for each edge, in
@@ -103,11 +102,25 @@ impl<K: Key, N: Drop, E: Drop> Graph<K, N, E> {
     pub fn neighbours_to(&self, node: K) -> Neighbours<'_, K, E>
         ensures { result ≡ ends_along from self.now.edges.live (edges_at self.now.into (K.data_of node)) }
     {
-        Neighbours {
-            edges: &self.edges,
-            direction: Direction::Into,
-            members: self.into.iter(owner_of(&self.nodes, node)),
-            key_type: PhantomData,
-        }
+        neighbours_of(Direction::Into, &self.nodes, &self.edges, &self.into, node)
+    }
+}
+
+// The neighbours of a node, by the edges in its list.
+fn neighbours_of<'a, K: Key, N: Drop, E: Drop>(
+    direction: Direction,
+    nodes: &BoundedMap<K, N>,
+    edges: &'a Edges<E>,
+    links: &'a Links,
+    node: K,
+) -> Neighbours<'a, K, E>
+    requires { (end : SeenEdge E → KeyOf) × IsThreaded end nodes.now edges.now links.now }
+    ensures { result ≡ ends_along (far_end direction) edges.now.live (edges_at (by_node nodes.now.live edges.now.live links.now) (K.data_of node)) }
+{
+    Neighbours {
+        edges,
+        direction,
+        members: links.iter(owner_of(nodes, node)),
+        key_type: PhantomData,
     }
 }

@@ -1,5 +1,5 @@
 use Rattle.std.proofs.Common.{◌∙◌}
-use Rattle.slotmap_graph.proofs.Common.{true, ap, remove_spent, spent_remove, edges_at, from, to}
+use Rattle.slotmap_graph.proofs.Common.{true, sym, filter, ap, remove_spent, spent_remove, edges_at, from, to}
 use Rattle.std.specs.FinMap as map
 use Rattle.slotmap_graph.proofs.GraphSteps.{ends_apart, gone_seen, gone_threaded, node_leaves}
 use Rattle.slotmap_graph.proofs.Thinned.{none_left}
@@ -63,17 +63,15 @@ pub returns-clause-out : goal.returns-clause-out
 returns-clause-out g c k =
     let node = g.K.Key.data_of c.args.node in
     let untouched = none_left node c.args.self.now.edges.live c.self.inside.edges.live (λ q. ap (λ s. map.get s.edges.live q) c.self.view_is ∙ c.remove_edges_of.ensures.edges q) in
-    rw (ap (λ s. s.edges.live) c.self.view_is)
-    (gone_seen from _ _ _ c.self.invariant.out node c.remove.new.self c.remove.ensures.live c.remove.ensures.valid.capacity (λ x e there. (ends_apart node e (untouched x e there)).0) k
-    ∙ ap (λ s. edges_at s.out k) c.self.view_is ∙ c.remove_edges_of.ensures.out k)
+    gone_seen from _ _ _ c.self.invariant.out node c.remove.new.self c.remove.ensures.live c.remove.ensures.valid.capacity (λ x e there. (ends_apart node e (untouched x e there)).0) k
+    ∙ ap (λ s. edges_at s.out k) c.self.view_is ∙ c.remove_edges_of.ensures.out k ∙ ap (λ s. filter (map.contains_key s.edges.live) (edges_at c.args.self.now.out k)) (sym c.self.view_is)
 
 pub returns-clause-into : goal.returns-clause-into
 returns-clause-into g c k =
     let node = g.K.Key.data_of c.args.node in
     let untouched = none_left node c.args.self.now.edges.live c.self.inside.edges.live (λ q. ap (λ s. map.get s.edges.live q) c.self.view_is ∙ c.remove_edges_of.ensures.edges q) in
-    rw (ap (λ s. s.edges.live) c.self.view_is)
-    (gone_seen to _ _ _ c.self.invariant.into node c.remove.new.self c.remove.ensures.live c.remove.ensures.valid.capacity (λ x e there. (ends_apart node e (untouched x e there)).1) k
-    ∙ ap (λ s. edges_at s.into k) c.self.view_is ∙ c.remove_edges_of.ensures.into k)
+    gone_seen to _ _ _ c.self.invariant.into node c.remove.new.self c.remove.ensures.live c.remove.ensures.valid.capacity (λ x e there. (ends_apart node e (untouched x e there)).1) k
+    ∙ ap (λ s. edges_at s.into k) c.self.view_is ∙ c.remove_edges_of.ensures.into k ∙ ap (λ s. filter (map.contains_key s.edges.live) (edges_at c.args.self.now.into k)) (sym c.self.view_is)
 
 pub returns-clause-capacity : goal.returns-clause-capacity
 returns-clause-capacity g c =

@@ -3,8 +3,8 @@ use Rattle.slotmap_graph.proofs.Common.{[], sym, ap, subst, map-append, AreIndic
 use Rattle.slotmap_graph.proofs.Indices.{front_indices, key_found, last_index}
 use Rattle.slotmap_graph.proofs.iter.EdgesAtDoubleEndedIterator.next_back.Goals as goal
 
-pub invariant_of-self : goal.invariant_of-self
-invariant_of-self g c =
+pub invariant_of-self-2 : goal.invariant_of-self-2
+invariant_of-self-2 g c =
     let all = subst (AreIndices c.self.inside.edges.now.live) c.in_ok-index.ensures.steps c.self.invariant.1 in
     (c.self.invariant.0, front_indices c.self.inside.edges.now c.self.invariant.0 c.next_back.new.self c.in_ok-index.index all)
 
