@@ -1,13 +1,12 @@
 -- What a call makes of a graph, as a whole.
-use Rattle.std.proofs.Common.{◌≡◌, ◌≢◌, ◌+◌, ◌<◌, ◌≤◌, ◌⊎◌, ◌∷◌, ◌++◌, ◌||◌, ◌∙◌}
-use Rattle.slotmap_graph.proofs.Common.{ℕ, Bool, true, false, cond, Option, Some, None, OnSome, IfSome, IfNone, MatchOption, List, [], length, is_some, option_map}
-use Rattle.slotmap_graph.proofs.Common.{refl, sym, ap, subst, inl, inr, arith, Key, key_cmp, Content, IsContent, IsLive, Inserts, Removes, Leaves, Keeps, Pairs}
+use Rattle.std.proofs.Common.{◌≡◌, ◌≢◌, ◌<◌, ◌≤◌, ◌⊎◌, ◌∷◌, ◌++◌, ◌||◌, ◌∙◌}
+use Rattle.slotmap_graph.proofs.Common.{ℕ, Bool, true, false, Option, Some, None, OnSome, IfSome, IfNone, MatchOption, List, [], length, is_some, option_map}
+use Rattle.slotmap_graph.proofs.Common.{refl, sym, ap, subst, inl, inr, arith, Key, key_cmp, Content, IsContent, IsLive, Inserts, Removes, Leaves, Pairs}
 use Rattle.slotmap_graph.proofs.Common.{IsBeside, with_value, keys, same_or_other, get-insert_here, get-insert_other, get-put_live, get-put_other, leaves_none}
-use Rattle.slotmap_graph.proofs.Common.{leaves_by_removal, inserted_fresh, live-insert_still, live-remove_other, is_key, times, without, is_itself, is_other, times_first}
-use Rattle.slotmap_graph.proofs.Common.{one_itself, Lists, IsIn, AreDisjoint, list_of, often, most, SeenEdge, Edges, EndsLive, IsJoined, ListsEdges, PutsAlone, SameEdges}
+use Rattle.slotmap_graph.proofs.Common.{leaves_by_removal, inserted_fresh, live-insert_still, is_key, times, without, is_itself, is_other, times_first}
+use Rattle.slotmap_graph.proofs.Common.{one_itself, Lists, AreDisjoint, list_of, often, SeenEdge, Edges, IsJoined, ListsEdges, PutsAlone, SameEdges}
 use Rattle.slotmap_graph.proofs.Common.{edges_at, from, to, touches, HaveIndices, IsThreaded, IsGraph, Grows, by_node, IsFree, PutsBehind, with_list, with_members, with_owners, list_covered, disjoint_still, length-append, Result, Ok, Err, ClonesEqual, IsCloneBy, IsCloneOf, clones_edge, clone_live}
 use Rattle.std.proofs.Common.{◌-◌, OnOk, OnErr, replicate}
-use Rattle.slotmap.specs.Words.{MakesRoom, used}
 use Rattle.std.specs.FinMap as map
 use Rattle.slotmap_graph.proofs.Adjacent.{absent_unlisted, listed_edge, none_listed, nothing_listed}
 use Rattle.slotmap_graph.proofs.Indices.{indices_still}
@@ -74,20 +73,6 @@ graph_joined nodes edges outs intos graph = record {
 -- an edge that isn't there is in no list
 pub lacks : {E : Type 0} (end : SeenEdge E → Key) (edges : Edges E) (x : Key) → map.get edges x ≡ None → (k : Key) (ks : List Key) → ListsEdges end edges k ks → ks ≡ without x ks
 lacks end edges x none k ks lists = sym (absent_unlisted end edges x none k ks lists)
-
--- room isn't made, where there was none
-pub none_made : {V : Type 0} (c : Content V) (n : ℕ) (ok : Type 0) → IsContent true c → (ok → ⊥) → (n ≤ c.room → ⊥) → MakesRoom true c n ok c
-none_made c n ok valid failed none = record {
-  before = valid;
-  after = valid;
-  fits = λ done. absurd (failed done);
-  room = λ done. absurd (failed done);
-  live_and_more = λ done. absurd (failed done);
-  succeeds = λ more. absurd (none more);
-  had_room = λ more. refl;
-  keeps = record { live = refl; detached = refl; retired = refl; next = refl; offer = refl; stack = refl; room = omega arith };
-  capacity = omega arith;
-}
 
 -- a key comes
 pub indices_inserted : {V : Type 0} (c : Content V) (k : Key) (v : V) (d : Content V) → HaveIndices c → Inserts c k v d → IsContent true d → d.capacity ≡ c.capacity → k.index ≤ d.capacity → HaveIndices d

@@ -1,19 +1,12 @@
 -- The keys of a map by their indices.
-use Rattle.std.proofs.Common.{◌≡◌, ◌≢◌, ◌+◌, ◌<◌, ◌≤◌, ◌∷◌, ◌++◌, ◌∙◌}
-use Rattle.slotmap_graph.proofs.Common.{ℕ, true, false, cond, not, nat_eq, Some, None, Option, List, [], find, unwrap_or, is_some, refl, sym, ap, inl, inr, arith, Key}
+use Rattle.std.proofs.Common.{◌≡◌, ◌≢◌, ◌<◌, ◌≤◌, ◌∷◌, ◌++◌, ◌∙◌}
+use Rattle.slotmap_graph.proofs.Common.{ℕ, true, false, cond, not, nat_eq, Some, None, Option, List, [], find, unwrap_or, refl, sym, ap, inl, inr, arith, Key}
 use Rattle.slotmap_graph.proofs.Common.{is_key}
-use Rattle.slotmap_graph.proofs.Common.{Content, IsContent, IsLive, keys, key_there, key_live, same, times, without, one_itself, one_other, times_first}
+use Rattle.slotmap_graph.proofs.Common.{Content, IsLive, key_there, key_live, same, times, without, one_itself, one_other, times_first}
 use Rattle.slotmap_graph.proofs.Common.{is_itself, is_other, often, often_first, same_number, number_itself, number_other, same_or_other, same_or_other_number}
 use Rattle.slotmap_graph.proofs.Common.{without_number, by_first_number, AreIndices, HaveIndices, key_at, keys_at, IfSome, IfNone, often_joined}
-use Rattle.slotmap.specs.Words.{null_key, places}
+use Rattle.slotmap.specs.Words.{null_key}
 use Rattle.std.specs.FinMap as map
-
--- the keys of a map whose slots are within its capacity
-pub have_indices : {V : Type 0} (c : Content V) → IsContent true c → places c ≤ c.capacity → HaveIndices c
-have_indices c valid fits = record {
-  within = λ k live. (let within = valid.within k (inl (inl live)) in (within.0, omega (arith, within.1)));
-  apart = λ a b of_a of_b. valid.apart a b (inl (inl of_a)) (inl (inl of_b));
-}
 
 -- the same keys, and no less capacity
 pub indices_still : {V W : Type 0} (c : Content V) (d : Content W) → HaveIndices c → ((k : Key) → IsLive d k → IsLive c k) → c.capacity ≤ d.capacity → HaveIndices d
@@ -77,13 +70,6 @@ module _ {V : Type 0} (c : Content V) (indices : HaveIndices c) where
       let none = ap (λ q. same q k) found.3 ∙ one_other found.0 k (λ e. (let live = ap (map.contains_key c.live) (sym e) ∙ found.1 in absurd (let f = gone in cc))) in
       let rest = no_key is (later_indices i is all) k gone in
       omega arith
-
-  -- each of them is live
-  pub keys_live : (is : List ℕ) → AreIndices c.live is → (k : Key) → 0 < times k (keys_at c.live is) → IsLive c k
-  keys_live is all k more = elim (map.contains_key c.live k) as (λ b. map.contains_key c.live k ≡ b → map.contains_key c.live k ≡ true) [
-    | true ↦ λ live. live
-    | false ↦ λ gone. absurd (let none = no_key is all k gone in omega arith)
-  ] refl
 
   -- another map has the keys with these indices too
   module _ {W : Type 0} (d : Content W) (also : HaveIndices d) where

@@ -1,10 +1,10 @@
 -- The lists of the edges of each node: what is seen of them, and what a change of nodes or edges leaves of them.
-use Rattle.std.proofs.Common.{◌≡◌, ◌≢◌, ◌⊎◌, ◌<◌, ◌≤◌, ◌∷◌, ◌++◌, ◌&&◌, ◌∙◌, T, is_lt}
-use Rattle.slotmap_graph.proofs.Common.{ℕ, Bool, true, false, cond, Option, Some, None, List, [], list_map, length, is_some, option_map, unwrap_or, refl, sym, ap, subst}
+use Rattle.std.proofs.Common.{◌≡◌, ◌≢◌, ◌⊎◌, ◌<◌, ◌∷◌, ◌++◌, ◌&&◌, ◌∙◌, T, is_lt}
+use Rattle.slotmap_graph.proofs.Common.{ℕ, true, false, cond, Option, Some, None, List, [], list_map, length, is_some, option_map, unwrap_or, refl, sym, ap, subst}
 use Rattle.slotmap_graph.proofs.Common.{inl, inr, arith, Key, key_cmp, Content, IsLive, keys, keys_total, exact_keys, tied, same_or_other, get-insert_here}
-use Rattle.slotmap_graph.proofs.Common.{get-insert_other, live-insert_still, is_key, same, times, without, is_itself, is_other, one_itself, one_other, without_none}
+use Rattle.slotmap_graph.proofs.Common.{get-insert_other, live-insert_still, is_key, same, times, without, is_itself, is_other, one_itself, one_other}
 use Rattle.slotmap_graph.proofs.Common.{map-append, often, often_first, often_gone, often_without, number_itself, without_number, list_now, list_other, owners_stay, list_without, pushed_here, pushed_still}
-use Rattle.slotmap_graph.proofs.Common.{pushed_was, with_list, list_of, Lists, IsIn, IsFree, AreDisjoint, SeenEdge, Edges, ByNode, edges_at, ends_at, ListsEdges}
+use Rattle.slotmap_graph.proofs.Common.{pushed_was, with_list, list_of, Lists, IsIn, IsFree, AreDisjoint, SeenEdge, Edges, edges_at, ends_at, ListsEdges}
 use Rattle.slotmap_graph.proofs.Common.{PutsBehind, SameEdges, AreIndices, HaveIndices, IsThreaded, keys_at, eq-zero-or-pos}
 use Rattle.slotmap_graph.specs.Threads.{by_node}
 use Rattle.slotmap_graph.proofs.Indices.{key_at_live, keys_same, keys_without, no_key, times_key}

@@ -1,5 +1,5 @@
 use Rattle.std.proofs.Common.{◌≡◌, ◌<◌, ◌≤◌, ◌∙◌}
-use Rattle.slotmap_graph.proofs.Common.{length, get_or, true, sym, ap, arith, list_map, get_or-map, length-map, IsLive, beside_empty}
+use Rattle.slotmap_graph.proofs.Common.{length, get_or, sym, ap, arith, list_map, get_or-map, length-map, IsLive, beside_empty}
 use Rattle.slotmap_graph.proofs.Common.{edges_at, to, ends_along, marked}
 use Rattle.slotmap_graph.proofs.GraphSteps.{puts_alone}
 use Rattle.slotmap_graph.proofs.Followed.{order_step, order_end}

@@ -1,4 +1,3 @@
-use Rattle.std.proofs.Common.{◌∙◌}
 use Rattle.slotmap_graph.proofs.Common.{true, is_some, ap, sym, from, to, leaves_by_removal, removed_spent, spent_removes}
 use Rattle.slotmap_graph.proofs.GraphSteps.{lacks}
 use Rattle.slotmap_graph.proofs.Threaded.{left_seen, left_threaded, lists, owner_within}

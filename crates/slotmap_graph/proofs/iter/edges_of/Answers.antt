@@ -1,4 +1,3 @@
-use Rattle.std.proofs.Common.{◌≡◌, ◌<◌, ◌∙◌, true, false, sym, ap, length, arith}
 use Rattle.slotmap_graph.proofs.Threaded.{indices_at, owned_at, owner_below}
 use Rattle.slotmap_graph.proofs.iter.edges_of.Goals as goal
 

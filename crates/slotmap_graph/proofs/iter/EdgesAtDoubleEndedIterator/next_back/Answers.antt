@@ -1,4 +1,4 @@
-use Rattle.std.proofs.Common.{◌≡◌, ◌∷◌, ◌++◌, ◌∙◌}
+use Rattle.std.proofs.Common.{◌∷◌, ◌∙◌}
 use Rattle.slotmap_graph.proofs.Common.{[], sym, ap, subst, map-append, AreIndices, key_at, keys_at}
 use Rattle.slotmap_graph.proofs.Indices.{front_indices, key_found, last_index}
 use Rattle.slotmap_graph.proofs.iter.EdgesAtDoubleEndedIterator.next_back.Goals as goal

@@ -1,4 +1,4 @@
-use Rattle.std.proofs.Common.{◌≡◌, ◌∷◌, ◌∙◌}
+use Rattle.std.proofs.Common.{◌∙◌}
 use Rattle.slotmap_graph.proofs.Common.{sym, ap, subst, AreIndices, keys_at}
 use Rattle.slotmap_graph.proofs.Indices.{key_found, later_indices}
 use Rattle.slotmap_graph.proofs.iter.EdgesAtIterator.next.Goals as goal
