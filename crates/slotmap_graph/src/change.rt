@@ -238,7 +238,7 @@ impl<K: Key, N: Drop, E: Drop> Graph<K, N, E> {
     /// Removes all nodes and all edges. Their keys are never used again. The room and the
     /// capacity stay.
     ///
-    /// It takes time linear in the number of slots.
+    /// It takes time linear in the two capacities.
     ///
     /// ```
     /// let mut graph: Graph<NodeKey, &str, u64> = Graph::new(alloc)?;

@@ -21,8 +21,8 @@
 //!   edges.
 //! - [`Graph::reachable`] takes time linear in the number of nodes that it finds and of their edges, and
 //!   in the largest index of one of them.
-//! - [`Graph::topological_order`], [`Graph::clear`] and [`Graph::clone`] take time linear in the number
-//!   of slots of nodes and edges.
+//! - [`Graph::topological_order`] and [`Graph::clone`] take time linear in the number of slots of nodes
+//!   and edges, and [`Graph::clear`] in the two capacities.
 //!
 //! Memory is asked for only by the calls that make a graph, reserve room, add or copy, and by those that
 //! take an `alloc`.
