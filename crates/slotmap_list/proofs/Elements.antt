@@ -4,7 +4,7 @@ use Rattle.std.proofs.Common.{length, refl, sym, ap, ◌∙◌, inl, inr, arith,
 use Rattle.std.specs.Ordering.{eq_by_cmp}
 use Rattle.slotmap.specs.Words.{Key, key_cmp}
 use Rattle.slotmap.proofs.Callers.{keys_total, exact_keys, tied, untied, itself, same_or_other}
-use Rattle.slotmap_list.specs.Sequence.{value_of, first_or, last_or, key_after, key_before, put_after, put_before, without, with_value_at, IsOnce}
+use Rattle.slotmap_list.specs.Sequence.{value_of, first_or, last_or, key_after, key_before, from_key, put_after, put_before, without, with_value_at, IsOnce}
 
 abbrev pub same : Key → Key → Bool
 same q k = eq_by_cmp key_cmp q k
@@ -161,6 +161,10 @@ module _ {T : Type 0} where
     put_before-split x [] none = let here = itself_first k in cc
     put_before-split x (y ∷ ys) none = let apart = apart_first k y.0 (omega arith) in let rest = put_before-split x ys (omega arith) in cc
 
+    pub from_key-split : (ys : List (Key × T)) → times k ys ≡ 0 → from_key k (ys ++ (k, v) ∷ zs) ≡ (k, v) ∷ zs
+    from_key-split [] none = let here = itself_first k in cc
+    from_key-split (y ∷ ys) none = let apart = apart_first k y.0 (omega arith) in let rest = from_key-split ys (omega arith) in cc
+
     pub without-split : (ys : List (Key × T)) → times k ys ≡ 0 → without k (ys ++ (k, v) ∷ zs) ≡ ys ++ zs
     without-split [] none = let here = itself_first k in cc
     without-split (y ∷ ys) none = let apart = apart_first k y.0 (omega arith) in let rest = without-split ys (omega arith) in cc
@@ -183,6 +187,18 @@ module _ {T : Type 0} where
   key_before-absent k p [] none = refl
   key_before-absent k p (x ∷ xs) none = let apart = apart_first k x.0 (omega arith) in let rest = key_before-absent k (Some x.0) xs (omega arith) in cc
 
+  pub from_key-absent : (k : Key) (xs : List (Key × T)) → times k xs ≡ 0 → from_key k xs ≡ []
+  from_key-absent k [] none = refl
+  from_key-absent k (x ∷ xs) none = let apart = apart_first k x.0 (omega arith) in let rest = from_key-absent k xs (omega arith) in cc
+
   pub without-absent : (k : Key) (xs : List (Key × T)) → times k xs ≡ 0 → without k xs ≡ xs
   without-absent k [] none = refl
   without-absent k (x ∷ xs) none = let apart = apart_first k x.0 (omega arith) in let rest = without-absent k xs (omega arith) in cc
+
+  -- a value that is written changes no key
+  times-written : (q k : Key) (v : T) (xs : List (Key × T)) → times q (with_value_at k v xs) ≡ times q xs
+  times-written q k v [] = refl
+  times-written q k v (x ∷ xs) = by_key (λ b. times q (cond b ((x.0, v) ∷ xs) (x ∷ with_value_at k v xs)) ≡ times q (x ∷ xs)) k x.0 (λ _. refl) (λ _ _. ap (λ n. one q x.0 + n) (times-written q k v xs))
+
+  pub once-written : (k : Key) (v : T) (xs : List (Key × T)) → IsOnce xs → IsOnce (with_value_at k v xs)
+  once-written k v xs once = once_if (with_value_at k v xs) (λ q. (let few = at_most_once xs once q in let same = times-written q k v xs in omega arith))

@@ -3,10 +3,10 @@ use Rattle.std.proofs.Common.{◌≡◌, ◌≢◌, Bool, true, false, cond, Lis
 use Rattle.slotmap.specs.Words.{Key}
 use Rattle.slotmap.proofs.Callers.{keys_total, exact_keys, tied, same_or_other}
 use Rattle.slotmap_list.specs.Sequence.{value_of, first_or, last_or, without, moved_to_front, moved_to_back, put_again, IsOnce}
-use Rattle.slotmap_list.specs.Neighbours.{is_move, is_place, moved_to, put_by_place}
-use Rattle.slotmap_list.specs.declared.links.Side.TheVariants.{Before, After}
-use Rattle.slotmap_list.specs.declared.links.Place.{Place}
-use Rattle.slotmap_list.specs.declared.links.Place.TheVariants.{Front, Back, Beside}
+use Rattle.slotmap_list.specs.Places.{is_move, is_place, moved_to, put_by_place}
+use Rattle.slotmap_list.specs.declared.place.Side.TheVariants.{Before, After}
+use Rattle.slotmap_list.specs.declared.place.Place.{Place}
+use Rattle.slotmap_list.specs.declared.place.Place.TheVariants.{Front, Back, Beside}
 use Rattle.slotmap_list.proofs.Elements.{itself_first, last_or-append, other_key}
 use Rattle.slotmap_list.proofs.Callers.{put_after_here, put_after_other, put_before_here, put_before_other, pushed_here, pushed_other, without_other}
 use Rattle.slotmap_list.proofs.Moving.{move_stays, mover_stands, place_left, put_there}

@@ -1,13 +1,23 @@
 //! The calls that remove elements.
 
-ghost use Rattle.std.specs.Prelude.{◌≡◌, [], IfNone, IfSome, OnSome, IsSome, None, option_map};
-ghost use Rattle.slotmap.specs.Words.{Key as KeyOf, IsSpent, KeepsSpent, Leaves, Removes};
+ghost use Rattle.std.specs.Prelude.{◌≡◌, ◌+◌, ◌<◌, if◌then◌else◌, [], IfNone, IfSome, OnSome, IsSome, None, option_map};
+ghost use Rattle.slotmap.specs.Words.{Key as KeyOf, IsSpent, KeepsSpent, Leaves, Removes, is_last};
 ghost use Rattle.slotmap_list.specs.Sequence.{value_of, without, TakesFront, TakesBack};
 
 use crate::StableList;
-use crate::links::relink;
-use slotmap::{DefaultKey, Key};
-use slotmap_keylist::{KeyOrNull, inner, outer};
+use slotmap::{Key, KeyData};
+
+// How many slots are in use once a key was removed. Its slot isn't, unless that was its last key.
+fn used_without(used: usize, key: KeyData) -> usize
+    requires { 0 < used }
+    ensures { result + (if is_last key then 0 else 1) ≡ used }
+{
+    if key.version() == u32::MAX {
+        used
+    } else {
+        used - 1
+    }
+}
 
 impl<K: Key, T: Drop> StableList<K, T> {
     /// Removes the element of a cursor, and returns its value, or `None` if the cursor isn't in the
@@ -30,32 +40,11 @@ impl<K: Key, T: Drop> StableList<K, T> {
         ensures capacity { self.new.cursors.capacity ≡ self.old.cursors.capacity }
         ensures stale { IfNone result (self.new ≡ self.old) }
     {
-        self.take(inner(cursor))
-    }
-
-    // Removes the element of a key.
-    pub(crate) fn take(&mut self, cursor: DefaultKey) -> Option<T>
-        ensures value { result ≡ value_of cursor self.old.elements }
-        ensures removed { self.new.elements ≡ without cursor self.old.elements }
-        ensures absent { value_of cursor self.new.elements ≡ None }
-        ensures cursors { OnSome result (Removes self.old.cursors cursor self.new.cursors) }
-        ensures for_good { OnSome result (IsSpent self.new.cursors cursor) }
-        ensures gone { KeepsSpent self.old.cursors self.new.cursors }
-        ensures leaves { Leaves self.old.cursors self.new.cursors }
-        ensures capacity { self.new.cursors.capacity ≡ self.old.cursors.capacity }
-        ensures stale { IfNone result (self.new ≡ self.old) }
-    {
-        let node = self.nodes.remove(cursor)?;
-        relink(
-            &mut self.nodes,
-            &mut self.first,
-            &mut self.last,
-            node.prev.copied(),
-            node.next.copied(),
-            node.next,
-            node.prev,
-        );
-        Some(node.value)
+        let value = self.values.remove(cursor)?;
+        let key = cursor.data();
+        self.links.take_out(0, key.idx());
+        self.used = used_without(self.used, key);
+        Some(value)
     }
 
     /// Removes the element at the front, and returns its cursor and its value, or `None` if the list
@@ -77,9 +66,9 @@ impl<K: Key, T: Drop> StableList<K, T> {
         ensures capacity { self.new.cursors.capacity ≡ self.old.cursors.capacity }
         ensures empty { IfNone result (self.new ≡ self.old) }
     {
-        let cursor = self.first.get()?;
-        let value = self.take(cursor)?;
-        Some((outer(cursor), value))
+        let cursor = self.first()?;
+        let value = self.remove(cursor)?;
+        Some((cursor, value))
     }
 
     /// Removes the element at the back, and returns its cursor and its value, or `None` if the list
@@ -101,9 +90,9 @@ impl<K: Key, T: Drop> StableList<K, T> {
         ensures capacity { self.new.cursors.capacity ≡ self.old.cursors.capacity }
         ensures empty { IfNone result (self.new ≡ self.old) }
     {
-        let cursor = self.last.get()?;
-        let value = self.take(cursor)?;
-        Some((outer(cursor), value))
+        let cursor = self.last()?;
+        let value = self.remove(cursor)?;
+        Some((cursor, value))
     }
 
     /// Removes all elements. Their cursors are never used again. The room and the capacity stay.
@@ -122,8 +111,6 @@ impl<K: Key, T: Drop> StableList<K, T> {
         ensures leaves { Leaves self.old.cursors self.new.cursors }
         ensures capacity { self.new.cursors.capacity ≡ self.old.cursors.capacity }
     {
-        self.nodes.clear();
-        self.first = KeyOrNull::none();
-        self.last = KeyOrNull::none();
+        while self.pop_front().is_some() {}
     }
 }

@@ -1,0 +1,99 @@
+-- What the parts of a list say of its elements.
+use Rattle.std.proofs.Common.{◌≡◌, ℕ, ◌<◌, ◌≤◌, Bool, true, false, List, [], Option, Some, None, is_some, option_map, option_copied, Bor, refl, sym, ap, ◌∙◌, arith}
+use Rattle.std.specs.FinMap as map
+use Rattle.slotmap.specs.Words.{Key, key_cmp, Content, IsLive}
+use Rattle.slotmap_links.specs.Lists as numbers
+use Rattle.slotmap_links.specs.Lists.{Lists, list_of, times, IsIn}
+use Rattle.slotmap_list.specs.Sequence.{value_of, first_or, last_or, key_after, key_before, from_key, without, IsOnce}
+use Rattle.slotmap_list.specs.Kept.{elements_at, key_of, IsKept}
+use Rattle.slotmap_list.proofs.Elements as keys
+use Rattle.slotmap_list.proofs.Elements.{times_none, key_after-absent, key_before-absent, from_key-absent, without-absent}
+use Rattle.slotmap_list.proofs.Indices.{first_at, last_at}
+use Rattle.slotmap_list.proofs.Parts.{IsAt, stands_at, value_none, value_there, next_there, prev_there, from_at, element_without, elements_once}
+
+-- a look-up that copies nothing found nothing
+pub nothing_copied : {A : Type 0} (r : Option (Bor A)) → option_copied r ≡ None → r ≡ None
+nothing_copied None is = refl
+nothing_copied (Some x) is = absurd (cc)
+
+module _ {T : Type 0} {c : Content T} {s : Lists} {used : ℕ} (kept : IsKept c s used) where
+  abbrev is : List ℕ
+  is = list_of s 0
+
+  abbrev es : List (Key × T)
+  es = elements_at c.live is
+
+  pub no_key_twice : IsOnce es
+  no_key_twice = elements_once c.live is kept.once
+
+  -- a live key stands in the list
+  pub stands : (k : Key) (v : T) → map.get c.live k ≡ Some v → IsAt c.live is k v
+  stands k v found = stands_at c.live is kept.indices kept.once k v found (kept.all k (ap is_some found))
+
+  -- a key has the value that the map has under it
+  pub value_at : (k : Key) → value_of k es ≡ map.get c.live k
+  value_at k = by (map.get c.live k) refl
+    where
+      by : (o : Option T) → map.get c.live k ≡ o → value_of k es ≡ o
+      by None found = value_none c.live k is found
+      by (Some v) found = value_there c.live is kept.indices kept.once k v found (kept.all k (ap is_some found)) (stands k v found)
+
+  pub stands_if : (k : Key) → map.contains_key c.live k ≡ is_some (value_of k es)
+  stands_if k = sym (ap is_some (value_at k))
+
+  -- a key that isn't live doesn't stand
+  module _ (k : Key) (gone : map.contains_key c.live k ≡ false) where
+    absent : keys.times k es ≡ 0
+    absent = times_none k es (by (map.get c.live k) (value_at k) gone)
+      where
+        by : (o : Option T) → value_of k es ≡ o → is_some o ≡ false → value_of k es ≡ None
+        by None is none = is
+        by (Some v) is none = absurd (cc)
+
+    pub after_gone : None ≡ key_after k es
+    after_gone = sym (key_after-absent k es absent)
+
+    pub before_gone : None ≡ key_before None k es
+    before_gone = sym (key_before-absent k None es absent)
+
+    pub from_gone : [] ≡ from_key k es
+    from_gone = sym (from_key-absent k es absent)
+
+    pub without_gone : es ≡ without k es
+    without_gone = sym (without-absent k es absent)
+
+  -- what is beside a key that stands, by the indices
+  module _ (k : Key) (live : map.contains_key c.live k ≡ true) where
+    of_live : (P : Type 0) → ((v : T) → map.get c.live k ≡ Some v → P) → P
+    of_live P so = by (map.get c.live k) refl live
+      where
+        by : (o : Option T) → map.get c.live k ≡ o → is_some o ≡ true → P
+        by None found some = absurd (cc)
+        by (Some v) found some = so v found
+
+    pub after_live : key_of c.live (numbers.number_after k.index is) ≡ key_after k es
+    after_live = of_live (key_of c.live (numbers.number_after k.index is) ≡ key_after k es) (λ v found. next_there c.live is kept.indices kept.once k v found (kept.all k live) (stands k v found))
+
+    pub before_live : key_of c.live (numbers.number_before None k.index is) ≡ key_before None k es
+    before_live = of_live (key_of c.live (numbers.number_before None k.index is) ≡ key_before None k es) (λ v found. prev_there c.live is kept.indices kept.once k v found (kept.all k live) (stands k v found))
+
+    pub from_live : elements_at c.live (numbers.numbers_from k.index is) ≡ from_key k es
+    from_live = of_live (elements_at c.live (numbers.numbers_from k.index is) ≡ from_key k es) (λ v found. from_at c.live is kept.indices kept.once k v found (kept.all k live) (stands k v found))
+
+  -- the keys beside one that stands, and those at the two ends, as the calls find them
+  module _ {K : Type 0} (data_of : K → Key) (r : Option K) (number : Option ℕ) (finds : option_map data_of r ≡ key_of c.live number) where
+    pub first_is : number ≡ numbers.first_or is None → option_map data_of r ≡ first_or es None
+    first_is at = finds ∙ ap (key_of c.live) at ∙ first_at is kept.indices
+
+    pub last_is : number ≡ numbers.last_or is None → option_map data_of r ≡ last_or es None
+    last_is at = finds ∙ ap (key_of c.live) at ∙ last_at is kept.indices
+
+    module _ (k : Key) (live : map.contains_key c.live k ≡ true) (i : ℕ) (same : i ≡ k.index) where
+      inside : IsIn s 0 i
+      inside = rw same (kept.all k live)
+
+      pub after_is : ((p : ℕ) → IsIn s p i → number ≡ numbers.number_after i (list_of s p)) → option_map data_of r ≡ key_after k es
+      after_is at = finds ∙ ap (key_of c.live) (at 0 inside ∙ ap (λ j. numbers.number_after j is) same) ∙ after_live k live
+
+      pub before_is : ((p : ℕ) → IsIn s p i → number ≡ numbers.number_before None i (list_of s p)) → option_map data_of r ≡ key_before None k es
+      before_is at = finds ∙ ap (key_of c.live) (at 0 inside ∙ ap (λ j. numbers.number_before None j is) same) ∙ before_live k live
