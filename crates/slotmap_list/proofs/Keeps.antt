@@ -34,7 +34,7 @@ free_one s k owner below none = record { within = below; nowhere = nowhere }
     nowhere (suc p) = ap (times k) (get_or-eq_default s.lists [] {n = suc p} (omega arith))
 
 module _ {T : Type 0} where
-  get-remove_here : (m : map.FinMap key_cmp T) (k : Key) → map.get (map.remove m k) k ≡ None
+  pub get-remove_here : (m : map.FinMap key_cmp T) (k : Key) → map.get (map.remove m k) k ≡ None
   get-remove_here m k = grind (arith, map.get-remove keys_total m k k, itself keys_total exact_keys k)
 
   get-remove_other : (m : map.FinMap key_cmp T) (k q : Key) → q ≢ k → map.get (map.remove m k) q ≡ map.get m q
@@ -171,9 +171,10 @@ module _ {T : Type 0} {c : Content T} {s : Lists} {count : ℕ} (kept : IsKept c
         still q other of_q = ap is_some (get-remove_other c.live k q other) ∙ of_q
 
     -- the others have the same elements in the new map
-    pub elements_taken : (new : Content T) → Removes c k new → elements_at new.live rest ≡ without k (elements_at c.live is)
+    pub elements_taken : (new : Content T) → Removes c k new → elements_at new.live (list_of (with_list s 0 rest) 0) ≡ without k (elements_at c.live is)
     elements_taken new removes =
-        elements_stay new.live rest rest_indices (λ i e more at. (
+        ap (elements_at new.live) (list_now s 0 rest there)
+        ∙ elements_stay new.live rest rest_indices (λ i e more at. (
             let f = at_is c.live i e at in
             let other : e.0 ≢ k = λ same_key. (let h = ap (λ j. times j rest) (sym f.0 ∙ ap (λ (q : Key). q.index) same_key) in let gone = times_gone k.index is in absurd (omega arith)) in
             let now : map.get new.live e.0 ≡ Some e.1 = ap (λ m. map.get m e.0) removes.live ∙ get-remove_other c.live k e.0 other ∙ f.1 in
@@ -199,9 +200,11 @@ module _ {T : Type 0} {c : Content T} {s : Lists} {count : ℕ} (kept : IsKept c
           let all = taken i in
           omega arith
 
+      now : list_of (with_list (with_list s 0 rest) 0 again) 0 ≡ again
+      now = list_now (with_list s 0 rest) 0 again (let long = owners_stay s 0 rest in let one = kept.owner in omega arith)
+
       pub kept_moved : IsKept c (with_list (with_list s 0 rest) 0 again) count
       kept_moved =
-          let now = list_now (with_list s 0 rest) 0 again (let long = owners_stay s 0 rest in let one = kept.owner in omega arith) in
           let covered = kept.covered in
           record {
             owner = owners_stay (with_list s 0 rest) 0 again ∙ owners_stay s 0 rest ∙ kept.owner;
@@ -212,11 +215,11 @@ module _ {T : Type 0} {c : Content T} {s : Lists} {count : ℕ} (kept : IsKept c
             covered = covered;
           }
 
-      pub elements_moved : elements_at c.live again ≡ put_by_place place (k, v) (without k (elements_at c.live is))
+      pub elements_moved : elements_at c.live (list_of (with_list (with_list s 0 rest) 0 again) 0) ≡ put_by_place place (k, v) (without k (elements_at c.live is))
       elements_moved =
           let at = spot in
           let none_before = parts_of at.before at.after at.list in
-          ap (elements_at c.live) (at.number k.index)
+          ap (elements_at c.live) (now ∙ at.number k.index)
           ∙ placed c.live c.live k v kept.indices.apart found (λ q u other is. is) at.before at.after none_before.0 none_before.1 none_before.2 none_before.3
           ∙ sym (at.element (k, v)) ∙ ap (put_by_place place (k, v)) rest_elements
         where
@@ -302,13 +305,13 @@ module _ {T : Type 0} {c : Content T} {s : Lists} {count : ℕ} (kept : IsKept c
           },
         )
 
-    pub elements_put : elements_at new.live more_is ≡ put_by_place place (k, v) (elements_at c.live is)
+    pub elements_put : elements_at new.live (list_of (with_list s 0 more_is) 0) ≡ put_by_place place (k, v) (elements_at c.live is)
     elements_put =
         let at = spot_new in
         let none = none_yet in
         let sum : (i : ℕ) → times i is ≡ times i at.before + times i at.after = λ i. ap (times i) at.list ∙ times_joined i at.before at.after in
         let own = sum k.index in
-        ap (elements_at new.live) (at.number k.index)
+        ap (elements_at new.live) (list_now s 0 more_is there ∙ at.number k.index)
         ∙ placed c.live new.live k v (content_apart new well_new) here (λ q u other is. others q u is (λ e. other (ap (λ (q : Key). q.index) e))) at.before at.after
         (record { apart = kept.indices.apart; live = λ i more. kept.indices.live i (let all = sum i in omega arith) })
         (record { apart = kept.indices.apart; live = λ i more. kept.indices.live i (let all = sum i in omega arith) })

@@ -10,6 +10,7 @@ pub mod Looks
 pub mod Moving
 pub mod Parts
 pub mod Pops
+pub mod Results
 pub mod Room
 pub mod Seen
 pub mod Swapping

@@ -11,7 +11,7 @@ use Rattle.slotmap_links.proofs.Linking.{in_midst, split_at, without_split}
 use Rattle.slotmap_links.proofs.SeenLists.{after_there, before_there, not_first, not_later, put_before_there, put_behind_there}
 use Rattle.slotmap_list.specs.Sequence.{value_of, first_or, last_or, key_after, key_before, from_key, put_after, put_before, without, IsOnce}
 use Rattle.slotmap_list.specs.Kept.{at_index, elements_at, key_of, AreIndices}
-use Rattle.slotmap_list.specs.Places.{is_place, put_by_place, put_number}
+use Rattle.slotmap_list.specs.Places.{has_place, is_place, put_by_place, put_number}
 use Rattle.slotmap_list.specs.declared.place.Side.{Side}
 use Rattle.slotmap_list.specs.declared.place.Side.TheVariants.{Before, After}
 use Rattle.slotmap_list.specs.declared.place.Place.{Place}
@@ -111,6 +111,11 @@ module _ {T : Type 0} (m : map.FinMap key_cmp T) where
     pub list : is ≡ before ++ after
     pub number : (i : ℕ) → put_number place i is ≡ before ++ i ∷ after
     pub element : (x : Key × T) → put_by_place place x (elements_at m is) ≡ elements_at m before ++ x ∷ elements_at m after
+
+  pub place_there : (place : Place) (is : List ℕ) → is_place place (elements_at m is) ≡ true → has_place place is
+  place_there Front is there = tt
+  place_there Back is there = tt
+  place_there (Beside side k) is there = (value_in k is there).1
 
   module _ (is : List ℕ) (all : AreIndices m is) (once : (i : ℕ) → times i is ≤ 1) where
     pub place_in : (place : Place) → is_place place (elements_at m is) ≡ true → IsPlace is place

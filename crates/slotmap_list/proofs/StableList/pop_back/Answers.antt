@@ -1,0 +1,1 @@
+use Rattle.slotmap_list.proofs.StableList.pop_back.Goals as goal

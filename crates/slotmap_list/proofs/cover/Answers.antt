@@ -1,0 +1,1 @@
+use Rattle.slotmap_list.proofs.cover.Goals as goal

@@ -1,0 +1,1 @@
+use Rattle.slotmap_list.proofs.one_list.Goals as goal

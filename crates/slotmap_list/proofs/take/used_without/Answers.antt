@@ -1,0 +1,1 @@
+use Rattle.slotmap_list.proofs.take.used_without.Goals as goal
