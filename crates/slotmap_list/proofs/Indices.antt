@@ -10,7 +10,7 @@ use Rattle.slotmap.specs.Words.{Key, key_cmp, Content, IsContent, IsLive}
 use Rattle.slotmap.proofs.Callers.{keys_total, exact_keys, tied, itself, same_or_other}
 use Rattle.slotmap_links.specs.Lists as numbers
 use Rattle.slotmap_links.specs.Lists.{times}
-use Rattle.slotmap_links.proofs.Counts.{same, times_first, one_itself}
+use Rattle.slotmap_links.proofs.Counts.{same, times_first, times_joined, one_itself}
 use Rattle.slotmap_list.specs.Sequence.{first_or, last_or}
 use Rattle.slotmap_list.proofs.Elements as keys
 use Rattle.slotmap_list.specs.Kept.{with_value, at_index, elements_at, key_of, AreIndices}
@@ -159,3 +159,26 @@ module _ {T : Type 0} {m : map.FinMap key_cmp T} where
       let e = element_of all i (in_first i is) in
       elements_first n i is e.0 (stay i e.0 (in_first i is) e.1) ∙ ap (λ l. e.0 ∷ l) (elements_stay n is (rest_indices all) (λ q f more. stay q f (in_rest i q is more)))
       ∙ sym (elements_first m i is e.0 e.1)
+
+-- a step along a list of indices, from either end
+module _ {T : Type 0} {m : map.FinMap key_cmp T} {is : List ℕ} (all : AreIndices m is) (i : ℕ) (rest : List ℕ) where
+  -- an index of the list is that of a live key
+  module _ (there : 0 < times i is) where
+    pub live_there : ((k : Key) → map.contains_key m k ≡ true → k.index ≢ i) → ⊥
+    live_there none = let gone = none_at m i none in let e = element_of all i there in cc
+
+  module _ (k : Key) (v : T) (index : k.index ≡ i) (found : map.get m k ≡ Some v) where
+    here : at_index m i ≡ Some (k, v)
+    here = ap (at_index m) (sym index) ∙ at_live m all.apart k v found
+
+    pub front_is : is ≡ i ∷ rest → elements_at m is ≡ (k, v) ∷ elements_at m rest
+    front_is front = ap (elements_at m) front ∙ elements_first m i rest (k, v) here
+
+    pub back_is : is ≡ rest ++ i ∷ [] → elements_at m is ≡ elements_at m rest ++ (k, v) ∷ []
+    back_is back = ap (elements_at m) back ∙ elements-append m rest (i ∷ []) ∙ ap (λ l. elements_at m rest ++ l) (elements_first m i [] (k, v) here)
+
+  pub front_there : is ≡ i ∷ rest → 0 < times i is
+  front_there front = let same_often = ap (times i) front in let one = in_first i rest in omega arith
+
+  pub back_there : is ≡ rest ++ i ∷ [] → 0 < times i is
+  back_there back = let same_often = ap (times i) back ∙ times_joined i rest (i ∷ []) in let one = in_first i [] in omega arith

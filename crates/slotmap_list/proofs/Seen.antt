@@ -1,20 +1,32 @@
 -- What the parts of a list say of its elements.
-use Rattle.std.proofs.Common.{◌≡◌, ℕ, ◌<◌, ◌≤◌, Bool, true, false, List, [], Option, Some, None, is_some, option_map, option_copied, Bor, refl, sym, ap, ◌∙◌, arith}
+use Rattle.std.proofs.Common.{◌≡◌, ℕ, ◌<◌, ◌≤◌, Bool, true, false, cond, nat_eq, List, [], ◌∷◌, length, Option, Some, None, is_some, option_map, option_copied, Bor, refl, sym, ap, subst, ◌∙◌, arith}
 use Rattle.std.specs.FinMap as map
 use Rattle.slotmap.specs.Words.{Key, key_cmp, Content, IsLive}
 use Rattle.slotmap_links.specs.Lists as numbers
 use Rattle.slotmap_links.specs.Lists.{Lists, list_of, times, IsIn}
 use Rattle.slotmap_list.specs.Sequence.{value_of, first_or, last_or, key_after, key_before, from_key, without, IsOnce}
-use Rattle.slotmap_list.specs.Kept.{elements_at, key_of, IsKept}
+use Rattle.slotmap_links.proofs.Counts.{times_first}
+use Rattle.slotmap_list.specs.Kept.{elements_at, key_of, IsKept, IsRest}
 use Rattle.slotmap_list.proofs.Elements as keys
 use Rattle.slotmap_list.proofs.Elements.{times_none, key_after-absent, key_before-absent, from_key-absent, without-absent}
-use Rattle.slotmap_list.proofs.Indices.{first_at, last_at}
+use Rattle.slotmap_list.proofs.Indices.{elements_long, first_at, last_at}
 use Rattle.slotmap_list.proofs.Parts.{IsAt, stands_at, value_none, value_there, next_there, prev_there, from_at, element_without, elements_once}
 
 -- a look-up that copies nothing found nothing
 pub nothing_copied : {A : Type 0} (r : Option (Bor A)) → option_copied r ≡ None → r ≡ None
 nothing_copied None is = refl
 nothing_copied (Some x) is = absurd (cc)
+
+-- what is left of a list of indices from one on is part of it
+few_from : (k i : ℕ) (ks : List ℕ) → (times i (numbers.numbers_from k ks) ≤ times i ks) × (length (numbers.numbers_from k ks) ≤ length ks)
+few_from k i [] = (omega arith, omega arith)
+few_from k i (q ∷ ks) =
+    let first = times_first i q ks in
+    let rest = few_from k i ks in
+    elim (nat_eq q k) as (λ b. (times i (cond b (q ∷ ks) (numbers.numbers_from k ks)) ≤ times i (q ∷ ks)) × (length (cond b (q ∷ ks) (numbers.numbers_from k ks)) ≤ length (q ∷ ks))) [
+      | true ↦ (omega arith, omega arith)
+      | false ↦ (omega arith, omega arith)
+    ]
 
 module _ {T : Type 0} {c : Content T} {s : Lists} {used : ℕ} (kept : IsKept c s used) where
   abbrev is : List ℕ
@@ -97,3 +109,17 @@ module _ {T : Type 0} {c : Content T} {s : Lists} {used : ℕ} (kept : IsKept c 
 
       pub before_is : ((p : ℕ) → IsIn s p i → number ≡ numbers.number_before None i (list_of s p)) → option_map data_of r ≡ key_before None k es
       before_is at = finds ∙ ap (key_of c.live) (at 0 inside ∙ ap (λ j. numbers.number_before None j is) same) ∙ before_live k live
+
+  -- an iterator from a key on has what stands from there
+  module _ (k : Key) (live : map.contains_key c.live k ≡ true) (i : ℕ) (same : i ≡ k.index) (from : List ℕ) (at : (p : ℕ) → IsIn s p i → from ≡ numbers.numbers_from i (list_of s p)) where
+    from_is : from ≡ numbers.numbers_from k.index is
+    from_is = at 0 (rw same (kept.all k live)) ∙ ap (λ j. numbers.numbers_from j is) same
+
+    pub rest_begins : (most : ℕ) → most ≡ length es → IsRest c.live from most
+    rest_begins most long = subst (λ l. IsRest c.live l most) (sym from_is) (record {
+      indices = record { apart = kept.indices.apart; live = λ j more. kept.indices.live j (let few = (few_from k.index j is).0 in omega arith) };
+      few = (let few = (few_from k.index 0 is).1 in let all = elements_long is kept.indices in omega arith);
+    })
+
+    pub rest_elements : elements_at c.live from ≡ from_key k es
+    rest_elements = ap (elements_at c.live) from_is ∙ from_live k live

@@ -4,7 +4,7 @@ ghost use Rattle.std.specs.Prelude.{◌≡◌, ◌+◌, ◌<◌, if◌then◌els
 ghost use Rattle.slotmap.specs.Words.{Key as KeyOf, IsSpent, KeepsSpent, Leaves, Removes, is_last};
 ghost use Rattle.slotmap_list.specs.Sequence.{value_of, without, TakesFront, TakesBack};
 
-use crate::StableList;
+use crate::{StableList, key_at};
 use slotmap::{Key, KeyData};
 
 // How many slots are in use once a key was removed. Its slot isn't, unless that was its last key.
@@ -90,7 +90,7 @@ impl<K: Key, T: Drop> StableList<K, T> {
         ensures capacity { self.new.cursors.capacity ≡ self.old.cursors.capacity }
         ensures empty { IfNone result (self.new ≡ self.old) }
     {
-        let cursor = self.last()?;
+        let cursor = key_at(&self.values, self.links.last(0))?;
         let value = self.remove(cursor)?;
         Some((cursor, value))
     }

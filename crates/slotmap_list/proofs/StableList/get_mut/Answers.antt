@@ -1,0 +1,1 @@
+use Rattle.slotmap_list.proofs.StableList.get_mut.Goals as goal
