@@ -1,9 +1,14 @@
 -- The values at the two ends of a list, and a write there.
-use Rattle.std.proofs.Common.{◌≡◌, ◌-◌, cond, List, [], ◌∷◌, ◌++◌, length, map as list_map, Option, Some, None, unwrap_or, refl, sym, ap, subst, ◌∙◌, arith, length-append}
+use Rattle.std.proofs.Common.{◌≡◌, ◌-◌, cond, List, [], ◌∷◌, ◌++◌, length, map as list_map, Option, Some, None, option_map, unwrap_or, refl, sym, ap, subst, ◌∙◌, arith, length-append}
 use Rattle.std.specs.List.{slice_get}
 use Rattle.slotmap.specs.Words.{Key}
 use Rattle.slotmap_list.specs.Sequence.{value_of, first_or, last_or, with_first, with_last, with_value_at, IsOnce}
 use Rattle.slotmap_list.proofs.Elements.{itself_first, no_last, back_of, absent_before, value_of-split, with_value-split}
+
+-- a key, or else another one, by their data
+pub data_or : {K : Type 0} (data_of : K → Key) (o : Option K) (d : K) → data_of (unwrap_or o d) ≡ unwrap_or (option_map data_of o) (data_of d)
+data_or data_of None d = refl
+data_or data_of (Some k) d = refl
 
 module _ {T : Type 0} where
   abbrev values : List (Key × T) → List T

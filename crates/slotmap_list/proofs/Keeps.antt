@@ -11,11 +11,11 @@ use Rattle.slotmap_links.specs.Lists as numbers
 use Rattle.slotmap_links.specs.Lists.{Lists, list_of, with_list, times, IsFree}
 use Rattle.slotmap_links.proofs.Callers.{list_now, owners_stay}
 use Rattle.slotmap_links.proofs.Counts.{same, same_or_other as same_or_not, one_itself, one_other, times_first, times_joined, times_gone}
-use Rattle.slotmap_list.specs.Sequence.{value_of, without, with_value_at}
-use Rattle.slotmap_list.specs.Kept.{at_index, elements_at, AreIndices, IsKept}
+use Rattle.slotmap_list.specs.Sequence.{Sequence, without, with_value_at}
+use Rattle.slotmap_list.specs.Kept.{at_index, cursors_of, elements_at, AreIndices, IsKept}
 use Rattle.slotmap_list.specs.Places.{is_place, put_by_place, put_number}
 use Rattle.slotmap_list.specs.declared.place.Place.{Place}
-use Rattle.slotmap_list.proofs.Room.{used_kept, used_inserted, places_covered}
+use Rattle.slotmap_list.proofs.Room.{cursors_written, used_kept, used_inserted, places_covered}
 use Rattle.slotmap_list.proofs.Elements.{with_value-split}
 use Rattle.slotmap_list.proofs.Indices.{at_is, at_live, content_apart, element_of, elements_first, elements_stay, in_first, rest_indices as indices_behind}
 use Rattle.slotmap_list.proofs.Parts.{IsPlace, place_in, placed, part_stays, IsAt, stands_at, number_without, element_without}
@@ -116,6 +116,11 @@ module _ {T : Type 0} {c : Content T} {s : Lists} {count : ℕ} (kept : IsKept c
             ∙ placed c.live written.live k w apart_written (get-insert_here c.live k w) (λ q u other is. get-insert_other c.live k w q (λ e. other (ap (λ (q : Key). q.index) e)) ∙ is)
             at.before at.after at.before_indices at.after_indices at.not_before at.not_after
             ∙ sym (ap (with_value_at k w) at.elements ∙ with_value-split k v (elements_at c.live at.after) w (elements_at c.live at.before) at.no_element)
+
+    -- what the model of the list is then
+    pub seen_written : ◌≡◌ {A = Sequence T} (record { elements = elements_at written.live is; cursors = cursors_of written s.members })
+        (record { elements = with_value_at k w (elements_at c.live is); cursors = cursors_of c s.members })
+    seen_written = let same_cursors = cursors_written c written s.members k w live refl in λ i. record { elements = elements_written i; cursors = same_cursors i }
 
   -- a key is taken out, and it is in no place for now
   module _ (k : Key) (v : T) (found : map.get c.live k ≡ Some v) where

@@ -7,8 +7,8 @@ ghost use Rattle.slotmap.specs.Words.{Key as KeyOf};
 ghost use Rattle.slotmap_list.specs.Sequence.{value_of, first_or, last_or, moved_to_front, moved_to_back, moved_after, moved_before, are_two, Swaps};
 ghost use Rattle.slotmap_list.specs.Places.{is_move, moved_to, before_or_back};
 
-use crate::StableList;
 use crate::place::{Place, Side, put_index};
+use crate::{StableList, key_at};
 use slotmap::Key;
 
 // The place before a cursor, or the back if there is none.
@@ -40,7 +40,10 @@ impl<K: Key, T: Drop> StableList<K, T> {
         ensures* writes_back { sem 𝓛 (lends_element K.row T.row self.entry (K.data_of cursor) result) }
         ensures value { option_copied_mut result ≡ value_of (K.data_of cursor) self.old.elements }
     {
-        self.values.get_mut(cursor)
+        match self.values.get_mut(cursor) {
+            Some(value) => Some(value),
+            None => None,
+        }
     }
 
     /// Returns a mutable reference to the value at the front, or `None` if the list is empty.
@@ -60,8 +63,11 @@ impl<K: Key, T: Drop> StableList<K, T> {
         ensures* writes_back { sem 𝓛 (lends_first K.row T.row self.entry result) }
         ensures value { option_copied_mut result ≡ slice_get (list_map (λ e. e.1) self.old.elements) 0 }
     {
-        let cursor = self.first().unwrap_or(K::null());
-        self.values.get_mut(cursor)
+        let cursor = key_at(&self.values, self.links.first(0)).unwrap_or(K::null());
+        match self.values.get_mut(cursor) {
+            Some(value) => Some(value),
+            None => None,
+        }
     }
 
     /// Returns a mutable reference to the value at the back, or `None` if the list is empty.
@@ -81,8 +87,11 @@ impl<K: Key, T: Drop> StableList<K, T> {
         ensures* writes_back { sem 𝓛 (lends_last K.row T.row self.entry result) }
         ensures value { option_copied_mut result ≡ slice_get (list_map (λ e. e.1) self.old.elements) (length self.old.elements - 1) }
     {
-        let cursor = self.last().unwrap_or(K::null());
-        self.values.get_mut(cursor)
+        let cursor = key_at(&self.values, self.links.last(0)).unwrap_or(K::null());
+        match self.values.get_mut(cursor) {
+            Some(value) => Some(value),
+            None => None,
+        }
     }
 
     /// Moves the element of a cursor to the front. It returns `false` if the cursor isn't in the list.
