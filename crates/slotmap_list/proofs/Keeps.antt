@@ -72,6 +72,7 @@ module _ {T : Type 0} {c : Content T} {s : Lists} {count : ℕ} (kept : IsKept c
         owner = ap length lists ∙ kept.owner;
         indices = subst (λ (x : map.FinMap key_cmp T × List ℕ). AreIndices x.0 x.1) (λ i. (sym keeps.live i, sym same i)) kept.indices;
         once = subst (λ l. (i : ℕ) → times i l ≤ 1) (sym same) kept.once;
+        within = λ i inside. (let has = ap (times i) same in let below = kept.within i (omega arith) in omega arith);
         all = λ k live. subst (λ l. 0 < times k.index l) (sym same) (kept.all k (ap (λ m. map.contains_key m k) (sym keeps.live) ∙ live));
         used_is = omega arith;
         covered = omega arith;
@@ -100,6 +101,7 @@ module _ {T : Type 0} {c : Content T} {s : Lists} {count : ℕ} (kept : IsKept c
           owner = kept.owner;
           indices = indices_by written.live is apart_written (λ i more. let q = key_in c.live is kept.indices i more in (q.0, same_keys q.0 ∙ q.1, q.2));
           once = kept.once;
+          within = kept.within;
           all = λ q of_q. kept.all q (sym (same_keys q) ∙ of_q);
           used_is = omega arith;
           covered = omega arith;
@@ -155,6 +157,7 @@ module _ {T : Type 0} {c : Content T} {s : Lists} {count : ℕ} (kept : IsKept c
               let other : q.0 ≢ k = λ e. (let h = ap (λ j. times j rest) (sym q.2 ∙ ap (λ (q : Key). q.index) e) in absurd (omega arith)) in
               (q.0, ap (λ m. map.contains_key m q.0) removes.live ∙ still q.0 other q.1, q.2))));
           once = subst (λ l. (i : ℕ) → times i l ≤ 1) (sym now) rest_once;
+          within = λ i inside. (let has = ap (times i) now in let all = taken i in kept.within i (omega arith));
           all = λ q of_q. subst (λ l. 0 < times q.index l) (sym now) (
               let was = back q of_q in
               let more = kept.all q was.1 in
@@ -215,6 +218,7 @@ module _ {T : Type 0} {c : Content T} {s : Lists} {count : ℕ} (kept : IsKept c
             owner = owners_stay (with_list s 0 rest) 0 again ∙ owners_stay s 0 rest ∙ kept.owner;
             indices = subst (AreIndices c.live) (sym now) (record { apart = kept.indices.apart; live = λ i more. kept.indices.live i (let all = as_often_again i in omega arith) });
             once = subst (λ l. (i : ℕ) → times i l ≤ 1) (sym now) (λ i. (let all = as_often_again i in let few = kept.once i in omega arith));
+            within = λ i inside. (let has = ap (times i) now in let all = as_often_again i in kept.within i (omega arith));
             all = λ q of_q. subst (λ l. 0 < times q.index l) (sym now) (let all = as_often_again q.index in let more = kept.all q of_q in omega arith);
             used_is = kept.used_is;
             covered = covered;
@@ -301,6 +305,10 @@ module _ {T : Type 0} {c : Content T} {s : Lists} {count : ℕ} (kept : IsKept c
               | inl at ↦ subst (λ i. times i more_is ≤ 1) at (let all = many_new k.index in omega arith)
               | inr other ↦ (let all = many_new i in let not_here = one_other k.index i other in let few = kept.once i in omega arith)
             ]);
+            within = λ i inside. (let has = ap (times i) now in let all = many_new i in elim (same_or_not k.index i) [
+              | inl at ↦ omega arith
+              | inr other ↦ (let not_here = one_other k.index i other in kept.within i (omega arith))
+            ]);
             all = λ q of_q. subst (λ l. 0 < times q.index l) (sym now) (elim (same_or_other q k) [
               | inl at ↦ (let all = many_new k.index in let h = ap (λ (q : Key). times q.index more_is) at in omega arith)
               | inr other ↦ (let all = many_new q.index in let more = kept.all q (ap is_some (sym (get-insert_other c.live k v q other)) ∙ ap (λ m. map.contains_key m q) (sym inserts.live) ∙ of_q) in omega arith)
@@ -340,6 +348,7 @@ module _ {T : Type 0} (is_clone : T → T → Type 0) {c copy : Content T} {s : 
         owner = kept.owner;
         indices = indices_by copy.live (list_of s 0) apart_copied (λ i more. let q = key_in c.live (list_of s 0) kept.indices i more in (q.0, same_live q.0 ∙ q.1, q.2));
         once = kept.once;
+        within = kept.within;
         all = λ k live. kept.all k (sym (same_live k) ∙ live);
         used_is = omega (arith, ap set.len clones.detached, ap set.len clones.retired);
         covered = omega (arith, ap set.len clones.detached, ap set.len clones.retired, ap map.len clones.next);
@@ -381,6 +390,7 @@ kept_new {T} c n new some =
       owner = refl;
       indices = record { apart = λ a b of_a of_b at. absurd (none a of_a); live = λ i more. absurd (let h : 0 < 0 = more in omega arith) };
       once = λ i. omega arith;
+      within = λ i inside. absurd (let h : 0 < 0 = inside in omega arith);
       all = λ k live. absurd (none k live);
       used_is = omega arith;
       covered = omega arith;

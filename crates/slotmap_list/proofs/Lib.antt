@@ -7,6 +7,7 @@ pub mod Indices
 pub mod Keeping
 pub mod Keeps
 pub mod Looks
+pub mod Moved
 pub mod Moving
 pub mod Parts
 pub mod Pops

@@ -38,6 +38,7 @@ module _ {T : Type 0} where
     pub owner : length links.lists ≡ 1
     pub indices : AreIndices values.live (list_of links 0)
     pub once : (i : ℕ) → times i (list_of links 0) ≤ 1
+    pub within : (i : ℕ) → 0 < times i (list_of links 0) → i < links.members
     pub all : (k : Key) → IsLive values k → 0 < times k.index (list_of links 0)
     -- this many slots are in use
     pub used_is : used ≡ used_slots values

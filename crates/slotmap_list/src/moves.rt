@@ -7,7 +7,7 @@ ghost use Rattle.slotmap.specs.Words.{Key as KeyOf};
 ghost use Rattle.slotmap_list.specs.Sequence.{value_of, first_or, last_or, moved_to_front, moved_to_back, moved_after, moved_before, are_two, Swaps};
 ghost use Rattle.slotmap_list.specs.Places.{is_move, moved_to, before_or_back};
 
-use crate::place::{Place, Side, put_index};
+use crate::place::{Place, Side, cursor_of, put_index};
 use crate::{StableList, key_at};
 use slotmap::Key;
 
@@ -244,7 +244,7 @@ impl<K: Key, T: Drop> StableList<K, T> {
         match place {
             Place::Front => self.contains(cursor),
             Place::Back => self.contains(cursor),
-            Place::Beside(_, other) => self.has_two(cursor, K::from(*other)),
+            Place::Beside(_, other) => self.has_two(cursor, cursor_of(*other)),
         }
     }
 

@@ -4,7 +4,7 @@ ghost use Rattle.std.specs.Prelude.{◌≡◌, ◌<◌, length};
 ghost use Rattle.slotmap_links.specs.Lists.{IsFree, list_of, with_list};
 ghost use Rattle.slotmap_list.specs.Places.{has_place, put_number};
 
-use slotmap::KeyData;
+use slotmap::{Key, KeyData};
 use slotmap_links::Links;
 
 // A side of an element.
@@ -20,6 +20,15 @@ pub(crate) enum Place {
     Front,
     Back,
     Beside(Side, KeyData),
+}
+
+// The cursor with these data.
+pub(crate) fn cursor_of<K: Key>(data: KeyData) -> K
+    ensures { K.data_of result ≡ data }
+{
+    // By what `idx` ensures, they are those of a key.
+    let _ = data.idx();
+    K::from(data)
 }
 
 // Puts an index that isn't in the list into a place of it.
