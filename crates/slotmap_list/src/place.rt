@@ -23,12 +23,12 @@ pub(crate) enum Place {
 }
 
 // The cursor with these data.
-pub(crate) fn cursor_of<K: Key>(data: KeyData) -> K
-    ensures { K.data_of result ≡ data }
+pub(crate) fn cursor_of<K: Key>(key: KeyData) -> K
+    ensures { K.data_of result ≡ key }
 {
     // By what `idx` ensures, they are those of a key.
-    let _ = data.idx();
-    K::from(data)
+    let _ = key.idx();
+    K::from(key)
 }
 
 // Puts an index that isn't in the list into a place of it.
