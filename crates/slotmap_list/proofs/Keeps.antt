@@ -1,11 +1,11 @@
 -- What each change of the map and of the links leaves of a list.
-use Rattle.std.proofs.Common.{◌≡◌, ◌≢◌, ◌⊎◌, ℕ, zero, suc, ◌+◌, ◌<◌, ◌≤◌, Bool, true, false, List, [], ◌∷◌, ◌++◌, length, Option, Some, None, IsSome, is_some, if◌then◌else◌, inl, inr, refl, sym, ap, subst, ◌∙◌, arith}
+use Rattle.std.proofs.Common.{◌≡◌, ◌≢◌, ℕ, zero, suc, ◌+◌, ◌<◌, ◌≤◌, true, List, [], ◌∷◌, ◌++◌, length, Option, Some, None, IsSome, is_some, inl, inr, refl, sym, ap, subst, ◌∙◌, arith}
 use Rattle.std.specs.FinMap as map
 use Rattle.std.specs.FinSet as set
 use Rattle.std.specs.Ordering.{nat_cmp}
 use Rattle.std.proofs.Math.ListN.{get_or-eq_default}
 use Rattle.std.proofs.Math.Nat.{eq-zero-or-pos}
-use Rattle.slotmap.specs.Words.{Key, key_cmp, Content, IsContent, IsLive, Inserts, Removes, Keeps, IsCloneBy, IsCloneOf, AreClones, ClonesEqual, IsNew, is_last, with_value, used, places}
+use Rattle.slotmap.specs.Words.{Key, key_cmp, Content, IsContent, IsLive, Inserts, Removes, Keeps, IsCloneBy, IsCloneOf, AreClones, ClonesEqual, IsNew, with_value, used, places}
 use Rattle.slotmap.proofs.Callers.{keys_total, exact_keys, tied, itself, get-insert_here, get-insert_other, inserted_fresh, live-insert_still, same_or_other, clone_live, clone_len, none_of}
 use Rattle.slotmap_links.specs.Lists as numbers
 use Rattle.slotmap_links.specs.Lists.{Lists, list_of, with_list, times, IsFree}
@@ -18,7 +18,7 @@ use Rattle.slotmap_list.specs.declared.place.Place.{Place}
 use Rattle.slotmap_list.proofs.Room.{cursors_written, used_kept, used_inserted, places_covered}
 use Rattle.slotmap_list.proofs.Elements.{with_value-split}
 use Rattle.slotmap_list.proofs.Indices.{at_is, at_live, content_apart, element_of, elements_first, elements_stay, in_first, rest_indices as indices_behind}
-use Rattle.slotmap_list.proofs.Parts.{IsPlace, place_in, placed, part_stays, IsAt, stands_at, number_without, element_without}
+use Rattle.slotmap_list.proofs.Parts.{IsPlace, place_in, placed, number_without, element_without}
 use Rattle.slotmap_list.proofs.Seen.{stands}
 
 -- how often a number is in a list with one more
@@ -183,10 +183,10 @@ module _ {T : Type 0} {c : Content T} {s : Lists} {count : ℕ} (kept : IsKept c
     elements_taken new removes =
         ap (elements_at new.live) (list_now s 0 rest there)
         ∙ elements_stay new.live rest rest_indices (λ i e more at. (
-            let f = at_is c.live i e at in
-            let other : e.0 ≢ k = λ same_key. (let h = ap (λ j. times j rest) (sym f.0 ∙ ap (λ (q : Key). q.index) same_key) in let gone = times_gone k.index is in absurd (omega arith)) in
-            let now : map.get new.live e.0 ≡ Some e.1 = ap (λ m. map.get m e.0) removes.live ∙ get-remove_other c.live k e.0 other ∙ f.1 in
-            ap (at_index new.live) (sym f.0) ∙ at_live new.live (λ a b of_a of_b. kept.indices.apart a b (left a removes of_a) (left b removes of_b)) e.0 e.1 now))
+        let f = at_is c.live i e at in
+        let other : e.0 ≢ k = λ same_key. (let h = ap (λ j. times j rest) (sym f.0 ∙ ap (λ (q : Key). q.index) same_key) in let gone = times_gone k.index is in absurd (omega arith)) in
+        let now : map.get new.live e.0 ≡ Some e.1 = ap (λ m. map.get m e.0) removes.live ∙ get-remove_other c.live k e.0 other ∙ f.1 in
+        ap (at_index new.live) (sym f.0) ∙ at_live new.live (λ a b of_a of_b. kept.indices.apart a b (left a removes of_a) (left b removes of_b)) e.0 e.1 now))
         ∙ rest_elements
       where
         left : {new : Content T} (q : Key) → Removes c k new → map.contains_key new.live q ≡ true → map.contains_key c.live q ≡ true

@@ -1,7 +1,7 @@
 -- An element that is taken out of its place and put into another.
 use Rattle.std.proofs.Common.{◌≡◌, ℕ, ◌<◌, true, List, length, Option, Some, None, is_some, refl, sym, ap, subst, ◌∙◌, arith}
 use Rattle.std.specs.FinMap as map
-use Rattle.slotmap.specs.Words.{Key, Content, places}
+use Rattle.slotmap.specs.Words.{Key, Content}
 use Rattle.slotmap_links.specs.Lists as numbers
 use Rattle.slotmap_links.specs.Lists.{Lists, list_of, with_list, times, IsFree}
 use Rattle.slotmap_links.proofs.Callers.{list_now, owners_stay}

@@ -1,5 +1,5 @@
 -- An element that moves: which elements can, and what the list is then.
-use Rattle.std.proofs.Common.{◌≡◌, ◌≢◌, Bool, true, false, List, [], ◌∷◌, ◌++◌, Option, Some, None, is_some, if◌then◌else◌, refl, sym, ap, ◌∙◌, arith}
+use Rattle.std.proofs.Common.{◌≡◌, ◌≢◌, true, false, List, [], ◌∷◌, ◌++◌, Option, Some, None, is_some, if◌then◌else◌, refl, sym, ap, ◌∙◌, arith}
 use Rattle.slotmap.specs.Words.{Key, Content, same_keys}
 use Rattle.slotmap_list.specs.Sequence.{Sequence, is_same, value_of, put_again, without, are_two}
 use Rattle.slotmap_list.specs.Places.{insert_beside, is_place, put_by_place, is_move, moved_to}

@@ -1,5 +1,5 @@
 -- Where a key stands in a list: the indices before it and behind it, and the elements there.
-use Rattle.std.proofs.Common.{◌≡◌, ◌≢◌, ℕ, ◌+◌, ◌<◌, ◌≤◌, Bool, true, false, cond, List, [], ◌∷◌, ◌++◌, Option, Some, None, IsSome, is_some, refl, sym, ap, subst, ◌∙◌, arith, append_assoc, append-nil}
+use Rattle.std.proofs.Common.{◌≡◌, ◌≢◌, ℕ, ◌<◌, ◌≤◌, true, cond, List, [], ◌∷◌, ◌++◌, Option, Some, None, is_some, refl, sym, ap, ◌∙◌, arith, append_assoc, append-nil}
 use Rattle.std.specs.List.{cons_option}
 use Rattle.std.specs.FinMap as map
 use Rattle.slotmap.specs.Words.{Key, key_cmp}
@@ -9,7 +9,7 @@ use Rattle.slotmap_links.specs.Lists.{times}
 use Rattle.slotmap_links.proofs.Counts.{is_itself, times_first, times_joined}
 use Rattle.slotmap_links.proofs.Linking.{in_midst, split_at, without_split}
 use Rattle.slotmap_links.proofs.SeenLists.{after_there, before_there, not_first, not_later, put_before_there, put_behind_there}
-use Rattle.slotmap_list.specs.Sequence.{value_of, first_or, last_or, key_after, key_before, from_key, put_after, put_before, without, IsOnce}
+use Rattle.slotmap_list.specs.Sequence.{value_of, key_after, key_before, from_key, put_after, put_before, without, IsOnce}
 use Rattle.slotmap_list.specs.Kept.{at_index, elements_at, key_of, AreIndices}
 use Rattle.slotmap_list.specs.Places.{has_place, is_place, put_by_place, put_number}
 use Rattle.slotmap_list.specs.declared.place.Side.{Side}

@@ -1,5 +1,5 @@
 -- Elements that are taken from the back of a list.
-use Rattle.std.proofs.Common.{◌≡◌, true, false, List, [], ◌∷◌, ◌++◌, Option, Some, None, IsSome, is_some, refl, sym, ap, subst, ◌∙◌, arith, append-nil}
+use Rattle.std.proofs.Common.{◌≡◌, List, [], ◌∷◌, ◌++◌, Some, None, is_some, sym, ap, subst, ◌∙◌, append-nil}
 use Rattle.slotmap.specs.Words.{Key}
 use Rattle.slotmap_list.specs.Sequence.{value_of, last_or, without, IsOnce}
 use Rattle.slotmap_list.proofs.Elements.{back_of, last_in, some_there, absent_before, value_of-split, without-split}

@@ -1,5 +1,5 @@
 -- Calls on the map that can't be refused.
-use Rattle.std.proofs.Common.{◌≡◌, ◌<◌, true, Result, Ok, Err, IsOk, OnOk, IsErr, arith}
+use Rattle.std.proofs.Common.{◌<◌, true, Result, Ok, Err, IsOk, OnOk, IsErr, arith}
 use Rattle.slotmap.specs.Words.{Content, IsContent, Refuses}
 use Rattle.slotmap.specs.declared.InsertError.{InsertError}
 use Rattle.slotmap.specs.declared.InsertError.TheVariants.{Full, Memory}

@@ -1,9 +1,9 @@
 -- The cursors of a list: the keys of its map, with the room that the map and the links have.
-use Rattle.std.proofs.Common.{◌≡◌, ◌⊎◌, ℕ, ◌+◌, ◌-◌, ◌<◌, ◌≤◌, ◌∙◌, min, Bool, true, false, cond, Option, Some, None, is_some, if◌then◌else◌, inl, inr, refl, sym, ap, arith}
+use Rattle.std.proofs.Common.{◌≡◌, ℕ, ◌+◌, ◌-◌, ◌<◌, ◌≤◌, ◌∙◌, min, Bool, true, false, cond, None, is_some, if◌then◌else◌, inl, inr, refl, sym, ap, arith}
 use Rattle.std.specs.FinMap as map
 use Rattle.std.specs.FinSet as set
-use Rattle.slotmap.specs.Words.{Key, key_cmp, Content, IsContent, IsLive, IsSpent, KeepsSpent, IsNew, Inserts, Removes, Keeps, Leaves, MakesRoom, IsCopy, IsCloneBy, is_last, without_values, with_value, used, places}
-use Rattle.slotmap.proofs.Callers.{keys_total, exact_keys, some_entry, false_of, spent_alone, alone_spent, inserted_not_spent, contains-keys_of, len-keys_of, vacant_at_most, spent_finds_nothing}
+use Rattle.slotmap.specs.Words.{Key, Content, IsContent, IsLive, IsSpent, KeepsSpent, IsNew, Inserts, Removes, Keeps, Leaves, MakesRoom, IsCopy, IsCloneBy, is_last, without_values, with_value, used, places}
+use Rattle.slotmap.proofs.Callers.{keys_total, exact_keys, some_entry, false_of, spent_alone, alone_spent, inserted_not_spent, contains-keys_of, len-keys_of, spent_finds_nothing}
 use Rattle.slotmap_keylist.proofs.Alone.{alone-new, alone-inserts, alone-removes, alone-leaves, alone-keeps, alone-copy, alone-written, used_alone}
 use Rattle.slotmap_keylist.proofs.Shown.{shown_content}
 use Rattle.slotmap.specs.KeysAlone.{keys_of}

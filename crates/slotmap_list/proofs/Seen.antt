@@ -1,7 +1,7 @@
 -- What the parts of a list say of its elements.
-use Rattle.std.proofs.Common.{◌≡◌, ℕ, ◌<◌, ◌≤◌, Bool, true, false, cond, nat_eq, List, [], ◌∷◌, length, Option, Some, None, is_some, option_map, option_copied, Bor, refl, sym, ap, subst, ◌∙◌, arith}
+use Rattle.std.proofs.Common.{◌≡◌, ℕ, ◌≤◌, true, false, cond, nat_eq, List, [], ◌∷◌, length, Option, Some, None, is_some, option_map, option_copied, Bor, refl, sym, ap, subst, ◌∙◌, arith}
 use Rattle.std.specs.FinMap as map
-use Rattle.slotmap.specs.Words.{Key, key_cmp, Content, IsLive}
+use Rattle.slotmap.specs.Words.{Key, Content}
 use Rattle.slotmap_links.specs.Lists as numbers
 use Rattle.slotmap_links.specs.Lists.{Lists, list_of, times, IsIn}
 use Rattle.slotmap_list.specs.Sequence.{value_of, first_or, last_or, key_after, key_before, from_key, without, IsOnce}
@@ -10,7 +10,7 @@ use Rattle.slotmap_list.specs.Kept.{elements_at, key_of, IsKept, IsRest}
 use Rattle.slotmap_list.proofs.Elements as keys
 use Rattle.slotmap_list.proofs.Elements.{times_none, key_after-absent, key_before-absent, from_key-absent, without-absent}
 use Rattle.slotmap_list.proofs.Indices.{elements_long, first_at, last_at}
-use Rattle.slotmap_list.proofs.Parts.{IsAt, stands_at, value_none, value_there, next_there, prev_there, from_at, element_without, elements_once}
+use Rattle.slotmap_list.proofs.Parts.{IsAt, stands_at, value_none, value_there, next_there, prev_there, from_at, elements_once}
 
 -- a look-up that copies nothing found nothing
 pub nothing_copied : {A : Type 0} (r : Option (Bor A)) → option_copied r ≡ None → r ≡ None

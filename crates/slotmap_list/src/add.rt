@@ -112,12 +112,7 @@ impl<K: Key, T: Drop> StableList<K, T> {
     }
 
     // Adds an element on this side of that of a cursor.
-    fn insert(
-        &mut self,
-        side: Side,
-        cursor: K,
-        value: T,
-    ) -> Result<K, PlaceError<T>>
+    fn insert(&mut self, side: Side, cursor: K, value: T) -> Result<K, PlaceError<T>>
         ensures ok { IfOk result (λ key. self.new.elements ≡ insert_beside side (K.data_of cursor) (K.data_of key, value) self.old.elements) }
         ensures fresh { IfOk result (λ key. value_of (K.data_of key) self.old.elements ≡ None) }
         ensures unspent { IfOk result (λ key. IsSpent self.old.cursors (K.data_of key) → ⊥) }

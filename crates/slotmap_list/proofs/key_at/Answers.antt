@@ -1,4 +1,4 @@
-use Rattle.std.proofs.Common.{◌≡◌, refl, inl, inr, sym, ap, ◌∙◌, None, Some, option_map}
+use Rattle.std.proofs.Common.{sym, ap, ◌∙◌}
 use Rattle.slotmap_list.specs.Kept.{key_of}
 use Rattle.slotmap_list.proofs.Indices.{key_found}
 use Rattle.slotmap_list.proofs.key_at.Goals as goal

@@ -2,7 +2,7 @@ use Rattle.std.proofs.Common.{◌≡◌, true, refl, sym, ap, ◌∙◌}
 use Rattle.slotmap.specs.Words.{Key}
 use Rattle.slotmap_links.specs.Lists.{list_of}
 use Rattle.slotmap_list.specs.Sequence.{Sequence, value_of}
-use Rattle.slotmap_list.specs.Kept.{cursors_of, elements_at}
+use Rattle.slotmap_list.specs.Kept.{elements_at}
 use Rattle.slotmap_list.specs.Places.{is_move, moved_to}
 use Rattle.slotmap_list.proofs.Moved.{elements_again, free_left, has_left, kept_again, member, values_again}
 use Rattle.slotmap_list.proofs.Moving.{move_stays, seen_as}

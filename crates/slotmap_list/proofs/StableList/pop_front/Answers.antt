@@ -1,1 +1,0 @@
-use Rattle.slotmap_list.proofs.StableList.pop_front.Goals as goal

@@ -1,6 +1,5 @@
 use Rattle.std.proofs.Common.{sym, ap, ◌∙◌}
 use Rattle.slotmap.specs.Words.{Key}
-use Rattle.slotmap_list.proofs.Keeps.{kept_new}
 use Rattle.slotmap_list.proofs.Seen.{before_gone, before_is}
 use Rattle.slotmap_list.proofs.StableList.prev.Goals as goal
 

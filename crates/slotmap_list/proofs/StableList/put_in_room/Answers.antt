@@ -1,4 +1,4 @@
-use Rattle.std.proofs.Common.{◌≡◌, ◌+◌, ◌<◌, ◌-◌, min, true, refl, sym, ap, subst, ◌∙◌, arith, Some}
+use Rattle.std.proofs.Common.{◌≡◌, ◌+◌, ◌<◌, ◌-◌, min, true, refl, sym, ap, subst, ◌∙◌, arith}
 use Rattle.slotmap.specs.Words.{Key, used}
 use Rattle.slotmap.proofs.Callers.{spent_inserts}
 use Rattle.slotmap_links.specs.Lists.{list_of}
@@ -25,7 +25,7 @@ index g c = c.idx.ensures.value ∙ ap (λ (k : Key). k.index) c.data.ensures.va
 pub unreachable-requires : goal.unreachable-requires
 unreachable-requires g c =
     not_refused _ _ _ c.insert.ensures.valid.before c.in_default.ensures.err (let some : 0 < min c.self.inside.values.room (c.self.inside.links.members - (used c.self.inside.values + 1)) =
-        subst (λ (s : Sequence g.row.T.Denot). 0 < s.cursors.room) (sym c.self.view_is) c.requires.room in omega arith)
+    subst (λ (s : Sequence g.row.T.Denot). 0 < s.cursors.room) (sym c.self.view_is) c.requires.room in omega arith)
 
 pub put_index-requires-clause-free : goal.put_index-requires-clause-free
 put_index-requires-clause-free g c =

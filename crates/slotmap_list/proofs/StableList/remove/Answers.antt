@@ -1,8 +1,7 @@
-use Rattle.std.proofs.Common.{◌≡◌, ◌+◌, true, Some, None, is_some, if◌then◌else◌, refl, sym, ap, ◌∙◌, arith}
+use Rattle.std.proofs.Common.{◌≡◌, ◌+◌, true, Some, is_some, if◌then◌else◌, sym, ap, ◌∙◌, arith}
 use Rattle.std.specs.FinMap as map
-use Rattle.slotmap.specs.Words.{Key, Leaves, is_last, used}
+use Rattle.slotmap.specs.Words.{Leaves, is_last, used}
 use Rattle.slotmap.proofs.Callers.{leaves_by_removal, leaves_none, removed_spent, spent_removes}
-use Rattle.slotmap_list.specs.Sequence.{Sequence}
 use Rattle.slotmap_list.proofs.Keeps.{elements_taken, get-remove_here, kept_taken}
 use Rattle.slotmap_list.proofs.Parts.{value_none}
 use Rattle.slotmap_list.proofs.Room.{cursor_spent, cursors_left, cursors_removed, cursors_stale, removed_used}

@@ -1,5 +1,5 @@
-use Rattle.std.proofs.Common.{◌≡◌, ◌+◌, ◌≤◌, true, refl, sym, ap, ◌∙◌, arith, rules, IsOk, is_ok, is_err}
-use Rattle.slotmap.specs.Words.{RefusesCapacity, used}
+use Rattle.std.proofs.Common.{refl, ap, arith, rules, IsOk, is_ok, is_err}
+use Rattle.slotmap.specs.Words.{used}
 use Rattle.slotmap_list.specs.Sequence.{Sequence}
 use Rattle.slotmap_list.proofs.Keeps.{kept_room}
 use Rattle.slotmap_list.proofs.Results.{not_both, on_ok}

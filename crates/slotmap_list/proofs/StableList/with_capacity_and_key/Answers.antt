@@ -1,5 +1,4 @@
 use Rattle.std.proofs.Common.{◌+◌, ap, arith}
-use Rattle.slotmap.specs.Words.{Content, used}
 use Rattle.slotmap_links.specs.Lists.{Lists}
 use Rattle.slotmap_list.proofs.Keeps.{kept_new}
 use Rattle.slotmap_list.proofs.Room.{cursors_new}

@@ -1,4 +1,4 @@
-use Rattle.std.proofs.Common.{◌≡◌, ℕ, sym, ap, length, Some, ◌∙◌, arith}
+use Rattle.std.proofs.Common.{ℕ, sym, ap, length, Some, ◌∙◌, arith}
 use Rattle.slotmap_list.proofs.Indices.{elements_long}
 use Rattle.slotmap_list.proofs.iter.IterIterator.size_hint.Goals as goal
 

@@ -1,1 +1,0 @@
-use Rattle.slotmap_list.proofs.cover.Goals as goal

@@ -1,1 +1,0 @@
-use Rattle.slotmap_list.proofs.one_list.Goals as goal

@@ -1,1 +1,0 @@
-use Rattle.slotmap_list.proofs.take.used_without.Goals as goal
