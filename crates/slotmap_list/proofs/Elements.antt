@@ -49,9 +49,6 @@ module _ {T : Type 0} where
   pub times-put : (q : Key) (ys : List (Key × T)) (e : Key × T) (zs : List (Key × T)) → times q (ys ++ e ∷ zs) ≡ one q e.0 + times q (ys ++ zs)
   times-put q ys e zs = omega (arith, times-append q ys (e ∷ zs), times-append q ys zs)
 
-  pub length-put : (ys : List (Key × T)) (e : Key × T) (zs : List (Key × T)) → length (ys ++ e ∷ zs) ≡ 1 + length (ys ++ zs)
-  length-put ys e zs = omega (arith, length-append ys (e ∷ zs), length-append ys zs)
-
   pub times_none : (q : Key) (es : List (Key × T)) → value_of q es ≡ None → times q es ≡ 0
   times_none q [] none = refl
   times_none q (e ∷ es) none = grind (arith, times_none q es, one_other q e.0, untied keys_total exact_keys q e.0)
@@ -88,14 +85,7 @@ module _ {T : Type 0} where
   pub once_drop : (ys : List (Key × T)) (e : Key × T) (zs : List (Key × T)) → IsOnce (ys ++ e ∷ zs) → IsOnce (ys ++ zs)
   once_drop ys e zs once = once_if (ys ++ zs) (λ q. (let few = at_most_once (ys ++ e ∷ zs) once q in let sum = times-put q ys e zs in omega arith))
 
-  pub once_put : (ys : List (Key × T)) (k : Key) (v : T) (zs : List (Key × T)) → IsOnce (ys ++ zs) → times k (ys ++ zs) ≡ 0 → IsOnce (ys ++ (k, v) ∷ zs)
-  once_put ys k v zs once none = once_if (ys ++ (k, v) ∷ zs) (λ q. grind (arith, at_most_once (ys ++ zs) once q, times-put q ys (k, v) zs, one_itself q, one_other q k, same_or_other q k))
-
   -- the ends of a list
-  pub first_or-append : (xs ys : List (Key × T)) (o : Option Key) → first_or (xs ++ ys) o ≡ first_or xs (first_or ys o)
-  first_or-append [] ys o = refl
-  first_or-append (x ∷ xs) ys o = refl
-
   pub last_or-append : (xs ys : List (Key × T)) (o : Option Key) → last_or (xs ++ ys) o ≡ last_or ys (last_or xs o)
   last_or-append [] ys o = refl
   last_or-append (x ∷ xs) ys o = last_or-append xs ys (Some x.0)
@@ -107,9 +97,6 @@ module _ {T : Type 0} where
   pub no_first : (es : List (Key × T)) → first_or es None ≡ None → es ≡ []
   no_first [] is = refl
   no_first (e ∷ es) is = absurd (cc)
-
-  pub first_in : (es : List (Key × T)) (k : Key) → first_or es None ≡ Some k → 0 < times k es
-  first_in es k is = let f = front_of es k is in let here = one_itself k in let sum = ap (times k) f.2 in omega arith
 
   last_some : (es : List (Key × T)) (k : Key) → (l : Key) × (last_or es (Some k) ≡ Some l)
   last_some [] k = (k, refl)

@@ -47,13 +47,6 @@ module _ {T : Type 0} where
       by true can = there (value_of k es) can refl (mover_stands place k es can)
 
   -- the element that moved to an end is there
-  pub moved_first : (k : Key) (es : List (Key × T)) → is_some (value_of k es) ≡ true → first_or (moved_to_front k es) None ≡ Some k
-  moved_first k es some = by (value_of k es) some
-    where
-      by : (o : Option T) → is_some o ≡ true → first_or (put_again (λ x rest. x ∷ rest) k o es) None ≡ Some k
-      by None some = absurd (cc)
-      by (Some v) some = refl
-
   pub moved_last : (k : Key) (es : List (Key × T)) → is_some (value_of k es) ≡ true → last_or (moved_to_back k es) None ≡ Some k
   moved_last k es some = by (value_of k es) some
     where
