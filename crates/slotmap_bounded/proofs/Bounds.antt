@@ -1,0 +1,292 @@
+-- A content with another room: what each call of the map does to it.
+use Rattle.std.proofs.Common.{◌≡◌, ℕ, ◌+◌, ◌-◌, ◌<◌, ◌≤◌, ◌∙◌, true, false, List, Option, Some, None, subst, cond, if◌then◌else◌, is_some, inl, inr, refl, sym, ap, arith}
+use Rattle.std.specs.FinMap as map
+use Rattle.std.specs.FinSet as set
+use Rattle.std.specs.Ordering.{nat_cmp}
+use Rattle.std.specs.Cmp.{nat_cmp_total}
+use Rattle.slotmap.specs.Words.{Key, key_cmp, Content, IsContent, IsLive, IsNew, Inserts, Removes, MakesRoom, StaysValid, IsCloneBy, IsCloneOf, is_last, places, used, with_value}
+use Rattle.slotmap.proofs.Callers.{clone_len, inserted_len, get-insert_here, leaves_by_removal, len_removed, keys_total, exact_keys, same_or_other, get-insert_other}
+use Rattle.slotmap_bounded.specs.Bounded.{IsBounded, bounded}
+
+-- a write keeps a content well formed
+module _ {V : Type 0} (c : Content V) (well : IsContent true c) (k : Key) (live : IsLive c k) (v : V) where
+  same_live : (q : Key) → map.contains_key (map.insert c.live k v) q ≡ map.contains_key c.live q
+  same_live q = elim (same_or_other q k) [
+    | inl is ↦ rw is (ap is_some (get-insert_here c.live k v) ∙ sym live)
+    | inr other ↦ ap is_some (get-insert_other c.live k v q other)
+  ]
+
+  same_len : map.len (map.insert c.live k v) ≡ map.len c.live
+  same_len = map.len-insert keys_total c.live k v ∙ ap (λ b. cond b (map.len c.live) (map.len c.live + 1)) live
+
+  written_valid : IsContent true (with_value c k v)
+  written_valid =
+      let lists = λ (stack : List ℕ) (is : c.stack ≡ Some stack). (well.stacked stack is).lists in
+      let once = λ (stack : List ℕ) (is : c.stack ≡ Some stack). (well.stacked stack is).once in
+      let top = λ (stack : List ℕ) (is : c.stack ≡ Some stack). (well.stacked stack is).top in
+      grind (arith, same_live, same_len, lists, once, top)
+
+module _ {V : Type 0} (c : Content V) (room capacity : ℕ) (is : IsBounded c room capacity) where
+  pub bounded_valid : IsContent true (bounded c room capacity)
+  bounded_valid = let well = is.valid in record {
+    keys = well.keys;
+    vacancies = well.vacancies;
+    had_keys = well.had_keys;
+    last = well.last;
+    within = well.within;
+    vacant = well.vacant;
+    apart = well.apart;
+    not_live_and_detached = well.not_live_and_detached;
+    not_standing_and_retired = well.not_standing_and_retired;
+    not_used_and_vacant = well.not_used_and_vacant;
+    limit = well.limit;
+    offers = well.offers;
+    stacked = λ stack at. (let s = well.stacked stack at in record { lists = s.lists; once = s.once; top = s.top });
+    room_fits = (let a = well.room_fits in let b = is.fits in omega arith);
+    reused = λ _. is.vacant;
+    capacity_fits = (let e = is.exact in omega arith);
+  }
+
+module _ {V : Type 0} (c : Content V) (room capacity : ℕ) (is : IsBounded c room capacity) where
+  -- a value is written
+  pub written : (k : Key) → IsLive c k → (v : V) → IsBounded (with_value c k v) room capacity
+  written k live v =
+      let len = same_len c is.valid k live v in
+      record { valid = written_valid c is.valid k live v; vacant = is.vacant; fits = is.fits; exact = (let e = is.exact in omega arith) }
+
+  -- a value comes
+  module _ (k : Key) (v : V) (new : Content V) (inserts : Inserts c k v new) where
+    used_more : used new ≡ used c + 1
+    used_more =
+        let live = inserted_len true c k v new is.valid inserts in
+        let detached = ap set.len inserts.detached in
+        let retired = ap set.len inserts.retired in
+        omega arith
+
+    vacant_less : 0 < room → map.len new.next ≤ room - 1
+    vacant_less some =
+        let vacant = is.vacant in
+        let next = ap map.len inserts.next ∙ map.len-remove nat_cmp_total c.next k.index in
+        elim (is.valid.offers inserts.below_limit) [
+          | inl there ↦ (let found : map.contains_key c.next k.index ≡ true = ap (λ (q : Key). map.contains_key c.next q.index) inserts.offered ∙ ap is_some there in
+              let less = next ∙ ap (λ b. cond b (map.len c.next - 1) (map.len c.next)) found in omega arith)
+          | inr made ↦ (let none = made.0 in elim (map.contains_key c.next k.index) as (λ b. map.len new.next ≡ cond b (map.len c.next - 1) (map.len c.next) → map.len new.next ≤ room - 1) [
+            | true ↦ λ at. omega arith
+            | false ↦ λ at. omega arith
+          ] next)
+        ]
+
+    pub inserted : 0 < room → IsContent true new → IsBounded new (room - 1) capacity
+    inserted some valid = record {
+      valid = valid;
+      vacant = vacant_less some;
+      fits = (let a = inserts.room in let b = is.fits in omega arith);
+      exact = (let a = used_more in let b = is.exact in omega arith);
+    }
+
+    pub inserts_bounded : 0 < room → Inserts (bounded c room capacity) k v (bounded new (room - 1) capacity)
+    inserts_bounded some = record {
+      offered = inserts.offered;
+      below_limit = inserts.below_limit;
+      live = inserts.live;
+      detached = inserts.detached;
+      retired = inserts.retired;
+      next = inserts.next;
+      stack = inserts.stack;
+      room = omega arith;
+    }
+
+    pub index_within : 0 < room → IsContent true new → k.index ≤ capacity
+    index_within some valid =
+        let there : IsLive new k = ap (λ m. map.contains_key m k) inserts.live ∙ ap is_some (get-insert_here c.live k v) in
+        let within = (valid.within k (inl (inl there))).1 in
+        let now = inserted some valid in
+        let vacant = now.vacant in
+        let exact = now.exact in
+        omega arith
+
+  -- a value goes
+  module _ (k : Key) (live : IsLive c k) (new : Content V) (removes : Removes c k new) (valid : IsContent true new) where
+    same_places : places new ≡ places c
+    same_places = (leaves_by_removal true c is.valid k live new removes).same_places
+
+    removed_last : is_last k ≡ true → IsBounded new (room + 0) capacity
+    removed_last last =
+        let next : map.len new.next ≡ map.len c.next = ap map.len removes.next ∙ rw last refl in
+        let same = same_places in
+        record {
+          valid = valid;
+          vacant = (let v = is.vacant in omega arith);
+          fits = (let more : c.room + 0 ≤ new.room = rw last at removes.room in let f = is.fits in omega arith);
+          exact = (let e = is.exact in omega arith);
+        }
+
+    removed_other : is_last k ≡ false → IsBounded new (room + 1) capacity
+    removed_other other =
+        let retired : set.len new.retired ≡ set.len c.retired = ap set.len removes.retired ∙ rw other refl in
+        let detached = ap set.len removes.detached in
+        let less = ap map.len removes.live in
+        let len = len_removed keys_total exact_keys c.live k live in
+        let same = same_places in
+        record {
+          valid = valid;
+          vacant = (let v = is.vacant in omega arith);
+          fits = (let more : c.room + 1 ≤ new.room = rw other at removes.room in let f = is.fits in omega arith);
+          exact = (let e = is.exact in omega arith);
+        }
+
+    pub removed : IsBounded new (room + (if is_last k then 0 else 1)) capacity
+    removed = elim (is_last k) as (λ b. is_last k ≡ b → IsBounded new (room + (if b then 0 else 1)) capacity) [
+      | true ↦ removed_last
+      | false ↦ removed_other
+    ] refl
+
+    pub removes_bounded : Removes (bounded c room capacity) k (bounded new (room + (if is_last k then 0 else 1)) capacity)
+    removes_bounded = record {
+      live = removes.live;
+      detached = removes.detached;
+      retired = removes.retired;
+      next = removes.next;
+      stack = removes.stack;
+      room = omega arith;
+    }
+
+  -- room is there, is made, or can't be made
+  pub had_room : (n : ℕ) (ok : Type 0) → ok → n ≤ room → MakesRoom true (bounded c room capacity) n ok (bounded c room capacity)
+  had_room n ok done more = let valid = bounded_valid c room capacity is in record {
+    before = valid;
+    after = valid;
+    fits = λ _. (let f = valid.room_fits in omega arith);
+    room = λ _. more;
+    live_and_more = λ _. (let f = valid.capacity_fits in omega arith);
+    succeeds = λ _. done;
+    had_room = λ _. refl;
+    keeps = record { live = refl; detached = refl; retired = refl; next = refl; offer = refl; stack = refl; room = omega arith };
+    capacity = omega arith;
+  }
+
+  module _ (n : ℕ) (ok : Type 0) (new : Content V) (makes : MakesRoom true c n ok new) (less : room < n) where
+    same_used : used new ≡ used c
+    same_used =
+        let live = ap map.len makes.keeps.live in
+        let detached = ap set.len makes.keeps.detached in
+        let retired = ap set.len makes.keeps.retired in
+        omega arith
+
+    pub made : ok → IsBounded new n (capacity - room + n)
+    made done = record {
+      valid = makes.after;
+      vacant = (let next = ap map.len makes.keeps.next in let v = is.vacant in omega arith);
+      fits = makes.room done;
+      exact = (let u = same_used in let e = is.exact in omega arith);
+    }
+
+    pub refused : IsBounded new room capacity
+    refused = record {
+      valid = makes.after;
+      vacant = (let next = ap map.len makes.keeps.next in let v = is.vacant in omega arith);
+      fits = (let f = is.fits in let r = makes.keeps.room in omega arith);
+      exact = (let u = same_used in let e = is.exact in omega arith);
+    }
+
+    pub refused_same : bounded new room capacity ≡ bounded c room capacity
+    refused_same = let keeps = makes.keeps in λ i. record {
+      live = keeps.live i;
+      detached = keeps.detached i;
+      retired = keeps.retired i;
+      next = keeps.next i;
+      offer = keeps.offer i;
+      stack = keeps.stack i;
+      room = room;
+      capacity = capacity;
+    }
+
+    pub made_room : ok → (fine : Type 0) → fine → MakesRoom true (bounded c room capacity) n fine (bounded new n (capacity - room + n))
+    made_room done fine is_fine = let keeps = makes.keeps in record {
+      before = bounded_valid c room capacity is;
+      after = bounded_valid new n (capacity - room + n) (made done);
+      fits = λ _. makes.fits done;
+      room = λ _. omega arith;
+      live_and_more = λ _. (let live = ap map.len keeps.live in let e = is.exact in omega arith);
+      succeeds = λ more. absurd (omega arith);
+      had_room = λ more. absurd (omega arith);
+      keeps = record {
+        live = keeps.live;
+        detached = keeps.detached;
+        retired = keeps.retired;
+        next = keeps.next;
+        offer = keeps.offer;
+        stack = keeps.stack;
+        room = omega arith;
+      };
+      capacity = (let e = is.exact in omega arith);
+    }
+
+    pub refused_room : (fine : Type 0) → (fine → ⊥) → MakesRoom true (bounded c room capacity) n fine (bounded new room capacity)
+    refused_room fine failed = record {
+      before = bounded_valid c room capacity is;
+      after = bounded_valid new room capacity refused;
+      fits = λ done. absurd (failed done);
+      room = λ done. absurd (failed done);
+      live_and_more = λ done. absurd (failed done);
+      succeeds = λ more. absurd (omega arith);
+      had_room = λ more. absurd (omega arith);
+      keeps = (let keeps = makes.keeps in record {
+        live = keeps.live;
+        detached = keeps.detached;
+        retired = keeps.retired;
+        next = keeps.next;
+        offer = keeps.offer;
+        stack = keeps.stack;
+        room = omega arith;
+      });
+      capacity = omega arith;
+    }
+
+-- the capacity stays
+pub stays : {V : Type 0} (c new : Content V) (room now capacity : ℕ) → IsBounded c room capacity → IsBounded new now capacity → StaysValid true (bounded c room capacity) (bounded new now capacity)
+stays c new room now capacity was is = record { before = bounded_valid c room capacity was; after = bounded_valid new now capacity is; capacity = refl }
+
+-- nothing was inserted yet
+pub starts : {V : Type 0} (c : Content V) (room : ℕ) → IsNew c → IsContent true c → room ≤ c.room → IsBounded c room room
+starts {V} c room new valid fits =
+    let live = ap map.len new.live ∙ map.len-empty key_cmp V in
+    let detached = ap set.len new.detached ∙ set.len-empty key_cmp in
+    let retired = ap set.len new.retired ∙ set.len-empty key_cmp in
+    let next = ap map.len new.next ∙ map.len-empty nat_cmp ℕ in
+    record { valid = valid; vacant = omega arith; fits = fits; exact = omega arith }
+
+-- a copy, where room was made as in the map that was copied
+module _ {V : Type 0} (c : Content V) (room capacity : ℕ) (is : IsBounded c room capacity) (is_clone : V → V → Type 0) (mid : Content V) (clones : IsCloneBy is_clone c mid) (ok : Type 0) (new : Content V) (makes : MakesRoom true mid room ok new) where
+  pub copied : ok → IsBounded new room capacity
+  copied done =
+      let keeps = makes.keeps in
+      let live = clone_len is_clone c mid clones in
+      let same = ap map.len keeps.live in
+      let detached = ap set.len (keeps.detached ∙ clones.detached) in
+      let retired = ap set.len (keeps.retired ∙ clones.retired) in
+      let next = ap map.len (keeps.next ∙ clones.next) in
+      record {
+        valid = makes.after;
+        vacant = (let v = is.vacant in omega arith);
+        fits = makes.room done;
+        exact = (let e = is.exact in omega arith);
+      }
+
+  pub copied_clones : IsCloneBy is_clone (bounded c room capacity) (bounded new room capacity)
+  copied_clones = let keeps = makes.keeps in record {
+    live = λ k. subst (λ m. IsCloneOf is_clone (map.get c.live k) (map.get m k)) (sym keeps.live) (clones.live k);
+    detached = keeps.detached ∙ clones.detached;
+    retired = keeps.retired ∙ clones.retired;
+    next = keeps.next ∙ clones.next;
+    offer = keeps.offer ∙ clones.offer;
+    stack = keeps.stack ∙ clones.stack;
+  }
+
+-- no key is live where none is at any index
+pub none_live : {V : Type 0} (c : Content V) (index : ℕ) → IsContent true c → places c < index → ((k : Key) → IsLive c k → index ≤ k.index) → c.live ≡ map.empty
+none_live {V} c index valid past above = map.same_map keys_total exact_keys c.live map.empty (λ q. none q (map.get c.live q) refl ∙ sym (map.get-empty {X = V} key_cmp q))
+  where
+    none : (q : Key) (o : Option V) → map.get c.live q ≡ o → map.get c.live q ≡ None
+    none q None is = is
+    none q (Some v) is = absurd (let live : IsLive c q = ap is_some is in let low = above q live in let within = (valid.within q (inl (inl live))).1 in omega arith)

@@ -1,0 +1,315 @@
+//! A slot map whose indices stay within a bound, for structures that keep tables beside it.
+//!
+//! A [`BoundedMap`] is a [`SlotMap`] that promises no more room than was asked of it, although its own
+//! vectors may have grown further. So the index of a key never passes [`BoundedMap::capacity`], which
+//! [`BoundedMap::reserve`] alone raises, and [`BoundedMap::capacity_for`] tells how far. A structure
+//! first makes its tables long enough for that, and then reserves. If one of the two fails, it still
+//! has room for all that it promises.
+//!
+//! Each call costs what the call of the `SlotMap` costs, but for [`BoundedMap::clear`], which takes time
+//! linear in the capacity.
+//!
+//! ```
+//! let mut map: BoundedMap<DefaultKey, &str> = BoundedMap::with_capacity(alloc, 1)?;
+//! let a = map.insert_reserved("a");
+//! assert_eq!(rt; (map.capacity(), map.capacity_for(2)), (1, 3));
+//! map.reserve(2)?;
+//! assert_eq!(rt; map.capacity(), 3);
+//! assert_eq!(rt; map.get(a), Some(&"a"));
+//! ```
+#![tactic(auto, using(slotmap::proofs::Callers::keys))]
+
+ghost use Rattle.std.specs.Prelude.{◌≡◌, ◌≢◌, ℕ, ◌+◌, ◌<◌, ◌≤◌, if◌then◌else◌, Some, IfOk, OnOk, OnErr, IfErr, IsOk, OnSome, IfSome, IfNone, option_copied, true};
+ghost use Rattle.std.specs.FinMap as map;
+ghost use Rattle.std.specs.Borrow.{sem};
+ghost use Rattle.std.specs.Option.{option_copied_mut};
+ghost use Rattle.slotmap.specs.Words.{Key as KeyOf, IsContent, IsCloneBy, IsLive, IsNew, Inserts, Leaves, MakesRoom, RefusesCapacity, Removes, StaysValid, is_last, most, places, used};
+
+use slotmap::basic::{Iter, Keys};
+use slotmap::{Key, ReserveError, SlotMap};
+use std::alloc::{AllocError, Global};
+use std::fmt;
+use std::marker::Model;
+
+// How many keys a map holds at most.
+const MOST: usize = 4_294_967_294;
+
+/// A slot map that promises as much room as was asked for, and no more.
+///
+/// A clause sees the content of the map, where `room` is what was promised. The live, detached and
+/// retired keys and the room together are the `capacity`.
+#[derive(Drop)]
+pub struct BoundedMap<K, V> {
+    map: SlotMap<K, V>,
+    room: usize,
+    capacity: usize,
+}
+
+impl<K, V> Model for BoundedMap<K, V> {
+    ghost use Rattle.slotmap.specs.Words.{Content, content_code};
+
+    ghost Value = { Content V };
+
+    ghost coded = { content_code V.code };
+
+    ghost use Rattle.slotmap_bounded.specs.Bounded.{IsBounded, bounded};
+
+    ghost view = { λ b. bounded b.map b.room b.capacity };
+
+    ghost invariant = { λ b. IsBounded b.map b.room b.capacity };
+}
+
+// For how many keys a removed one leaves room: one, unless it was the last of its slot.
+fn freed<K: Key>(key: K) -> usize
+    ensures { result ≡ (if is_last (K.data_of key) then 0 else 1) }
+{
+    if key.data().version() == u32::MAX {
+        return 0;
+    }
+    1
+}
+
+impl<K: Key, V: Drop> BoundedMap<K, V> {
+    ghost use Rattle.slotmap_bounded.specs.Lends.{lends_get};
+
+    /// Makes a map with no key and room for so many.
+    ///
+    /// It fails with `TooGreat` if they are over 4294967294, and else with `Memory` if memory runs out.
+    pub fn with_capacity(alloc: Global, capacity: usize) -> Result<Self, ReserveError>
+        ensures starts { IfOk result IsNew }
+        ensures room { IfOk result (λ made. made.room ≡ capacity) }
+        ensures capacity { IfOk result (λ made. made.capacity ≡ capacity) }
+        ensures err { IfErr result (RefusesCapacity capacity) }
+        ensures valid { IfOk result (IsContent true) }
+    {
+        let map = SlotMap::with_capacity_and_key(alloc, capacity)?;
+        Ok(BoundedMap {
+            map,
+            room: capacity,
+            capacity,
+        })
+    }
+
+    /// Returns the number of live keys, in constant time.
+    pub fn len(&self) -> usize
+        ensures { result ≡ map.len self.now.live }
+    {
+        self.map.len()
+    }
+
+    /// Returns the greatest index that a key can have before more room is reserved, in constant time.
+    pub fn capacity(&self) -> usize
+        ensures value { result ≡ self.now.capacity }
+        ensures exact { result ≡ used self.now + self.now.room }
+        ensures places { places self.now ≤ result }
+        ensures limit { result ≤ most }
+        ensures valid { IsContent true self.now }
+    {
+        let _ = self.map.len();
+        self.capacity
+    }
+
+    /// Returns the capacity that [`BoundedMap::reserve`] would leave, in constant time. It may be over
+    /// 4294967294, and then `reserve` fails.
+    ///
+    /// ```
+    /// let map: BoundedMap<DefaultKey, u64> = BoundedMap::with_capacity(alloc, 4)?;
+    /// assert_eq!(rt; (map.capacity_for(2), map.capacity_for(6)), (4, 6));
+    /// ```
+    pub fn capacity_for(&self, additional: usize) -> usize
+        requires { additional ≤ most }
+        ensures had_room { additional ≤ self.now.room → result ≡ self.now.capacity }
+        ensures more { self.now.room < additional → result ≡ used self.now + additional }
+    {
+        let _ = self.capacity();
+        if additional <= self.room {
+            return self.capacity;
+        }
+        self.capacity - self.room + additional
+    }
+
+    /// Reserves room for `additional` more keys. If there is room, it changes nothing.
+    ///
+    /// The capacity is that of [`BoundedMap::capacity_for`] then. It fails with `TooGreat` if more than
+    /// 4294967294 keys would be there, counting those that are retired, and with `Memory` if memory runs
+    /// out. It has changed nothing then.
+    pub fn reserve(&mut self, additional: usize) -> Result<(), ReserveError>
+        ensures makes_room { MakesRoom true self.old additional (IsOk result) self.new }
+        ensures err { IfErr result (RefusesCapacity (used self.old + additional)) }
+        ensures unchanged { OnErr result (self.new ≡ self.old) }
+        ensures more { OnOk result (self.old.room < additional → self.new.capacity ≡ used self.old + additional) }
+    {
+        let _ = self.map.len();
+        if additional <= self.room {
+            return Ok(());
+        }
+        match self.map.reserve(additional) {
+            Ok(()) => {
+                self.capacity = self.capacity - self.room + additional;
+                self.room = additional;
+                Ok(())
+            }
+            Err(error) => Err(error),
+        }
+    }
+
+    /// Inserts a value, and returns its new key. The caller proves that there is room. The capacity
+    /// stays. Constant time.
+    pub fn insert_reserved(&mut self, value: V) -> K
+        requires room { 0 < self.old.room }
+        ensures inserts { Inserts self.old (K.data_of result) value self.new }
+        ensures fresh { map.get self.old.live (K.data_of result) ≡ None }
+        ensures within { (K.data_of result).index ≤ self.new.capacity }
+        ensures valid { StaysValid true self.old self.new }
+    {
+        let key = self.map.insert(value).unwrap();
+        self.room -= 1;
+        key
+    }
+
+    /// Removes a key, and returns its value, or `None` if the key isn't live. The capacity stays.
+    /// Constant time.
+    ///
+    /// ```
+    /// let mut map: BoundedMap<DefaultKey, &str> = BoundedMap::with_capacity(alloc, 1)?;
+    /// let a = map.insert_reserved("a");
+    /// assert_eq!(rt; map.remove(a), Some("a"));
+    /// assert_eq!(rt; map.remove(a), None);
+    /// ```
+    pub fn remove(&mut self, key: K) -> Option<V>
+        ensures value { result ≡ map.get self.old.live (K.data_of key) }
+        ensures removes { OnSome result (Removes self.old (K.data_of key) self.new) }
+        ensures unchanged { IfNone result (self.new ≡ self.old) }
+        ensures live { self.new.live ≡ map.remove self.old.live (K.data_of key) }
+        ensures valid { StaysValid true self.old self.new }
+    {
+        let value = self.map.remove(key)?;
+        self.room += freed(key);
+        Some(value)
+    }
+
+    /// Removes all keys. The capacity stays, and it takes time linear in it.
+    ///
+    /// ```
+    /// let mut map: BoundedMap<DefaultKey, &str> = BoundedMap::with_capacity(alloc, 1)?;
+    /// map.insert_reserved("a");
+    /// map.clear();
+    /// assert_eq!(rt; (map.len(), map.capacity()), (0, 1));
+    /// ```
+    pub fn clear(&mut self)
+        ensures empty { self.new.live ≡ map.empty }
+        ensures leaves { Leaves self.old self.new }
+        ensures valid { StaysValid true self.old self.new }
+    {
+        for index in 0..self.capacity() + 1 {
+            self.clear_at(index as u32);
+        }
+    }
+
+    // Removes the key with this index, if one is live.
+    fn clear_at(&mut self, index: u32)
+        ensures gone { (k : KeyOf) → IsLive self.new k → k.index ≢ index }
+        ensures leaves { Leaves self.old self.new }
+        ensures valid { StaysValid true self.old self.new }
+    {
+        let _ = self.capacity();
+        match self.key_at(index) {
+            Some(key) => {
+                self.remove(key);
+            }
+            None => (),
+        }
+    }
+
+    /// Returns whether a key is live, in constant time.
+    pub fn contains_key(&self, key: K) -> bool
+        ensures { result ≡ map.contains_key self.now.live (K.data_of key) }
+    {
+        self.map.contains_key(key)
+    }
+
+    /// Returns the live key with this index, or `None` if no live key has it. Constant time.
+    ///
+    /// ```
+    /// let mut map: BoundedMap<DefaultKey, &str> = BoundedMap::with_capacity(alloc, 1)?;
+    /// let a = map.insert_reserved("a");
+    /// assert_eq!(rt; map.key_at(a.data().idx()), Some(a));
+    /// ```
+    pub fn key_at(&self, index: u32) -> Option<K>
+        ensures live { IfSome result (λ key. IsLive self.now (K.data_of key)) }
+        ensures index { IfSome result (λ key. (K.data_of key).index ≡ index) }
+        ensures none { IfNone result ((other : KeyOf) → IsLive self.now other → other.index ≢ index) }
+    {
+        self.map.key_at(index)
+    }
+
+    /// Returns the value of a key, or `None` if the key isn't live. Constant time.
+    pub fn get(&self, key: K) -> Option<&V>
+        ensures { option_copied result ≡ map.get self.now.live (K.data_of key) }
+    {
+        self.map.get(key)
+    }
+
+    /// Returns the value of a key. The caller proves that the key is live. Constant time.
+    pub fn value(&self, key: K) -> &V
+        requires { IsLive self.now (K.data_of key) }
+        ensures { map.get self.now.live (K.data_of key) ≡ Some result.now }
+    {
+        self.map.get_unchecked(key)
+    }
+
+    /// Returns a mutable reference to the value of a key, or `None` if the key isn't live. Constant time.
+    pub fn get_mut(&mut self, key: K) -> Option<&mut V>
+        ensures* writes_back { sem 𝓛 (lends_get K.row V.row self.entry (K.data_of key) result) }
+        ensures value { option_copied_mut result ≡ map.get self.old.live (K.data_of key) }
+    {
+        match self.map.get_mut(key) {
+            Some(value) => Some(value),
+            None => None,
+        }
+    }
+
+    /// Returns an iterator over the live keys, by ascending index. All its steps together read each slot
+    /// once.
+    pub fn keys(&self) -> Keys<'_, K, V>
+        ensures { result ≡ map.keys self.now.live }
+    {
+        self.map.keys()
+    }
+
+    /// Returns an iterator over the live keys with their values, by ascending index. All its steps
+    /// together read each slot once.
+    pub fn iter(&self) -> Iter<'_, K, V>
+        ensures { result ≡ map.entries self.now.live }
+    {
+        self.map.iter()
+    }
+}
+
+impl<K: Key, V: Clone> BoundedMap<K, V> {
+    /// Returns a copy with clones of the values under the same keys, and with as much room.
+    ///
+    /// It fails if memory runs out, or the clone of a value fails. Linear in the number of slots.
+    pub fn clone(&self) -> Result<Self, AllocError>
+        ensures clones { IfOk result (IsCloneBy V.is_clone self.now) }
+        ensures capacity { IfOk result (λ copy. copy.capacity ≡ self.now.capacity) }
+        ensures valid { IfOk result (IsContent true) }
+    {
+        let mut map = self.map.clone()?;
+        match map.reserve(self.room) {
+            Ok(()) => Ok(BoundedMap {
+                map,
+                room: self.room,
+                capacity: self.capacity,
+            }),
+            Err(_) => Err(AllocError),
+        }
+    }
+}
+
+/// Prints the pairs, as a `SlotMap` does.
+impl<K: Key, V: fmt::Debug> fmt::Debug for BoundedMap<K, V> {
+    fn fmt<W: fmt::Write>(&self, f: &mut fmt::Formatter<W>) -> fmt::Result {
+        self.map.fmt(f)
+    }
+}
