@@ -12,14 +12,14 @@
 //! ```
 //! let mut map: BoundedMap<DefaultKey, &str> = BoundedMap::with_capacity(alloc, 1)?;
 //! let a = map.insert_reserved("a");
-//! assert_eq!(rt; (map.capacity(), map.capacity_for(2)), (1, 3));
+//! assert_eq!(rt; map.capacity_for(2), Ok(3));
 //! map.reserve(2)?;
 //! assert_eq!(rt; map.capacity(), 3);
 //! assert_eq!(rt; map.get(a), Some(&"a"));
 //! ```
 #![tactic(auto, using(slotmap::proofs::Callers::keys))]
 
-ghost use Rattle.std.specs.Prelude.{◌≡◌, ◌≢◌, ℕ, ◌+◌, ◌<◌, ◌≤◌, if◌then◌else◌, Some, IfOk, OnOk, OnErr, IfErr, IsOk, OnSome, IfSome, IfNone, option_copied, true};
+ghost use Rattle.std.specs.Prelude.{◌≡◌, ◌≢◌, ℕ, ◌+◌, ◌<◌, ◌≤◌, if◌then◌else◌, max, Some, IfOk, OnOk, OnErr, IfErr, IsOk, OnSome, IfSome, IfNone, Ok, option_copied, true};
 ghost use Rattle.std.specs.FinMap as map;
 ghost use Rattle.std.specs.Borrow.{sem};
 ghost use Rattle.std.specs.Option.{option_copied_mut};
@@ -92,7 +92,8 @@ impl<K: Key, V: Drop> BoundedMap<K, V> {
 
     /// Returns the number of live keys, in constant time.
     pub fn len(&self) -> usize
-        ensures { result ≡ map.len self.now.live }
+        ensures value { result ≡ map.len self.now.live }
+        ensures valid { IsContent true self.now }
     {
         self.map.len()
     }
@@ -109,23 +110,31 @@ impl<K: Key, V: Drop> BoundedMap<K, V> {
         self.capacity
     }
 
-    /// Returns the capacity that [`BoundedMap::reserve`] would leave, in constant time. It may be over
-    /// 4294967294, and then `reserve` fails.
+    /// Returns the capacity that [`BoundedMap::reserve`] would leave, in constant time.
+    ///
+    /// It fails with `TooGreat` where `reserve` does.
     ///
     /// ```
     /// let map: BoundedMap<DefaultKey, u64> = BoundedMap::with_capacity(alloc, 4)?;
-    /// assert_eq!(rt; (map.capacity_for(2), map.capacity_for(6)), (4, 6));
+    /// assert_eq!(rt; map.capacity_for(2), Ok(4));
+    /// assert_eq!(rt; map.capacity_for(6), Ok(6));
+    /// assert_eq!(rt; map.capacity_for(4294967295), Err(ReserveError::TooGreat));
     /// ```
-    pub fn capacity_for(&self, additional: usize) -> usize
-        requires { additional ≤ most }
-        ensures had_room { additional ≤ self.now.room → result ≡ self.now.capacity }
-        ensures more { self.now.room < additional → result ≡ used self.now + additional }
+    pub fn capacity_for(&self, additional: usize) -> Result<usize, ReserveError>
+        ensures had_room { additional ≤ self.now.room → result ≡ Ok self.now.capacity }
+        ensures value { IfOk result (λ capacity. capacity ≡ max self.now.capacity (used self.now + additional)) }
+        ensures limit { IfOk result (λ capacity. capacity ≤ most) }
+        ensures err { IfErr result (λ error. (error ≡ ReserveError.TooGreat) × (most < used self.now + additional)) }
+        ensures valid { IsContent true self.now }
     {
         let _ = self.capacity();
         if additional <= self.room {
-            return self.capacity;
+            return Ok(self.capacity);
         }
-        self.capacity - self.room + additional
+        if additional > MOST - (self.capacity - self.room) {
+            return Err(ReserveError::TooGreat);
+        }
+        Ok(self.capacity - self.room + additional)
     }
 
     /// Reserves room for `additional` more keys. If there is room, it changes nothing.
@@ -137,7 +146,7 @@ impl<K: Key, V: Drop> BoundedMap<K, V> {
         ensures makes_room { MakesRoom true self.old additional (IsOk result) self.new }
         ensures err { IfErr result (RefusesCapacity (used self.old + additional)) }
         ensures unchanged { OnErr result (self.new ≡ self.old) }
-        ensures more { OnOk result (self.old.room < additional → self.new.capacity ≡ used self.old + additional) }
+        ensures capacity { self.new.capacity ≤ max self.old.capacity (used self.old + additional) }
     {
         let _ = self.map.len();
         if additional <= self.room {
@@ -223,7 +232,8 @@ impl<K: Key, V: Drop> BoundedMap<K, V> {
 
     /// Returns whether a key is live, in constant time.
     pub fn contains_key(&self, key: K) -> bool
-        ensures { result ≡ map.contains_key self.now.live (K.data_of key) }
+        ensures value { result ≡ map.contains_key self.now.live (K.data_of key) }
+        ensures valid { IsContent true self.now }
     {
         self.map.contains_key(key)
     }

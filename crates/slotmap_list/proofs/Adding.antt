@@ -8,7 +8,6 @@ use Rattle.slotmap_list.specs.Sequence.{Sequence, value_of, TakesFront}
 use Rattle.slotmap_list.specs.declared.PushError.{PushError}
 use Rattle.slotmap_list.specs.declared.PushError.TheVariants.{Full, Memory}
 use Rattle.slotmap_list.specs.Refused.{RefusesPush}
-use Rattle.slotmap_list.proofs.Room.{used_kept}
 use Rattle.slotmap_list.specs.Additions.{Adds, FullAtLimit, refused}
 
 -- what a call ensures of its result, where it succeeds
@@ -22,7 +21,10 @@ no_room zero r err fits = refl
 no_room (suc n) (Ok x) err fits = absurd (cc)
 no_room (suc n) (Err e) err fits = absurd (let ok = fits (omega arith) in cc)
 
--- no slot is in use in a new map
+-- as many slots are in use where a call keeps the content, and none in a new map
+pub used_kept : (old new : Content (Unit {0})) → Keeps old new → used new ≡ used old
+used_kept old new keeps = omega (arith, ap map.len keeps.live, ap set.len keeps.detached, ap set.len keeps.retired)
+
 pub used_new : (c : Content (Unit {0})) → IsNew c → used c ≡ 0
 used_new c new = omega (arith, ap map.len new.live ∙ map.len-empty key_cmp (Unit {0}), ap set.len new.detached ∙ set.len-empty key_cmp, ap set.len new.retired ∙ set.len-empty key_cmp)
 

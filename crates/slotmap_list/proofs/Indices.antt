@@ -13,7 +13,7 @@ use Rattle.slotmap_links.specs.Lists.{times}
 use Rattle.slotmap_links.proofs.Counts.{same, times_first, times_joined, one_itself}
 use Rattle.slotmap_list.specs.Sequence.{first_or, last_or}
 use Rattle.slotmap_list.proofs.Elements as keys
-use Rattle.slotmap_list.specs.Kept.{with_value, at_index, elements_at, key_of, AreIndices}
+use Rattle.slotmap_list.specs.Kept.{with_value, at_index, elements_at, key_of, AreApart, AreIndices}
 
 -- the first key that passes a test is in the list, and where one passes it there is a first
 first_found : (p : Key → Bool) (ks : List Key) (k : Key) → find p ks ≡ Some k → (p k ≡ true) × (list_any (eq_by_cmp key_cmp k) ks ≡ true)
@@ -48,7 +48,7 @@ module _ {T : Type 0} (m : map.FinMap key_cmp T) where
       by None is = refl
       by (Some e) is = absurd (let found = at_is i e is in none e.0 (ap is_some found.1) found.0)
 
-  module _ (apart : (a b : Key) → map.contains_key m a ≡ true → map.contains_key m b ≡ true → a.index ≡ b.index → a ≡ b) where
+  module _ (apart : AreApart m) where
     -- a live key is the one with its index
     pub at_live : (k : Key) (v : T) → map.get m k ≡ Some v → at_index m k.index ≡ Some (k, v)
     unfolding at_index
@@ -61,6 +61,14 @@ module _ {T : Type 0} (m : map.FinMap key_cmp T) where
             let first = first_found (λ q. nat_eq q.index k.index) (map.keys m) q is in
             let same : q ≡ k = apart q k (map.contains_key-keys m q ∙ first.1) (ap is_some found) (eqb-true q.index k.index first.0) in
             subst (λ (q : Key). with_value m (Some q) ≡ Some (k, v)) (sym same) (ap (option_map (λ v. (k, v))) found)
+
+    -- so there is one
+    pub some_at : (i : ℕ) (k : Key) → map.contains_key m k ≡ true → k.index ≡ i → is_some (at_index m i) ≡ true
+    some_at i k live index = ap (λ i. is_some (at_index m i)) (sym index) ∙ by (map.get m k) refl live
+      where
+        by : (o : Option T) → map.get m k ≡ o → is_some o ≡ true → is_some (at_index m k.index) ≡ true
+        by None found some = absurd (cc)
+        by (Some v) found some = ap is_some (at_live k v found)
 
   -- what the elements are: that of the first index, and the others
   pub elements_first : (i : ℕ) (is : List ℕ) (e : Key × T) → at_index m i ≡ Some e → elements_at m (i ∷ is) ≡ e ∷ elements_at m is
@@ -92,9 +100,20 @@ module _ {T : Type 0} (m : map.FinMap key_cmp T) where
   as_often k [] = omega arith
   as_often k (i ∷ is) = often_by k i is (at_index m i) refl (as_often k is)
 
+-- an index is that of a live key in two maps, where the keys with this index are the same
+module _ {T : Type 0} (m n : map.FinMap key_cmp T) (apart_m : AreApart m) (apart_n : AreApart n) (i : ℕ) (same_keys : (k : Key) → k.index ≡ i → map.contains_key n k ≡ map.contains_key m k) where
+  pub some_alike : is_some (at_index n i) ≡ is_some (at_index m i)
+  some_alike = by (at_index m i) (at_index n i) refl refl
+    where
+      by : (o p : Option (Key × T)) → at_index m i ≡ o → at_index n i ≡ p → is_some p ≡ is_some o
+      by None None of_m of_n = refl
+      by (Some e) (Some f) of_m of_n = refl
+      by None (Some f) of_m of_n = let at = at_is n i f of_n in let some = some_at m apart_m i f.0 (sym (same_keys f.0 at.0) ∙ ap is_some at.1) at.0 in absurd (let none = ap is_some of_m in cc)
+      by (Some e) None of_m of_n = let at = at_is m i e of_m in let some = some_at n apart_n i e.0 (same_keys e.0 at.0 ∙ ap is_some at.1) at.0 in absurd (let none = ap is_some of_n in cc)
+
 -- what a map says of the key with an index
 module _ {T : Type 0} (c : Content T) where
-  pub content_apart : IsContent true c → (a b : Key) → map.contains_key c.live a ≡ true → map.contains_key c.live b ≡ true → a.index ≡ b.index → a ≡ b
+  pub content_apart : IsContent true c → AreApart c.live
   content_apart well a b of_a of_b = well.apart a b (inl (inl of_a)) (inl (inl of_b))
 
   pub key_found : {K : Type 0} (data_of : K → Key) (i : ℕ) (r : Option K) → IsContent true c → IfSome r (λ key. IsLive c (data_of key)) → IfSome r (λ key. (data_of key).index ≡ i)

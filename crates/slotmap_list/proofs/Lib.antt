@@ -12,7 +12,6 @@ pub mod Moving
 pub mod Parts
 pub mod Pops
 pub mod Results
-pub mod Room
 pub mod Seen
 pub mod Swapping
 pub mod Visiting

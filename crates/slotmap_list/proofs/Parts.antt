@@ -1,5 +1,5 @@
 -- Where a key stands in a list: the indices before it and behind it, and the elements there.
-use Rattle.std.proofs.Common.{◌≡◌, ◌≢◌, ℕ, ◌<◌, ◌≤◌, true, cond, List, [], ◌∷◌, ◌++◌, Option, Some, None, is_some, refl, sym, ap, ◌∙◌, arith, append_assoc, append-nil}
+use Rattle.std.proofs.Common.{◌≡◌, ◌≢◌, ℕ, ◌+◌, ◌<◌, ◌≤◌, true, cond, List, [], ◌∷◌, ◌++◌, Option, Some, None, is_some, refl, sym, ap, ◌∙◌, arith, append_assoc, append-nil}
 use Rattle.std.specs.List.{cons_option}
 use Rattle.std.specs.FinMap as map
 use Rattle.slotmap.specs.Words.{Key, key_cmp}
@@ -10,7 +10,7 @@ use Rattle.slotmap_links.proofs.Counts.{is_itself, times_first, times_joined}
 use Rattle.slotmap_links.proofs.Linking.{in_midst, split_at, without_split}
 use Rattle.slotmap_links.proofs.SeenLists.{after_there, before_there, not_first, not_later, put_before_there, put_behind_there}
 use Rattle.slotmap_list.specs.Sequence.{value_of, key_after, key_before, from_key, put_after, put_before, without, IsOnce}
-use Rattle.slotmap_list.specs.Kept.{at_index, elements_at, key_of, AreIndices}
+use Rattle.slotmap_list.specs.Kept.{at_index, elements_at, key_of, AreApart, AreIndices}
 use Rattle.slotmap_list.specs.Places.{has_place, is_place, put_by_place, put_number}
 use Rattle.slotmap_list.specs.declared.place.Side.{Side}
 use Rattle.slotmap_list.specs.declared.place.Side.TheVariants.{Before, After}
@@ -148,20 +148,27 @@ module _ {T : Type 0} (m : map.FinMap key_cmp T) where
                   ∙ sym (append_assoc (elements_at m s.before) ((k, v) ∷ []) (x ∷ elements_at m s.after)) ∙ ap (λ l. l ++ x ∷ elements_at m s.after) (sym here);
             }
 
--- an element that is put between others, or written where it was
-module _ {T : Type 0} (m n : map.FinMap key_cmp T) (k : Key) (v : T) (apart : (a b : Key) → map.contains_key n a ≡ true → map.contains_key n b ≡ true → a.index ≡ b.index → a ≡ b)
-    (here : map.get n k ≡ Some v) (others : (q : Key) (w : T) → q.index ≢ k.index → map.get m q ≡ Some w → map.get n q ≡ Some w) where
-  stays_at : (is : List ℕ) → times k.index is ≡ 0 → (i : ℕ) (e : Key × T) → 0 < times i is → at_index m i ≡ Some e → at_index n i ≡ Some e
-  stays_at is none i e more at =
+-- what is under other indices stays where others stay
+module _ {T : Type 0} (m n : map.FinMap key_cmp T) (k : Key) (apart : AreApart n) (others : (q : Key) (w : T) → q.index ≢ k.index → map.get m q ≡ Some w → map.get n q ≡ Some w) where
+  pub part_left : (is : List ℕ) → AreIndices m is → times k.index is ≡ 0 → elements_at n is ≡ elements_at m is
+  part_left is all none = elements_stay n is all (λ i e more at.
       let found = at_is m i e at in
       let other : e.0.index ≢ k.index = λ same. (let h = ap (λ j. times j is) (sym found.0 ∙ same) in absurd (omega arith)) in
-      ap (at_index n) (sym found.0) ∙ at_live n apart e.0 e.1 (others e.0 e.1 other found.1)
+      ap (at_index n) (sym found.0) ∙ at_live n apart e.0 e.1 (others e.0 e.1 other found.1))
 
-  pub part_stays : (is : List ℕ) → AreIndices m is → times k.index is ≡ 0 → elements_at n is ≡ elements_at m is
-  part_stays is all none = elements_stay n is all (stays_at is none)
+-- an element that is put between others, or written where it was
+module _ {T : Type 0} (m n : map.FinMap key_cmp T) (k : Key) (v : T) (apart : AreApart n) (here : map.get n k ≡ Some v)
+    (others : (q : Key) (w : T) → q.index ≢ k.index → map.get m q ≡ Some w → map.get n q ≡ Some w) where
+  pub placed : (before after : List ℕ) → AreIndices m before → AreIndices m after → times k.index before ≡ 0 → times k.index after ≡ 0
+      → elements_at n (before ++ k.index ∷ after) ≡ elements_at m before ++ (k, v) ∷ elements_at m after
+  placed before after all_before all_after not_before not_after =
+      elements-append n before (k.index ∷ after) ∙ ap (λ l. l ++ elements_at n (k.index ∷ after)) (part_left m n k apart others before all_before not_before)
+      ∙ ap (λ l. elements_at m before ++ l) (elements_first n k.index after (k, v) (at_live n apart k v here) ∙ ap (λ l. (k, v) ∷ l) (part_left m n k apart others after all_after not_after))
 
-  module _ (before after : List ℕ) (all_before : AreIndices m before) (all_after : AreIndices m after) (not_before : times k.index before ≡ 0) (not_after : times k.index after ≡ 0) where
-    pub placed : elements_at n (before ++ k.index ∷ after) ≡ elements_at m before ++ (k, v) ∷ elements_at m after
-    placed =
-        elements-append n before (k.index ∷ after) ∙ ap (λ l. l ++ elements_at n (k.index ∷ after)) (part_stays before all_before not_before)
-        ∙ ap (λ l. elements_at m before ++ l) (elements_first n k.index after (k, v) (at_live n apart k v here) ∙ ap (λ l. (k, v) ∷ l) (part_stays after all_after not_after))
+  pub put_between : (is : List ℕ) → AreIndices m is → times k.index is ≡ 0 → (before after : List ℕ) → is ≡ before ++ after
+      → elements_at n (before ++ k.index ∷ after) ≡ elements_at m before ++ (k, v) ∷ elements_at m after
+  put_between is all none before after split =
+      let sum : (i : ℕ) → times i is ≡ times i before + times i after = λ i. ap (times i) split ∙ times_joined i before after in
+      let own = sum k.index in
+      placed before after (record { apart = all.apart; live = λ i more. all.live i (let h = sum i in omega arith) })
+      (record { apart = all.apart; live = λ i more. all.live i (let h = sum i in omega arith) }) (omega arith) (omega arith)

@@ -1,13 +1,8 @@
--- Calls on the map that can't be refused.
-use Rattle.std.proofs.Common.{◌<◌, true, Result, Ok, Err, IsOk, OnOk, IsErr, arith}
-use Rattle.slotmap.specs.Words.{Content, IsContent, Refuses}
-use Rattle.slotmap.specs.declared.InsertError.{InsertError}
-use Rattle.slotmap.specs.declared.InsertError.TheVariants.{Full, Memory}
-
--- where there is room, an insert isn't refused
-pub not_refused : {T : Type 0} (c : Content T) (v : T) (error : InsertError T) → IsContent true c → Refuses c v error → 0 < c.room → ⊥
-not_refused c v (Full back) well refuses some = let fits = well.room_fits in let full = refuses.0 in absurd (omega arith)
-not_refused c v (Memory back) well refuses some = let none = refuses.0.no_room in absurd (omega arith)
+-- Calls that fail, and what holds where a call succeeds.
+use Rattle.std.proofs.Common.{◌≡◌, ℕ, ◌+◌, ◌<◌, ◌≤◌, true, Result, Ok, Err, IsOk, OnOk, IsErr, refl, sym, subst, arith}
+use Rattle.slotmap.specs.Words.{Content, IsContent, MakesRoom, RefusesCapacity, most}
+use Rattle.slotmap.specs.declared.ReserveError.{ReserveError}
+use Rattle.slotmap.specs.declared.ReserveError.TheVariants.{TooGreat}
 
 -- a result isn't both
 pub not_both : {A E : Type 0} (r : Result A E) → IsOk r → IsErr r → ⊥
@@ -18,3 +13,20 @@ not_both (Err e) ok err = cc
 pub on_ok : {A E P : Type 0} (r : Result A E) → OnOk r P → IsOk r → P
 on_ok (Ok x) holds ok = holds
 on_ok (Err e) holds ok = absurd (cc)
+
+pub refused_greatly : (n : ℕ) (error : ReserveError) → error ≡ TooGreat → most < n → RefusesCapacity n error
+refused_greatly n error is over = subst (RefusesCapacity n) (sym is) over
+
+-- a call that reserves room fails, and changes nothing
+pub no_room_made : {V : Type 0} (c : Content V) (n : ℕ) (ok : Type 0) → IsContent true c → (ok → ⊥) → (n ≤ c.room → ok) → MakesRoom true c n ok c
+no_room_made c n ok well never had = record {
+  before = well;
+  after = well;
+  fits = λ o. absurd (never o);
+  room = λ o. absurd (never o);
+  live_and_more = λ o. absurd (never o);
+  succeeds = had;
+  had_room = λ _. refl;
+  keeps = record { live = refl; detached = refl; retired = refl; next = refl; offer = refl; stack = refl; room = omega arith };
+  capacity = omega arith;
+}

@@ -1,8 +1,8 @@
 -- How a list is kept: its values in a map, and the indices of their keys, in the order of the list, as a list of numbers.
-use Rattle.std.specs.Prelude.{◌≡◌, ℕ, ◌+◌, ◌-◌, ◌<◌, ◌≤◌, min, true, nat_eq, List, [], length, Option, Some, None, option_map, IsSome}
+use Rattle.std.specs.Prelude.{◌≡◌, ℕ, ◌<◌, ◌≤◌, true, cond, nat_eq, List, [], length, Option, Some, None, option_map, IsSome, is_some}
 use Rattle.std.specs.List.{find, filter_map}
 use Rattle.std.specs.FinMap as map
-use Rattle.slotmap.specs.Words.{Key, key_cmp, Content, IsLive, without_values, used as used_slots, places}
+use Rattle.slotmap.specs.Words.{Key, key_cmp, Content}
 use Rattle.slotmap_links.specs.Lists.{Lists, list_of, times}
 
 module _ {T : Type 0} where
@@ -24,26 +24,23 @@ module _ {T : Type 0} where
   key_of m None = None
   key_of m (Some i) = option_map (λ e. e.0) (at_index m i)
 
-  -- each of these numbers is the index of a live key, and no two live keys have one index
+  -- no two live keys have one index
+  abbrev pub AreApart : map.FinMap key_cmp T → Type 0
+  AreApart m = (a b : Key) → map.contains_key m a ≡ true → map.contains_key m b ≡ true → a.index ≡ b.index → a ≡ b
+
+  -- each of these numbers is the index of a live key
   pub record AreIndices (m : map.FinMap key_cmp T) (is : List ℕ) : Type 0 where
-    pub apart : (a b : Key) → map.contains_key m a ≡ true → map.contains_key m b ≡ true → a.index ≡ b.index → a ≡ b
+    pub apart : AreApart m
     pub live : (i : ℕ) → 0 < times i is → IsSome (at_index m i)
 
-  -- the cursors, with the room and the capacity that both the map and the links have
-  abbrev pub cursors_of : Content T → ℕ → Content (Unit {0})
-  cursors_of values members = record (without_values values) { room = min values.room (members - (used_slots values + 1)); capacity = min values.capacity (members - 1) }
-
   -- the list of owner 0 has the index of each live key once
-  pub record IsKept (values : Content T) (links : Lists) (used : ℕ) : Type 0 where
+  pub record IsKept (values : Content T) (links : Lists) : Type 0 where
     pub owner : length links.lists ≡ 1
-    pub indices : AreIndices values.live (list_of links 0)
-    pub once : (i : ℕ) → times i (list_of links 0) ≤ 1
+    pub apart : AreApart values.live
+    pub each : (i : ℕ) → times i (list_of links 0) ≡ cond (is_some (at_index values.live i)) 1 0
     pub within : (i : ℕ) → 0 < times i (list_of links 0) → i < links.members
-    pub all : (k : Key) → IsLive values k → 0 < times k.index (list_of links 0)
-    -- this many slots are in use
-    pub used_is : used ≡ used_slots values
-    -- there is a link for each slot
-    pub covered : places values < links.members
+    -- there is a link for each index that a key can have
+    pub covered : values.capacity < links.members
 
   -- an iterator from a cursor on has these indices left, which are so many at most
   pub record IsRest (m : map.FinMap key_cmp T) (is : List ℕ) (most : ℕ) : Type 0 where

@@ -46,11 +46,8 @@ impl<K: Key, T: Drop> StableList<K, T> {
         ensures capacity { self.new.cursors.capacity ≡ self.old.cursors.capacity }
         ensures gone { KeepsSpent self.old.cursors self.new.cursors }
     {
-        let Ok(key) = self.values.insert(value) else {
-            unreachable!()
-        };
+        let key = self.values.insert_reserved(value);
         put_index(&mut self.links, place, key.data().idx());
-        self.used += 1;
         key
     }
 

@@ -28,7 +28,6 @@ impl<K: Key, T: Clone> StableList<K, T> {
         Ok(StableList {
             values: self.values.clone()?,
             links: self.links.clone()?,
-            used: self.used,
         })
     }
 }

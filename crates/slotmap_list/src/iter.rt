@@ -5,7 +5,8 @@ ghost use Rattle.slotmap_list.specs.Sequence.{IsOnce};
 ghost use Rattle.std.specs.Iterator.{YieldsFirstBy, YieldsLastBy, item_count, at_most, UpTo};
 
 use crate::StableList;
-use slotmap::{Key, SlotMap};
+use slotmap::Key;
+use slotmap_bounded::BoundedMap;
 use slotmap_links::Members;
 use std::iter::FusedIterator;
 use std::marker::Model;
@@ -16,7 +17,7 @@ use std::marker::Model;
 /// its end it yields nothing.
 #[derive(Drop)]
 pub struct Iter<'a, K, T> {
-    pub(super) values: &'a SlotMap<K, T>,
+    pub(super) values: &'a BoundedMap<K, T>,
     pub(super) indices: Members<'a>,
 }
 
@@ -43,7 +44,7 @@ impl<'a, K: Key, T: Drop> Iterator for Iter<'a, K, T> {
     fn next(&mut self) -> Option<(K, &'a T)> {
         let index = self.indices.next()?;
         let cursor = self.values.key_at(index)?;
-        Some((cursor, self.values.get_unchecked(cursor)))
+        Some((cursor, self.values.value(cursor)))
     }
 
     fn size_hint(&self) -> (usize, Option<usize>)
@@ -62,7 +63,7 @@ impl<'a, K: Key, T: Drop> DoubleEndedIterator for Iter<'a, K, T> {
     fn next_back(&mut self) -> Option<(K, &'a T)> {
         let index = self.indices.next_back()?;
         let cursor = self.values.key_at(index)?;
-        Some((cursor, self.values.get_unchecked(cursor)))
+        Some((cursor, self.values.value(cursor)))
     }
 }
 

@@ -19,7 +19,7 @@
 //! - `clone` takes time linear in the number of slots: that of the most elements that there were at once.
 //! - A push or an insert may have to grow the vectors of the list, and takes constant time on average.
 //!
-//! The values lie in a [`SlotMap`]. Their order lies apart from them, in 8 bytes a slot: links of 4 bytes
+//! The values lie in a map. Their order lies apart from them, in 8 bytes a slot: links of 4 bytes
 //! by the index of the slot.
 //!
 //! ```
@@ -42,7 +42,8 @@ ghost use Rattle.slotmap.specs.Words.{IsNew, IsSpent, Keeps, KeepsSpent, MakesRo
 ghost use Rattle.slotmap_list.specs.Kept.{key_of};
 ghost use Rattle.slotmap_list.specs.Sequence.{value_of, first_or, last_or, key_after, key_before, IsOnce};
 
-use slotmap::{Key, ReserveError, SlotMap};
+use slotmap::{Key, ReserveError};
+use slotmap_bounded::BoundedMap;
 use slotmap_links::Links;
 use std::alloc::{AllocError, Global};
 use std::marker::Model;
@@ -78,11 +79,9 @@ pub use values::{Cursors, Values};
 #[derive(Drop)]
 pub struct StableList<K, T> {
     // The values, each under the cursor of its element.
-    values: SlotMap<K, T>,
+    values: BoundedMap<K, T>,
     // The list of owner 0 has the indices of the cursors, from front to back.
     links: Links,
-    // How many slots of the map are in use: those of elements, and those that are retired.
-    used: usize,
 }
 
 impl<K, T> Model for StableList<K, T> {
@@ -93,11 +92,12 @@ impl<K, T> Model for StableList<K, T> {
     ghost coded = { sequence_code T.code };
 
     ghost use Rattle.slotmap_links.specs.Lists.{list_of};
-    ghost use Rattle.slotmap_list.specs.Kept.{elements_at, cursors_of, IsKept};
+    ghost use Rattle.slotmap.specs.Words.{without_values};
+    ghost use Rattle.slotmap_list.specs.Kept.{elements_at, IsKept};
 
-    ghost view = { λ l. record { elements = elements_at l.values.live (list_of l.links 0); cursors = cursors_of l.values l.links.members } };
+    ghost view = { λ l. record { elements = elements_at l.values.live (list_of l.links 0); cursors = without_values l.values } };
 
-    ghost invariant = { λ l. IsKept l.values l.links l.used };
+    ghost invariant = { λ l. IsKept l.values l.links };
 }
 
 /// An element was not added at an end. The error holds its value.
@@ -125,7 +125,7 @@ pub enum PlaceError<T> {
     Memory(T),
 }
 
-// How many slots a map has at most.
+// How many elements a list has at most.
 const MOST: usize = 4294967294;
 
 // Makes links for the numbers below `members`, with one list, which is empty.
@@ -139,25 +139,27 @@ fn one_list(alloc: Global, members: usize) -> Result<Links, AllocError>
     Ok(links)
 }
 
-// Lets the numbers below `needed` be in the list. If they aren't yet, it makes links for all slots for which the map has memory.
-fn cover(links: &mut Links, needed: usize, capacity: usize) -> Result<(), AllocError>
+// Lets the numbers below `needed` be in the list. Where links have to be added, there are twice as many then, or more.
+fn cover(links: &mut Links, needed: usize) -> Result<(), AllocError>
     requires { needed < 2 ^ 32 }
     ensures covers { OnOk result (needed ≤ links.new.members) }
     ensures lists { links.new.lists ≡ links.old.lists }
     ensures more { links.old.members ≤ links.new.members }
     ensures had_room { needed ≤ links.old.members → IsOk result }
-    ensures same { needed ≤ links.old.members → links.new.members ≡ links.old.members }
 {
-    if needed <= links.members() {
+    let members = links.members();
+    if needed <= members {
         return Ok(());
     }
-    links.cover_members(needed.max(capacity.min(MOST) + 1))
+    links.cover_members(needed.max((members * 2).min(MOST)))
 }
 
 // The live key with an index, if there is one.
-fn key_at<K: Key, T: Drop>(values: &SlotMap<K, T>, index: Option<u32>) -> Option<K>
+fn key_at<K: Key, T: Drop>(values: &BoundedMap<K, T>, index: Option<u32>) -> Option<K>
     ensures { option_map K.data_of result ≡ key_of values.now.live index }
 {
+    // By what `len` ensures, no two live keys have one index.
+    let _ = values.len();
     values.key_at(index?)
 }
 
@@ -230,15 +232,11 @@ impl<K: Key, T: Drop> StableList<K, T> {
         ensures room { IfOk result (λ list. capacity ≤ list.cursors.room) }
         ensures err { IfErr result (RefusesCapacity capacity) }
     {
-        let values = SlotMap::with_capacity_and_key(alloc, capacity)?;
+        let values = BoundedMap::with_capacity(alloc, capacity)?;
         let Ok(links) = one_list(alloc, capacity + 1) else {
             return Err(ReserveError::Memory);
         };
-        Ok(StableList {
-            values,
-            links,
-            used: 0,
-        })
+        Ok(StableList { values, links })
     }
 
     /// Reserves room for `additional` more elements.
@@ -269,12 +267,11 @@ impl<K: Key, T: Drop> StableList<K, T> {
         ensures keeps { Keeps self.old.cursors self.new.cursors }
         ensures gone { KeepsSpent self.old.cursors self.new.cursors }
     {
-        self.values.reserve(additional)?;
-        let needed = self.used + additional + 1;
-        if cover(&mut self.links, needed, self.values.capacity()).is_err() {
+        let capacity = self.values.capacity_for(additional)?;
+        if cover(&mut self.links, capacity + 1).is_err() {
             return Err(ReserveError::Memory);
         }
-        Ok(())
+        self.values.reserve(additional)
     }
 
     /// Returns for how many elements there is memory, in constant time.
@@ -289,7 +286,7 @@ impl<K: Key, T: Drop> StableList<K, T> {
     pub fn capacity(&self) -> usize
         ensures { result ≡ self.now.cursors.capacity }
     {
-        self.values.capacity().min(self.links.members() - 1)
+        self.values.capacity()
     }
 
     /// Returns whether a cursor is in the list, in constant time.

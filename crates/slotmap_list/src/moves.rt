@@ -7,8 +7,8 @@ ghost use Rattle.slotmap.specs.Words.{Key as KeyOf};
 ghost use Rattle.slotmap_list.specs.Sequence.{value_of, first_or, last_or, moved_to_front, moved_to_back, moved_after, moved_before, are_two, Swaps};
 ghost use Rattle.slotmap_list.specs.Places.{is_move, moved_to, before_or_back};
 
+use crate::StableList;
 use crate::place::{Place, Side, cursor_of, put_index};
-use crate::{StableList, key_at};
 use slotmap::Key;
 
 // The place before a cursor, or the back if there is none.
@@ -63,9 +63,8 @@ impl<K: Key, T: Drop> StableList<K, T> {
         ensures* writes_back { sem 𝓛 (lends_first K.row T.row self.entry result) }
         ensures value { option_copied_mut result ≡ slice_get (list_map (λ e. e.1) self.old.elements) 0 }
     {
-        let cursor = key_at(&self.values, self.links.first(0)).unwrap_or(K::null());
-        match self.values.get_mut(cursor) {
-            Some(value) => Some(value),
+        match self.first() {
+            Some(cursor) => Some(self.value_mut(cursor)),
             None => None,
         }
     }
@@ -87,9 +86,10 @@ impl<K: Key, T: Drop> StableList<K, T> {
         ensures* writes_back { sem 𝓛 (lends_last K.row T.row self.entry result) }
         ensures value { option_copied_mut result ≡ slice_get (list_map (λ e. e.1) self.old.elements) (length self.old.elements - 1) }
     {
-        let cursor = key_at(&self.values, self.links.last(0)).unwrap_or(K::null());
-        match self.values.get_mut(cursor) {
-            Some(value) => Some(value),
+        // By what `len` ensures, no cursor stands twice.
+        let _ = self.len();
+        match self.last() {
+            Some(cursor) => Some(self.value_mut(cursor)),
             None => None,
         }
     }

@@ -5,7 +5,8 @@ ghost use Rattle.std.specs.Iterator.{YieldsFirstBy, item_count, at_most, UpTo};
 ghost use Rattle.slotmap_list.specs.Sequence.{from_key, IsOnce};
 
 use crate::StableList;
-use slotmap::{Key, SlotMap};
+use slotmap::Key;
+use slotmap_bounded::BoundedMap;
 use slotmap_links::MembersFrom;
 use std::iter::FusedIterator;
 use std::marker::Model;
@@ -16,7 +17,7 @@ use std::marker::Model;
 /// nothing. It doesn't know how many are left, and goes forward only.
 #[derive(Drop)]
 pub struct IterFrom<'a, K, T> {
-    values: &'a SlotMap<K, T>,
+    values: &'a BoundedMap<K, T>,
     indices: Option<MembersFrom<'a>>,
     // At most so many elements are left.
     most: usize,
@@ -48,7 +49,7 @@ impl<'a, K: Key, T: Drop> Iterator for IterFrom<'a, K, T> {
         };
         let index = indices.next()?;
         let cursor = self.values.key_at(index)?;
-        Some((cursor, self.values.get_unchecked(cursor)))
+        Some((cursor, self.values.value(cursor)))
     }
 
     fn size_hint(&self) -> (usize, Option<usize>)

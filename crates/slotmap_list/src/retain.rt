@@ -13,7 +13,7 @@ impl<K: Key, T: Drop> StableList<K, T> {
     ghost use Rattle.slotmap_list.specs.Lends.{lends_value};
 
     // The value of a cursor that is in the list.
-    fn value_mut(&mut self, cursor: K) -> &mut T
+    pub(crate) fn value_mut(&mut self, cursor: K) -> &mut T
         requires { IsSome (value_of (K.data_of cursor) self.old.elements) }
         ensures* lends { sem 𝓛 (lends_value K.row T.row self.entry (K.data_of cursor) result) }
         ensures value { value_of (K.data_of cursor) self.old.elements ≡ Some result.now }

@@ -1,23 +1,11 @@
 //! The calls that remove elements.
 
-ghost use Rattle.std.specs.Prelude.{◌≡◌, ◌+◌, ◌<◌, if◌then◌else◌, [], IfNone, IfSome, OnSome, IsSome, None, option_map};
-ghost use Rattle.slotmap.specs.Words.{Key as KeyOf, IsSpent, KeepsSpent, Leaves, Removes, is_last};
+ghost use Rattle.std.specs.Prelude.{◌≡◌, [], IfNone, IfSome, OnSome, IsSome, None, option_map};
+ghost use Rattle.slotmap.specs.Words.{Key as KeyOf, IsSpent, KeepsSpent, Leaves, Removes};
 ghost use Rattle.slotmap_list.specs.Sequence.{value_of, without, TakesFront, TakesBack};
 
 use crate::{StableList, key_at};
-use slotmap::{Key, KeyData};
-
-// How many slots are in use once a key was removed. Its slot isn't, unless that was its last key.
-fn used_without(used: usize, key: KeyData) -> usize
-    requires { 0 < used }
-    ensures { result + (if is_last key then 0 else 1) ≡ used }
-{
-    if key.version() == u32::MAX {
-        used
-    } else {
-        used - 1
-    }
-}
+use slotmap::Key;
 
 impl<K: Key, T: Drop> StableList<K, T> {
     /// Removes the element of a cursor, and returns its value, or `None` if the cursor isn't in the
@@ -41,9 +29,7 @@ impl<K: Key, T: Drop> StableList<K, T> {
         ensures stale { IfNone result (self.new ≡ self.old) }
     {
         let value = self.values.remove(cursor)?;
-        let key = cursor.data();
-        self.links.take_out(0, key.idx());
-        self.used = used_without(self.used, key);
+        self.links.take_out(0, cursor.data().idx());
         Some(value)
     }
 

@@ -1,6 +1,6 @@
 use Rattle.std.proofs.Common.{sym, ap, ◌∙◌}
 use Rattle.slotmap.specs.Words.{Key}
-use Rattle.slotmap_list.proofs.Seen.{after_gone, after_is, no_key_twice}
+use Rattle.slotmap_list.proofs.Seen.{after_gone, after_is, below, no_key_twice}
 use Rattle.slotmap_list.proofs.StableList.after.Goals as goal
 
 pub returns-then-not-contains_key-clause-value : goal.returns-then-not-contains_key-clause-value
@@ -16,3 +16,6 @@ returns-clause-value g c =
 
 pub returns-clause-once : goal.returns-clause-once
 returns-clause-once g c = rw (← c.self.view_is) (no_key_twice c.self.invariant)
+
+pub next-requires : goal.next-requires
+next-requires g c = below c.self.invariant (g.K.Key.data_of c.args.cursor) (sym c.contains_key.ensures.value ∙ c.if-not-contains_key.false) c.idx.result (c.idx.ensures.value ∙ ap (λ (k : Key). k.index) c.data.ensures.value)

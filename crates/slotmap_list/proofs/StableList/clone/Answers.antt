@@ -1,9 +1,9 @@
+use Rattle.slotmap_keylist.proofs.Alone.{alone-copy}
 use Rattle.slotmap_list.proofs.Keeps.{kept_cloned, elements_cloned, clones_are_same}
-use Rattle.slotmap_list.proofs.Room.{cursors_copied}
 use Rattle.slotmap_list.proofs.StableList.clone.Goals as goal
 
 pub invariant_of-result : goal.invariant_of-result
-invariant_of-result g c = rw c.in_ok-clone-2.ensures (kept_cloned g.T.Clone.is_clone c.self.invariant c.in_ok-clone.ensures.clones)
+invariant_of-result g c = rw c.in_ok-clone-2.ensures (kept_cloned g.T.Clone.is_clone c.self.invariant c.in_ok-clone.ensures.clones c.in_ok-clone.ensures.capacity)
 
 pub returns-clause-clones : goal.returns-clause-clones
 returns-clause-clones g c = rw (c.in_ok-clone-2.ensures, ← c.self.view_is) (elements_cloned g.T.Clone.is_clone c.self.invariant c.in_ok-clone.ensures.clones)
@@ -12,4 +12,4 @@ pub returns-clause-same_if_clones_equal : goal.returns-clause-same_if_clones_equ
 returns-clause-same_if_clones_equal g c same = clones_are_same g.T.Clone.is_clone same _ _ (returns-clause-clones g c)
 
 pub returns-clause-cursors : goal.returns-clause-cursors
-returns-clause-cursors g c = rw (c.in_ok-clone-2.ensures, ← c.self.view_is) (cursors_copied _ _ _ _ c.in_ok-clone.ensures.clones)
+returns-clause-cursors g c = rw (← c.self.view_is) (alone-copy _ _ _ c.in_ok-clone.ensures.clones)

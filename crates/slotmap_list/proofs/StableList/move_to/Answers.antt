@@ -4,7 +4,7 @@ use Rattle.slotmap_links.specs.Lists.{list_of}
 use Rattle.slotmap_list.specs.Sequence.{Sequence, value_of}
 use Rattle.slotmap_list.specs.Kept.{elements_at}
 use Rattle.slotmap_list.specs.Places.{is_move, moved_to}
-use Rattle.slotmap_list.proofs.Moved.{elements_again, free_left, has_left, kept_again, member, values_again}
+use Rattle.slotmap_list.proofs.Moved.{Moves, moves}
 use Rattle.slotmap_list.proofs.Moving.{move_stays, seen_as}
 use Rattle.slotmap_list.proofs.StableList.move_to.Goals as goal
 use Rattle.slotmap_list.proofs.StableList.move_to.Goals.{After-idx-index}
@@ -15,42 +15,34 @@ can g c = ap (λ (s : Sequence g.row.T.Denot). is_move (g.K.Key.data_of c.args.c
 index : (g : _) (c : After-idx-index g) → c.idx-index.result ≡ (g.K.Key.data_of c.args.cursor).index
 index g c = c.idx-index.ensures.value ∙ ap (λ (k : Key). k.index) c.data.ensures.value
 
+made : (g : _) (c : After-idx-index g) → Moves c.self.invariant (g.K.Key.data_of c.args.cursor) c.args.place (can g c)
+made g c = moves c.self.invariant (g.K.Key.data_of c.args.cursor) c.args.place (can g c)
+
 pub returns-then-not-can_move-clause-moved : goal.returns-then-not-can_move-clause-moved
 returns-then-not-can_move-clause-moved g c =
     seen_as c.args.self.now c.args.self.now.elements _ c.args.self.now.cursors
     (move_stays c.args.place (g.K.Key.data_of c.args.cursor) c.args.self.now.elements (sym c.can_move.ensures ∙ c.if-not-can_move.true)) refl
 
 pub take_out-requires-clause-member : goal.take_out-requires-clause-member
-take_out-requires-clause-member g c =
-    let at = (goal.at.take_out-requires-clause-member g c).After-idx-index in
-    rw (index g at) (member c.self.invariant (g.K.Key.data_of c.args.cursor) c.args.place (can g at))
+take_out-requires-clause-member g c = let at = (goal.at.take_out-requires-clause-member g c).After-idx-index in rw (index g at) (made g at).member
 
 pub put_index-requires-clause-free : goal.put_index-requires-clause-free
-put_index-requires-clause-free g c =
-    let at = (goal.at.put_index-requires-clause-free g c).After-idx-index in
-    rw (c.take_out.ensures, index g at) (free_left c.self.invariant (g.K.Key.data_of c.args.cursor) c.args.place (can g at))
+put_index-requires-clause-free g c = let at = (goal.at.put_index-requires-clause-free g c).After-idx-index in rw (c.take_out.ensures, index g at) (made g at).free
 
 pub put_index-requires-clause-place : goal.put_index-requires-clause-place
-put_index-requires-clause-place g c =
-    let at = (goal.at.put_index-requires-clause-place g c).After-idx-index in
-    rw (c.take_out.ensures, index g at) (has_left c.self.invariant (g.K.Key.data_of c.args.cursor) c.args.place (can g at))
+put_index-requires-clause-place g c = let at = (goal.at.put_index-requires-clause-place g c).After-idx-index in rw (c.take_out.ensures, index g at) (made g at).has
 
 pub invariant_of-self : goal.invariant_of-self
-invariant_of-self g c =
-    let at = (goal.at.invariant_of-self g c).After-idx-index in
-    rw (c.put_index.ensures, c.take_out.ensures, index g at) (kept_again c.self.invariant (g.K.Key.data_of c.args.cursor) c.args.place (can g at))
+invariant_of-self g c = let at = (goal.at.invariant_of-self g c).After-idx-index in rw (c.put_index.ensures, c.take_out.ensures, index g at) (made g at).stays
 
 pub returns-clause-moved : goal.returns-clause-moved
 returns-clause-moved g c =
     let at = (goal.at.returns-clause-moved g c).After-idx-index in
-    let k = g.K.Key.data_of c.args.cursor in
     rw (c.put_index.ensures, c.take_out.ensures, index g at)
-    (seen_as c.args.self.now _ _ _ (elements_again c.self.invariant k c.args.place (can g at) ∙ ap (λ (s : Sequence g.row.T.Denot). moved_to c.args.place k s.elements) c.self.view_is)
+    (seen_as c.args.self.now _ _ _ ((made g at).elements ∙ ap (λ (s : Sequence g.row.T.Denot). moved_to c.args.place (g.K.Key.data_of c.args.cursor) s.elements) c.self.view_is)
     (ap (λ (s : Sequence g.row.T.Denot). s.cursors) c.self.view_is))
 
 pub returns-clause-values : goal.returns-clause-values
 returns-clause-values g c q =
     let at = (goal.at.returns-clause-values g c).After-idx-index in
-    let k = g.K.Key.data_of c.args.cursor in
-    rw (c.put_index.ensures, c.take_out.ensures, index g at, ← c.self.view_is)
-    (ap (value_of q) (elements_again c.self.invariant k c.args.place (can g at)) ∙ values_again c.self.invariant k c.args.place (can g at) q)
+    rw (c.put_index.ensures, c.take_out.ensures, index g at, ← c.self.view_is) (ap (value_of q) (made g at).elements ∙ (made g at).values q)

@@ -9,11 +9,11 @@ returns-in_err-cursor-clause-steps g c =
 
 pub returns-clause-steps : goal.returns-clause-steps
 returns-clause-steps g c =
-    sym c.self.view_is ∙ back_is c.self.invariant c.in_ok-index.index c.next_back.new.self (g.K.Key.data_of c.in_ok-cursor.cursor) c.get_unchecked.result.now
-    c.in_ok-cursor.ensures.index c.get_unchecked.ensures.value c.in_ok-index.ensures.steps
+    sym c.self.view_is ∙ back_is c.self.invariant c.in_ok-index.index c.next_back.new.self (g.K.Key.data_of c.in_ok-cursor.cursor) c.value.result.now
+    c.in_ok-cursor.ensures.index c.value.ensures c.in_ok-index.ensures.steps
 
 pub returns-clause-goes : goal.returns-clause-goes
 returns-clause-goes g c =
     let rest = elements_at c.self.inside.values.now.live c.next_back.new.self in
-    let long = ap length (returns-clause-steps g c) ∙ length-append rest ((g.K.Key.data_of c.in_ok-cursor.cursor, c.get_unchecked.result.now) ∷ []) in
+    let long = ap length (returns-clause-steps g c) ∙ length-append rest ((g.K.Key.data_of c.in_ok-cursor.cursor, c.value.result.now) ∷ []) in
     record { on = λ _. (tt, tt, omega (arith, long)); keeps = tt; rests = λ _. tt }

@@ -8,5 +8,5 @@ returns-in_err-cursor-clause-steps g c =
 
 pub returns-clause-steps : goal.returns-clause-steps
 returns-clause-steps g c =
-    sym c.self.view_is ∙ front_is c.self.invariant c.in_ok-index.index c.next.new.self (g.K.Key.data_of c.in_ok-cursor.cursor) c.get_unchecked.result.now
-    c.in_ok-cursor.ensures.index c.get_unchecked.ensures.value c.in_ok-index.ensures.steps
+    sym c.self.view_is ∙ front_is c.self.invariant c.in_ok-index.index c.next.new.self (g.K.Key.data_of c.in_ok-cursor.cursor) c.value.result.now
+    c.in_ok-cursor.ensures.index c.value.ensures c.in_ok-index.ensures.steps

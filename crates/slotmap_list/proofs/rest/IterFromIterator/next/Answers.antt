@@ -12,5 +12,5 @@ pub returns-clause-steps : goal.returns-clause-steps
 returns-clause-steps g c =
     let all = (rw c.in-Some.is at c.self.invariant).indices in
     sym c.self.view_is ∙ ap (λ o. elements_at c.self.inside.values.now.live (all_of o)) c.in-Some.is
-    ∙ front_is all c.in_ok-index.index c.next.new.self (g.K.Key.data_of c.in_ok-cursor.cursor) c.get_unchecked.result.now
-    c.in_ok-cursor.ensures.index c.get_unchecked.ensures.value c.in_ok-index.ensures.steps
+    ∙ front_is all c.in_ok-index.index c.next.new.self (g.K.Key.data_of c.in_ok-cursor.cursor) c.value.result.now
+    c.in_ok-cursor.ensures.index c.value.ensures c.in_ok-index.ensures.steps
