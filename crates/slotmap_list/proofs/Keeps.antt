@@ -1,5 +1,5 @@
 -- What each change of the map and of the links leaves of a list.
-use Rattle.std.proofs.Common.{◌≡◌, ◌≢◌, ℕ, zero, suc, ◌+◌, ◌<◌, ◌≤◌, true, false, cond, List, [], ◌∷◌, ◌++◌, length, Option, Some, None, is_some, inl, inr, refl, sym, ap, subst, ◌∙◌, arith}
+use Rattle.std.proofs.Common.{◌≡◌, ◌≢◌, ℕ, zero, suc, ◌+◌, ◌<◌, ◌≤◌, true, cond, List, [], ◌∷◌, ◌++◌, length, Option, Some, None, is_some, inl, inr, refl, sym, ap, subst, ◌∙◌, arith}
 use Rattle.std.specs.FinMap as map
 use Rattle.std.proofs.Math.ListN.{get_or-eq_default}
 use Rattle.slotmap.specs.Words.{Key, key_cmp, Content, IsContent, IsLive, Inserts, Removes, Keeps, IsCloneBy, IsCloneOf, AreClones, ClonesEqual, IsNew, without_values, with_value}

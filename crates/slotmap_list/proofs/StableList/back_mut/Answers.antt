@@ -1,4 +1,4 @@
-use Rattle.std.proofs.Common.{◌≡◌, [], length, None, option_map, refl, sym, ap, ◌∙◌}
+use Rattle.std.proofs.Common.{option_map, refl, sym, ap, ◌∙◌}
 use Rattle.slotmap.proofs.Callers.{same_lent, same_unlent}
 use Rattle.slotmap_list.proofs.Elements.{last_in, no_last, some_there}
 use Rattle.slotmap_list.proofs.Ends.{back_there, last_there}

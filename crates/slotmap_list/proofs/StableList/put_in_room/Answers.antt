@@ -1,4 +1,4 @@
-use Rattle.std.proofs.Common.{◌≡◌, true, refl, sym, ap, ◌∙◌, arith}
+use Rattle.std.proofs.Common.{◌≡◌, true, refl, ap, ◌∙◌, arith}
 use Rattle.slotmap.specs.Words.{Key}
 use Rattle.slotmap.proofs.Callers.{spent_inserts}
 use Rattle.slotmap_keylist.proofs.Alone.{alone-inserts, gone_stays, new_not_gone}

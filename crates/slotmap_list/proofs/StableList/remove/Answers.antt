@@ -1,4 +1,4 @@
-use Rattle.std.proofs.Common.{◌≡◌, true, Some, None, is_some, refl, sym, ap, ◌∙◌}
+use Rattle.std.proofs.Common.{◌≡◌, true, Some, is_some, refl, sym, ap, ◌∙◌}
 use Rattle.std.specs.FinMap as map
 use Rattle.slotmap.proofs.Callers.{leaves_by_removal, leaves_none, removed_spent, spent_removes}
 use Rattle.slotmap_keylist.proofs.Alone.{alone-leaves, alone-removes, gone_here, gone_stays}

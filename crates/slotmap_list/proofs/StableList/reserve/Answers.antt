@@ -1,4 +1,4 @@
-use Rattle.std.proofs.Common.{◌≡◌, ◌+◌, ◌<◌, ◌≤◌, Ok, false, true, refl, sym, ap, ◌∙◌, arith, rules, IsOk, is_err}
+use Rattle.std.proofs.Common.{◌≡◌, false, true, sym, ap, ◌∙◌, arith, rules}
 use Rattle.slotmap.specs.Words.{MakesRoom, used}
 use Rattle.slotmap_keylist.proofs.Alone.{alone-room, used_alone}
 use Rattle.slotmap_list.specs.Sequence.{Sequence}
@@ -12,8 +12,8 @@ stuck : (g : _) (c : Then-is_err g) → MakesRoom true c.self.inside.values c.ar
 stuck g c =
     let covered = c.self.invariant.covered in
     no_room_made c.self.inside.values c.args.additional (false ≡ true) c.capacity_for.ensures.valid (λ ok. (cc)) (λ fits. absurd (
-        let same : c.in_ok-capacity.capacity ≡ c.self.inside.values.capacity = (let is = sym c.in_ok-capacity.was ∙ c.capacity_for.ensures.had_room fits in cc) in
-        not_both c.cover.result (c.cover.ensures.had_room (omega arith)) (search rules)))
+    let same : c.in_ok-capacity.capacity ≡ c.self.inside.values.capacity = (let is = sym c.in_ok-capacity.was ∙ c.capacity_for.ensures.had_room fits in cc) in
+    not_both c.cover.result (c.cover.ensures.had_room (omega arith)) (search rules)))
 
 pub returns-in_err-capacity-clause-makes_room : goal.returns-in_err-capacity-clause-makes_room
 returns-in_err-capacity-clause-makes_room g c =
