@@ -1,7 +1,7 @@
 -- Many values that are added at the back.
 use Rattle.std.specs.FinMap as map
 use Rattle.std.specs.FinSet as set
-use Rattle.std.proofs.Common.{ℕ, zero, suc, IsErr, ◌<◌, ◌≡◌, ◌≤◌, ◌⊎◌, cond, List, [], ◌∷◌, ◌++◌, length, map as list_map, Some, None, is_some, ◌+◌, IsSome, Result, Ok, Err, IsOk, IfOk, inl, inr, refl, sym, ap, subst, ◌∙◌, arith, append_assoc, append-nil}
+use Rattle.std.proofs.Common.{ℕ, zero, suc, IsErr, ◌<◌, ◌≡◌, ◌≤◌, ◌⊎◌, List, [], ◌∷◌, ◌++◌, length, map as list_map, Some, IsSome, Result, Ok, Err, IsOk, IfOk, inl, inr, refl, sym, ap, subst, ◌∙◌, arith, append_assoc, append-nil}
 use Rattle.slotmap.specs.Words.{Key, key_cmp, Content, IsNew, IsSpent, KeepsSpent, Inserts, Keeps, Leaves, used}
 use Rattle.slotmap.proofs.Callers.{keys_total, exact_keys, leaves_in_turn, leaves_none, tied}
 use Rattle.slotmap_list.specs.Sequence.{Sequence, value_of, TakesFront}
@@ -21,17 +21,12 @@ no_room zero r err fits = refl
 no_room (suc n) (Ok x) err fits = absurd (cc)
 no_room (suc n) (Err e) err fits = absurd (let ok = fits (omega arith) in cc)
 
--- how many slots are in use: none in a new map, one more after an insert, and as many where a call keeps the content
-pub used_new : (c : Content (Unit {0})) → IsNew c → used c ≡ 0
-used_new c new = omega (arith, ap map.len new.live ∙ map.len-empty key_cmp (Unit {0}), ap set.len new.detached ∙ set.len-empty key_cmp, ap set.len new.retired ∙ set.len-empty key_cmp)
-
-pub used_inserted : {V : Type 0} (old new : Content V) (k : Key) (v : V) → map.get old.live k ≡ None → Inserts old k v new → used new ≡ used old + 1
-used_inserted old new k v fresh inserts =
-    let live = ap map.len inserts.live ∙ map.len-insert keys_total old.live k v ∙ ap (λ o. cond (is_some o) (map.len old.live) (map.len old.live + 1)) fresh in
-    omega (arith, live, ap set.len inserts.detached, ap set.len inserts.retired)
-
+-- as many slots are in use where a call keeps the content, and none in a new map
 pub used_kept : (old new : Content (Unit {0})) → Keeps old new → used new ≡ used old
 used_kept old new keeps = omega (arith, ap map.len keeps.live, ap set.len keeps.detached, ap set.len keeps.retired)
+
+pub used_new : (c : Content (Unit {0})) → IsNew c → used c ≡ 0
+used_new c new = omega (arith, ap map.len new.live ∙ map.len-empty key_cmp (Unit {0}), ap set.len new.detached ∙ set.len-empty key_cmp, ap set.len new.retired ∙ set.len-empty key_cmp)
 
 module _ {T : Type 0} where
   pub refused_is : (cursors : Content (Unit {0})) (v : T) (error : PushError T) → RefusesPush cursors v error → refused error ≡ v

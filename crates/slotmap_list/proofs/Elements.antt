@@ -1,10 +1,10 @@
 -- Lists of elements: how often a key stands in one, its two ends, and its parts.
 use Rattle.std.proofs.Common.{◌≡◌, ◌≢◌, ℕ, ◌+◌, ◌<◌, ◌≤◌, ◌⊎◌, Bool, true, false, cond, List, [], ◌∷◌, ◌++◌, Option, Some, None, IsSome}
-use Rattle.std.proofs.Common.{length, refl, sym, ap, ◌∙◌, inl, inr, arith, length-append}
+use Rattle.std.proofs.Common.{refl, sym, ap, ◌∙◌, inl, inr, arith}
 use Rattle.std.specs.Ordering.{eq_by_cmp}
 use Rattle.slotmap.specs.Words.{Key, key_cmp}
 use Rattle.slotmap.proofs.Callers.{keys_total, exact_keys, tied, untied, itself, same_or_other}
-use Rattle.slotmap_list.specs.Sequence.{value_of, first_or, last_or, key_after, key_before, put_after, put_before, without, with_value_at, IsOnce}
+use Rattle.slotmap_list.specs.Sequence.{value_of, first_or, last_or, key_after, key_before, from_key, put_after, put_before, without, with_value_at, IsOnce}
 
 abbrev pub same : Key → Key → Bool
 same q k = eq_by_cmp key_cmp q k
@@ -49,9 +49,6 @@ module _ {T : Type 0} where
   pub times-put : (q : Key) (ys : List (Key × T)) (e : Key × T) (zs : List (Key × T)) → times q (ys ++ e ∷ zs) ≡ one q e.0 + times q (ys ++ zs)
   times-put q ys e zs = omega (arith, times-append q ys (e ∷ zs), times-append q ys zs)
 
-  pub length-put : (ys : List (Key × T)) (e : Key × T) (zs : List (Key × T)) → length (ys ++ e ∷ zs) ≡ 1 + length (ys ++ zs)
-  length-put ys e zs = omega (arith, length-append ys (e ∷ zs), length-append ys zs)
-
   pub times_none : (q : Key) (es : List (Key × T)) → value_of q es ≡ None → times q es ≡ 0
   times_none q [] none = refl
   times_none q (e ∷ es) none = grind (arith, times_none q es, one_other q e.0, untied keys_total exact_keys q e.0)
@@ -88,14 +85,7 @@ module _ {T : Type 0} where
   pub once_drop : (ys : List (Key × T)) (e : Key × T) (zs : List (Key × T)) → IsOnce (ys ++ e ∷ zs) → IsOnce (ys ++ zs)
   once_drop ys e zs once = once_if (ys ++ zs) (λ q. (let few = at_most_once (ys ++ e ∷ zs) once q in let sum = times-put q ys e zs in omega arith))
 
-  pub once_put : (ys : List (Key × T)) (k : Key) (v : T) (zs : List (Key × T)) → IsOnce (ys ++ zs) → times k (ys ++ zs) ≡ 0 → IsOnce (ys ++ (k, v) ∷ zs)
-  once_put ys k v zs once none = once_if (ys ++ (k, v) ∷ zs) (λ q. grind (arith, at_most_once (ys ++ zs) once q, times-put q ys (k, v) zs, one_itself q, one_other q k, same_or_other q k))
-
   -- the ends of a list
-  pub first_or-append : (xs ys : List (Key × T)) (o : Option Key) → first_or (xs ++ ys) o ≡ first_or xs (first_or ys o)
-  first_or-append [] ys o = refl
-  first_or-append (x ∷ xs) ys o = refl
-
   pub last_or-append : (xs ys : List (Key × T)) (o : Option Key) → last_or (xs ++ ys) o ≡ last_or ys (last_or xs o)
   last_or-append [] ys o = refl
   last_or-append (x ∷ xs) ys o = last_or-append xs ys (Some x.0)
@@ -107,9 +97,6 @@ module _ {T : Type 0} where
   pub no_first : (es : List (Key × T)) → first_or es None ≡ None → es ≡ []
   no_first [] is = refl
   no_first (e ∷ es) is = absurd (cc)
-
-  pub first_in : (es : List (Key × T)) (k : Key) → first_or es None ≡ Some k → 0 < times k es
-  first_in es k is = let f = front_of es k is in let here = one_itself k in let sum = ap (times k) f.2 in omega arith
 
   last_some : (es : List (Key × T)) (k : Key) → (l : Key) × (last_or es (Some k) ≡ Some l)
   last_some [] k = (k, refl)
@@ -161,6 +148,10 @@ module _ {T : Type 0} where
     put_before-split x [] none = let here = itself_first k in cc
     put_before-split x (y ∷ ys) none = let apart = apart_first k y.0 (omega arith) in let rest = put_before-split x ys (omega arith) in cc
 
+    pub from_key-split : (ys : List (Key × T)) → times k ys ≡ 0 → from_key k (ys ++ (k, v) ∷ zs) ≡ (k, v) ∷ zs
+    from_key-split [] none = let here = itself_first k in cc
+    from_key-split (y ∷ ys) none = let apart = apart_first k y.0 (omega arith) in let rest = from_key-split ys (omega arith) in cc
+
     pub without-split : (ys : List (Key × T)) → times k ys ≡ 0 → without k (ys ++ (k, v) ∷ zs) ≡ ys ++ zs
     without-split [] none = let here = itself_first k in cc
     without-split (y ∷ ys) none = let apart = apart_first k y.0 (omega arith) in let rest = without-split ys (omega arith) in cc
@@ -183,6 +174,18 @@ module _ {T : Type 0} where
   key_before-absent k p [] none = refl
   key_before-absent k p (x ∷ xs) none = let apart = apart_first k x.0 (omega arith) in let rest = key_before-absent k (Some x.0) xs (omega arith) in cc
 
+  pub from_key-absent : (k : Key) (xs : List (Key × T)) → times k xs ≡ 0 → from_key k xs ≡ []
+  from_key-absent k [] none = refl
+  from_key-absent k (x ∷ xs) none = let apart = apart_first k x.0 (omega arith) in let rest = from_key-absent k xs (omega arith) in cc
+
   pub without-absent : (k : Key) (xs : List (Key × T)) → times k xs ≡ 0 → without k xs ≡ xs
   without-absent k [] none = refl
   without-absent k (x ∷ xs) none = let apart = apart_first k x.0 (omega arith) in let rest = without-absent k xs (omega arith) in cc
+
+  -- a value that is written changes no key
+  times-written : (q k : Key) (v : T) (xs : List (Key × T)) → times q (with_value_at k v xs) ≡ times q xs
+  times-written q k v [] = refl
+  times-written q k v (x ∷ xs) = by_key (λ b. times q (cond b ((x.0, v) ∷ xs) (x ∷ with_value_at k v xs)) ≡ times q (x ∷ xs)) k x.0 (λ _. refl) (λ _ _. ap (λ n. one q x.0 + n) (times-written q k v xs))
+
+  pub once-written : (k : Key) (v : T) (xs : List (Key × T)) → IsOnce xs → IsOnce (with_value_at k v xs)
+  once-written k v xs once = once_if (with_value_at k v xs) (λ q. (let few = at_most_once xs once q in let same = times-written q k v xs in omega arith))

@@ -2,11 +2,11 @@
 use Rattle.std.proofs.Common.{◌≡◌, ◌≢◌, Bool, true, false, cond, List, [], ◌∷◌, ◌++◌, Option, Some, None, is_some, inl, inr, refl, sym, ap, ◌∙◌, arith}
 use Rattle.slotmap.specs.Words.{Key}
 use Rattle.slotmap.proofs.Callers.{keys_total, exact_keys, tied, same_or_other}
-use Rattle.slotmap_list.specs.Sequence.{value_of, first_or, last_or, without, moved_to_front, moved_to_back, put_again, IsOnce}
-use Rattle.slotmap_list.specs.Neighbours.{is_move, is_place, moved_to, put_by_place}
-use Rattle.slotmap_list.specs.declared.links.Side.TheVariants.{Before, After}
-use Rattle.slotmap_list.specs.declared.links.Place.{Place}
-use Rattle.slotmap_list.specs.declared.links.Place.TheVariants.{Front, Back, Beside}
+use Rattle.slotmap_list.specs.Sequence.{value_of, last_or, without, moved_to_back, put_again, IsOnce}
+use Rattle.slotmap_list.specs.Places.{is_move, is_place, moved_to, put_by_place}
+use Rattle.slotmap_list.specs.declared.place.Side.TheVariants.{Before, After}
+use Rattle.slotmap_list.specs.declared.place.Place.{Place}
+use Rattle.slotmap_list.specs.declared.place.Place.TheVariants.{Front, Back, Beside}
 use Rattle.slotmap_list.proofs.Elements.{itself_first, last_or-append, other_key}
 use Rattle.slotmap_list.proofs.Callers.{put_after_here, put_after_other, put_before_here, put_before_other, pushed_here, pushed_other, without_other}
 use Rattle.slotmap_list.proofs.Moving.{move_stays, mover_stands, place_left, put_there}
@@ -47,13 +47,6 @@ module _ {T : Type 0} where
       by true can = there (value_of k es) can refl (mover_stands place k es can)
 
   -- the element that moved to an end is there
-  pub moved_first : (k : Key) (es : List (Key × T)) → is_some (value_of k es) ≡ true → first_or (moved_to_front k es) None ≡ Some k
-  moved_first k es some = by (value_of k es) some
-    where
-      by : (o : Option T) → is_some o ≡ true → first_or (put_again (λ x rest. x ∷ rest) k o es) None ≡ Some k
-      by None some = absurd (cc)
-      by (Some v) some = refl
-
   pub moved_last : (k : Key) (es : List (Key × T)) → is_some (value_of k es) ≡ true → last_or (moved_to_back k es) None ≡ Some k
   moved_last k es some = by (value_of k es) some
     where

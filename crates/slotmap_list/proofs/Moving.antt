@@ -1,18 +1,20 @@
--- An element that moves: its node is linked out of the list, and then in again.
-use Rattle.std.proofs.Common.{◌≡◌, ◌≢◌, true, false, List, [], ◌∷◌, ◌++◌, Option, Some, None, is_some, if◌then◌else◌, refl, sym, ap, subst, ◌∙◌, arith}
-use Rattle.std.specs.Option.{option_map}
-use Rattle.std.specs.FinMap as map
-use Rattle.slotmap.specs.Words.{Key, Content}
-use Rattle.slotmap_keylist.proofs.Counts.{is_itself}
-use Rattle.slotmap_list.specs.Sequence.{Sequence, value_of, put_again, without, are_two}
-use Rattle.slotmap_list.specs.Chain.{Nodes, IsChain, BothStand, Unlinks, Links}
-use Rattle.slotmap_list.specs.Neighbours.{gap_at, insert_beside, is_place, put_by_place, is_move, moved_to}
-use Rattle.slotmap_list.specs.declared.links.Place.{Place}
-use Rattle.slotmap_list.specs.declared.links.Place.TheVariants.{Front, Back, Beside}
-use Rattle.slotmap_list.proofs.Rows.{gap_stands}
-use Rattle.slotmap_list.proofs.Chains.{value_found, others, moved_chain}
-use Rattle.slotmap_list.proofs.Putting.{place_in, place_there}
+-- An element that moves: which elements can, and what the list is then.
+use Rattle.std.proofs.Common.{◌≡◌, ◌≢◌, true, false, List, [], ◌∷◌, ◌++◌, Option, Some, None, is_some, if◌then◌else◌, refl, sym, ap, ◌∙◌, arith}
+use Rattle.slotmap.specs.Words.{Key, Content, same_keys}
+use Rattle.slotmap_list.specs.Sequence.{Sequence, is_same, value_of, put_again, without, are_two}
+use Rattle.slotmap_list.specs.Places.{insert_beside, is_place, put_by_place, is_move, moved_to}
+use Rattle.slotmap_list.specs.declared.place.Place.{Place}
+use Rattle.slotmap_list.specs.declared.place.Place.TheVariants.{Front, Back, Beside}
 use Rattle.slotmap_list.proofs.Callers.{without_other}
+
+pub is_itself : (k : Key) → is_same k k ≡ true
+is_itself k = (same_keys k k).1 refl
+
+pub is_other : (a b : Key) → a ≢ b → is_same a b ≡ false
+is_other a b other = elim (is_same a b) as (λ t. is_same a b ≡ t → is_same a b ≡ false) [
+  | true ↦ λ same. absurd (other ((same_keys a b).0 same))
+  | false ↦ λ is. is
+] refl
 
 module _ {T : Type 0} where
   -- what the model of a list is, by its parts
@@ -51,20 +53,3 @@ module _ {T : Type 0} where
   put_there Back k v xs can is = ap (λ o. put_again (λ x rest. rest ++ x ∷ []) k o xs) (sym is)
   put_there (Beside side other) k v xs can is =
       ap (λ o. put_again (insert_beside side other) k o xs) (sym is) ∙ ap (λ b. if b then put_again (insert_beside side other) k (value_of k xs) xs else xs) (sym can)
-
-  -- `mid` has the nodes once the element was linked out
-  module _ {nodes mid : Nodes T} {first last mid_first mid_last : Option Key} {xs : List (Key × T)} {k : Key}
-      (chain : IsChain nodes first last xs) (out : Unlinks nodes first last k mid mid_first mid_last) (place : Place) (can : is_move k place xs ≡ true) where
-    pub move_there : gap_at mid mid_first mid_last place ≡ None → ⊥
-    move_there none = place_there (others chain out) place (place_left place k xs can) none
-
-    module _ {prev next : Option Key} (is : gap_at mid mid_first mid_last place ≡ Some (prev, next)) where
-      pub neighbours_placed : BothStand mid prev next
-      neighbours_placed = gap_stands (others chain out) (place_in (others chain out) place prev next (place_left place k xs can) is).gap
-
-      pub chain_moved : {new : Nodes T} {new_first new_last : Option Key} → Links mid mid_first mid_last k prev next new new_first new_last
-          → ((q : Key) → map.contains_key new q ≡ map.contains_key nodes q) → IsChain new new_first new_last (moved_to place k xs)
-      chain_moved {new} {new_first} {new_last} into alike =
-          let at = place_in (others chain out) place prev next (place_left place k xs can) is in
-          let value = sym (value_found chain k) ∙ ap (option_map (λ n. n.value)) out.found in
-          subst (IsChain new new_first new_last) (at.put (k, out.node.value) ∙ put_there place k out.node.value xs can value) (moved_chain chain out at.gap into alike)

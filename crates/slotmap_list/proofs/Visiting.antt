@@ -7,9 +7,8 @@ use Rattle.slotmap.specs.Words.{Key, IsSpent, KeepsSpent, Leaves}
 use Rattle.slotmap.proofs.Callers.{leaves_in_turn, leaves_none, same_or_other}
 use Rattle.slotmap_list.specs.Sequence.{Sequence, value_of, first_or, key_after, with_value_at, without, IsOnce}
 use Rattle.slotmap_list.specs.Retain.{RetainsOne, RetainsEach, CallableInOrder}
-use Rattle.slotmap_list.proofs.Elements.{same, one_other, times, times-append, times_none, none_there, absent_before, apart_first, itself_first, once_drop, front_of, no_first}
+use Rattle.slotmap_list.proofs.Elements.{once-written, same, one_other, times, times-append, times_none, none_there, absent_before, apart_first, itself_first, once_drop, front_of, no_first}
 use Rattle.slotmap_list.proofs.Elements.{value_of-split, key_after-split, without-split, with_value-split}
-use Rattle.slotmap_list.proofs.Alike.{once-written}
 
 module _ {T : Type 0} where
   -- the elements from a key on, and how many there are

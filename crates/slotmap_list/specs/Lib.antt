@@ -1,8 +1,8 @@
 pub mod Additions
-pub mod Chain
 pub mod Drain
+pub mod Kept
 pub mod Lends
-pub mod Neighbours
+pub mod Places
 pub mod Refused
 pub mod Retain
 pub mod Sequence

@@ -4,22 +4,21 @@ ghost use Rattle.std.specs.Prelude.{◌≡◌, ◌+◌, ◌<◌, ◌++◌, ◌�
 ghost use Rattle.std.specs.FinMap as map;
 ghost use Rattle.slotmap.specs.Words.{Inserts, IsSpent, Keeps, KeepsSpent, used};
 ghost use Rattle.slotmap_list.specs.Sequence.{value_of, put_after, put_before};
-ghost use Rattle.slotmap_list.specs.Neighbours.{insert_beside, is_place, put_by_place};
+ghost use Rattle.slotmap_list.specs.Places.{insert_beside, is_place, put_by_place};
 ghost use Rattle.slotmap_list.specs.Refused.{RefusesPlace, RefusesPush};
 
-use crate::links::{Place, Side, add, gap, relink};
-use crate::{Node, PlaceError, PushError, StableList};
-use slotmap::{DefaultKey, Key};
-use slotmap_keylist::{KeyOrNull, inner, outer};
+use crate::place::{Place, Side, put_index};
+use crate::{PlaceError, PushError, StableList};
+use slotmap::{Key, ReserveError};
 
 impl<K: Key, T: Drop> StableList<K, T> {
     // Puts an element into a place.
-    fn put(&mut self, place: Place, value: T) -> Result<DefaultKey, PushError<T>>
+    fn put(&mut self, place: Place, value: T) -> Result<K, PushError<T>>
         requires { is_place place self.old.elements ≡ true }
-        ensures ok { IfOk result (λ key. self.new.elements ≡ put_by_place place (key, value) self.old.elements) }
-        ensures fresh { IfOk result (λ key. value_of key self.old.elements ≡ None) }
-        ensures unspent { IfOk result (λ key. IsSpent self.old.cursors key → ⊥) }
-        ensures cursors { IfOk result (λ key. Inserts self.old.cursors key tt self.new.cursors) }
+        ensures ok { IfOk result (λ key. self.new.elements ≡ put_by_place place (K.data_of key, value) self.old.elements) }
+        ensures fresh { IfOk result (λ key. value_of (K.data_of key) self.old.elements ≡ None) }
+        ensures unspent { IfOk result (λ key. IsSpent self.old.cursors (K.data_of key) → ⊥) }
+        ensures cursors { IfOk result (λ key. Inserts self.old.cursors (K.data_of key) tt self.new.cursors) }
         ensures used { OnOk result (used self.new.cursors ≡ used self.old.cursors + 1) }
         ensures err { IfErr result (RefusesPush self.old.cursors value) }
         ensures reuses { 0 < map.len self.old.cursors.next → IsOk result }
@@ -29,27 +28,27 @@ impl<K: Key, T: Drop> StableList<K, T> {
         ensures keeps { OnErr result (Keeps self.old.cursors self.new.cursors) }
         ensures gone { KeepsSpent self.old.cursors self.new.cursors }
     {
-        let Some((prev, next)) = gap(&self.nodes, &self.first, &self.last, place) else {
-            unreachable!()
-        };
-        let node = Node {
-            value,
-            prev: prev.copied(),
-            next: next.copied(),
-        };
-        let key = add(&mut self.nodes, node)?;
-        let on = KeyOrNull::some(key);
-        let back = on.copied();
-        relink(
-            &mut self.nodes,
-            &mut self.first,
-            &mut self.last,
-            prev,
-            next,
-            on,
-            back,
-        );
-        Ok(key)
+        match self.reserve(1) {
+            Ok(()) => Ok(self.put_in_room(place, value)),
+            Err(ReserveError::TooGreat) => Err(PushError::Full(value)),
+            Err(ReserveError::Memory) => Err(PushError::Memory(value)),
+        }
+    }
+
+    // Puts an element into a place, where there is room for it.
+    fn put_in_room(&mut self, place: Place, value: T) -> K
+        requires place { is_place place self.old.elements ≡ true }
+        requires room { 0 < self.old.cursors.room }
+        ensures elements { self.new.elements ≡ put_by_place place (K.data_of result, value) self.old.elements }
+        ensures fresh { value_of (K.data_of result) self.old.elements ≡ None }
+        ensures unspent { IsSpent self.old.cursors (K.data_of result) → ⊥ }
+        ensures cursors { Inserts self.old.cursors (K.data_of result) tt self.new.cursors }
+        ensures capacity { self.new.cursors.capacity ≡ self.old.cursors.capacity }
+        ensures gone { KeepsSpent self.old.cursors self.new.cursors }
+    {
+        let key = self.values.insert_reserved(value);
+        put_index(&mut self.links, place, key.data().idx());
+        key
     }
 
     /// Adds an element at the back, and returns its cursor.
@@ -78,7 +77,7 @@ impl<K: Key, T: Drop> StableList<K, T> {
         ensures keeps { OnErr result (Keeps self.old.cursors self.new.cursors) }
         ensures gone { KeepsSpent self.old.cursors self.new.cursors }
     {
-        Ok(outer(self.put(Place::Back, value)?))
+        self.put(Place::Back, value)
     }
 
     /// Adds an element at the front, and returns its cursor.
@@ -106,33 +105,28 @@ impl<K: Key, T: Drop> StableList<K, T> {
         ensures keeps { OnErr result (Keeps self.old.cursors self.new.cursors) }
         ensures gone { KeepsSpent self.old.cursors self.new.cursors }
     {
-        Ok(outer(self.put(Place::Front, value)?))
+        self.put(Place::Front, value)
     }
 
     // Adds an element on this side of that of a cursor.
-    fn insert(
-        &mut self,
-        side: Side,
-        cursor: DefaultKey,
-        value: T,
-    ) -> Result<DefaultKey, PlaceError<T>>
-        ensures ok { IfOk result (λ key. self.new.elements ≡ insert_beside side cursor (key, value) self.old.elements) }
-        ensures fresh { IfOk result (λ key. value_of key self.old.elements ≡ None) }
-        ensures unspent { IfOk result (λ key. IsSpent self.old.cursors key → ⊥) }
-        ensures cursors { IfOk result (λ key. Inserts self.old.cursors key tt self.new.cursors) }
-        ensures stands { OnOk result (IsSome (value_of cursor self.old.elements)) }
-        ensures err { IfErr result (RefusesPlace self.old cursor value) }
-        ensures reuses { IsSome (value_of cursor self.old.elements) → 0 < map.len self.old.cursors.next → IsOk result }
-        ensures room { IsSome (value_of cursor self.old.elements) → 0 < self.old.cursors.room → IsOk result }
+    fn insert(&mut self, side: Side, cursor: K, value: T) -> Result<K, PlaceError<T>>
+        ensures ok { IfOk result (λ key. self.new.elements ≡ insert_beside side (K.data_of cursor) (K.data_of key, value) self.old.elements) }
+        ensures fresh { IfOk result (λ key. value_of (K.data_of key) self.old.elements ≡ None) }
+        ensures unspent { IfOk result (λ key. IsSpent self.old.cursors (K.data_of key) → ⊥) }
+        ensures cursors { IfOk result (λ key. Inserts self.old.cursors (K.data_of key) tt self.new.cursors) }
+        ensures stands { OnOk result (IsSome (value_of (K.data_of cursor) self.old.elements)) }
+        ensures err { IfErr result (RefusesPlace self.old (K.data_of cursor) value) }
+        ensures reuses { IsSome (value_of (K.data_of cursor) self.old.elements) → 0 < map.len self.old.cursors.next → IsOk result }
+        ensures room { IsSome (value_of (K.data_of cursor) self.old.elements) → 0 < self.old.cursors.room → IsOk result }
         ensures in_place { 0 < self.old.cursors.room → self.new.cursors.capacity ≡ self.old.cursors.capacity }
         ensures unchanged { OnErr result (self.new.elements ≡ self.old.elements) }
         ensures keeps { OnErr result (Keeps self.old.cursors self.new.cursors) }
         ensures gone { KeepsSpent self.old.cursors self.new.cursors }
     {
-        if !self.has(cursor) {
+        if !self.contains(cursor) {
             return Err(PlaceError::Gone(value));
         }
-        match self.put(Place::Beside(side, cursor), value) {
+        match self.put(Place::Beside(side, cursor.data()), value) {
             Ok(key) => Ok(key),
             Err(PushError::Full(value)) => Err(PlaceError::Full(value)),
             Err(PushError::Memory(value)) => Err(PlaceError::Memory(value)),
@@ -167,7 +161,7 @@ impl<K: Key, T: Drop> StableList<K, T> {
         ensures keeps { OnErr result (Keeps self.old.cursors self.new.cursors) }
         ensures gone { KeepsSpent self.old.cursors self.new.cursors }
     {
-        Ok(outer(self.insert(Side::After, inner(cursor), value)?))
+        self.insert(Side::After, cursor, value)
     }
 
     /// Adds an element before that of a cursor, and returns its cursor.
@@ -198,6 +192,6 @@ impl<K: Key, T: Drop> StableList<K, T> {
         ensures keeps { OnErr result (Keeps self.old.cursors self.new.cursors) }
         ensures gone { KeepsSpent self.old.cursors self.new.cursors }
     {
-        Ok(outer(self.insert(Side::Before, inner(cursor), value)?))
+        self.insert(Side::Before, cursor, value)
     }
 }

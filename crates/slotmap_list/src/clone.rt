@@ -3,22 +3,9 @@
 ghost use Rattle.std.specs.Prelude.{◌≡◌, IfOk};
 ghost use Rattle.slotmap.specs.Words.{AreClones, ClonesEqual, IsCopy};
 
-use crate::{Node, StableList};
+use crate::StableList;
 use slotmap::Key;
 use std::alloc::AllocError;
-use std::marker::PhantomData;
-
-impl<T: Clone> Clone for Node<T> {
-    ghost is_clone = { λ node copy. T.is_clone node.value copy.value × (copy.prev ≡ node.prev) × (copy.next ≡ node.next) };
-
-    fn clone(&self) -> Result<Self, AllocError> {
-        Ok(Node {
-            value: self.value.clone()?,
-            prev: self.prev.copied(),
-            next: self.next.copied(),
-        })
-    }
-}
 
 impl<K: Key, T: Clone> StableList<K, T> {
     /// Returns a copy of the list, with clones of the values under the same cursors.
@@ -39,10 +26,8 @@ impl<K: Key, T: Clone> StableList<K, T> {
         ensures cursors { IfOk result (λ copy. IsCopy self.now.cursors copy.cursors) }
     {
         Ok(StableList {
-            nodes: self.nodes.clone()?,
-            first: self.first.copied(),
-            last: self.last.copied(),
-            key_type: PhantomData,
+            values: self.values.clone()?,
+            links: self.links.clone()?,
         })
     }
 }

@@ -5,11 +5,11 @@ ghost use Rattle.slotmap_list.specs.Sequence.{IsOnce};
 ghost use Rattle.std.specs.Iterator.{YieldsFirstBy, YieldsLastBy, item_count, at_most, UpTo};
 
 use crate::StableList;
-use crate::links::Nodes;
-use slotmap::{DefaultKey, Key};
-use slotmap_keylist::outer;
+use slotmap::Key;
+use slotmap_bounded::BoundedMap;
+use slotmap_links::Members;
 use std::iter::FusedIterator;
-use std::marker::{Model, PhantomData};
+use std::marker::Model;
 
 /// An iterator over the elements of a list, from both ends: see [`StableList::iter`].
 ///
@@ -17,11 +17,8 @@ use std::marker::{Model, PhantomData};
 /// its end it yields nothing.
 #[derive(Drop)]
 pub struct Iter<'a, K, T> {
-    pub(super) nodes: &'a Nodes<T>,
-    pub(super) first: Option<DefaultKey>,
-    pub(super) last: Option<DefaultKey>,
-    pub(super) left: usize,
-    pub(super) key_type: PhantomData<K>,
+    pub(super) values: &'a BoundedMap<K, T>,
+    pub(super) indices: Members<'a>,
 }
 
 impl<'a, K, T> Model for Iter<'a, K, T> {
@@ -30,11 +27,11 @@ impl<'a, K, T> Model for Iter<'a, K, T> {
 
     ghost Value = { List (Key × T) };
 
-    ghost use Rattle.slotmap_list.specs.Chain.{follow, IsWalk};
+    ghost use Rattle.slotmap_list.specs.Kept.{elements_at, AreIndices};
 
-    ghost view = { λ it. follow it.nodes.now.live it.left it.first };
+    ghost view = { λ it. elements_at it.values.now.live it.indices };
 
-    ghost invariant = { λ it. IsWalk it.nodes.now.live it.left it.first it.last };
+    ghost invariant = { λ it. AreIndices it.values.now.live it.indices };
 }
 
 impl<'a, K: Key, T: Drop> Iterator for Iter<'a, K, T> {
@@ -45,14 +42,9 @@ impl<'a, K: Key, T: Drop> Iterator for Iter<'a, K, T> {
     ghost remaining = { item_count (λ rest. rest) };
 
     fn next(&mut self) -> Option<(K, &'a T)> {
-        if self.left == 0 {
-            return None;
-        }
-        let cursor = self.first?;
-        let node = self.nodes.get(cursor)?;
-        self.left -= 1;
-        self.first = node.next.get();
-        Some((outer(cursor), &node.value))
+        let index = self.indices.next()?;
+        let cursor = self.values.key_at(index)?;
+        Some((cursor, self.values.value(cursor)))
     }
 
     fn size_hint(&self) -> (usize, Option<usize>)
@@ -60,7 +52,8 @@ impl<'a, K: Key, T: Drop> Iterator for Iter<'a, K, T> {
         ensures upper { IfSome result.1 (UpTo (at_most (length self.now))) }
         ensures exact { result ≡ (length self.now, Some (length self.now)) }
     {
-        (self.left, Some(self.left))
+        let left = self.indices.len();
+        (left, Some(left))
     }
 }
 
@@ -68,20 +61,15 @@ impl<'a, K: Key, T: Drop> DoubleEndedIterator for Iter<'a, K, T> {
     ghost next_back_gives = { YieldsLastBy (λ item. (K.data_of item.0, item.1.now)) (λ rest. rest) };
 
     fn next_back(&mut self) -> Option<(K, &'a T)> {
-        if self.left == 0 {
-            return None;
-        }
-        let cursor = self.last?;
-        let node = self.nodes.get(cursor)?;
-        self.left -= 1;
-        self.last = node.prev.get();
-        Some((outer(cursor), &node.value))
+        let index = self.indices.next_back()?;
+        let cursor = self.values.key_at(index)?;
+        Some((cursor, self.values.value(cursor)))
     }
 }
 
 impl<'a, K: Key, T: Drop> ExactSizeIterator for Iter<'a, K, T> {
     fn len(&self) -> usize {
-        self.left
+        self.indices.len()
     }
 }
 

@@ -14,11 +14,13 @@
 //!
 //! A call takes constant time, with these exceptions:
 //!
-//! - `to_vec`, `retain`, `extend`, `from_iter` and dropping a `Drain` take time linear in the number of
-//!   elements that they pass or add, and `append` in that of the other list's elements.
-//! - `clear` and `clone` take time linear in the number of slots: that of the most elements that there
-//!   were at once.
-//! - A push or an insert may have to grow the vectors of the map, and takes constant time on average.
+//! - `to_vec`, `retain`, `clear`, `extend`, `from_iter` and dropping a `Drain` take time linear in the
+//!   number of elements that they pass, remove or add, and `append` in that of the other list's elements.
+//! - `clone` takes time linear in the number of slots: that of the most elements that there were at once.
+//! - A push or an insert may have to grow the vectors of the list, and takes constant time on average.
+//!
+//! The values lie in a map. Their order lies apart from them, in 8 bytes a slot: links of 4 bytes
+//! by the index of the slot.
 //!
 //! ```
 //! let mut list = StableList::new(alloc)?;
@@ -34,15 +36,17 @@
 //! ```
 #![tactic(auto, using(slotmap::proofs::Callers::keys))]
 
-ghost use Rattle.std.specs.Prelude.{◌≡◌, ◌+◌, ◌≤◌, [], Some, None, true, IsOk, IfOk, OnOk, IfErr, IfSome, IsTrue, ◌↔◌, is_some, length, option_copied, option_map, map as list_map};
+ghost use Rattle.std.specs.Prelude.{◌≡◌, ◌+◌, ◌<◌, ◌≤◌, ◌^◌, ◌∷◌, [], Some, None, true, IsOk, IfOk, OnOk, IfErr, IfSome, IsTrue, ◌↔◌, is_some, length, option_copied, option_map, map as list_map};
 ghost use Rattle.std.specs.FinMap as map;
 ghost use Rattle.slotmap.specs.Words.{IsNew, IsSpent, Keeps, KeepsSpent, MakesRoom, RefusesCapacity, used};
+ghost use Rattle.slotmap_list.specs.Kept.{key_of};
 ghost use Rattle.slotmap_list.specs.Sequence.{value_of, first_or, last_or, key_after, key_before, IsOnce};
 
-use slotmap::{DefaultKey, Key, ReserveError, SlotMap};
-use slotmap_keylist::{KeyOrNull, inner, outer};
+use slotmap::{Key, ReserveError};
+use slotmap_bounded::BoundedMap;
+use slotmap_links::Links;
 use std::alloc::{AllocError, Global};
-use std::marker::{Model, PhantomData};
+use std::marker::Model;
 use std::ops::Index;
 use thiserror::Error;
 
@@ -54,8 +58,8 @@ mod drain;
 mod extend;
 mod into_iter;
 mod iter;
-mod links;
 mod moves;
+mod place;
 mod rest;
 mod retain;
 mod take;
@@ -65,17 +69,8 @@ pub use cursor::Cursor;
 pub use drain::Drain;
 pub use into_iter::IntoIter;
 pub use iter::Iter;
-use links::{Neighbour, Nodes};
 pub use rest::IterFrom;
 pub use values::{Cursors, Values};
-
-// An element's value, with the keys of its neighbours.
-#[derive(Drop)]
-struct Node<T> {
-    value: T,
-    prev: Neighbour,
-    next: Neighbour,
-}
 
 /// A list whose elements have cursors of the key type `K`.
 ///
@@ -83,26 +78,26 @@ struct Node<T> {
 /// `cursors`, by which it says that a cursor is never used again.
 #[derive(Drop)]
 pub struct StableList<K, T> {
-    nodes: Nodes<T>,
-    first: Neighbour,
-    last: Neighbour,
-    key_type: PhantomData<K>,
+    // The values, each under the cursor of its element.
+    values: BoundedMap<K, T>,
+    // The list of owner 0 has the indices of the cursors, from front to back.
+    links: Links,
 }
 
 impl<K, T> Model for StableList<K, T> {
-    ghost use Rattle.std.specs.FinMap as map;
-    ghost use Rattle.slotmap.specs.Words.{without_values};
     ghost use Rattle.slotmap_list.specs.Sequence.{Sequence, sequence_code};
 
     ghost Value = { Sequence T };
 
     ghost coded = { sequence_code T.code };
 
-    ghost use Rattle.slotmap_list.specs.Chain.{follow, IsChain};
+    ghost use Rattle.slotmap_links.specs.Lists.{list_of};
+    ghost use Rattle.slotmap.specs.Words.{without_values};
+    ghost use Rattle.slotmap_list.specs.Kept.{elements_at, IsKept};
 
-    ghost view = { λ l. record { elements = follow l.nodes.live (map.len l.nodes.live) l.first; cursors = without_values l.nodes } };
+    ghost view = { λ l. record { elements = elements_at l.values.live (list_of l.links 0); cursors = without_values l.values } };
 
-    ghost invariant = { λ l. IsChain l.nodes.live l.first l.last (follow l.nodes.live (map.len l.nodes.live) l.first) };
+    ghost invariant = { λ l. IsKept l.values l.links };
 }
 
 /// An element was not added at an end. The error holds its value.
@@ -128,6 +123,44 @@ pub enum PlaceError<T> {
     /// The allocation fails.
     #[error("out of memory")]
     Memory(T),
+}
+
+// How many elements a list has at most.
+const MOST: usize = 4294967294;
+
+// Makes links for the numbers below `members`, with one list, which is empty.
+fn one_list(alloc: Global, members: usize) -> Result<Links, AllocError>
+    requires { members < 2 ^ 32 }
+    ensures { IfOk result (λ links. links ≡ record { lists = [] ∷ []; members = members }) }
+{
+    let mut links = Links::new(alloc);
+    links.cover_owners(1)?;
+    links.cover_members(members)?;
+    Ok(links)
+}
+
+// Lets the numbers below `needed` be in the list. Where links have to be added, there are twice as many then, or more.
+fn cover(links: &mut Links, needed: usize) -> Result<(), AllocError>
+    requires { needed < 2 ^ 32 }
+    ensures covers { OnOk result (needed ≤ links.new.members) }
+    ensures lists { links.new.lists ≡ links.old.lists }
+    ensures more { links.old.members ≤ links.new.members }
+    ensures had_room { needed ≤ links.old.members → IsOk result }
+{
+    let members = links.members();
+    if needed <= members {
+        return Ok(());
+    }
+    links.cover_members(needed.max((members * 2).min(MOST)))
+}
+
+// The live key with an index, if there is one.
+fn key_at<K: Key, T: Drop>(values: &BoundedMap<K, T>, index: Option<u32>) -> Option<K>
+    ensures { option_map K.data_of result ≡ key_of values.now.live index }
+{
+    // By what `len` ensures, no two live keys have one index.
+    let _ = values.len();
+    values.key_at(index?)
 }
 
 impl<T: Drop> StableList<Cursor, T> {
@@ -199,12 +232,11 @@ impl<K: Key, T: Drop> StableList<K, T> {
         ensures room { IfOk result (λ list. capacity ≤ list.cursors.room) }
         ensures err { IfErr result (RefusesCapacity capacity) }
     {
-        Ok(StableList {
-            nodes: SlotMap::with_capacity(alloc, capacity)?,
-            first: KeyOrNull::none(),
-            last: KeyOrNull::none(),
-            key_type: PhantomData,
-        })
+        let values = BoundedMap::with_capacity(alloc, capacity)?;
+        let Ok(links) = one_list(alloc, capacity + 1) else {
+            return Err(ReserveError::Memory);
+        };
+        Ok(StableList { values, links })
     }
 
     /// Reserves room for `additional` more elements.
@@ -235,7 +267,11 @@ impl<K: Key, T: Drop> StableList<K, T> {
         ensures keeps { Keeps self.old.cursors self.new.cursors }
         ensures gone { KeepsSpent self.old.cursors self.new.cursors }
     {
-        self.nodes.reserve(additional)
+        let capacity = self.values.capacity_for(additional)?;
+        if cover(&mut self.links, capacity + 1).is_err() {
+            return Err(ReserveError::Memory);
+        }
+        self.values.reserve(additional)
     }
 
     /// Returns for how many elements there is memory, in constant time.
@@ -250,7 +286,7 @@ impl<K: Key, T: Drop> StableList<K, T> {
     pub fn capacity(&self) -> usize
         ensures { result ≡ self.now.cursors.capacity }
     {
-        self.nodes.capacity()
+        self.values.capacity()
     }
 
     /// Returns whether a cursor is in the list, in constant time.
@@ -266,15 +302,7 @@ impl<K: Key, T: Drop> StableList<K, T> {
         ensures value { result ≡ is_some (value_of (K.data_of cursor) self.now.elements) }
         ensures live { result ≡ map.contains_key self.now.cursors.live (K.data_of cursor) }
     {
-        self.has(inner(cursor))
-    }
-
-    // Whether a key is in the list.
-    fn has(&self, key: DefaultKey) -> bool
-        ensures value { result ≡ is_some (value_of key self.now.elements) }
-        ensures live { result ≡ map.contains_key self.now.cursors.live key }
-    {
-        self.nodes.contains_key(key)
+        self.values.contains_key(cursor)
     }
 
     /// Returns the number of elements, in constant time. No cursor occurs twice.
@@ -290,7 +318,7 @@ impl<K: Key, T: Drop> StableList<K, T> {
         ensures value { result ≡ length self.now.elements }
         ensures once { IsOnce self.now.elements }
     {
-        self.nodes.len()
+        self.links.len(0)
     }
 
     /// Returns whether the list has no element, in constant time.
@@ -320,7 +348,7 @@ impl<K: Key, T: Drop> StableList<K, T> {
     pub fn first(&self) -> Option<K>
         ensures { option_map K.data_of result ≡ first_or self.now.elements None }
     {
-        Some(outer(self.first.get()?))
+        key_at(&self.values, self.links.first(0))
     }
 
     /// Returns the cursor of the element at the back, or `None` if the list is empty.
@@ -336,7 +364,7 @@ impl<K: Key, T: Drop> StableList<K, T> {
     pub fn last(&self) -> Option<K>
         ensures { option_map K.data_of result ≡ last_or self.now.elements None }
     {
-        Some(outer(self.last.get()?))
+        key_at(&self.values, self.links.last(0))
     }
 
     /// Returns the value of a cursor, or `None` if it isn't in the list.
@@ -352,8 +380,7 @@ impl<K: Key, T: Drop> StableList<K, T> {
         ensures value { option_copied result ≡ value_of (K.data_of cursor) self.now.elements }
         ensures gone { IsSpent self.now.cursors (K.data_of cursor) → result ≡ None }
     {
-        let node = self.nodes.get(inner(cursor))?;
-        Some(&node.value)
+        self.values.get(cursor)
     }
 
     /// Returns the cursor after this one, or `None` at the back and for a cursor that isn't in the
@@ -369,7 +396,7 @@ impl<K: Key, T: Drop> StableList<K, T> {
     pub fn next(&self, cursor: K) -> Option<K>
         ensures { option_map K.data_of result ≡ key_after (K.data_of cursor) self.now.elements }
     {
-        Some(outer(self.after(inner(cursor))?))
+        self.after(cursor)
     }
 
     /// Returns the cursor before this one, or `None` at the front and for a cursor that isn't in the
@@ -385,22 +412,21 @@ impl<K: Key, T: Drop> StableList<K, T> {
     pub fn prev(&self, cursor: K) -> Option<K>
         ensures { option_map K.data_of result ≡ key_before None (K.data_of cursor) self.now.elements }
     {
-        Some(outer(self.before(inner(cursor))?))
+        if !self.values.contains_key(cursor) {
+            return None;
+        }
+        key_at(&self.values, self.links.prev(cursor.data().idx()))
     }
 
-    // The key after this one.
-    fn after(&self, key: DefaultKey) -> Option<DefaultKey>
-        ensures value { result ≡ key_after key self.now.elements }
+    // The cursor after this one.
+    fn after(&self, cursor: K) -> Option<K>
+        ensures value { option_map K.data_of result ≡ key_after (K.data_of cursor) self.now.elements }
         ensures once { IsOnce self.now.elements }
     {
-        self.nodes.get(key)?.next.get()
-    }
-
-    // The key before this one.
-    fn before(&self, key: DefaultKey) -> Option<DefaultKey>
-        ensures { result ≡ key_before None key self.now.elements }
-    {
-        self.nodes.get(key)?.prev.get()
+        if !self.values.contains_key(cursor) {
+            return None;
+        }
+        key_at(&self.values, self.links.next(cursor.data().idx()))
     }
 
     /// Returns an iterator over the elements with their cursors, from front to back. It can be
@@ -422,11 +448,8 @@ impl<K: Key, T: Drop> StableList<K, T> {
         ensures once { IsOnce result }
     {
         Iter {
-            nodes: &self.nodes,
-            first: self.first.get(),
-            last: self.last.get(),
-            left: self.nodes.len(),
-            key_type: PhantomData,
+            values: &self.values,
+            indices: self.links.iter(0),
         }
     }
 

@@ -1,23 +1,22 @@
 //! Moves of an element within its list, and writes of its value.
 
-ghost use Rattle.std.specs.Prelude.{◌≡◌, ◌-◌, Some, None, true, false, IsTrue, is_some, if◌then◌else◌, length, slice_get, map as list_map};
+ghost use Rattle.std.specs.Prelude.{◌≡◌, ◌-◌, Some, None, true, false, IsTrue, is_some, if◌then◌else◌, length, option_map, slice_get, map as list_map};
 ghost use Rattle.std.specs.Borrow.{sem};
 ghost use Rattle.std.specs.Option.{option_copied_mut};
 ghost use Rattle.slotmap.specs.Words.{Key as KeyOf};
 ghost use Rattle.slotmap_list.specs.Sequence.{value_of, first_or, last_or, moved_to_front, moved_to_back, moved_after, moved_before, are_two, Swaps};
-ghost use Rattle.slotmap_list.specs.Neighbours.{is_move, moved_to, before_or_back};
+ghost use Rattle.slotmap_list.specs.Places.{is_move, moved_to, before_or_back};
 
 use crate::StableList;
-use crate::links::{Place, Side, gap, link, unlink};
-use slotmap::{DefaultKey, Key};
-use slotmap_keylist::inner;
+use crate::place::{Place, Side, cursor_of, put_index};
+use slotmap::Key;
 
-// The place before a key, or the back if there is none.
-fn place_before(next: Option<DefaultKey>) -> Place
-    ensures { result ≡ before_or_back next }
+// The place before a cursor, or the back if there is none.
+fn place_before<K: Key>(next: Option<K>) -> Place
+    ensures { result ≡ before_or_back (option_map K.data_of next) }
 {
     match next {
-        Some(key) => Place::Beside(Side::Before, key),
+        Some(cursor) => Place::Beside(Side::Before, cursor.data()),
         None => Place::Back,
     }
 }
@@ -41,8 +40,8 @@ impl<K: Key, T: Drop> StableList<K, T> {
         ensures* writes_back { sem 𝓛 (lends_element K.row T.row self.entry (K.data_of cursor) result) }
         ensures value { option_copied_mut result ≡ value_of (K.data_of cursor) self.old.elements }
     {
-        match self.nodes.get_mut(inner(cursor)) {
-            Some(node) => Some(&mut node.value),
+        match self.values.get_mut(cursor) {
+            Some(value) => Some(value),
             None => None,
         }
     }
@@ -64,9 +63,8 @@ impl<K: Key, T: Drop> StableList<K, T> {
         ensures* writes_back { sem 𝓛 (lends_first K.row T.row self.entry result) }
         ensures value { option_copied_mut result ≡ slice_get (list_map (λ e. e.1) self.old.elements) 0 }
     {
-        let key = self.first.get().unwrap_or(DefaultKey::null());
-        match self.nodes.get_mut(key) {
-            Some(node) => Some(&mut node.value),
+        match self.first() {
+            Some(cursor) => Some(self.value_mut(cursor)),
             None => None,
         }
     }
@@ -88,9 +86,10 @@ impl<K: Key, T: Drop> StableList<K, T> {
         ensures* writes_back { sem 𝓛 (lends_last K.row T.row self.entry result) }
         ensures value { option_copied_mut result ≡ slice_get (list_map (λ e. e.1) self.old.elements) (length self.old.elements - 1) }
     {
-        let key = self.last.get().unwrap_or(DefaultKey::null());
-        match self.nodes.get_mut(key) {
-            Some(node) => Some(&mut node.value),
+        // By what `len` ensures, no cursor stands twice.
+        let _ = self.len();
+        match self.last() {
+            Some(cursor) => Some(self.value_mut(cursor)),
             None => None,
         }
     }
@@ -112,7 +111,7 @@ impl<K: Key, T: Drop> StableList<K, T> {
         ensures first { IsTrue result → first_or self.new.elements None ≡ Some (K.data_of cursor) }
         ensures values { (q : KeyOf) → value_of q self.new.elements ≡ value_of q self.old.elements }
     {
-        self.move_to(inner(cursor), Place::Front)
+        self.move_to(cursor, Place::Front)
     }
 
     /// Moves the element of a cursor to the back. It returns `false` if the cursor isn't in the list.
@@ -132,7 +131,7 @@ impl<K: Key, T: Drop> StableList<K, T> {
         ensures last { IsTrue result → last_or self.new.elements None ≡ Some (K.data_of cursor) }
         ensures values { (q : KeyOf) → value_of q self.new.elements ≡ value_of q self.old.elements }
     {
-        self.move_to(inner(cursor), Place::Back)
+        self.move_to(cursor, Place::Back)
     }
 
     /// Moves the element of a cursor to the place after another one. It returns `false`, and changes
@@ -154,7 +153,7 @@ impl<K: Key, T: Drop> StableList<K, T> {
             { elements = if result then moved_after (K.data_of cursor) (K.data_of other) self.old.elements else self.old.elements } }
         ensures values { (q : KeyOf) → value_of q self.new.elements ≡ value_of q self.old.elements }
     {
-        self.move_to(inner(cursor), Place::Beside(Side::After, inner(other)))
+        self.move_to(cursor, Place::Beside(Side::After, other.data()))
     }
 
     /// Moves the element of a cursor to the place before another one. It returns `false`, and changes
@@ -176,7 +175,7 @@ impl<K: Key, T: Drop> StableList<K, T> {
             { elements = if result then moved_before (K.data_of cursor) (K.data_of other) self.old.elements else self.old.elements } }
         ensures values { (q : KeyOf) → value_of q self.new.elements ≡ value_of q self.old.elements }
     {
-        self.move_to(inner(cursor), Place::Beside(Side::Before, inner(other)))
+        self.move_to(cursor, Place::Beside(Side::Before, other.data()))
     }
 
     /// Puts the elements of two cursors into each other's places. It returns `false`, and changes
@@ -203,8 +202,6 @@ impl<K: Key, T: Drop> StableList<K, T> {
         ensures cursors { self.new.cursors ≡ self.old.cursors }
         ensures unchanged { result ≡ false → self.new ≡ self.old }
     {
-        let cursor = inner(cursor);
-        let other = inner(other);
         if !self.has_two(cursor, other) {
             return false;
         }
@@ -214,56 +211,47 @@ impl<K: Key, T: Drop> StableList<K, T> {
 
     // Puts two elements of the list into each other's places: one moves to behind the other, which
     // then moves to before what was behind the first one. If it was that itself, it stays.
-    fn exchange(&mut self, cursor: DefaultKey, other: DefaultKey)
-        requires { are_two cursor other self.old.elements ≡ true }
-        ensures swaps { Swaps self.old.elements cursor other self.new.elements }
+    fn exchange(&mut self, cursor: K, other: K)
+        requires { are_two (K.data_of cursor) (K.data_of other) self.old.elements ≡ true }
+        ensures swaps { Swaps self.old.elements (K.data_of cursor) (K.data_of other) self.new.elements }
         ensures values { (q : KeyOf) → value_of q self.new.elements ≡ value_of q self.old.elements }
         ensures cursors { self.new.cursors ≡ self.old.cursors }
     {
         let next = self.after(cursor);
-        self.move_to(cursor, Place::Beside(Side::After, other));
+        self.move_to(cursor, Place::Beside(Side::After, other.data()));
         self.move_to(other, place_before(next));
     }
 
     // Moves the element of a cursor to a place, if it can.
-    fn move_to(&mut self, cursor: DefaultKey, place: Place) -> bool
-        ensures which { result ≡ is_move cursor place self.old.elements }
-        ensures moved { self.new ≡ record self.old { elements = moved_to place cursor self.old.elements } }
+    fn move_to(&mut self, cursor: K, place: Place) -> bool
+        ensures which { result ≡ is_move (K.data_of cursor) place self.old.elements }
+        ensures moved { self.new ≡ record self.old { elements = moved_to place (K.data_of cursor) self.old.elements } }
         ensures values { (q : KeyOf) → value_of q self.new.elements ≡ value_of q self.old.elements }
     {
         if !self.can_move(cursor, &place) {
             return false;
         }
-        unlink(&mut self.nodes, &mut self.first, &mut self.last, cursor);
-        let Some((prev, next)) = gap(&self.nodes, &self.first, &self.last, place) else {
-            unreachable!()
-        };
-        link(
-            &mut self.nodes,
-            &mut self.first,
-            &mut self.last,
-            cursor,
-            prev,
-            next,
-        );
+        let index = cursor.data().idx();
+        self.links.take_out(0, index);
+        put_index(&mut self.links, place, index);
         true
     }
 
     // Whether the element of a cursor is in the list, and can move to a place.
-    fn can_move(&self, cursor: DefaultKey, place: &Place) -> bool
-        ensures { result ≡ is_move cursor place.now self.now.elements }
+    fn can_move(&self, cursor: K, place: &Place) -> bool
+        ensures { result ≡ is_move (K.data_of cursor) place.now self.now.elements }
     {
         match place {
-            Place::Front => self.has(cursor),
-            Place::Back => self.has(cursor),
-            Place::Beside(_, other) => self.has_two(cursor, *other),
+            Place::Front => self.contains(cursor),
+            Place::Back => self.contains(cursor),
+            Place::Beside(_, other) => self.has_two(cursor, cursor_of(*other)),
         }
     }
 
     // Whether both cursors are in the list, and are two.
-    fn has_two(&self, cursor: DefaultKey, other: DefaultKey) -> bool
-        ensures { result ≡ are_two cursor other self.now.elements }
+    fn has_two(&self, cursor: K, other: K) -> bool
+        ensures { result ≡ are_two (K.data_of cursor) (K.data_of other) self.now.elements }
     {
-        cursor != other && self.has(cursor) && self.has(other)
+        cursor.data() != other.data() && self.contains(cursor) && self.contains(other)
     }
 }

@@ -5,11 +5,11 @@ ghost use Rattle.std.specs.Iterator.{YieldsFirstBy, item_count, at_most, UpTo};
 ghost use Rattle.slotmap_list.specs.Sequence.{from_key, IsOnce};
 
 use crate::StableList;
-use crate::links::Nodes;
-use slotmap::{DefaultKey, Key};
-use slotmap_keylist::{inner, outer};
+use slotmap::Key;
+use slotmap_bounded::BoundedMap;
+use slotmap_links::MembersFrom;
 use std::iter::FusedIterator;
-use std::marker::{Model, PhantomData};
+use std::marker::Model;
 
 /// An iterator over the elements of a list from a cursor on: see [`StableList::iter_from`].
 ///
@@ -17,23 +17,23 @@ use std::marker::{Model, PhantomData};
 /// nothing. It doesn't know how many are left, and goes forward only.
 #[derive(Drop)]
 pub struct IterFrom<'a, K, T> {
-    nodes: &'a Nodes<T>,
-    at: Option<DefaultKey>,
-    key_type: PhantomData<K>,
+    values: &'a BoundedMap<K, T>,
+    indices: Option<MembersFrom<'a>>,
+    // At most so many elements are left.
+    most: usize,
 }
 
 impl<'a, K, T> Model for IterFrom<'a, K, T> {
     ghost use Rattle.std.specs.Prelude.{List};
-    ghost use Rattle.std.specs.FinMap as map;
     ghost use Rattle.slotmap.specs.Words.{Key};
 
     ghost Value = { List (Key × T) };
 
-    ghost use Rattle.slotmap_list.specs.Chain.{follow, IsRest};
+    ghost use Rattle.slotmap_list.specs.Kept.{elements_at, all_of, IsRest};
 
-    ghost view = { λ it. follow it.nodes.now.live (map.len it.nodes.now.live) it.at };
+    ghost view = { λ it. elements_at it.values.now.live (all_of it.indices) };
 
-    ghost invariant = { λ it. IsRest it.nodes.now.live it.at };
+    ghost invariant = { λ it. IsRest it.values.now.live (all_of it.indices) it.most };
 }
 
 impl<'a, K: Key, T: Drop> Iterator for IterFrom<'a, K, T> {
@@ -44,17 +44,19 @@ impl<'a, K: Key, T: Drop> Iterator for IterFrom<'a, K, T> {
     ghost remaining = { item_count (λ rest. rest) };
 
     fn next(&mut self) -> Option<(K, &'a T)> {
-        let cursor = self.at?;
-        let node = self.nodes.get(cursor)?;
-        self.at = node.next.get();
-        Some((outer(cursor), &node.value))
+        let Some(indices) = &mut self.indices else {
+            return None;
+        };
+        let index = indices.next()?;
+        let cursor = self.values.key_at(index)?;
+        Some((cursor, self.values.value(cursor)))
     }
 
     fn size_hint(&self) -> (usize, Option<usize>)
         ensures lower { result.0 ≤ length self.now }
         ensures upper { IfSome result.1 (UpTo (at_most (length self.now))) }
     {
-        (0, Some(self.nodes.len()))
+        (0, Some(self.most))
     }
 }
 
@@ -80,18 +82,18 @@ impl<K: Key, T: Drop> StableList<K, T> {
         ensures elements { result ≡ from_key (K.data_of cursor) self.now.elements }
         ensures once { IsOnce self.now.elements }
     {
-        let key = inner(cursor);
-        if !self.has(key) {
+        let most = self.len();
+        if !self.values.contains_key(cursor) {
             return IterFrom {
-                nodes: &self.nodes,
-                at: None,
-                key_type: PhantomData,
+                values: &self.values,
+                indices: None,
+                most,
             };
         }
         IterFrom {
-            nodes: &self.nodes,
-            at: Some(key),
-            key_type: PhantomData,
+            values: &self.values,
+            indices: Some(self.links.iter_from(cursor.data().idx())),
+            most,
         }
     }
 }

@@ -7,34 +7,33 @@ ghost use Rattle.slotmap_list.specs.Sequence.{value_of, without};
 ghost use Rattle.slotmap_list.specs.Retain.{RetainsEach, CallableInOrder};
 
 use crate::StableList;
-use slotmap::{DefaultKey, Key};
-use slotmap_keylist::outer;
+use slotmap::Key;
 
 impl<K: Key, T: Drop> StableList<K, T> {
     ghost use Rattle.slotmap_list.specs.Lends.{lends_value};
 
-    // The value of a key that stands.
-    fn value_mut(&mut self, key: DefaultKey) -> &mut T
-        requires { IsSome (value_of key self.old.elements) }
-        ensures* lends { sem 𝓛 (lends_value K.row T.row self.entry key result) }
-        ensures value { value_of key self.old.elements ≡ Some result.now }
+    // The value of a cursor that is in the list.
+    pub(crate) fn value_mut(&mut self, cursor: K) -> &mut T
+        requires { IsSome (value_of (K.data_of cursor) self.old.elements) }
+        ensures* lends { sem 𝓛 (lends_value K.row T.row self.entry (K.data_of cursor) result) }
+        ensures value { value_of (K.data_of cursor) self.old.elements ≡ Some result.now }
     {
-        match self.get_mut(outer(key)) {
+        match self.get_mut(cursor) {
             Some(value) => value,
             None => unreachable!(),
         }
     }
 
-    // Removes the element of a key that stands, and drops its value.
-    fn reject(&mut self, key: DefaultKey)
-        requires { IsSome (value_of key self.old.elements) }
-        ensures removed { self.new.elements ≡ without key self.old.elements }
-        ensures for_good { IsSpent self.new.cursors key }
+    // Removes the element of a cursor that is in the list, and drops its value.
+    fn reject(&mut self, cursor: K)
+        requires { IsSome (value_of (K.data_of cursor) self.old.elements) }
+        ensures removed { self.new.elements ≡ without (K.data_of cursor) self.old.elements }
+        ensures for_good { IsSpent self.new.cursors (K.data_of cursor) }
         ensures gone { KeepsSpent self.old.cursors self.new.cursors }
         ensures leaves { Leaves self.old.cursors self.new.cursors }
         ensures capacity { self.new.cursors.capacity ≡ self.old.cursors.capacity }
     {
-        self.take(key);
+        self.remove(cursor);
     }
 
     /// Calls a closure once for each element, from front to back, and removes those for which it
@@ -62,12 +61,12 @@ impl<K: Key, T: Drop> StableList<K, T> {
         ensures leaves { Leaves self.old.cursors self.new.cursors }
         ensures capacity { self.new.cursors.capacity ≡ self.old.cursors.capacity }
     {
-        let mut at = self.first.get();
-        while let Some(key) = at {
-            at = self.after(key);
-            let stays = f(outer(key), self.value_mut(key));
+        let mut at = self.first();
+        while let Some(cursor) = at {
+            at = self.after(cursor);
+            let stays = f(cursor, self.value_mut(cursor));
             if !stays {
-                self.reject(key);
+                self.reject(cursor);
             }
         }
     }

@@ -4,10 +4,8 @@ ghost use Rattle.std.specs.Prelude.{◌≡◌, [], IfNone, IfSome, OnSome, IsSom
 ghost use Rattle.slotmap.specs.Words.{Key as KeyOf, IsSpent, KeepsSpent, Leaves, Removes};
 ghost use Rattle.slotmap_list.specs.Sequence.{value_of, without, TakesFront, TakesBack};
 
-use crate::StableList;
-use crate::links::relink;
-use slotmap::{DefaultKey, Key};
-use slotmap_keylist::{KeyOrNull, inner, outer};
+use crate::{StableList, key_at};
+use slotmap::Key;
 
 impl<K: Key, T: Drop> StableList<K, T> {
     /// Removes the element of a cursor, and returns its value, or `None` if the cursor isn't in the
@@ -30,32 +28,9 @@ impl<K: Key, T: Drop> StableList<K, T> {
         ensures capacity { self.new.cursors.capacity ≡ self.old.cursors.capacity }
         ensures stale { IfNone result (self.new ≡ self.old) }
     {
-        self.take(inner(cursor))
-    }
-
-    // Removes the element of a key.
-    pub(crate) fn take(&mut self, cursor: DefaultKey) -> Option<T>
-        ensures value { result ≡ value_of cursor self.old.elements }
-        ensures removed { self.new.elements ≡ without cursor self.old.elements }
-        ensures absent { value_of cursor self.new.elements ≡ None }
-        ensures cursors { OnSome result (Removes self.old.cursors cursor self.new.cursors) }
-        ensures for_good { OnSome result (IsSpent self.new.cursors cursor) }
-        ensures gone { KeepsSpent self.old.cursors self.new.cursors }
-        ensures leaves { Leaves self.old.cursors self.new.cursors }
-        ensures capacity { self.new.cursors.capacity ≡ self.old.cursors.capacity }
-        ensures stale { IfNone result (self.new ≡ self.old) }
-    {
-        let node = self.nodes.remove(cursor)?;
-        relink(
-            &mut self.nodes,
-            &mut self.first,
-            &mut self.last,
-            node.prev.copied(),
-            node.next.copied(),
-            node.next,
-            node.prev,
-        );
-        Some(node.value)
+        let value = self.values.remove(cursor)?;
+        self.links.take_out(0, cursor.data().idx());
+        Some(value)
     }
 
     /// Removes the element at the front, and returns its cursor and its value, or `None` if the list
@@ -77,9 +52,9 @@ impl<K: Key, T: Drop> StableList<K, T> {
         ensures capacity { self.new.cursors.capacity ≡ self.old.cursors.capacity }
         ensures empty { IfNone result (self.new ≡ self.old) }
     {
-        let cursor = self.first.get()?;
-        let value = self.take(cursor)?;
-        Some((outer(cursor), value))
+        let cursor = self.first()?;
+        let value = self.remove(cursor)?;
+        Some((cursor, value))
     }
 
     /// Removes the element at the back, and returns its cursor and its value, or `None` if the list
@@ -101,9 +76,9 @@ impl<K: Key, T: Drop> StableList<K, T> {
         ensures capacity { self.new.cursors.capacity ≡ self.old.cursors.capacity }
         ensures empty { IfNone result (self.new ≡ self.old) }
     {
-        let cursor = self.last.get()?;
-        let value = self.take(cursor)?;
-        Some((outer(cursor), value))
+        let cursor = key_at(&self.values, self.links.last(0))?;
+        let value = self.remove(cursor)?;
+        Some((cursor, value))
     }
 
     /// Removes all elements. Their cursors are never used again. The room and the capacity stay.
@@ -122,8 +97,6 @@ impl<K: Key, T: Drop> StableList<K, T> {
         ensures leaves { Leaves self.old.cursors self.new.cursors }
         ensures capacity { self.new.cursors.capacity ≡ self.old.cursors.capacity }
     {
-        self.nodes.clear();
-        self.first = KeyOrNull::none();
-        self.last = KeyOrNull::none();
+        while self.pop_front().is_some() {}
     }
 }

@@ -1,15 +1,12 @@
 use Rattle.slotmap_keylist.proofs.Alone.{alone-copy}
-use Rattle.slotmap_list.proofs.Chains.{chain_is, self_chain, shown}
-use Rattle.slotmap_list.proofs.Alike.{chain_cloned, clones_are_same}
+use Rattle.slotmap_list.proofs.Keeps.{kept_cloned, elements_cloned, clones_are_same}
 use Rattle.slotmap_list.proofs.StableList.clone.Goals as goal
 
 pub invariant_of-result : goal.invariant_of-result
-invariant_of-result g c = rw (c.copied.ensures, c.copied-2.ensures) (self_chain (chain_cloned g.T.Clone.is_clone _ _ c.in_ok-clone.ensures.clones c.self.invariant).1)
+invariant_of-result g c = rw c.in_ok-clone-2.ensures (kept_cloned g.T.Clone.is_clone c.self.invariant c.in_ok-clone.ensures.clones c.in_ok-clone.ensures.capacity)
 
 pub returns-clause-clones : goal.returns-clause-clones
-returns-clause-clones g c =
-    let copy = chain_cloned g.T.Clone.is_clone _ _ c.in_ok-clone.ensures.clones (shown c.self.invariant c.self.view_is) in
-    rw (c.copied.ensures, chain_is copy.1) copy.2
+returns-clause-clones g c = rw (c.in_ok-clone-2.ensures, ← c.self.view_is) (elements_cloned g.T.Clone.is_clone c.self.invariant c.in_ok-clone.ensures.clones)
 
 pub returns-clause-same_if_clones_equal : goal.returns-clause-same_if_clones_equal
 returns-clause-same_if_clones_equal g c same = clones_are_same g.T.Clone.is_clone same _ _ (returns-clause-clones g c)

@@ -1,5 +1,5 @@
-use Rattle.slotmap_list.proofs.Iterated.{walk_start}
+use Rattle.slotmap_list.proofs.Seen.{no_key_twice}
 use Rattle.slotmap_list.proofs.StableList.iter.Goals as goal
 
-pub invariant_of-result : goal.invariant_of-result
-invariant_of-result g c = rw (c.len.ensures.value, c.get.ensures.value, c.get-2.ensures.value) (walk_start c.self.invariant)
+pub returns-clause-once : goal.returns-clause-once
+returns-clause-once g c = rw c.iter.ensures (no_key_twice c.self.invariant)

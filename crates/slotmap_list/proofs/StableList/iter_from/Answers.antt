@@ -1,18 +1,22 @@
-use Rattle.std.proofs.Common.{sym, ◌∙◌}
-use Rattle.slotmap_list.proofs.Chains.{shown}
-use Rattle.slotmap_list.proofs.Onward.{rest_begins, rest_gone, rest_none}
+use Rattle.std.proofs.Common.{sym, ap, length, ◌∙◌}
+use Rattle.slotmap.specs.Words.{Key}
+use Rattle.slotmap_list.specs.Sequence.{Sequence}
+use Rattle.slotmap_list.proofs.Seen.{from_gone, inside_if, rest_begins, rest_elements}
 use Rattle.slotmap_list.proofs.StableList.iter_from.Goals as goal
 
-pub invariant_of-result : goal.invariant_of-result
-invariant_of-result g c = (rest_none (shown c.self.invariant c.self.view_is) c.inner-key.result).0
-
-pub returns-then-not-has-clause-elements : goal.returns-then-not-has-clause-elements
-returns-then-not-has-clause-elements g c =
-    rw (← c.inner-key.ensures) ((rest_none (shown c.self.invariant c.self.view_is) c.inner-key.result).1
-    ∙ sym (rest_gone (shown c.self.invariant c.self.view_is) c.inner-key.result (sym c.has.ensures.value ∙ c.if-not-has.true)))
+pub returns-then-not-contains_key-clause-elements : goal.returns-then-not-contains_key-clause-elements
+returns-then-not-contains_key-clause-elements g c = rw (← c.self.view_is) (from_gone c.self.invariant (g.K.Key.data_of c.args.cursor) (sym c.contains_key.ensures.value ∙ c.if-not-contains_key.true))
 
 pub invariant_of-result-2 : goal.invariant_of-result-2
-invariant_of-result-2 g c = (rest_begins (shown c.self.invariant c.self.view_is) c.inner-key.result (sym c.has.ensures.value ∙ c.if-not-has.false)).0
+invariant_of-result-2 g c =
+    rest_begins c.self.invariant (g.K.Key.data_of c.args.cursor) (sym c.contains_key.ensures.value ∙ c.if-not-contains_key.false) c.idx.result (c.idx.ensures.value ∙ ap (λ (k : Key). k.index) c.data.ensures.value)
+    c.iter_from.result c.iter_from.ensures c.len-most.result (c.len-most.ensures.value ∙ ap (λ (s : Sequence g.row.T.Denot). length s.elements) (sym c.self.view_is))
 
 pub returns-clause-elements : goal.returns-clause-elements
-returns-clause-elements g c = rw (← c.inner-key.ensures) (rest_begins (shown c.self.invariant c.self.view_is) c.inner-key.result (sym c.has.ensures.value ∙ c.if-not-has.false)).1
+returns-clause-elements g c =
+    rw (← c.self.view_is) (rest_elements c.self.invariant (g.K.Key.data_of c.args.cursor) (sym c.contains_key.ensures.value ∙ c.if-not-contains_key.false) c.idx.result
+    (c.idx.ensures.value ∙ ap (λ (k : Key). k.index) c.data.ensures.value) c.iter_from.result c.iter_from.ensures)
+
+pub iter_from-requires : goal.iter_from-requires
+iter_from-requires g c =
+    (0, rw (c.idx.ensures.value, c.data.ensures.value) (inside_if c.self.invariant (g.K.Key.data_of c.args.cursor) (sym c.contains_key.ensures.value ∙ c.if-not-contains_key.false)))

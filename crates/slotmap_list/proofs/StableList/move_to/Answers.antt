@@ -1,44 +1,48 @@
-use Rattle.std.proofs.Common.{refl, sym, ap, ◌∙◌}
-use Rattle.slotmap_keylist.proofs.Alone.{same_live}
+use Rattle.std.proofs.Common.{◌≡◌, true, refl, sym, ap, ◌∙◌}
+use Rattle.slotmap.specs.Words.{Key}
+use Rattle.slotmap_links.specs.Lists.{list_of}
 use Rattle.slotmap_list.specs.Sequence.{Sequence, value_of}
-use Rattle.slotmap_list.proofs.Chains.{chain_is, self_chain, stands_here, neighbours, shown}
-use Rattle.slotmap_list.proofs.Moving.{mover_stands, move_stays, move_there, neighbours_placed, chain_moved, seen_as}
-use Rattle.slotmap_list.proofs.Keeping.{moved_values}
+use Rattle.slotmap_list.specs.Kept.{elements_at}
+use Rattle.slotmap_list.specs.Places.{is_move, moved_to}
+use Rattle.slotmap_list.proofs.Moved.{Moves, moves}
+use Rattle.slotmap_list.proofs.Moving.{move_stays, seen_as}
 use Rattle.slotmap_list.proofs.StableList.move_to.Goals as goal
+use Rattle.slotmap_list.proofs.StableList.move_to.Goals.{After-idx-index}
+
+can : (g : _) (c : After-idx-index g) → is_move (g.K.Key.data_of c.args.cursor) c.args.place (elements_at c.self.inside.values.live (list_of c.self.inside.links 0)) ≡ true
+can g c = ap (λ (s : Sequence g.row.T.Denot). is_move (g.K.Key.data_of c.args.cursor) c.args.place s.elements) c.self.view_is ∙ sym c.can_move.ensures ∙ c.if-not-can_move.false
+
+index : (g : _) (c : After-idx-index g) → c.idx-index.result ≡ (g.K.Key.data_of c.args.cursor).index
+index g c = c.idx-index.ensures.value ∙ ap (λ (k : Key). k.index) c.data.ensures.value
+
+made : (g : _) (c : After-idx-index g) → Moves c.self.invariant (g.K.Key.data_of c.args.cursor) c.args.place (can g c)
+made g c = moves c.self.invariant (g.K.Key.data_of c.args.cursor) c.args.place (can g c)
 
 pub returns-then-not-can_move-clause-moved : goal.returns-then-not-can_move-clause-moved
 returns-then-not-can_move-clause-moved g c =
-    seen_as c.args.self.now c.args.self.now.elements _ c.args.self.now.cursors (move_stays c.args.place c.args.cursor c.args.self.now.elements (sym c.can_move.ensures ∙ c.if-not-can_move.true)) refl
+    seen_as c.args.self.now c.args.self.now.elements _ c.args.self.now.cursors
+    (move_stays c.args.place (g.K.Key.data_of c.args.cursor) c.args.self.now.elements (sym c.can_move.ensures ∙ c.if-not-can_move.true)) refl
 
-pub unlink-requires-clause-stands : goal.unlink-requires-clause-stands
-unlink-requires-clause-stands g c = stands_here (shown c.self.invariant c.self.view_is) c.args.cursor ∙ mover_stands c.args.place c.args.cursor _ (sym c.can_move.ensures ∙ c.if-not-can_move.false)
+pub take_out-requires-clause-member : goal.take_out-requires-clause-member
+take_out-requires-clause-member g c = let at = (goal.at.take_out-requires-clause-member g c).After-idx-index in rw (index g at) (made g at).member
 
-pub unlink-requires-clause-linked : goal.unlink-requires-clause-linked
-unlink-requires-clause-linked g c = neighbours c.self.invariant c.args.cursor
+pub put_index-requires-clause-free : goal.put_index-requires-clause-free
+put_index-requires-clause-free g c = let at = (goal.at.put_index-requires-clause-free g c).After-idx-index in rw (c.take_out.ensures, index g at) (made g at).free
 
-pub unreachable-requires : goal.unreachable-requires
-unreachable-requires g c =
-    move_there (shown c.self.invariant c.self.view_is) c.unlink.ensures.unlinks c.args.place (sym c.can_move.ensures ∙ c.if-not-can_move.false) (sym c.in_default.ensures)
-
-pub link-requires-clause-stands : goal.link-requires-clause-stands
-link-requires-clause-stands g c =
-    same_live _ _ c.unlink.ensures.keys c.args.cursor ∙ stands_here (shown c.self.invariant c.self.view_is) c.args.cursor
-    ∙ mover_stands c.args.place c.args.cursor _ (sym c.can_move.ensures ∙ c.if-not-can_move.false)
-
-pub link-requires-clause-linked : goal.link-requires-clause-linked
-link-requires-clause-linked g c =
-    neighbours_placed (shown c.self.invariant c.self.view_is) c.unlink.ensures.unlinks c.args.place (sym c.can_move.ensures ∙ c.if-not-can_move.false) (sym c.in-Some.ensures)
+pub put_index-requires-clause-place : goal.put_index-requires-clause-place
+put_index-requires-clause-place g c = let at = (goal.at.put_index-requires-clause-place g c).After-idx-index in rw (c.take_out.ensures, index g at) (made g at).has
 
 pub invariant_of-self : goal.invariant_of-self
-invariant_of-self g c =
-    self_chain (chain_moved (shown c.self.invariant c.self.view_is) c.unlink.ensures.unlinks c.args.place (sym c.can_move.ensures ∙ c.if-not-can_move.false) (sym c.in-Some.ensures)
-    c.link.ensures.links (same_live _ _ (c.link.ensures.keys ∙ c.unlink.ensures.keys)))
+invariant_of-self g c = let at = (goal.at.invariant_of-self g c).After-idx-index in rw (c.put_index.ensures, c.take_out.ensures, index g at) (made g at).stays
 
 pub returns-clause-moved : goal.returns-clause-moved
 returns-clause-moved g c =
-    seen_as c.args.self.now _ _ _ (chain_is (chain_moved (shown c.self.invariant c.self.view_is) c.unlink.ensures.unlinks c.args.place (sym c.can_move.ensures ∙ c.if-not-can_move.false) (sym c.in-Some.ensures)
-    c.link.ensures.links (same_live _ _ (c.link.ensures.keys ∙ c.unlink.ensures.keys)))) (c.link.ensures.keys ∙ c.unlink.ensures.keys ∙ ap (λ (s : Sequence _). s.cursors) c.self.view_is)
+    let at = (goal.at.returns-clause-moved g c).After-idx-index in
+    rw (c.put_index.ensures, c.take_out.ensures, index g at)
+    (seen_as c.args.self.now _ _ _ ((made g at).elements ∙ ap (λ (s : Sequence g.row.T.Denot). moved_to c.args.place (g.K.Key.data_of c.args.cursor) s.elements) c.self.view_is)
+    (ap (λ (s : Sequence g.row.T.Denot). s.cursors) c.self.view_is))
 
 pub returns-clause-values : goal.returns-clause-values
 returns-clause-values g c q =
-    ap (λ (s : Sequence _). value_of q s.elements) (returns-clause-moved g c) ∙ moved_values c.args.place c.args.cursor c.args.self.now.elements (shown c.self.invariant c.self.view_is).row.once q
+    let at = (goal.at.returns-clause-values g c).After-idx-index in
+    rw (c.put_index.ensures, c.take_out.ensures, index g at, ← c.self.view_is) (ap (value_of q) (made g at).elements ∙ (made g at).values q)

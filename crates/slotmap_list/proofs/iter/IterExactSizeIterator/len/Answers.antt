@@ -1,6 +1,6 @@
-use Rattle.std.proofs.Common.{length, ap, ◌∙◌}
-use Rattle.slotmap_list.proofs.Iterated.{walk_length}
+use Rattle.std.proofs.Common.{sym, ap, length, ◌∙◌}
+use Rattle.slotmap_list.proofs.Indices.{elements_long}
 use Rattle.slotmap_list.proofs.iter.IterExactSizeIterator.len.Goals as goal
 
 pub returns-clause-value : goal.returns-clause-value
-returns-clause-value g c = walk_length c.self.invariant ∙ ap length c.self.view_is
+returns-clause-value g c = c.len.ensures.value ∙ sym (elements_long c.self.inside.indices c.self.invariant) ∙ ap length c.self.view_is

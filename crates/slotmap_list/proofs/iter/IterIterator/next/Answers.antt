@@ -1,14 +1,12 @@
-use Rattle.std.proofs.Common.{length, ap, sym, ◌∙◌, arith}
-use Rattle.slotmap_list.proofs.Iterated.{walk_next}
+use Rattle.std.proofs.Common.{sym, ◌∙◌}
+use Rattle.slotmap_list.proofs.Indices.{front_is, front_there, live_there}
 use Rattle.slotmap_list.proofs.iter.IterIterator.next.Goals as goal
 
-pub invariant_of-self : goal.invariant_of-self
-invariant_of-self g c =
-    rw c.get-self-inside.ensures.value (walk_next c.self.invariant (omega (arith, c.if-self-eq0.false)) _ _ (sym (rw c.in_ok-node.was at c.get.ensures.value)) c.in_ok-cursor.was).0
+pub returns-in_err-cursor-clause-steps : goal.returns-in_err-cursor-clause-steps
+returns-in_err-cursor-clause-steps g c =
+    absurd (live_there c.self.invariant c.in_ok-index.index c.next.new.self (front_there c.self.invariant c.in_ok-index.index c.next.new.self c.in_ok-index.ensures.steps) c.in_err-cursor.ensures.none)
 
 pub returns-clause-steps : goal.returns-clause-steps
 returns-clause-steps g c =
-    rw (c.outer.ensures, c.get-self-inside.ensures.value) (sym c.self.view_is ∙ (walk_next c.self.invariant (omega (arith, c.if-self-eq0.false)) _ _ (sym (rw c.in_ok-node.was at c.get.ensures.value)) c.in_ok-cursor.was).1)
-
-pub returns-clause-goes : goal.returns-clause-goes
-returns-clause-goes g c = record { on = λ _. (tt, tt, omega (arith, ap length (returns-clause-steps g c))); keeps = tt; rests = λ _. tt }
+    sym c.self.view_is ∙ front_is c.self.invariant c.in_ok-index.index c.next.new.self (g.K.Key.data_of c.in_ok-cursor.cursor) c.value.result.now
+    c.in_ok-cursor.ensures.index c.value.ensures c.in_ok-index.ensures.steps

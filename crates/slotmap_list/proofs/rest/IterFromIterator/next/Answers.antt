@@ -1,11 +1,16 @@
-use Rattle.std.proofs.Common.{length, ap, sym, ◌∙◌, arith}
-use Rattle.slotmap_list.proofs.Onward.{rest_next}
+use Rattle.std.proofs.Common.{sym, ap, ◌∙◌}
+use Rattle.slotmap_list.specs.Kept.{all_of, elements_at}
+use Rattle.slotmap_list.proofs.Indices.{front_is, front_there, live_there}
 use Rattle.slotmap_list.proofs.rest.IterFromIterator.next.Goals as goal
+
+pub returns-in_err-cursor-clause-steps : goal.returns-in_err-cursor-clause-steps
+returns-in_err-cursor-clause-steps g c =
+    let all = (rw c.in-Some.is at c.self.invariant).indices in
+    absurd (live_there all c.in_ok-index.index c.next.new.self (front_there all c.in_ok-index.index c.next.new.self c.in_ok-index.ensures.steps) c.in_err-cursor.ensures.none)
 
 pub returns-clause-steps : goal.returns-clause-steps
 returns-clause-steps g c =
-    rw (c.outer.ensures, c.get-self-inside.ensures.value) (sym c.self.view_is
-    ∙ (rest_next c.self.invariant c.in_ok-cursor.cursor c.in_ok-cursor.was c.in_ok-node.node.now (sym (rw c.in_ok-node.was at c.get.ensures.value))).1)
-
-pub returns-clause-goes : goal.returns-clause-goes
-returns-clause-goes g c = record { on = λ _. (tt, tt, omega (arith, ap length (returns-clause-steps g c))); keeps = tt; rests = λ _. tt }
+    let all = (rw c.in-Some.is at c.self.invariant).indices in
+    sym c.self.view_is ∙ ap (λ o. elements_at c.self.inside.values.now.live (all_of o)) c.in-Some.is
+    ∙ front_is all c.in_ok-index.index c.next.new.self (g.K.Key.data_of c.in_ok-cursor.cursor) c.value.result.now
+    c.in_ok-cursor.ensures.index c.value.ensures c.in_ok-index.ensures.steps

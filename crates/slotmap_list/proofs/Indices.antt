@@ -1,0 +1,203 @@
+-- The live key with an index, and elements by the indices of their keys.
+use Rattle.std.proofs.Common.{◌≡◌, ◌≢◌, ℕ, ◌<◌, ◌≤◌, Bool, true, nat_eq, List, [], ◌∷◌, ◌++◌, length, Option, Some, None, IsSome, IfSome, IfNone, is_some, inl, inr, refl, sym, ap, subst, ◌∙◌, arith}
+use Rattle.std.specs.List.{find, cons_option, list_any}
+use Rattle.std.specs.Option.{option_map}
+use Rattle.std.specs.Ordering.{eq_by_cmp}
+use Rattle.std.specs.FinMap as map
+use Rattle.std.proofs.Common.{eqb-true, eq-eqb}
+use Rattle.std.proofs.lemmas.List.Elements.{filter_map-append}
+use Rattle.slotmap.specs.Words.{Key, key_cmp, Content, IsContent, IsLive}
+use Rattle.slotmap.proofs.Callers.{keys_total, exact_keys, tied, itself, same_or_other}
+use Rattle.slotmap_links.specs.Lists as numbers
+use Rattle.slotmap_links.specs.Lists.{times}
+use Rattle.slotmap_links.proofs.Counts.{same, times_first, times_joined, one_itself}
+use Rattle.slotmap_list.specs.Sequence.{first_or, last_or}
+use Rattle.slotmap_list.proofs.Elements as keys
+use Rattle.slotmap_list.specs.Kept.{with_value, at_index, elements_at, key_of, AreApart, AreIndices}
+
+-- the first key that passes a test is in the list, and where one passes it there is a first
+first_found : (p : Key → Bool) (ks : List Key) (k : Key) → find p ks ≡ Some k → (p k ≡ true) × (list_any (eq_by_cmp key_cmp k) ks ≡ true)
+first_found p [] k is = absurd (cc)
+first_found p (q ∷ ks) k is = grind (arith, first_found p ks k, itself keys_total exact_keys k)
+
+some_found : (p : Key → Bool) (ks : List Key) (k : Key) → p k ≡ true → list_any (eq_by_cmp key_cmp k) ks ≡ true → is_some (find p ks) ≡ true
+some_found p [] k passes there = absurd (cc)
+some_found p (q ∷ ks) k passes there = grind (arith, some_found p ks k, tied keys_total exact_keys k q)
+
+module _ {T : Type 0} (m : map.FinMap key_cmp T) where
+  with_value_is : (o : Option Key) (e : Key × T) → with_value m o ≡ Some e → (o ≡ Some e.0) × (map.get m e.0 ≡ Some e.1)
+  with_value_is None e is = absurd (cc)
+  with_value_is (Some k) e is = by (map.get m k) refl is
+    where
+      by : (o : Option T) → map.get m k ≡ o → option_map (λ v. (k, v)) o ≡ Some e → (Some k ≡ Some e.0) × (map.get m e.0 ≡ Some e.1)
+      by None found is = absurd (cc)
+      by (Some v) found is = let same : (k, v) ≡ e = cc in subst (λ (e : Key × T). (Some k ≡ Some e.0) × (map.get m e.0 ≡ Some e.1)) same (refl, found)
+
+  -- the key with an index is live and has it
+  pub at_is : (i : ℕ) (e : Key × T) → at_index m i ≡ Some e → (e.0.index ≡ i) × (map.get m e.0 ≡ Some e.1)
+  unfolding at_index
+  at_is i e is =
+      let w = with_value_is (find (λ k. nat_eq k.index i) (map.keys m)) e is in
+      (eqb-true e.0.index i (first_found (λ k. nat_eq k.index i) (map.keys m) e.0 w.0).0, w.1)
+
+  -- no key with this index is live
+  pub none_at : (i : ℕ) → ((k : Key) → map.contains_key m k ≡ true → k.index ≢ i) → at_index m i ≡ None
+  none_at i none = by (at_index m i) refl
+    where
+      by : (o : Option (Key × T)) → at_index m i ≡ o → o ≡ None
+      by None is = refl
+      by (Some e) is = absurd (let found = at_is i e is in none e.0 (ap is_some found.1) found.0)
+
+  module _ (apart : AreApart m) where
+    -- a live key is the one with its index
+    pub at_live : (k : Key) (v : T) → map.get m k ≡ Some v → at_index m k.index ≡ Some (k, v)
+    unfolding at_index
+    at_live k v found = by (find (λ q. nat_eq q.index k.index) (map.keys m)) refl
+        (some_found (λ q. nat_eq q.index k.index) (map.keys m) k (eq-eqb k.index k.index refl) (sym (map.contains_key-keys m k) ∙ ap is_some found))
+      where
+        by : (o : Option Key) → find (λ q. nat_eq q.index k.index) (map.keys m) ≡ o → is_some o ≡ true → with_value m o ≡ Some (k, v)
+        by None is some = absurd (cc)
+        by (Some q) is some =
+            let first = first_found (λ q. nat_eq q.index k.index) (map.keys m) q is in
+            let same : q ≡ k = apart q k (map.contains_key-keys m q ∙ first.1) (ap is_some found) (eqb-true q.index k.index first.0) in
+            subst (λ (q : Key). with_value m (Some q) ≡ Some (k, v)) (sym same) (ap (option_map (λ v. (k, v))) found)
+
+    -- so there is one
+    pub some_at : (i : ℕ) (k : Key) → map.contains_key m k ≡ true → k.index ≡ i → is_some (at_index m i) ≡ true
+    some_at i k live index = ap (λ i. is_some (at_index m i)) (sym index) ∙ by (map.get m k) refl live
+      where
+        by : (o : Option T) → map.get m k ≡ o → is_some o ≡ true → is_some (at_index m k.index) ≡ true
+        by None found some = absurd (cc)
+        by (Some v) found some = ap is_some (at_live k v found)
+
+  -- what the elements are: that of the first index, and the others
+  pub elements_first : (i : ℕ) (is : List ℕ) (e : Key × T) → at_index m i ≡ Some e → elements_at m (i ∷ is) ≡ e ∷ elements_at m is
+  elements_first i is e found = ap (λ o. cons_option o (elements_at m is)) found
+
+  pub elements-append : (is js : List ℕ) → elements_at m (is ++ js) ≡ elements_at m is ++ elements_at m js
+  elements-append is js = filter_map-append (at_index m) is js
+
+module _ {T : Type 0} (m : map.FinMap key_cmp T) where
+  -- a key occurs no more often than its index
+  often_by : (k : Key) (i : ℕ) (is : List ℕ) (o : Option (Key × T)) → at_index m i ≡ o → keys.times k (elements_at m is) ≤ times k.index is
+      → keys.times k (cons_option o (elements_at m is)) ≤ times k.index (i ∷ is)
+  often_by k i is None found rest = let first = times_first k.index i is in omega arith
+  often_by k i is (Some e) found rest =
+      let first = times_first k.index i is in
+      let at = (at_is m i e found).0 in
+      elim (same_or_other k e.0) [
+        | inl same_key ↦ (
+            let one = keys.one_itself k in
+            let as_one = ap (λ q. keys.one k q) same_key in
+            let here = ap (λ n. same n k.index) (ap (λ (q : Key). q.index) same_key ∙ at) in
+            let itself = one_itself k.index in
+            omega arith
+            )
+        | inr other ↦ (let none = keys.one_other k e.0 other in omega arith)
+      ]
+
+  pub as_often : (k : Key) (is : List ℕ) → keys.times k (elements_at m is) ≤ times k.index is
+  as_often k [] = omega arith
+  as_often k (i ∷ is) = often_by k i is (at_index m i) refl (as_often k is)
+
+-- an index is that of a live key in two maps, where the keys with this index are the same
+module _ {T : Type 0} (m n : map.FinMap key_cmp T) (apart_m : AreApart m) (apart_n : AreApart n) (i : ℕ) (same_keys : (k : Key) → k.index ≡ i → map.contains_key n k ≡ map.contains_key m k) where
+  pub some_alike : is_some (at_index n i) ≡ is_some (at_index m i)
+  some_alike = by (at_index m i) (at_index n i) refl refl
+    where
+      by : (o p : Option (Key × T)) → at_index m i ≡ o → at_index n i ≡ p → is_some p ≡ is_some o
+      by None None of_m of_n = refl
+      by (Some e) (Some f) of_m of_n = refl
+      by None (Some f) of_m of_n = let at = at_is n i f of_n in let some = some_at m apart_m i f.0 (sym (same_keys f.0 at.0) ∙ ap is_some at.1) at.0 in absurd (let none = ap is_some of_m in cc)
+      by (Some e) None of_m of_n = let at = at_is m i e of_m in let some = some_at n apart_n i e.0 (same_keys e.0 at.0 ∙ ap is_some at.1) at.0 in absurd (let none = ap is_some of_n in cc)
+
+-- what a map says of the key with an index
+module _ {T : Type 0} (c : Content T) where
+  pub content_apart : IsContent true c → AreApart c.live
+  content_apart well a b of_a of_b = well.apart a b (inl (inl of_a)) (inl (inl of_b))
+
+  pub key_found : {K : Type 0} (data_of : K → Key) (i : ℕ) (r : Option K) → IsContent true c → IfSome r (λ key. IsLive c (data_of key)) → IfSome r (λ key. (data_of key).index ≡ i)
+      → IfNone r ((q : Key) → IsLive c q → q.index ≢ i) → option_map data_of r ≡ key_of c.live (Some i)
+  key_found data_of i None well live index none = sym (ap (option_map (λ e. e.0)) (none_at c.live i none))
+  key_found data_of i (Some key) well live index none = by (map.get c.live (data_of key)) refl live
+    where
+      by : (o : Option T) → map.get c.live (data_of key) ≡ o → is_some o ≡ true → Some (data_of key) ≡ key_of c.live (Some i)
+      by None found some = absurd (cc)
+      by (Some v) found some = sym (ap (option_map (λ e. e.0)) (ap (at_index c.live) (sym index) ∙ at_live c.live (content_apart well) (data_of key) v found))
+
+-- a number of a list, and the numbers behind it
+pub in_first : (i : ℕ) (is : List ℕ) → 0 < times i (i ∷ is)
+in_first i is = let first = times_first i i is in let one = one_itself i in omega arith
+
+pub in_rest : (i q : ℕ) (is : List ℕ) → 0 < times q is → 0 < times q (i ∷ is)
+in_rest i q is more = let first = times_first q i is in omega arith
+
+module _ {T : Type 0} {m : map.FinMap key_cmp T} where
+  pub rest_indices : {i : ℕ} {is : List ℕ} → AreIndices m (i ∷ is) → AreIndices m is
+  rest_indices {i} {is} all = record { apart = all.apart; live = λ q more. all.live q (in_rest i q is more) }
+
+  -- the element at an index of the list
+  pub element_of : {is : List ℕ} → AreIndices m is → (i : ℕ) → 0 < times i is → (e : Key × T) × (at_index m i ≡ Some e)
+  element_of all i more = by (at_index m i) refl (all.live i more)
+    where
+      by : (o : Option (Key × T)) → at_index m i ≡ o → IsSome o → (e : Key × T) × (at_index m i ≡ Some e)
+      by None is some = absurd (cc)
+      by (Some e) is some = (e, is)
+
+  -- one element for each index
+  pub elements_long : (is : List ℕ) → AreIndices m is → length (elements_at m is) ≡ length is
+  elements_long [] all = refl
+  elements_long (i ∷ is) all =
+      let e = element_of all i (in_first i is) in
+      let rest = elements_long is (rest_indices all) in
+      let here = ap length (elements_first m i is e.0 e.1) in
+      omega arith
+
+  -- the two ends
+  pub first_at : (is : List ℕ) → AreIndices m is → key_of m (numbers.first_or is None) ≡ first_or (elements_at m is) None
+  first_at [] all = refl
+  first_at (i ∷ is) all =
+      let e = element_of all i (in_first i is) in
+      ap (option_map (λ e. e.0)) e.1 ∙ sym (ap (λ l. first_or l None) (elements_first m i is e.0 e.1))
+
+  last_from : (is : List ℕ) (o : Option ℕ) → AreIndices m is → key_of m (numbers.last_or is o) ≡ last_or (elements_at m is) (key_of m o)
+  last_from [] o all = refl
+  last_from (i ∷ is) o all =
+      let e = element_of all i (in_first i is) in
+      last_from is (Some i) (rest_indices all)
+      ∙ ap (λ o. last_or (elements_at m is) o) (ap (option_map (λ e. e.0)) e.1) ∙ sym (ap (λ l. last_or l (key_of m o)) (elements_first m i is e.0 e.1))
+
+  pub last_at : (is : List ℕ) → AreIndices m is → key_of m (numbers.last_or is None) ≡ last_or (elements_at m is) None
+  last_at is all = last_from is None all
+
+  -- what is at each of these indices is there in another map too
+  pub elements_stay : (n : map.FinMap key_cmp T) (is : List ℕ) → AreIndices m is → ((i : ℕ) (e : Key × T) → 0 < times i is → at_index m i ≡ Some e → at_index n i ≡ Some e)
+      → elements_at n is ≡ elements_at m is
+  elements_stay n [] all stay = refl
+  elements_stay n (i ∷ is) all stay =
+      let e = element_of all i (in_first i is) in
+      elements_first n i is e.0 (stay i e.0 (in_first i is) e.1) ∙ ap (λ l. e.0 ∷ l) (elements_stay n is (rest_indices all) (λ q f more. stay q f (in_rest i q is more)))
+      ∙ sym (elements_first m i is e.0 e.1)
+
+-- a step along a list of indices, from either end
+module _ {T : Type 0} {m : map.FinMap key_cmp T} {is : List ℕ} (all : AreIndices m is) (i : ℕ) (rest : List ℕ) where
+  -- an index of the list is that of a live key
+  module _ (there : 0 < times i is) where
+    pub live_there : ((k : Key) → map.contains_key m k ≡ true → k.index ≢ i) → ⊥
+    live_there none = let gone = none_at m i none in let e = element_of all i there in cc
+
+  module _ (k : Key) (v : T) (index : k.index ≡ i) (found : map.get m k ≡ Some v) where
+    here : at_index m i ≡ Some (k, v)
+    here = ap (at_index m) (sym index) ∙ at_live m all.apart k v found
+
+    pub front_is : is ≡ i ∷ rest → elements_at m is ≡ (k, v) ∷ elements_at m rest
+    front_is front = ap (elements_at m) front ∙ elements_first m i rest (k, v) here
+
+    pub back_is : is ≡ rest ++ i ∷ [] → elements_at m is ≡ elements_at m rest ++ (k, v) ∷ []
+    back_is back = ap (elements_at m) back ∙ elements-append m rest (i ∷ []) ∙ ap (λ l. elements_at m rest ++ l) (elements_first m i [] (k, v) here)
+
+  pub front_there : is ≡ i ∷ rest → 0 < times i is
+  front_there front = let same_often = ap (times i) front in let one = in_first i rest in omega arith
+
+  pub back_there : is ≡ rest ++ i ∷ [] → 0 < times i is
+  back_there back = let same_often = ap (times i) back ∙ times_joined i rest (i ∷ []) in let one = in_first i [] in omega arith

@@ -1,0 +1,174 @@
+-- Where a key stands in a list: the indices before it and behind it, and the elements there.
+use Rattle.std.proofs.Common.{◌≡◌, ◌≢◌, ℕ, ◌+◌, ◌<◌, ◌≤◌, true, cond, List, [], ◌∷◌, ◌++◌, Option, Some, None, is_some, refl, sym, ap, ◌∙◌, arith, append_assoc, append-nil}
+use Rattle.std.specs.List.{cons_option}
+use Rattle.std.specs.FinMap as map
+use Rattle.slotmap.specs.Words.{Key, key_cmp}
+use Rattle.slotmap.proofs.Callers.{keys_total, exact_keys, tied}
+use Rattle.slotmap_links.specs.Lists as numbers
+use Rattle.slotmap_links.specs.Lists.{times}
+use Rattle.slotmap_links.proofs.Counts.{is_itself, times_first, times_joined}
+use Rattle.slotmap_links.proofs.Linking.{in_midst, split_at, without_split}
+use Rattle.slotmap_links.proofs.SeenLists.{after_there, before_there, not_first, not_later, put_before_there, put_behind_there}
+use Rattle.slotmap_list.specs.Sequence.{value_of, key_after, key_before, from_key, put_after, put_before, without, IsOnce}
+use Rattle.slotmap_list.specs.Kept.{at_index, elements_at, key_of, AreApart, AreIndices}
+use Rattle.slotmap_list.specs.Places.{has_place, is_place, put_by_place, put_number}
+use Rattle.slotmap_list.specs.declared.place.Side.{Side}
+use Rattle.slotmap_list.specs.declared.place.Side.TheVariants.{Before, After}
+use Rattle.slotmap_list.specs.declared.place.Place.{Place}
+use Rattle.slotmap_list.specs.declared.place.Place.TheVariants.{Front, Back, Beside}
+use Rattle.slotmap_list.proofs.Elements as keys
+use Rattle.slotmap_list.proofs.Elements.{times_some, times_none, once_if, value_of-split, key_after-split, key_before-split, from_key-split, put_after-split, put_before-split, without-split}
+use Rattle.slotmap_list.proofs.Indices.{at_is, at_live, as_often, elements_first, elements-append, elements_stay, first_at, last_at}
+
+-- the numbers from a number on
+from_there : (k : ℕ) (before after : List ℕ) → times k before ≡ 0 → numbers.numbers_from k (before ++ k ∷ after) ≡ k ∷ after
+from_there k [] after none = ap (λ b. cond b (k ∷ after) (numbers.numbers_from k after)) (is_itself k)
+from_there k (q ∷ before) after none =
+    ap (λ b. cond b (q ∷ (before ++ k ∷ after)) (numbers.numbers_from k (before ++ k ∷ after))) (not_first k after q before none) ∙ from_there k before after (not_later k after q before none)
+
+module _ {T : Type 0} (m : map.FinMap key_cmp T) where
+  -- a key that isn't live has no element
+  none_by : (k : Key) (i : ℕ) (is : List ℕ) (o : Option (Key × T)) → at_index m i ≡ o → map.get m k ≡ None → value_of k (elements_at m is) ≡ None
+      → value_of k (cons_option o (elements_at m is)) ≡ None
+  none_by k i is None found none rest = rest
+  none_by k i is (Some e) found none rest = let at = (at_is m i e found).1 in grind (arith, tied keys_total exact_keys k e.0)
+
+  pub value_none : (k : Key) (is : List ℕ) → map.get m k ≡ None → value_of k (elements_at m is) ≡ None
+  value_none k [] none = refl
+  value_none k (i ∷ is) none = none_by k i is (at_index m i) refl none (value_none k is none)
+
+  -- one that has an element is live, and its index is in the list
+  pub value_in : (k : Key) (is : List ℕ) → is_some (value_of k (elements_at m is)) ≡ true → (is_some (map.get m k) ≡ true) × (0 < times k.index is)
+  value_in k is some = (by (map.get m k) refl, (let often = as_often m k is in let more = times_some k (elements_at m is) some in omega arith))
+    where
+      by : (o : Option T) → map.get m k ≡ o → is_some o ≡ true
+      by None none = absurd (let gone = ap is_some (value_none k is none) in cc)
+      by (Some v) found = refl
+
+  -- no key has two elements
+  pub elements_once : (is : List ℕ) → ((i : ℕ) → times i is ≤ 1) → IsOnce (elements_at m is)
+  elements_once is once = once_if (elements_at m is) (λ q. (let often = as_often m q is in let few = once q.index in omega arith))
+
+  -- the indices before that of k, and those behind it
+  pub record IsAt (is : List ℕ) (k : Key) (v : T) : Type 0 where
+    pub before : List ℕ
+    pub after : List ℕ
+    pub list : is ≡ before ++ k.index ∷ after
+    pub not_before : times k.index before ≡ 0
+    pub not_after : times k.index after ≡ 0
+    pub before_indices : AreIndices m before
+    pub after_indices : AreIndices m after
+    pub elements : elements_at m is ≡ elements_at m before ++ (k, v) ∷ elements_at m after
+    pub no_element : keys.times k (elements_at m before) ≡ 0
+
+  module _ (is : List ℕ) (all : AreIndices m is) (once : (i : ℕ) → times i is ≤ 1) (k : Key) (v : T) (found : map.get m k ≡ Some v) (there : 0 < times k.index is) where
+    pub stands_at : IsAt is k v
+    stands_at =
+        let split = split_at k.index is there in
+        let sum = ap (times k.index) split.2 ∙ in_midst split.0 k.index split.1 in
+        let few = once k.index in
+        let none : times k.index split.0 ≡ 0 = omega arith in
+        record {
+          before = split.0;
+          after = split.1;
+          list = split.2;
+          not_before = none;
+          not_after = omega arith;
+          before_indices = record { apart = all.apart; live = λ i more. all.live i (let h = ap (times i) split.2 ∙ times_joined i split.0 (k.index ∷ split.1) in omega arith) };
+          after_indices = record { apart = all.apart; live = λ i more. all.live i (let h = ap (times i) split.2 ∙ times_joined i split.0 (k.index ∷ split.1) in let f = times_first i k.index split.1 in omega arith) };
+          elements = ap (elements_at m) split.2 ∙ elements-append m split.0 (k.index ∷ split.1) ∙ ap (λ l. elements_at m split.0 ++ l) (elements_first m k.index split.1 (k, v) (at_live m all.apart k v found));
+          no_element = (let often = as_often m k split.0 in omega arith);
+        }
+
+    module _ (s : IsAt is k v) where
+      pub value_there : value_of k (elements_at m is) ≡ Some v
+      value_there = ap (value_of k) s.elements ∙ value_of-split k v (elements_at m s.after) (elements_at m s.before) s.no_element
+
+      pub next_there : key_of m (numbers.number_after k.index is) ≡ key_after k (elements_at m is)
+      next_there = ap (key_of m) (ap (numbers.number_after k.index) s.list ∙ after_there k.index s.after s.before s.not_before) ∙ first_at s.after s.after_indices
+          ∙ sym (ap (key_after k) s.elements ∙ key_after-split k v (elements_at m s.after) (elements_at m s.before) s.no_element)
+
+      pub prev_there : key_of m (numbers.number_before None k.index is) ≡ key_before None k (elements_at m is)
+      prev_there = ap (key_of m) (ap (numbers.number_before None k.index) s.list ∙ before_there k.index s.after s.before None s.not_before) ∙ last_at s.before s.before_indices
+          ∙ sym (ap (key_before None k) s.elements ∙ key_before-split k v (elements_at m s.after) None (elements_at m s.before) s.no_element)
+
+      pub from_at : elements_at m (numbers.numbers_from k.index is) ≡ from_key k (elements_at m is)
+      from_at = ap (elements_at m) (ap (numbers.numbers_from k.index) s.list ∙ from_there k.index s.before s.after s.not_before)
+          ∙ elements_first m k.index s.after (k, v) (at_live m all.apart k v found)
+          ∙ sym (ap (from_key k) s.elements ∙ from_key-split k v (elements_at m s.after) (elements_at m s.before) s.no_element)
+
+      pub number_without : numbers.without k.index is ≡ s.before ++ s.after
+      number_without = ap (numbers.without k.index) s.list ∙ without_split k.index s.before s.after (let few = once k.index in let same = ap (times k.index) s.list in omega arith)
+
+      pub element_without : without k (elements_at m is) ≡ elements_at m (numbers.without k.index is)
+      element_without = ap (without k) s.elements ∙ without-split k v (elements_at m s.after) (elements_at m s.before) s.no_element
+          ∙ sym (ap (elements_at m) number_without ∙ elements-append m s.before s.after)
+
+  -- a place in the list, and what stands before it and behind it
+  pub record IsPlace (is : List ℕ) (place : Place) : Type 0 where
+    pub before : List ℕ
+    pub after : List ℕ
+    pub list : is ≡ before ++ after
+    pub number : (i : ℕ) → put_number place i is ≡ before ++ i ∷ after
+    pub element : (x : Key × T) → put_by_place place x (elements_at m is) ≡ elements_at m before ++ x ∷ elements_at m after
+
+  pub place_there : (place : Place) (is : List ℕ) → is_place place (elements_at m is) ≡ true → has_place place is
+  place_there Front is there = tt
+  place_there Back is there = tt
+  place_there (Beside side k) is there = (value_in k is there).1
+
+  module _ (is : List ℕ) (all : AreIndices m is) (once : (i : ℕ) → times i is ≤ 1) where
+    pub place_in : (place : Place) → is_place place (elements_at m is) ≡ true → IsPlace is place
+    place_in Front there = record { before = []; after = is; list = refl; number = λ i. refl; element = λ x. refl }
+    place_in Back there = record { before = is; after = []; list = sym (append-nil is); number = λ i. refl; element = λ x. refl }
+    place_in (Beside side k) there = by (map.get m k) refl side (value_in k is there)
+      where
+        by : (o : Option T) → map.get m k ≡ o → (side : Side) → (is_some o ≡ true) × (0 < times k.index is) → IsPlace is (Beside side k)
+        by None found side there = absurd (let none = there.0 in cc)
+        by (Some v) found Before there =
+            let s = stands_at is all once k v found there.1 in
+            let here = elements_first m k.index s.after (k, v) (at_live m all.apart k v found) in
+            record {
+              before = s.before;
+              after = k.index ∷ s.after;
+              list = s.list;
+              number = λ i. ap (numbers.put_before k.index i) s.list ∙ put_before_there k.index s.after i s.before s.not_before;
+              element = λ x. ap (put_before k x) s.elements ∙ put_before-split k v (elements_at m s.after) x (elements_at m s.before) s.no_element
+                  ∙ ap (λ l. elements_at m s.before ++ x ∷ l) (sym here);
+            }
+        by (Some v) found After there =
+            let s = stands_at is all once k v found there.1 in
+            let here = elements-append m s.before (k.index ∷ []) ∙ ap (λ l. elements_at m s.before ++ l) (elements_first m k.index [] (k, v) (at_live m all.apart k v found)) in
+            record {
+              before = s.before ++ k.index ∷ [];
+              after = s.after;
+              list = s.list ∙ sym (append_assoc s.before (k.index ∷ []) s.after);
+              number = λ i. ap (numbers.put_behind k.index i) s.list ∙ put_behind_there k.index s.after i s.before s.not_before ∙ sym (append_assoc s.before (k.index ∷ []) (i ∷ s.after));
+              element = λ x. ap (put_after k x) s.elements ∙ put_after-split k v (elements_at m s.after) x (elements_at m s.before) s.no_element
+                  ∙ sym (append_assoc (elements_at m s.before) ((k, v) ∷ []) (x ∷ elements_at m s.after)) ∙ ap (λ l. l ++ x ∷ elements_at m s.after) (sym here);
+            }
+
+-- what is under other indices stays where others stay
+module _ {T : Type 0} (m n : map.FinMap key_cmp T) (k : Key) (apart : AreApart n) (others : (q : Key) (w : T) → q.index ≢ k.index → map.get m q ≡ Some w → map.get n q ≡ Some w) where
+  pub part_left : (is : List ℕ) → AreIndices m is → times k.index is ≡ 0 → elements_at n is ≡ elements_at m is
+  part_left is all none = elements_stay n is all (λ i e more at.
+      let found = at_is m i e at in
+      let other : e.0.index ≢ k.index = λ same. (let h = ap (λ j. times j is) (sym found.0 ∙ same) in absurd (omega arith)) in
+      ap (at_index n) (sym found.0) ∙ at_live n apart e.0 e.1 (others e.0 e.1 other found.1))
+
+-- an element that is put between others, or written where it was
+module _ {T : Type 0} (m n : map.FinMap key_cmp T) (k : Key) (v : T) (apart : AreApart n) (here : map.get n k ≡ Some v)
+    (others : (q : Key) (w : T) → q.index ≢ k.index → map.get m q ≡ Some w → map.get n q ≡ Some w) where
+  pub placed : (before after : List ℕ) → AreIndices m before → AreIndices m after → times k.index before ≡ 0 → times k.index after ≡ 0
+      → elements_at n (before ++ k.index ∷ after) ≡ elements_at m before ++ (k, v) ∷ elements_at m after
+  placed before after all_before all_after not_before not_after =
+      elements-append n before (k.index ∷ after) ∙ ap (λ l. l ++ elements_at n (k.index ∷ after)) (part_left m n k apart others before all_before not_before)
+      ∙ ap (λ l. elements_at m before ++ l) (elements_first n k.index after (k, v) (at_live n apart k v here) ∙ ap (λ l. (k, v) ∷ l) (part_left m n k apart others after all_after not_after))
+
+  pub put_between : (is : List ℕ) → AreIndices m is → times k.index is ≡ 0 → (before after : List ℕ) → is ≡ before ++ after
+      → elements_at n (before ++ k.index ∷ after) ≡ elements_at m before ++ (k, v) ∷ elements_at m after
+  put_between is all none before after split =
+      let sum : (i : ℕ) → times i is ≡ times i before + times i after = λ i. ap (times i) split ∙ times_joined i before after in
+      let own = sum k.index in
+      placed before after (record { apart = all.apart; live = λ i more. all.live i (let h = sum i in omega arith) })
+      (record { apart = all.apart; live = λ i more. all.live i (let h = sum i in omega arith) }) (omega arith) (omega arith)

@@ -1,0 +1,32 @@
+-- Calls that fail, and what holds where a call succeeds.
+use Rattle.std.proofs.Common.{◌≡◌, ℕ, ◌<◌, ◌≤◌, true, Result, Ok, Err, IsOk, OnOk, IsErr, refl, sym, subst, arith}
+use Rattle.slotmap.specs.Words.{Content, IsContent, MakesRoom, RefusesCapacity, most}
+use Rattle.slotmap.specs.declared.ReserveError.{ReserveError}
+use Rattle.slotmap.specs.declared.ReserveError.TheVariants.{TooGreat}
+
+-- a result isn't both
+pub not_both : {A E : Type 0} (r : Result A E) → IsOk r → IsErr r → ⊥
+not_both (Ok x) ok err = cc
+not_both (Err e) ok err = cc
+
+-- what holds where a call succeeds
+pub on_ok : {A E P : Type 0} (r : Result A E) → OnOk r P → IsOk r → P
+on_ok (Ok x) holds ok = holds
+on_ok (Err e) holds ok = absurd (cc)
+
+pub refused_greatly : (n : ℕ) (error : ReserveError) → error ≡ TooGreat → most < n → RefusesCapacity n error
+refused_greatly n error is over = subst (RefusesCapacity n) (sym is) over
+
+-- a call that reserves room fails, and changes nothing
+pub no_room_made : {V : Type 0} (c : Content V) (n : ℕ) (ok : Type 0) → IsContent true c → (ok → ⊥) → (n ≤ c.room → ok) → MakesRoom true c n ok c
+no_room_made c n ok well never had = record {
+  before = well;
+  after = well;
+  fits = λ o. absurd (never o);
+  room = λ o. absurd (never o);
+  live_and_more = λ o. absurd (never o);
+  succeeds = had;
+  had_room = λ _. refl;
+  keeps = record { live = refl; detached = refl; retired = refl; next = refl; offer = refl; stack = refl; room = omega arith };
+  capacity = omega arith;
+}

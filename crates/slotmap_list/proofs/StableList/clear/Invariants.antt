@@ -1,0 +1,10 @@
+use Rattle.std.proofs.Common.{length}
+use Rattle.slotmap_list.specs.Sequence.{Sequence}
+use Rattle.slotmap_list.specs.Drain.{EmptiesList}
+use Rattle.slotmap_list.proofs.StableList.clear.Given as goal
+
+abbrev pub invariant-loop : goal.invariant-loop
+invariant-loop g l = (end : Sequence g.row.T.Denot) → EmptiesList l.self end → EmptiesList l.fn.self end
+
+abbrev pub decreases-loop : goal.decreases-loop
+decreases-loop g l = length l.self.elements

@@ -1,0 +1,55 @@
+use Rattle.std.proofs.Common.{◌≡◌, true, refl, ap, ◌∙◌, arith}
+use Rattle.slotmap.specs.Words.{Key}
+use Rattle.slotmap.proofs.Callers.{spent_inserts}
+use Rattle.slotmap_keylist.proofs.Alone.{alone-inserts, gone_stays, new_not_gone}
+use Rattle.slotmap_links.specs.Lists.{list_of}
+use Rattle.slotmap_list.specs.Kept.{elements_at}
+use Rattle.slotmap_list.specs.Sequence.{Sequence}
+use Rattle.slotmap_list.specs.Places.{is_place}
+use Rattle.slotmap_list.proofs.Keeps.{free_one, kept_put, none_yet, elements_put}
+use Rattle.slotmap_list.proofs.Parts.{place_there}
+use Rattle.slotmap_list.proofs.Seen.{value_at}
+use Rattle.slotmap_list.proofs.StableList.put_in_room.Goals as goal
+use Rattle.slotmap_list.proofs.StableList.put_in_room.Goals.{After-idx}
+
+can : (g : _) (c : After-idx g) → is_place c.args.place (elements_at c.self.inside.values.live (list_of c.self.inside.links 0)) ≡ true
+can g c = ap (λ (s : Sequence g.row.T.Denot). is_place c.args.place s.elements) c.self.view_is ∙ c.requires.place
+
+index : (g : _) (c : After-idx g) → c.idx.result ≡ (g.K.Key.data_of c.insert_reserved-key.result).index
+index g c = c.idx.ensures.value ∙ ap (λ (k : Key). k.index) c.data.ensures.value
+
+pub put_index-requires-clause-free : goal.put_index-requires-clause-free
+put_index-requires-clause-free g c =
+    let made = c.insert_reserved-key.ensures in
+    let covered = c.self.invariant.covered in
+    rw (index g c) (free_one c.self.inside.links _ c.self.invariant.owner (let within = made.within in let same = made.valid.capacity in omega arith)
+    (none_yet c.self.invariant c.insert_reserved-key.new.self _ c.args.value made.inserts made.fresh made.valid.after c.args.place (can g c)))
+
+pub put_index-requires-clause-place : goal.put_index-requires-clause-place
+put_index-requires-clause-place g c = place_there c.self.inside.values.live c.args.place (list_of c.self.inside.links 0) (can g c)
+
+pub invariant_of-self : goal.invariant_of-self
+invariant_of-self g c =
+    let at = (goal.at.invariant_of-self g c).After-idx in
+    let made = c.insert_reserved-key.ensures in
+    let covered = c.self.invariant.covered in
+    rw (c.put_index.ensures, index g at) (kept_put c.self.invariant c.insert_reserved-key.new.self _ c.args.value made.inserts made.fresh made.valid.after c.args.place (can g at)
+    (let within = made.within in let same = made.valid.capacity in omega arith) made.valid.capacity)
+
+pub returns-clause-elements : goal.returns-clause-elements
+returns-clause-elements g c =
+    let at = (goal.at.returns-clause-elements g c).After-idx in
+    let made = c.insert_reserved-key.ensures in
+    rw (c.put_index.ensures, index g at, ← c.self.view_is) (elements_put c.self.invariant c.insert_reserved-key.new.self _ c.args.value made.inserts made.fresh made.valid.after c.args.place (can g at))
+
+pub returns-clause-fresh : goal.returns-clause-fresh
+returns-clause-fresh g c = rw (← c.self.view_is) (value_at c.self.invariant (g.K.Key.data_of c.insert_reserved-key.result) ∙ c.insert_reserved-key.ensures.fresh)
+
+pub returns-clause-unspent : goal.returns-clause-unspent
+returns-clause-unspent g c = rw (← c.self.view_is) (new_not_gone _ _ c.insert_reserved-key.ensures.valid.before _ _ c.insert_reserved-key.ensures.inserts)
+
+pub returns-clause-cursors : goal.returns-clause-cursors
+returns-clause-cursors g c = rw (← c.self.view_is) (alone-inserts _ _ _ _ c.insert_reserved-key.ensures.inserts)
+
+pub returns-clause-gone : goal.returns-clause-gone
+returns-clause-gone g c = rw (← c.self.view_is) (gone_stays _ _ _ refl (spent_inserts _ _ true c.insert_reserved-key.ensures.valid.before _ _ c.insert_reserved-key.ensures.inserts))

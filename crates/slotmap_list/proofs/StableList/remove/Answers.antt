@@ -1,0 +1,64 @@
+use Rattle.std.proofs.Common.{◌≡◌, true, Some, is_some, refl, sym, ap, ◌∙◌}
+use Rattle.std.specs.FinMap as map
+use Rattle.slotmap.proofs.Callers.{leaves_by_removal, leaves_none, removed_spent, spent_removes}
+use Rattle.slotmap_keylist.proofs.Alone.{alone-leaves, alone-removes, gone_here, gone_stays}
+use Rattle.slotmap_list.proofs.Keeps.{elements_taken, get-remove_here, kept_taken}
+use Rattle.slotmap_list.proofs.Parts.{value_none}
+use Rattle.slotmap_list.proofs.Seen.{inside_if, value_at, without_gone}
+use Rattle.slotmap_list.proofs.StableList.remove.Goals as goal
+use Rattle.slotmap_list.proofs.StableList.remove.Goals.{After-idx}
+
+-- what the map returned
+found : (g : _) (c : After-idx g) → map.get c.self.inside.values.live (g.K.Key.data_of c.args.cursor) ≡ Some c.in_ok-value.value
+found g c = sym (rw c.in_ok-value.was at c.remove.ensures.value)
+
+pub returns-in_err-value-clause-value : goal.returns-in_err-value-clause-value
+returns-in_err-value-clause-value g c =
+    rw (c.from_residual.ensures, ← c.self.view_is) (rw c.in_err-value.was at c.remove.ensures.value ∙ sym (value_at c.self.invariant (g.K.Key.data_of c.args.cursor)))
+
+pub returns-in_err-value-clause-removed : goal.returns-in_err-value-clause-removed
+returns-in_err-value-clause-removed g c =
+    rw (c.in_err-value.ensures.unchanged, ← c.self.view_is) (without_gone c.self.invariant (g.K.Key.data_of c.args.cursor) (ap is_some (sym (rw c.in_err-value.was at c.remove.ensures.value))))
+
+pub returns-in_err-value-clause-absent : goal.returns-in_err-value-clause-absent
+returns-in_err-value-clause-absent g c =
+    rw c.in_err-value.ensures.unchanged (value_none c.self.inside.values.live (g.K.Key.data_of c.args.cursor) _ (sym (rw c.in_err-value.was at c.remove.ensures.value)))
+
+pub take_out-requires-clause-member : goal.take_out-requires-clause-member
+take_out-requires-clause-member g c =
+    rw (c.idx.ensures.value, c.data.ensures.value) (inside_if c.self.invariant (g.K.Key.data_of c.args.cursor) (ap is_some (found g (goal.at.take_out-requires-clause-member g c).After-idx)))
+
+pub invariant_of-self-2 : goal.invariant_of-self-2
+invariant_of-self-2 g c =
+    rw (c.take_out.ensures, c.idx.ensures.value, c.data.ensures.value) (kept_taken c.self.invariant (g.K.Key.data_of c.args.cursor) c.in_ok-value.value
+    (found g (goal.at.invariant_of-self-2 g c).After-idx) c.remove.new.self c.in_ok-value.ensures.removes c.remove.ensures.valid.capacity)
+
+pub returns-clause-value : goal.returns-clause-value
+returns-clause-value g c = rw (← c.self.view_is) (sym (found g (goal.at.returns-clause-value g c).After-idx) ∙ sym (value_at c.self.invariant (g.K.Key.data_of c.args.cursor)))
+
+pub returns-clause-removed : goal.returns-clause-removed
+returns-clause-removed g c =
+    rw (c.take_out.ensures, c.idx.ensures.value, c.data.ensures.value, ← c.self.view_is) (elements_taken c.self.invariant (g.K.Key.data_of c.args.cursor) c.in_ok-value.value
+    (found g (goal.at.returns-clause-removed g c).After-idx) c.remove.new.self c.in_ok-value.ensures.removes)
+
+pub returns-clause-absent : goal.returns-clause-absent
+returns-clause-absent g c =
+    value_none c.remove.new.self.live (g.K.Key.data_of c.args.cursor) _ (ap (λ m. map.get m (g.K.Key.data_of c.args.cursor)) c.in_ok-value.ensures.removes.live ∙ get-remove_here c.self.inside.values.live (g.K.Key.data_of c.args.cursor))
+
+pub returns-clause-cursors : goal.returns-clause-cursors
+returns-clause-cursors g c = rw (← c.self.view_is) (alone-removes _ _ (g.K.Key.data_of c.args.cursor) c.in_ok-value.ensures.removes)
+
+pub returns-clause-for_good : goal.returns-clause-for_good
+returns-clause-for_good g c =
+    gone_here _ _ refl (g.K.Key.data_of c.args.cursor) (removed_spent _ _ true c.remove.ensures.valid.before _ (ap is_some (found g (goal.at.returns-clause-for_good g c).After-idx)) c.in_ok-value.ensures.removes)
+
+pub returns-clause-gone : goal.returns-clause-gone
+returns-clause-gone g c =
+    rw (← c.self.view_is) (gone_stays _ _ _ refl (spent_removes _ _ true c.remove.ensures.valid.before _ (ap is_some (found g (goal.at.returns-clause-gone g c).After-idx)) c.in_ok-value.ensures.removes))
+
+pub returns-clause-leaves : goal.returns-clause-leaves
+returns-clause-leaves g c =
+    rw (← c.self.view_is) (alone-leaves _ _ (leaves_by_removal true _ c.remove.ensures.valid.before _ (ap is_some (found g (goal.at.returns-clause-leaves g c).After-idx)) _ c.in_ok-value.ensures.removes))
+
+pub returns-in_err-value-clause-leaves : goal.returns-in_err-value-clause-leaves
+returns-in_err-value-clause-leaves g c = rw (← c.self.view_is, c.in_err-value.ensures.unchanged) (leaves_none _)
