@@ -411,8 +411,8 @@ impl<K: Key, E: Drop, T: Tables<K>> World<K, E, T> {
 
     /// Returns the keys of the entities, in packed order, in constant time.
     ///
-    /// By it a loop over the positions may change the world and allocates nothing: components may be
-    /// written, attached and detached. Those of [`World::keys`] and of a join borrow the world meanwhile.
+    /// A loop over the positions may change the world on its way, and needs no vector of keys. An iterator,
+    /// as [`World::keys`] or a join, borrows the world as long as it is used.
     ///
     /// ```
     /// let mut world: World<DefaultKey, u8, (SecondaryMap<DefaultKey, u32>, ())> = World::new(alloc)?;
