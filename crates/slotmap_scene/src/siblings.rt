@@ -3,9 +3,8 @@
 ghost use Rattle.std.specs.Prelude.{◌≡◌, ◌↔◌, ◌++◌, ◌∷◌, [], Some, None, IfErr, OnOk, OnErr, IsSome, IsTrue, false, option_map};
 ghost use Rattle.slotmap.specs.Words.{Key as KeyOf, KeepsSpent};
 ghost use Rattle.slotmap_keylist.specs.Linked.{first_or, last_or};
-ghost use Rattle.slotmap_scene.specs.declared.tree.Side.TheVariants.{Before, After};
 ghost use Rattle.slotmap_scene.specs.Climb.{IsWithin, has_node, parent_of};
-ghost use Rattle.slotmap_scene.specs.Family.{IsMoved, as_child, as_last_child, behind, children_of, in_front, placed, siblings_of, value_of};
+ghost use Rattle.slotmap_scene.specs.Family.{IsMoved, as_child, as_last_child, behind, children_of, in_front, placed, right_before, right_behind, siblings_of, value_of};
 ghost use Rattle.slotmap_scene.specs.Refusals.{RefusesBeside};
 
 use crate::tree::Side;
@@ -137,9 +136,9 @@ impl<K: Key, T: Drop> Scene<K, T> {
     /// ```
     pub fn move_before(&mut self, node: K, sibling: K) -> Result<(), MoveError>
         ensures moved { OnOk result ((p : KeyOf) → parent_of self.old.live (K.data_of sibling) ≡ Some p
-            → self.new ≡ record self.old { live = as_child self.old.live (K.data_of node) p (placed Before (K.data_of sibling) (K.data_of node)) }) }
+            → self.new ≡ record self.old { live = as_child self.old.live (K.data_of node) p (placed right_before (K.data_of sibling) (K.data_of node)) }) }
         ensures trees { OnOk result ((p : KeyOf) → parent_of self.old.live (K.data_of sibling) ≡ Some p
-            → IsMoved self.old.live self.new.live (K.data_of node) (Some p) (placed Before (K.data_of sibling) (K.data_of node))) }
+            → IsMoved self.old.live self.new.live (K.data_of node) (Some p) (placed right_before (K.data_of sibling) (K.data_of node))) }
         ensures values { (k : KeyOf) → value_of self.new.live k ≡ value_of self.old.live k }
         ensures nodes { OnOk result (has_node self.old.live (K.data_of node) × IsSome (parent_of self.old.live (K.data_of sibling))) }
         ensures no_cycle { OnOk result (IsWithin self.old.live (K.data_of sibling) (K.data_of node) → ⊥) }
@@ -168,9 +167,9 @@ impl<K: Key, T: Drop> Scene<K, T> {
     /// ```
     pub fn move_after(&mut self, node: K, sibling: K) -> Result<(), MoveError>
         ensures moved { OnOk result ((p : KeyOf) → parent_of self.old.live (K.data_of sibling) ≡ Some p
-            → self.new ≡ record self.old { live = as_child self.old.live (K.data_of node) p (placed After (K.data_of sibling) (K.data_of node)) }) }
+            → self.new ≡ record self.old { live = as_child self.old.live (K.data_of node) p (placed right_behind (K.data_of sibling) (K.data_of node)) }) }
         ensures trees { OnOk result ((p : KeyOf) → parent_of self.old.live (K.data_of sibling) ≡ Some p
-            → IsMoved self.old.live self.new.live (K.data_of node) (Some p) (placed After (K.data_of sibling) (K.data_of node))) }
+            → IsMoved self.old.live self.new.live (K.data_of node) (Some p) (placed right_behind (K.data_of sibling) (K.data_of node))) }
         ensures values { (k : KeyOf) → value_of self.new.live k ≡ value_of self.old.live k }
         ensures nodes { OnOk result (has_node self.old.live (K.data_of node) × IsSome (parent_of self.old.live (K.data_of sibling))) }
         ensures no_cycle { OnOk result (IsWithin self.old.live (K.data_of sibling) (K.data_of node) → ⊥) }

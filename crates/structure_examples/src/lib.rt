@@ -8,5 +8,6 @@ pub mod forward;
 pub mod groups;
 pub mod heirs;
 pub mod room;
+pub mod siblings;
 pub mod timer;
 pub mod twins;
