@@ -175,7 +175,8 @@ impl<K: Key, T: Drop> Scene<K, T> {
         Some(self.nodes.remove_tree(node))
     }
 
-    /// Removes all nodes. Their keys are never used again. The room and the capacity stay.
+    /// Removes all nodes. Their keys are never used again, as none is that was used up before. The room and
+    /// the capacity stay.
     ///
     /// ```
     /// let mut scene: Scene<DefaultKey, &str> = Scene::new(alloc)?;
@@ -190,5 +191,6 @@ impl<K: Key, T: Drop> Scene<K, T> {
         ensures for_good { (k : KeyOf) → has_node self.old.live k → IsSpent self.new k }
     {
         self.nodes.clear();
+        ensures stale { KeepsSpent self.old self.new }
     }
 }
