@@ -1,6 +1,6 @@
 //! The calls that add a node beside another one.
 
-ghost use Rattle.std.specs.Prelude.{◌≡◌, ◌<◌, Some, IfOk, IfErr, IsOk, OnOk, OnErr, IsSome};
+ghost use Rattle.std.specs.Prelude.{◌≡◌, ◌<◌, ◌≤◌, Some, IfOk, IfErr, IsOk, OnOk, OnErr, IsSome};
 ghost use Rattle.std.specs.FinMap as map;
 ghost use Rattle.slotmap.specs.Words.{Key as KeyOf, Inserts, IsSpent, Keeps, KeepsSpent};
 ghost use Rattle.slotmap_scene.specs.Climb.{lacks_node, parent_of};
@@ -31,6 +31,7 @@ impl<K: Key, T: Drop> Scene<K, T> {
         ensures err { IfErr result (RefusesSibling self.old sibling value) }
         ensures reuses { IsSome (parent_of self.old.live sibling) → 0 < map.len self.old.next → IsOk result }
         ensures room { IsSome (parent_of self.old.live sibling) → 0 < self.old.room → IsOk result }
+        ensures capacity { self.old.capacity ≤ self.new.capacity }
         ensures in_place { 0 < self.old.room → self.new.capacity ≡ self.old.capacity }
         ensures unchanged { OnErr result (Keeps self.old self.new) }
     {
@@ -72,6 +73,7 @@ impl<K: Key, T: Drop> Scene<K, T> {
         ensures err { IfErr result (RefusesSibling self.old (K.data_of sibling) value) }
         ensures reuses { IsSome (parent_of self.old.live (K.data_of sibling)) → 0 < map.len self.old.next → IsOk result }
         ensures room { IsSome (parent_of self.old.live (K.data_of sibling)) → 0 < self.old.room → IsOk result }
+        ensures capacity { self.old.capacity ≤ self.new.capacity }
         ensures in_place { 0 < self.old.room → self.new.capacity ≡ self.old.capacity }
         ensures unchanged { OnErr result (Keeps self.old self.new) }
     {
@@ -108,6 +110,7 @@ impl<K: Key, T: Drop> Scene<K, T> {
         ensures err { IfErr result (RefusesSibling self.old (K.data_of sibling) value) }
         ensures reuses { IsSome (parent_of self.old.live (K.data_of sibling)) → 0 < map.len self.old.next → IsOk result }
         ensures room { IsSome (parent_of self.old.live (K.data_of sibling)) → 0 < self.old.room → IsOk result }
+        ensures capacity { self.old.capacity ≤ self.new.capacity }
         ensures in_place { 0 < self.old.room → self.new.capacity ≡ self.old.capacity }
         ensures unchanged { OnErr result (Keeps self.old self.new) }
     {
