@@ -170,13 +170,17 @@ module _ {T : Type 0} where
       let one = next.1.0 in
       omega arith
 
-  pub no_cycle : (nodes : Nodes T) → IsTree nodes → (k p : Key) → parent_of nodes k ≡ Some p → IsWithin nodes p k → ⊥
-  no_cycle nodes tree k p is within =
-      let up = tree k (has_parent nodes k p is) in
-      let next = next_up nodes up.0 k p up.1 is in
-      let sum = steps_sum nodes next.0 within.0 up.0 p k next.1.1 within.1 up.1 in
-      let one = next.1.0 in
+  none_above : (nodes : Nodes T) (k p : Key) → parent_of nodes k ≡ Some p → HasRoot nodes (Some p) → IsWithin nodes p k → ⊥
+  none_above nodes k p is up within =
+      let sum = steps_sum nodes up.0 within.0 (suc up.0) p k up.1 within.1 (p, (has_parent nodes k p is, is, up.1)) in
       omega arith
+
+  pub no_cycle : (nodes : Nodes T) → IsTree nodes → (k p : Key) → parent_of nodes k ≡ Some p → IsWithin nodes p k → ⊥
+  no_cycle nodes tree k p is = none_above nodes k p is (tree p (parent_there nodes tree k p is))
+
+  -- of two nodes with the same parent, none is below the other
+  pub apart_beside : (nodes : Nodes T) (k s p : Key) → parent_of nodes k ≡ Some p → parent_of nodes s ≡ Some p → HasRoot nodes (Some p) → s ≢ k → IsWithin nodes s k → ⊥
+  apart_beside nodes k s p own beside up apart within = none_above nodes k p own up ((within_up nodes s p k beside apart).0 within)
 
 module _ {T : Type 0} (nodes : Nodes T) where
   none_up : (n : ℕ) → keys_up nodes n None ≡ []

@@ -1,5 +1,5 @@
 -- What a fold of the values on the way up comes to.
-use Rattle.std.proofs.Common.{◌≡◌, ◌≢◌, ℕ, zero, suc, List, [], ◌∷◌, ◌++◌, append_assoc, Option, Some, None, IfSome, IfNone, is_some, option_map, true, refl, sym, ap, subst, ◌∙◌, inl, inr}
+use Rattle.std.proofs.Common.{◌≡◌, ◌≢◌, ℕ, zero, suc, List, [], ◌∷◌, ◌++◌, append_assoc, Option, Some, None, IfSome, IfNone, is_some, option_map, true, map as list_map, refl, sym, ap, subst, ◌∙◌, inl, inr}
 use Rattle.std.specs.Fn.{Mut, Takes}
 use Rattle.std.specs.Borrow.{Bor}
 use Rattle.std.specs.List.{FoldsTo, fold}
@@ -11,7 +11,7 @@ use Rattle.slotmap_scene.specs.Node.{Node, Nodes}
 use Rattle.slotmap_scene.specs.Climb.{has_node, lacks_node, parent_of, parent_in, ClimbsTo, IsTree, IsWithin}
 use Rattle.slotmap_scene.specs.Family.{IsMoved, IsNewChild, value_of, child}
 use Rattle.slotmap_scene.proofs.Climbs.{parent_there}
-use Rattle.slotmap_scene.specs.WorldValue.{IsPathFrom, IsPathUp, world_along, IsWorld, IsComposed, Joins, CallsAt, FoldsUp, CallableUp}
+use Rattle.slotmap_scene.specs.WorldValue.{IsPathFrom, IsPathUp, world_along, IsWorld, IsWorldOf, IsComposed, Joins, CallsAt, FoldsUp, CallableUp}
 
 module _ {T : Type 0} (nodes : Nodes T) where
   -- the node at k, in front of a path from its parent
@@ -169,6 +169,21 @@ pub joined_of_folds : {F T : Type 0} (g : Mut F (T × (Bor T × Unit {0})) T) (u
     → (nodes : Nodes T) (k p : Key) (node : Node T) → map.get nodes k ≡ Some node → node.parent ≡ Some p → (f : F) (result : Option T) → IfSome result (FoldsUp g nodes p f node.value)
     → Joins under → IfSome result (IsWorld under nodes k)
 joined_of_folds g under puts nodes k p node there up f result folds = joined_world nodes under k result (composed_of_folds g under (λ v. v) puts nodes k p node there up f result folds)
+
+-- a fold of the transforms that the values have
+fold_of : {T W : Type 0} (under : W → W → W) (of : T → W) (v : W) (above : List T) → fold (λ so_far p. under so_far (of p)) v above ≡ fold under v (list_map of above)
+fold_of under of v [] = refl
+fold_of under of v (p ∷ above) = fold_of under of (under v (of p)) above
+
+-- the same of the transforms that the values have
+pub joined_transform : {T W : Type 0} (nodes : Nodes T) (under : W → W → W) (of : T → W) (k : Key) (result : Option W) → IfSome result (IsComposed under of nodes k) → Joins under → IfSome result (IsWorldOf under of nodes k)
+joined_transform nodes under of k None composed joins = tt
+joined_transform nodes under of k (Some w) composed joins = record {
+  own = composed.own;
+  above = composed.above;
+  path = composed.path;
+  made = composed.made ∙ fold_of under of (of composed.own) composed.above ∙ fold_world under joins (of composed.own) (list_map of composed.above);
+}
 
 -- where there is no parent, there is no node
 module _ {T : Type 0} (nodes : Nodes T) (k p : Key) (node : Node T) (there : map.get nodes k ≡ Some node) (up : node.parent ≡ Some p) where

@@ -24,6 +24,16 @@ abbrev pub is_parent : Option Key → Key → ℕ
 is_parent None p = 0
 is_parent (Some q) p = same q p
 
+-- a side of a sibling, and the two sides, under names that callers can write
+abbrev pub SiblingSide : Type 0
+SiblingSide = Side
+
+abbrev pub right_before : SiblingSide
+right_before = Before
+
+abbrev pub right_behind : SiblingSide
+right_behind = After
+
 -- k on this side of q, which is in front of the others
 abbrev pub beside_first : Side → Key → Key → List Key → List Key
 beside_first Before k q qs = k ∷ q ∷ qs

@@ -1,5 +1,5 @@
 -- The values on the way from a node up to its root, and what is made of them.
-use Rattle.std.specs.Prelude.{◌≡◌, Option, Some, None, List, [], ◌∷◌, ◌++◌, ⊤}
+use Rattle.std.specs.Prelude.{◌≡◌, Option, Some, None, List, [], ◌∷◌, ◌++◌, ⊤, map as list_map}
 use Rattle.std.specs.Fn.{Mut, Called, Takes}
 use Rattle.std.specs.Borrow.{Bor}
 use Rattle.std.specs.List.{FoldsTo, fold}
@@ -31,6 +31,13 @@ module _ {T : Type 0} where
     pub above : List T
     pub path : IsPathUp nodes k (own ∷ above)
     pub made : w ≡ world_along under own above
+
+-- the same of transforms that the values have: w is that of k in the coordinates of its root
+pub record IsWorldOf {T W : Type 0} (under : W → W → W) (of : T → W) (nodes : Nodes T) (k : Key) (w : W) : Type 0 where
+  pub own : T
+  pub above : List T
+  pub path : IsPathUp nodes k (own ∷ above)
+  pub made : w ≡ world_along under (of own) (list_map of above)
 
 -- of three in a row, it doesn't matter which two are put together first
 abbrev pub Joins : {W : Type 0} → (W → W → W) → Type 0

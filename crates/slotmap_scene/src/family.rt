@@ -165,6 +165,7 @@ impl<T: Drop> Nodes<T> {
         ensures err { IfErr result (RefusesNode self.old value) }
         ensures reuses { 0 < map.len self.old.next → IsOk result }
         ensures room { 0 < self.old.room → IsOk result }
+        ensures capacity { self.old.capacity ≤ self.new.capacity }
         ensures in_place { 0 < self.old.room → self.new.capacity ≡ self.old.capacity }
         ensures unchanged { OnErr result (Keeps self.old self.new) }
     {

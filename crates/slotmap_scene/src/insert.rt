@@ -1,11 +1,10 @@
 //! The calls that add a node beside another one.
 
-ghost use Rattle.std.specs.Prelude.{◌≡◌, ◌<◌, Some, IfOk, IfErr, IsOk, OnOk, OnErr, IsSome};
+ghost use Rattle.std.specs.Prelude.{◌≡◌, ◌<◌, ◌≤◌, Some, IfOk, IfErr, IsOk, OnOk, OnErr, IsSome};
 ghost use Rattle.std.specs.FinMap as map;
 ghost use Rattle.slotmap.specs.Words.{Key as KeyOf, Inserts, IsSpent, Keeps, KeepsSpent};
-ghost use Rattle.slotmap_scene.specs.declared.tree.Side.TheVariants.{Before, After};
 ghost use Rattle.slotmap_scene.specs.Climb.{lacks_node, parent_of};
-ghost use Rattle.slotmap_scene.specs.Family.{IsNewChild, child, children_of, placed, with_sibling};
+ghost use Rattle.slotmap_scene.specs.Family.{IsNewChild, child, children_of, placed, right_before, right_behind, with_sibling};
 ghost use Rattle.slotmap_scene.specs.Refusals.{RefusesSibling};
 
 use crate::tree::Side;
@@ -32,6 +31,7 @@ impl<K: Key, T: Drop> Scene<K, T> {
         ensures err { IfErr result (RefusesSibling self.old sibling value) }
         ensures reuses { IsSome (parent_of self.old.live sibling) → 0 < map.len self.old.next → IsOk result }
         ensures room { IsSome (parent_of self.old.live sibling) → 0 < self.old.room → IsOk result }
+        ensures capacity { self.old.capacity ≤ self.new.capacity }
         ensures in_place { 0 < self.old.room → self.new.capacity ≡ self.old.capacity }
         ensures unchanged { OnErr result (Keeps self.old self.new) }
     {
@@ -62,10 +62,10 @@ impl<K: Key, T: Drop> Scene<K, T> {
     /// ```
     pub fn insert_before(&mut self, sibling: K, value: T) -> Result<K, AddError<T>>
         // The parent of the sibling has one more child, under a new key.
-        ensures adds { IfOk result (λ key. Inserts (record self.old { live = with_sibling Before self.old.live (K.data_of sibling) (K.data_of key) })
+        ensures adds { IfOk result (λ key. Inserts (record self.old { live = with_sibling right_before self.old.live (K.data_of sibling) (K.data_of key) })
             (K.data_of key) (child (parent_of self.old.live (K.data_of sibling)) value) self.new) }
         ensures gains { IfOk result (λ key. (p : KeyOf) → parent_of self.old.live (K.data_of sibling) ≡ Some p
-            → IsNewChild self.old.live self.new.live (K.data_of key) p value (placed Before (K.data_of sibling) (K.data_of key) (children_of self.old.live p))) }
+            → IsNewChild self.old.live self.new.live (K.data_of key) p value (placed right_before (K.data_of sibling) (K.data_of key) (children_of self.old.live p))) }
         ensures fresh { IfOk result (λ key. lacks_node self.old.live (K.data_of key)) }
         ensures unspent { IfOk result (λ key. IsSpent self.old (K.data_of key) → ⊥) }
         ensures stale { KeepsSpent self.old self.new }
@@ -73,6 +73,7 @@ impl<K: Key, T: Drop> Scene<K, T> {
         ensures err { IfErr result (RefusesSibling self.old (K.data_of sibling) value) }
         ensures reuses { IsSome (parent_of self.old.live (K.data_of sibling)) → 0 < map.len self.old.next → IsOk result }
         ensures room { IsSome (parent_of self.old.live (K.data_of sibling)) → 0 < self.old.room → IsOk result }
+        ensures capacity { self.old.capacity ≤ self.new.capacity }
         ensures in_place { 0 < self.old.room → self.new.capacity ≡ self.old.capacity }
         ensures unchanged { OnErr result (Keeps self.old self.new) }
     {
@@ -98,10 +99,10 @@ impl<K: Key, T: Drop> Scene<K, T> {
     /// ```
     pub fn insert_after(&mut self, sibling: K, value: T) -> Result<K, AddError<T>>
         // The parent of the sibling has one more child, under a new key.
-        ensures adds { IfOk result (λ key. Inserts (record self.old { live = with_sibling After self.old.live (K.data_of sibling) (K.data_of key) })
+        ensures adds { IfOk result (λ key. Inserts (record self.old { live = with_sibling right_behind self.old.live (K.data_of sibling) (K.data_of key) })
             (K.data_of key) (child (parent_of self.old.live (K.data_of sibling)) value) self.new) }
         ensures gains { IfOk result (λ key. (p : KeyOf) → parent_of self.old.live (K.data_of sibling) ≡ Some p
-            → IsNewChild self.old.live self.new.live (K.data_of key) p value (placed After (K.data_of sibling) (K.data_of key) (children_of self.old.live p))) }
+            → IsNewChild self.old.live self.new.live (K.data_of key) p value (placed right_behind (K.data_of sibling) (K.data_of key) (children_of self.old.live p))) }
         ensures fresh { IfOk result (λ key. lacks_node self.old.live (K.data_of key)) }
         ensures unspent { IfOk result (λ key. IsSpent self.old (K.data_of key) → ⊥) }
         ensures stale { KeepsSpent self.old self.new }
@@ -109,6 +110,7 @@ impl<K: Key, T: Drop> Scene<K, T> {
         ensures err { IfErr result (RefusesSibling self.old (K.data_of sibling) value) }
         ensures reuses { IsSome (parent_of self.old.live (K.data_of sibling)) → 0 < map.len self.old.next → IsOk result }
         ensures room { IsSome (parent_of self.old.live (K.data_of sibling)) → 0 < self.old.room → IsOk result }
+        ensures capacity { self.old.capacity ≤ self.new.capacity }
         ensures in_place { 0 < self.old.room → self.new.capacity ≡ self.old.capacity }
         ensures unchanged { OnErr result (Keeps self.old self.new) }
     {

@@ -21,8 +21,9 @@
 //! A call takes constant time, unless the map of the nodes grows, with these exceptions:
 //!
 //! - [`Scene::depth`], [`Scene::fold_up`], [`Scene::world`] and [`Scene::is_within`] take time linear in
-//!   the number of nodes above the node. So do [`Scene::reparent`], [`Scene::move_before`] and
-//!   [`Scene::move_after`] in the number of those above the new place.
+//!   the number of nodes above the node. So does [`Scene::reparent`] in the number of those above the new
+//!   parent. [`Scene::move_before`] and [`Scene::move_after`] take time linear in the number of those above
+//!   the sibling, unless both nodes have the same parent.
 //! - [`Scene::remove`] takes time linear in the number of nodes that it removes, and
 //!   [`Scene::descendants`] in the number of those that it lists.
 //! - [`Scene::clear`] and [`Scene::clone`] take time linear in the number of slots. So do all steps of

@@ -1,6 +1,6 @@
 //! The calls that add, move and remove nodes.
 
-ghost use Rattle.std.specs.Prelude.{◌≡◌, ◌↔◌, ◌<◌, ◌++◌, ◌∷◌, [], Some, None, IfOk, IfErr, IsOk, OnOk, OnErr, IfSome, IfNone, OnSome, IsTrue, true, option_map};
+ghost use Rattle.std.specs.Prelude.{◌≡◌, ◌↔◌, ◌<◌, ◌≤◌, ◌++◌, ◌∷◌, [], Some, None, IfOk, IfErr, IsOk, OnOk, OnErr, IfSome, IfNone, OnSome, IsTrue, true, option_map};
 ghost use Rattle.std.specs.FinMap as map;
 ghost use Rattle.slotmap.specs.Words.{Key as KeyOf, IsSpent, KeepsSpent, Inserts, Keeps, Leaves};
 ghost use Rattle.slotmap_scene.specs.Climb.{IsWithin, has_node, lacks_node};
@@ -32,6 +32,7 @@ impl<K: Key, T: Drop> Scene<K, T> {
         ensures err { IfErr result (RefusesNode self.old value) }
         ensures reuses { 0 < map.len self.old.next → IsOk result }
         ensures room { 0 < self.old.room → IsOk result }
+        ensures capacity { self.old.capacity ≤ self.new.capacity }
         ensures in_place { 0 < self.old.room → self.new.capacity ≡ self.old.capacity }
         ensures unchanged { OnErr result (Keeps self.old self.new) }
     {
@@ -65,6 +66,7 @@ impl<K: Key, T: Drop> Scene<K, T> {
         ensures err { IfErr result (RefusesChild self.old (K.data_of parent) value) }
         ensures reuses { has_node self.old.live (K.data_of parent) → 0 < map.len self.old.next → IsOk result }
         ensures room { has_node self.old.live (K.data_of parent) → 0 < self.old.room → IsOk result }
+        ensures capacity { self.old.capacity ≤ self.new.capacity }
         ensures in_place { 0 < self.old.room → self.new.capacity ≡ self.old.capacity }
         ensures unchanged { OnErr result (Keeps self.old self.new) }
     {
@@ -175,7 +177,8 @@ impl<K: Key, T: Drop> Scene<K, T> {
         Some(self.nodes.remove_tree(node))
     }
 
-    /// Removes all nodes. Their keys are never used again. The room and the capacity stay.
+    /// Removes all nodes. Their keys are never used again, as none is that was used up before. The room and
+    /// the capacity stay.
     ///
     /// ```
     /// let mut scene: Scene<DefaultKey, &str> = Scene::new(alloc)?;
@@ -188,6 +191,7 @@ impl<K: Key, T: Drop> Scene<K, T> {
         ensures leaves { Leaves self.old self.new }
         ensures capacity { self.new.capacity ≡ self.old.capacity }
         ensures for_good { (k : KeyOf) → has_node self.old.live k → IsSpent self.new k }
+        ensures stale { KeepsSpent self.old self.new }
     {
         self.nodes.clear();
     }

@@ -1,11 +1,10 @@
 //! The children and the siblings of a node one by one, and moves among them.
 
-ghost use Rattle.std.specs.Prelude.{◌≡◌, ◌↔◌, ◌++◌, ◌∷◌, [], Some, None, IfErr, OnOk, OnErr, IsSome, IsTrue, false, option_map};
+ghost use Rattle.std.specs.Prelude.{◌≡◌, ◌≢◌, ◌↔◌, ◌++◌, ◌∷◌, [], Some, None, IfErr, OnOk, OnErr, IsSome, IsTrue, false, option_map};
 ghost use Rattle.slotmap.specs.Words.{Key as KeyOf, KeepsSpent};
 ghost use Rattle.slotmap_keylist.specs.Linked.{first_or, last_or};
-ghost use Rattle.slotmap_scene.specs.declared.tree.Side.TheVariants.{Before, After};
 ghost use Rattle.slotmap_scene.specs.Climb.{IsWithin, has_node, parent_of};
-ghost use Rattle.slotmap_scene.specs.Family.{IsMoved, as_child, as_last_child, behind, children_of, in_front, placed, siblings_of, value_of};
+ghost use Rattle.slotmap_scene.specs.Family.{IsMoved, as_child, as_last_child, behind, children_of, in_front, placed, right_before, right_behind, siblings_of, value_of};
 ghost use Rattle.slotmap_scene.specs.Refusals.{RefusesBeside};
 
 use crate::tree::Side;
@@ -85,6 +84,21 @@ impl<K: Key, T: Drop> Scene<K, T> {
         Some(outer(self.nodes.link(node).prev.get()?))
     }
 
+    // Whether a sibling, which has this parent, is below another node. It takes constant time if that one
+    // has the same parent: none is below the other then.
+    fn is_below(&self, sibling: DefaultKey, parent: DefaultKey, node: DefaultKey) -> bool
+        requires parent { parent_of self.now.live sibling ≡ Some parent }
+        requires apart { node ≢ sibling }
+        ensures { IsTrue result ↔ IsWithin self.now.live sibling node }
+    {
+        if let Some(own) = self.parent_key(node) {
+            if own == parent {
+                return false;
+            }
+        }
+        self.is_within(outer(sibling), outer(node))
+    }
+
     // Moves a node to this side of another one, among the children of its parent.
     fn move_beside(
         &mut self,
@@ -112,7 +126,7 @@ impl<K: Key, T: Drop> Scene<K, T> {
         if node == sibling {
             return Err(MoveError::Same);
         }
-        if self.is_within(outer(sibling), outer(node)) {
+        if self.is_below(sibling, parent, node) {
             return Err(MoveError::Cycle);
         }
         self.nodes.move_beside(node, side, sibling, parent);
@@ -123,8 +137,8 @@ impl<K: Key, T: Drop> Scene<K, T> {
     /// one's parent.
     ///
     /// It fails exactly if the node doesn't exist, if the sibling is a root or doesn't exist, or if the
-    /// sibling is the node or below it. The scene is then unchanged. The capacity stays. It takes time
-    /// linear in the number of nodes above the sibling.
+    /// sibling is the node or below it. The scene is then unchanged. The capacity stays. It takes constant
+    /// time if both have the same parent, else time linear in the number of nodes above the sibling.
     ///
     /// ```
     /// let mut scene: Scene<DefaultKey, &str> = Scene::new(alloc)?;
@@ -137,9 +151,9 @@ impl<K: Key, T: Drop> Scene<K, T> {
     /// ```
     pub fn move_before(&mut self, node: K, sibling: K) -> Result<(), MoveError>
         ensures moved { OnOk result ((p : KeyOf) → parent_of self.old.live (K.data_of sibling) ≡ Some p
-            → self.new ≡ record self.old { live = as_child self.old.live (K.data_of node) p (placed Before (K.data_of sibling) (K.data_of node)) }) }
+            → self.new ≡ record self.old { live = as_child self.old.live (K.data_of node) p (placed right_before (K.data_of sibling) (K.data_of node)) }) }
         ensures trees { OnOk result ((p : KeyOf) → parent_of self.old.live (K.data_of sibling) ≡ Some p
-            → IsMoved self.old.live self.new.live (K.data_of node) (Some p) (placed Before (K.data_of sibling) (K.data_of node))) }
+            → IsMoved self.old.live self.new.live (K.data_of node) (Some p) (placed right_before (K.data_of sibling) (K.data_of node))) }
         ensures values { (k : KeyOf) → value_of self.new.live k ≡ value_of self.old.live k }
         ensures nodes { OnOk result (has_node self.old.live (K.data_of node) × IsSome (parent_of self.old.live (K.data_of sibling))) }
         ensures no_cycle { OnOk result (IsWithin self.old.live (K.data_of sibling) (K.data_of node) → ⊥) }
@@ -154,8 +168,8 @@ impl<K: Key, T: Drop> Scene<K, T> {
     /// one's parent.
     ///
     /// It fails exactly if the node doesn't exist, if the sibling is a root or doesn't exist, or if the
-    /// sibling is the node or below it. The scene is then unchanged. The capacity stays. It takes time
-    /// linear in the number of nodes above the sibling.
+    /// sibling is the node or below it. The scene is then unchanged. The capacity stays. It takes constant
+    /// time if both have the same parent, else time linear in the number of nodes above the sibling.
     ///
     /// ```
     /// let mut scene: Scene<DefaultKey, &str> = Scene::new(alloc)?;
@@ -168,9 +182,9 @@ impl<K: Key, T: Drop> Scene<K, T> {
     /// ```
     pub fn move_after(&mut self, node: K, sibling: K) -> Result<(), MoveError>
         ensures moved { OnOk result ((p : KeyOf) → parent_of self.old.live (K.data_of sibling) ≡ Some p
-            → self.new ≡ record self.old { live = as_child self.old.live (K.data_of node) p (placed After (K.data_of sibling) (K.data_of node)) }) }
+            → self.new ≡ record self.old { live = as_child self.old.live (K.data_of node) p (placed right_behind (K.data_of sibling) (K.data_of node)) }) }
         ensures trees { OnOk result ((p : KeyOf) → parent_of self.old.live (K.data_of sibling) ≡ Some p
-            → IsMoved self.old.live self.new.live (K.data_of node) (Some p) (placed After (K.data_of sibling) (K.data_of node))) }
+            → IsMoved self.old.live self.new.live (K.data_of node) (Some p) (placed right_behind (K.data_of sibling) (K.data_of node))) }
         ensures values { (k : KeyOf) → value_of self.new.live k ≡ value_of self.old.live k }
         ensures nodes { OnOk result (has_node self.old.live (K.data_of node) × IsSome (parent_of self.old.live (K.data_of sibling))) }
         ensures no_cycle { OnOk result (IsWithin self.old.live (K.data_of sibling) (K.data_of node) → ⊥) }

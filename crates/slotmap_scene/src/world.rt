@@ -26,7 +26,7 @@
 
 ghost use Rattle.std.specs.Prelude.{◌≡◌, IfSome, IfNone};
 ghost use Rattle.slotmap_scene.specs.Climb.{lacks_node};
-ghost use Rattle.slotmap_scene.specs.WorldValue.{CallableUp, FoldsUp, IsComposed, IsWorld, Joins};
+ghost use Rattle.slotmap_scene.specs.WorldValue.{CallableUp, FoldsUp, IsComposed, IsWorld, IsWorldOf, Joins};
 
 use crate::Scene;
 use slotmap::Key;
@@ -35,7 +35,7 @@ use slotmap_keylist::{inner, outer};
 /// A value that is given in the coordinates of a parent, as a position or a rotation is.
 ///
 /// No law is asked of it, so floats can be transforms. Where `a.under(b)` under `c` is `a` under
-/// `b.under(c)`, [`Scene::world`] says more.
+/// `b.under(c)`, [`Scene::world`] and [`Scene::world_transform`] say more.
 pub trait Transform: Copy {
     /// The first value, in the coordinates in which the second one is given.
     ghost under: { Self → Self → Self };
@@ -184,6 +184,7 @@ impl<K: Key, T: HasTransform + Drop> Scene<K, T> {
     /// ```
     pub fn world_transform(&self, node: K) -> Option<T::Transform>
         ensures some { IfSome result (IsComposed T.Transform.under T.transform_of self.now.live (K.data_of node)) }
+        ensures joined { Joins T.Transform.under → IfSome result (IsWorldOf T.Transform.under T.transform_of self.now.live (K.data_of node)) }
         ensures none { IfNone result (lacks_node self.now.live (K.data_of node)) }
     {
         let own = self.nodes.get(inner(node))?;

@@ -10,6 +10,7 @@ pub mod groups;
 pub mod heirs;
 pub mod reaper;
 pub mod room;
+pub mod siblings;
 pub mod stores;
 pub mod timer;
 pub mod twins;

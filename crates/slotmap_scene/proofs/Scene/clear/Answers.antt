@@ -1,7 +1,7 @@
 use Rattle.std.proofs.Common.{true, ap, ◌∙◌, is_some}
 use Rattle.std.specs.FinMap as map
 use Rattle.slotmap.specs.Words.{key_cmp}
-use Rattle.slotmap.proofs.Callers.{left_spent}
+use Rattle.slotmap.proofs.Callers.{left_spent, spent_leaves}
 use Rattle.slotmap_scene.specs.Node.{Node}
 use Rattle.slotmap_scene.proofs.Scene.clear.Goals as goal
 
@@ -9,3 +9,6 @@ pub returns-clause-for_good : goal.returns-clause-for_good
 returns-clause-for_good g c k live =
     let none = ap (λ m. map.contains_key m k) c.clear.ensures.empty ∙ ap is_some (map.get-empty {X = Node g.row.T.Denot} key_cmp k) in
     left_spent c.self.inside.nodes c.clear.new.self true c.clear.ensures.valid k c.clear.ensures.leaves (rw (← c.self.view_is) at live) none
+
+pub returns-clause-stale : goal.returns-clause-stale
+returns-clause-stale g c = rw (← c.self.view_is) (spent_leaves _ _ c.clear.ensures.leaves)

@@ -1,4 +1,4 @@
-use Rattle.std.proofs.Common.{Some, is_some, refl, sym, ap, ◌∙◌, arith}
+use Rattle.std.proofs.Common.{is_some, refl, sym, ap, ◌∙◌, arith}
 use Rattle.std.specs.FinMap as map
 use Rattle.slotmap_keylist.proofs.Changed.{changed_keeps}
 use Rattle.slotmap_keylist.proofs.NotNull.{live_not_null-reuses}

@@ -1,0 +1,65 @@
+//! Moves of a node of a scene, after which all other nodes stand in the same order among their siblings.
+
+ghost use Rattle.std.specs.Prelude.{◌≡◌, ◌≢◌, Some, IsTrue};
+ghost use Rattle.std.specs.FinMap as map;
+ghost use Rattle.slotmap.specs.Words.{Key as KeyOf};
+ghost use Rattle.slotmap_keylist.specs.KeyLists.{without};
+ghost use Rattle.slotmap_scene.specs.Climb.{parent_of};
+ghost use Rattle.slotmap_scene.specs.Family.{children_of, placed, right_before, value_of};
+
+use slotmap::DefaultKey;
+use slotmap_scene::Scene;
+
+/// Moves a node right before another one, and returns whether it could.
+///
+/// The nodes and their values are the same, and so are the parents of all others.
+pub fn place_before(
+    scene: &mut Scene<DefaultKey, u64>,
+    node: DefaultKey,
+    sibling: DefaultKey,
+) -> bool
+    ensures place { IsTrue result → (p : KeyOf) → parent_of scene.old.live sibling ≡ Some p
+        → children_of scene.new.live p ≡ placed right_before sibling node (without node (children_of scene.old.live p)) }
+    ensures values { (k : KeyOf) → value_of scene.new.live k ≡ value_of scene.old.live k }
+    ensures nodes { (k : KeyOf) → map.contains_key scene.new.live k ≡ map.contains_key scene.old.live k }
+    ensures parents { (k : KeyOf) → k ≢ node → parent_of scene.new.live k ≡ parent_of scene.old.live k }
+    ensures order { (p : KeyOf) → without node (children_of scene.new.live p) ≡ without node (children_of scene.old.live p) }
+{
+    let Some(_) = scene.parent(sibling) else {
+        return false;
+    };
+    match scene.move_before(node, sibling) {
+        Ok(()) => true,
+        Err(_) => false,
+    }
+}
+
+/// Makes a node the last child of another one, and returns whether it could.
+pub fn hand_over(
+    scene: &mut Scene<DefaultKey, u64>,
+    node: DefaultKey,
+    parent: DefaultKey,
+) -> bool
+    ensures nodes { (k : KeyOf) → map.contains_key scene.new.live k ≡ map.contains_key scene.old.live k }
+    ensures order { (p : KeyOf) → without node (children_of scene.new.live p) ≡ without node (children_of scene.old.live p) }
+{
+    match scene.reparent(node, parent) {
+        Ok(()) => true,
+        Err(_) => false,
+    }
+}
+
+/// Moves a node one place to the front among its siblings, as an editor's "move up" does, in constant
+/// time.
+pub fn move_up(scene: &mut Scene<DefaultKey, u64>, node: DefaultKey) -> bool
+    ensures nodes { (k : KeyOf) → map.contains_key scene.new.live k ≡ map.contains_key scene.old.live k }
+    ensures parents { (k : KeyOf) → k ≢ node → parent_of scene.new.live k ≡ parent_of scene.old.live k }
+{
+    let Some(sibling) = scene.prev_sibling(node) else {
+        return false;
+    };
+    match scene.move_before(node, sibling) {
+        Ok(()) => true,
+        Err(_) => false,
+    }
+}
