@@ -139,8 +139,8 @@ fn one_list(alloc: Global, members: usize) -> Result<Links, AllocError>
     Ok(links)
 }
 
-// Lets the numbers below `needed` be in the list. Where links have to be added, there are at least
-// twice as many then.
+// Lets the numbers below `needed` be in the list. Where links have to be added, at least 64 are, as
+// long as there may be so many. So most pushes add none.
 fn cover(links: &mut Links, needed: usize) -> Result<(), AllocError>
     requires { needed < 2 ^ 32 }
     ensures covers { OnOk result (needed ≤ links.new.members) }
@@ -152,7 +152,7 @@ fn cover(links: &mut Links, needed: usize) -> Result<(), AllocError>
     if needed <= members {
         return Ok(());
     }
-    links.cover_members(needed.max((members * 2).min(MOST)))
+    links.cover_members(needed.max((members + 64).min(MOST)))
 }
 
 // The live key with an index, if there is one.
