@@ -1,5 +1,5 @@
 -- An element that is taken out of its place and put into another.
-use Rattle.std.proofs.Common.{◌≡◌, ◌<◌, true, List, Option, Some, None, length, is_some, refl, sym, ap, subst, ◌∙◌, arith}
+use Rattle.std.proofs.Common.{◌≡◌, ◌<◌, true, List, Some, length, is_some, sym, ap, subst, ◌∙◌, arith}
 use Rattle.std.specs.FinMap as map
 use Rattle.slotmap.specs.Words.{Key, Content}
 use Rattle.slotmap_links.specs.Lists as numbers

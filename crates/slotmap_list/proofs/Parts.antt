@@ -12,7 +12,6 @@ use Rattle.slotmap_links.proofs.SeenLists.{after_there, before_there, not_first,
 use Rattle.slotmap_list.specs.Sequence.{value_of, key_after, key_before, from_key, put_after, put_before, without, IsOnce}
 use Rattle.slotmap_list.specs.Kept.{at_index, elements_at, key_of, AreApart, AreIndices}
 use Rattle.slotmap_list.specs.Places.{has_place, is_place, put_by_place, put_number}
-use Rattle.slotmap_list.specs.declared.place.Side.{Side}
 use Rattle.slotmap_list.specs.declared.place.Side.TheVariants.{Before, After}
 use Rattle.slotmap_list.specs.declared.place.Place.{Place}
 use Rattle.slotmap_list.specs.declared.place.Place.TheVariants.{Front, Back, Beside}
