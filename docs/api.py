@@ -74,6 +74,8 @@ SAME_CALLS = [
 ]
 # What the structures share, with a page of its own.
 SHARED = "slotmap_keylist"
+# A map for structures that keep tables beside it.
+BOUNDED = "slotmap_bounded"
 # A library that needs no map.
 ALONE = "slotmap_links"
 # What a caller's clauses import.
@@ -282,7 +284,7 @@ def new_page(name, title):
 
 def pages_of_structures():
     """A page for each structure."""
-    for crate in [*STRUCTURES, SHARED, ALONE]:
+    for crate in [*STRUCTURES, SHARED, BOUNDED, ALONE]:
         head, items = module_items(crate, "")
         page = new_page(crate, crate)
         listed = crate if crate == ALONE else f"slotmap {crate}"
@@ -324,6 +326,7 @@ def first_page(all_items):
     add_table(page, all_items)
     page.heading(2, "Structures")
     page.add(f"Each is a crate of its own. What they share is the crate [`{SHARED}`](api/{SHARED}.md).", "")
+    page.add(f"The crate [`{BOUNDED}`](api/{BOUNDED}.md) has a slot map whose indices stay within a bound, for structures with tables beside it.", "")
     page.add(f"The crate [`{ALONE}`](api/{ALONE}.md) needs no map: it has lists of numbers that are kept as links, one list for each owner.", "")
     page.add("| Type | What it is | Calls |", "|---|---|---|")
     for crate, (name, what) in STRUCTURES.items():

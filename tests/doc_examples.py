@@ -38,6 +38,7 @@ STRUCTURES = (
     "slotmap_list",
     "slotmap_keylist",
     "slotmap_links",
+    "slotmap_bounded",
     "slotmap_graph",
     "slotmap_entities",
     "slotmap_scene",

@@ -12,7 +12,7 @@
 //! ```
 //! let mut map: BoundedMap<DefaultKey, &str> = BoundedMap::with_capacity(alloc, 1)?;
 //! let a = map.insert_reserved("a");
-//! assert_eq!(rt; map.capacity_for(2), Ok(3));
+//! assert_eq!(rt; map.capacity_for(2)?, 3);
 //! map.reserve(2)?;
 //! assert_eq!(rt; map.capacity(), 3);
 //! assert_eq!(rt; map.get(a), Some(&"a"));
@@ -116,9 +116,8 @@ impl<K: Key, V: Drop> BoundedMap<K, V> {
     ///
     /// ```
     /// let map: BoundedMap<DefaultKey, u64> = BoundedMap::with_capacity(alloc, 4)?;
-    /// assert_eq!(rt; map.capacity_for(2), Ok(4));
-    /// assert_eq!(rt; map.capacity_for(6), Ok(6));
-    /// assert_eq!(rt; map.capacity_for(4294967295), Err(ReserveError::TooGreat));
+    /// assert_eq!(rt; (map.capacity_for(2)?, map.capacity_for(6)?), (4, 6));
+    /// assert!(rt; matches!(map.capacity_for(4294967295), Err(ReserveError::TooGreat)));
     /// ```
     pub fn capacity_for(&self, additional: usize) -> Result<usize, ReserveError>
         ensures had_room { additional ≤ self.now.room → result ≡ Ok self.now.capacity }

@@ -1,7 +1,7 @@
 -- The lists of the edges of each node: what a change of the edges asks of them.
-use Rattle.std.proofs.Common.{◌≡◌, ◌≢◌, ◌<◌, ◌≤◌, ◌∷◌, ◌++◌, ◌∙◌}
-use Rattle.slotmap_graph.proofs.Common.{Some, None, Option, List, [], refl, sym, ap, inl, inr, arith, Key, get-insert_here, get-insert_other, same_or_other}
-use Rattle.slotmap_graph.proofs.Common.{keys, same, times, without, one_itself, one_other, times_pushed, times_first, times_gone, times_without, without_none}
+use Rattle.std.proofs.Common.{◌≡◌, ◌≢◌, ◌<◌, ◌≤◌, ◌∷◌, ◌∙◌}
+use Rattle.slotmap_graph.proofs.Common.{Some, None, Option, List, [], refl, ap, inl, inr, arith, Key, same_or_other}
+use Rattle.slotmap_graph.proofs.Common.{same, times, without, one_itself, one_other, times_first, without_none}
 use Rattle.slotmap_graph.proofs.Common.{SeenEdge, Edges, ends_at, ListsEdges}
 use Rattle.std.specs.FinMap as map
 
@@ -20,61 +20,6 @@ module _ {E : Type 0} (end : SeenEdge E → Key) (edges : Edges E) where
   -- an edge that isn't there is in no list
   pub absent_unlisted : (x : Key) → map.get edges x ≡ None → (k : Key) (ks : List Key) → ListsEdges end edges k ks → without x ks ≡ ks
   absent_unlisted x none k ks lists = without_none x ks (lists x ∙ ap (ends_at end k) none)
-
-  module _ (x : Key) (e : SeenEdge E) where
-    at_inserted : (k : Key) → ends_at end k (map.get (map.insert edges x e) x) ≡ same (end e) k
-    at_inserted k = ap (ends_at end k) (get-insert_here edges x e)
-
-    beside_inserted : (k y : Key) → y ≢ x → ends_at end k (map.get (map.insert edges x e) y) ≡ ends_at end k (map.get edges y)
-    beside_inserted k y other = ap (ends_at end k) (get-insert_other edges x e y other)
-
-    -- an edge comes, and its key is put into the list of its end
-    pub lists_added : map.get edges x ≡ None → (old new : Key → List Key) → ((k : Key) → ListsEdges end edges k (old k))
-        → new (end e) ≡ old (end e) ++ x ∷ [] → ((q : Key) → q ≢ end e → new q ≡ old q)
-        → (k : Key) → ListsEdges end (map.insert edges x e) k (new k)
-    lists_added fresh old new lists here others k y =
-        let was = lists k y in
-        elim (same_or_other k (end e)) [
-          | inl at ↦ (let now = ap (times y) (ap new at ∙ here) ∙ times_pushed y (old (end e)) x in
-              let before = ap (λ q. times y (old q)) at in
-              elim (same_or_other y x) [
-                | inl is ↦ (let f = ap (λ q. ends_at end k (map.get edges q)) is ∙ ap (ends_at end k) fresh in
-                    let g = ap (λ q. ends_at end k (map.get (map.insert edges x e) q)) is ∙ at_inserted k ∙ ap (same (end e)) at ∙ one_itself (end e) in
-                    let one = ap (same x) is ∙ one_itself x in omega arith)
-                | inr other ↦ (let none = one_other x y (λ s. other (sym s)) in let f = beside_inserted k y other in omega arith)
-              ])
-          | inr elsewhere ↦ (let now = ap (times y) (others k elsewhere) in
-              elim (same_or_other y x) [
-                | inl is ↦ (let f = ap (λ q. ends_at end k (map.get edges q)) is ∙ ap (ends_at end k) fresh in
-                    let g = ap (λ q. ends_at end k (map.get (map.insert edges x e) q)) is ∙ at_inserted k ∙ one_other (end e) k (λ s. elsewhere (sym s)) in omega arith)
-                | inr other ↦ (let f = beside_inserted k y other in omega arith)
-              ])
-        ]
-
-    -- an edge gets another value
-    pub lists_written : (d : SeenEdge E) → map.get edges x ≡ Some d → end e ≡ end d → (k : Key) (ks : List Key) → ListsEdges end edges k ks → ListsEdges end (map.insert edges x e) k ks
-    lists_written d there same_end k ks lists y = elim (same_or_other y x) [
-      | inl is ↦ lists y ∙ ap (λ q. ends_at end k (map.get edges q)) is ∙ ap (ends_at end k) there ∙ ap (λ q. same q k) (sym same_end) ∙ sym (ap (λ q. ends_at end k (map.get (map.insert edges x e) q)) is ∙ at_inserted k)
-      | inr other ↦ lists y ∙ sym (beside_inserted k y other)
-    ]
-
-    module _ (there : map.get edges x ≡ Some e) where
-      at_removed : (k : Key) → ends_at end k (map.get (map.remove edges x) x) ≡ 0
-      at_removed k = let is : map.get (map.remove edges x) x ≡ None = grind (arith, keys) in ap (ends_at end k) is
-
-      beside_removed : (k y : Key) → y ≢ x → ends_at end k (map.get (map.remove edges x) y) ≡ ends_at end k (map.get edges y)
-      beside_removed k y other = let is : map.get (map.remove edges x) y ≡ map.get edges y = grind (arith, keys) in ap (ends_at end k) is
-
-      -- an edge is in no other list than that of its end
-      pub unlisted : (k : Key) (ks : List Key) → ListsEdges end edges k ks → k ≢ end e → without x ks ≡ ks
-      unlisted k ks lists other = without_none x ks (lists x ∙ ap (ends_at end k) there ∙ one_other (end e) k (λ s. other (sym s)))
-
-      -- an edge goes, and its key is taken out of each list
-      pub lists_removed : (k : Key) (ks : List Key) → ListsEdges end edges k ks → ListsEdges end (map.remove edges x) k (without x ks)
-      lists_removed k ks lists y = elim (same_or_other y x) [
-        | inl is ↦ ap (λ q. times q (without x ks)) is ∙ times_gone x ks ∙ sym (ap (λ q. ends_at end k (map.get (map.remove edges x) q)) is ∙ at_removed k)
-        | inr other ↦ times_without x y ks other ∙ lists y ∙ sym (beside_removed k y other)
-      ]
 
   module _ (k : Key) where
     -- what a list has is an edge whose end is the node

@@ -15,34 +15,24 @@ pub use Rattle.std.specs.Option.{option_and_then, option_or}
 pub use Rattle.slotmap.proofs.Callers.{beside_empty, clone_copies, clone_live, exact_keys, get-bind_here, get-bind_other, get-insert_here, get-insert_other}
 pub use Rattle.slotmap.proofs.Callers.{get-put_live, get-put_other, insert_still, inserted_fresh, keys, keys_total, leaves_by_removal, leaves_in_turn}
 pub use Rattle.slotmap.proofs.Callers.{leaves_none, left_spent, len_removed, live-insert_still, live-remove_other, none_of, of_some, remove_spent}
-pub use Rattle.slotmap.proofs.Callers.{removed_spent, same_lent, same_or_other, secondary, spent_insert, spent_leaves, spent_remove, spent_removes}
+pub use Rattle.slotmap.proofs.Callers.{removed_spent, same_lent, same_or_other, tied, itself, secondary, spent_insert, spent_inserts, spent_keeps, spent_leaves, spent_remove, spent_removes}
 pub use Rattle.slotmap.specs.Words.{ClonesEqual, contains_key, Content, get, Inserts, IsBeside, IsCloneBy, IsCloneOf, IsContent, IsLive, IsSpent, Keeps}
 pub use Rattle.slotmap.specs.Words.{KeepsSpent, Key, key_cmp, Leaves, most, Pairs, Removes, with_value}
 pub use Rattle.slotmap_keylist.proofs.Counts.{behind_split, filter_all, filter_less, here_or_behind, is_itself, is_other, no_more_than, none_behind, one_itself}
 pub use Rattle.slotmap_keylist.proofs.Counts.{one_other, times_first, times_gone, times_joined, times_pushed, times_there, times_without, without_none}
-pub use Rattle.slotmap_keylist.proofs.Linking.{cons_not_nil, cut_at, followed_is, in_midst, last_in, linked_put, linked_taken, next_in, prev_in, split_at}
-pub use Rattle.slotmap_keylist.proofs.Linking.{without_split}
+pub use Rattle.slotmap_keylist.proofs.Linking.{cons_not_nil, cut_at, in_midst, split_at}
 pub use Rattle.slotmap_keylist.proofs.MapKeys.{key_live, key_there, keys_once}
-pub use Rattle.slotmap_keylist.proofs.Mapped.{contains-mapped, content-mapped, entries-mapped, get-mapped, live-mapped, mapped, mapped-clones, mapped-empty, mapped-grow}
-pub use Rattle.slotmap_keylist.proofs.Mapped.{mapped-insert, mapped-inserts, mapped-leaves, mapped-live, mapped-new, mapped-remove, mapped-removes, mapped-room}
-pub use Rattle.slotmap_keylist.proofs.Mapped.{mapped-stays, mapped-with, mapped-written, spent-mapped}
-pub use Rattle.slotmap_keylist.proofs.Segments.{segment_back, segment_front, segment_long, segment_start}
-pub use Rattle.slotmap_keylist.proofs.Splicing.{ends_pushed, ends_taken, followed_along, linked_along, linked_but, linked_self, spliced, spliced_own}
-pub use Rattle.slotmap_keylist.proofs.Splicing.{two_neighbours}
 pub use Rattle.slotmap_keylist.specs.KeyLists.{is_key, same, times, without}
-pub use Rattle.slotmap_keylist.specs.Linked.{AreApart, AreLinked, ends_of, first_or, follow, followed, IsListed, last_or, link_between}
-pub use Rattle.slotmap_keylist.specs.Mapped.{map_content, map_values}
-pub use Rattle.slotmap_keylist.specs.Splice.{own, with_next, with_prev}
-pub use Rattle.slotmap_keylist.specs.declared.Ends.{Ends}
-pub use Rattle.slotmap_keylist.specs.declared.Link.{Link}
+pub use Rattle.slotmap_links.proofs.Callers.{list_covered, list_now, list_other, owners_stay}
+pub use Rattle.slotmap_links.proofs.Changes.{disjoint_still, list_cleared, list_without, pushed_here, pushed_still, pushed_was, times_without as often_without}
+pub use Rattle.slotmap_links.proofs.Counts.{one_itself as number_itself, one_other as number_other, same_or_other as same_or_other_number, times_first as often_first}
+pub use Rattle.slotmap_links.proofs.Counts.{times_gone as often_gone, times_joined as often_joined, by_first as by_first_number, same as same_number}
+pub use Rattle.slotmap_links.specs.Lists.{AreDisjoint, IsFree, IsIn, Lists, list_of, with_list, with_members, with_owners, times as often, without as without_number}
 pub use Rattle.slotmap_graph.specs.Parts.{avoids, ByNode, clones_edge, Edges, edges_at, ends, ends_at, EndsLive, from, IsJoined, ListsEdges, PutsAlone}
 pub use Rattle.slotmap_graph.specs.Parts.{PutsBehind, SameEdges, Seen, SeenEdge, to, touches, value, with_edge, with_edge_in}
 pub use Rattle.slotmap_graph.specs.Search.{AllLed, AreSeen, arrives_at, ends_along, Finds, goes_to, GoesOn, HasEdge, HasNext, IsBreadthFirst, Leads, LeadsBy}
 pub use Rattle.slotmap_graph.specs.Search.{marked}
-pub use Rattle.slotmap_graph.specs.Threads.{by_node, copies_edge, copies_node, edge_link, end, ends_in, IsGraph, IsThreaded, KeepsEdges, link_in, listed}
-pub use Rattle.slotmap_graph.specs.Threads.{lists_of, no_ends, no_link, node_ends, node_value, ends_with, last_link, Rethreads, seen_edge, turned, with_ends, with_link}
+pub use Rattle.slotmap_graph.specs.Threads.{AreIndices, by_node, far_end, Grows, HaveIndices, IsGraph, IsThreaded, key_at, keys_at}
 pub use Rattle.slotmap_graph.specs.TopologicalOrder.{ClosesCycle, ComesFromLeft, Counting, edges_out, GoesForward, HasCycle, IsLeft, passed_of, Sorting}
-pub use Rattle.slotmap_graph.specs.declared.Edge.{Edge}
-pub use Rattle.slotmap_graph.specs.declared.Node.{Node}
-pub use Rattle.slotmap_graph.specs.declared.links.Direction.{Direction}
-pub use Rattle.slotmap_graph.specs.declared.links.Direction.TheVariants.{Into, Out}
+pub use Rattle.slotmap_graph.specs.declared.lists.Direction.{Direction}
+pub use Rattle.slotmap_graph.specs.declared.lists.Direction.TheVariants.{Into, Out}

@@ -31,6 +31,10 @@ module _ {E : Type 0} (end : SeenEdge E → Key) (edges : Edges E) where
   ends_less [] = omega arith
   ends_less (k ∷ ks) = one_end (option_map end (map.get edges k)) (ends_along end edges ks) (length ks) (ends_less ks)
 
+  -- the end of the first edge comes first
+  pub first_end : (k : Key) (e : SeenEdge E) (ks : List Key) → map.get edges k ≡ Some e → ends_along end edges (k ∷ ks) ≡ end e ∷ ends_along end edges ks
+  first_end k e ks there = ap (λ o. cons_option (option_map end o) (ends_along end edges ks)) there
+
 -- the next edge of a walk along the edges of a node
 module _ {E : Type 0} (end : SeenEdge E → Key) (edges : Edges E) (node : Key) (all : List Key) (lists : ListsEdges end edges node all) (passed ahead rest : List Key) (x : Key) (so_far : passed ++ ahead ≡ all) (next : ahead ≡ x ∷ rest) where
   pub next_edge : (e : SeenEdge E) × (map.get edges x ≡ Some e) × (end e ≡ node)

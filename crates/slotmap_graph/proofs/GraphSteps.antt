@@ -1,295 +1,25 @@
 -- What a call makes of a graph, as a whole.
-use Rattle.std.proofs.Common.{◌≡◌, ◌≢◌, ◌<◌, ◌∷◌, ◌++◌, ◌||◌, ◌∙◌}
-use Rattle.slotmap_graph.proofs.Common.{Bool, true, false, cond, Option, Some, None, OnSome, IfSome, IfNone, MatchOption, Result, Ok, Err, IfOk, IsErr, List}
-use Rattle.slotmap_graph.proofs.Common.{[], is_some, option_map, unwrap_or, refl, sym, ap, subst, inl, inr, arith, same_Some, Key, key_cmp, Content, IsContent}
-use Rattle.slotmap_graph.proofs.Common.{IsLive, Inserts, Removes, Leaves, Keeps, Pairs, IsBeside, with_value, keys, same_or_other, get-insert_here}
-use Rattle.slotmap_graph.proofs.Common.{get-insert_other, get-put_live, get-put_other, leaves_none, leaves_by_removal, inserted_fresh, none_of}
-use Rattle.slotmap_graph.proofs.Common.{live-remove_other, live-insert_still, is_key, times, without, AreApart, AreLinked, ends_of, followed, map_values, map_content}
-use Rattle.slotmap_graph.proofs.Common.{is_itself, is_other, times_first, times_gone, one_itself, followed_is, in_midst, get-mapped, contains-mapped}
-use Rattle.slotmap_graph.proofs.Common.{live-mapped, mapped-live, mapped-insert, mapped-remove, mapped-removes, mapped-written, content-mapped, linked_along}
-use Rattle.slotmap_graph.proofs.Common.{followed_along, linked_but, linked_self, Node, Edge, Direction, Out, Into, SeenEdge, Edges, ends, EndsLive, IsJoined}
-use Rattle.slotmap_graph.proofs.Common.{PutsBehind, ListsEdges, PutsAlone, SameEdges, edges_at, ends_at, from, to, touches, turned, node_value, node_ends}
-use Rattle.slotmap_graph.proofs.Common.{ends_in, no_ends, seen_edge, edge_link, link_in, no_link, end, listed, by_node, IsThreaded, Rethreads, IsGraph, IsSpent}
-use Rattle.slotmap_graph.proofs.Common.{KeepsSpent, removed_spent, spent_removes}
+use Rattle.std.proofs.Common.{◌≡◌, ◌≢◌, ◌<◌, ◌≤◌, ◌⊎◌, ◌∷◌, ◌++◌, ◌||◌, ◌∙◌}
+use Rattle.slotmap_graph.proofs.Common.{ℕ, Bool, true, false, Option, Some, None, OnSome, IfSome, IfNone, MatchOption, List, [], length, is_some, option_map}
+use Rattle.slotmap_graph.proofs.Common.{refl, sym, ap, subst, inl, inr, arith, Key, key_cmp, Content, IsContent, IsLive, Inserts, Removes, Leaves, Pairs}
+use Rattle.slotmap_graph.proofs.Common.{IsBeside, with_value, keys, same_or_other, get-insert_here, get-insert_other, get-put_live, get-put_other, leaves_none}
+use Rattle.slotmap_graph.proofs.Common.{leaves_by_removal, inserted_fresh, live-insert_still, is_key, times, without, is_itself, is_other, times_first}
+use Rattle.slotmap_graph.proofs.Common.{one_itself, Lists, AreDisjoint, list_of, often, SeenEdge, Edges, IsJoined, ListsEdges, PutsAlone, SameEdges}
+use Rattle.slotmap_graph.proofs.Common.{edges_at, from, to, touches, HaveIndices, IsThreaded, IsGraph, Grows, by_node, IsFree, PutsBehind, with_list, with_members, with_owners, list_covered, disjoint_still, length-append, Result, Ok, Err, ClonesEqual, IsCloneBy, IsCloneOf, clones_edge, clone_live}
+use Rattle.std.proofs.Common.{◌-◌, OnOk, OnErr, replicate}
 use Rattle.std.specs.FinMap as map
-use Rattle.slotmap_graph.proofs.Adjacent.{lists_added, lists_removed, lists_written, listed_edge, none_listed, nothing_listed, unlisted, absent_unlisted}
-use Rattle.slotmap_graph.proofs.Threaded.{part_kept, part_new, part_removed, part_gone, at_node, threaded_along, threads}
+use Rattle.slotmap_graph.proofs.Adjacent.{absent_unlisted, listed_edge, none_listed, nothing_listed}
+use Rattle.slotmap_graph.proofs.Indices.{indices_still}
+use Rattle.slotmap_graph.proofs.Threaded.{at_none, empty_at, lists, other_nodes, put_free, put_seen, put_threaded, same_seen, threaded_along}
 
 pub puts_alone : {N V : Type 0} (nodes : Content N) (m : Pairs V) (k : Key) → IsBeside nodes m → IsLive nodes k → IsContent true nodes → PutsAlone m k
 puts_alone nodes m k beside live well = record { here = get-put_live true nodes well m beside k live; others = get-put_other true nodes well m beside k live }
-
--- nothing changes
-pub kept : {V : Type 0} (c : Content V) → Keeps c c
-kept c = record { live = refl; detached = refl; retired = refl; next = refl; offer = refl; stack = refl; room = omega arith }
 
 -- a removal, whatever it returns, lets no key come
 pub node_leaves : {N : Type 0} (old new : Content N) (reuses : Bool) → IsContent reuses old → (k : Key) (answer : Option N) → answer ≡ map.get old.live k
     → OnSome answer (Removes old k new) → IfNone answer (new ≡ old) → Leaves old new
 node_leaves old new reuses well k None is removes unchanged = rw unchanged (leaves_none old)
 node_leaves old new reuses well k (Some n) is removes unchanged = leaves_by_removal reuses old well k (ap is_some (sym is)) new removes
-
-module _ {N E : Type 0} where
-  -- the lists of a direction, with the same ends and links
-  pub seen_along : (d : Direction) (nodes nodes' : map.FinMap key_cmp (Node N)) (edges edges' : map.FinMap key_cmp (Edge E)) → ((q : Key) → ends_in d nodes' q ≡ ends_in d nodes q)
-      → ((q : Key) → link_in d edges' q ≡ link_in d edges q) → SameEdges (by_node d nodes edges) (by_node d nodes' edges')
-  seen_along d nodes nodes' edges edges' same_ends same_links k = at_node d nodes' edges' k ∙ followed_along same_ends same_links k ∙ sym (at_node d nodes edges k)
-
--- a node with no edge comes, by the clauses of an insert, whatever it returns
-bare_node : {N : Type 0} (n : Node N) → n.out ≡ no_ends → n.into ≡ no_ends → (d : Direction) → node_ends d n ≡ no_ends
-bare_node n no_out no_into Out = no_out
-bare_node n no_out no_into Into = no_into
-
-module _ {N K R : Type 0} (nodes new : Content (Node N)) (data_of : K → Key) (n : Node N) (no_out : n.out ≡ no_ends) (no_into : n.into ≡ no_ends) where
-  pub inserted_ends : (answer : Result K R) → IsContent true nodes → IfOk answer (λ key. Inserts nodes (data_of key) n new) → (IsErr answer → Keeps nodes new)
-      → (d : Direction) (q : Key) → ends_in d new.live q ≡ ends_in d nodes.live q
-  inserted_ends (Ok key) well inserts unchanged d q =
-      ap (λ m. ends_in d m q) inserts.live ∙ part_new (node_ends d) no_ends nodes.live (data_of key) n (bare_node n no_out no_into d) (none_of _ (inserted_fresh true nodes (data_of key) n new well inserts)) q
-  inserted_ends (Err e) well none unchanged d q = ap (λ m. ends_in d m q) (unchanged refl).live
-
-module _ {N E : Type 0} (nodes : Content (Node N)) (edges : map.FinMap key_cmp (Edge E)) (graph : IsGraph nodes edges) where
-  -- other nodes or edges, with the same ends and links
-  pub graph_along : (nodes' : Content (Node N)) (edges' : map.FinMap key_cmp (Edge E)) → EndsLive (map_content node_value nodes') (map_values seen_edge edges')
-      → ((d : Direction) (q : Key) → ends_in d nodes'.live q ≡ ends_in d nodes.live q) → ((d : Direction) (q : Key) → link_in d edges' q ≡ link_in d edges q)
-      → ((d : Direction) (k : Key) (ks : List Key) → ListsEdges (end d) (map_values seen_edge edges) k ks → ListsEdges (end d) (map_values seen_edge edges') k ks) → IsGraph nodes' edges'
-  graph_along nodes' edges' ends same_ends same_links lists = record {
-    ends = ends;
-    linked = λ d. linked_along (same_ends d) (same_links d) (graph.linked d);
-    lists = λ d k. lists d k (listed d nodes'.live edges' k) (λ x. ap (times x) (followed_along (same_ends d) (same_links d) k) ∙ graph.lists d k x);
-  }
-
-  -- more nodes, or the same
-  pub graph_beside : (new : Content (Node N)) → ((q : Key) → IsLive (map_content node_value nodes) q → IsLive (map_content node_value new) q) → ((d : Direction) (q : Key) → ends_in d new.live q ≡ ends_in d nodes.live q) → IsGraph new edges
-  graph_beside new still same = graph_along new edges
-      (λ x e there. (let live = graph.ends x e there in (still e.from live.0, still e.to live.1)))
-      same (λ d q. refl) (λ d k ks lists. lists)
-
-  module _ (k : Key) (n : Node N) (there : map.get nodes.live k ≡ Some n) (v : N) where
-    written_ends : (d : Direction) (q : Key) → ends_in d (map.insert nodes.live k (record n { value = v })) q ≡ ends_in d nodes.live q
-    written_ends d q = part_kept (node_ends d) no_ends nodes.live k (record n { value = v }) n there (same d) q
-      where
-        same : (d : Direction) → node_ends d (record n { value = v }) ≡ node_ends d n
-        same Out = refl
-        same Into = refl
-
-    pub node_written : IsGraph (with_value nodes k (record n { value = v })) edges
-    node_written = graph_beside (with_value nodes k (record n { value = v })) (λ q live. live-mapped node_value (with_value nodes k (record n { value = v })) q (live-insert_still nodes.live k _ q (mapped-live node_value nodes q live))) written_ends
-
-    pub written_lists : (d : Direction) → by_node d (map.insert nodes.live k (record n { value = v })) edges ≡ by_node d nodes.live edges
-    written_lists d = ap (λ c. c.live) (mapped-written (λ n. followed (link_in d edges) (node_ends d n)) nodes (with_value nodes k (record n { value = v })) k _ n there (ap (followed (link_in d edges)) (same d)) refl)
-      where
-        same : (d : Direction) → node_ends d (record n { value = v }) ≡ node_ends d n
-        same Out = refl
-        same Into = refl
-
-  -- an edge gets another value
-  module _ (x : Key) (e : Edge E) (there : map.get edges x ≡ Some e) (v : E) where
-    written_links : (d : Direction) (q : Key) → link_in d (map.insert edges x (record e { value = v })) q ≡ link_in d edges q
-    written_links d q = part_kept (edge_link d) no_link edges x (record e { value = v }) e there (same d) q
-      where
-        same : (d : Direction) → edge_link d (record e { value = v }) ≡ edge_link d e
-        same Out = refl
-        same Into = refl
-
-    pub linked_lists : (d : Direction) → by_node d nodes.live (map.insert edges x (record e { value = v })) ≡ by_node d nodes.live edges
-    linked_lists d = λ i. map_values (λ n. followed (λ q. written_links d q i) (node_ends d n)) nodes.live
-
-    pub edge_written : IsGraph nodes (map.insert edges x (record e { value = v }))
-    edge_written =
-        let seen_there : map.get (map_values seen_edge edges) x ≡ Some (seen_edge e) = get-mapped seen_edge edges x ∙ ap (option_map seen_edge) there in
-        let seen = mapped-insert seen_edge edges x (record e { value = v }) in
-        graph_along nodes (map.insert edges x (record e { value = v }))
-        (λ q y found. elim (same_or_other q x) [
-          | inl is ↦ (let one : record (seen_edge e) { value = v } ≡ y = (let here = get-insert_here (map_values seen_edge edges) x (record (seen_edge e) { value = v }) in let f = rw (is, seen) at found in cc) in
-              let live = graph.ends x (seen_edge e) seen_there in (rw (← one) live.0, rw (← one) live.1))
-          | inr other ↦ graph.ends q y (sym (get-insert_other (map_values seen_edge edges) x _ q other) ∙ rw seen at found)
-        ])
-        (λ d q. refl) written_links
-        (λ d k ks lists. rw seen (lists_written (end d) (map_values seen_edge edges) x (record (seen_edge e) { value = v }) (seen_edge e) seen_there (same d) k ks lists))
-      where
-        same : (d : Direction) → end d (record (seen_edge e) { value = v }) ≡ end d (seen_edge e)
-        same Out = refl
-        same Into = refl
-
--- an edge comes, which is in no list yet, whatever its links are
-module _ {N E : Type 0} (nodes : Content (Node N)) (edges mid : Content (Edge E)) (graph : IsGraph nodes edges.live) (k : Key) (e : Edge E) (fresh : map.get edges.live k ≡ None)
-    (is : mid.live ≡ map.insert edges.live k e) where
-  not_listed : (d : Direction) (p : Key) → times k (listed d nodes.live edges.live p) ≡ 0
-  not_listed d p = graph.lists d p k ∙ ap (ends_at (end d) p) (get-mapped seen_edge edges.live k ∙ ap (option_map seen_edge) fresh)
-
-  mid_linked : (d : Direction) → AreLinked (ends_in d nodes.live) (link_in d mid.live) (listed d nodes.live edges.live)
-  mid_linked d = linked_but (graph.linked d) k (not_listed d) (λ q other. ap (λ m. link_in d m q) is ∙ ap (λ o. unwrap_or (option_map (edge_link d) o) no_link) (get-insert_other edges.live k e q other))
-
-  mid_listed : (d : Direction) (p : Key) → listed d nodes.live mid.live p ≡ listed d nodes.live edges.live p
-  mid_listed d p = followed_is (mid_linked d) p
-
-  pub mid_threads : (d : Direction) → IsThreaded d nodes.live mid.live
-  mid_threads d =
-      let was = threads nodes edges.live graph d in
-      record {
-        linked = linked_self (mid_linked d);
-        apart = subst AreApart (λ i p. sym (mid_listed d p) i) was.apart;
-        live = λ p q more. rw is (live-insert_still edges.live k e q (was.live p q (rw (mid_listed d p) at more)));
-      }
-
-  pub mid_unlisted : (d : Direction) (p : Key) → times k (listed d nodes.live mid.live p) ≡ 0
-  mid_unlisted d p = ap (times k) (mid_listed d p) ∙ not_listed d p
-
-  pub mid_link : (d : Direction) → link_in d mid.live k ≡ edge_link d e
-  mid_link d = ap (λ m. link_in d m k) is ∙ ap (λ o. unwrap_or (option_map (edge_link d) o) no_link) (get-insert_here edges.live k e)
-
--- a list changes, and the other direction stays
-module _ {N E : Type 0} (d : Direction) (nodes nodes' : Content (Node N)) (edges edges' : Content (Edge E)) (p : Key) (ks : List Key) (step : Rethreads d nodes edges p ks nodes' edges') where
-  pub turned_listed : (q : Key) → listed (turned d) nodes'.live edges'.live q ≡ listed (turned d) nodes.live edges.live q
-  turned_listed = followed_along step.same_ends step.same_links
-
-  pub still_live : (q : Key) → map.contains_key edges.live q ≡ true → map.contains_key edges'.live q ≡ true
-  still_live q live = sym (contains-mapped seen_edge edges'.live q) ∙ ap (λ c. map.contains_key c.live q) step.seen_edges ∙ contains-mapped seen_edge edges.live q ∙ live
-
-  pub turned_threads : IsThreaded (turned d) nodes.live edges.live → IsThreaded (turned d) nodes'.live edges'.live
-  turned_threads = threaded_along (turned d) nodes.live nodes'.live edges.live edges'.live step.same_ends step.same_links still_live
-
-  pub still_node : (q : Key) → IsLive nodes q → IsLive nodes' q
-  still_node q live = sym (contains-mapped node_value nodes'.live q) ∙ ap (λ c. map.contains_key c.live q) step.seen_nodes ∙ contains-mapped node_value nodes.live q ∙ live
-
--- a list of each direction changes
-module _ {N E : Type 0} (n0 n1 n2 : Content (Node N)) (e0 e1 e2 : Content (Edge E)) (p q : Key) (ks ks' : List Key) (out : Rethreads Out n0 e0 p ks n1 e1) (into : Rethreads Into n1 e1 q ks' n2 e2) where
-  both_linked : (d : Direction) → AreLinked (ends_in d n2.live) (link_in d e2.live) (listed d n2.live e2.live)
-  both_linked Out = linked_along into.same_ends into.same_links out.linked
-  both_linked Into = into.linked
-
-  both_nodes : map_content node_value n2 ≡ map_content node_value n0
-  both_nodes = into.seen_nodes ∙ out.seen_nodes
-
-  both_edges : map_content seen_edge e2 ≡ map_content seen_edge e0
-  both_edges = into.seen_edges ∙ out.seen_edges
-
-  out_is : (x : Key) → listed Out n2.live e2.live x ≡ listed Out n1.live e1.live x
-  out_is = turned_listed Into n1 n2 e1 e2 q ks' into
-
-  into_is : (x : Key) → listed Into n1.live e1.live x ≡ listed Into n0.live e0.live x
-  into_is = turned_listed Out n0 n1 e0 e1 p ks out
-
--- an edge was put behind the others
-module _ {N E : Type 0} (nodes n1 n2 : Content (Node N)) (edges mid e1 e2 : Content (Edge E)) (graph : IsGraph nodes edges.live) (k : Key) (e : Edge E) (fresh : map.get edges.live k ≡ None)
-    (is : mid.live ≡ map.insert edges.live k e)
-    (out : Rethreads Out nodes mid e.from (listed Out nodes.live mid.live e.from ++ k ∷ []) n1 e1) (into : Rethreads Into n1 e1 e.to (listed Into n1.live e1.live e.to ++ k ∷ []) n2 e2) where
-  same_mid : (d : Direction) (p : Key) → listed d nodes.live mid.live p ≡ listed d nodes.live edges.live p
-  same_mid = mid_listed nodes edges mid graph k e fresh is
-
-  added_here : (d : Direction) → listed d n2.live e2.live (end d (seen_edge e)) ≡ listed d nodes.live edges.live (end d (seen_edge e)) ++ k ∷ []
-  added_here Out = out_is nodes n1 n2 mid e1 e2 e.from e.to _ _ out into e.from ∙ out.list ∙ ap (λ l. l ++ k ∷ []) (same_mid Out e.from)
-  added_here Into = into.list ∙ ap (λ l. l ++ k ∷ []) (into_is nodes n1 n2 mid e1 e2 e.from e.to _ _ out into e.to ∙ same_mid Into e.to)
-
-  added_others : (d : Direction) (x : Key) → x ≢ end d (seen_edge e) → listed d n2.live e2.live x ≡ listed d nodes.live edges.live x
-  added_others Out x other = out_is nodes n1 n2 mid e1 e2 e.from e.to _ _ out into x ∙ out.others x other ∙ same_mid Out x
-  added_others Into x other = into.others x other ∙ into_is nodes n1 n2 mid e1 e2 e.from e.to _ _ out into x ∙ same_mid Into x
-
-  -- the edges are those that the insert left
-  last_edges : map_content seen_edge e2 ≡ map_content seen_edge mid
-  last_edges = both_edges nodes n1 n2 mid e1 e2 e.from e.to _ _ out into
-
-  added_seen : map_values seen_edge e2.live ≡ map.insert (map_values seen_edge edges.live) k (seen_edge e)
-  added_seen = ap (λ c. c.live) last_edges ∙ ap (map_values seen_edge) is ∙ mapped-insert seen_edge edges.live k e
-
-  pub edge_added : IsLive nodes e.from → IsLive nodes e.to → IsGraph n2 e2.live
-  edge_added live_from live_to =
-      let none : map.get (map_values seen_edge edges.live) k ≡ None = get-mapped seen_edge edges.live k ∙ ap (option_map seen_edge) fresh in
-      let same_nodes : map_values node_value n2.live ≡ map_values node_value nodes.live = ap (λ c. c.live) (both_nodes nodes n1 n2 mid e1 e2 e.from e.to _ _ out into) in
-      record {
-        ends = λ x y there. rw same_nodes (elim (same_or_other x k) [
-          | inl at ↦ (let one : seen_edge e ≡ y = (let here = get-insert_here (map_values seen_edge edges.live) k (seen_edge e) in let f = rw (at, added_seen) at there in cc) in
-              (rw (← one) (live-mapped node_value nodes e.from live_from), rw (← one) (live-mapped node_value nodes e.to live_to)))
-          | inr other ↦ graph.ends x y (sym (get-insert_other (map_values seen_edge edges.live) k (seen_edge e) x other) ∙ rw added_seen at there)
-        ]);
-        linked = both_linked nodes n1 n2 mid e1 e2 e.from e.to _ _ out into;
-        lists = λ d x. rw added_seen (lists_added (end d) (map_values seen_edge edges.live) k (seen_edge e) none (listed d nodes.live edges.live) (listed d n2.live e2.live) (graph.lists d) (added_here d) (added_others d) x);
-      }
-
-  pub put_behind : (d : Direction) → PutsBehind (by_node d nodes.live edges.live) (end d (seen_edge e)) k (by_node d n2.live e2.live)
-  put_behind d x = at_node d n2.live e2.live x ∙ elim (same_or_other x (end d (seen_edge e))) [
-    | inl at ↦ rw (at, is_itself (end d (seen_edge e))) (added_here d)
-    | inr other ↦ rw (is_other x (end d (seen_edge e)) other) (added_others d x other)
-  ] ∙ ap (λ l. cond (is_key x (end d (seen_edge e))) (l ++ k ∷ []) l) (sym (at_node d nodes.live edges.live x))
-
--- the edge k is gone for good, and each list is without it
-pub record IsCut {N E : Type 0} (nodes : Content (Node N)) (edges : Content (Edge E)) (k : Key) (nodes' : Content (Node N)) (edges' : Content (Edge E)) : Type 0 where
-  pub graph : IsGraph nodes' edges'.live
-  pub removes : Removes (map_content seen_edge edges) k (map_content seen_edge edges')
-  pub for_good : IsSpent (map_content seen_edge edges') k
-  pub leaves : Leaves (map_content seen_edge edges) (map_content seen_edge edges')
-  pub keeps : KeepsSpent (map_content seen_edge edges) (map_content seen_edge edges')
-  pub lists : (d : Direction) (x : Key) → edges_at (by_node d nodes'.live edges'.live) x ≡ without k (edges_at (by_node d nodes.live edges.live) x)
-
--- an edge was taken out of its two lists, and is gone
-module _ {N E : Type 0} (nodes n1 n2 : Content (Node N)) (edges e1 e2 e3 : Content (Edge E)) (graph : IsGraph nodes edges.live) (k : Key) (e : SeenEdge E) (there : map.get (map_values seen_edge edges.live) k ≡ Some e)
-    (out : Rethreads Out nodes edges e.from (without k (listed Out nodes.live edges.live e.from)) n1 e1) (into : Rethreads Into n1 e1 e.to (without k (listed Into n1.live e1.live e.to)) n2 e2)
-    (well_cut : IsContent true e2) (cuts : Removes e2 k e3) where
-  taken : (d : Direction) (x : Key) → listed d n2.live e2.live x ≡ without k (listed d nodes.live edges.live x)
-  taken Out x = out_is nodes n1 n2 edges e1 e2 e.from e.to _ _ out into x ∙ elim (same_or_other x e.from) [
-    | inl at ↦ rw at out.list
-    | inr other ↦ out.others x other ∙ sym (unlisted from (map_values seen_edge edges.live) k e there x (listed Out nodes.live edges.live x) (graph.lists Out x) other)
-  ]
-  taken Into x = elim (same_or_other x e.to) [
-    | inl at ↦ rw at (into.list ∙ ap (without k) (into_is nodes n1 n2 edges e1 e2 e.from e.to _ _ out into e.to))
-    | inr other ↦ into.others x other ∙ into_is nodes n1 n2 edges e1 e2 e.from e.to _ _ out into x ∙ sym (unlisted to (map_values seen_edge edges.live) k e there x (listed Into nodes.live edges.live x) (graph.lists Into x) other)
-  ]
-
-  last_linked : (d : Direction) → AreLinked (ends_in d n2.live) (link_in d e3.live) (listed d n2.live e2.live)
-  last_linked d = linked_but (both_linked nodes n1 n2 edges e1 e2 e.from e.to _ _ out into d) k (λ x. ap (times k) (taken d x) ∙ times_gone k (listed d nodes.live edges.live x))
-      (λ q other. ap (λ m. link_in d m q) cuts.live ∙ part_removed (edge_link d) no_link e2.live k q other)
-
-  last_listed : (d : Direction) (x : Key) → listed d n2.live e3.live x ≡ without k (listed d nodes.live edges.live x)
-  last_listed d x = followed_is (last_linked d) x ∙ taken d x
-
-  same_edges : map_content seen_edge e2 ≡ map_content seen_edge edges
-  same_edges = both_edges nodes n1 n2 edges e1 e2 e.from e.to _ _ out into
-
-  removed_seen : map_values seen_edge e3.live ≡ map.remove (map_values seen_edge edges.live) k
-  removed_seen = ap (map_values seen_edge) cuts.live ∙ mapped-remove seen_edge e2.live k ∙ ap (λ c. map.remove c.live k) same_edges
-
-  graph_cut : IsGraph n2 e3.live
-  graph_cut =
-      let same_nodes : map_values node_value n2.live ≡ map_values node_value nodes.live = ap (λ c. c.live) (both_nodes nodes n1 n2 edges e1 e2 e.from e.to _ _ out into) in
-      record {
-        ends = λ x y found. rw same_nodes (graph.ends x y (let f = rw removed_seen at found in grind (arith, keys)));
-        linked = λ d. linked_self (last_linked d);
-        lists = λ d x y. ap (times y) (last_listed d x) ∙ rw removed_seen (lists_removed (end d) (map_values seen_edge edges.live) k e there x (listed d nodes.live edges.live x) (graph.lists d x) y);
-      }
-
-  pub edge_cut : IsCut nodes edges k n2 e3
-  edge_cut =
-      let well = subst (IsContent true) same_edges (content-mapped seen_edge e2 true well_cut) in
-      let removes = subst (λ c. Removes c k (map_content seen_edge e3)) same_edges (mapped-removes seen_edge e2 e3 k cuts) in
-      let live = ap is_some there in record {
-        graph = graph_cut;
-        removes = removes;
-        for_good = removed_spent _ _ true well k live removes;
-        leaves = leaves_by_removal true _ well k live _ removes;
-        keeps = spent_removes _ _ true well k live removes;
-        lists = λ d x. at_node d n2.live e3.live x ∙ last_listed d x ∙ ap (without k) (sym (at_node d nodes.live edges.live x));
-      }
-
--- an edge that isn't there is in no list
-module _ {N E : Type 0} (nodes : Content (Node N)) (edges : map.FinMap key_cmp (Edge E)) (graph : IsGraph nodes edges) where
-  pub is_lists : (d : Direction) (k : Key) → ListsEdges (end d) (map_values seen_edge edges) k (edges_at (by_node d nodes.live edges) k)
-  is_lists d k x = ap (times x) (at_node d nodes.live edges k) ∙ graph.lists d k x
-
-  pub lacks : (d : Direction) (x : Key) → map.get (map_values seen_edge edges) x ≡ None → (k : Key) → edges_at (by_node d nodes.live edges) k ≡ without x (edges_at (by_node d nodes.live edges) k)
-  lacks d x none k = sym (absent_unlisted (end d) (map_values seen_edge edges) x none k _ (is_lists d k))
-
--- every graph is joined
-pub graph_joined : {N E : Type 0} (nodes : Content (Node N)) (edges : Content (Edge E)) → IsGraph nodes edges.live
-    → IsJoined (record { nodes = map_content node_value nodes; edges = map_content seen_edge edges; out = by_node Out nodes.live edges.live; into = by_node Into nodes.live edges.live })
-graph_joined nodes edges graph = record { ends = graph.ends; out = is_lists nodes edges.live graph Out; into = is_lists nodes edges.live graph Into }
-
--- the ends of an edge that is looked up
-pub ends_found : {E : Type 0} (o : Option (SeenEdge E)) (p q : Key) → Some (p, q) ≡ option_map ends o → (v : E) × (o ≡ Some (record { from = p; to = q; value = v }))
-ends_found None p q is = absurd (cc)
-ends_found (Some e) p q is = let both = same_Some (p, q) (e.from, e.to) is in (e.value, λ i. Some (record { from = sym (ap (λ x. x.0) both) i; to = sym (ap (λ x. x.1) both) i; value = e.value }))
-
-pub no_ends_found : {E : Type 0} (o : Option (SeenEdge E)) → None ≡ option_map ends o → o ≡ None
-no_ends_found None is = refl
-no_ends_found (Some e) is = absurd (cc)
 
 module _ {E : Type 0} (edges : Edges E) (k : Key) where
   -- an edge of a list touches the node
@@ -331,42 +61,233 @@ module _ {E : Type 0} (edges : Edges E) (k : Key) (untouched : (x : Key) (e : Se
   pub none_to : ListsEdges to edges k ks → ks ≡ []
   none_to lists = nothing_listed to edges k ks lists (λ x e there at. let none = untouched x e there in let h : is_key e.to k ≡ true = rw at (is_itself k) in let t : touches k e ≡ true = grind arith in absurd (cc))
 
--- a node goes that no edge touches
-module _ {N E : Type 0} (nodes : Content (Node N)) (edges : map.FinMap key_cmp (Edge E)) (graph : IsGraph nodes edges) (k : Key)
-    (untouched : (x : Key) (e : SeenEdge E) → map.get (map_values seen_edge edges) x ≡ Some e → touches k e ≡ false) (new : Content (Node N)) (is : new.live ≡ map.remove nodes.live k) where
-  ends_elsewhere : (d : Direction) (x : Key) (e : SeenEdge E) → map.get (map_values seen_edge edges) x ≡ Some e → end d e ≢ k
-  ends_elsewhere Out x e there at = let none = untouched x e there in let h : is_key e.from k ≡ true = rw at (is_itself k) in let t : touches k e ≡ true = ap (λ b. b || is_key e.to k) h in absurd (cc)
-  ends_elsewhere Into x e there at = let none = untouched x e there in let h : is_key e.to k ≡ true = rw at (is_itself k) in let t : touches k e ≡ true = grind arith in absurd (cc)
+-- every graph is joined
+pub graph_joined : {N E : Type 0} (nodes : Content N) (edges : Content (SeenEdge E)) (outs intos : Lists) → IsGraph nodes edges outs intos
+    → IsJoined (record { nodes = nodes; edges = edges; out = by_node nodes.live edges.live outs; into = by_node nodes.live edges.live intos })
+graph_joined nodes edges outs intos graph = record {
+  ends = λ x e there. (graph.out.ends x e there, graph.into.ends x e there);
+  out = lists from nodes edges outs graph.out;
+  into = lists to nodes edges intos graph.into;
+}
 
-  pub left_ends : (d : Direction) (q : Key) → ends_in d new.live q ≡ ends_in d nodes.live q
-  left_ends d q =
-      let empty = nothing_listed (end d) (map_values seen_edge edges) k (listed d nodes.live edges k) (graph.lists d k) (ends_elsewhere d) in
-      ap (λ m. ends_in d m q) is ∙ part_gone (node_ends d) no_ends nodes.live k ((graph.linked d).ends_are k ∙ ap ends_of empty) q
+-- an edge that isn't there is in no list
+pub lacks : {E : Type 0} (end : SeenEdge E → Key) (edges : Edges E) (x : Key) → map.get edges x ≡ None → (k : Key) (ks : List Key) → ListsEdges end edges k ks → ks ≡ without x ks
+lacks end edges x none k ks lists = sym (absent_unlisted end edges x none k ks lists)
 
-  pub node_removed : IsGraph new edges
-  node_removed = graph_along nodes edges graph new edges
-      (λ x e there. (let live = graph.ends x e there in (still e.from (ends_elsewhere Out x e there) live.0, still e.to (ends_elsewhere Into x e there) live.1)))
-      left_ends (λ d q. refl) (λ d k ks lists. lists)
-    where
-      still : (q : Key) → q ≢ k → IsLive (map_content node_value nodes) q → IsLive (map_content node_value new) q
-      still q other live = live-mapped node_value new q (rw is (live-remove_other nodes.live k q other (mapped-live node_value nodes q live)))
+-- a key comes
+pub indices_inserted : {V : Type 0} (c : Content V) (k : Key) (v : V) (d : Content V) → HaveIndices c → Inserts c k v d → IsContent true d → d.capacity ≡ c.capacity → k.index ≤ d.capacity → HaveIndices d
+indices_inserted c k v d indices inserts valid capacity within = record {
+  within = λ q live. (elim (same_or_other q k) [
+    | inl is ↦ ((valid.within q (inl (inl live))).0, (let at = ap (λ (q : Key). q.index) is in omega arith))
+    | inr other ↦ (let was = indices.within q (sym (ap is_some (ap (λ m. map.get m q) inserts.live ∙ get-insert_other c.live k v q other)) ∙ live) in (was.0, omega (arith, was.1, capacity)))
+  ]);
+  apart = λ a b of_a of_b. valid.apart a b (inl (inl of_a)) (inl (inl of_b));
+}
 
--- there is no edge, and no node
-pub graph_empty : {N E : Type 0} (nodes : Content (Node N)) (edges : map.FinMap key_cmp (Edge E)) → nodes.live ≡ map.empty → edges ≡ map.empty → IsGraph nodes edges
-graph_empty {N} {E} nodes edges no_nodes no_edges = record {
-  ends = λ x e there. absurd (let none = absent x in cc);
-  linked = λ d. record {
-    ends_are = λ p. bare d p ∙ ap ends_of (sym (none_listed_at d p));
-    links_are = λ p before k after is. absurd (let there = in_midst before k after in let none = ap (times k) (sym is ∙ none_listed_at d p) in omega arith);
-  };
-  lists = λ d k x. ap (times x) (none_listed_at d k) ∙ sym (ap (ends_at (end d) k) (absent x));
+module _ {N E : Type 0} (end : SeenEdge E → Key) (nodes : Content N) (edges : Content (SeenEdge E)) (links : Lists) (t : IsThreaded end nodes edges links) where
+  -- as many owners and members as the capacities ask for, and the same nodes and edges
+  module _ (nodes' : Content N) (edges' : Content (SeenEdge E)) (links' : Lists) (same_nodes : nodes'.live ≡ nodes.live) (same_edges : edges'.live ≡ edges.live)
+      (more_nodes : nodes.capacity ≤ nodes'.capacity) (more_edges : edges.capacity ≤ edges'.capacity) (grows : Grows links links') where
+    grown_nodes : HaveIndices nodes'
+    grown_nodes = indices_still nodes nodes' t.node_indices (λ k live. sym (ap (λ m. map.contains_key m k) same_nodes) ∙ live) more_nodes
+
+    grown_edges : HaveIndices edges'
+    grown_edges = indices_still edges edges' t.edge_indices (λ k live. sym (ap (λ m. map.contains_key m k) same_edges) ∙ live) more_edges
+
+    pub grown : nodes'.capacity < length links'.lists → edges'.capacity < links'.members → IsThreaded end nodes' edges' links'
+    grown owners members = threaded_along end nodes edges links t end nodes' edges' links' (λ x. ap (λ m. option_map end (map.get m x)) same_edges) grows.lists grown_nodes grown_edges owners members grows.disjoint
+        (λ x e there. ap (λ m. map.contains_key m (end e)) same_nodes ∙ t.ends x e there)
+
+    pub grown_seen : by_node nodes'.live edges'.live links' ≡ by_node nodes.live edges.live links
+    grown_seen = same_seen end nodes edges links t end nodes' edges' links' (λ x. ap (λ m. option_map end (map.get m x)) same_edges) grows.lists grown_edges (λ k. ap (λ m. map.contains_key m k) same_nodes)
+
+  -- other nodes, with all ends of edges among them
+  pub threaded_beside : (new : Content N) → HaveIndices new → new.capacity ≡ nodes.capacity → ((x : Key) (e : SeenEdge E) → map.get edges.live x ≡ Some e → IsLive new (end e)) → IsThreaded end new edges links
+  threaded_beside new indices capacity ends = threaded_along end nodes edges links t end new edges links (λ x. refl) (λ p. refl) indices t.edge_indices (let o = t.owners in omega arith) t.members t.disjoint ends
+
+  -- a node comes
+  module _ (k : Key) (v : N) (new : Content N) (inserts : Inserts nodes k v new) (was : IsContent true nodes) (valid : IsContent true new) (capacity : new.capacity ≡ nodes.capacity) (within : k.index ≤ new.capacity) where
+    still_node : (q : Key) → IsLive nodes q → IsLive new q
+    still_node q live = ap (λ m. map.contains_key m q) inserts.live ∙ live-insert_still nodes.live k v q live
+
+    pub node_threaded : IsThreaded end new edges links
+    node_threaded = threaded_beside new (indices_inserted nodes k v new t.node_indices inserts valid capacity within) capacity (λ x e there. still_node (end e) (t.ends x e there))
+
+    pub node_seen : SameEdges (by_node nodes.live edges.live links) (by_node new.live edges.live links)
+    node_seen = other_nodes end nodes edges links t new (λ q. elim (same_or_other q k) [
+      | inl is ↦ inr (ap (λ (q : Key). list_of links q.index) is ∙ empty_at end nodes edges links t k.index (λ x e there at. (
+          let live = t.ends x e there in
+          let here : IsLive new k = ap (λ m. map.contains_key m k) inserts.live ∙ ap is_some (get-insert_here nodes.live k v) in
+          let one : end e ≡ k = valid.apart (end e) k (inl (inl (still_node (end e) live))) (inl (inl here)) at in
+          let gone = inserted_fresh true nodes k v new was inserts in
+          let f = ap (map.contains_key nodes.live) (sym one) ∙ live in cc)))
+      | inr other ↦ inl (ap is_some (ap (λ m. map.get m q) inserts.live ∙ get-insert_other nodes.live k v q other))
+    ])
+
+  -- an edge comes
+  module _ (k : Key) (e : SeenEdge E) (new : Content (SeenEdge E)) (inserts : Inserts edges k e new) (fresh : map.get edges.live k ≡ None) (valid : IsContent true new) (capacity : new.capacity ≡ edges.capacity) (within : k.index ≤ new.capacity)
+      (live : IsLive nodes (end e)) where
+    new_indices : HaveIndices new
+    new_indices = indices_inserted edges k e new t.edge_indices inserts valid capacity within
+
+    pub edge_free : IsFree links k.index
+    edge_free = put_free end nodes edges links t k e fresh live new inserts.live new_indices capacity
+
+    module _ (now : Lists) (now_is : now ≡ with_list links (end e).index (list_of links (end e).index ++ k.index ∷ [])) where
+      pub edge_threaded : AreDisjoint now → IsThreaded end nodes new now
+      edge_threaded = put_threaded end nodes edges links t k e fresh live new inserts.live new_indices capacity now now_is
+
+      pub edge_seen : PutsBehind (by_node nodes.live edges.live links) (end e) k (by_node nodes.live new.live now)
+      edge_seen = put_seen end nodes edges links t k e fresh live new inserts.live new_indices capacity now now_is
+
+  -- a node goes at which no edge is
+  module _ (k : Key) (new : Content N) (is : new.live ≡ map.remove nodes.live k) (capacity : new.capacity ≡ nodes.capacity) (apart : (x : Key) (e : SeenEdge E) → map.get edges.live x ≡ Some e → end e ≢ k) where
+    left_nodes : (q : Key) → q ≢ k → map.contains_key new.live q ≡ map.contains_key nodes.live q
+    left_nodes q other = ap (λ m. map.contains_key m q) is ∙ grind (arith, keys)
+
+    was_node : (q : Key) → IsLive new q → IsLive nodes q
+    was_node q live = elim (same_or_other q k) [
+      | inl at ↦ absurd (let gone : map.contains_key (map.remove nodes.live k) k ≡ false = grind (arith, keys) in let f = ap (λ m. map.contains_key m q) is in let g = ap (map.contains_key (map.remove nodes.live k)) at in cc)
+      | inr other ↦ sym (left_nodes q other) ∙ live
+    ]
+
+    pub gone_threaded : IsThreaded end new edges links
+    gone_threaded = threaded_beside new (indices_still nodes new t.node_indices was_node (omega arith)) capacity (λ x e there. left_nodes (end e) (apart x e there) ∙ t.ends x e there)
+
+    pub gone_seen : SameEdges (by_node nodes.live edges.live links) (by_node new.live edges.live links)
+    gone_seen = other_nodes end nodes edges links t new (λ q. elim (same_or_other q k) [
+      | inl at ↦ elim (map.contains_key nodes.live k) as (λ b. map.contains_key nodes.live k ≡ b → (map.contains_key new.live q ≡ map.contains_key nodes.live q) ⊎ (list_of links q.index ≡ [])) [
+        | true ↦ λ live. inr (ap (λ (q : Key). list_of links q.index) at ∙ empty_at end nodes edges links t k.index (λ x e there same. apart x e there (t.node_indices.apart (end e) k (t.ends x e there) live same)))
+        | false ↦ λ gone. inl (ap (map.contains_key new.live) at ∙ ap (λ m. map.contains_key m k) is ∙ grind (arith, keys) ∙ sym (ap (map.contains_key nodes.live) at))
+      ] refl
+      | inr other ↦ inl (left_nodes q other)
+    ])
+
+-- the ends of an edge that doesn't touch a node
+pub ends_apart : {E : Type 0} (k : Key) (e : SeenEdge E) → touches k e ≡ false → (e.from ≢ k) × (e.to ≢ k)
+ends_apart k e none = (
+  λ at. (let h : is_key e.from k ≡ true = ap (λ q. is_key q k) at ∙ is_itself k in let t : touches k e ≡ true = ap (λ b. b || is_key e.to k) h in cc),
+  λ at. (let h : is_key e.to k ≡ true = ap (λ q. is_key q k) at ∙ is_itself k in let t : touches k e ≡ true = grind arith in cc),
+)
+
+-- nothing is listed where there is no node and no edge
+module _ {N E : Type 0} (end : SeenEdge E → Key) (nodes : Content N) (edges : Content (SeenEdge E)) (links : Lists) (no_nodes : nodes.live ≡ map.empty) (no_edges : edges.live ≡ map.empty) where
+  no_node : (k : Key) → map.contains_key nodes.live k ≡ false
+  no_node k = ap (λ m. map.contains_key m k) no_nodes ∙ ap is_some (map.get-empty {X = N} key_cmp k)
+
+  no_edge : (k : Key) → map.contains_key edges.live k ≡ false
+  no_edge k = ap (λ m. map.contains_key m k) no_edges ∙ ap is_some (map.get-empty {X = SeenEdge E} key_cmp k)
+
+  pub bare_threaded : ((p : ℕ) → list_of links p ≡ []) → nodes.capacity < length links.lists → edges.capacity < links.members → IsThreaded end nodes edges links
+  bare_threaded none owners members = record {
+    node_indices = record { within = λ k live. absurd (let gone = no_node k in cc); apart = λ a b live. absurd (let gone = no_node a in cc) };
+    edge_indices = record { within = λ k live. absurd (let gone = no_edge k in cc); apart = λ a b live. absurd (let gone = no_edge a in cc) };
+    owners = owners;
+    members = members;
+    disjoint = record {
+      once = λ p k. (let e = ap (often k) (none p) in omega arith);
+      alone = λ p q k inside. absurd (let e = ap (often k) (none p) in omega arith);
+      within = λ p k inside. absurd (let e = ap (often k) (none p) in omega arith);
+    };
+    ends = λ x e there. absurd (let gone = no_edge x in let f = ap is_some there in cc);
+    listed = λ x e there. absurd (let gone = no_edge x in let f = ap is_some there in cc);
+    live = λ p i inside. absurd (let e = ap (often i) (none p) in omega arith);
+  }
+
+  pub bare_seen : (k : Key) → edges_at (by_node nodes.live edges.live links) k ≡ []
+  bare_seen k = at_none nodes.live edges.live links k (no_node k)
+
+covers_more : (s : Lists) → AreDisjoint s → (n m : ℕ) (mid new : Lists) → mid ≡ with_owners s n → (new ≡ with_members mid m) ⊎ (new ≡ mid) → Grows s new
+covers_more s disjoint n m mid new is either = record {
+  lists = same;
+  owners = (let more = ap (λ (l : Lists). length l.lists) is ∙ length-append s.lists (replicate (n - length s.lists) []) in let now = lists_now either in omega arith);
+  members = (let same = ap (λ (l : Lists). l.members) is in let more = members_now either in omega arith);
+  disjoint = disjoint_still s new disjoint same (let same = ap (λ (l : Lists). l.members) is in let more = members_now either in omega arith);
 }
   where
-    absent : (x : Key) → map.get (map_values seen_edge edges) x ≡ None
-    absent x = get-mapped seen_edge edges x ∙ ap (λ m. option_map seen_edge (map.get m x)) no_edges ∙ ap (option_map seen_edge) (map.get-empty {X = Edge E} key_cmp x)
+    lists_now : (new ≡ with_members mid m) ⊎ (new ≡ mid) → length new.lists ≡ length mid.lists
+    lists_now (inl is) = ap (λ (l : Lists). length l.lists) is
+    lists_now (inr is) = ap (λ (l : Lists). length l.lists) is
 
-    bare : (d : Direction) (p : Key) → ends_in d nodes.live p ≡ no_ends
-    bare d p = ap (λ m. ends_in d m p) no_nodes ∙ ap (λ o. unwrap_or (option_map (node_ends d) o) no_ends) (map.get-empty {X = Node N} key_cmp p)
+    members_now : (new ≡ with_members mid m) ⊎ (new ≡ mid) → mid.members ≤ new.members
+    members_now (inl is) = let e = ap (λ (l : Lists). l.members) is in omega arith
+    members_now (inr is) = let e = ap (λ (l : Lists). l.members) is in omega arith
 
-    none_listed_at : (d : Direction) (p : Key) → listed d nodes.live edges p ≡ []
-    none_listed_at d p = ap (followed (link_in d edges)) (bare d p)
+    of_mid : (new ≡ with_members mid m) ⊎ (new ≡ mid) → (p : ℕ) → list_of new p ≡ list_of mid p
+    of_mid (inl is) p = ap (λ l. list_of l p) is
+    of_mid (inr is) p = ap (λ l. list_of l p) is
+
+    same : (p : ℕ) → list_of new p ≡ list_of s p
+    same p = of_mid either p ∙ ap (λ l. list_of l p) is ∙ list_covered s n p
+
+-- the same lists, for more owners and members
+pub covered : (s : Lists) → AreDisjoint s → (n m : ℕ) (mid new : Lists) {A B : Type 0} (r : Result A B) → mid ≡ with_owners s n → OnOk r (new ≡ with_members mid m) → OnErr r (new ≡ mid) → Grows s new
+covered s disjoint n m mid new (Ok a) is ok err = covers_more s disjoint n m mid new is (inl ok)
+covered s disjoint n m mid new (Err b) is ok err = covers_more s disjoint n m mid new is (inr err)
+
+-- the copies of nodes and edges are listed alike
+module _ {N E : Type 0} (end : SeenEdge E → Key) (nodes : Content N) (edges : Content (SeenEdge E)) (links : Lists) (t : IsThreaded end nodes edges links)
+    (clones_node : N → N → Type 0) (clones_value : E → E → Type 0) (new : Content N) (cloned : IsCloneBy clones_node nodes new) (same_nodes : new.capacity ≡ nodes.capacity)
+    (copies : Content (SeenEdge E)) (clones : IsCloneBy (clones_edge clones_value) edges copies) (same_edges : copies.capacity ≡ edges.capacity)
+    (same : (o p : Option (SeenEdge E)) → IsCloneOf (clones_edge clones_value) o p → option_map end p ≡ option_map end o) where
+  node_copies : HaveIndices new
+  node_copies = indices_still nodes new t.node_indices (λ k live. sym (clone_live clones_node nodes new cloned k) ∙ live) (omega arith)
+
+  edge_copies : HaveIndices copies
+  edge_copies = indices_still edges copies t.edge_indices (λ k live. sym (clone_live (clones_edge clones_value) edges copies clones k) ∙ live) (omega arith)
+
+  pub copied : (now : Lists) → now ≡ links → IsThreaded end new copies now
+  copied now is = subst (IsThreaded end new copies) (sym is) (threaded_along end nodes edges links t end new copies links (λ x. same _ _ (clones.live x)) (λ p. refl) node_copies edge_copies
+      (let o = t.owners in omega arith) (let m = t.members in omega arith) t.disjoint (λ x e there. clone_live clones_node nodes new cloned (end e) ∙ t.ends x e there))
+
+  pub copied_seen : (now : Lists) → now ≡ links → SameEdges (by_node nodes.live edges.live links) (by_node new.live copies.live now)
+  copied_seen now is k = ap (λ l. edges_at (by_node new.live copies.live l) k) is
+      ∙ ap (λ b. edges_at b k) (same_seen end nodes edges links t end new copies links (λ x. same _ _ (clones.live x)) (λ p. refl) edge_copies (clone_live clones_node nodes new cloned))
+
+pub copied_from : {E : Type 0} (clones_value : E → E → Type 0) (o p : Option (SeenEdge E)) → IsCloneOf (clones_edge clones_value) o p → option_map from p ≡ option_map from o
+copied_from clones_value None p is = ap (option_map from) is
+copied_from clones_value (Some e) None is = absurd is
+copied_from clones_value (Some e) (Some copy) is = ap Some is.0
+
+pub copied_to : {E : Type 0} (clones_value : E → E → Type 0) (o p : Option (SeenEdge E)) → IsCloneOf (clones_edge clones_value) o p → option_map to p ≡ option_map to o
+copied_to clones_value None p is = ap (option_map to) is
+copied_to clones_value (Some e) None is = absurd is
+copied_to clones_value (Some e) (Some copy) is = ap Some is.1
+
+pub edges_equal : {E : Type 0} (is_clone : E → E → Type 0) → ClonesEqual is_clone → ClonesEqual (clones_edge is_clone)
+edges_equal is_clone same e copy is = λ i. record { from = is.0 i; to = is.1 i; value = same e.value copy.value is.2 i }
+
+-- a value is written
+module _ {N E : Type 0} (end : SeenEdge E → Key) (nodes : Content N) (edges : Content (SeenEdge E)) (links : Lists) (t : IsThreaded end nodes edges links) where
+  module _ (k : Key) (was v : N) (there : map.get nodes.live k ≡ Some was) where
+    same_node : (q : Key) → map.contains_key (map.insert nodes.live k v) q ≡ map.contains_key nodes.live q
+    same_node q = elim (same_or_other q k) [
+      | inl is ↦ rw is (ap is_some (get-insert_here nodes.live k v) ∙ sym (ap is_some there))
+      | inr other ↦ ap is_some (get-insert_other nodes.live k v q other)
+    ]
+
+    pub node_written : IsThreaded end (with_value nodes k v) edges links
+    node_written = threaded_beside end nodes edges links t (with_value nodes k v) (indices_still nodes (with_value nodes k v) t.node_indices (λ q live. sym (same_node q) ∙ live) (omega arith)) refl
+        (λ x e found. same_node (end e) ∙ t.ends x e found)
+
+    pub node_written_seen : by_node (map.insert nodes.live k v) edges.live links ≡ by_node nodes.live edges.live links
+    node_written_seen = same_seen end nodes edges links t end (with_value nodes k v) edges links (λ x. refl) (λ p. refl) t.edge_indices same_node
+
+  module _ (k : Key) (was e : SeenEdge E) (there : map.get edges.live k ≡ Some was) (same_end : end e ≡ end was) where
+    same_ends : (x : Key) → option_map end (map.get (map.insert edges.live k e) x) ≡ option_map end (map.get edges.live x)
+    same_ends x = elim (same_or_other x k) [
+      | inl is ↦ rw is (ap (option_map end) (get-insert_here edges.live k e) ∙ ap Some same_end ∙ sym (ap (option_map end) there))
+      | inr other ↦ ap (option_map end) (get-insert_other edges.live k e x other)
+    ]
+
+    written_indices : HaveIndices (with_value edges k e)
+    written_indices = indices_still edges (with_value edges k e) t.edge_indices (λ q live. elim (same_or_other q k) [
+      | inl is ↦ ap (map.contains_key edges.live) is ∙ ap is_some there
+      | inr other ↦ sym (ap is_some (get-insert_other edges.live k e q other)) ∙ live
+    ]) (omega arith)
+
+    pub edge_written : IsThreaded end nodes (with_value edges k e) links
+    edge_written = threaded_along end nodes edges links t end nodes (with_value edges k e) links same_ends (λ p. refl) t.node_indices written_indices t.owners t.members t.disjoint t.ends
+
+    pub edge_written_seen : by_node nodes.live (map.insert edges.live k e) links ≡ by_node nodes.live edges.live links
+    edge_written_seen = same_seen end nodes edges links t end nodes (with_value edges k e) links same_ends (λ p. refl) written_indices (λ q. refl)

@@ -1,12 +1,11 @@
 pub mod Adjacent
 pub mod Callers
 pub mod Common
-pub mod Copies
 pub mod Counted
 pub mod Cycles
 pub mod Followed
 pub mod GraphSteps
-pub mod Relinked
+pub mod Indices
 pub mod Searches
 pub mod Thinned
 pub mod Threaded

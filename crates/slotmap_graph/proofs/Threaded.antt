@@ -1,158 +1,333 @@
--- The lists of the edges of each node: what a write to a link or to the ends of a list changes, and what stays.
-use Rattle.std.proofs.Common.{◌≡◌, ◌≢◌, ◌≤◌, ◌∙◌}
-use Rattle.slotmap_graph.proofs.Common.{true, cond, Option, Some, None, [], option_map, unwrap_or, is_some, length, refl, sym, ap, subst, inl, inr, arith, Key}
-use Rattle.slotmap_graph.proofs.Common.{key_cmp, Content, IsContent, with_value, most, get-insert_here, get-insert_other, same_or_other, keys, is_key, followed}
-use Rattle.slotmap_graph.proofs.Common.{AreApart, map_values, map_content, Ends, Link, is_itself, is_other, no_more_than, get-mapped, contains-mapped}
-use Rattle.slotmap_graph.proofs.Common.{mapped-written, followed_along, linked_along, Node, Edge, Direction, Out, Into, edges_at, turned, node_value, node_ends}
-use Rattle.slotmap_graph.proofs.Common.{with_ends, ends_in, no_ends, seen_edge, edge_link, with_link, link_in, no_link, KeepsEdges, listed, by_node, IsThreaded}
-use Rattle.slotmap_graph.proofs.Common.{IsGraph, end, lists_of}
+-- The lists of the edges of each node: what is seen of them, and what a change of nodes or edges leaves of them.
+use Rattle.std.proofs.Common.{◌≡◌, ◌≢◌, ◌⊎◌, ◌<◌, ◌∷◌, ◌++◌, ◌&&◌, ◌∙◌, T, is_lt}
+use Rattle.slotmap_graph.proofs.Common.{ℕ, true, false, cond, Option, Some, None, List, [], list_map, length, is_some, option_map, unwrap_or, refl, sym, ap, subst}
+use Rattle.slotmap_graph.proofs.Common.{inl, inr, arith, Key, key_cmp, Content, IsLive, keys, keys_total, exact_keys, tied, same_or_other, get-insert_here}
+use Rattle.slotmap_graph.proofs.Common.{get-insert_other, live-insert_still, is_key, same, times, without, is_itself, is_other, one_itself, one_other}
+use Rattle.slotmap_graph.proofs.Common.{map-append, often, often_first, often_gone, often_without, number_itself, without_number, list_now, list_other, owners_stay, list_without, pushed_here, pushed_still}
+use Rattle.slotmap_graph.proofs.Common.{pushed_was, with_list, list_of, Lists, IsIn, IsFree, AreDisjoint, SeenEdge, Edges, edges_at, ends_at, ListsEdges}
+use Rattle.slotmap_graph.proofs.Common.{PutsBehind, SameEdges, AreIndices, HaveIndices, IsThreaded, keys_at, eq-zero-or-pos}
+use Rattle.slotmap_graph.specs.Threads.{by_node}
+use Rattle.slotmap_graph.proofs.Indices.{key_at_live, keys_same, keys_without, no_key, times_key}
+use Rattle.std.specs.Ordering.{eq_by_cmp}
 use Rattle.std.specs.FinMap as map
-use Rattle.slotmap_graph.proofs.Adjacent.{listed_once, listed_edge}
+use Rattle.std.specs.FinMap.Entries.{find, below_all, is_sorted}
 
--- a part of each value of a map, or something else where there is none
-module _ {V C : Type 0} (part : V → C) (none : C) (m : map.FinMap key_cmp V) (k : Key) (v : V) where
-  part_written : (q : Key) → unwrap_or (option_map part (map.get (map.insert m k v) q)) none ≡ cond (is_key q k) (part v) (unwrap_or (option_map part (map.get m q)) none)
-  part_written q = elim (same_or_other q k) [
-    | inl is ↦ rw (is, is_itself k, get-insert_here m k v)
-    | inr other ↦ rw (is_other q k other, get-insert_other m k v q other)
-  ]
+-- a map with what f makes of each key
+module _ {V W : Type 0} (f : Key → W) where
+  abbrev changed : Key × V → Key × W
+  changed e = (e.0, f e.0)
 
-  pub part_kept : (was : V) → map.get m k ≡ Some was → part v ≡ part was → (q : Key) → unwrap_or (option_map part (map.get (map.insert m k v) q)) none ≡ unwrap_or (option_map part (map.get m q)) none
-  part_kept was there same q = elim (same_or_other q k) [
-    | inl is ↦ rw (is, get-insert_here m k v, there) same
-    | inr other ↦ rw (get-insert_other m k v q other)
-  ]
+  below-changed : (k : Key) (es : List (Key × V)) → below_all key_cmp k (list_map changed es) ≡ below_all key_cmp k es
+  below-changed k [] = refl
+  below-changed k (e ∷ es) = ap (λ b. is_lt (key_cmp k e.0) && b) (below-changed k es)
 
--- the same where a value comes whose part is that of none, and where one goes
-module _ {V C : Type 0} (part : V → C) (none : C) (m : map.FinMap key_cmp V) (k : Key) where
-  pub part_new : (v : V) → part v ≡ none → map.get m k ≡ None → (q : Key) → unwrap_or (option_map part (map.get (map.insert m k v) q)) none ≡ unwrap_or (option_map part (map.get m q)) none
-  part_new v same fresh q = elim (same_or_other q k) [
-    | inl is ↦ rw (is, get-insert_here m k v, fresh) same
-    | inr other ↦ rw (get-insert_other m k v q other)
-  ]
+  sorted-changed : (es : List (Key × V)) → is_sorted key_cmp (list_map changed es) ≡ is_sorted key_cmp es
+  sorted-changed [] = refl
+  sorted-changed (e ∷ es) = ap (λ b. b && is_sorted key_cmp (list_map changed es)) (below-changed e.0 es) ∙ ap (λ b. below_all key_cmp e.0 es && b) (sorted-changed es)
 
-  pub part_removed : (q : Key) → q ≢ k → unwrap_or (option_map part (map.get (map.remove m k) q)) none ≡ unwrap_or (option_map part (map.get m q)) none
-  part_removed q other = let same : map.get (map.remove m k) q ≡ map.get m q = grind (arith, keys) in ap (λ o. unwrap_or (option_map part o) none) same
+  find-changed : (k : Key) (es : List (Key × V)) → find key_cmp k (list_map changed es) ≡ option_map (λ _. f k) (find key_cmp k es)
+  find-changed k [] = refl
+  find-changed k (e ∷ es) = elim (eq_by_cmp key_cmp k e.0) as (λ b. eq_by_cmp key_cmp k e.0 ≡ b → cond b (Some (f e.0)) (find key_cmp k (list_map changed es)) ≡ option_map (λ _. f k) (cond b (Some e.1) (find key_cmp k es))) [
+    | true ↦ λ tie. ap (λ q. Some (f q)) (sym (tied keys_total exact_keys k e.0 tie))
+    | false ↦ λ _. find-changed k es
+  ] refl
 
-  pub part_gone : unwrap_or (option_map part (map.get m k)) none ≡ none → (q : Key) → unwrap_or (option_map part (map.get (map.remove m k) q)) none ≡ unwrap_or (option_map part (map.get m q)) none
-  part_gone empty q = elim (same_or_other q k) [
-    | inl is ↦ (let gone : map.get (map.remove m k) k ≡ None = grind (arith, keys) in rw is (ap (λ o. unwrap_or (option_map part o) none) gone ∙ sym empty))
-    | inr other ↦ part_removed q other
-  ]
+  get-changed : (m : map.FinMap key_cmp V) (k : Key) → map.get (map.from_sorted {R = key_cmp} (list_map changed (map.entries m))) k ≡ option_map (λ _. f k) (map.get m k)
+  get-changed m k = map.get-from_sorted key_cmp (list_map changed (map.entries m)) k (subst T (sym (sorted-changed (map.entries m))) (map.entries_sorted m))
+      ∙ find-changed k (map.entries m) ∙ ap (option_map (λ _. f k)) (sym (map.get-entries m k))
 
-module _ {E : Type 0} where
-  link_with : (d : Direction) (link : Link Key) (e : Edge E) → edge_link d (with_link d link e) ≡ link
-  link_with Out link e = refl
-  link_with Into link e = refl
+chosen : {V W : Type 0} (w none : W) (o : Option V) → unwrap_or (option_map (λ _. w) o) none ≡ cond (is_some o) w none
+chosen w none None = refl
+chosen w none (Some v) = refl
 
-  link_kept : (d : Direction) (link : Link Key) (e : Edge E) → edge_link (turned d) (with_link d link e) ≡ edge_link (turned d) e
-  link_kept Out link e = refl
-  link_kept Into link e = refl
+alike : {V U W : Type 0} (w : W) (o : Option V) (p : Option U) → is_some o ≡ is_some p → option_map (λ _. w) o ≡ option_map (λ _. w) p
+alike w None None same = refl
+alike w None (Some u) same = absurd (cc)
+alike w (Some v) None same = absurd (cc)
+alike w (Some v) (Some u) same = refl
 
-  edge_kept : (d : Direction) (link : Link Key) (e : Edge E) → seen_edge (with_link d link e) ≡ seen_edge e
-  edge_kept Out link e = refl
-  edge_kept Into link e = refl
+-- what is seen at each node
+module _ {N E : Type 0} (nodes : map.FinMap key_cmp N) (edges : Edges E) (links : Lists) where
+  pub get-by_node : (k : Key) → map.get (by_node nodes edges links) k ≡ option_map (λ _. keys_at edges (list_of links k.index)) (map.get nodes k)
+  unfolding by_node
+  get-by_node k = get-changed (λ k. keys_at edges (list_of links k.index)) nodes k
 
-  -- an edge has another link in one direction
-  module _ (d : Direction) (old : Content (Edge E)) (k : Key) (link : Link Key) (e : Edge E) (there : map.get old.live k ≡ Some e) (new : Content (Edge E)) (is : new ≡ with_value old k (with_link d link e)) where
-    pub link_written : (q : Key) → link_in d new.live q ≡ cond (is_key q k) link (link_in d old.live q)
-    link_written q = ap (λ c. link_in d c.live q) is ∙ part_written (edge_link d) no_link old.live k (with_link d link e) q ∙ ap (λ l. cond (is_key q k) l (link_in d old.live q)) (link_with d link e)
+  pub seen_at : (k : Key) → edges_at (by_node nodes edges links) k ≡ cond (map.contains_key nodes k) (keys_at edges (list_of links k.index)) []
+  seen_at k = ap (λ o. unwrap_or o []) (get-by_node k) ∙ chosen (keys_at edges (list_of links k.index)) [] (map.get nodes k)
 
-    pub edges_kept : KeepsEdges d old new
-    edges_kept = record {
-      seen = mapped-written seen_edge old new k (with_link d link e) e there (edge_kept d link e) is;
-      links = λ q. ap (λ c. link_in (turned d) c.live q) is ∙ part_kept (edge_link (turned d)) no_link old.live k (with_link d link e) e there (link_kept d link e) q;
+  pub at_node : (k : Key) → map.contains_key nodes k ≡ true → edges_at (by_node nodes edges links) k ≡ keys_at edges (list_of links k.index)
+  at_node k live = seen_at k ∙ ap (λ b. cond b (keys_at edges (list_of links k.index)) []) live
+
+  pub at_none : (k : Key) → map.contains_key nodes k ≡ false → edges_at (by_node nodes edges links) k ≡ []
+  at_none k gone = seen_at k ∙ ap (λ b. cond b (keys_at edges (list_of links k.index)) []) gone
+
+-- by whether a key is there
+by_live : {V : Type 0} (m : map.FinMap key_cmp V) (k : Key) (P : Type 0) → (map.contains_key m k ≡ true → P) → (map.contains_key m k ≡ false → P) → P
+by_live m k P here gone = elim (map.contains_key m k) as (λ b. map.contains_key m k ≡ b → P) [ true ↦ here | false ↦ gone ] refl
+
+module _ {N E : Type 0} (end : SeenEdge E → Key) (nodes : Content N) (edges : Content (SeenEdge E)) (links : Lists) (t : IsThreaded end nodes edges links) where
+  pub indices_at : (p : ℕ) → AreIndices edges.live (list_of links p)
+  indices_at p i inside = let l = t.live p i inside in (l.0, ap is_some l.2, l.3)
+
+  pub owner_within : (k : Key) → IsLive nodes k → k.index < length links.lists
+  owner_within k live = let within = (t.node_indices.within k live).1 in let owners = t.owners in omega arith
+
+  -- an edge in the list of a node
+  pub edge_at : (x : Key) (e : SeenEdge E) → map.get edges.live x ≡ Some e → (p : ℕ) → IsIn links p x.index → (end e).index ≡ p
+  edge_at x e there p inside =
+      let l = t.live p x.index inside in
+      let is : l.0 ≡ x = t.edge_indices.apart l.0 x (ap is_some l.2) (ap is_some there) l.3 in
+      let one : l.1 ≡ e = (let f = sym l.2 ∙ ap (map.get edges.live) is ∙ there in cc) in
+      ap (λ (e : SeenEdge E). (end e).index) (sym one) ∙ l.4
+
+  -- a list is empty where no edge has that end
+  pub empty_at : (p : ℕ) → ((x : Key) (e : SeenEdge E) → map.get edges.live x ≡ Some e → (end e).index ≢ p) → list_of links p ≡ []
+  empty_at p none = by (list_of links p) refl
+    where
+      by : (is : List ℕ) → list_of links p ≡ is → list_of links p ≡ []
+      by [] at = at
+      by (i ∷ is) at = absurd (
+          let l = t.live p i (let sum = ap (often i) at ∙ often_first i i is in let one = number_itself i in omega arith) in
+          none l.0 l.1 l.2 l.4)
+
+  pub empty_at_zero : list_of links 0 ≡ []
+  empty_at_zero = empty_at 0 (λ x e there at. (let low = (t.node_indices.within (end e) (t.ends x e there)).0 in omega arith))
+
+  -- the list at the index of a node, or at 0
+  module _ (k : Key) (owner : ℕ) (is_live : IsLive nodes k → owner ≡ k.index) (is_gone : map.contains_key nodes.live k ≡ false → owner ≡ 0) where
+    pub owner_below : owner < length links.lists
+    owner_below = by_live nodes.live k _
+        (λ live. (let at = is_live live in let within = owner_within k live in omega arith))
+        (λ gone. (let at = is_gone gone in let owners = t.owners in omega arith))
+
+    pub owned_at : keys_at edges.live (list_of links owner) ≡ edges_at (by_node nodes.live edges.live links) k
+    owned_at = by_live nodes.live k _
+        (λ live. ap (λ p. keys_at edges.live (list_of links p)) (is_live live) ∙ sym (at_node nodes.live edges.live links k live))
+        (λ gone. ap (λ p. keys_at edges.live (list_of links p)) (is_gone gone) ∙ ap (keys_at edges.live) empty_at_zero ∙ sym (at_none nodes.live edges.live links k gone))
+
+  -- the list of a node has each edge with that end, once, and nothing else
+  listed_live : (k x : Key) → IsLive nodes k → (o : Option (SeenEdge E)) → map.get edges.live x ≡ o → times x (keys_at edges.live (list_of links k.index)) ≡ ends_at end k o
+  listed_live k x live None is = no_key edges t.edge_indices (list_of links k.index) (indices_at k.index) x (ap is_some is)
+  listed_live k x live (Some e) is =
+      times_key edges t.edge_indices (list_of links k.index) (indices_at k.index) x (ap is_some is) ∙ elim (same_or_other (end e) k) [
+        | inl at ↦ (let one = ap (λ q. same q k) at ∙ one_itself k in
+            let listed = t.listed x e is in
+            let here = ap (λ (q : Key). often x.index (list_of links q.index)) at in
+            let once = t.disjoint.once k.index x.index in omega arith)
+        | inr other ↦ (let none = one_other (end e) k other in elim (eq-zero-or-pos (often x.index (list_of links k.index))) [
+          | inl zero ↦ zero ∙ sym none
+          | inr more ↦ absurd (other (t.node_indices.apart (end e) k (t.ends x e is) live (edge_at x e is k.index more)))
+        ])
+      ]
+
+  pub lists : (k : Key) → ListsEdges end edges.live k (edges_at (by_node nodes.live edges.live links) k)
+  lists k x = by_live nodes.live k _
+      (λ live. ap (times x) (at_node nodes.live edges.live links k live) ∙ listed_live k x live (map.get edges.live x) refl)
+      (λ gone. ap (times x) (at_none nodes.live edges.live links k gone) ∙ sym (none gone (map.get edges.live x) refl))
+    where
+      none : map.contains_key nodes.live k ≡ false → (o : Option (SeenEdge E)) → map.get edges.live x ≡ o → ends_at end k o ≡ 0
+      none gone None is = refl
+      none gone (Some e) is = one_other (end e) k (λ at. (let live = ap (map.contains_key nodes.live) (sym at) ∙ t.ends x e is in cc))
+
+  -- the same edges, but for their values, in the same lists
+  module _ {M D : Type 0} (other_end : SeenEdge D → Key) (nodes' : Content M) (edges' : Content (SeenEdge D)) (links' : Lists)
+      (same_ends : (x : Key) → option_map other_end (map.get edges'.live x) ≡ option_map end (map.get edges.live x)) (same_lists : (p : ℕ) → list_of links' p ≡ list_of links p) where
+    source : (x : Key) (d : SeenEdge D) → map.get edges'.live x ≡ Some d → (e : SeenEdge E) × (map.get edges.live x ≡ Some e) × (end e ≡ other_end d)
+    source x d there = by (map.get edges.live x) refl (sym (same_ends x) ∙ ap (option_map other_end) there)
+      where
+        by : (o : Option (SeenEdge E)) → map.get edges.live x ≡ o → option_map end o ≡ Some (other_end d) → (e : SeenEdge E) × (map.get edges.live x ≡ Some e) × (end e ≡ other_end d)
+        by None is same = absurd (cc)
+        by (Some e) is same = (e, is, cc)
+
+    copy : (x : Key) (e : SeenEdge E) → map.get edges.live x ≡ Some e → (d : SeenEdge D) × (map.get edges'.live x ≡ Some d) × (end e ≡ other_end d)
+    copy x e there = by (map.get edges'.live x) refl (same_ends x ∙ ap (option_map end) there)
+      where
+        by : (o : Option (SeenEdge D)) → map.get edges'.live x ≡ o → option_map other_end o ≡ Some (end e) → (d : SeenEdge D) × (map.get edges'.live x ≡ Some d) × (end e ≡ other_end d)
+        by None is same = absurd (cc)
+        by (Some d) is same = (d, is, cc)
+
+    still : (x : Key) → IsLive edges x → IsLive edges' x
+    still x live = by (map.get edges.live x) refl live
+      where
+        by : (o : Option (SeenEdge E)) → map.get edges.live x ≡ o → is_some o ≡ true → IsLive edges' x
+        by None is some = absurd (cc)
+        by (Some e) is some = ap is_some (copy x e is).1
+
+    was : (x : Key) → IsLive edges' x → IsLive edges x
+    was x live = by (map.get edges'.live x) refl live
+      where
+        by : (o : Option (SeenEdge D)) → map.get edges'.live x ≡ o → is_some o ≡ true → IsLive edges x
+        by None is some = absurd (cc)
+        by (Some d) is some = ap is_some (source x d is).1
+
+    pub same_keys_at : HaveIndices edges' → (p : ℕ) → keys_at edges'.live (list_of links' p) ≡ keys_at edges.live (list_of links p)
+    same_keys_at indices p = ap (keys_at edges'.live) (same_lists p) ∙ keys_same edges t.edge_indices edges' indices (list_of links p) (indices_at p) (λ k live _. still k live)
+
+    pub threaded_along : HaveIndices nodes' → HaveIndices edges' → nodes'.capacity < length links'.lists → edges'.capacity < links'.members → AreDisjoint links'
+        → ((x : Key) (e : SeenEdge E) → map.get edges.live x ≡ Some e → IsLive nodes' (end e)) → IsThreaded other_end nodes' edges' links'
+    threaded_along node_indices edge_indices owners members disjoint ends = record {
+      node_indices = node_indices;
+      edge_indices = edge_indices;
+      owners = owners;
+      members = members;
+      disjoint = disjoint;
+      ends = λ x d there. (let s = source x d there in ap (map.contains_key nodes'.live) (sym s.2) ∙ ends x s.0 s.1);
+      listed = λ x d there. (let s = source x d there in let l = t.listed x s.0 s.1 in let at = same_lists (end s.0).index in
+          let e = ap (λ (q : Key). often x.index (list_of links' q.index)) (sym s.2) in let f = ap (often x.index) at in omega arith);
+      live = λ p i inside. (let f = ap (often i) (same_lists p) in let l = t.live p i (omega arith) in let c = copy l.0 l.1 l.2 in
+          (l.0, c.0, c.1, l.3, ap (λ (q : Key). q.index) (sym c.2) ∙ l.4));
     }
 
-  -- the link of an edge is changed
-  pub link_changed : (d : Direction) (old : Content (Edge E)) (k : Key) (e : Edge E) → map.get old.live k ≡ Some e → (f : Link Key → Link Key) (new : Content (Edge E)) → new ≡ with_value old k (with_link d (f (edge_link d e)) e)
-      → (q : Key) → link_in d new.live q ≡ cond (is_key q k) (f (link_in d old.live q)) (link_in d old.live q)
-  link_changed d old k e there f new is q = link_written d old k (f (edge_link d e)) e there new is q ∙ elim (same_or_other q k) [
-    | inl at ↦ ap (λ l. cond (is_key q k) (f l) (link_in d old.live q)) (sym (ap (λ o. unwrap_or (option_map (edge_link d) o) no_link) (ap (map.get old.live) at ∙ there)))
-    | inr other ↦ rw (is_other q k other)
-  ]
+    pub same_seen : HaveIndices edges' → ((k : Key) → map.contains_key nodes'.live k ≡ map.contains_key nodes.live k) → by_node nodes'.live edges'.live links' ≡ by_node nodes.live edges.live links
+    same_seen indices same_nodes = map.same_map keys_total exact_keys _ _ (λ q.
+        get-by_node nodes'.live edges'.live links' q
+        ∙ ap (λ l. option_map (λ _. l) (map.get nodes'.live q)) (same_keys_at indices q.index)
+        ∙ alike (keys_at edges.live (list_of links q.index)) (map.get nodes'.live q) (map.get nodes.live q) (same_nodes q)
+        ∙ sym (get-by_node nodes.live edges.live links q))
 
-  pub keeps_on : (d : Direction) (old mid new : Content (Edge E)) → KeepsEdges d old mid → KeepsEdges d mid new → KeepsEdges d old new
-  keeps_on d old mid new first then = record { seen = then.seen ∙ first.seen; links = λ k. then.links k ∙ first.links k }
+  -- an edge comes
+  module _ (k : Key) (e : SeenEdge E) (fresh : map.get edges.live k ≡ None) (live : IsLive nodes (end e)) (new : Content (SeenEdge E)) (is : new.live ≡ map.insert edges.live k e)
+      (indices : HaveIndices new) (capacity : new.capacity ≡ edges.capacity) where
+    abbrev put : Lists
+    put = with_list links (end e).index (list_of links (end e).index ++ k.index ∷ [])
 
-  -- the same edges are live
-  pub kept_live : (d : Direction) (old new : Content (Edge E)) → KeepsEdges d old new → (k : Key) → map.contains_key old.live k ≡ true → map.contains_key new.live k ≡ true
-  kept_live d old new keeps k live = sym (contains-mapped seen_edge new.live k) ∙ ap (λ c. map.contains_key c.live k) keeps.seen ∙ contains-mapped seen_edge old.live k ∙ live
+    there_now : map.get new.live k ≡ Some e
+    there_now = ap (λ m. map.get m k) is ∙ get-insert_here edges.live k e
 
-module _ {N : Type 0} where
-  ends_of_with : (d : Direction) (ends : Ends Key) (n : Node N) → node_ends d (with_ends d ends n) ≡ ends
-  ends_of_with Out ends n = refl
-  ends_of_with Into ends n = refl
+    others : (x : Key) → x ≢ k → map.get new.live x ≡ map.get edges.live x
+    others x other = ap (λ m. map.get m x) is ∙ get-insert_other edges.live k e x other
 
-  ends_kept : (d : Direction) (ends : Ends Key) (n : Node N) → node_ends (turned d) (with_ends d ends n) ≡ node_ends (turned d) n
-  ends_kept Out ends n = refl
-  ends_kept Into ends n = refl
+    not_k : (x : Key) (d : SeenEdge E) → map.get edges.live x ≡ Some d → x ≢ k
+    not_k x d there at = let f = ap (map.get edges.live) at ∙ fresh in cc
 
-  value_kept : (d : Direction) (ends : Ends Key) (n : Node N) → node_value (with_ends d ends n) ≡ node_value n
-  value_kept Out ends n = refl
-  value_kept Into ends n = refl
+    still_live : (x : Key) → IsLive edges x → IsLive new x
+    still_live x of_edges = ap (λ m. map.contains_key m x) is ∙ live-insert_still edges.live k e x of_edges
 
-  -- a node has other ends in one direction
-  module _ (d : Direction) (old : Content (Node N)) (k : Key) (ends : Ends Key) (n : Node N) (there : map.get old.live k ≡ Some n) (new : Content (Node N)) (is : new ≡ with_value old k (with_ends d ends n)) where
-    pub ends_written : (q : Key) → ends_in d new.live q ≡ cond (is_key q k) ends (ends_in d old.live q)
-    ends_written q = ap (λ c. ends_in d c.live q) is ∙ part_written (node_ends d) no_ends old.live k (with_ends d ends n) q ∙ ap (λ l. cond (is_key q k) l (ends_in d old.live q)) (ends_of_with d ends n)
+    pub put_free : IsFree links k.index
+    put_free = record {
+      within = (let within = (indices.within k (ap is_some there_now)).1 in let members = t.members in omega arith);
+      nowhere = λ p. (elim (eq-zero-or-pos (often k.index (list_of links p))) [
+        | inl none ↦ none
+        | inr more ↦ absurd (let l = t.live p k.index more in
+            not_k l.0 l.1 l.2 (indices.apart l.0 k (still_live l.0 (ap is_some l.2)) (ap is_some there_now) l.3))
+      ]);
+    }
 
-    pub other_ends : (q : Key) → ends_in (turned d) new.live q ≡ ends_in (turned d) old.live q
-    other_ends q = ap (λ c. ends_in (turned d) c.live q) is ∙ part_kept (node_ends (turned d)) no_ends old.live k (with_ends d ends n) n there (ends_kept d ends n) q
+    module _ (now : Lists) (now_is : now ≡ put) where
+      here : IsIn now (end e).index k.index
+      here = subst (λ l. IsIn l (end e).index k.index) (sym now_is) (pushed_here links (end e).index k.index (owner_within (end e) live))
 
-    pub nodes_kept : map_content node_value new ≡ map_content node_value old
-    nodes_kept = mapped-written node_value old new k (with_ends d ends n) n there (value_kept d ends n) is
-
-  pub ends_there : (d : Direction) (nodes : map.FinMap key_cmp (Node N)) (k : Key) (n : Node N) → map.get nodes k ≡ Some n → ends_in d nodes k ≡ node_ends d n
-  ends_there d nodes k n there = ap (λ o. unwrap_or (option_map (node_ends d) o) no_ends) there
-
-pub link_there : {E : Type 0} (d : Direction) (edges : map.FinMap key_cmp (Edge E)) (k : Key) (e : Edge E) → map.get edges k ≡ Some e → link_in d edges k ≡ edge_link d e
-link_there d edges k e there = ap (λ o. unwrap_or (option_map (edge_link d) o) no_link) there
-
-module _ {N E : Type 0} where
-  -- the lists by the links are those that the user sees
-  pub at_node : (d : Direction) (nodes : map.FinMap key_cmp (Node N)) (edges : map.FinMap key_cmp (Edge E)) (k : Key) → edges_at (by_node d nodes edges) k ≡ listed d nodes edges k
-  at_node d nodes edges k = ap (λ o. unwrap_or o []) (get-mapped (λ n. followed (link_in d edges) (node_ends d n)) nodes k) ∙ by (map.get nodes k)
-    where
-      by : (o : Option (Node N)) → unwrap_or (option_map (λ n. followed (link_in d edges) (node_ends d n)) o) [] ≡ followed (link_in d edges) (unwrap_or (option_map (node_ends d) o) no_ends)
-      by None = refl
-      by (Some n) = refl
-
-  pub at_lists : (d : Direction) (nodes : Content (Node N)) (edges : Content (Edge E)) (k : Key)
-      → edges_at (lists_of d (record { nodes = map_content node_value nodes; edges = map_content seen_edge edges; out = by_node Out nodes.live edges.live; into = by_node Into nodes.live edges.live })) k ≡ listed d nodes.live edges.live k
-  at_lists Out nodes edges k = at_node Out nodes.live edges.live k
-  at_lists Into nodes edges k = at_node Into nodes.live edges.live k
-
-  -- a list has no more edges than there are
-  pub list_fits : (d : Direction) (nodes : map.FinMap key_cmp (Node N)) (edges : Content (Edge E)) → IsContent true edges → IsThreaded d nodes edges.live → (p : Key) → length (listed d nodes edges.live p) ≤ most
-  list_fits d nodes edges well threaded p =
-      let few = no_more_than (listed d nodes edges.live p) edges.live (threaded.apart.once p) (threaded.live p) in
-      let limit = well.limit in
-      omega arith
-
-  -- the same ends and links, and no fewer edges
-  pub threaded_along : (d : Direction) (nodes nodes' : map.FinMap key_cmp (Node N)) (edges edges' : map.FinMap key_cmp (Edge E)) → ((q : Key) → ends_in d nodes' q ≡ ends_in d nodes q)
-      → ((q : Key) → link_in d edges' q ≡ link_in d edges q) → ((q : Key) → map.contains_key edges q ≡ true → map.contains_key edges' q ≡ true) → IsThreaded d nodes edges → IsThreaded d nodes' edges'
-  threaded_along d nodes nodes' edges edges' same_ends same_links still threaded =
-      let same : (p : Key) → listed d nodes' edges' p ≡ listed d nodes edges p = followed_along same_ends same_links in
-      record {
-        linked = linked_along same_ends same_links threaded.linked;
-        apart = subst AreApart (λ i p. sym (same p) i) threaded.apart;
-        live = λ p k more. still k (threaded.live p k (rw (same p) at more));
+      pub put_threaded : AreDisjoint now → IsThreaded end nodes new now
+      put_threaded disjoint = record {
+        node_indices = t.node_indices;
+        edge_indices = indices;
+        owners = (let o = t.owners in let s = ap (λ (l : Lists). length l.lists) now_is ∙ owners_stay links (end e).index (list_of links (end e).index ++ k.index ∷ []) in omega arith);
+        members = (let m = t.members in let s = ap (λ (l : Lists). l.members) now_is in omega arith);
+        disjoint = disjoint;
+        ends = λ x d there. (elim (same_or_other x k) [
+          | inl at ↦ (let one : e ≡ d = (let f = sym there_now ∙ ap (map.get new.live) (sym at) ∙ there in cc) in ap (λ (d : SeenEdge E). map.contains_key nodes.live (end d)) (sym one) ∙ live)
+          | inr other ↦ t.ends x d (sym (others x other) ∙ there)
+        ]);
+        listed = λ x d there. (elim (same_or_other x k) [
+          | inl at ↦ (let one : e ≡ d = (let f = sym there_now ∙ ap (map.get new.live) (sym at) ∙ there in cc) in
+              subst (λ (p : Key × SeenEdge E). IsIn now (end p.1).index p.0.index) (λ i. (sym at i, one i)) here)
+          | inr other ↦ subst (λ l. IsIn l (end d).index x.index) (sym now_is)
+              (pushed_still links (end e).index k.index (owner_within (end e) live) (end d).index x.index (t.listed x d (sym (others x other) ∙ there)))
+        ]);
+        live = λ p i inside. (elim (pushed_was links (end e).index k.index (owner_within (end e) live) p i (subst (λ l. IsIn l p i) now_is inside)) [
+          | inl before ↦ (let l = t.live p i before in (l.0, l.1, others l.0 (not_k l.0 l.1 l.2) ∙ l.2, l.3, l.4))
+          | inr at ↦ (k, e, there_now, sym at.1, sym at.0)
+        ]);
       }
 
-  -- in a graph the lists of each direction are kept as links
-  pub threads : (nodes : Content (Node N)) (edges : map.FinMap key_cmp (Edge E)) → IsGraph nodes edges → (d : Direction) → IsThreaded d nodes.live edges
-  threads nodes edges graph d = record {
-    linked = graph.linked d;
-    apart = record {
-      once = λ p. listed_once (end d) (map_values seen_edge edges) p (listed d nodes.live edges p) (graph.lists d p);
-      alone = λ p q k at_p at_q. (
-          let a = listed_edge (end d) (map_values seen_edge edges) p (listed d nodes.live edges p) (graph.lists d p) k at_p in
-          let b = listed_edge (end d) (map_values seen_edge edges) q (listed d nodes.live edges q) (graph.lists d q) k at_q in
-          let one : a.0 ≡ b.0 = (let both = sym a.1 ∙ b.1 in cc) in
-          sym a.2 ∙ ap (end d) one ∙ b.2);
-    };
-    live = λ p k more. (let found = listed_edge (end d) (map_values seen_edge edges) p (listed d nodes.live edges p) (graph.lists d p) k more in
-        sym (contains-mapped seen_edge edges k) ∙ ap is_some found.1);
-  }
+      keys_still : (p : ℕ) → keys_at new.live (list_of links p) ≡ keys_at edges.live (list_of links p)
+      keys_still p = keys_same edges t.edge_indices new indices (list_of links p) (indices_at p) (λ x of_edges _. still_live x of_edges)
+
+      put_at : keys_at new.live (list_of now (end e).index) ≡ keys_at edges.live (list_of links (end e).index) ++ k ∷ []
+      put_at = ap (λ l. keys_at new.live (list_of l (end e).index)) now_is
+          ∙ ap (keys_at new.live) (list_now links (end e).index (list_of links (end e).index ++ k.index ∷ []) (owner_within (end e) live))
+          ∙ map-append (λ i. _) (list_of links (end e).index) (k.index ∷ [])
+          ∙ (λ i. keys_still (end e).index i ++ key_at_live new indices k (ap is_some there_now) i ∷ [])
+
+      put_beside : (q : Key) → IsLive nodes q → q ≢ end e → keys_at new.live (list_of now q.index) ≡ keys_at edges.live (list_of links q.index)
+      put_beside q of_nodes other = ap (λ l. keys_at new.live (list_of l q.index)) now_is
+          ∙ ap (keys_at new.live) (list_other links (end e).index (list_of links (end e).index ++ k.index ∷ []) q.index (λ at. other (t.node_indices.apart q (end e) of_nodes live at)))
+          ∙ keys_still q.index
+
+      pub put_seen : PutsBehind (by_node nodes.live edges.live links) (end e) k (by_node nodes.live new.live now)
+      put_seen q = elim (same_or_other q (end e)) [
+        | inl at ↦ (let of_nodes = ap (map.contains_key nodes.live) at ∙ live in
+            at_node nodes.live new.live now q of_nodes ∙ ap (λ (q : Key). keys_at new.live (list_of now q.index)) at ∙ put_at
+            ∙ ap (λ (q : Key). keys_at edges.live (list_of links q.index) ++ k ∷ []) (sym at) ∙ ap (λ l. l ++ k ∷ []) (sym (at_node nodes.live edges.live links q of_nodes))
+            ∙ ap (λ b. cond b (edges_at (by_node nodes.live edges.live links) q ++ k ∷ []) (edges_at (by_node nodes.live edges.live links) q)) (sym (ap (λ x. is_key x (end e)) at ∙ is_itself (end e))))
+        | inr other ↦ by_live nodes.live q _
+            (λ of_nodes. at_node nodes.live new.live now q of_nodes ∙ put_beside q of_nodes other ∙ sym (at_node nodes.live edges.live links q of_nodes))
+            (λ gone. at_none nodes.live new.live now q gone ∙ sym (at_none nodes.live edges.live links q gone))
+            ∙ ap (λ b. cond b (edges_at (by_node nodes.live edges.live links) q ++ k ∷ []) (edges_at (by_node nodes.live edges.live links) q)) (sym (is_other q (end e) other))
+      ]
+
+  -- an edge goes
+  module _ (k : Key) (e : SeenEdge E) (there : map.get edges.live k ≡ Some e) (new : Content (SeenEdge E)) (is : new.live ≡ map.remove edges.live k) (capacity : new.capacity ≡ edges.capacity)
+      (now : Lists) (now_is : now ≡ with_list links (end e).index (without_number k.index (list_of links (end e).index))) where
+    left_others : (x : Key) → x ≢ k → map.get new.live x ≡ map.get edges.live x
+    left_others x other = ap (λ m. map.get m x) is ∙ grind (arith, keys)
+
+    left : (x : Key) (d : SeenEdge E) → map.get new.live x ≡ Some d → (x ≢ k) × (map.get edges.live x ≡ Some d)
+    left x d found =
+        let apart : x ≢ k = λ at. (let f = ap (λ m. map.get m x) is in let gone : map.get (map.remove edges.live k) k ≡ None = grind (arith, keys) in let g = ap (map.get (map.remove edges.live k)) at in cc) in
+        (apart, sym (left_others x apart) ∙ found)
+
+    pub left_indices : HaveIndices new
+    left_indices = record {
+      within = λ x live. (let within = t.edge_indices.within x (were x live) in (within.0, omega (arith, within.1, capacity)));
+      apart = λ a b of_a of_b. t.edge_indices.apart a b (were a of_a) (were b of_b);
+    }
+      where
+        were : (x : Key) → IsLive new x → IsLive edges x
+        were x live = by (map.get new.live x) refl live
+          where
+            by : (o : Option (SeenEdge E)) → map.get new.live x ≡ o → is_some o ≡ true → IsLive edges x
+            by None at some = absurd (cc)
+            by (Some d) at some = ap is_some (left x d at).1
+
+    lists_left : (p : ℕ) → list_of now p ≡ without_number k.index (list_of links p)
+    lists_left p = ap (λ l. list_of l p) now_is ∙ list_without links t.disjoint (end e).index k.index (owner_within (end e) (t.ends k e there)) (t.listed k e there) p
+
+    pub left_threaded : AreDisjoint now → IsThreaded end nodes new now
+    left_threaded disjoint = record {
+      node_indices = t.node_indices;
+      edge_indices = left_indices;
+      owners = (let o = t.owners in let s = ap (λ (l : Lists). length l.lists) now_is ∙ owners_stay links (end e).index (without_number k.index (list_of links (end e).index)) in omega arith);
+      members = (let m = t.members in let s = ap (λ (l : Lists). l.members) now_is in omega arith);
+      disjoint = disjoint;
+      ends = λ x d found. t.ends x d (left x d found).1;
+      listed = λ x d found. (let l = left x d found in
+          let was = t.listed x d l.1 in
+          let same = ap (often x.index) (lists_left (end d).index) ∙ often_without k.index x.index (list_of links (end d).index) (λ at. l.0 (t.edge_indices.apart x k (ap is_some l.1) (ap is_some there) at)) in
+          omega arith);
+      live = λ p i inside. (
+          let now_in = ap (often i) (lists_left p) in
+          let apart : i ≢ k.index = λ at. (let gone = ap (λ j. often j (without_number k.index (list_of links p))) at ∙ often_gone k.index (list_of links p) in omega arith) in
+          let same = often_without k.index i (list_of links p) apart in
+          let l = t.live p i (omega arith) in
+          (l.0, l.1, left_others l.0 (λ at. apart (sym l.3 ∙ ap (λ (q : Key). q.index) at)) ∙ l.2, l.3, l.4));
+    }
+
+    pub left_seen : (q : Key) → edges_at (by_node nodes.live new.live now) q ≡ without k (edges_at (by_node nodes.live edges.live links) q)
+    left_seen q = by_live nodes.live q _
+        (λ of_nodes. at_node nodes.live new.live now q of_nodes ∙ ap (keys_at new.live) (lists_left q.index)
+        ∙ keys_without edges t.edge_indices new left_indices k (ap is_some there) (λ x live other. ap is_some (left_others x other) ∙ live) (list_of links q.index) (indices_at q.index)
+        ∙ ap (without k) (sym (at_node nodes.live edges.live links q of_nodes)))
+        (λ gone. at_none nodes.live new.live now q gone ∙ ap (without k) (sym (at_none nodes.live edges.live links q gone)))
+
+  -- nodes come or go at which no edge is
+  pub other_nodes : (new : Content N) → ((q : Key) → (map.contains_key new.live q ≡ map.contains_key nodes.live q) ⊎ (list_of links q.index ≡ [])) → SameEdges (by_node nodes.live edges.live links) (by_node new.live edges.live links)
+  other_nodes new at q = elim (at q) [
+    | inl same ↦ seen_at new.live edges.live links q ∙ ap (λ b. cond b (keys_at edges.live (list_of links q.index)) []) same ∙ sym (seen_at nodes.live edges.live links q)
+    | inr empty ↦ nothing new.live q empty ∙ sym (nothing nodes.live q empty)
+  ]
+    where
+      nothing : (m : map.FinMap key_cmp N) (q : Key) → list_of links q.index ≡ [] → edges_at (by_node m edges.live links) q ≡ []
+      nothing m q empty = by_live m q _
+          (λ live. at_node m edges.live links q live ∙ ap (keys_at edges.live) empty)
+          (λ gone. at_none m edges.live links q gone)

@@ -1,126 +1,59 @@
--- How the edges of each node are listed: each edge has a link in the list of the node where it begins and one in that of the node where it
--- ends, and each node has the ends of its two lists.
-use Rattle.std.specs.Prelude.{◌≡◌, ◌+◌, ◌-◌, ◌<◌, true, None, List, Option, option_map, unwrap_or}
+-- How the edges of each node are listed: at its index the indices of the edges from it, and those of the edges to it.
+use Rattle.std.specs.Prelude.{◌≡◌, ◌<◌, ◌≤◌, ℕ, true, List, length, map as list_map, unwrap_or, nat_eq, Some}
+use Rattle.std.specs.List.{find}
 use Rattle.std.specs.FinMap as map
-use Rattle.slotmap.specs.Words.{Key, key_cmp, Content}
-use Rattle.slotmap_keylist.specs.KeyLists.{times}
-use Rattle.slotmap_keylist.specs.Linked.{followed, AreLinked, AreApart}
-use Rattle.slotmap_keylist.specs.Mapped.{map_values, map_content}
-use Rattle.slotmap_keylist.specs.Splice.{own}
-use Rattle.slotmap_keylist.specs.declared.Ends.{Ends}
-use Rattle.slotmap_keylist.specs.declared.Link.{Link}
-use Rattle.slotmap_graph.specs.declared.Node.{Node}
-use Rattle.slotmap_graph.specs.declared.Edge.{Edge}
-use Rattle.slotmap_graph.specs.declared.links.Direction.{Direction}
-use Rattle.slotmap_graph.specs.declared.links.Direction.TheVariants.{Out, Into}
-use Rattle.slotmap_graph.specs.Parts.{SeenEdge, Seen, ByNode, EndsLive, ListsEdges, from, to}
+use Rattle.slotmap.specs.Words.{Key, key_cmp, null_key, Content, IsLive}
+use Rattle.slotmap_links.specs.Lists.{Lists, times, list_of, IsIn, AreDisjoint}
+use Rattle.slotmap_graph.specs.declared.lists.Direction.{Direction}
+use Rattle.slotmap_graph.specs.declared.lists.Direction.TheVariants.{Out, Into}
+use Rattle.slotmap_graph.specs.Parts.{SeenEdge, Edges, ByNode, from, to}
 
-abbrev pub turned : Direction → Direction
-turned Out = Into
-turned Into = Out
+module _ {V : Type 0} where
+  -- the key with this index
+  abbrev pub key_at : map.FinMap key_cmp V → ℕ → Key
+  key_at live i = unwrap_or (find (λ k. nat_eq k.index i) (map.keys live)) null_key
 
--- the ends of a list with nothing in it, and the link of an edge that isn't there
-abbrev pub no_ends : Ends Key
-no_ends = record { first = None; last = None; len = 0 }
+  abbrev pub keys_at : map.FinMap key_cmp V → List ℕ → List Key
+  keys_at live is = list_map (key_at live) is
 
-abbrev pub no_link : Link Key
-no_link = record { prev = None; next = None }
+  -- each of these is the index of a key
+  abbrev pub AreIndices : map.FinMap key_cmp V → List ℕ → Type 0
+  AreIndices live is = (i : ℕ) → 0 < times i is → (k : Key) × (map.contains_key live k ≡ true) × (k.index ≡ i)
 
--- the link of an edge at the end of a list, behind another one or alone
-abbrev pub last_link : Option Key → Link Key
-last_link last = record { prev = last; next = None }
-
--- the ends of a list once a key is put behind the others, and once one with these neighbours is left out
-abbrev pub ends_with : Option Key → Ends Key → Ends Key
-ends_with k ends = record { first = own ends.last ends.first k; last = k; len = ends.len + 1 }
-
-abbrev pub ends_without : Link Key → Ends Key → Ends Key
-ends_without link ends = record { first = own link.prev ends.first link.next; last = own link.next ends.last link.prev; len = ends.len - 1 }
-
-module _ {N : Type 0} where
-  abbrev pub node_value : Node N → N
-  node_value n = n.value
-
-  abbrev pub node_ends : Direction → Node N → Ends Key
-  node_ends Out n = n.out
-  node_ends Into n = n.into
-
-  abbrev pub with_ends : Direction → Ends Key → Node N → Node N
-  with_ends Out ends n = record n { out = ends }
-  with_ends Into ends n = record n { into = ends }
-
-  -- the ends of each node's list
-  abbrev pub ends_in : Direction → map.FinMap key_cmp (Node N) → Key → Ends Key
-  ends_in d nodes k = unwrap_or (option_map (node_ends d) (map.get nodes k)) no_ends
-
-module _ {E : Type 0} where
-  abbrev pub seen_edge : Edge E → SeenEdge E
-  seen_edge e = record { from = e.from; to = e.to; value = e.value }
-
-  abbrev pub with_seen : Key × Edge E → Key × SeenEdge E
-  with_seen e = (e.0, seen_edge e.1)
-
-  -- where an edge that is listed in this direction belongs
-  abbrev pub end : Direction → SeenEdge E → Key
-  end Out = from
-  end Into = to
-
-  abbrev pub edge_link : Direction → Edge E → Link Key
-  edge_link Out e = e.out
-  edge_link Into e = e.into
-
-  abbrev pub with_link : Direction → Link Key → Edge E → Edge E
-  with_link Out link e = record e { out = link }
-  with_link Into link e = record e { into = link }
-
-  -- the link of each edge
-  abbrev pub link_in : Direction → map.FinMap key_cmp (Edge E) → Key → Link Key
-  link_in d edges k = unwrap_or (option_map (edge_link d) (map.get edges k)) no_link
-
-  -- another map has the same edges, with the same links in the other direction
-  pub record KeepsEdges (d : Direction) (old new : Content (Edge E)) : Type 0 where
-    pub seen : map_content seen_edge new ≡ map_content seen_edge old
-    pub links : (k : Key) → link_in (turned d) new.live k ≡ link_in (turned d) old.live k
-
-  -- the copy of an edge joins the same nodes, has the same neighbours, and a clone of the value
-  abbrev pub copies_edge : (E → E → Type 0) → Edge E → Edge E → Type 0
-  copies_edge is_clone e copy = (copy.from ≡ e.from) × (copy.to ≡ e.to) × is_clone e.value copy.value × (copy.out ≡ e.out) × (copy.into ≡ e.into)
-
--- the copy of a node has the same lists, and a clone of the value
-abbrev pub copies_node : {N : Type 0} → (N → N → Type 0) → Node N → Node N → Type 0
-copies_node is_clone n copy = is_clone n.value copy.value × (copy.out ≡ n.out) × (copy.into ≡ n.into)
+  -- the indices of the keys are within the capacity, and each key has its own
+  pub record HaveIndices (c : Content V) : Type 0 where
+    pub within : (k : Key) → IsLive c k → (1 ≤ k.index) × (k.index ≤ c.capacity)
+    pub apart : (a b : Key) → IsLive c a → IsLive c b → a.index ≡ b.index → a ≡ b
 
 module _ {N E : Type 0} where
-  -- the edges of each node, by the links
-  abbrev pub listed : Direction → map.FinMap key_cmp (Node N) → map.FinMap key_cmp (Edge E) → Key → List Key
-  listed d nodes edges k = followed (link_in d edges) (ends_in d nodes k)
+  -- for each node the edges that are listed at its index
+  unfoldable pub by_node : map.FinMap key_cmp N → Edges E → Lists → ByNode
+  by_node nodes edges links = map.from_sorted (list_map (λ e. (e.0, keys_at edges (list_of links e.0.index))) (map.entries nodes))
 
-  -- a list for each node
-  abbrev pub by_node : Direction → map.FinMap key_cmp (Node N) → map.FinMap key_cmp (Edge E) → ByNode
-  by_node d nodes edges = map_values (λ n. followed (link_in d edges) (node_ends d n)) nodes
+  -- each edge is listed at one of its ends, which is a node, and nothing else is listed
+  pub record IsThreaded (end : SeenEdge E → Key) (nodes : Content N) (edges : Content (SeenEdge E)) (links : Lists) : Type 0 where
+    pub node_indices : HaveIndices nodes
+    pub edge_indices : HaveIndices edges
+    pub owners : nodes.capacity < length links.lists
+    pub members : edges.capacity < links.members
+    pub disjoint : AreDisjoint links
+    pub ends : (x : Key) (e : SeenEdge E) → map.get edges.live x ≡ Some e → IsLive nodes (end e)
+    pub listed : (x : Key) (e : SeenEdge E) → map.get edges.live x ≡ Some e → IsIn links (end e).index x.index
+    pub live : (p i : ℕ) → IsIn links p i → (x : Key) × (e : SeenEdge E) × (map.get edges.live x ≡ Some e) × (x.index ≡ i) × ((end e).index ≡ p)
 
-  -- the lists of this direction are kept as links, of edges that are there
-  pub record IsThreaded (d : Direction) (nodes : map.FinMap key_cmp (Node N)) (edges : map.FinMap key_cmp (Edge E)) : Type 0 where
-    pub linked : AreLinked (ends_in d nodes) (link_in d edges) (listed d nodes edges)
-    pub apart : AreApart (listed d nodes edges)
-    pub live : (p k : Key) → 0 < times k (listed d nodes edges p) → map.contains_key edges k ≡ true
+  -- what holds of every graph
+  pub record IsGraph (nodes : Content N) (edges : Content (SeenEdge E)) (outs intos : Lists) : Type 0 where
+    pub out : IsThreaded from nodes edges outs
+    pub into : IsThreaded to nodes edges intos
 
-  -- the list of one node changed in this direction, and nothing in the other one, no node and no edge
-  pub record Rethreads (d : Direction) (nodes : Content (Node N)) (edges : Content (Edge E)) (p : Key) (ks : List Key) (nodes' : Content (Node N)) (edges' : Content (Edge E)) : Type 0 where
-    pub linked : AreLinked (ends_in d nodes'.live) (link_in d edges'.live) (listed d nodes'.live edges'.live)
-    pub list : listed d nodes'.live edges'.live p ≡ ks
-    pub others : (q : Key) → (q ≡ p → ⊥) → listed d nodes'.live edges'.live q ≡ listed d nodes.live edges.live q
-    pub seen_nodes : map_content node_value nodes' ≡ map_content node_value nodes
-    pub seen_edges : map_content seen_edge edges' ≡ map_content seen_edge edges
-    pub same_ends : (k : Key) → ends_in (turned d) nodes'.live k ≡ ends_in (turned d) nodes.live k
-    pub same_links : (k : Key) → link_in (turned d) edges'.live k ≡ link_in (turned d) edges.live k
+-- the same lists, for no fewer owners and members
+pub record Grows (old new : Lists) : Type 0 where
+  pub lists : (p : ℕ) → list_of new p ≡ list_of old p
+  pub owners : length old.lists ≤ length new.lists
+  pub members : old.members ≤ new.members
+  pub disjoint : AreDisjoint new
 
-  -- what holds of every graph: each edge joins two live nodes, and is in a list of each
-  pub record IsGraph (nodes : Content (Node N)) (edges : map.FinMap key_cmp (Edge E)) : Type 0 where
-    pub ends : EndsLive (map_content node_value nodes) (map_values seen_edge edges)
-    pub linked : (d : Direction) → AreLinked (ends_in d nodes.live) (link_in d edges) (listed d nodes.live edges)
-    pub lists : (d : Direction) (k : Key) → ListsEdges (end d) (map_values seen_edge edges) k (listed d nodes.live edges k)
-
-abbrev pub lists_of : {N E : Type 0} → Direction → Seen N E → ByNode
-lists_of Out graph = graph.out
-lists_of Into graph = graph.into
+-- where an edge leads that is listed in this direction
+abbrev pub far_end : {E : Type 0} → Direction → SeenEdge E → Key
+far_end Out = to
+far_end Into = from

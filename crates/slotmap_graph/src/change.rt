@@ -4,90 +4,49 @@ ghost use Rattle.std.specs.Prelude.{◌≡◌, ◌<◌, ◌++◌, ◌∷◌, [],
 ghost use Rattle.std.specs.Option.{option_and_then};
 ghost use Rattle.std.specs.List.{filter};
 ghost use Rattle.std.specs.FinMap as map;
-ghost use Rattle.slotmap.specs.Words.{Key as KeyOf, Inserts, Removes, Keeps, Leaves, IsLive, IsSpent, KeepsSpent, MayGrow, Refuses, StaysValid};
+ghost use Rattle.slotmap.specs.Words.{Key as KeyOf, Inserts, Removes, Keeps, Leaves, IsLive, IsSpent, IsContent, KeepsSpent, Refuses};
 ghost use Rattle.slotmap_keylist.specs.KeyLists.{without};
-ghost use Rattle.slotmap_graph.specs.Parts.{SeenEdge, avoids, touches, from, to, value, edges_at, ListsEdges, PutsBehind, SameEdges, RefusesEdge, RefusesLiveEdge};
-ghost use Rattle.slotmap_keylist.specs.Mapped.{map_content};
-ghost use Rattle.slotmap_graph.specs.declared.links.Direction.{Direction as ToOrFrom};
-ghost use Rattle.slotmap_graph.specs.Threads.{ends_in, last_link, node_value, seen_edge};
+ghost use Rattle.slotmap_graph.specs.Parts.{SeenEdge, avoids, touches, from, to, value, edges_at, ListsEdges, PutsBehind, SameEdges, RefusesEdge};
 
-use crate::links::{Direction, Edges, Neighbour, Nodes, last_of, link_last, unlink};
-use crate::{Edge, EdgeError, EdgeKey, Graph, Node};
-use slotmap::{DefaultKey, InsertError, Key};
-use slotmap_keylist::{Ends, KeyOrNull, Link, inner};
-
-// Adds a node with no edge to the map of nodes.
-fn insert_node<K: Key, N: Drop>(nodes: &mut Nodes<K, N>, value: N) -> Result<K, InsertError<N>>
-    ensures adds { IfOk result (λ key. Inserts (map_content node_value nodes.old) (K.data_of key) value (map_content node_value nodes.new)) }
-    ensures err { IfErr result (Refuses (map_content node_value nodes.old) value) }
-    ensures reuses { 0 < map.len nodes.old.next → IsOk result }
-    ensures room { 0 < nodes.old.room → IsOk result }
-    ensures valid { MayGrow true (map_content node_value nodes.old) (IsErr result) (map_content node_value nodes.new) }
-    ensures ends { (d : ToOrFrom) (k : KeyOf) → ends_in d nodes.new.live k ≡ ends_in d nodes.old.live k }
-{
-    let node = Node {
-        value,
-        out: Ends::none(),
-        into: Ends::none(),
-    };
-    match nodes.insert(node) {
-        Ok(key) => Ok(key),
-        Err(InsertError::Full(node)) => Err(InsertError::Full(node.value)),
-        Err(InsertError::Memory(node)) => Err(InsertError::Memory(node.value)),
-    }
-}
-
-// Removes a node from the map of nodes.
-fn take_node<K: Key, N: Drop>(nodes: &mut Nodes<K, N>, node: K) -> Option<N>
-    ensures value { result ≡ map.get (map_content node_value nodes.old).live (K.data_of node) }
-    ensures live { nodes.new.live ≡ map.remove nodes.old.live (K.data_of node) }
-    ensures removes { OnSome result (Removes (map_content node_value nodes.old) (K.data_of node) (map_content node_value nodes.new)) }
-    ensures unchanged { IfNone result (map_content node_value nodes.new ≡ map_content node_value nodes.old) }
-    ensures valid { StaysValid true (map_content node_value nodes.old) (map_content node_value nodes.new) }
-{
-    Some(nodes.remove(node)?.value)
-}
-
-// Adds an edge to the map of edges, behind these in the lists of its nodes. They don't lead on to it
-// yet, so it is in no list.
-fn insert_edge<E: Drop>(
-    edges: &mut Edges<E>,
-    from: DefaultKey,
-    to: DefaultKey,
-    value: E,
-    out: &Neighbour,
-    into: &Neighbour,
-) -> Result<EdgeKey, EdgeError<E>>
-    ensures adds { IfOk result (λ key. Inserts (map_content seen_edge edges.old) key (record { from = from; to = to; value = value }) (map_content seen_edge edges.new)) }
-    ensures fresh { IfOk result (λ key. map.get edges.old.live key ≡ None) }
-    ensures linked { IfOk result (λ key. edges.new.live ≡ map.insert edges.old.live key (record { from = from; to = to; value = value; out = last_link out.now; into = last_link into.now })) }
-    ensures err { IfErr result (RefusesLiveEdge (map_content seen_edge edges.old) value) }
-    ensures same { OnErr result (edges.new.live ≡ edges.old.live) }
-    ensures reuses { 0 < map.len edges.old.next → IsOk result }
-    ensures room { 0 < edges.old.room → IsOk result }
-    ensures valid { MayGrow true (map_content seen_edge edges.old) (IsErr result) (map_content seen_edge edges.new) }
-{
-    let edge = Edge {
-        from,
-        to,
-        value,
-        out: Link {
-            prev: out.copied(),
-            next: KeyOrNull::none(),
-        },
-        into: Link {
-            prev: into.copied(),
-            next: KeyOrNull::none(),
-        },
-    };
-    match edges.insert(edge) {
-        Ok(key) => Ok(key),
-        Err(InsertError::Full(edge)) => Err(EdgeError::Full(edge.value)),
-        Err(InsertError::Memory(edge)) => Err(EdgeError::Memory(edge.value)),
-    }
-}
+use crate::lists::{put_last, take_out};
+use crate::{Edge, EdgeError, EdgeKey, Graph};
+use slotmap::{InsertError, Key, ReserveError};
+use slotmap_keylist::inner;
 
 impl<K: Key, N: Drop, E: Drop> Graph<K, N, E> {
+    // Adds a node for which there is room.
+    fn put_node(&mut self, node: N) -> K
+        requires { 0 < self.old.nodes.room }
+        ensures adds { Inserts self.old.nodes (K.data_of result) node self.new.nodes }
+        ensures capacity { self.new.nodes.capacity ≡ self.old.nodes.capacity }
+        ensures valid { IsContent true self.old.nodes }
+        ensures edges { self.new.edges ≡ self.old.edges }
+        ensures out { SameEdges self.old.out self.new.out }
+        ensures into { SameEdges self.old.into self.new.into }
+    {
+        let _ = self.nodes.capacity();
+        self.nodes.insert_reserved(node)
+    }
+
+    // Adds an edge for which there is room, between nodes that exist.
+    fn put_edge(&mut self, from: K, to: K, edge: E) -> EdgeKey
+        requires room { 0 < self.old.edges.room }
+        requires from { IsLive self.old.nodes (K.data_of from) }
+        requires to { IsLive self.old.nodes (K.data_of to) }
+        ensures adds { Inserts self.old.edges result (record { from = K.data_of from; to = K.data_of to; value = edge }) self.new.edges }
+        ensures capacity { self.new.edges.capacity ≡ self.old.edges.capacity }
+        ensures valid { IsContent true self.old.edges }
+        ensures out { PutsBehind self.old.out (K.data_of from) result self.new.out }
+        ensures into { PutsBehind self.old.into (K.data_of to) result self.new.into }
+        ensures nodes { self.new.nodes ≡ self.old.nodes }
+    {
+        let edge = Edge::new(inner(from), inner(to), edge);
+        let key = self.edges.insert_reserved(edge);
+        put_last(&mut self.out, from, key);
+        put_last(&mut self.into, to, key);
+        key
+    }
+
     /// Adds a node with no edge, and returns its key, which no node had before.
     ///
     /// If a slot is vacant or room was reserved, the call can't fail, and the capacity stays. If the
@@ -115,7 +74,11 @@ impl<K: Key, N: Drop, E: Drop> Graph<K, N, E> {
         ensures in_place { 0 < self.old.nodes.room → self.new.nodes.capacity ≡ self.old.nodes.capacity }
         ensures unchanged { OnErr result (Keeps self.old.nodes self.new.nodes) }
     {
-        insert_node(&mut self.nodes, node)
+        match self.reserve_nodes(1) {
+            Ok(()) => Ok(self.put_node(node)),
+            Err(ReserveError::TooGreat) => Err(InsertError::Full(node)),
+            Err(ReserveError::Memory) => Err(InsertError::Memory(node)),
+        }
     }
 
     /// Adds an edge from one node to another, and returns its key, which no edge had before.
@@ -153,30 +116,14 @@ impl<K: Key, N: Drop, E: Drop> Graph<K, N, E> {
         ensures nodes { self.new.nodes ≡ self.old.nodes }
         ensures gone { KeepsSpent self.old.edges self.new.edges }
     {
-        let Some(out) = last_of(&self.nodes, Direction::Out, from) else {
+        if !self.contains_node(from) || !self.contains_node(to) {
             return Err(EdgeError::Gone(edge));
-        };
-        let Some(into) = last_of(&self.nodes, Direction::Into, to) else {
-            return Err(EdgeError::Gone(edge));
-        };
-        let key = insert_edge(&mut self.edges, inner(from), inner(to), edge, &out, &into)?;
-        link_last(
-            &mut self.nodes,
-            &mut self.edges,
-            Direction::Out,
-            from,
-            &out,
-            key,
-        );
-        link_last(
-            &mut self.nodes,
-            &mut self.edges,
-            Direction::Into,
-            to,
-            &into,
-            key,
-        );
-        Ok(key)
+        }
+        match self.reserve_edges(1) {
+            Ok(()) => Ok(self.put_edge(from, to, edge)),
+            Err(ReserveError::TooGreat) => Err(EdgeError::Full(edge)),
+            Err(ReserveError::Memory) => Err(EdgeError::Memory(edge)),
+        }
     }
 
     /// Removes an edge, and returns its value, or `None` if it doesn't exist. Its key is never used
@@ -202,10 +149,11 @@ impl<K: Key, N: Drop, E: Drop> Graph<K, N, E> {
         ensures nodes { self.new.nodes ≡ self.old.nodes }
         ensures gone { KeepsSpent self.old.edges self.new.edges }
     {
-        let (from, to) = self.edge_ends(edge)?;
-        unlink(&mut self.nodes, &mut self.edges, Direction::Out, from, edge);
-        unlink(&mut self.nodes, &mut self.edges, Direction::Into, to, edge);
-        Some(self.edges.remove(edge)?.value)
+        let removed = self.edges.remove(edge)?;
+        let (from, to) = removed.ends();
+        take_out(&mut self.out, from, edge);
+        take_out(&mut self.into, to, edge);
+        Some(removed.into_value())
     }
 
     // An edge from a node or to it, or `None` if there is none.
@@ -284,13 +232,13 @@ impl<K: Key, N: Drop, E: Drop> Graph<K, N, E> {
         ensures into { (k : KeyOf) → edges_at self.new.into k ≡ filter (map.contains_key self.new.edges.live) (edges_at self.old.into k) }
     {
         self.remove_edges_of(node);
-        take_node(&mut self.nodes, node)
+        self.nodes.remove(node)
     }
 
     /// Removes all nodes and all edges. Their keys are never used again. The room and the
     /// capacity stay.
     ///
-    /// It takes time linear in the number of slots.
+    /// It takes time linear in the two capacities.
     ///
     /// ```
     /// let mut graph: Graph<NodeKey, &str, u64> = Graph::new(alloc)?;
@@ -314,5 +262,7 @@ impl<K: Key, N: Drop, E: Drop> Graph<K, N, E> {
     {
         self.nodes.clear();
         self.edges.clear();
+        self.out.clear();
+        self.into.clear();
     }
 }

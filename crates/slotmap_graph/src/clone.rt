@@ -3,35 +3,17 @@
 ghost use Rattle.std.specs.Prelude.{◌≡◌, IfOk};
 ghost use Rattle.slotmap.specs.Words.{ClonesEqual, IsCloneBy, IsCopy};
 ghost use Rattle.slotmap_graph.specs.Parts.{SameEdges, clones_edge};
-ghost use Rattle.slotmap_graph.specs.Threads.{copies_edge, copies_node};
 
-use crate::{Edge, Graph, Node};
+use crate::{Edge, Graph};
 use slotmap::Key;
 use std::alloc::AllocError;
 
-impl<N: Clone> Clone for Node<N> {
-    ghost is_clone = { copies_node N.is_clone };
-
-    fn clone(&self) -> Result<Self, AllocError> {
-        Ok(Node {
-            value: self.value.clone()?,
-            out: self.out.copied(),
-            into: self.into.copied(),
-        })
-    }
-}
-
 impl<E: Clone> Clone for Edge<E> {
-    ghost is_clone = { copies_edge E.is_clone };
+    ghost is_clone = { clones_edge E.is_clone };
 
     fn clone(&self) -> Result<Self, AllocError> {
-        Ok(Edge {
-            from: self.from,
-            to: self.to,
-            value: self.value.clone()?,
-            out: self.out.copied(),
-            into: self.into.copied(),
-        })
+        let (from, to) = self.ends();
+        Ok(Edge::new(from, to, self.value().clone()?))
     }
 }
 
@@ -62,7 +44,14 @@ impl<K: Key, N: Clone, E: Clone> Graph<K, N, E> {
     {
         let nodes = self.nodes.clone()?;
         let edges = self.edges.clone()?;
-        Ok(Graph { nodes, edges })
+        let out = self.out.clone()?;
+        let into = self.into.clone()?;
+        Ok(Graph {
+            nodes,
+            edges,
+            out,
+            into,
+        })
     }
 }
 

@@ -17,6 +17,6 @@ impl<K: Key, N: Drop, E: Drop> Index<K> for Graph<K, N, E> {
     ghost index_gives = { λ graph node value. map.get graph.nodes.live (K.data_of node) ≡ Some value };
 
     fn index(&self, node: K) -> &N {
-        &self.nodes[node].value
+        self.nodes.value(node)
     }
 }

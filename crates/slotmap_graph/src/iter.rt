@@ -1,10 +1,17 @@
 //! The iterator over the edges of a node.
 
-ghost use Rattle.std.specs.Prelude.{◌≡◌, ◌≤◌, length, Some, IfSome, ⊤};
+ghost use Rattle.std.specs.Prelude.{◌≡◌, ◌≤◌, false, length, Some, IfSome, ⊤};
 ghost use Rattle.std.specs.Iterator.{YieldsFirstBy, YieldsLastBy, item_count, at_most, UpTo};
+ghost use Rattle.std.specs.FinMap as map;
+ghost use Rattle.slotmap.specs.Words.{Key as KeyOf, IsLive};
+ghost use Rattle.slotmap_graph.specs.Parts.{SeenEdge, edges_at};
+ghost use Rattle.slotmap_graph.specs.Threads.{IsThreaded, by_node};
 
 use crate::EdgeKey;
-use crate::links::{Direction, Edges, link_of};
+use crate::lists::Edges;
+use slotmap::Key;
+use slotmap_bounded::BoundedMap;
+use slotmap_links::{Links, Members};
 use std::alloc::AllocError;
 use std::iter::FusedIterator;
 use std::marker::Model;
@@ -20,10 +27,7 @@ use std::marker::Model;
 #[derive(Drop)]
 pub struct EdgesAt<'a, E> {
     pub(crate) edges: &'a Edges<E>,
-    pub(crate) direction: Direction,
-    pub(crate) first: Option<EdgeKey>,
-    pub(crate) last: Option<EdgeKey>,
-    pub(crate) left: usize,
+    pub(crate) members: Members<'a>,
 }
 
 impl<'a, E> Model for EdgesAt<'a, E> {
@@ -32,13 +36,11 @@ impl<'a, E> Model for EdgesAt<'a, E> {
 
     ghost Value = { List Key };
 
-    ghost use Rattle.slotmap_keylist.specs.Linked.{follow};
-    ghost use Rattle.slotmap_keylist.specs.Segment.{IsSegment};
-    ghost use Rattle.slotmap_graph.specs.Threads.{link_in};
+    ghost use Rattle.slotmap_graph.specs.Threads.{AreIndices, HaveIndices, keys_at};
 
-    ghost view = { λ it. follow (link_in it.direction it.edges.now.live) it.left it.first };
+    ghost view = { λ it. keys_at it.edges.now.live it.members };
 
-    ghost invariant = { λ it. IsSegment (link_in it.direction it.edges.now.live) it.left it.first it.last };
+    ghost invariant = { λ it. HaveIndices it.edges.now × AreIndices it.edges.now.live it.members };
 }
 
 impl<'a, E: Drop> Iterator for EdgesAt<'a, E> {
@@ -49,13 +51,8 @@ impl<'a, E: Drop> Iterator for EdgesAt<'a, E> {
     ghost remaining = { item_count (λ rest. rest) };
 
     fn next(&mut self) -> Option<EdgeKey> {
-        if self.left == 0 {
-            return None;
-        }
-        let key = self.first?;
-        self.left -= 1;
-        self.first = link_of(self.edges, self.direction, key).next.get();
-        Some(key)
+        let index = self.members.next()?;
+        self.edges.key_at(index)
     }
 
     fn size_hint(&self) -> (usize, Option<usize>)
@@ -63,7 +60,8 @@ impl<'a, E: Drop> Iterator for EdgesAt<'a, E> {
         ensures upper { IfSome result.1 (UpTo (at_most (length self.now))) }
         ensures exact { result ≡ (length self.now, Some (length self.now)) }
     {
-        (self.left, Some(self.left))
+        let len = self.members.len();
+        (len, Some(len))
     }
 }
 
@@ -71,19 +69,14 @@ impl<'a, E: Drop> DoubleEndedIterator for EdgesAt<'a, E> {
     ghost next_back_gives = { YieldsLastBy (λ item. item) (λ rest. rest) };
 
     fn next_back(&mut self) -> Option<EdgeKey> {
-        if self.left == 0 {
-            return None;
-        }
-        let key = self.last?;
-        self.left -= 1;
-        self.last = link_of(self.edges, self.direction, key).prev.get();
-        Some(key)
+        let index = self.members.next_back()?;
+        self.edges.key_at(index)
     }
 }
 
 impl<'a, E: Drop> ExactSizeIterator for EdgesAt<'a, E> {
     fn len(&self) -> usize {
-        self.left
+        self.members.len()
     }
 }
 
@@ -97,10 +90,35 @@ impl<'a, E> Clone for EdgesAt<'a, E> {
     fn clone(&self) -> Result<Self, AllocError> {
         Ok(EdgesAt {
             edges: self.edges,
-            direction: self.direction,
-            first: self.first,
-            last: self.last,
-            left: self.left,
+            members: self.members.clone()?,
         })
     }
+}
+
+// The edges of a node in its list. No node has the index 0, so its list is empty.
+pub(crate) fn edges_of<'a, K: Key, N: Drop, E: Drop>(
+    nodes: &BoundedMap<K, N>,
+    edges: &'a Edges<E>,
+    links: &'a Links,
+    node: K,
+) -> EdgesAt<'a, E>
+    requires { (end : SeenEdge E → KeyOf) × IsThreaded end nodes.now edges.now links.now }
+    ensures { result ≡ edges_at (by_node nodes.now.live edges.now.live links.now) (K.data_of node) }
+{
+    let owner = owner_of(nodes, node);
+    EdgesAt {
+        edges,
+        members: links.iter(owner),
+    }
+}
+
+// The index of a node, or 0 if the node doesn't exist.
+pub(crate) fn owner_of<K: Key, N: Drop>(nodes: &BoundedMap<K, N>, node: K) -> u32
+    ensures live { IsLive nodes.now (K.data_of node) → result ≡ (K.data_of node).index }
+    ensures gone { map.contains_key nodes.now.live (K.data_of node) ≡ false → result ≡ 0 }
+{
+    if nodes.contains_key(node) {
+        return node.data().idx();
+    }
+    0
 }

@@ -11,9 +11,9 @@
 //! - Where there is room, no node or edge is refused for memory, and the capacity stays. No removal
 //!   loses room or changes a capacity.
 //!
-//! Each node has a list of its outgoing edges, and one of its incoming edges. They are links between
-//! the edges: there are two maps, one of nodes and one of edges. So a call takes constant time, unless
-//! a map grows, with these exceptions:
+//! There are two maps, one of nodes and one of edges. Each node has a list of its outgoing edges, and
+//! one of its incoming edges. These are links beside the maps, by the indices of the keys. So a call
+//! takes constant time, unless a map grows, with these exceptions:
 //!
 //! - [`Graph::neighbours`] and [`Graph::find_edge`] take time linear in the number of edges from the
 //!   node.
@@ -21,8 +21,8 @@
 //!   edges.
 //! - [`Graph::reachable`] takes time linear in the number of nodes that it finds and of their edges, and
 //!   in the largest index of one of them.
-//! - [`Graph::topological_order`], [`Graph::clear`] and [`Graph::clone`] take time linear in the number
-//!   of slots of nodes and edges.
+//! - [`Graph::topological_order`] and [`Graph::clone`] take time linear in the number of slots of nodes
+//!   and edges, and [`Graph::clear`] in the two capacities.
 //!
 //! Memory is asked for only by the calls that make a graph, reserve room, add or copy, and by those that
 //! take an `alloc`.
@@ -38,15 +38,12 @@
 //! assert!(rt; graph.edge(edge).is_none());
 //! assert_eq!(rt; graph.out_degree(a), 0);
 //! ```
-#![tactic(auto, using(slotmap::proofs::Callers::keys, slotmap_keylist::proofs::Mapped::mapped))]
+#![tactic(auto, using(slotmap::proofs::Callers::keys))]
 
-ghost use Rattle.std.specs.Prelude.{◌≡◌, ◌+◌, ◌≤◌, Some, None, IfOk, IfErr, IsOk, IfSome, IsTrue, ◌↔◌, length, option_copied, option_map, map as list_map, true};
+ghost use Rattle.std.specs.Prelude.{◌≡◌, ◌+◌, ◌≤◌, IfOk, IfErr, IsOk, IsTrue, ◌↔◌, true};
 ghost use Rattle.std.specs.FinMap as map;
-ghost use Rattle.std.specs.Borrow.{sem};
-ghost use Rattle.std.specs.Option.{option_copied_mut};
-ghost use Rattle.slotmap.specs.Words.{IsNew, IsLive, MakesRoom, RefusesCapacity, used};
-ghost use Rattle.slotmap_graph.specs.Parts.{both, edges_at, ends, from, to, value, ListsEdges, RefusesEither, SameEdges};
-ghost use Rattle.slotmap_graph.specs.Threads.{end, lists_of};
+ghost use Rattle.slotmap.specs.Words.{IsNew, MakesRoom, RefusesCapacity, used};
+ghost use Rattle.slotmap_graph.specs.Parts.{RefusesEither, SameEdges};
 
 mod change;
 mod clone;
@@ -54,46 +51,30 @@ mod debug;
 mod edge_key;
 mod index;
 mod iter;
-mod links;
+mod lists;
+mod look;
 mod neighbours;
 mod order;
 mod references;
 mod search;
 
-use crate::links::{Direction, Edges, Nodes, list_ends};
+use crate::lists::{Edges, cover_both};
 pub use edge_key::EdgeKey;
 pub use iter::EdgesAt;
+pub use lists::Edge;
 pub use neighbours::Neighbours;
 pub use order::OrderError;
 pub use references::EdgeReferences;
 use slotmap::basic::Keys;
-use slotmap::{DefaultKey, Key, NodeKey, ReserveError, SlotMap};
-use slotmap_keylist::{Ends, Link, outer};
+use slotmap::{Key, NodeKey, ReserveError};
+use slotmap_bounded::BoundedMap;
+use slotmap_links::Links;
 use std::alloc::Global;
-use std::marker::{Model, PhantomData};
+use std::marker::Model;
 use thiserror::Error;
 
 // How many keys a map holds at most.
 const MOST: usize = 4_294_967_294;
-
-/// A node with its value, and the ends of the lists of its edges.
-#[derive(Drop)]
-pub struct Node<N> {
-    value: N,
-    out: Ends<EdgeKey>,
-    into: Ends<EdgeKey>,
-}
-
-/// An edge from one node to another, or to itself, with its value, and its neighbours in the lists of
-/// the two nodes.
-#[derive(Drop)]
-pub struct Edge<E> {
-    from: DefaultKey,
-    to: DefaultKey,
-    value: E,
-    out: Link<EdgeKey>,
-    into: Link<EdgeKey>,
-}
 
 /// Nodes with values of type `N` under keys of type `K`, and edges between them with values of type
 /// `E`.
@@ -103,28 +84,28 @@ pub struct Edge<E> {
 /// by which `edges_at` has the edges of a node in their order.
 #[derive(Drop)]
 pub struct Graph<K, N, E> {
-    nodes: Nodes<K, N>,
+    nodes: BoundedMap<K, N>,
     edges: Edges<E>,
+    out: Links,
+    into: Links,
 }
 
 impl<K, N, E> Model for Graph<K, N, E> {
-    ghost use Rattle.slotmap_keylist.specs.Mapped.{map_content};
     ghost use Rattle.slotmap_graph.specs.Parts.{Seen, seen_code};
-    ghost use Rattle.slotmap_graph.specs.declared.links.Direction.TheVariants.{Out, Into};
-    ghost use Rattle.slotmap_graph.specs.Threads.{IsGraph, by_node, node_value, seen_edge};
+    ghost use Rattle.slotmap_graph.specs.Threads.{IsGraph, by_node};
 
     ghost Value = { Seen N E };
 
     ghost coded = { seen_code N.code E.code };
 
     ghost view = { λ g. record {
-      nodes = map_content node_value g.nodes;
-      edges = map_content seen_edge g.edges;
-      out = by_node Out g.nodes.live g.edges.live;
-      into = by_node Into g.nodes.live g.edges.live;
+      nodes = g.nodes;
+      edges = g.edges;
+      out = by_node g.nodes.live g.edges.live g.out;
+      into = by_node g.nodes.live g.edges.live g.into;
     } };
 
-    ghost invariant = { λ g. IsGraph g.nodes g.edges.live };
+    ghost invariant = { λ g. IsGraph g.nodes g.edges g.out g.into };
 }
 
 /// An edge was not added. The graph is unchanged, and the error holds the edge's value.
@@ -160,8 +141,6 @@ impl<N: Drop, E: Drop> Graph<NodeKey, N, E> {
 }
 
 impl<K: Key, N: Drop, E: Drop> Graph<K, N, E> {
-    ghost use Rattle.slotmap_graph.specs.Lends.{lends_node, lends_edge};
-
     /// Makes a graph with no node, with any type of keys of nodes.
     ///
     /// It fails only if memory runs out.
@@ -202,9 +181,17 @@ impl<K: Key, N: Drop, E: Drop> Graph<K, N, E> {
         if edges > MOST {
             return Err(ReserveError::TooGreat);
         }
-        let nodes = SlotMap::with_capacity_and_key(alloc, nodes)?;
-        let edges = SlotMap::with_capacity_and_key(alloc, edges)?;
-        Ok(Graph { nodes, edges })
+        let nodes = BoundedMap::with_capacity(alloc, nodes)?;
+        let edges = BoundedMap::with_capacity(alloc, edges)?;
+        let mut out = Links::new(alloc);
+        let mut into = Links::new(alloc);
+        cover_both(&mut out, &mut into, nodes.capacity(), edges.capacity())?;
+        Ok(Graph {
+            nodes,
+            edges,
+            out,
+            into,
+        })
     }
 
     /// Reserves room for `additional` more nodes: to add them can't fail then, and the
@@ -226,6 +213,8 @@ impl<K: Key, N: Drop, E: Drop> Graph<K, N, E> {
         ensures out { SameEdges self.old.out self.new.out }
         ensures into { SameEdges self.old.into self.new.into }
     {
+        let node = self.nodes.capacity_for(additional)?;
+        cover_both(&mut self.out, &mut self.into, node, self.edges.capacity())?;
         self.nodes.reserve(additional)
     }
 
@@ -249,6 +238,8 @@ impl<K: Key, N: Drop, E: Drop> Graph<K, N, E> {
         ensures out { SameEdges self.old.out self.new.out }
         ensures into { SameEdges self.old.into self.new.into }
     {
+        let edge = self.edges.capacity_for(additional)?;
+        cover_both(&mut self.out, &mut self.into, self.nodes.capacity(), edge)?;
         self.edges.reserve(additional)
     }
 
@@ -363,7 +354,7 @@ impl<K: Key, N: Drop, E: Drop> Graph<K, N, E> {
     /// assert_eq!(rt; nodes.next(), Some(b));
     /// assert_eq!(rt; nodes.next(), None);
     /// ```
-    pub fn nodes(&self) -> Keys<'_, K, Node<N>>
+    pub fn nodes(&self) -> Keys<'_, K, N>
         ensures { result ≡ map.keys self.now.nodes.live }
     {
         self.nodes.keys()
@@ -385,186 +376,5 @@ impl<K: Key, N: Drop, E: Drop> Graph<K, N, E> {
         ensures { result ≡ map.keys self.now.edges.live }
     {
         self.edges.keys()
-    }
-
-    /// Returns the value of a node, or `None` if the node doesn't exist, in constant time.
-    ///
-    /// ```
-    /// let mut graph: Graph<NodeKey, &str, u64> = Graph::new(alloc)?;
-    /// let a = graph.add_node("a")?;
-    /// assert_eq!(rt; graph.node(a), Some(&"a"));
-    /// graph.remove_node(a);
-    /// assert_eq!(rt; graph.node(a), None);
-    /// ```
-    pub fn node(&self, node: K) -> Option<&N>
-        ensures { option_copied result ≡ map.get self.now.nodes.live (K.data_of node) }
-    {
-        Some(&self.nodes.get(node)?.value)
-    }
-
-    /// Returns a mutable reference to the value of a node, or `None` if the node doesn't exist, in
-    /// constant time.
-    ///
-    /// ```
-    /// let mut graph: Graph<NodeKey, u64, u64> = Graph::new(alloc)?;
-    /// let a = graph.add_node(1)?;
-    /// if let Some(value) = graph.node_mut(a) {
-    ///     *value = 2;
-    /// }
-    /// assert_eq!(rt; graph.node(a), Some(&2));
-    /// ```
-    pub fn node_mut(&mut self, node: K) -> Option<&mut N>
-        ensures* writes_back { sem 𝓛 (lends_node K.row N.row E.row self.entry (K.data_of node) result) }
-        ensures value { option_copied_mut result ≡ map.get self.old.nodes.live (K.data_of node) }
-    {
-        match self.nodes.get_mut(node) {
-            Some(node) => Some(&mut node.value),
-            None => None,
-        }
-    }
-
-    /// Returns the value of an edge, or `None` if the edge doesn't exist, in constant time.
-    ///
-    /// ```
-    /// let mut graph: Graph<NodeKey, &str, u64> = Graph::new(alloc)?;
-    /// let a = graph.add_node("a")?;
-    /// let edge = graph.add_edge(a, a, 5)?;
-    /// assert_eq!(rt; graph.edge(edge), Some(&5));
-    /// graph.remove_edge(edge);
-    /// assert_eq!(rt; graph.edge(edge), None);
-    /// ```
-    pub fn edge(&self, edge: EdgeKey) -> Option<&E>
-        ensures { option_copied result ≡ option_map value (map.get self.now.edges.live edge) }
-    {
-        Some(&self.edges.get(edge)?.value)
-    }
-
-    /// Returns a mutable reference to the value of an edge, or `None` if the edge doesn't exist, in
-    /// constant time.
-    ///
-    /// ```
-    /// let mut graph: Graph<NodeKey, u64, u64> = Graph::new(alloc)?;
-    /// let a = graph.add_node(1)?;
-    /// let edge = graph.add_edge(a, a, 5)?;
-    /// if let Some(value) = graph.edge_mut(edge) {
-    ///     *value = 6;
-    /// }
-    /// assert_eq!(rt; graph.edge(edge), Some(&6));
-    /// ```
-    pub fn edge_mut(&mut self, edge: EdgeKey) -> Option<&mut E>
-        ensures* writes_back { sem 𝓛 (lends_edge K.row N.row E.row self.entry edge result) }
-        ensures value { option_copied_mut result ≡ option_map value (map.get self.old.edges.live edge) }
-    {
-        match self.edges.get_mut(edge) {
-            Some(edge) => Some(&mut edge.value),
-            None => None,
-        }
-    }
-
-    /// Returns the nodes where an edge begins and ends, or `None` if the edge doesn't exist, in
-    /// constant time. Both nodes exist.
-    ///
-    /// ```
-    /// let mut graph: Graph<NodeKey, &str, u64> = Graph::new(alloc)?;
-    /// let a = graph.add_node("a")?;
-    /// let b = graph.add_node("b")?;
-    /// let edge = graph.add_edge(a, b, 5)?;
-    /// assert_eq!(rt; graph.edge_ends(edge), Some((a, b)));
-    /// ```
-    pub fn edge_ends(&self, edge: EdgeKey) -> Option<(K, K)>
-        ensures ends { option_map (both K.data_of) result ≡ option_map ends (map.get self.now.edges.live edge) }
-        ensures live { IfSome result (λ ends. IsLive self.now.nodes (K.data_of ends.0) × IsLive self.now.nodes (K.data_of ends.1)) }
-    {
-        let edge = self.edges.get(edge)?;
-        Some((outer(edge.from), outer(edge.to)))
-    }
-
-    // The edges of a node in one of its lists.
-    fn edges_of(&self, direction: Direction, node: K) -> EdgesAt<'_, E>
-        ensures in_order { result ≡ edges_at (lists_of direction self.now) (K.data_of node) }
-        ensures listed { ListsEdges (end direction) self.now.edges.live (K.data_of node) result }
-    {
-        let ends = list_ends(&self.nodes, direction, node);
-        EdgesAt {
-            edges: &self.edges,
-            direction,
-            first: ends.first.get(),
-            last: ends.last.get(),
-            left: ends.len,
-        }
-    }
-
-    /// Returns an iterator over the keys of a node's outgoing edges, each once, in the order in which
-    /// they were added.
-    ///
-    /// Constant time. A removed node has none.
-    ///
-    /// ```
-    /// let mut graph: Graph<NodeKey, &str, u64> = Graph::new(alloc)?;
-    /// let a = graph.add_node("a")?;
-    /// let first = graph.add_edge(a, a, 5)?;
-    /// let second = graph.add_edge(a, a, 6)?;
-    /// let mut edges = graph.edges_from(a);
-    /// assert_eq!(rt; edges.next(), Some(first));
-    /// assert_eq!(rt; edges.next(), Some(second));
-    /// assert_eq!(rt; edges.next(), None);
-    /// ```
-    pub fn edges_from(&self, node: K) -> EdgesAt<'_, E>
-        ensures in_order { result ≡ edges_at self.now.out (K.data_of node) }
-        ensures listed { ListsEdges from self.now.edges.live (K.data_of node) result }
-    {
-        self.edges_of(Direction::Out, node)
-    }
-
-    /// Returns an iterator over the keys of a node's incoming edges, each once, in the order in which
-    /// they were added.
-    ///
-    /// Constant time. A removed node has none.
-    ///
-    /// ```
-    /// let mut graph: Graph<NodeKey, &str, u64> = Graph::new(alloc)?;
-    /// let a = graph.add_node("a")?;
-    /// let b = graph.add_node("b")?;
-    /// let edge = graph.add_edge(a, b, 5)?;
-    /// assert_eq!(rt; graph.edges_to(b).next(), Some(edge));
-    /// assert_eq!(rt; graph.edges_to(a).len(), 0);
-    /// ```
-    pub fn edges_to(&self, node: K) -> EdgesAt<'_, E>
-        ensures in_order { result ≡ edges_at self.now.into (K.data_of node) }
-        ensures listed { ListsEdges to self.now.edges.live (K.data_of node) result }
-    {
-        self.edges_of(Direction::Into, node)
-    }
-
-    /// Returns how many edges go out of a node, in constant time.
-    ///
-    /// ```
-    /// let mut graph: Graph<NodeKey, &str, u64> = Graph::new(alloc)?;
-    /// let a = graph.add_node("a")?;
-    /// let b = graph.add_node("b")?;
-    /// graph.add_edge(a, b, 5)?;
-    /// assert_eq!(rt; graph.out_degree(a), 1);
-    /// assert_eq!(rt; graph.out_degree(b), 0);
-    /// ```
-    pub fn out_degree(&self, node: K) -> usize
-        ensures { result ≡ length (edges_at self.now.out (K.data_of node)) }
-    {
-        self.edges_from(node).len()
-    }
-
-    /// Returns how many edges come into a node, in constant time.
-    ///
-    /// ```
-    /// let mut graph: Graph<NodeKey, &str, u64> = Graph::new(alloc)?;
-    /// let a = graph.add_node("a")?;
-    /// let b = graph.add_node("b")?;
-    /// graph.add_edge(a, b, 5)?;
-    /// assert_eq!(rt; graph.in_degree(b), 1);
-    /// assert_eq!(rt; graph.in_degree(a), 0);
-    /// ```
-    pub fn in_degree(&self, node: K) -> usize
-        ensures { result ≡ length (edges_at self.now.into (K.data_of node)) }
-    {
-        self.edges_to(node).len()
     }
 }

@@ -2,13 +2,18 @@
 
 ghost use Rattle.std.specs.Prelude.{◌≡◌};
 ghost use Rattle.std.specs.Iterator.{YieldsFirstBy, item_count};
-ghost use Rattle.slotmap_graph.specs.Parts.{edges_at, from, to};
+ghost use Rattle.slotmap.specs.Words.{Key as KeyOf};
+ghost use Rattle.slotmap_graph.specs.Parts.{SeenEdge, edges_at, from, to};
 ghost use Rattle.slotmap_graph.specs.Search.{ends_along};
+ghost use Rattle.slotmap_graph.specs.Threads.{IsThreaded, by_node, far_end};
 
-use crate::links::{Direction, Edges};
-use crate::{EdgesAt, Graph};
+use crate::Graph;
+use crate::iter::owner_of;
+use crate::lists::{Direction, Edges};
 use slotmap::Key;
+use slotmap_bounded::BoundedMap;
 use slotmap_keylist::outer;
+use slotmap_links::{Links, Members};
 use std::iter::FusedIterator;
 use std::marker::{Model, PhantomData};
 
@@ -21,7 +26,7 @@ use std::marker::{Model, PhantomData};
 pub struct Neighbours<'a, K, E> {
     edges: &'a Edges<E>,
     direction: Direction,
-    keys: EdgesAt<'a, E>,
+    members: Members<'a>,
     key_type: PhantomData<K>,
 }
 
@@ -31,11 +36,12 @@ impl<'a, K, E> Model for Neighbours<'a, K, E> {
 
     ghost Value = { List Key };
 
-    ghost use Rattle.slotmap_keylist.specs.Mapped.{map_values};
     ghost use Rattle.slotmap_graph.specs.Search.{ends_along};
-    ghost use Rattle.slotmap_graph.specs.Threads.{end, seen_edge, turned};
+    ghost use Rattle.slotmap_graph.specs.Threads.{AreIndices, HaveIndices, far_end, keys_at};
 
-    ghost view = { λ it. ends_along (end (turned it.direction)) (map_values seen_edge it.edges.now.live) it.keys };
+    ghost view = { λ it. ends_along (far_end it.direction) it.edges.now.live (keys_at it.edges.now.live it.members) };
+
+    ghost invariant = { λ it. HaveIndices it.edges.now × AreIndices it.edges.now.live it.members };
 }
 
 impl<'a, K: Key, E: Drop> Iterator for Neighbours<'a, K, E> {
@@ -46,16 +52,13 @@ impl<'a, K: Key, E: Drop> Iterator for Neighbours<'a, K, E> {
     ghost remaining = { item_count (λ rest. rest) };
 
     fn next(&mut self) -> Option<K> {
-        while let Some(key) = self.keys.next() {
-            if let Some(edge) = self.edges.get(key) {
-                return Some(outer(edge.far_end(self.direction)));
-            }
-        }
-        None
+        let index = self.members.next()?;
+        let key = self.edges.key_at(index)?;
+        Some(outer(self.edges.value(key).far_end(self.direction)))
     }
 
     fn size_hint(&self) -> (usize, Option<usize>) {
-        (0, Some(self.keys.len()))
+        (0, Some(self.members.len()))
     }
 }
 
@@ -79,12 +82,7 @@ impl<K: Key, N: Drop, E: Drop> Graph<K, N, E> {
     pub fn neighbours_from(&self, node: K) -> Neighbours<'_, K, E>
         ensures { result ≡ ends_along to self.now.edges.live (edges_at self.now.out (K.data_of node)) }
     {
-        Neighbours {
-            edges: &self.edges,
-            direction: Direction::Out,
-            keys: self.edges_from(node),
-            key_type: PhantomData,
-        }
+        neighbours_of(Direction::Out, &self.nodes, &self.edges, &self.out, node)
     }
 
     /// Returns an iterator over the nodes where this node's incoming edges begin, one for each edge, in
@@ -104,11 +102,25 @@ impl<K: Key, N: Drop, E: Drop> Graph<K, N, E> {
     pub fn neighbours_to(&self, node: K) -> Neighbours<'_, K, E>
         ensures { result ≡ ends_along from self.now.edges.live (edges_at self.now.into (K.data_of node)) }
     {
-        Neighbours {
-            edges: &self.edges,
-            direction: Direction::Into,
-            keys: self.edges_to(node),
-            key_type: PhantomData,
-        }
+        neighbours_of(Direction::Into, &self.nodes, &self.edges, &self.into, node)
+    }
+}
+
+// The neighbours of a node, by the edges in its list.
+fn neighbours_of<'a, K: Key, N: Drop, E: Drop>(
+    direction: Direction,
+    nodes: &BoundedMap<K, N>,
+    edges: &'a Edges<E>,
+    links: &'a Links,
+    node: K,
+) -> Neighbours<'a, K, E>
+    requires { (end : SeenEdge E → KeyOf) × IsThreaded end nodes.now edges.now links.now }
+    ensures { result ≡ ends_along (far_end direction) edges.now.live (edges_at (by_node nodes.now.live edges.now.live links.now) (K.data_of node)) }
+{
+    Neighbours {
+        edges,
+        direction,
+        members: links.iter(owner_of(nodes, node)),
+        key_type: PhantomData,
     }
 }

@@ -21,14 +21,13 @@ pub struct EdgeReferences<'a, K, E> {
 }
 
 impl<'a, K, E> Model for EdgeReferences<'a, K, E> {
-    ghost use Rattle.std.specs.Prelude.{List, map as list_map};
+    ghost use Rattle.std.specs.Prelude.{List};
     ghost use Rattle.slotmap.specs.Words.{Key};
     ghost use Rattle.slotmap_graph.specs.Parts.{SeenEdge};
-    ghost use Rattle.slotmap_graph.specs.Threads.{with_seen};
 
     ghost Value = { List (Key × SeenEdge E) };
 
-    ghost view = { λ it. list_map with_seen it.edges };
+    ghost view = { λ it. it.edges };
 }
 
 impl<'a, K: Key, E: Drop> Iterator for EdgeReferences<'a, K, E> {
@@ -40,7 +39,10 @@ impl<'a, K: Key, E: Drop> Iterator for EdgeReferences<'a, K, E> {
 
     fn next(&mut self) -> Option<(EdgeKey, K, K, &'a E)> {
         match self.edges.next() {
-            Some((key, edge)) => Some((key, outer(edge.from), outer(edge.to), &edge.value)),
+            Some((key, edge)) => {
+                let (from, to) = edge.ends();
+                Some((key, outer(from), outer(to), edge.value()))
+            }
             None => None,
         }
     }

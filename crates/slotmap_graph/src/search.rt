@@ -56,7 +56,7 @@ impl<K: Key, N: Drop, E: Drop> Graph<K, N, E> {
         ensures begins { option_map from (map.get self.now.edges.live edge) ≡ Some result }
         ensures live { IsLive self.now.nodes result }
     {
-        self.edges[edge].from
+        self.edges.value(edge).ends().0
     }
 
     // The node where an edge ends.
@@ -66,7 +66,7 @@ impl<K: Key, N: Drop, E: Drop> Graph<K, N, E> {
         ensures live { IsLive self.now.nodes result }
         ensures joined { IsJoined self.now }
     {
-        self.edges[edge].to
+        self.edges.value(edge).ends().1
     }
 
     /// Returns the nodes where this node's outgoing edges end, one for each edge, in the order of

@@ -35,7 +35,7 @@ pub times_joined : (x : ℕ) (xs ys : List ℕ) → times x (xs ++ ys) ≡ times
 times_joined x xs ys = sum_by-append (λ q. same q x) xs ys
 
 -- by whether the first number is the one that goes
-by_first : (k q : ℕ) (P : List ℕ → Type 0) (ks : List ℕ) → (q ≡ k → P (without k ks)) → (q ≢ k → P (q ∷ without k ks)) → P (without k (q ∷ ks))
+pub by_first : (k q : ℕ) (P : List ℕ → Type 0) (ks : List ℕ) → (q ≡ k → P (without k ks)) → (q ≢ k → P (q ∷ without k ks)) → P (without k (q ∷ ks))
 by_first k q P ks here later = elim (nat_eq q k) as (λ t. nat_eq q k ≡ t → P (cond (not t) (q ∷ without k ks) (without k ks))) [
   | true ↦ λ is. here (eqb-true q k is)
   | false ↦ λ is. later (λ same. (let t = eq-eqb q k same in cc))

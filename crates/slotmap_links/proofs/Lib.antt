@@ -1,5 +1,6 @@
 pub mod Begins
 pub mod Callers
+pub mod Changes
 pub mod Counts
 pub mod Covers
 pub mod KeptLists

@@ -1,6 +1,6 @@
 use Rattle.std.proofs.Common.{◌≡◌, ◌<◌, ◌≤◌, ◌∙◌}
-use Rattle.slotmap_graph.proofs.Common.{length, get_or, true, sym, ap, arith, list_map, get_or-map, length-map, IsLive, beside_empty, content-mapped}
-use Rattle.slotmap_graph.proofs.Common.{live-mapped, edges_at, to, ends_along, marked, node_value}
+use Rattle.slotmap_graph.proofs.Common.{length, get_or, sym, ap, arith, list_map, get_or-map, length-map, IsLive, beside_empty}
+use Rattle.slotmap_graph.proofs.Common.{edges_at, to, ends_along, marked}
 use Rattle.slotmap_graph.proofs.GraphSteps.{puts_alone}
 use Rattle.slotmap_graph.proofs.Followed.{order_step, order_end}
 use Rattle.slotmap_graph.proofs.Searches.{are_none, listed_once, searching_start, searching_step, searching_all, searching_found, searching_fits}
@@ -17,7 +17,7 @@ mark-requires-clause-listed g c = are_none c.in_ok-seen.seen.pairs _ c.in_ok-see
 pub loop-at-init : goal.loop-at-init
 loop-at-init g c =
     let from = g.K.Key.data_of c.args.from in
-    let live : IsLive c.args.self.now.nodes from = rw (← c.self.view_is) (live-mapped node_value c.self.inside.nodes from (sym c.contains_key.ensures.value ∙ c.if-not-contains_key.false)) in
+    let live : IsLive c.args.self.now.nodes from = rw (← c.self.view_is) (sym c.contains_key.ensures.value ∙ c.if-not-contains_key.false) in
     record {
       searching = searching_start c.args.self.now.nodes c.args.self.now.edges.live from c.in_ok-seen.seen.pairs c.mark.new.seen.pairs (list_map g.K.Key.data_of c.mark.new.found.items)
           c.in_ok-seen.ensures live c.in_ok-mark.ensures.listed c.in_ok-mark.ensures.there c.mark.ensures.others;
@@ -25,7 +25,7 @@ loop-at-init g c =
     }
 
 pub mark_neighbours-requires-clause-valid : goal.mark_neighbours-requires-clause-valid
-mark_neighbours-requires-clause-valid g c = rw (← c.self.view_is) (content-mapped node_value c.self.inside.nodes true c.contains_key.ensures.valid)
+mark_neighbours-requires-clause-valid g c = rw (← c.self.view_is) (c.contains_key.ensures.valid)
 
 pub mark_neighbours-requires-clause-listed : goal.mark_neighbours-requires-clause-listed
 mark_neighbours-requires-clause-listed g c = c.loop-at.invariant.searching.listed
@@ -74,7 +74,7 @@ returns-clause-reachable_is_found g c x live leads =
 
 pub returns-clause-live : goal.returns-clause-live
 returns-clause-live g c x more = (
-  rw (← c.self.view_is) (live-mapped node_value c.self.inside.nodes (g.K.Key.data_of c.args.from) (sym c.contains_key.ensures.value ∙ c.if-not-contains_key.false)),
+  rw (← c.self.view_is) (sym c.contains_key.ensures.value ∙ c.if-not-contains_key.false),
   (searching_found c.args.self.now.nodes c.args.self.now.edges.live (g.K.Key.data_of c.args.from) c.loop-at.seen.pairs _ c.loop-at.at c.loop-at.invariant.searching x more).0,
 )
 

@@ -1,16 +1,5 @@
-use Rattle.std.proofs.Common.{◌∙◌}
-use Rattle.slotmap_graph.proofs.Common.{sym, ap, option_map, contains-mapped, get-mapped, to, seen_edge}
 use Rattle.slotmap_graph.proofs.GraphSteps.{graph_joined}
 use Rattle.slotmap_graph.proofs.Graph.target.Goals as goal
 
-pub index-requires : goal.index-requires
-index-requires g c = sym (contains-mapped seen_edge c.self.inside.edges.live c.args.edge) ∙ rw (← c.self.view_is) at c.requires
-
-pub returns-clause-arrives : goal.returns-clause-arrives
-returns-clause-arrives g c = rw (← c.self.view_is) (ap (option_map to) (get-mapped seen_edge c.self.inside.edges.live c.args.edge ∙ ap (option_map seen_edge) c.index.ensures))
-
-pub returns-clause-live : goal.returns-clause-live
-returns-clause-live g c = rw (← c.self.view_is) (c.self.invariant.ends c.args.edge (seen_edge c.index.result.now) (get-mapped seen_edge c.self.inside.edges.live c.args.edge ∙ ap (option_map seen_edge) c.index.ensures)).1
-
 pub returns-clause-joined : goal.returns-clause-joined
-returns-clause-joined g c = rw (← c.self.view_is) (graph_joined _ _ c.self.invariant)
+returns-clause-joined g c = rw (← c.self.view_is) (graph_joined _ _ _ _ c.self.invariant)

@@ -1,17 +1,16 @@
 use Rattle.std.proofs.Common.{◌≡◌, ◌<◌, ◌∙◌}
-use Rattle.slotmap_graph.proofs.Common.{length, true, sym, ap, arith, list_map, get_or-map, length-map, content-mapped, IsJoined, Sorting, edges_out}
-use Rattle.slotmap_graph.proofs.Common.{node_value}
+use Rattle.slotmap_graph.proofs.Common.{length, sym, ap, arith, list_map, get_or-map, length-map, IsJoined, Sorting, edges_out}
 use Rattle.slotmap_graph.proofs.GraphSteps.{graph_joined}
 use Rattle.slotmap_graph.proofs.TopologicalOrders.{IsOrder, ended, found_fits, ordered, sorting_start}
 use Rattle.slotmap_graph.proofs.Graph.topological_order.Goals.{After-loop-at, In-None}
 use Rattle.slotmap_graph.proofs.Graph.topological_order.Goals as goal
 
 pub count_all-requires-clause-valid : goal.count_all-requires-clause-valid
-count_all-requires-clause-valid g c = rw (← c.self.view_is) (content-mapped node_value c.self.inside.nodes true c.len.ensures.valid)
+count_all-requires-clause-valid g c = rw (← c.self.view_is) (c.len.ensures.valid)
 
 pub loop-at-init : goal.loop-at-init
 loop-at-init g c =
-    let joined : IsJoined c.args.self.now = rw (← c.self.view_is) (graph_joined _ _ c.self.invariant) in
+    let joined : IsJoined c.args.self.now = rw (← c.self.view_is) (graph_joined _ _ _ _ c.self.invariant) in
     sorting_start c.args.self.now joined c.count_all.new.counts.pairs _ c.in_ok-count_all.ensures
 
 pub pass_edges-requires-clause-within : goal.pass_edges-requires-clause-within
@@ -42,7 +41,7 @@ first_left-requires g c = (list_map g.K.Key.data_of c.loop-at.found.items, sorte
 
 order : (g : _) (c : In-None g) → IsOrder c.args.self.now (list_map g.K.Key.data_of c.loop-at.found.items)
 order g c =
-    let joined : IsJoined c.args.self.now = rw (← c.self.view_is) (graph_joined _ _ c.self.invariant) in
+    let joined : IsJoined c.args.self.now = rw (← c.self.view_is) (graph_joined _ _ _ _ c.self.invariant) in
     let long = length-map c.loop-at.found.items g.K.Key.data_of in
     ordered c.args.self.now joined c.loop-at.counts.pairs _ (ended c.args.self.now c.loop-at.counts.pairs _ c.loop-at.at (omega (arith, c.loop-at.found.ok.0, long)) c.loop-at.invariant) c.in-None.ensures.none
 
@@ -56,10 +55,10 @@ pub returns-in-None-clause-acyclic : goal.returns-in-None-clause-acyclic
 returns-in-None-clause-acyclic g c = (order g (goal.at.returns-in-None-clause-acyclic g c).In-None).acyclic
 
 pub closing_edge-requires-clause-valid : goal.closing_edge-requires-clause-valid
-closing_edge-requires-clause-valid g c = rw (← c.self.view_is) (content-mapped node_value c.self.inside.nodes true c.len.ensures.valid)
+closing_edge-requires-clause-valid g c = rw (← c.self.view_is) (c.len.ensures.valid)
 
 pub closing_edge-requires-clause-passed : goal.closing_edge-requires-clause-passed
 closing_edge-requires-clause-passed g c = (list_map g.K.Key.data_of c.loop-at.found.items, sorted g (goal.at.closing_edge-requires-clause-passed g c).After-loop-at)
 
 pub closing_edge-requires-clause-joined : goal.closing_edge-requires-clause-joined
-closing_edge-requires-clause-joined g c = rw (← c.self.view_is) (graph_joined _ _ c.self.invariant)
+closing_edge-requires-clause-joined g c = rw (← c.self.view_is) (graph_joined _ _ _ _ c.self.invariant)

@@ -1,12 +1,16 @@
-use Rattle.slotmap_graph.proofs.Common.{mapped-new, node_value, seen_edge}
-use Rattle.slotmap_graph.proofs.GraphSteps.{graph_empty}
+use Rattle.std.proofs.Common.{◌∙◌}
+use Rattle.slotmap_graph.proofs.Common.{ap, arith, list_cleared, list_of, from, to}
+use Rattle.slotmap_graph.proofs.GraphSteps.{bare_threaded}
 use Rattle.slotmap_graph.proofs.Graph.with_capacity_and_key.Goals as goal
 
 pub invariant_of-result : goal.invariant_of-result
-invariant_of-result g c = graph_empty c.in_ok-nodes.nodes c.in_ok-edges.edges.live c.in_ok-nodes.ensures.starts.live c.in_ok-edges.ensures.starts.live
-
-pub returns-clause-nodes : goal.returns-clause-nodes
-returns-clause-nodes g c = mapped-new node_value c.in_ok-nodes.nodes c.in_ok-nodes.ensures.starts
-
-pub returns-clause-edges : goal.returns-clause-edges
-returns-clause-edges g c = mapped-new seen_edge c.in_ok-edges.edges c.in_ok-edges.ensures.starts
+invariant_of-result g c = record {
+  out = bare_threaded from c.in_ok-nodes.nodes c.in_ok-edges.edges c.cover_both.new.out c.in_ok-nodes.ensures.starts.live c.in_ok-edges.ensures.starts.live
+      (λ p. c.cover_both.ensures.out.lists p ∙ ap (λ l. list_of l p) c.new-out.ensures ∙ list_cleared 0 0 p)
+      (let cover = c.in_ok-cover_both.ensures.out_covers.0 in let same = c.capacity.ensures.value in omega arith)
+      (let cover = c.in_ok-cover_both.ensures.out_covers.1 in let same = c.capacity-2.ensures.value in omega arith);
+  into = bare_threaded to c.in_ok-nodes.nodes c.in_ok-edges.edges c.cover_both.new.into c.in_ok-nodes.ensures.starts.live c.in_ok-edges.ensures.starts.live
+      (λ p. c.cover_both.ensures.into.lists p ∙ ap (λ l. list_of l p) c.new-into.ensures ∙ list_cleared 0 0 p)
+      (let cover = c.in_ok-cover_both.ensures.into_covers.0 in let same = c.capacity.ensures.value in omega arith)
+      (let cover = c.in_ok-cover_both.ensures.into_covers.1 in let same = c.capacity-2.ensures.value in omega arith);
+}

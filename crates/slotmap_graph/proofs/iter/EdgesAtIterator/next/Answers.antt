@@ -1,20 +1,15 @@
-use Rattle.std.proofs.Common.{◌≡◌, ◌∙◌}
-use Rattle.slotmap_graph.proofs.Common.{sym, arith, segment_front, link_in}
+use Rattle.std.proofs.Common.{◌∙◌}
+use Rattle.slotmap_graph.proofs.Common.{sym, ap, subst, AreIndices, keys_at}
+use Rattle.slotmap_graph.proofs.Indices.{key_found, later_indices}
 use Rattle.slotmap_graph.proofs.iter.EdgesAtIterator.next.Goals as goal
 
-pub returns-in_err-key-clause-steps : goal.returns-in_err-key-clause-steps
-returns-in_err-key-clause-steps g c =
-    let step = segment_front (link_in c.self.inside.direction c.self.inside.edges.now.live) c.self.inside.left c.self.inside.first c.self.inside.last c.self.invariant (omega (arith, c.if-self-eq0.false)) in
-    absurd (let h = sym step.1 ∙ c.in_err-key.was in cc)
-
-pub invariant_of-self : goal.invariant_of-self
-invariant_of-self g c =
-    let step = segment_front (link_in c.self.inside.direction c.self.inside.edges.now.live) c.self.inside.left c.self.inside.first c.self.inside.last c.self.invariant (omega (arith, c.if-self-eq0.false)) in
-    let same : step.0 ≡ c.in_ok-key.key = (let h = sym step.1 ∙ c.in_ok-key.was in cc) in
-    rw (c.get-self-inside.ensures.value, c.link_of.ensures, ← same) step.2
+pub invariant_of-self-2 : goal.invariant_of-self-2
+invariant_of-self-2 g c =
+    let all = subst (AreIndices c.self.inside.edges.now.live) c.in_ok-index.ensures.steps c.self.invariant.1 in
+    (c.self.invariant.0, later_indices c.self.inside.edges.now c.self.invariant.0 c.in_ok-index.index c.next.new.self all)
 
 pub returns-clause-steps : goal.returns-clause-steps
 returns-clause-steps g c =
-    let step = segment_front (link_in c.self.inside.direction c.self.inside.edges.now.live) c.self.inside.left c.self.inside.first c.self.inside.last c.self.invariant (omega (arith, c.if-self-eq0.false)) in
-    let same : step.0 ≡ c.in_ok-key.key = (let h = sym step.1 ∙ c.in_ok-key.was in cc) in
-    rw (← c.self.view_is, c.get-self-inside.ensures.value, c.link_of.ensures, ← same) step.3
+    let all = subst (AreIndices c.self.inside.edges.now.live) c.in_ok-index.ensures.steps c.self.invariant.1 in
+    rw (key_found c.self.inside.edges.now c.self.invariant.0 c.in_ok-index.index c.next.new.self all c.key_at.result c.key_at.ensures.live c.key_at.ensures.index c.key_at.ensures.none)
+    (sym c.self.view_is ∙ ap (keys_at c.self.inside.edges.now.live) c.in_ok-index.ensures.steps)

@@ -1,6 +1,8 @@
-use Rattle.slotmap_graph.proofs.Common.{end, map_values, seen_edge, turned}
+use Rattle.slotmap_graph.proofs.Common.{arith, length-map, far_end, key_at, keys_at}
 use Rattle.slotmap_graph.proofs.Followed.{ends_less}
 use Rattle.slotmap_graph.proofs.neighbours.NeighboursIterator.size_hint.Goals as goal
 
 pub returns-clause-upper : goal.returns-clause-upper
-returns-clause-upper g c = (tt, rw (← c.self.view_is, c.len.ensures.value) (ends_less (end (turned c.self.inside.direction)) (map_values seen_edge c.self.inside.edges.now.live) c.self.inside.keys))
+returns-clause-upper g c =
+    let live = c.self.inside.edges.now.live in
+    (tt, rw (← c.self.view_is, c.len.ensures.value) (let less = ends_less (far_end c.self.inside.direction) live (keys_at live c.self.inside.members) in let long = length-map c.self.inside.members (key_at live) in omega (arith, less, long)))

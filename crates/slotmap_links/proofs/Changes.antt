@@ -1,0 +1,72 @@
+-- What callers cite: what is in each list once a member was put behind the others, or was taken out.
+use Rattle.std.proofs.Common.{◌≡◌, ◌≢◌, ℕ, ◌+◌, ◌<◌, ◌≤◌, ◌⊎◌, List, [], ◌∷◌, ◌++◌, length, replicate, refl, sym, ap, ◌∙◌, inl, inr, arith, zero, suc}
+use Rattle.std.proofs.Math.Nat.{eq-zero-or-pos}
+use Rattle.slotmap_links.specs.Lists.{Lists, times, list_of, with_list, IsIn, AreDisjoint, without}
+use Rattle.slotmap_links.proofs.Counts.{same, same_or_other, one_itself, one_other, times_first, times_joined, times_gone, without_none, by_first}
+use Rattle.slotmap_links.proofs.Callers.{list_now, list_other}
+
+-- another number stays in a list
+pub times_without : (k x : ℕ) (ks : List ℕ) → x ≢ k → times x (without k ks) ≡ times x ks
+times_without k x [] apart = refl
+times_without k x (q ∷ ks) apart =
+    let first = times_first x q ks in
+    let rest = times_without k x ks apart in
+    by_first k q (λ l. times x l ≡ times x (q ∷ ks)) ks
+    (λ is. (let none = one_other q x (λ e. apart (sym e ∙ is)) in omega arith))
+    (λ other. (let again = times_first x q (without k ks) in omega arith))
+
+pub times_pushed : (x : ℕ) (ks : List ℕ) (k : ℕ) → times x (ks ++ k ∷ []) ≡ times x ks + same k x
+times_pushed x ks k = let joined = times_joined x ks (k ∷ []) in let first = times_first x k [] in omega arith
+
+-- k is put behind the others in the list of p
+module _ (s : Lists) (p k : ℕ) (there : p < length s.lists) where
+  abbrev pushed : Lists
+  pushed = with_list s p (list_of s p ++ k ∷ [])
+
+  pub pushed_here : IsIn pushed p k
+  pushed_here = let sum = ap (times k) (list_now s p (list_of s p ++ k ∷ []) there) ∙ times_pushed k (list_of s p) k in let one = one_itself k in omega arith
+
+  pub pushed_still : (q x : ℕ) → IsIn s q x → IsIn pushed q x
+  pushed_still q x inside = elim (same_or_other q p) [
+    | inl is ↦ (let sum = ap (λ q. times x (list_of pushed q)) is ∙ ap (times x) (list_now s p (list_of s p ++ k ∷ []) there) ∙ times_pushed x (list_of s p) k in
+        let was = ap (λ q. times x (list_of s q)) is in omega arith)
+    | inr other ↦ (let same = ap (times x) (list_other s p (list_of s p ++ k ∷ []) q other) in omega arith)
+  ]
+
+  pub pushed_was : (q x : ℕ) → IsIn pushed q x → IsIn s q x ⊎ ((q ≡ p) × (x ≡ k))
+  pushed_was q x inside = elim (same_or_other q p) [
+    | inl is ↦ elim (same_or_other x k) [
+      | inl at ↦ inr (is, at)
+      | inr apart ↦ inl (let sum = ap (λ q. times x (list_of pushed q)) is ∙ ap (times x) (list_now s p (list_of s p ++ k ∷ []) there) ∙ times_pushed x (list_of s p) k in
+          let none = one_other k x (λ e. apart (sym e)) in let was = ap (λ q. times x (list_of s q)) is in omega arith)
+    ]
+    | inr other ↦ inl (let same = ap (times x) (list_other s p (list_of s p ++ k ∷ []) q other) in omega arith)
+  ]
+
+-- k is taken out of the list of p, and so of all lists
+module _ (s : Lists) (disjoint : AreDisjoint s) (p k : ℕ) (there : p < length s.lists) (inside : IsIn s p k) where
+  pub list_without : (q : ℕ) → list_of (with_list s p (without k (list_of s p))) q ≡ without k (list_of s q)
+  list_without q = elim (same_or_other q p) [
+    | inl is ↦ ap (list_of (with_list s p (without k (list_of s p)))) is ∙ list_now s p (without k (list_of s p)) there ∙ ap (λ q. without k (list_of s q)) (sym is)
+    | inr other ↦ list_other s p (without k (list_of s p)) q other ∙ sym (without_none k (list_of s q) (elim (eq-zero-or-pos (times k (list_of s q))) [
+      | inl none ↦ none
+      | inr more ↦ absurd (other (disjoint.alone q p k more inside))
+    ]))
+  ]
+
+-- the same lists, where no fewer numbers may be members
+pub disjoint_still : (s t : Lists) → AreDisjoint s → ((p : ℕ) → list_of t p ≡ list_of s p) → s.members ≤ t.members → AreDisjoint t
+disjoint_still s t disjoint same more = record {
+  once = λ p k. (let o = disjoint.once p k in let e = ap (times k) (same p) in omega arith);
+  alone = λ p q k at_p at_q. disjoint.alone p q k (was p k at_p) (was q k at_q);
+  within = λ p k inside. (let w = disjoint.within p k (was p k inside) in omega arith);
+}
+  where
+    was : (p k : ℕ) → IsIn t p k → IsIn s p k
+    was p k inside = let e = ap (times k) (same p) in omega arith
+
+-- all lists are empty
+pub list_cleared : (n members q : ℕ) → list_of (record { lists = replicate n []; members = members }) q ≡ []
+list_cleared zero members q = refl
+list_cleared (suc n) members zero = refl
+list_cleared (suc n) members (suc q) = list_cleared n members q
