@@ -1,5 +1,5 @@
 -- The live key with an index, and elements by the indices of their keys.
-use Rattle.std.proofs.Common.{◌≡◌, ◌≢◌, ℕ, ◌<◌, ◌≤◌, Bool, true, nat_eq, List, [], ◌∷◌, ◌++◌, length, Option, Some, None, IsSome, IfSome, IfNone, is_some, inl, inr, refl, sym, ap, subst, ◌∙◌, arith}
+use Rattle.std.proofs.Common.{◌≡◌, ◌≢◌, ℕ, ◌<◌, ◌≤◌, Bool, true, nat_eq, List, [], ◌∷◌, ◌++◌, length, Option, Some, None, IfSome, IfNone, is_some, inl, inr, refl, sym, ap, subst, ◌∙◌, arith}
 use Rattle.std.specs.List.{find, cons_option, list_any}
 use Rattle.std.specs.Option.{option_map}
 use Rattle.std.specs.Ordering.{eq_by_cmp}
@@ -23,6 +23,10 @@ first_found p (q ∷ ks) k is = grind (arith, first_found p ks k, itself keys_to
 some_found : (p : Key → Bool) (ks : List Key) (k : Key) → p k ≡ true → list_any (eq_by_cmp key_cmp k) ks ≡ true → is_some (find p ks) ≡ true
 some_found p [] k passes there = absurd (cc)
 some_found p (q ∷ ks) k passes there = grind (arith, some_found p ks k, tied keys_total exact_keys k q)
+
+-- what an option has, if it has something
+pub some_is : {A : Type 0} (o : Option A) → is_some o ≡ true → (x : A) × (o ≡ Some x)
+some_is o is = grind arith
 
 module _ {T : Type 0} (m : map.FinMap key_cmp T) where
   with_value_is : (o : Option Key) (e : Key × T) → with_value m o ≡ Some e → (o ≡ Some e.0) × (map.get m e.0 ≡ Some e.1)
@@ -64,11 +68,7 @@ module _ {T : Type 0} (m : map.FinMap key_cmp T) where
 
     -- so there is one
     pub some_at : (i : ℕ) (k : Key) → map.contains_key m k ≡ true → k.index ≡ i → is_some (at_index m i) ≡ true
-    some_at i k live index = ap (λ i. is_some (at_index m i)) (sym index) ∙ by (map.get m k) refl live
-      where
-        by : (o : Option T) → map.get m k ≡ o → is_some o ≡ true → is_some (at_index m k.index) ≡ true
-        by None found some = absurd (cc)
-        by (Some v) found some = ap is_some (at_live k v found)
+    some_at i k live index = let v = some_is (map.get m k) live in ap (λ i. is_some (at_index m i)) (sym index) ∙ ap is_some (at_live k v.0 v.1)
 
   -- what the elements are: that of the first index, and the others
   pub elements_first : (i : ℕ) (is : List ℕ) (e : Key × T) → at_index m i ≡ Some e → elements_at m (i ∷ is) ≡ e ∷ elements_at m is
@@ -119,11 +119,9 @@ module _ {T : Type 0} (c : Content T) where
   pub key_found : {K : Type 0} (data_of : K → Key) (i : ℕ) (r : Option K) → IsContent true c → IfSome r (λ key. IsLive c (data_of key)) → IfSome r (λ key. (data_of key).index ≡ i)
       → IfNone r ((q : Key) → IsLive c q → q.index ≢ i) → option_map data_of r ≡ key_of c.live (Some i)
   key_found data_of i None well live index none = sym (ap (option_map (λ e. e.0)) (none_at c.live i none))
-  key_found data_of i (Some key) well live index none = by (map.get c.live (data_of key)) refl live
-    where
-      by : (o : Option T) → map.get c.live (data_of key) ≡ o → is_some o ≡ true → Some (data_of key) ≡ key_of c.live (Some i)
-      by None found some = absurd (cc)
-      by (Some v) found some = sym (ap (option_map (λ e. e.0)) (ap (at_index c.live) (sym index) ∙ at_live c.live (content_apart well) (data_of key) v found))
+  key_found data_of i (Some key) well live index none =
+      let v = some_is (map.get c.live (data_of key)) live in
+      sym (ap (option_map (λ e. e.0)) (ap (at_index c.live) (sym index) ∙ at_live c.live (content_apart well) (data_of key) v.0 v.1))
 
 -- a number of a list, and the numbers behind it
 pub in_first : (i : ℕ) (is : List ℕ) → 0 < times i (i ∷ is)
@@ -138,11 +136,7 @@ module _ {T : Type 0} {m : map.FinMap key_cmp T} where
 
   -- the element at an index of the list
   pub element_of : {is : List ℕ} → AreIndices m is → (i : ℕ) → 0 < times i is → (e : Key × T) × (at_index m i ≡ Some e)
-  element_of all i more = by (at_index m i) refl (all.live i more)
-    where
-      by : (o : Option (Key × T)) → at_index m i ≡ o → IsSome o → (e : Key × T) × (at_index m i ≡ Some e)
-      by None is some = absurd (cc)
-      by (Some e) is some = (e, is)
+  element_of all i more = some_is (at_index m i) (all.live i more)
 
   -- one element for each index
   pub elements_long : (is : List ℕ) → AreIndices m is → length (elements_at m is) ≡ length is

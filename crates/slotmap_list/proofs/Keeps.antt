@@ -16,7 +16,7 @@ use Rattle.slotmap_list.specs.declared.place.Place.{Place}
 use Rattle.slotmap_list.proofs.Elements.{with_value-split}
 use Rattle.slotmap_list.proofs.Indices.{at_is, at_live, content_apart, element_of, elements_first, in_first, none_at, rest_indices as indices_behind, some_alike, some_at}
 use Rattle.slotmap_list.proofs.Parts.{IsPlace, place_in, part_left, placed, put_between, number_without, element_without}
-use Rattle.slotmap_list.proofs.Seen.{indices, once, inside_if, stands}
+use Rattle.slotmap_list.proofs.Seen.{indices, once, inside_if, own, stands}
 
 -- how often a number is in a list with one more
 one_more : (i : ℕ) (before : List ℕ) (k : ℕ) (after : List ℕ) → times i (before ++ k ∷ after) ≡ same k i + times i (before ++ after)
@@ -89,16 +89,13 @@ module _ {T : Type 0} {c : Content T} {s : Lists} (kept : IsKept c s) where
     }
 
     elements_written : elements_at written.live is ≡ with_value_at k w (elements_at c.live is)
-    elements_written = by (map.get c.live k) refl live
-      where
-        by : (o : Option T) → map.get c.live k ≡ o → is_some o ≡ true → elements_at written.live is ≡ with_value_at k w (elements_at c.live is)
-        by None found some = absurd (cc)
-        by (Some v) found some =
-            let at = stands kept k v found in
-            ap (elements_at written.live) at.list
-            ∙ placed c.live written.live k w apart_written (get-insert_here c.live k w) (λ q u other is. get-insert_other c.live k w q (λ e. other (ap (λ (q : Key). q.index) e)) ∙ is)
-            at.before at.after at.before_indices at.after_indices at.not_before at.not_after
-            ∙ sym (ap (with_value_at k w) at.elements ∙ with_value-split k v (elements_at c.live at.after) w (elements_at c.live at.before) at.no_element)
+    elements_written =
+        let v = own kept k live in
+        let at = stands kept k v.0 v.1 in
+        ap (elements_at written.live) at.list
+        ∙ placed c.live written.live k w apart_written (get-insert_here c.live k w) (λ q u other is. get-insert_other c.live k w q (λ e. other (ap (λ (q : Key). q.index) e)) ∙ is)
+        at.before at.after at.before_indices at.after_indices at.not_before at.not_after
+        ∙ sym (ap (with_value_at k w) at.elements ∙ with_value-split k v.0 (elements_at c.live at.after) w (elements_at c.live at.before) at.no_element)
 
     -- what the model of the list is then
     pub seen_written : ◌≡◌ {A = Sequence T} (record { elements = elements_at written.live is; cursors = without_values written })

@@ -1,5 +1,5 @@
 -- An element that is taken out of its place and put into another.
-use Rattle.std.proofs.Common.{◌≡◌, ◌<◌, true, List, Option, Some, None, length, is_some, refl, sym, ap, subst, ◌∙◌, arith}
+use Rattle.std.proofs.Common.{◌≡◌, ◌<◌, true, List, Some, length, is_some, sym, ap, subst, ◌∙◌, arith}
 use Rattle.std.specs.FinMap as map
 use Rattle.slotmap.specs.Words.{Key, Content}
 use Rattle.slotmap_links.specs.Lists as numbers
@@ -10,6 +10,7 @@ use Rattle.slotmap_list.specs.Sequence.{value_of}
 use Rattle.slotmap_list.specs.Kept.{elements_at, IsKept}
 use Rattle.slotmap_list.specs.Places.{has_place, is_move, is_place, moved_to, put_number}
 use Rattle.slotmap_list.specs.declared.place.Place.{Place}
+use Rattle.slotmap_list.proofs.Indices.{some_is}
 use Rattle.slotmap_list.proofs.Keeping.{moved_values}
 use Rattle.slotmap_list.proofs.Keeps.{elements_moved, free_one, kept_moved, rest_elements}
 use Rattle.slotmap_list.proofs.Moving.{mover_stands, place_left, put_there}
@@ -22,11 +23,7 @@ module _ {T : Type 0} {c : Content T} {s : Lists} (kept : IsKept c s) (k : Key) 
 
   -- its value
   own : (v : T) × (map.get c.live k ≡ Some v)
-  own = by (map.get c.live k) refl (ap is_some (sym (value_at kept k)) ∙ mover_stands place k es can)
-    where
-      by : (o : Option T) → map.get c.live k ≡ o → is_some o ≡ true → (v : T) × (map.get c.live k ≡ Some v)
-      by None found some = absurd (cc)
-      by (Some v) found some = (v, found)
+  own = some_is (map.get c.live k) (ap is_some (sym (value_at kept k)) ∙ mover_stands place k es can)
 
   -- the links without its index
   abbrev without_it : Lists

@@ -12,13 +12,12 @@ use Rattle.slotmap_links.proofs.SeenLists.{after_there, before_there, not_first,
 use Rattle.slotmap_list.specs.Sequence.{value_of, key_after, key_before, from_key, put_after, put_before, without, IsOnce}
 use Rattle.slotmap_list.specs.Kept.{at_index, elements_at, key_of, AreApart, AreIndices}
 use Rattle.slotmap_list.specs.Places.{has_place, is_place, put_by_place, put_number}
-use Rattle.slotmap_list.specs.declared.place.Side.{Side}
 use Rattle.slotmap_list.specs.declared.place.Side.TheVariants.{Before, After}
 use Rattle.slotmap_list.specs.declared.place.Place.{Place}
 use Rattle.slotmap_list.specs.declared.place.Place.TheVariants.{Front, Back, Beside}
 use Rattle.slotmap_list.proofs.Elements as keys
 use Rattle.slotmap_list.proofs.Elements.{times_some, times_none, once_if, value_of-split, key_after-split, key_before-split, from_key-split, put_after-split, put_before-split, without-split}
-use Rattle.slotmap_list.proofs.Indices.{at_is, at_live, as_often, elements_first, elements-append, elements_stay, first_at, last_at}
+use Rattle.slotmap_list.proofs.Indices.{at_is, at_live, as_often, elements_first, elements-append, elements_stay, first_at, last_at, some_is}
 
 -- the numbers from a number on
 from_there : (k : ℕ) (before after : List ℕ) → times k before ≡ 0 → numbers.numbers_from k (before ++ k ∷ after) ≡ k ∷ after
@@ -121,32 +120,32 @@ module _ {T : Type 0} (m : map.FinMap key_cmp T) where
     pub place_in : (place : Place) → is_place place (elements_at m is) ≡ true → IsPlace is place
     place_in Front there = record { before = []; after = is; list = refl; number = λ i. refl; element = λ x. refl }
     place_in Back there = record { before = is; after = []; list = sym (append-nil is); number = λ i. refl; element = λ x. refl }
-    place_in (Beside side k) there = by (map.get m k) refl side (value_in k is there)
-      where
-        by : (o : Option T) → map.get m k ≡ o → (side : Side) → (is_some o ≡ true) × (0 < times k.index is) → IsPlace is (Beside side k)
-        by None found side there = absurd (let none = there.0 in cc)
-        by (Some v) found Before there =
-            let s = stands_at is all once k v found there.1 in
-            let here = elements_first m k.index s.after (k, v) (at_live m all.apart k v found) in
-            record {
-              before = s.before;
-              after = k.index ∷ s.after;
-              list = s.list;
-              number = λ i. ap (numbers.put_before k.index i) s.list ∙ put_before_there k.index s.after i s.before s.not_before;
-              element = λ x. ap (put_before k x) s.elements ∙ put_before-split k v (elements_at m s.after) x (elements_at m s.before) s.no_element
-                  ∙ ap (λ l. elements_at m s.before ++ x ∷ l) (sym here);
-            }
-        by (Some v) found After there =
-            let s = stands_at is all once k v found there.1 in
-            let here = elements-append m s.before (k.index ∷ []) ∙ ap (λ l. elements_at m s.before ++ l) (elements_first m k.index [] (k, v) (at_live m all.apart k v found)) in
-            record {
-              before = s.before ++ k.index ∷ [];
-              after = s.after;
-              list = s.list ∙ sym (append_assoc s.before (k.index ∷ []) s.after);
-              number = λ i. ap (numbers.put_behind k.index i) s.list ∙ put_behind_there k.index s.after i s.before s.not_before ∙ sym (append_assoc s.before (k.index ∷ []) (i ∷ s.after));
-              element = λ x. ap (put_after k x) s.elements ∙ put_after-split k v (elements_at m s.after) x (elements_at m s.before) s.no_element
-                  ∙ sym (append_assoc (elements_at m s.before) ((k, v) ∷ []) (x ∷ elements_at m s.after)) ∙ ap (λ l. l ++ x ∷ elements_at m s.after) (sym here);
-            }
+    place_in (Beside Before k) there =
+        let in_list = value_in k is there in
+        let v = some_is (map.get m k) in_list.0 in
+        let s = stands_at is all once k v.0 v.1 in_list.1 in
+        let here = elements_first m k.index s.after (k, v.0) (at_live m all.apart k v.0 v.1) in
+        record {
+          before = s.before;
+          after = k.index ∷ s.after;
+          list = s.list;
+          number = λ i. ap (numbers.put_before k.index i) s.list ∙ put_before_there k.index s.after i s.before s.not_before;
+          element = λ x. ap (put_before k x) s.elements ∙ put_before-split k v.0 (elements_at m s.after) x (elements_at m s.before) s.no_element
+              ∙ ap (λ l. elements_at m s.before ++ x ∷ l) (sym here);
+        }
+    place_in (Beside After k) there =
+        let in_list = value_in k is there in
+        let v = some_is (map.get m k) in_list.0 in
+        let s = stands_at is all once k v.0 v.1 in_list.1 in
+        let here = elements-append m s.before (k.index ∷ []) ∙ ap (λ l. elements_at m s.before ++ l) (elements_first m k.index [] (k, v.0) (at_live m all.apart k v.0 v.1)) in
+        record {
+          before = s.before ++ k.index ∷ [];
+          after = s.after;
+          list = s.list ∙ sym (append_assoc s.before (k.index ∷ []) s.after);
+          number = λ i. ap (numbers.put_behind k.index i) s.list ∙ put_behind_there k.index s.after i s.before s.not_before ∙ sym (append_assoc s.before (k.index ∷ []) (i ∷ s.after));
+          element = λ x. ap (put_after k x) s.elements ∙ put_after-split k v.0 (elements_at m s.after) x (elements_at m s.before) s.no_element
+              ∙ sym (append_assoc (elements_at m s.before) ((k, v.0) ∷ []) (x ∷ elements_at m s.after)) ∙ ap (λ l. l ++ x ∷ elements_at m s.after) (sym here);
+        }
 
 -- what is under other indices stays where others stay
 module _ {T : Type 0} (m n : map.FinMap key_cmp T) (k : Key) (apart : AreApart n) (others : (q : Key) (w : T) → q.index ≢ k.index → map.get m q ≡ Some w → map.get n q ≡ Some w) where

@@ -9,7 +9,7 @@ use Rattle.slotmap_links.proofs.Counts.{times_first}
 use Rattle.slotmap_list.specs.Kept.{at_index, elements_at, key_of, AreIndices, IsKept, IsRest}
 use Rattle.slotmap_list.proofs.Elements as keys
 use Rattle.slotmap_list.proofs.Elements.{times_none, key_after-absent, key_before-absent, from_key-absent, without-absent}
-use Rattle.slotmap_list.proofs.Indices.{elements_long, first_at, last_at, some_at}
+use Rattle.slotmap_list.proofs.Indices.{elements_long, first_at, last_at, some_at, some_is}
 use Rattle.slotmap_list.proofs.Parts.{IsAt, stands_at, value_none, value_there, next_there, prev_there, from_at, elements_once}
 
 -- a look-up that copies nothing found nothing
@@ -93,21 +93,17 @@ module _ {T : Type 0} {c : Content T} {s : Lists} (kept : IsKept c s) where
 
   -- what is beside a key that stands, by the indices
   module _ (k : Key) (live : map.contains_key c.live k ≡ true) where
-    of_live : (P : Type 0) → ((v : T) → map.get c.live k ≡ Some v → P) → P
-    of_live P so = by (map.get c.live k) refl live
-      where
-        by : (o : Option T) → map.get c.live k ≡ o → is_some o ≡ true → P
-        by None found some = absurd (cc)
-        by (Some v) found some = so v found
+    pub own : (v : T) × (map.get c.live k ≡ Some v)
+    own = some_is (map.get c.live k) live
 
-    pub after_live : key_of c.live (numbers.number_after k.index is) ≡ key_after k es
-    after_live = of_live (key_of c.live (numbers.number_after k.index is) ≡ key_after k es) (λ v found. next_there c.live is indices once k v found (inside_if k live) (stands k v found))
+    after_live : key_of c.live (numbers.number_after k.index is) ≡ key_after k es
+    after_live = next_there c.live is indices once k own.0 own.1 (inside_if k live) (stands k own.0 own.1)
 
-    pub before_live : key_of c.live (numbers.number_before None k.index is) ≡ key_before None k es
-    before_live = of_live (key_of c.live (numbers.number_before None k.index is) ≡ key_before None k es) (λ v found. prev_there c.live is indices once k v found (inside_if k live) (stands k v found))
+    before_live : key_of c.live (numbers.number_before None k.index is) ≡ key_before None k es
+    before_live = prev_there c.live is indices once k own.0 own.1 (inside_if k live) (stands k own.0 own.1)
 
-    pub from_live : elements_at c.live (numbers.numbers_from k.index is) ≡ from_key k es
-    from_live = of_live (elements_at c.live (numbers.numbers_from k.index is) ≡ from_key k es) (λ v found. from_at c.live is indices once k v found (inside_if k live) (stands k v found))
+    from_live : elements_at c.live (numbers.numbers_from k.index is) ≡ from_key k es
+    from_live = from_at c.live is indices once k own.0 own.1 (inside_if k live) (stands k own.0 own.1)
 
   -- there is a link for its index
   pub below : (k : Key) → map.contains_key c.live k ≡ true → (i : ℕ) → i ≡ k.index → i < s.members

@@ -139,7 +139,8 @@ fn one_list(alloc: Global, members: usize) -> Result<Links, AllocError>
     Ok(links)
 }
 
-// Lets the numbers below `needed` be in the list. Where links have to be added, there are twice as many then, or more.
+// Lets the numbers below `needed` be in the list. Where links have to be added, at least 64 are, as
+// long as there may be so many. So most pushes add none.
 fn cover(links: &mut Links, needed: usize) -> Result<(), AllocError>
     requires { needed < 2 ^ 32 }
     ensures covers { OnOk result (needed ≤ links.new.members) }
@@ -151,7 +152,7 @@ fn cover(links: &mut Links, needed: usize) -> Result<(), AllocError>
     if needed <= members {
         return Ok(());
     }
-    links.cover_members(needed.max((members * 2).min(MOST)))
+    links.cover_members(needed.max((members + 64).min(MOST)))
 }
 
 // The live key with an index, if there is one.
@@ -274,7 +275,8 @@ impl<K: Key, T: Drop> StableList<K, T> {
         self.values.reserve(additional)
     }
 
-    /// Returns for how many elements there is memory, in constant time.
+    /// Returns how many elements there can be before more room is made, in constant time. It counts
+    /// the slots that are retired.
     ///
     /// ```
     /// let mut list = StableList::with_capacity(alloc, 2)?;
