@@ -30,6 +30,8 @@ LEMMAS = {
     'Callers': 'what callers cite: of the core, of a structure, and by the facade',
     'CloneLemmas': 'clones of values',
     'Counts Linking Segments Splicing': 'the same of lists of keys and of lists of numbers',
+    'Indices': 'the keys of a map by their indices',
+    'Moved Seen': 'what is moved, and what a user sees: of one structure and of another',
     'Common': 'what the proofs of a crate cite, passed on by one file',
     'ContentLemmas': 'what a map holds',
     'DrainLemmas': 'drains',
@@ -52,6 +54,7 @@ SPECS = {
     'Extend': 'calls that put many pairs',
     'Found': 'what a look-up finds',
     'Iter': 'iterators',
+    'Kept': 'how lists are kept: numbers in two vectors, values in a map and its links',
     'Linked Segment Splice': 'lists that are kept as links, of keys and of numbers',
     'Lends': 'what a map ends as once a reference into it ends',
     'Pass': 'passes of a closure',
@@ -87,7 +90,8 @@ LEMMA_NAMES = {
 PROVED_TWICE = {
     'as_many linked_along next_here not_first not_last prev_here segment_is segment_long': 'the same of lists of keys, and of numbers',
     'dropped_push slots_equal': 'of words that each map has for itself',
-    'first second some_is last_some': 'a line of logic that a structure proves for itself',
+    'first second some_is last_some own': 'a line of logic that a structure proves for itself',
+    'below-changed sorted-changed': 'of entries whose values are changed by the value, or by the key',
     'closed_spec end_spec into_unboxed_spec of_unboxed_spec': 'that function of each handle for C, by the name that the checker wants',
 }
 

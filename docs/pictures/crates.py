@@ -12,7 +12,7 @@ from svg import BLUE, FOLDER, GREEN, INK, ORANGE, RED, SOFT, Picture, fitted
 STRUCTURES = "five structures"
 # So do the crates of their tests.
 TESTS = "their tests"
-MEMBERS = {"slotmap_list", "slotmap_keylist", "slotmap_links", "slotmap_graph", "slotmap_entities", "slotmap_scene", "slotmap_scheduler"}
+MEMBERS = {"slotmap_list", "slotmap_keylist", "slotmap_links", "slotmap_bounded", "slotmap_graph", "slotmap_entities", "slotmap_scene", "slotmap_scheduler"}
 # Where each crate is: its column and row, and what it has.
 CRATES = {
     "slotmap_core": (3.0, 0, "keys, errors, traits, lists of slots, definitions"),
@@ -50,7 +50,7 @@ HEIGHT = 56
 LIBRARIES = {
     "slotmap_rows_primary": "primary_rows", "slotmap_rows_secondary": "secondary_rows", "json_tests": "slotmap_json",
     "slotmap_script": "slotrun", "script_tests": "slotrun",
-    **{f"{name}_tests": TESTS for name in ("list", "links", "graph", "entities", "scene", "scheduler")}, "structures_at_size": TESTS,
+    **{f"{name}_tests": TESTS for name in ("list", "links", "bounded", "graph", "entities", "scene", "scheduler")}, "structures_at_size": TESTS,
 }
 
 

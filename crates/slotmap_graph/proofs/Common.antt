@@ -32,7 +32,7 @@ pub use Rattle.slotmap_graph.specs.Parts.{avoids, ByNode, clones_edge, Edges, ed
 pub use Rattle.slotmap_graph.specs.Parts.{PutsBehind, SameEdges, Seen, SeenEdge, to, touches, value, with_edge, with_edge_in}
 pub use Rattle.slotmap_graph.specs.Search.{AllLed, AreSeen, arrives_at, ends_along, Finds, goes_to, GoesOn, HasEdge, HasNext, IsBreadthFirst, Leads, LeadsBy}
 pub use Rattle.slotmap_graph.specs.Search.{marked}
-pub use Rattle.slotmap_graph.specs.Threads.{AreIndices, by_node, far_end, Grows, HaveIndices, IsGraph, IsThreaded, key_at, keys_at}
+pub use Rattle.slotmap_graph.specs.Threads.{AreIndices, by_node, far_end, CoversMore, HaveIndices, IsGraph, IsThreaded, key_at, keys_at}
 pub use Rattle.slotmap_graph.specs.TopologicalOrder.{ClosesCycle, ComesFromLeft, Counting, edges_out, GoesForward, HasCycle, IsLeft, passed_of, Sorting}
 pub use Rattle.slotmap_graph.specs.declared.lists.Direction.{Direction}
 pub use Rattle.slotmap_graph.specs.declared.lists.Direction.TheVariants.{Into, Out}

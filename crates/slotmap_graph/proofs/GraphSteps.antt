@@ -5,7 +5,7 @@ use Rattle.slotmap_graph.proofs.Common.{refl, sym, ap, subst, inl, inr, arith, K
 use Rattle.slotmap_graph.proofs.Common.{IsBeside, with_value, keys, same_or_other, get-insert_here, get-insert_other, get-put_live, get-put_other, leaves_none}
 use Rattle.slotmap_graph.proofs.Common.{leaves_by_removal, inserted_fresh, live-insert_still, is_key, times, without, is_itself, is_other, times_first}
 use Rattle.slotmap_graph.proofs.Common.{one_itself, Lists, AreDisjoint, list_of, often, SeenEdge, Edges, IsJoined, ListsEdges, PutsAlone, SameEdges}
-use Rattle.slotmap_graph.proofs.Common.{edges_at, from, to, touches, HaveIndices, IsThreaded, IsGraph, Grows, by_node, IsFree, PutsBehind, with_list, with_members, with_owners, list_covered, disjoint_still, length-append, Result, Ok, Err, ClonesEqual, IsCloneBy, IsCloneOf, clones_edge, clone_live}
+use Rattle.slotmap_graph.proofs.Common.{edges_at, from, to, touches, HaveIndices, IsThreaded, IsGraph, CoversMore, by_node, IsFree, PutsBehind, with_list, with_members, with_owners, list_covered, disjoint_still, length-append, Result, Ok, Err, ClonesEqual, IsCloneBy, IsCloneOf, clones_edge, clone_live}
 use Rattle.std.proofs.Common.{◌-◌, OnOk, OnErr, replicate}
 use Rattle.std.specs.FinMap as map
 use Rattle.slotmap_graph.proofs.Adjacent.{absent_unlisted, listed_edge, none_listed, nothing_listed}
@@ -87,7 +87,7 @@ indices_inserted c k v d indices inserts valid capacity within = record {
 module _ {N E : Type 0} (end : SeenEdge E → Key) (nodes : Content N) (edges : Content (SeenEdge E)) (links : Lists) (t : IsThreaded end nodes edges links) where
   -- as many owners and members as the capacities ask for, and the same nodes and edges
   module _ (nodes' : Content N) (edges' : Content (SeenEdge E)) (links' : Lists) (same_nodes : nodes'.live ≡ nodes.live) (same_edges : edges'.live ≡ edges.live)
-      (more_nodes : nodes.capacity ≤ nodes'.capacity) (more_edges : edges.capacity ≤ edges'.capacity) (grows : Grows links links') where
+      (more_nodes : nodes.capacity ≤ nodes'.capacity) (more_edges : edges.capacity ≤ edges'.capacity) (grows : CoversMore links links') where
     grown_nodes : HaveIndices nodes'
     grown_nodes = indices_still nodes nodes' t.node_indices (λ k live. sym (ap (λ m. map.contains_key m k) same_nodes) ∙ live) more_nodes
 
@@ -197,7 +197,7 @@ module _ {N E : Type 0} (end : SeenEdge E → Key) (nodes : Content N) (edges : 
   pub bare_seen : (k : Key) → edges_at (by_node nodes.live edges.live links) k ≡ []
   bare_seen k = at_none nodes.live edges.live links k (no_node k)
 
-covers_more : (s : Lists) → AreDisjoint s → (n m : ℕ) (mid new : Lists) → mid ≡ with_owners s n → (new ≡ with_members mid m) ⊎ (new ≡ mid) → Grows s new
+covers_more : (s : Lists) → AreDisjoint s → (n m : ℕ) (mid new : Lists) → mid ≡ with_owners s n → (new ≡ with_members mid m) ⊎ (new ≡ mid) → CoversMore s new
 covers_more s disjoint n m mid new is either = record {
   lists = same;
   owners = (let more = ap (λ (l : Lists). length l.lists) is ∙ length-append s.lists (replicate (n - length s.lists) []) in let now = lists_now either in omega arith);
@@ -221,7 +221,7 @@ covers_more s disjoint n m mid new is either = record {
     same p = of_mid either p ∙ ap (λ l. list_of l p) is ∙ list_covered s n p
 
 -- the same lists, for more owners and members
-pub covered : (s : Lists) → AreDisjoint s → (n m : ℕ) (mid new : Lists) {A B : Type 0} (r : Result A B) → mid ≡ with_owners s n → OnOk r (new ≡ with_members mid m) → OnErr r (new ≡ mid) → Grows s new
+pub covered : (s : Lists) → AreDisjoint s → (n m : ℕ) (mid new : Lists) {A B : Type 0} (r : Result A B) → mid ≡ with_owners s n → OnOk r (new ≡ with_members mid m) → OnErr r (new ≡ mid) → CoversMore s new
 covered s disjoint n m mid new (Ok a) is ok err = covers_more s disjoint n m mid new is (inl ok)
 covered s disjoint n m mid new (Err b) is ok err = covers_more s disjoint n m mid new is (inr err)
 

@@ -47,7 +47,7 @@ module _ {N E : Type 0} where
     pub into : IsThreaded to nodes edges intos
 
 -- the same lists, for no fewer owners and members
-pub record Grows (old new : Lists) : Type 0 where
+pub record CoversMore (old new : Lists) : Type 0 where
   pub lists : (p : ℕ) → list_of new p ≡ list_of old p
   pub owners : length old.lists ≤ length new.lists
   pub members : old.members ≤ new.members

@@ -4,7 +4,7 @@ ghost use Rattle.std.specs.Prelude.{◌≡◌, ◌<◌, ◌≤◌, ◌++◌, ◌
 ghost use Rattle.std.specs.Borrow.{sem};
 ghost use Rattle.slotmap.specs.Words.{most};
 ghost use Rattle.slotmap_links.specs.Lists.{AreDisjoint, IsFree, IsIn, list_of, with_list, without};
-ghost use Rattle.slotmap_graph.specs.Threads.{Grows, far_end};
+ghost use Rattle.slotmap_graph.specs.Threads.{CoversMore, far_end};
 
 use crate::EdgeKey;
 use slotmap::{DefaultKey, Key};
@@ -90,7 +90,7 @@ impl<E> Edge<E> {
 fn cover(links: &mut Links, node: usize, edge: usize) -> Result<(), AllocError>
     requires node { node ≤ most }
     requires edge { edge ≤ most }
-    ensures grows { Grows links.old links.new }
+    ensures grows { CoversMore links.old links.new }
     ensures owners { OnOk result (node < length links.new.lists) }
     ensures members { OnOk result (edge < links.new.members) }
     ensures had_room { node < length links.old.lists → edge < links.old.members → IsOk result }
@@ -109,8 +109,8 @@ pub(crate) fn cover_both(
 ) -> Result<(), AllocError>
     requires node { node ≤ most }
     requires edge { edge ≤ most }
-    ensures out { Grows out.old out.new }
-    ensures into { Grows into.old into.new }
+    ensures out { CoversMore out.old out.new }
+    ensures into { CoversMore into.old into.new }
     ensures out_covers { OnOk result ((node < length out.new.lists) × (edge < out.new.members)) }
     ensures into_covers { OnOk result ((node < length into.new.lists) × (edge < into.new.members)) }
     ensures had_room { node < length out.old.lists → edge < out.old.members → node < length into.old.lists → edge < into.old.members → IsOk result }

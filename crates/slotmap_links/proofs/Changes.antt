@@ -2,18 +2,8 @@
 use Rattle.std.proofs.Common.{◌≡◌, ◌≢◌, ℕ, ◌+◌, ◌<◌, ◌≤◌, ◌⊎◌, List, [], ◌∷◌, ◌++◌, length, replicate, refl, sym, ap, ◌∙◌, inl, inr, arith, zero, suc}
 use Rattle.std.proofs.Math.Nat.{eq-zero-or-pos}
 use Rattle.slotmap_links.specs.Lists.{Lists, times, list_of, with_list, IsIn, AreDisjoint, without}
-use Rattle.slotmap_links.proofs.Counts.{same, same_or_other, one_itself, one_other, times_first, times_joined, times_gone, without_none, by_first}
+use Rattle.slotmap_links.proofs.Counts.{same, same_or_other, one_itself, one_other, times_first, times_joined, times_gone, times_without, without_none}
 use Rattle.slotmap_links.proofs.Callers.{list_now, list_other}
-
--- another number stays in a list
-pub times_without : (k x : ℕ) (ks : List ℕ) → x ≢ k → times x (without k ks) ≡ times x ks
-times_without k x [] apart = refl
-times_without k x (q ∷ ks) apart =
-    let first = times_first x q ks in
-    let rest = times_without k x ks apart in
-    by_first k q (λ l. times x l ≡ times x (q ∷ ks)) ks
-    (λ is. (let none = one_other q x (λ e. apart (sym e ∙ is)) in omega arith))
-    (λ other. (let again = times_first x q (without k ks) in omega arith))
 
 pub times_pushed : (x : ℕ) (ks : List ℕ) (k : ℕ) → times x (ks ++ k ∷ []) ≡ times x ks + same k x
 times_pushed x ks k = let joined = times_joined x ks (k ∷ []) in let first = times_first x k [] in omega arith

@@ -47,7 +47,8 @@ times_gone k (q ∷ ks) = by_first k q (λ l. times k l ≡ 0) ks
     (λ is. times_gone k ks)
     (λ other. (let first = times_first k q (without k ks) in let none = one_other q k other in let rest = times_gone k ks in omega arith))
 
-times_without : (k x : ℕ) (ks : List ℕ) → x ≢ k → times x (without k ks) ≡ times x ks
+-- another number stays in a list
+pub times_without : (k x : ℕ) (ks : List ℕ) → x ≢ k → times x (without k ks) ≡ times x ks
 times_without k x [] apart = refl
 times_without k x (q ∷ ks) apart =
     let first = times_first x q ks in

@@ -13,7 +13,7 @@ use Rattle.slotmap_links.specs.Lists.{times}
 use Rattle.slotmap_links.proofs.Counts.{same, times_first, times_joined, one_itself}
 use Rattle.slotmap_list.specs.Sequence.{first_or, last_or}
 use Rattle.slotmap_list.proofs.Elements as keys
-use Rattle.slotmap_list.specs.Kept.{with_value, at_index, elements_at, key_of, AreApart, AreIndices}
+use Rattle.slotmap_list.specs.Kept.{with_value, at_index, elements_at, key_there, AreApart, AreLiveIndices}
 
 -- the first key that passes a test is in the list, and where one passes it there is a first
 first_found : (p : Key → Bool) (ks : List Key) (k : Key) → find p ks ≡ Some k → (p k ≡ true) × (list_any (eq_by_cmp key_cmp k) ks ≡ true)
@@ -117,7 +117,7 @@ module _ {T : Type 0} (c : Content T) where
   content_apart well a b of_a of_b = well.apart a b (inl (inl of_a)) (inl (inl of_b))
 
   pub key_found : {K : Type 0} (data_of : K → Key) (i : ℕ) (r : Option K) → IsContent true c → IfSome r (λ key. IsLive c (data_of key)) → IfSome r (λ key. (data_of key).index ≡ i)
-      → IfNone r ((q : Key) → IsLive c q → q.index ≢ i) → option_map data_of r ≡ key_of c.live (Some i)
+      → IfNone r ((q : Key) → IsLive c q → q.index ≢ i) → option_map data_of r ≡ key_there c.live (Some i)
   key_found data_of i None well live index none = sym (ap (option_map (λ e. e.0)) (none_at c.live i none))
   key_found data_of i (Some key) well live index none =
       let v = some_is (map.get c.live (data_of key)) live in
@@ -131,15 +131,15 @@ pub in_rest : (i q : ℕ) (is : List ℕ) → 0 < times q is → 0 < times q (i 
 in_rest i q is more = let first = times_first q i is in omega arith
 
 module _ {T : Type 0} {m : map.FinMap key_cmp T} where
-  pub rest_indices : {i : ℕ} {is : List ℕ} → AreIndices m (i ∷ is) → AreIndices m is
+  pub rest_indices : {i : ℕ} {is : List ℕ} → AreLiveIndices m (i ∷ is) → AreLiveIndices m is
   rest_indices {i} {is} all = record { apart = all.apart; live = λ q more. all.live q (in_rest i q is more) }
 
   -- the element at an index of the list
-  pub element_of : {is : List ℕ} → AreIndices m is → (i : ℕ) → 0 < times i is → (e : Key × T) × (at_index m i ≡ Some e)
+  pub element_of : {is : List ℕ} → AreLiveIndices m is → (i : ℕ) → 0 < times i is → (e : Key × T) × (at_index m i ≡ Some e)
   element_of all i more = some_is (at_index m i) (all.live i more)
 
   -- one element for each index
-  pub elements_long : (is : List ℕ) → AreIndices m is → length (elements_at m is) ≡ length is
+  pub elements_long : (is : List ℕ) → AreLiveIndices m is → length (elements_at m is) ≡ length is
   elements_long [] all = refl
   elements_long (i ∷ is) all =
       let e = element_of all i (in_first i is) in
@@ -148,24 +148,24 @@ module _ {T : Type 0} {m : map.FinMap key_cmp T} where
       omega arith
 
   -- the two ends
-  pub first_at : (is : List ℕ) → AreIndices m is → key_of m (numbers.first_or is None) ≡ first_or (elements_at m is) None
+  pub first_at : (is : List ℕ) → AreLiveIndices m is → key_there m (numbers.first_or is None) ≡ first_or (elements_at m is) None
   first_at [] all = refl
   first_at (i ∷ is) all =
       let e = element_of all i (in_first i is) in
       ap (option_map (λ e. e.0)) e.1 ∙ sym (ap (λ l. first_or l None) (elements_first m i is e.0 e.1))
 
-  last_from : (is : List ℕ) (o : Option ℕ) → AreIndices m is → key_of m (numbers.last_or is o) ≡ last_or (elements_at m is) (key_of m o)
+  last_from : (is : List ℕ) (o : Option ℕ) → AreLiveIndices m is → key_there m (numbers.last_or is o) ≡ last_or (elements_at m is) (key_there m o)
   last_from [] o all = refl
   last_from (i ∷ is) o all =
       let e = element_of all i (in_first i is) in
       last_from is (Some i) (rest_indices all)
-      ∙ ap (λ o. last_or (elements_at m is) o) (ap (option_map (λ e. e.0)) e.1) ∙ sym (ap (λ l. last_or l (key_of m o)) (elements_first m i is e.0 e.1))
+      ∙ ap (λ o. last_or (elements_at m is) o) (ap (option_map (λ e. e.0)) e.1) ∙ sym (ap (λ l. last_or l (key_there m o)) (elements_first m i is e.0 e.1))
 
-  pub last_at : (is : List ℕ) → AreIndices m is → key_of m (numbers.last_or is None) ≡ last_or (elements_at m is) None
+  pub last_at : (is : List ℕ) → AreLiveIndices m is → key_there m (numbers.last_or is None) ≡ last_or (elements_at m is) None
   last_at is all = last_from is None all
 
   -- what is at each of these indices is there in another map too
-  pub elements_stay : (n : map.FinMap key_cmp T) (is : List ℕ) → AreIndices m is → ((i : ℕ) (e : Key × T) → 0 < times i is → at_index m i ≡ Some e → at_index n i ≡ Some e)
+  pub elements_stay : (n : map.FinMap key_cmp T) (is : List ℕ) → AreLiveIndices m is → ((i : ℕ) (e : Key × T) → 0 < times i is → at_index m i ≡ Some e → at_index n i ≡ Some e)
       → elements_at n is ≡ elements_at m is
   elements_stay n [] all stay = refl
   elements_stay n (i ∷ is) all stay =
@@ -174,7 +174,7 @@ module _ {T : Type 0} {m : map.FinMap key_cmp T} where
       ∙ sym (elements_first m i is e.0 e.1)
 
 -- a step along a list of indices, from either end
-module _ {T : Type 0} {m : map.FinMap key_cmp T} {is : List ℕ} (all : AreIndices m is) (i : ℕ) (rest : List ℕ) where
+module _ {T : Type 0} {m : map.FinMap key_cmp T} {is : List ℕ} (all : AreLiveIndices m is) (i : ℕ) (rest : List ℕ) where
   -- an index of the list is that of a live key
   module _ (there : 0 < times i is) where
     pub live_there : ((k : Key) → map.contains_key m k ≡ true → k.index ≢ i) → ⊥
@@ -190,8 +190,8 @@ module _ {T : Type 0} {m : map.FinMap key_cmp T} {is : List ℕ} (all : AreIndic
     pub back_is : is ≡ rest ++ i ∷ [] → elements_at m is ≡ elements_at m rest ++ (k, v) ∷ []
     back_is back = ap (elements_at m) back ∙ elements-append m rest (i ∷ []) ∙ ap (λ l. elements_at m rest ++ l) (elements_first m i [] (k, v) here)
 
-  pub front_there : is ≡ i ∷ rest → 0 < times i is
-  front_there front = let same_often = ap (times i) front in let one = in_first i rest in omega arith
+  pub front_counted : is ≡ i ∷ rest → 0 < times i is
+  front_counted front = let same_often = ap (times i) front in let one = in_first i rest in omega arith
 
-  pub back_there : is ≡ rest ++ i ∷ [] → 0 < times i is
-  back_there back = let same_often = ap (times i) back ∙ times_joined i rest (i ∷ []) in let one = in_first i [] in omega arith
+  pub back_counted : is ≡ rest ++ i ∷ [] → 0 < times i is
+  back_counted back = let same_often = ap (times i) back ∙ times_joined i rest (i ∷ []) in let one = in_first i [] in omega arith

@@ -3,7 +3,7 @@ use Rattle.std.proofs.Common.{◌≡◌, ◌≢◌, Bool, true, false, cond, Lis
 use Rattle.slotmap.specs.Words.{Key}
 use Rattle.slotmap.proofs.Callers.{keys_total, exact_keys, tied, same_or_other}
 use Rattle.slotmap_list.specs.Sequence.{value_of, last_or, without, moved_to_back, put_again, IsOnce}
-use Rattle.slotmap_list.specs.Places.{is_move, is_place, moved_to, put_by_place}
+use Rattle.slotmap_list.specs.ListPlaces.{is_move, is_place, moved_to, put_by_place}
 use Rattle.slotmap_list.specs.declared.place.Side.TheVariants.{Before, After}
 use Rattle.slotmap_list.specs.declared.place.Place.{Place}
 use Rattle.slotmap_list.specs.declared.place.Place.TheVariants.{Front, Back, Beside}

@@ -10,8 +10,8 @@ use Rattle.slotmap_links.specs.Lists.{Lists, list_of, with_list, times, IsFree}
 use Rattle.slotmap_links.proofs.Callers.{list_now, owners_stay}
 use Rattle.slotmap_links.proofs.Counts.{same, same_or_other as same_or_not, one_itself, one_other, times_first, times_joined, times_gone}
 use Rattle.slotmap_list.specs.Sequence.{Sequence, without, with_value_at}
-use Rattle.slotmap_list.specs.Kept.{at_index, elements_at, AreApart, AreIndices, IsKept}
-use Rattle.slotmap_list.specs.Places.{is_place, put_by_place, put_number}
+use Rattle.slotmap_list.specs.Kept.{at_index, elements_at, AreApart, AreLiveIndices, IsKept}
+use Rattle.slotmap_list.specs.ListPlaces.{is_place, put_by_place, put_number}
 use Rattle.slotmap_list.specs.declared.place.Place.{Place}
 use Rattle.slotmap_list.proofs.Elements.{with_value-split}
 use Rattle.slotmap_list.proofs.Indices.{at_is, at_live, content_apart, element_of, elements_first, in_first, none_at, rest_indices as indices_behind, some_alike, some_at}
@@ -113,7 +113,7 @@ module _ {T : Type 0} {c : Content T} {s : Lists} (kept : IsKept c s) where
         ap (times i) at.list ∙ one_more i at.before k.index at.after
         ∙ ap (λ l. same k.index i + times i l) (sym (number_without c.live is (indices kept) (once kept) k v found (inside_if kept k (ap is_some found)) at))
 
-    rest_indices : AreIndices c.live rest
+    rest_indices : AreLiveIndices c.live rest
     rest_indices = record { apart = kept.apart; live = λ i more. (indices kept).live i (let all = taken i in omega arith) }
 
     pub rest_elements : elements_at c.live rest ≡ without k (elements_at c.live is)
@@ -250,7 +250,7 @@ module _ {T : Type 0} (is_clone : T → T → Type 0) {c copy : Content T} {s : 
     covered = (let covered = kept.covered in omega arith);
   }
 
-  clones_by : (is : List ℕ) → AreIndices c.live is → AreClones is_clone (elements_at c.live is) (elements_at copy.live is)
+  clones_by : (is : List ℕ) → AreLiveIndices c.live is → AreClones is_clone (elements_at c.live is) (elements_at copy.live is)
   clones_by [] all = tt
   clones_by (i ∷ is) all =
       let e = element_of all i (in_first i is) in

@@ -8,7 +8,7 @@ use Rattle.slotmap_links.proofs.Callers.{list_now, owners_stay}
 use Rattle.slotmap_links.proofs.Counts.{times_gone}
 use Rattle.slotmap_list.specs.Sequence.{value_of}
 use Rattle.slotmap_list.specs.Kept.{elements_at, IsKept}
-use Rattle.slotmap_list.specs.Places.{has_place, is_move, is_place, moved_to, put_number}
+use Rattle.slotmap_list.specs.ListPlaces.{has_place, is_move, is_place, moved_to, put_number}
 use Rattle.slotmap_list.specs.declared.place.Place.{Place}
 use Rattle.slotmap_list.proofs.Indices.{some_is}
 use Rattle.slotmap_list.proofs.Keeping.{moved_values}

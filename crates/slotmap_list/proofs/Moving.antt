@@ -2,7 +2,7 @@
 use Rattle.std.proofs.Common.{◌≡◌, ◌≢◌, true, false, List, [], ◌∷◌, ◌++◌, Option, Some, None, is_some, if◌then◌else◌, refl, sym, ap, ◌∙◌, arith}
 use Rattle.slotmap.specs.Words.{Key, Content, same_keys}
 use Rattle.slotmap_list.specs.Sequence.{Sequence, is_same, value_of, put_again, without, are_two}
-use Rattle.slotmap_list.specs.Places.{insert_beside, is_place, put_by_place, is_move, moved_to}
+use Rattle.slotmap_list.specs.ListPlaces.{insert_beside, is_place, put_by_place, is_move, moved_to}
 use Rattle.slotmap_list.specs.declared.place.Place.{Place}
 use Rattle.slotmap_list.specs.declared.place.Place.TheVariants.{Front, Back, Beside}
 use Rattle.slotmap_list.proofs.Callers.{without_other}

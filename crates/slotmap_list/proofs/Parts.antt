@@ -10,8 +10,8 @@ use Rattle.slotmap_links.proofs.Counts.{is_itself, times_first, times_joined}
 use Rattle.slotmap_links.proofs.Linking.{in_midst, split_at, without_split}
 use Rattle.slotmap_links.proofs.SeenLists.{after_there, before_there, not_first, not_later, put_before_there, put_behind_there}
 use Rattle.slotmap_list.specs.Sequence.{value_of, key_after, key_before, from_key, put_after, put_before, without, IsOnce}
-use Rattle.slotmap_list.specs.Kept.{at_index, elements_at, key_of, AreApart, AreIndices}
-use Rattle.slotmap_list.specs.Places.{has_place, is_place, put_by_place, put_number}
+use Rattle.slotmap_list.specs.Kept.{at_index, elements_at, key_there, AreApart, AreLiveIndices}
+use Rattle.slotmap_list.specs.ListPlaces.{has_place, is_place, put_by_place, put_number}
 use Rattle.slotmap_list.specs.declared.place.Side.TheVariants.{Before, After}
 use Rattle.slotmap_list.specs.declared.place.Place.{Place}
 use Rattle.slotmap_list.specs.declared.place.Place.TheVariants.{Front, Back, Beside}
@@ -55,12 +55,12 @@ module _ {T : Type 0} (m : map.FinMap key_cmp T) where
     pub list : is ≡ before ++ k.index ∷ after
     pub not_before : times k.index before ≡ 0
     pub not_after : times k.index after ≡ 0
-    pub before_indices : AreIndices m before
-    pub after_indices : AreIndices m after
+    pub before_indices : AreLiveIndices m before
+    pub after_indices : AreLiveIndices m after
     pub elements : elements_at m is ≡ elements_at m before ++ (k, v) ∷ elements_at m after
     pub no_element : keys.times k (elements_at m before) ≡ 0
 
-  module _ (is : List ℕ) (all : AreIndices m is) (once : (i : ℕ) → times i is ≤ 1) (k : Key) (v : T) (found : map.get m k ≡ Some v) (there : 0 < times k.index is) where
+  module _ (is : List ℕ) (all : AreLiveIndices m is) (once : (i : ℕ) → times i is ≤ 1) (k : Key) (v : T) (found : map.get m k ≡ Some v) (there : 0 < times k.index is) where
     pub stands_at : IsAt is k v
     stands_at =
         let split = split_at k.index is there in
@@ -83,12 +83,12 @@ module _ {T : Type 0} (m : map.FinMap key_cmp T) where
       pub value_there : value_of k (elements_at m is) ≡ Some v
       value_there = ap (value_of k) s.elements ∙ value_of-split k v (elements_at m s.after) (elements_at m s.before) s.no_element
 
-      pub next_there : key_of m (numbers.number_after k.index is) ≡ key_after k (elements_at m is)
-      next_there = ap (key_of m) (ap (numbers.number_after k.index) s.list ∙ after_there k.index s.after s.before s.not_before) ∙ first_at s.after s.after_indices
+      pub next_there : key_there m (numbers.number_after k.index is) ≡ key_after k (elements_at m is)
+      next_there = ap (key_there m) (ap (numbers.number_after k.index) s.list ∙ after_there k.index s.after s.before s.not_before) ∙ first_at s.after s.after_indices
           ∙ sym (ap (key_after k) s.elements ∙ key_after-split k v (elements_at m s.after) (elements_at m s.before) s.no_element)
 
-      pub prev_there : key_of m (numbers.number_before None k.index is) ≡ key_before None k (elements_at m is)
-      prev_there = ap (key_of m) (ap (numbers.number_before None k.index) s.list ∙ before_there k.index s.after s.before None s.not_before) ∙ last_at s.before s.before_indices
+      pub prev_there : key_there m (numbers.number_before None k.index is) ≡ key_before None k (elements_at m is)
+      prev_there = ap (key_there m) (ap (numbers.number_before None k.index) s.list ∙ before_there k.index s.after s.before None s.not_before) ∙ last_at s.before s.before_indices
           ∙ sym (ap (key_before None k) s.elements ∙ key_before-split k v (elements_at m s.after) None (elements_at m s.before) s.no_element)
 
       pub from_at : elements_at m (numbers.numbers_from k.index is) ≡ from_key k (elements_at m is)
@@ -116,7 +116,7 @@ module _ {T : Type 0} (m : map.FinMap key_cmp T) where
   place_there Back is there = tt
   place_there (Beside side k) is there = (value_in k is there).1
 
-  module _ (is : List ℕ) (all : AreIndices m is) (once : (i : ℕ) → times i is ≤ 1) where
+  module _ (is : List ℕ) (all : AreLiveIndices m is) (once : (i : ℕ) → times i is ≤ 1) where
     pub place_in : (place : Place) → is_place place (elements_at m is) ≡ true → IsPlace is place
     place_in Front there = record { before = []; after = is; list = refl; number = λ i. refl; element = λ x. refl }
     place_in Back there = record { before = is; after = []; list = sym (append-nil is); number = λ i. refl; element = λ x. refl }
@@ -149,7 +149,7 @@ module _ {T : Type 0} (m : map.FinMap key_cmp T) where
 
 -- what is under other indices stays where others stay
 module _ {T : Type 0} (m n : map.FinMap key_cmp T) (k : Key) (apart : AreApart n) (others : (q : Key) (w : T) → q.index ≢ k.index → map.get m q ≡ Some w → map.get n q ≡ Some w) where
-  pub part_left : (is : List ℕ) → AreIndices m is → times k.index is ≡ 0 → elements_at n is ≡ elements_at m is
+  pub part_left : (is : List ℕ) → AreLiveIndices m is → times k.index is ≡ 0 → elements_at n is ≡ elements_at m is
   part_left is all none = elements_stay n is all (λ i e more at.
       let found = at_is m i e at in
       let other : e.0.index ≢ k.index = λ same. (let h = ap (λ j. times j is) (sym found.0 ∙ same) in absurd (omega arith)) in
@@ -158,13 +158,13 @@ module _ {T : Type 0} (m n : map.FinMap key_cmp T) (k : Key) (apart : AreApart n
 -- an element that is put between others, or written where it was
 module _ {T : Type 0} (m n : map.FinMap key_cmp T) (k : Key) (v : T) (apart : AreApart n) (here : map.get n k ≡ Some v)
     (others : (q : Key) (w : T) → q.index ≢ k.index → map.get m q ≡ Some w → map.get n q ≡ Some w) where
-  pub placed : (before after : List ℕ) → AreIndices m before → AreIndices m after → times k.index before ≡ 0 → times k.index after ≡ 0
+  pub placed : (before after : List ℕ) → AreLiveIndices m before → AreLiveIndices m after → times k.index before ≡ 0 → times k.index after ≡ 0
       → elements_at n (before ++ k.index ∷ after) ≡ elements_at m before ++ (k, v) ∷ elements_at m after
   placed before after all_before all_after not_before not_after =
       elements-append n before (k.index ∷ after) ∙ ap (λ l. l ++ elements_at n (k.index ∷ after)) (part_left m n k apart others before all_before not_before)
       ∙ ap (λ l. elements_at m before ++ l) (elements_first n k.index after (k, v) (at_live n apart k v here) ∙ ap (λ l. (k, v) ∷ l) (part_left m n k apart others after all_after not_after))
 
-  pub put_between : (is : List ℕ) → AreIndices m is → times k.index is ≡ 0 → (before after : List ℕ) → is ≡ before ++ after
+  pub put_between : (is : List ℕ) → AreLiveIndices m is → times k.index is ≡ 0 → (before after : List ℕ) → is ≡ before ++ after
       → elements_at n (before ++ k.index ∷ after) ≡ elements_at m before ++ (k, v) ∷ elements_at m after
   put_between is all none before after split =
       let sum : (i : ℕ) → times i is ≡ times i before + times i after = λ i. ap (times i) split ∙ times_joined i before after in

@@ -6,7 +6,7 @@ use Rattle.slotmap_links.specs.Lists as numbers
 use Rattle.slotmap_links.specs.Lists.{Lists, list_of, times, IsIn}
 use Rattle.slotmap_list.specs.Sequence.{value_of, first_or, last_or, key_after, key_before, from_key, without, IsOnce}
 use Rattle.slotmap_links.proofs.Counts.{times_first}
-use Rattle.slotmap_list.specs.Kept.{at_index, elements_at, key_of, AreIndices, IsKept, IsRest}
+use Rattle.slotmap_list.specs.Kept.{at_index, elements_at, key_there, AreLiveIndices, IsKept, IsRest}
 use Rattle.slotmap_list.proofs.Elements as keys
 use Rattle.slotmap_list.proofs.Elements.{times_none, key_after-absent, key_before-absent, from_key-absent, without-absent}
 use Rattle.slotmap_list.proofs.Indices.{elements_long, first_at, last_at, some_at, some_is}
@@ -35,7 +35,7 @@ module _ {T : Type 0} {c : Content T} {s : Lists} (kept : IsKept c s) where
   abbrev es : List (Key × T)
   es = elements_at c.live is
 
-  pub indices : AreIndices c.live is
+  pub indices : AreLiveIndices c.live is
   indices = record { apart = kept.apart; live = λ i more. by i (is_some (at_index c.live i)) refl (let n = kept.each i in omega arith) }
     where
       by : (i : ℕ) (b : Bool) → is_some (at_index c.live i) ≡ b → 0 < cond b 1 0 → IsSome (at_index c.live i)
@@ -96,10 +96,10 @@ module _ {T : Type 0} {c : Content T} {s : Lists} (kept : IsKept c s) where
     pub own : (v : T) × (map.get c.live k ≡ Some v)
     own = some_is (map.get c.live k) live
 
-    after_live : key_of c.live (numbers.number_after k.index is) ≡ key_after k es
+    after_live : key_there c.live (numbers.number_after k.index is) ≡ key_after k es
     after_live = next_there c.live is indices once k own.0 own.1 (inside_if k live) (stands k own.0 own.1)
 
-    before_live : key_of c.live (numbers.number_before None k.index is) ≡ key_before None k es
+    before_live : key_there c.live (numbers.number_before None k.index is) ≡ key_before None k es
     before_live = prev_there c.live is indices once k own.0 own.1 (inside_if k live) (stands k own.0 own.1)
 
     from_live : elements_at c.live (numbers.numbers_from k.index is) ≡ from_key k es
@@ -110,22 +110,22 @@ module _ {T : Type 0} {c : Content T} {s : Lists} (kept : IsKept c s) where
   below k live i same = kept.within i (rw same (inside_if k live))
 
   -- the keys beside one that stands, and those at the two ends, as the calls find them
-  module _ {K : Type 0} (data_of : K → Key) (r : Option K) (number : Option ℕ) (finds : option_map data_of r ≡ key_of c.live number) where
+  module _ {K : Type 0} (data_of : K → Key) (r : Option K) (number : Option ℕ) (finds : option_map data_of r ≡ key_there c.live number) where
     pub first_is : number ≡ numbers.first_or is None → option_map data_of r ≡ first_or es None
-    first_is at = finds ∙ ap (key_of c.live) at ∙ first_at is indices
+    first_is at = finds ∙ ap (key_there c.live) at ∙ first_at is indices
 
     pub last_is : number ≡ numbers.last_or is None → option_map data_of r ≡ last_or es None
-    last_is at = finds ∙ ap (key_of c.live) at ∙ last_at is indices
+    last_is at = finds ∙ ap (key_there c.live) at ∙ last_at is indices
 
     module _ (k : Key) (live : map.contains_key c.live k ≡ true) (i : ℕ) (same : i ≡ k.index) where
       inside : IsIn s 0 i
       inside = rw same (inside_if k live)
 
       pub after_is : ((p : ℕ) → IsIn s p i → number ≡ numbers.number_after i (list_of s p)) → option_map data_of r ≡ key_after k es
-      after_is at = finds ∙ ap (key_of c.live) (at 0 inside ∙ ap (λ j. numbers.number_after j is) same) ∙ after_live k live
+      after_is at = finds ∙ ap (key_there c.live) (at 0 inside ∙ ap (λ j. numbers.number_after j is) same) ∙ after_live k live
 
       pub before_is : ((p : ℕ) → IsIn s p i → number ≡ numbers.number_before None i (list_of s p)) → option_map data_of r ≡ key_before None k es
-      before_is at = finds ∙ ap (key_of c.live) (at 0 inside ∙ ap (λ j. numbers.number_before None j is) same) ∙ before_live k live
+      before_is at = finds ∙ ap (key_there c.live) (at 0 inside ∙ ap (λ j. numbers.number_before None j is) same) ∙ before_live k live
 
   -- an iterator from a key on has what stands from there
   module _ (k : Key) (live : map.contains_key c.live k ≡ true) (i : ℕ) (same : i ≡ k.index) (from : List ℕ) (at : (p : ℕ) → IsIn s p i → from ≡ numbers.numbers_from i (list_of s p)) where
@@ -138,5 +138,5 @@ module _ {T : Type 0} {c : Content T} {s : Lists} (kept : IsKept c s) where
       few = (let few = (few_from k.index 0 is).1 in let all = elements_long is indices in omega arith);
     })
 
-    pub rest_elements : elements_at c.live from ≡ from_key k es
-    rest_elements = ap (elements_at c.live) from_is ∙ from_live k live
+    pub tail_elements : elements_at c.live from ≡ from_key k es
+    tail_elements = ap (elements_at c.live) from_is ∙ from_live k live

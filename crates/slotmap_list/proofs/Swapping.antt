@@ -6,7 +6,7 @@ use Rattle.slotmap_list.specs.declared.place.Side.{Side}
 use Rattle.slotmap_list.specs.declared.place.Side.TheVariants.{Before, After}
 use Rattle.slotmap_list.specs.declared.place.Place.TheVariants.{Back, Beside}
 use Rattle.slotmap_list.specs.Sequence.{Sequence, value_of, first_or, key_after, put_again, are_two, IsOnce, Swaps}
-use Rattle.slotmap_list.specs.Places.{insert_beside, moved_to, before_or_back}
+use Rattle.slotmap_list.specs.ListPlaces.{insert_beside, moved_to, before_or_back}
 use Rattle.slotmap_list.proofs.Elements.{one, one_itself, one_other, times, times-append, times-put, times_some, some_there, at_most_once, once_if, absent_before, once_drop, parts_at}
 use Rattle.slotmap_list.proofs.Elements.{value_of-split, without-split, key_after-split, put_after-split, put_before-split}
 use Rattle.slotmap_list.proofs.Moving.{is_itself, is_other, two}

@@ -20,16 +20,16 @@ module _ {T : Type 0} where
   elements_at m is = filter_map (at_index m) is
 
   -- the live key with an index, if there is one
-  abbrev pub key_of : map.FinMap key_cmp T → Option ℕ → Option Key
-  key_of m None = None
-  key_of m (Some i) = option_map (λ e. e.0) (at_index m i)
+  abbrev pub key_there : map.FinMap key_cmp T → Option ℕ → Option Key
+  key_there m None = None
+  key_there m (Some i) = option_map (λ e. e.0) (at_index m i)
 
   -- no two live keys have one index
   abbrev pub AreApart : map.FinMap key_cmp T → Type 0
   AreApart m = (a b : Key) → map.contains_key m a ≡ true → map.contains_key m b ≡ true → a.index ≡ b.index → a ≡ b
 
   -- each of these numbers is the index of a live key
-  pub record AreIndices (m : map.FinMap key_cmp T) (is : List ℕ) : Type 0 where
+  pub record AreLiveIndices (m : map.FinMap key_cmp T) (is : List ℕ) : Type 0 where
     pub apart : AreApart m
     pub live : (i : ℕ) → 0 < times i is → IsSome (at_index m i)
 
@@ -44,7 +44,7 @@ module _ {T : Type 0} where
 
   -- an iterator from a cursor on has these indices left, which are so many at most
   pub record IsRest (m : map.FinMap key_cmp T) (is : List ℕ) (most : ℕ) : Type 0 where
-    pub indices : AreIndices m is
+    pub indices : AreLiveIndices m is
     pub few : length is ≤ most
 
 -- the indices that such an iterator has left; it may have begun nowhere

@@ -4,7 +4,7 @@ ghost use Rattle.std.specs.Prelude.{◌≡◌, ◌+◌, ◌<◌, ◌++◌, ◌�
 ghost use Rattle.std.specs.FinMap as map;
 ghost use Rattle.slotmap.specs.Words.{Inserts, IsSpent, Keeps, KeepsSpent, used};
 ghost use Rattle.slotmap_list.specs.Sequence.{value_of, put_after, put_before};
-ghost use Rattle.slotmap_list.specs.Places.{insert_beside, is_place, put_by_place};
+ghost use Rattle.slotmap_list.specs.ListPlaces.{insert_beside, is_place, put_by_place};
 ghost use Rattle.slotmap_list.specs.Refused.{RefusesPlace, RefusesPush};
 
 use crate::place::{Place, Side, put_index};

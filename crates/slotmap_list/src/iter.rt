@@ -27,11 +27,11 @@ impl<'a, K, T> Model for Iter<'a, K, T> {
 
     ghost Value = { List (Key × T) };
 
-    ghost use Rattle.slotmap_list.specs.Kept.{elements_at, AreIndices};
+    ghost use Rattle.slotmap_list.specs.Kept.{elements_at, AreLiveIndices};
 
     ghost view = { λ it. elements_at it.values.now.live it.indices };
 
-    ghost invariant = { λ it. AreIndices it.values.now.live it.indices };
+    ghost invariant = { λ it. AreLiveIndices it.values.now.live it.indices };
 }
 
 impl<'a, K: Key, T: Drop> Iterator for Iter<'a, K, T> {

@@ -39,7 +39,7 @@
 ghost use Rattle.std.specs.Prelude.{◌≡◌, ◌+◌, ◌<◌, ◌≤◌, ◌^◌, ◌∷◌, [], Some, None, true, IsOk, IfOk, OnOk, IfErr, IfSome, IsTrue, ◌↔◌, is_some, length, option_copied, option_map, map as list_map};
 ghost use Rattle.std.specs.FinMap as map;
 ghost use Rattle.slotmap.specs.Words.{IsNew, IsSpent, Keeps, KeepsSpent, MakesRoom, RefusesCapacity, used};
-ghost use Rattle.slotmap_list.specs.Kept.{key_of};
+ghost use Rattle.slotmap_list.specs.Kept.{key_there};
 ghost use Rattle.slotmap_list.specs.Sequence.{value_of, first_or, last_or, key_after, key_before, IsOnce};
 
 use slotmap::{Key, ReserveError};
@@ -157,7 +157,7 @@ fn cover(links: &mut Links, needed: usize) -> Result<(), AllocError>
 
 // The live key with an index, if there is one.
 fn key_at<K: Key, T: Drop>(values: &BoundedMap<K, T>, index: Option<u32>) -> Option<K>
-    ensures { option_map K.data_of result ≡ key_of values.now.live index }
+    ensures { option_map K.data_of result ≡ key_there values.now.live index }
 {
     // By what `len` ensures, no two live keys have one index.
     let _ = values.len();

@@ -5,7 +5,7 @@ ghost use Rattle.std.specs.Borrow.{sem};
 ghost use Rattle.std.specs.Option.{option_copied_mut};
 ghost use Rattle.slotmap.specs.Words.{Key as KeyOf};
 ghost use Rattle.slotmap_list.specs.Sequence.{value_of, first_or, last_or, moved_to_front, moved_to_back, moved_after, moved_before, are_two, Swaps};
-ghost use Rattle.slotmap_list.specs.Places.{is_move, moved_to, before_or_back};
+ghost use Rattle.slotmap_list.specs.ListPlaces.{is_move, moved_to, before_or_back};
 
 use crate::StableList;
 use crate::place::{Place, Side, cursor_of, put_index};

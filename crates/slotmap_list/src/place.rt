@@ -2,7 +2,7 @@
 
 ghost use Rattle.std.specs.Prelude.{◌≡◌, ◌<◌, length};
 ghost use Rattle.slotmap_links.specs.Lists.{IsFree, list_of, with_list};
-ghost use Rattle.slotmap_list.specs.Places.{has_place, put_number};
+ghost use Rattle.slotmap_list.specs.ListPlaces.{has_place, put_number};
 
 use slotmap::{Key, KeyData};
 use slotmap_links::Links;

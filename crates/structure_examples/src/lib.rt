@@ -10,7 +10,7 @@ pub mod groups;
 pub mod heirs;
 pub mod reaper;
 pub mod room;
-pub mod siblings;
+pub mod reorder;
 pub mod stores;
 pub mod timer;
 pub mod twins;

@@ -1,7 +1,7 @@
 use Rattle.std.proofs.Common.{sym, ap, length, ◌∙◌}
 use Rattle.slotmap.specs.Words.{Key}
 use Rattle.slotmap_list.specs.Sequence.{Sequence}
-use Rattle.slotmap_list.proofs.Seen.{from_gone, inside_if, rest_begins, rest_elements}
+use Rattle.slotmap_list.proofs.Seen.{from_gone, inside_if, rest_begins, tail_elements}
 use Rattle.slotmap_list.proofs.StableList.iter_from.Goals as goal
 
 pub returns-then-not-contains_key-clause-elements : goal.returns-then-not-contains_key-clause-elements
@@ -14,7 +14,7 @@ invariant_of-result-2 g c =
 
 pub returns-clause-elements : goal.returns-clause-elements
 returns-clause-elements g c =
-    rw (← c.self.view_is) (rest_elements c.self.invariant (g.K.Key.data_of c.args.cursor) (sym c.contains_key.ensures.value ∙ c.if-not-contains_key.false) c.idx.result
+    rw (← c.self.view_is) (tail_elements c.self.invariant (g.K.Key.data_of c.args.cursor) (sym c.contains_key.ensures.value ∙ c.if-not-contains_key.false) c.idx.result
     (c.idx.ensures.value ∙ ap (λ (k : Key). k.index) c.data.ensures.value) c.iter_from.result c.iter_from.ensures)
 
 pub iter_from-requires : goal.iter_from-requires

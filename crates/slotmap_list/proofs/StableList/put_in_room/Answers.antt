@@ -5,7 +5,7 @@ use Rattle.slotmap_keylist.proofs.Alone.{alone-inserts, gone_stays, new_not_gone
 use Rattle.slotmap_links.specs.Lists.{list_of}
 use Rattle.slotmap_list.specs.Kept.{elements_at}
 use Rattle.slotmap_list.specs.Sequence.{Sequence}
-use Rattle.slotmap_list.specs.Places.{is_place}
+use Rattle.slotmap_list.specs.ListPlaces.{is_place}
 use Rattle.slotmap_list.proofs.Keeps.{free_one, kept_put, none_yet, elements_put}
 use Rattle.slotmap_list.proofs.Parts.{place_there}
 use Rattle.slotmap_list.proofs.Seen.{value_at}

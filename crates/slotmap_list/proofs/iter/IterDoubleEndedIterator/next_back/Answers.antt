@@ -1,11 +1,11 @@
 use Rattle.std.proofs.Common.{[], ◌∷◌, length, length-append, sym, ap, ◌∙◌, arith}
 use Rattle.slotmap_list.specs.Kept.{elements_at}
-use Rattle.slotmap_list.proofs.Indices.{back_is, back_there, live_there}
+use Rattle.slotmap_list.proofs.Indices.{back_is, back_counted, live_there}
 use Rattle.slotmap_list.proofs.iter.IterDoubleEndedIterator.next_back.Goals as goal
 
 pub returns-in_err-cursor-clause-steps : goal.returns-in_err-cursor-clause-steps
 returns-in_err-cursor-clause-steps g c =
-    absurd (live_there c.self.invariant c.in_ok-index.index c.next_back.new.self (back_there c.self.invariant c.in_ok-index.index c.next_back.new.self c.in_ok-index.ensures.steps) c.in_err-cursor.ensures.none)
+    absurd (live_there c.self.invariant c.in_ok-index.index c.next_back.new.self (back_counted c.self.invariant c.in_ok-index.index c.next_back.new.self c.in_ok-index.ensures.steps) c.in_err-cursor.ensures.none)
 
 pub returns-clause-steps : goal.returns-clause-steps
 returns-clause-steps g c =

@@ -1,12 +1,12 @@
 use Rattle.std.proofs.Common.{sym, ap, ◌∙◌}
 use Rattle.slotmap_list.specs.Kept.{all_of, elements_at}
-use Rattle.slotmap_list.proofs.Indices.{front_is, front_there, live_there}
+use Rattle.slotmap_list.proofs.Indices.{front_is, front_counted, live_there}
 use Rattle.slotmap_list.proofs.rest.IterFromIterator.next.Goals as goal
 
 pub returns-in_err-cursor-clause-steps : goal.returns-in_err-cursor-clause-steps
 returns-in_err-cursor-clause-steps g c =
     let all = (rw c.in-Some.is at c.self.invariant).indices in
-    absurd (live_there all c.in_ok-index.index c.next.new.self (front_there all c.in_ok-index.index c.next.new.self c.in_ok-index.ensures.steps) c.in_err-cursor.ensures.none)
+    absurd (live_there all c.in_ok-index.index c.next.new.self (front_counted all c.in_ok-index.index c.next.new.self c.in_ok-index.ensures.steps) c.in_err-cursor.ensures.none)
 
 pub returns-clause-steps : goal.returns-clause-steps
 returns-clause-steps g c =
