@@ -2,7 +2,7 @@
 """Keeps docs/verdicts.tsv: for each crate the axioms that its verdict counts, the contracts of C functions that it calls.
 `docs/verdicts.py LOG` reads the verdicts in a log of the gate, or of a check, and writes them there. Those of other crates stay.
 With --check it writes nothing, and fails where docs/PROVED.md says something else than the table: a crate that it names beside a
-number of axioms, in a line `| `CRATE` | NUMBER |` below "Nothing is assumed", has this number, and each other library has none.
+number of axioms, in a line `| `CRATE` | NUMBER |` below "Nothing is assumed", has this number, and each other crate has none.
 """
 
 import os
@@ -20,20 +20,23 @@ def read(path):
 
 
 def crates():
-    """The crates of crates.txt, and whether each is a library."""
-    names = [re.split(r"[ :]", it)[0] for it in read(os.path.join(TOP, "crates.txt")).split("\n") if re.match(r"\w", it)]
-    return {it: os.path.exists(os.path.join(TOP, "crates", it, "src/lib.rt")) for it in names}
+    """The crates of crates.txt."""
+    return {re.split(r"[ :]", it)[0] for it in read(os.path.join(TOP, "crates.txt")).split("\n") if re.match(r"\w", it)}
 
 
 def verdicts_in(log):
-    """The axioms that each crate's last verdict in the log counts."""
-    found, crate = {}, None
+    """The axioms that each crate's last verdict in the log counts. The gate names a crate below its verdict, and a check above it."""
+    found, crate, axioms = {}, None, None
     for line in log.split("\n"):
-        named = re.match(r"crate (\w+): modules loaded", line)
-        crate = named.group(1) if named else crate
-        if line.startswith("logic=proved functions=") and crate:
+        checked, proved = re.match(r"crate (\w+): modules loaded", line), re.match(r"rt: (\w+) proved$", line)
+        crate = checked.group(1) if checked else crate
+        if line.startswith("logic=proved functions="):
             counted = re.search(r" axioms=(\d+)", line)
-            found[crate] = int(counted.group(1)) if counted else 0
+            axioms = int(counted.group(1)) if counted else 0
+            if crate:
+                found[crate] = axioms
+        elif proved and axioms is not None:
+            found[proved.group(1)] = axioms
     return found
 
 
@@ -45,16 +48,15 @@ def table():
 
 
 def faults():
-    kinds, kept, found = crates(), table(), []
+    known, kept, found = crates(), table(), []
     section = read(os.path.join(TOP, "docs/PROVED.md")).split("## Nothing is assumed")[1].split("\n## ")[0]
-    said = {crate: int(axioms) for crate, axioms in re.findall(r"(?m)^\| `(\w+)` \| (\d+) \|", section)}
+    rows = re.findall(r"(?m)^\| ((?:`\w+`(?:, )?)+) \| (\d+) \|", section)
+    said = {crate: int(axioms) for named, axioms in rows for crate in re.findall(r"\w+", named)}
     for crate, axioms in kept.items():
-        if crate not in kinds:
+        if crate not in known:
             found.append(f"docs/verdicts.tsv has {crate}, which crates.txt lacks")
-        elif kinds[crate] and axioms != said.get(crate, 0):
+        elif axioms != said.get(crate, 0):
             found.append(f"docs/PROVED.md says that {crate} has {said.get(crate, 0)} axioms, and its verdict {axioms}")
-        elif not kinds[crate] and axioms != said.get(crate, said.get("programs", 0)):
-            found.append(f"docs/PROVED.md says that the program {crate} has {said.get(crate, said.get('programs', 0))} axioms, and its verdict {axioms}")
     return found
 
 
