@@ -1,7 +1,7 @@
 //! A slot map whose indices stay within a bound, for structures that keep tables beside it.
 //!
-//! A [`BoundedMap`] is a [`SlotMap`] that promises no more room than was asked of it, although its own
-//! vectors may have grown further. So the index of a key never passes [`BoundedMap::capacity`], which
+//! A [`BoundedMap`] is a [`SlotMap`] that counts the room that it promises, although its own vectors may
+//! have grown further. So the index of a key never passes [`BoundedMap::capacity`], which
 //! [`BoundedMap::reserve`] alone raises, and [`BoundedMap::capacity_for`] tells how far. A structure
 //! first makes its tables long enough for that, and then reserves. If one of the two fails, it still
 //! has room for all that it promises.
@@ -35,7 +35,7 @@ use std::marker::Model;
 // How many keys a map holds at most.
 const MOST: usize = 4_294_967_294;
 
-/// A slot map that promises as much room as was asked for, and no more.
+/// A slot map that promises the room that it counted where it was reserved, and no more.
 ///
 /// A clause sees the content of the map, where `room` is what was promised. The live, detached and
 /// retired keys and the room together are the `capacity`.
