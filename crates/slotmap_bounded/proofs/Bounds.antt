@@ -165,7 +165,20 @@ module _ {V : Type 0} (c : Content V) (room capacity : ℕ) (is : IsBounded c ro
     capacity = omega arith;
   }
 
-  module _ (n : ℕ) (ok : Type 0) (new : Content V) (makes : MakesRoom true c n ok new) (less : room < n) where
+  pub none_made : (n : ℕ) (ok : Type 0) → (ok → ⊥) → room < n → MakesRoom true (bounded c room capacity) n ok (bounded c room capacity)
+  none_made n ok failed less = let valid = bounded_valid c room capacity is in record {
+    before = valid;
+    after = valid;
+    fits = λ done. absurd (failed done);
+    room = λ done. absurd (failed done);
+    live_and_more = λ done. absurd (failed done);
+    succeeds = λ more. absurd (omega arith);
+    had_room = λ more. refl;
+    keeps = record { live = refl; detached = refl; retired = refl; next = refl; offer = refl; stack = refl; room = omega arith };
+    capacity = omega arith;
+  }
+
+  module _ (n asked : ℕ) (ok : Type 0) (new : Content V) (makes : MakesRoom true c n ok new) (enough : asked ≤ n) (less : room < asked) where
     same_used : used new ≡ used c
     same_used =
         let live = ap map.len makes.keeps.live in
@@ -201,11 +214,11 @@ module _ {V : Type 0} (c : Content V) (room capacity : ℕ) (is : IsBounded c ro
       capacity = capacity;
     }
 
-    pub made_room : ok → (fine : Type 0) → fine → MakesRoom true (bounded c room capacity) n fine (bounded new n (capacity - room + n))
+    pub made_room : ok → (fine : Type 0) → fine → MakesRoom true (bounded c room capacity) asked fine (bounded new n (capacity - room + n))
     made_room done fine is_fine = let keeps = makes.keeps in record {
       before = bounded_valid c room capacity is;
       after = bounded_valid new n (capacity - room + n) (made done);
-      fits = λ _. makes.fits done;
+      fits = λ _. (let f = makes.fits done in omega arith);
       room = λ _. omega arith;
       live_and_more = λ _. (let live = ap map.len keeps.live in let e = is.exact in omega arith);
       succeeds = λ more. absurd (omega arith);
@@ -222,7 +235,7 @@ module _ {V : Type 0} (c : Content V) (room capacity : ℕ) (is : IsBounded c ro
       capacity = (let e = is.exact in omega arith);
     }
 
-    pub refused_room : (fine : Type 0) → (fine → ⊥) → MakesRoom true (bounded c room capacity) n fine (bounded new room capacity)
+    pub refused_room : (fine : Type 0) → (fine → ⊥) → MakesRoom true (bounded c room capacity) asked fine (bounded new room capacity)
     refused_room fine failed = record {
       before = bounded_valid c room capacity is;
       after = bounded_valid new room capacity refused;

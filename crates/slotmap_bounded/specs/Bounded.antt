@@ -1,7 +1,11 @@
 -- A content that promises as much room as was asked for.
-use Rattle.std.specs.Prelude.{◌≡◌, ℕ, ◌+◌, ◌≤◌, true}
+use Rattle.std.specs.Prelude.{◌≡◌, ℕ, ◌+◌, ◌-◌, ◌/◌, ◌≤◌, true, cond, max, min, nat_lt}
 use Rattle.std.specs.FinMap as map
-use Rattle.slotmap.specs.Words.{Content, IsContent, used}
+use Rattle.slotmap.specs.Words.{Content, IsContent, most, used}
+
+-- how many more keys are promised where room for n is asked for: half as many as there are, if that is more, within the limit
+abbrev pub grown : ℕ → ℕ → ℕ
+grown used n = max n (min (used / 2) (most - used))
 
 module _ {V : Type 0} where
   -- the same content with another room and another capacity
@@ -14,3 +18,7 @@ module _ {V : Type 0} where
     pub vacant : map.len c.next ≤ room
     pub fits : room ≤ c.room
     pub exact : used c + room ≡ capacity
+
+  -- the capacity once there is room for n more keys
+  abbrev pub capacity_with : Content V → ℕ → ℕ
+  capacity_with c n = cond (nat_lt c.room n) (used c + grown (used c) n) c.capacity

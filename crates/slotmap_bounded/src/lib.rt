@@ -1,7 +1,7 @@
 //! A slot map whose indices stay within a bound, for structures that keep tables beside it.
 //!
-//! A [`BoundedMap`] is a [`SlotMap`] that promises no more room than was asked of it, although its own
-//! vectors may have grown further. So the index of a key never passes [`BoundedMap::capacity`], which
+//! A [`BoundedMap`] is a [`SlotMap`] that counts the room that it promises, although its own vectors may
+//! have grown further. So the index of a key never passes [`BoundedMap::capacity`], which
 //! [`BoundedMap::reserve`] alone raises, and [`BoundedMap::capacity_for`] tells how far. A structure
 //! first makes its tables long enough for that, and then reserves. If one of the two fails, it still
 //! has room for all that it promises.
@@ -19,11 +19,12 @@
 //! ```
 #![tactic(auto, using(slotmap::proofs::Callers::keys))]
 
-ghost use Rattle.std.specs.Prelude.{◌≡◌, ◌≢◌, ℕ, ◌+◌, ◌<◌, ◌≤◌, if◌then◌else◌, max, Some, IfOk, OnOk, OnErr, IfErr, IsOk, OnSome, IfSome, IfNone, Ok, option_copied, true};
+ghost use Rattle.std.specs.Prelude.{◌≡◌, ◌≢◌, ℕ, ◌+◌, ◌-◌, ◌<◌, ◌≤◌, if◌then◌else◌, Some, IfOk, OnOk, OnErr, IfErr, IsOk, OnSome, IfSome, IfNone, Ok, option_copied, true};
 ghost use Rattle.std.specs.FinMap as map;
 ghost use Rattle.std.specs.Borrow.{sem};
 ghost use Rattle.std.specs.Option.{option_copied_mut};
 ghost use Rattle.slotmap.specs.Words.{Key as KeyOf, IsContent, IsCloneBy, IsLive, IsNew, Inserts, Leaves, MakesRoom, RefusesCapacity, Removes, StaysValid, is_last, most, places, used};
+ghost use Rattle.slotmap_bounded.specs.Bounded.{capacity_with, grown as grown_by};
 
 use slotmap::basic::{Iter, Keys};
 use slotmap::{Key, ReserveError, SlotMap};
@@ -34,7 +35,7 @@ use std::marker::Model;
 // How many keys a map holds at most.
 const MOST: usize = 4_294_967_294;
 
-/// A slot map that promises as much room as was asked for, and no more.
+/// A slot map that promises the room that it counted where it was reserved, and no more.
 ///
 /// A clause sees the content of the map, where `room` is what was promised. The live, detached and
 /// retired keys and the room together are the `capacity`.
@@ -67,6 +68,17 @@ fn freed<K: Key>(key: K) -> usize
         return 0;
     }
     1
+}
+
+// For how many more keys room is made where it is asked for so many.
+fn grown(used: usize, additional: usize) -> usize
+    requires used { used ≤ most }
+    requires additional { additional ≤ most - used }
+    ensures value { result ≡ grown_by used additional }
+    ensures enough { additional ≤ result }
+    ensures limit { used + result ≤ most }
+{
+    additional.max((used / 2).min(MOST - used))
 }
 
 impl<K: Key, V: Drop> BoundedMap<K, V> {
@@ -121,7 +133,7 @@ impl<K: Key, V: Drop> BoundedMap<K, V> {
     /// ```
     pub fn capacity_for(&self, additional: usize) -> Result<usize, ReserveError>
         ensures had_room { additional ≤ self.now.room → result ≡ Ok self.now.capacity }
-        ensures value { IfOk result (λ capacity. capacity ≡ max self.now.capacity (used self.now + additional)) }
+        ensures value { IfOk result (λ capacity. capacity ≡ capacity_with self.now additional) }
         ensures limit { IfOk result (λ capacity. capacity ≤ most) }
         ensures err { IfErr result (λ error. (error ≡ ReserveError.TooGreat) × (most < used self.now + additional)) }
         ensures valid { IsContent true self.now }
@@ -133,10 +145,14 @@ impl<K: Key, V: Drop> BoundedMap<K, V> {
         if additional > MOST - (self.capacity - self.room) {
             return Err(ReserveError::TooGreat);
         }
-        Ok(self.capacity - self.room + additional)
+        let used = self.capacity - self.room;
+        Ok(used + grown(used, additional))
     }
 
     /// Reserves room for `additional` more keys. If there is room, it changes nothing.
+    ///
+    /// Where it makes room, it makes room for half as many keys as there are, if that is more. So inserts
+    /// that reserve room for one key each take constant time on average.
     ///
     /// The capacity is that of [`BoundedMap::capacity_for`] then. It fails with `TooGreat` if more than
     /// 4294967294 keys would be there, counting those that are retired, and with `Memory` if memory runs
@@ -145,19 +161,24 @@ impl<K: Key, V: Drop> BoundedMap<K, V> {
         ensures makes_room { MakesRoom true self.old additional (IsOk result) self.new }
         ensures err { IfErr result (RefusesCapacity (used self.old + additional)) }
         ensures unchanged { OnErr result (self.new ≡ self.old) }
-        ensures capacity { self.new.capacity ≤ max self.old.capacity (used self.old + additional) }
+        ensures capacity { self.new.capacity ≤ capacity_with self.old additional }
     {
         let _ = self.map.len();
         if additional <= self.room {
             return Ok(());
         }
-        match self.map.reserve(additional) {
+        let used = self.capacity - self.room;
+        if additional > MOST - used {
+            return Err(ReserveError::TooGreat);
+        }
+        let more = grown(used, additional);
+        match self.map.reserve(more) {
             Ok(()) => {
-                self.capacity = self.capacity - self.room + additional;
-                self.room = additional;
+                self.capacity = used + more;
+                self.room = more;
                 Ok(())
             }
-            Err(error) => Err(error),
+            Err(_) => Err(ReserveError::Memory),
         }
     }
 
