@@ -7,7 +7,7 @@ pub mod cycles;
 pub mod forward;
 pub mod groups;
 pub mod heirs;
+pub mod reorder;
 pub mod room;
-pub mod siblings;
 pub mod timer;
 pub mod twins;

@@ -1,7 +1,7 @@
 use Rattle.std.proofs.Common.{sym}
 use Rattle.slotmap_scene.specs.Family.{right_before}
 use Rattle.slotmap_scene.proofs.Callers.{order_kept, placed_away}
-use Rattle.structure_examples.proofs.siblings.place_before.Goals as goal
+use Rattle.structure_examples.proofs.reorder.place_before.Goals as goal
 
 pub returns-in-Ok-clause-order : goal.returns-in-Ok-clause-order
 returns-in-Ok-clause-order c q =
