@@ -35,11 +35,7 @@ pub fn place_before(
 }
 
 /// Makes a node the last child of another one, and returns whether it could.
-pub fn hand_over(
-    scene: &mut Scene<DefaultKey, u64>,
-    node: DefaultKey,
-    parent: DefaultKey,
-) -> bool
+pub fn hand_over(scene: &mut Scene<DefaultKey, u64>, node: DefaultKey, parent: DefaultKey) -> bool
     ensures nodes { (k : KeyOf) → map.contains_key scene.new.live k ≡ map.contains_key scene.old.live k }
     ensures order { (p : KeyOf) → without node (children_of scene.new.live p) ≡ without node (children_of scene.old.live p) }
 {
