@@ -24,8 +24,8 @@ pub use Rattle.slotmap_keylist.proofs.Linking.{cons_not_nil, cut_at, in_midst, s
 pub use Rattle.slotmap_keylist.proofs.MapKeys.{key_live, key_there, keys_once}
 pub use Rattle.slotmap_keylist.specs.KeyLists.{is_key, same, times, without}
 pub use Rattle.slotmap_links.proofs.Callers.{list_covered, list_now, list_other, owners_stay}
-pub use Rattle.slotmap_links.proofs.Changes.{disjoint_still, list_cleared, list_without, pushed_here, pushed_still, pushed_was, times_without as often_without}
-pub use Rattle.slotmap_links.proofs.Counts.{one_itself as number_itself, one_other as number_other, same_or_other as same_or_other_number, times_first as often_first}
+pub use Rattle.slotmap_links.proofs.Changes.{disjoint_still, list_cleared, list_without, pushed_here, pushed_still, pushed_was}
+pub use Rattle.slotmap_links.proofs.Counts.{one_itself as number_itself, one_other as number_other, same_or_other as same_or_other_number, times_first as often_first, times_without as often_without}
 pub use Rattle.slotmap_links.proofs.Counts.{times_gone as often_gone, times_joined as often_joined, by_first as by_first_number, same as same_number}
 pub use Rattle.slotmap_links.specs.Lists.{AreDisjoint, IsFree, IsIn, Lists, list_of, with_list, with_members, with_owners, times as often, without as without_number}
 pub use Rattle.slotmap_graph.specs.Parts.{avoids, ByNode, clones_edge, Edges, edges_at, ends, ends_at, EndsLive, from, IsJoined, ListsEdges, PutsAlone}

@@ -41,7 +41,8 @@ returns-then-is_err-clause-err g c =
     let same = ap (λ (s : Sequence g.row.T.Denot). used s.cursors) c.self.view_is in
     let value = c.in_ok-capacity.ensures.value in
     let limit = c.in_ok-capacity.ensures.limit in
-    omega arith
+    let fits = c.capacity_for.ensures.valid.room_fits in
+    grind arith
 
 pub invariant_of-self-2 : goal.invariant_of-self-2
 invariant_of-self-2 g c =
