@@ -34,7 +34,7 @@ CRATES = {
     STRUCTURES: (5.5, 4, "list, graph, entities, scene, scheduler"),
     "slotmap_examples": (2.2, 5, "callers of the maps"),
     "structure_examples": (3.85, 5, "callers of the structures"),
-    TESTS: (0.55, 5, "list_tests .. structures_at_size"),
+    TESTS: (0.55, 5, "structure_tests, structures_at_size"),
     "slotdemo": (5.5, 5, "program: a demonstration"),
 }
 COLORS = {
@@ -50,7 +50,7 @@ HEIGHT = 56
 LIBRARIES = {
     "slotmap_rows_primary": "primary_rows", "slotmap_rows_secondary": "secondary_rows", "json_tests": "slotmap_json",
     "slotmap_script": "slotrun", "script_tests": "slotrun",
-    **{f"{name}_tests": TESTS for name in ("list", "links", "bounded", "graph", "entities", "scene", "scheduler")}, "structures_at_size": TESTS,
+    "structure_tests": TESTS, "structures_at_size": TESTS,
 }
 
 

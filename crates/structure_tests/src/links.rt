@@ -1,6 +1,4 @@
-//! Tests of lists of numbers, and a caller. They are a crate of their own, since a crate with tests is proved a
-//! second time for them.
-#![tactic(auto)]
+//! Tests of lists of numbers, and a caller.
 
 ghost use Rattle.std.specs.Prelude.{◌≡◌, ◌≢◌, ◌<◌, ◌∷◌, ◌++◌, [], length};
 ghost use Rattle.slotmap_links.specs.Lists.{IsIn, list_of, without};

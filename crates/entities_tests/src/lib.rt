@@ -1,8 +1,0 @@
-//! Tests of an entity store. They are a crate of their own, since a crate with tests is proved a second time for
-//! them.
-#![tactic(auto, using(slotmap::proofs::Callers::keys))]
-
-#[cfg(test)]
-mod messages;
-#[cfg(test)]
-mod tests;

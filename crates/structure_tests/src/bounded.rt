@@ -1,0 +1,3 @@
+//! Tests of the map whose indices stay within a bound.
+
+mod tests;

@@ -1,0 +1,4 @@
+//! Tests of an entity store.
+
+mod messages;
+mod tests;

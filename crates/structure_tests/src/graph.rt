@@ -1,0 +1,5 @@
+//! Tests of a graph.
+
+mod iterators;
+mod messages;
+mod tests;

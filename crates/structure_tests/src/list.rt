@@ -1,0 +1,5 @@
+//! Tests of a linked list.
+
+mod messages;
+mod shown;
+mod tests;

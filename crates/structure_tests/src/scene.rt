@@ -1,0 +1,6 @@
+//! Tests of scenes.
+
+mod floats;
+mod messages;
+mod shown;
+mod tests;

@@ -1,0 +1,5 @@
+//! Tests of a scheduler.
+
+mod messages;
+mod shown;
+mod tests;
