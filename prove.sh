@@ -5,7 +5,7 @@
 # their tests and programs as the gate does, and leaves each named program in crates/CRATE/out. With no name it takes all crates.
 #
 # It tries no wrong bodies. So this isn't the gate: it says that the crates are proved, not that their contracts refuse these
-# faults. What it proves is kept on this machine, and a later `rt ci` doesn't prove it again.
+# faults. The kit 13f keeps what it proves, and a later `rt ci` on this machine doesn't prove it again.
 #
 # It works on a copy of the crates as they stand, committed or not. What is printed, and the status, are those of `rt ci`.
 set -euo pipefail
