@@ -69,9 +69,6 @@ module _ {P : Type 0} {slots : List (Slot P)} {now : Content P} (shows : AreSlot
   pub live_version : (k : Key) → IsLive now k → version_at slots k.index ≡ Some k.version
   live_version k is_live = ap (option_map (λ s. s.version)) (settled_present shows.settled shows.content k is_live).there
 
-  pub live_odd : (k : Key) → IsLive now k → k.version % 2 ≡ 1
-  live_odd k is_live = (settled_present shows.settled shows.content k is_live).odd
-
   -- where a key is live the version is odd
   odd_there : (k : Key) → IsLive now k → get_or (versions_of slots) k.index 0 % 2 ≡ 1
   odd_there k is_live =

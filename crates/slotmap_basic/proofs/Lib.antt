@@ -1,7 +1,7 @@
-pub mod RetainLemmas
-pub mod NumberLemmas
-pub mod ColumnLemmas
-pub mod OddsLemmas
-pub mod AheadLemmas
-pub mod PairsLemmas
-pub mod IterClones
+mod RetainLemmas
+mod NumberLemmas
+mod ColumnLemmas
+mod OddsLemmas
+mod AheadLemmas
+mod PairsLemmas
+mod IterClones

@@ -53,7 +53,7 @@ above_even : (n lane : ℕ) → (n - 1) / 2 ≡ n / 2 - 1 → OneLess (n / 2) la
 above_even n lane half rest zero on = absurd (omega arith)
 above_even n lane half rest (suc k) on = bit_at-suc (n - 1) k ∙ ap (λ m. bit_at m k) half ∙ rest.above k (omega arith) ∙ sym (bit_at-suc n k)
 
-pub one_less : (n lane : ℕ) → bit_at n lane ≡ 1 → ((k : ℕ) → k < lane → bit_at n k ≡ 0) → OneLess n lane
+one_less : (n lane : ℕ) → bit_at n lane ≡ 1 → ((k : ℕ) → k < lane → bit_at n k ≡ 0) → OneLess n lane
 one_less n zero set below =
     let odd : n % 2 ≡ 1 = sym (bit_at_lowest n) ∙ set in
     record {

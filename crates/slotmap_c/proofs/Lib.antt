@@ -1,6 +1,6 @@
-pub mod AboveLemmas
-pub mod ArrayLemmas
-pub mod ClosedLemmas
-pub mod SideLemmas
-pub mod SideValues
-pub mod Values
+mod AboveLemmas
+mod ArrayLemmas
+mod ClosedLemmas
+mod SideLemmas
+mod SideValues
+mod Values

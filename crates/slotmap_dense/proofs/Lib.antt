@@ -1,17 +1,17 @@
-pub mod SwapRemoveLemmas
-pub mod PackedLemmas
-pub mod OverLemmas
-pub mod WellFormed
-pub mod MoveLemmas
-pub mod SettledLemmas
-pub mod GapLemmas
-pub mod FromBackLemmas
-pub mod RestLemmas
-pub mod DrainLemmas
-pub mod RetainLemmas
-pub mod PassLemmas
-pub mod CloneLemmas
-pub mod PositionLists
-pub mod LastKeyLemmas
-pub mod FromListLemmas
-pub mod RowLemmas
+mod SwapRemoveLemmas
+mod PackedLemmas
+mod OverLemmas
+mod WellFormed
+mod MoveLemmas
+mod SettledLemmas
+mod GapLemmas
+mod FromBackLemmas
+mod RestLemmas
+mod DrainLemmas
+mod RetainLemmas
+mod PassLemmas
+mod CloneLemmas
+mod PositionLists
+mod LastKeyLemmas
+mod FromListLemmas
+mod RowLemmas

@@ -141,7 +141,7 @@ module _ {F K V : Type 0} (g : Mut F (K × (MutBor V × Unit {0})) (Bool × (Mut
       }
 
       -- the pair stays
-      pub Going-kept : x.stays ≡ true → t.position ≡ s.position + 1 → Going t
+      Going-kept : x.stays ≡ true → t.position ≡ s.position + 1 → Going t
       Going-kept stays moved =
           let same : stage (s.position + 1) written t.closure ≡ t = λ j. stage (sym moved j) (sym calls.written j) t.closure in
           subst Going same (one_more (s.position + 1) written was leaves_written refl (calls.shows.0.next x.after) (rw stays refl)

@@ -1,7 +1,7 @@
 -- Slots with clones of the values of others: the same places and blocks, and clones of the values.
 use Rattle.std.specs.FinMap as map
 use Rattle.std.proofs.Common.{◌≡◌, ◌+◌, ◌∷◌, ℕ, true, List, [], drop, slice_get, Some, refl, sym, ap, subst, ◌∙◌, arith}
-use Rattle.slotmap_core.proofs.Common.{same_from_all_zip, ClonesEqual, AreClones, IsCloneBy, IsPlaceClone, ArePlaceClones, Place, Live, Detached, Vacant}
+use Rattle.slotmap_core.proofs.Common.{AreClones, IsCloneBy, IsPlaceClone, ArePlaceClones, Place, Live, Detached, Vacant}
 use Rattle.slotmap_core.proofs.Common.{Retired as RetiredPlace, live, keys_total, exact_keys, zip_length, zip_drop, same_len, clone_is_some, detached-clones}
 use Rattle.slotmap_core.proofs.Common.{retired-clones, next-clones, live-clones, length-clones, cloned_at, vacant_there, IsStacked-clones}
 use Rattle.slotmap_hop.specs.Slots.{Slot}
@@ -27,9 +27,6 @@ module _ {V : Type 0} (is_clone : V → V → Type 0) where
       retired_same : (version : ℕ) → IsPlaceClone is_clone (retired_place version) (retired_place version)
       retired_same version = grind arith
 
-  same_slot : ClonesEqual is_clone → (s copy : Slot V) → IsSlotClone is_clone s copy → copy ≡ s
-  same_slot equal slot copy is = grind arith
-
   pub all_links-cloned : (slots copies : List (Slot V)) → AreSlotClones is_clone slots copies → all_links copies ≡ all_links slots
   all_links-cloned [] [] zip = refl
   all_links-cloned [] (copy ∷ copies) zip = absurd zip
@@ -49,9 +46,6 @@ module _ {V : Type 0} (is_clone : V → V → Type 0) where
   module _ (slots copies : List (Slot V)) (zip : AreSlotClones is_clone slots copies) where
     places : ArePlaceClones is_clone (places_of slots) (places_of copies)
     places = places-cloned slots copies zip
-
-    pub slots_equal : ClonesEqual is_clone → copies ≡ slots
-    slots_equal equal = same_from_all_zip _ slots copies zip (same_slot equal)
 
     module _ (vacant elems : ℕ) (sound : IsSound slots vacant elems) where
       pub IsSound-cloned : IsSound copies vacant elems

@@ -1,8 +1,8 @@
 -- Adjacent live slots that are freed one after the other.
-use Rattle.std.proofs.Common.{◌≡◌, ◌+◌, ◌-◌, ◌<◌, ◌≤◌, ℕ, zero, suc, true, false, option_and_then, List, length, set}
+use Rattle.std.proofs.Common.{◌≡◌, ◌+◌, ◌-◌, ◌<◌, ◌≤◌, ℕ, zero, suc, true, false, List, length, set}
 use Rattle.std.proofs.Common.{slice_get, get_or, Some, refl, sym, ap, subst, ◌∙◌, arith, ne_eqb}
-use Rattle.slotmap_core.proofs.Common.{is_some, nat_tests, key, last_version, left_by, Live, Vacant, get-live_at, slice_get-set_other, slice_get-get_or}
-use Rattle.slotmap_hop.specs.Slots.{Back, Slot, version_in, value_in, all_links, places_of, value_at, CanFree, Frees, FreesRun, FreesUpTo, hop_content, IsSound}
+use Rattle.slotmap_core.proofs.Common.{is_some, nat_tests, key, last_version, left_by, Live, Vacant, get-live_at, slice_get-set_other}
+use Rattle.slotmap_hop.specs.Slots.{Back, Slot, version_in, all_links, places_of, value_at, CanFree, Frees, FreesRun, FreesUpTo, hop_content, IsSound}
 use Rattle.slotmap_hop.specs.Links.{prev_in, end_in, vacant_at, links_at, end_at, held_at, blocks_of}
 use Rattle.slotmap_hop.specs.Blocks.{vacated}
 use Rattle.slotmap_hop.specs.HopContent.{RemovesRun}
@@ -12,10 +12,6 @@ use Rattle.slotmap_hop.proofs.Growth.{removes-slots}
 use Rattle.slotmap_hop.proofs.LiveSlots.{elems_positive, sound-freed}
 
 module _ {V : Type 0} where
-  -- a live slot that was read
-  pub live_read : (slots : List (Slot V)) (i : ℕ) (d : Slot V) → i < length slots → is_some (value_in (get_or slots i d)) ≡ true → is_some (value_at slots i) ≡ true
-  live_read slots i d inside live = ap (λ o. is_some (option_and_then value_in o)) (slice_get-get_or slots i d inside) ∙ live
-
   pub live_flag : (slots : List (Slot V)) (i : ℕ) → is_some (value_at slots i) ≡ true → vacant_at (all_links slots) i ≡ false
   live_flag slots i live = grind (arith, slot_cases slots i)
 

@@ -63,7 +63,7 @@ module _ {V : Type 0} (slots : List (Slot V)) (vacant elems : ℕ) (sound : IsSo
   offer-back some = grind (arith, back_slot.index)
 
   -- a new place
-  abbrev pub pushed_slots : V → List (Slot V)
+  abbrev pushed_slots : V → List (Slot V)
   pushed_slots w = slots ++ Occupied SingleState 1 w ∷ []
 
   places-pushed : (w : V) → places_of (pushed_slots w) ≡ places_of slots ++ Live 1 w ∷ []

@@ -34,7 +34,7 @@ place_there slots i inside = grind (arith, slot_cases slots i)
 
 module _ {V : Type 0} (slots : List (Slot V)) where
   -- a step over a place, where a list is made of the places from it on
-  pub left-on : {X : Type 0} (from : ℕ → List (Place V) → X) (i : ℕ) (p : Place V) → slice_get (places_of slots) i ≡ Some p
+  left-on : {X : Type 0} (from : ℕ → List (Place V) → X) (i : ℕ) (p : Place V) → slice_get (places_of slots) i ≡ Some p
       → from i (drop i (places_of slots)) ≡ from i (p ∷ drop (i + 1) (places_of slots))
   left-on from i p found =
       let ps = places_of slots in
@@ -66,7 +66,7 @@ module _ {V : Type 0} (slots : List (Slot V)) where
   not_live_on i RetiredPlace found other = left-on pairs_from i RetiredPlace found
 
   -- nor do places before the first live one
-  pub skip_to : (n i j : ℕ) → i + n ≡ j → j < length slots
+  skip_to : (n i j : ℕ) → i + n ≡ j → j < length slots
       → ((q : Key) → map.contains_key (live (places_of slots)) q ≡ true → i ≤ q.index → j ≤ q.index) → pairs_left slots i ≡ pairs_left slots j
   skip_to zero i j on inside none = let same : i ≡ j = omega arith in rw same refl
   skip_to (suc n) i j on inside none =

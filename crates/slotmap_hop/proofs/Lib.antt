@@ -1,30 +1,30 @@
-pub mod Chain
-pub mod BlockLemmas
-pub mod Writes
-pub mod SlotReads
-pub mod FrontsLemmas
-pub mod Circle
-pub mod Views
-pub mod Vacating
-pub mod Joining
-pub mod Taking
-pub mod Maximal
-pub mod StackOrder
-pub mod SlotLemmas
-pub mod Empty
-pub mod Growth
-pub mod LiveSlots
-pub mod WellFormed
-pub mod SettledLemmas
-pub mod FreedRuns
-pub mod RoomLemmas
-pub mod HoppingLemmas
-pub mod Iterators
-pub mod CloneLemmas
-pub mod Sweeping
-pub mod Retaining
-pub mod FromListLemmas
-pub mod BlocksLeft
-pub mod Relinking
-pub mod OneBlock
-pub mod Emptying
+mod Chain
+mod BlockLemmas
+mod Writes
+mod SlotReads
+mod FrontsLemmas
+mod Circle
+mod Views
+mod Vacating
+mod Joining
+mod Taking
+mod Maximal
+mod StackOrder
+mod SlotLemmas
+mod Empty
+mod Growth
+mod LiveSlots
+mod WellFormed
+mod SettledLemmas
+mod FreedRuns
+mod RoomLemmas
+mod HoppingLemmas
+mod Iterators
+mod CloneLemmas
+mod Sweeping
+mod Retaining
+mod FromListLemmas
+mod BlocksLeft
+mod Relinking
+mod OneBlock
+mod Emptying

@@ -94,7 +94,7 @@ module _ {V : Type 0} (slots : List (Slot V)) (vacant elems : ℕ) (sound : IsSo
 -- another value is written to a live slot
 module _ {V : Type 0} (slots : List (Slot V)) (vacant elems : ℕ) (sound : IsSound slots vacant elems) (i v : ℕ) (x : V)
     (index : slice_get (places_of slots) i ≡ Some (Live v x)) (state : State) (u : ℕ) (same : u ≡ v) (w : V) where
-  abbrev pub rewritten : List (Slot V)
+  abbrev rewritten : List (Slot V)
   rewritten = set slots i (Occupied state u w)
 
   all_links-rewritten : all_links rewritten ≡ all_links slots

@@ -86,7 +86,7 @@ module _ {V : Type 0} where
       by (s ∷ slots) zero x = tt
       by (s ∷ slots) (suc i) x = by slots i x
 
-  pub flags_emptied : (slots : List (Slot V)) (i : ℕ) → i < length slots → vacant_at (all_links (map emptied slots)) i ≡ true
+  flags_emptied : (slots : List (Slot V)) (i : ℕ) → i < length slots → vacant_at (all_links (map emptied slots)) i ≡ true
   flags_emptied slots i inside = rw (flag_read (all_links (map emptied slots)) i, links_emptied slots i inside) refl
 
   -- the sentinel and the last slot name each other

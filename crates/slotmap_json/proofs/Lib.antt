@@ -1,2 +1,2 @@
-pub mod JsonLemmas
+mod JsonLemmas
 pub mod RoundTrips

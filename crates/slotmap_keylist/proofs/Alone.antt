@@ -2,11 +2,11 @@
 use Rattle.std.proofs.Common.{◌≡◌, ℕ, true, Option, Some, None, is_some, refl, sym, ap, ◌∙◌, arith}
 use Rattle.std.specs.Option.{option_map}
 use Rattle.std.specs.FinMap as map
-use Rattle.slotmap.specs.Words.{Key, key_cmp, Content, IsContent, IsLive, IsSpent, KeepsSpent, IsNew, Inserts, Removes, Keeps, Leaves, MakesRoom, IsCopy, IsCloneBy, without_values, with_value, LacksRoom, used}
+use Rattle.slotmap.specs.Words.{Key, key_cmp, Content, IsContent, IsLive, IsSpent, KeepsSpent, IsNew, Inserts, Removes, Keeps, Leaves, MakesRoom, IsCopy, IsCloneBy, without_values, with_value, used}
 use Rattle.slotmap.specs.KeysAlone.{keys_of}
 use Rattle.slotmap.proofs.Callers.{clone_copies, contains-keys_of, len-keys_of, spent_alone, alone_spent, keeps_spent_alone, spent_finds_nothing, inserted_not_spent}
 use Rattle.slotmap_keylist.specs.Mapped.{map_values}
-use Rattle.slotmap_keylist.proofs.Mapped.{mapped-new, mapped-inserts, mapped-removes, mapped-keeps, mapped-leaves, mapped-room, mapped-clones, mapped-written, mapped-lacks, get-mapped, len-mapped, some-mapped, is_mapped}
+use Rattle.slotmap_keylist.proofs.Mapped.{mapped-new, mapped-inserts, mapped-removes, mapped-keeps, mapped-leaves, mapped-room, mapped-clones, mapped-written, get-mapped, len-mapped, some-mapped, is_mapped}
 
 same_units : (a b : Option (Unit {0})) → is_some a ≡ is_some b → a ≡ b
 same_units None None is = refl
@@ -34,10 +34,6 @@ module _ {V : Type 0} where
   -- as many slots are in use, and there is as much room
   pub used_alone : (c : Content V) → used (without_values c) ≡ used c
   used_alone c = let same = len-keys_of c.live in omega arith
-
-  pub lacks_alone : (c : Content V) → LacksRoom c → LacksRoom (without_values c)
-  unfolding keys_of map_values
-  lacks_alone c lacks = mapped-lacks none c lacks
 
   -- a content that holds nothing, an insert, a removal, and a call that only makes room
   pub alone-new : (c : Content V) → IsNew c → IsNew (without_values c)

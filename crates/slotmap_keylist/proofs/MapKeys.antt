@@ -1,14 +1,13 @@
 -- The keys of a finite map, each once.
-use Rattle.std.proofs.Common.{◌≡◌, ◌≢◌, ◌-◌, ◌<◌, ◌≤◌, ◌⊎◌, Bool, true, false, T, List, [], ◌∷◌, length, map as list_map, if◌then◌else◌, is_some, is_lt, ◌&&◌, ◌||◌, refl, sym, ap, ◌∙◌, inl, inr, arith}
+use Rattle.std.proofs.Common.{◌≡◌, ◌≢◌, ◌-◌, ◌<◌, ◌≤◌, ◌⊎◌, Bool, true, false, T, List, [], ◌∷◌, map as list_map, if◌then◌else◌, is_lt, ◌&&◌, ◌||◌, refl, sym, ap, ◌∙◌, inl, inr, arith}
 use Rattle.std.specs.FinMap as map
 use Rattle.std.specs.List.{list_any}
 use Rattle.std.specs.Ordering.{eq_by_cmp}
-use Rattle.std.proofs.Math.Nat.{eq-zero-or-pos}
 use Rattle.std.specs.FinMap.Entries.{below_all, is_sorted}
 use Rattle.slotmap.specs.Words.{Key, key_cmp}
-use Rattle.slotmap.proofs.Callers.{same_or_other, keys_total, exact_keys, itself, tied, keys, len_removed, live-remove_other, none_found}
+use Rattle.slotmap.proofs.Callers.{same_or_other, keys_total, exact_keys, itself, tied, keys}
 use Rattle.slotmap_keylist.specs.KeyLists.{same, times}
-use Rattle.slotmap_keylist.proofs.Counts.{one_itself, one_other, times_first, no_more_than}
+use Rattle.slotmap_keylist.proofs.Counts.{one_itself, one_other, times_first}
 
 T-true : (b : Bool) → T b → b ≡ true
 T-true true t = refl

@@ -1,15 +1,15 @@
 -- A map, or a content, with another value for each of its values: what each change of a map does to it.
-use Rattle.std.proofs.Common.{◌≡◌, ◌&&◌, ◌||◌, ◌⊎◌, ⊎_elim, ℕ, T, Bool, true, false, cond, not, is_lt, Option, Some, None, OnSome, IfNone, is_some, List, [], ◌∷◌, length, map as list_map, refl, sym, ap, ◌∙◌, subst, inl, inr, arith}
+use Rattle.std.proofs.Common.{◌≡◌, ◌&&◌, ◌||◌, ◌⊎◌, ℕ, T, Bool, true, false, cond, is_lt, Option, Some, None, is_some, List, [], ◌∷◌, length, map as list_map, refl, sym, ap, ◌∙◌, subst, inl, inr, arith}
 use Rattle.std.specs.Option.{option_map}
 use Rattle.std.specs.Ordering.{eq_by_cmp}
 use Rattle.std.specs.FinMap as map
 use Rattle.std.specs.FinSet as set
 use Rattle.std.specs.FinMap.Entries.{find, below_all, is_sorted}
 use Rattle.std.proofs.lemmas.List.{length-map}
-use Rattle.slotmap.specs.Words.{Key, key_cmp, is_last, Content, IsContent, IsRetired, Stands, IsLive, IsSpent, IsNew, Inserts, Removes, Keeps, Leaves, MakesRoom, MayGrow, StaysValid, IsCloneOf, IsCloneBy, with_value, LacksRoom, used, places}
+use Rattle.slotmap.specs.Words.{Key, key_cmp, Content, IsContent, IsLive, IsNew, Inserts, Removes, Keeps, Leaves, MakesRoom, StaysValid, IsCloneOf, IsCloneBy, with_value, LacksRoom, used, places}
 use Rattle.slotmap.proofs.Callers.{keys_total, exact_keys, same_or_other, get-insert_here, get-insert_other}
 use Rattle.slotmap_keylist.specs.Mapped.{map_values, map_content}
-use Rattle.slotmap_keylist.proofs.Shown.{shown_spent, spent_shown, shown_content, shown_inserts, shown_removes, shown_keeps, shown_leaves, shown_makes_room}
+use Rattle.slotmap_keylist.proofs.Shown.{shown_content, shown_inserts, shown_removes, shown_keeps, shown_leaves, shown_makes_room}
 
 module _ {V W : Type 0} (f : V → W) where
   abbrev changed : Key × V → Key × W
@@ -84,13 +84,6 @@ module _ {V W : Type 0} (f : V → W) where
     pub live-mapped : (k : Key) → IsLive c k → IsLive (map_content f c) k
     live-mapped k live = contains-mapped c.live k ∙ live
 
-    pub mapped-live : (k : Key) → IsLive (map_content f c) k → IsLive c k
-    mapped-live k live = sym (contains-mapped c.live k) ∙ live
-
-    -- a key is spent exactly where it is spent with the other values
-    pub spent-mapped : (k : Key) → IsSpent c k → IsSpent (map_content f c) k
-    spent-mapped = shown_spent c (map_values f c.live) (contains-mapped c.live) (len-mapped c.live)
-
     pub mapped-lacks : LacksRoom c → LacksRoom (map_content f c)
     mapped-lacks lacks = record { below_limit = (let same = used-mapped in let below = lacks.below_limit in omega arith); no_room = lacks.no_room }
 
@@ -112,15 +105,6 @@ module _ {V W : Type 0} (f : V → W) where
 
     pub mapped-keeps : Keeps old new → Keeps (map_content f old) (map_content f new)
     mapped-keeps keeps = shown_keeps old new _ _ (contains-mapped old.live) (len-mapped old.live) (contains-mapped new.live) (len-mapped new.live) (ap (map_values f) keeps.live) keeps
-
-    pub mapped-grow : (refused : Type 0) → MayGrow true old refused new → MayGrow true (map_content f old) refused (map_content f new)
-    mapped-grow refused valid = record {
-      before = content-mapped old true valid.before;
-      after = content-mapped new true valid.after;
-      capacity = valid.capacity;
-      in_place = valid.in_place;
-      unchanged = λ no. mapped-keeps (valid.unchanged no);
-    }
 
     pub mapped-stays : StaysValid true old new → StaysValid true (map_content f old) (map_content f new)
     mapped-stays valid = record { before = content-mapped old true valid.before; after = content-mapped new true valid.after; capacity = valid.capacity }

@@ -1,6 +1,5 @@
 -- Steps of an iterator along the links of a list, from either end.
-use Rattle.std.proofs.Common.{◌≡◌, ℕ, suc, ◌-◌, ◌<◌, ◌⊎◌, Option, Some, None, List, [], ◌∷◌, ◌++◌, length, inl, inr, refl, sym, ap, ◌∙◌, arith, append_assoc, append-nil, length-append}
-use Rattle.std.proofs.lemmas.Option.{same_Some}
+use Rattle.std.proofs.Common.{◌≡◌, ℕ, ◌-◌, ◌<◌, ◌⊎◌, Option, Some, None, List, [], ◌∷◌, ◌++◌, length, inl, inr, refl, sym, ap, ◌∙◌, arith, append_assoc, append-nil, length-append}
 use Rattle.slotmap.specs.Words.{Key}
 use Rattle.slotmap_keylist.specs.Linked.{first_or, last_or, link_between, follow, AreLinked}
 use Rattle.slotmap_keylist.specs.Segment.{IsSegment}

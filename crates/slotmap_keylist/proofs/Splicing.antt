@@ -1,14 +1,13 @@
 -- A key that is put into a list that is kept as links, or taken out of it: what is written makes the links of the new list.
-use Rattle.std.proofs.Common.{◌≡◌, ◌≢◌, ◌+◌, ◌-◌, ◌<◌, ◌≤◌, true, Option, Some, None, List, [], ◌∷◌, ◌++◌, length, cond, refl, sym, ap, subst, ◌∙◌, arith, append-nil, length-append}
+use Rattle.std.proofs.Common.{◌≡◌, ◌≢◌, ◌+◌, ◌-◌, ◌<◌, ◌≤◌, Option, Some, None, List, [], ◌∷◌, ◌++◌, length, cond, refl, sym, ap, subst, ◌∙◌, arith, append-nil, length-append}
 use Rattle.std.specs.FinMap as map
-use Rattle.slotmap.specs.Words.{Key, key_cmp}
-use Rattle.slotmap.proofs.Callers.{keys_total, exact_keys, len_removed, live-remove_other}
+use Rattle.slotmap.specs.Words.{Key}
 use Rattle.slotmap_keylist.specs.KeyLists.{same, times}
 use Rattle.slotmap_keylist.specs.Linked.{first_or, last_or, ends_of, followed, AreLinked, Relinks}
 use Rattle.slotmap_keylist.specs.Splice.{with_next, with_prev, own}
 use Rattle.slotmap_keylist.specs.declared.Ends.{Ends}
 use Rattle.slotmap_keylist.specs.declared.Link.{Link}
-use Rattle.slotmap_keylist.proofs.Counts.{is_itself, is_other, one_itself, times_first}
+use Rattle.slotmap_keylist.proofs.Counts.{is_itself, is_other}
 use Rattle.slotmap_keylist.proofs.Linking.{last_or-append, first_in, last_in, in_midst, followed_is}
 
 module _ (to : Option Key) (link : Key → Link Key) (q : Key) where
@@ -56,15 +55,6 @@ two_neighbours before mid after once x last first = absurd (let a = last_in befo
 last_some : (x : Key) (xs : List Key) (a b : Option Key) → own (last_or xs (Some x)) a b ≡ a
 last_some x [] a b = refl
 last_some x (y ∷ xs) a b = last_some y xs a b
-
--- the ends of a list with one more key at the back
-pub ends_pushed : (ks : List Key) (k : Key) → record { first = own (ends_of ks).last (ends_of ks).first (Some k); last = Some k; len = (ends_of ks).len + 1 } ≡ ends_of (ks ++ k ∷ [])
-ends_pushed [] k = refl
-ends_pushed (x ∷ ks) k = λ i. record {
-  first = last_some x ks (Some x) (Some k) i;
-  last = sym (last_or-append ks (k ∷ []) (Some x)) i;
-  len = (let n : length (x ∷ ks) + 1 ≡ length (x ∷ (ks ++ k ∷ [])) = omega (arith, length-append ks (k ∷ [])) in n) i;
-}
 
 -- the ends of a list without one of its keys
 pub ends_taken : (before : List Key) (k : Key) (after : List Key) → (e : Ends Key) → e ≡ ends_of (before ++ k ∷ after)

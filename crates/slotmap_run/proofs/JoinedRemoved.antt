@@ -1,4 +1,4 @@
--- A key that a joined run removed from the primary map is gone for good: for callers.
+-- A key that a joined run removed from the primary map is gone for good: the law of both joined runs.
 use Rattle.std.proofs.Common.{◌≡◌, ℕ, List, [], ◌∷◌, Option, Some, None, refl, ap, ◌∙◌, subst, arith}
 use Rattle.slotmap_core.proofs.Common.{Content, State, DetachStep, Run, Starts, AllZip, Joined, named, RunsBeside}
 use Rattle.slotmap_core.specs.Joined.{JoinedGiven, JoinedStep, JoinedDetachStep, StepRemove, StepDetach, StepReattach}

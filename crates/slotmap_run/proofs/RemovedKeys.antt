@@ -44,7 +44,7 @@ module _ {K V R E : Type 0} (given : RunGiven K V R E) (k : Key) (old : State V)
   pub removes_gone : RemovesKey given.data_of k c r → IsGood old → Gone new k
   removes_gone removes good = grind (arith, changes, itself keys_total exact_keys k, good.apart k, good.held_issued k, map.get-empty {X = V} key_cmp k)
 
-  pub gone_finds_nothing : Gone old k → FindsNothing given.data_of k c r
+  gone_finds_nothing : Gone old k → FindsNothing given.data_of k c r
   gone_finds_nothing gone = grind (arith, gone.not_standing, gone.issued, not_issued old k)
 
   -- no key is live that Retain's closure rejects whatever its value

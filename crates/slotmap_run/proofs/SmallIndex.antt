@@ -20,7 +20,7 @@ pub record Tally : Type 0 where
   pub most : ℕ
 
 -- the numbers after this command with this reply
-abbrev pub tallied : {K V R E : Type 0} → DetachCommand K V → Reply K V R E → Tally → Tally
+abbrev tallied : {K V R E : Type 0} → DetachCommand K V → Reply K V R E → Tally → Tally
 tallied (detaching.Plain c) (reply.Key k) n = record { live = n.live + 1; detached = n.detached; most = max n.most (n.live + n.detached + 1) }
 tallied (detaching.Plain (command.Remove k)) (reply.Taken (Some v)) n = record n { live = n.live - 1 }
 tallied (detaching.Detach k) (reply.Taken (Some v)) n = record n { live = n.live - 1; detached = n.detached + 1 }
@@ -89,7 +89,7 @@ module _ {K V R E : Type 0} (data_of : K → Key) (c : DetachCommand K V) (r : R
   small_step here rest = grind arith
 
 module _ {K V R E C : Type 0} (given : RunGiven K V R E) (of : C → DetachCommand K V) where
-  abbrev pub FreeStep : State V → C → Reply K V R E → State V → Type 0
+  abbrev FreeStep : State V → C → Reply K V R E → State V → Type 0
   FreeStep = Unretiring (StepOf given of)
 
   all_small : (cs : List C) (rs : List (Reply K V R E)) (s t : State V) → Run FreeStep s cs rs t → (n : Tally) → IsTallied s n

@@ -30,7 +30,7 @@ module _ {V : Type 0} where
   bound_held s k v q h = grind (arith, changes)
 
   module _ (s : State V) (k : Key) (v : V) (apart : IsApart s) (fresh : Fresh s k) where
-    pub apart_after : IsApart (after_insert s k v)
+    apart_after : IsApart (after_insert s k v)
     apart_after q h g = grind (arith, changes, fresh.apart q, apart q)
 
     -- the key that an insert returns is one more

@@ -14,7 +14,7 @@ pairs-none V = map.len-empty nat_cmp (ℕ × V)
 
 module _ {V : Type 0} where
   -- the slot that a record is read as
-  abbrev pub slot_from : ℕ → Option V → Slot V
+  abbrev slot_from : ℕ → Option V → Slot V
   slot_from version None = Vacant 0
   slot_from version (Some value) = Occupied version value
 

@@ -1,5 +1,4 @@
 -- What a call that changes one slot leaves. It allocates nothing.
--- For this crate alone.
 use Rattle.std.proofs.Common.{◌≡◌, ◌≢◌, ◌+◌, ◌-◌, ◌<◌, ◌≤◌, ◌^◌, ◌%◌, ◌∷◌, ◌++◌, ℕ, true, false, List, [], length, set, Some, refl, arith}
 use Rattle.slotmap_core.proofs.Common.{Key, Content, IsLive, IsDetached, last_version, Inserts, Removes, Detaches, Reattaches, StaysValid, content_of_places}
 use Rattle.slotmap_core.proofs.Common.{nat_eq, length-set, length_push, same_Some, sym, ◌∙◌}

@@ -1,5 +1,4 @@
 -- The slots that a list is read into, and the list that they are written as.
--- For this crate alone.
 use Rattle.std.specs.FinMap as map
 use Rattle.std.proofs.Common.{◌≡◌, ◌≢◌, ◌+◌, ◌^◌, ◌<◌, ◌≤◌, ◌∷◌, ◌++◌, ℕ, cond, List, [], length, take, slice_get, None, Some, option_map, is_some, refl, sym}
 use Rattle.slotmap_core.proofs.Common.{IsCloneOf, vacant_slot, place_of_record, start_places, start_stack, live, live_entry, IsConsistent, Accepts, AllFitBelow}

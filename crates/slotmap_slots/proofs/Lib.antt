@@ -1,6 +1,6 @@
 pub mod SlotLemmas
-pub mod SlotGrowth
-pub mod SlotClones
+mod SlotGrowth
+mod SlotClones
 pub mod SettledLemmas
-pub mod FromListLemmas
-pub mod ChangeLemmas
+mod FromListLemmas
+mod ChangeLemmas

@@ -1,5 +1,4 @@
 -- Slots with clones of the payloads of others: they are as sound, and hold clones of what those hold.
--- For this crate alone.
 use Rattle.std.specs.FinMap as map
 use Rattle.std.proofs.Common.{◌≡◌, ◌+◌, ◌-◌, ◌≤◌, ◌∷◌, ℕ, List, [], length, Some, refl, sym, ap, ◌∙◌, arith}
 use Rattle.slotmap_core.proofs.Common.{Content, IsCloneBy, IsPlaceClone, ArePlaceClones, live, content_of_places, keys_total, exact_keys}

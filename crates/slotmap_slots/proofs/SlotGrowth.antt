@@ -1,5 +1,4 @@
 -- How an insert fills a slot or adds one, and what a look-up of a detached key reads.
--- For this crate alone.
 use Rattle.std.specs.FinMap as map
 use Rattle.std.specs.FinSet as set
 use Rattle.std.proofs.Common.{◌==◌, ◌≡◌, ◌≢◌, ◌+◌, ◌-◌, ◌^◌, ◌<◌, ◌∷◌, ◌++◌, ◌↔◌}

@@ -27,7 +27,7 @@ module _ {V : Type 0} (is_clone : V → V → Type 0) where
     pairs_equal equal = map.same_map nat_cmp_total exact_unsigned _ _ (λ i. pair_equal equal (map.get m i) (map.get copy i) (each i))
 
   -- the same index and version, with a clone of the value
-  abbrev pub IsEntryClone : ℕ × (ℕ × V) → ℕ × (ℕ × V) → Type 0
+  abbrev IsEntryClone : ℕ × (ℕ × V) → ℕ × (ℕ × V) → Type 0
   IsEntryClone e f = (f.0 ≡ e.0) × ((f.1.0 ≡ e.1.0) × is_clone e.1.1 f.1.1)
 
   keys_cloned : (es fs : List (ℕ × (ℕ × V))) → AllZip IsEntryClone es fs → keys_of fs ≡ keys_of es

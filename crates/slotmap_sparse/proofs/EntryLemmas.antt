@@ -15,10 +15,6 @@ module _ {V : Type 0} (m : Pairs V) (valid : IsSecondary m) (k : Key) where
   vacant_leaves : entry m k ≡ vacant → map.remove m k.index ≡ entry_leaves m k
   vacant_leaves is = sym (ap (λ b. if b then m else map.remove m k.index) (ap is_some (vacant_nothing is)))
 
-  -- an older pair at its index is removed then
-  pub leaves_outdated : entry m k ≡ vacant → (n : Pairs V) → n ≡ map.remove m k.index → n ≡ entry_leaves m k
-  leaves_outdated is n out = out ∙ vacant_leaves is
-
   pub in_place_outdated : entry m k ≡ vacant → (n : Pairs V) → n ≡ map.remove m k.index → (entry n k ≡ vacant) × (map.get n k.index ≡ None)
   in_place_outdated is n out =
       let gone : map.get n k.index ≡ None = ap (λ (x : Pairs V). map.get x k.index) out ∙ removed m k in

@@ -8,7 +8,7 @@ use Rattle.slotmap_sparse.proofs.EntriesLemmas.{found_pair}
 
 module _ {V : Type 0} (eq : V → V → Bool) where
   -- one version, and equal values
-  abbrev pub same_pair : ℕ × V → ℕ × V → Bool
+  abbrev same_pair : ℕ × V → ℕ × V → Bool
   same_pair p q = nat_eq p.0 q.0 && eq p.1 q.1
 
   -- if both have the same pair at an index, they have the same value of each version

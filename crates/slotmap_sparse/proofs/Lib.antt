@@ -1,10 +1,10 @@
-pub mod EntriesLemmas
-pub mod ContentLemmas
-pub mod IterLemmas
-pub mod DrainLemmas
-pub mod RetainLemmas
-pub mod EntryLemmas
-pub mod EqualLemmas
-pub mod FromListLemmas
-pub mod CloneLemmas
-pub mod WrittenLemmas
+mod EntriesLemmas
+mod ContentLemmas
+mod IterLemmas
+mod DrainLemmas
+mod RetainLemmas
+mod EntryLemmas
+mod EqualLemmas
+mod FromListLemmas
+mod CloneLemmas
+mod WrittenLemmas

@@ -41,7 +41,7 @@ module _ {V : Type 0} where
 module _ {F G K V : Type 0} (g : Mut F (K × (MutBor V × Unit {0})) (Bool × (MutBor V × Unit {0}))) (data_of : K → Key)
     (T : G → ℕ → ℕ × V → Bool → ℕ × V → G → Type 0) (state : G → F) where
   -- a call on an entry shows the key and the value, and keeps the version
-  abbrev pub ShowsEach : Type 0
+  abbrev ShowsEach : Type 0
   ShowsEach = (c : G) (i : ℕ) (p : ℕ × V) (b : Bool) (q : ℕ × V) (d : G) → T c i p b q d → VisitsPair g data_of (state c) i p b q (state d)
 
   pub record Visited (c : G) (es left : List (ℕ × (ℕ × V))) : Type 0 where
