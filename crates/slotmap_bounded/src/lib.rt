@@ -19,7 +19,7 @@
 //! ```
 #![tactic(auto, using(slotmap::proofs::Callers::keys))]
 
-ghost use Rattle.std.specs.Prelude.{◌≡◌, ◌≢◌, ℕ, ◌+◌, ◌-◌, ◌<◌, ◌≤◌, if◌then◌else◌, Some, IfOk, OnOk, OnErr, IfErr, IsOk, OnSome, IfSome, IfNone, Ok, option_copied, true};
+ghost use Rattle.std.specs.Prelude.{◌≡◌, ◌≢◌, ℕ, ◌+◌, ◌-◌, ◌<◌, ◌≤◌, if◌then◌else◌, Some, IfOk, OnOk, OnErr, IfErr, IsOk, IsTrue, ◌↔◌, OnSome, IfSome, IfNone, Ok, option_copied, true};
 ghost use Rattle.std.specs.FinMap as map;
 ghost use Rattle.std.specs.Borrow.{sem};
 ghost use Rattle.std.specs.Option.{option_copied_mut};
@@ -122,6 +122,21 @@ impl<K: Key, V: Drop> BoundedMap<K, V> {
         self.capacity
     }
 
+    /// Returns whether there is room for one more key, in constant time.
+    ///
+    /// ```
+    /// let mut map: BoundedMap<DefaultKey, &str> = BoundedMap::with_capacity(alloc, 1)?;
+    /// assert!(rt; map.has_room());
+    /// map.insert_reserved("a");
+    /// assert!(rt; !map.has_room());
+    /// ```
+    #[inline(always)]
+    pub fn has_room(&self) -> bool
+        ensures { IsTrue result ↔ 0 < self.now.room }
+    {
+        self.room > 0
+    }
+
     /// Returns the capacity that [`BoundedMap::reserve`] would leave, in constant time.
     ///
     /// It fails with `TooGreat` where `reserve` does.
@@ -184,6 +199,7 @@ impl<K: Key, V: Drop> BoundedMap<K, V> {
 
     /// Inserts a value, and returns its new key. The caller proves that there is room. The capacity
     /// stays. Constant time.
+    #[inline(always)]
     pub fn insert_reserved(&mut self, value: V) -> K
         requires room { 0 < self.old.room }
         ensures inserts { Inserts self.old (K.data_of result) value self.new }

@@ -1,5 +1,5 @@
 -- What the proofs of this crate cite of std, of the crates below and of its own definitions, from one place. Declares nothing.
-pub use Rattle.std.proofs.Common.{[], ap, append-nil, append_assoc, arith, Bool, cond, drop, Err, false, get_or, IfNone, IfOk, IfSome, inl, inr, is_some, IsErr}
+pub use Rattle.std.proofs.Common.{[], ap, append-nil, append_assoc, arith, Bool, cond, drop, eq-eqb, Err, false, get_or, IfNone, IfOk, IfSome, inl, inr, is_some, IsErr}
 pub use Rattle.std.proofs.Common.{length, length-append, List, map as list_map, MatchOption, nat_eq, None, not, Ok, OnSome, Option, option_map, refl, Result}
 pub use Rattle.std.proofs.Common.{Some, subst, suc, sym, take, true, unwrap_or, zero, ℕ, ⊎_elim}
 pub use Rattle.std.proofs.Math.Nat.{eq-zero-or-pos}
@@ -23,14 +23,16 @@ pub use Rattle.slotmap_keylist.proofs.Counts.{one_other, times_first, times_gone
 pub use Rattle.slotmap_keylist.proofs.Linking.{cons_not_nil, cut_at, in_midst, split_at}
 pub use Rattle.slotmap_keylist.proofs.MapKeys.{key_live, key_there, keys_once}
 pub use Rattle.slotmap_keylist.specs.KeyLists.{is_key, same, times, without}
+pub use Rattle.slotmap_keylist.specs.Linked.{first_or}
 pub use Rattle.slotmap_links.proofs.Callers.{list_covered, list_now, list_other, owners_stay}
 pub use Rattle.slotmap_links.proofs.Changes.{disjoint_still, list_cleared, list_without, pushed_here, pushed_still, pushed_was}
-pub use Rattle.slotmap_links.proofs.Counts.{one_itself as number_itself, one_other as number_other, same_or_other as same_or_other_number, times_first as often_first, times_without as often_without}
+pub use Rattle.slotmap_links.proofs.Counts.{one_itself as number_itself, is_other as other_number, one_other as number_other, same_or_other as same_or_other_number, times_first as often_first, times_without as often_without}
 pub use Rattle.slotmap_links.proofs.Counts.{times_gone as often_gone, times_joined as often_joined, by_first as by_first_number, same as same_number}
+pub use Rattle.slotmap_links.specs.Lists.{first_or as first_number, number_after}
 pub use Rattle.slotmap_links.specs.Lists.{AreDisjoint, IsFree, IsIn, Lists, list_of, with_list, with_members, with_owners, times as often, without as without_number}
-pub use Rattle.slotmap_graph.specs.Parts.{avoids, ByNode, clones_edge, Edges, edges_at, ends, ends_at, EndsLive, from, IsJoined, ListsEdges, PutsAlone}
+pub use Rattle.slotmap_graph.specs.Parts.{avoids, ByNode, clones_edge, Edges, edges_at, ends, ends_at, EndsLive, from, IsJoined, key_after, ListsEdges, PutsAlone}
 pub use Rattle.slotmap_graph.specs.Parts.{PutsBehind, SameEdges, Seen, SeenEdge, to, touches, value, with_edge, with_edge_in}
-pub use Rattle.slotmap_graph.specs.Search.{AllLed, AreSeen, arrives_at, ends_along, Finds, goes_to, GoesOn, HasEdge, HasNext, IsBreadthFirst, Leads, LeadsBy}
+pub use Rattle.slotmap_graph.specs.Search.{AllLed, AreSeen, arrives_at, ends_along, entries_along, Finds, goes_to, GoesOn, HasEdge, HasNext, IsBreadthFirst, Leads, LeadsBy}
 pub use Rattle.slotmap_graph.specs.Search.{marked}
 pub use Rattle.slotmap_graph.specs.Threads.{AreIndices, by_node, far_end, CoversMore, HaveIndices, IsGraph, IsThreaded, key_at, keys_at}
 pub use Rattle.slotmap_graph.specs.TopologicalOrder.{ClosesCycle, ComesFromLeft, Counting, edges_out, GoesForward, HasCycle, IsLeft, passed_of, Sorting}

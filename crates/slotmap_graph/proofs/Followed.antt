@@ -3,7 +3,7 @@ use Rattle.std.proofs.Common.{◌≡◌, ◌+◌, ◌<◌, ◌≤◌, ◌∷◌,
 use Rattle.slotmap_graph.proofs.Common.{ℕ, suc, true, false, cond, Option, Some, None, is_some, List, [], length, get_or, take, option_map, refl, sym, ap, arith}
 use Rattle.slotmap_graph.proofs.Common.{append-nil, append_assoc, nat_eq, option_or, cons_option, find, fold, same_Some, take_more, take_all, take-append-le}
 use Rattle.slotmap_graph.proofs.Common.{filter_map-append, find-append, fold-append, Key, is_key, times, one_itself, times_first, times_joined, SeenEdge, Edges}
-use Rattle.slotmap_graph.proofs.Common.{ListsEdges, from, to, GoesOn, HasEdge, IsBreadthFirst, arrives_at, ends_along, goes_to, marked}
+use Rattle.slotmap_graph.proofs.Common.{ListsEdges, from, to, GoesOn, HasEdge, IsBreadthFirst, arrives_at, ends_along, entries_along, first_or, goes_to, marked, MatchOption}
 use Rattle.std.specs.FinMap as map
 use Rattle.slotmap_graph.proofs.Adjacent.{listed_edge}
 
@@ -34,6 +34,15 @@ module _ {E : Type 0} (end : SeenEdge E → Key) (edges : Edges E) where
   -- the end of the first edge comes first
   pub first_end : (k : Key) (e : SeenEdge E) (ks : List Key) → map.get edges k ≡ Some e → ends_along end edges (k ∷ ks) ≡ end e ∷ ends_along end edges ks
   first_end k e ks there = ap (λ o. cons_option (option_map end o) (ends_along end edges ks)) there
+
+-- the edge of the first key comes first
+pub first_entry : {E : Type 0} (edges : Edges E) (k : Key) (e : SeenEdge E) (ks : List Key) → map.get edges k ≡ Some e → entries_along edges (k ∷ ks) ≡ (k, e) ∷ entries_along edges ks
+first_entry edges k e ks there = ap (λ o. cons_option (option_map (λ e. (k, e)) o) (entries_along edges ks)) there
+
+-- what the first step of an iterator over a list yields
+pub first_step : (ks rest : List Key) (found : Option Key) → MatchOption found ((ks ≡ []) × (rest ≡ [])) (λ x. ks ≡ x ∷ rest) → found ≡ first_or ks None
+first_step ks rest None step = sym (ap (λ l. first_or l None) step.0)
+first_step ks rest (Some x) step = sym (ap (λ l. first_or l None) step)
 
 -- the next edge of a walk along the edges of a node
 module _ {E : Type 0} (end : SeenEdge E → Key) (edges : Edges E) (node : Key) (all : List Key) (lists : ListsEdges end edges node all) (passed ahead rest : List Key) (x : Key) (so_far : passed ++ ahead ≡ all) (next : ahead ≡ x ∷ rest) where

@@ -5,9 +5,11 @@ use Rattle.slotmap_graph.proofs.Common.{inl, inr, arith, Key, key_cmp, Content, 
 use Rattle.slotmap_graph.proofs.Common.{get-insert_other, live-insert_still, is_key, same, times, without, is_itself, is_other, one_itself, one_other}
 use Rattle.slotmap_graph.proofs.Common.{map-append, often, often_first, often_gone, often_without, number_itself, without_number, list_now, list_other, owners_stay, list_without, pushed_here, pushed_still}
 use Rattle.slotmap_graph.proofs.Common.{pushed_was, with_list, list_of, Lists, IsIn, IsFree, AreDisjoint, SeenEdge, Edges, edges_at, ends_at, ListsEdges}
+use Rattle.slotmap_graph.proofs.Common.{key_after, key_at, number_after, option_and_then}
 use Rattle.slotmap_graph.proofs.Common.{PutsBehind, SameEdges, AreIndices, HaveIndices, IsThreaded, keys_at, eq-zero-or-pos}
 use Rattle.slotmap_graph.specs.Threads.{by_node}
-use Rattle.slotmap_graph.proofs.Indices.{key_at_live, keys_same, keys_without, no_key, times_key}
+use Rattle.slotmap_graph.proofs.Adjacent.{listed_edge}
+use Rattle.slotmap_graph.proofs.Indices.{after_at, after_inside, key_at_live, keys_same, keys_without, no_key, times_key}
 use Rattle.std.specs.Ordering.{eq_by_cmp}
 use Rattle.std.specs.FinMap as map
 use Rattle.std.specs.FinMap.Entries.{find, below_all, is_sorted}
@@ -60,6 +62,11 @@ module _ {N E : Type 0} (nodes : map.FinMap key_cmp N) (edges : Edges E) (links 
 
   pub at_none : (k : Key) → map.contains_key nodes k ≡ false → edges_at (by_node nodes edges links) k ≡ []
   at_none k gone = seen_at k ∙ ap (λ b. cond b (keys_at edges (list_of links k.index)) []) gone
+
+-- an edge that doesn't exist has none after it
+pub none_after : {A B : Type 0} (f : A → Option B) (o : Option A) → is_some o ≡ false → None ≡ option_and_then f o
+none_after f None gone = refl
+none_after f (Some a) gone = absurd (cc)
 
 -- by whether a key is there
 by_live : {V : Type 0} (m : map.FinMap key_cmp V) (k : Key) (P : Type 0) → (map.contains_key m k ≡ true → P) → (map.contains_key m k ≡ false → P) → P
@@ -128,6 +135,40 @@ module _ {N E : Type 0} (end : SeenEdge E → Key) (nodes : Content N) (edges : 
       none : map.contains_key nodes.live k ≡ false → (o : Option (SeenEdge E)) → map.get edges.live x ≡ o → ends_at end k o ≡ 0
       none gone None is = refl
       none gone (Some e) is = one_other (end e) k (λ at. (let live = ap (map.contains_key nodes.live) (sym at) ∙ t.ends x e is in cc))
+
+  -- the edge after one at its node, by the number after its index
+  module _ (x : Key) (index : ℕ) (same : index ≡ x.index) (number : Option ℕ) (at : (p : ℕ) → IsIn links p index → number ≡ number_after index (list_of links p)) where
+    number_is : (e : SeenEdge E) → map.get edges.live x ≡ Some e → number ≡ number_after x.index (list_of links (end e).index)
+    number_is e there = at (end e).index (rw same (t.listed x e there)) ∙ ap (λ j. number_after j (list_of links (end e).index)) same
+
+    after_one : (e : SeenEdge E) → map.get edges.live x ≡ Some e → option_map (key_at edges.live) number ≡ key_after x (edges_at (by_node nodes.live edges.live links) (end e))
+    after_one e there = ap (option_map (key_at edges.live)) (number_is e there)
+        ∙ sym (ap (key_after x) (at_node nodes.live edges.live links (end e) (t.ends x e there)) ∙ after_at edges t.edge_indices (list_of links (end e).index) (indices_at (end e).index) x (ap is_some there))
+
+    pub after_is : IsLive edges x → option_map (key_at edges.live) number ≡ option_and_then (λ e. key_after x (edges_at (by_node nodes.live edges.live links) (end e))) (map.get edges.live x)
+    after_is live = by (map.get edges.live x) refl live
+      where
+        by : (o : Option (SeenEdge E)) → map.get edges.live x ≡ o → is_some o ≡ true → option_map (key_at edges.live) number ≡ option_and_then (λ e. key_after x (edges_at (by_node nodes.live edges.live links) (end e))) o
+        by None is some = absurd (cc)
+        by (Some e) is some = after_one e is
+
+    pub after_there : IsLive edges x → (i : ℕ) → number ≡ Some i → (k : Key) × (map.contains_key edges.live k ≡ true) × (k.index ≡ i)
+    after_there live i found = by (map.get edges.live x) refl live
+      where
+        by : (o : Option (SeenEdge E)) → map.get edges.live x ≡ o → is_some o ≡ true → (k : Key) × (map.contains_key edges.live k ≡ true) × (k.index ≡ i)
+        by None is some = absurd (cc)
+        by (Some e) is some = indices_at (end e).index i (after_inside x.index i (list_of links (end e).index) (sym (number_is e is) ∙ found))
+
+  -- in whichever list an edge is
+  pub after_along : (x : Key) (found : Option Key) → found ≡ option_and_then (λ e. key_after x (edges_at (by_node nodes.live edges.live links) (end e))) (map.get edges.live x)
+      → (k : Key) → 0 < times x (edges_at (by_node nodes.live edges.live links) k) → found ≡ key_after x (edges_at (by_node nodes.live edges.live links) k)
+  after_along x found is k inside =
+      let there = listed_edge end edges.live k (edges_at (by_node nodes.live edges.live links) k) (lists k) x inside in
+      is ∙ ap (option_and_then (λ e. key_after x (edges_at (by_node nodes.live edges.live links) (end e)))) there.1 ∙ ap (λ q. key_after x (edges_at (by_node nodes.live edges.live links) q)) there.2
+
+  -- an edge has a link
+  pub member_below : (x : Key) → IsLive edges x → x.index < links.members
+  member_below x live = let within = (t.edge_indices.within x live).1 in let members = t.members in omega arith
 
   -- the same edges, but for their values, in the same lists
   module _ {M D : Type 0} (other_end : SeenEdge D → Key) (nodes' : Content M) (edges' : Content (SeenEdge D)) (links' : Lists)

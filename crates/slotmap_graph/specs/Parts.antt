@@ -6,6 +6,7 @@ use Rattle.slotmap.specs.Words.{Key, key_cmp, coded_key, Content, content_code, 
 use Rattle.slotmap.specs.declared.ReserveError.{ReserveError}
 use Rattle.slotmap.specs.declared.ReserveError.TheVariants as reserve
 use Rattle.slotmap_keylist.specs.KeyLists.{is_key, same, times}
+use Rattle.slotmap_keylist.specs.Linked.{first_or}
 use Rattle.slotmap_graph.specs.declared.EdgeError.{EdgeError}
 use Rattle.slotmap_graph.specs.declared.EdgeError.TheVariants.{Gone, Full, Memory}
 
@@ -46,6 +47,11 @@ seen_code {N} {E} n e =
 -- the edges of a node; one that doesn't exist has none
 abbrev pub edges_at : ByNode → Key → List Key
 edges_at lists k = unwrap_or (map.get lists k) []
+
+-- the key after k in a list; after the last one, and where k isn't there, none
+abbrev pub key_after : Key → List Key → Option Key
+key_after k [] = None
+key_after k (q ∷ ks) = cond (is_key q k) (first_or ks None) (key_after k ks)
 
 module _ {E : Type 0} where
   abbrev pub from : SeenEdge E → Key

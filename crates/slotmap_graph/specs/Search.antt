@@ -11,6 +11,10 @@ module _ {E : Type 0} where
   abbrev pub ends_along : (SeenEdge E → Key) → Edges E → List Key → List Key
   ends_along end edges ks = filter_map (λ k. option_map end (map.get edges k)) ks
 
+  -- the edges of a list, each under its key
+  abbrev pub entries_along : Edges E → List Key → List (Key × SeenEdge E)
+  entries_along edges ks = filter_map (λ k. option_map (λ e. (k, e)) (map.get edges k)) ks
+
   abbrev pub arrives_at : Key → Option (SeenEdge E) → Bool
   arrives_at b None = false
   arrives_at b (Some e) = is_key e.to b

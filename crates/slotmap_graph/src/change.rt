@@ -1,6 +1,6 @@
 //! The calls that add and remove nodes and edges.
 
-ghost use Rattle.std.specs.Prelude.{◌≡◌, ◌<◌, ◌++◌, ◌∷◌, [], Some, None, IfOk, OnOk, IfErr, OnErr, IsOk, IsErr, OnSome, IfSome, IfNone, option_map, true, false, cond};
+ghost use Rattle.std.specs.Prelude.{◌≡◌, ◌<◌, ◌++◌, ◌∷◌, [], Some, None, IfOk, OnOk, IfErr, OnErr, IsOk, IsErr, IsTrue, ◌↔◌, OnSome, IfSome, IfNone, option_map, true, false, cond};
 ghost use Rattle.std.specs.Option.{option_and_then};
 ghost use Rattle.std.specs.List.{filter};
 ghost use Rattle.std.specs.FinMap as map;
@@ -14,7 +14,24 @@ use slotmap::{InsertError, Key, ReserveError};
 use slotmap_keylist::inner;
 
 impl<K: Key, N: Drop, E: Drop> Graph<K, N, E> {
+    // Whether a node can be added before more room is made.
+    #[inline(always)]
+    fn has_node_room(&self) -> bool
+        ensures { IsTrue result ↔ 0 < self.now.nodes.room }
+    {
+        self.nodes.has_room()
+    }
+
+    // Whether an edge can be added before more room is made.
+    #[inline(always)]
+    fn has_edge_room(&self) -> bool
+        ensures { IsTrue result ↔ 0 < self.now.edges.room }
+    {
+        self.edges.has_room()
+    }
+
     // Adds a node for which there is room.
+    #[inline(always)]
     fn put_node(&mut self, node: N) -> K
         requires { 0 < self.old.nodes.room }
         ensures adds { Inserts self.old.nodes (K.data_of result) node self.new.nodes }
@@ -28,7 +45,24 @@ impl<K: Key, N: Drop, E: Drop> Graph<K, N, E> {
         self.nodes.insert_reserved(node)
     }
 
+    // Adds a node after the vectors have grown. Not inlined, so that `add_node` has no way back from
+    // there.
+    #[cold]
+    #[inline(never)]
+    fn put_node_apart(&mut self, node: N) -> K
+        requires { 0 < self.old.nodes.room }
+        ensures adds { Inserts self.old.nodes (K.data_of result) node self.new.nodes }
+        ensures capacity { self.new.nodes.capacity ≡ self.old.nodes.capacity }
+        ensures valid { IsContent true self.old.nodes }
+        ensures edges { self.new.edges ≡ self.old.edges }
+        ensures out { SameEdges self.old.out self.new.out }
+        ensures into { SameEdges self.old.into self.new.into }
+    {
+        self.put_node(node)
+    }
+
     // Adds an edge for which there is room, between nodes that exist.
+    #[inline(always)]
     fn put_edge(&mut self, from: K, to: K, edge: E) -> EdgeKey
         requires room { 0 < self.old.edges.room }
         requires from { IsLive self.old.nodes (K.data_of from) }
@@ -45,6 +79,24 @@ impl<K: Key, N: Drop, E: Drop> Graph<K, N, E> {
         put_last(&mut self.out, from, key);
         put_last(&mut self.into, to, key);
         key
+    }
+
+    // Adds an edge after the vectors have grown. Not inlined, so that `add_edge` has no way back from
+    // there.
+    #[cold]
+    #[inline(never)]
+    fn put_edge_apart(&mut self, from: K, to: K, edge: E) -> EdgeKey
+        requires room { 0 < self.old.edges.room }
+        requires from { IsLive self.old.nodes (K.data_of from) }
+        requires to { IsLive self.old.nodes (K.data_of to) }
+        ensures adds { Inserts self.old.edges result (record { from = K.data_of from; to = K.data_of to; value = edge }) self.new.edges }
+        ensures capacity { self.new.edges.capacity ≡ self.old.edges.capacity }
+        ensures valid { IsContent true self.old.edges }
+        ensures out { PutsBehind self.old.out (K.data_of from) result self.new.out }
+        ensures into { PutsBehind self.old.into (K.data_of to) result self.new.into }
+        ensures nodes { self.new.nodes ≡ self.old.nodes }
+    {
+        self.put_edge(from, to, edge)
     }
 
     /// Adds a node with no edge, and returns its key, which no node had before.
@@ -74,8 +126,11 @@ impl<K: Key, N: Drop, E: Drop> Graph<K, N, E> {
         ensures in_place { 0 < self.old.nodes.room → self.new.nodes.capacity ≡ self.old.nodes.capacity }
         ensures unchanged { OnErr result (Keeps self.old.nodes self.new.nodes) }
     {
+        if self.has_node_room() {
+            return Ok(self.put_node(node));
+        }
         match self.reserve_nodes(1) {
-            Ok(()) => Ok(self.put_node(node)),
+            Ok(()) => Ok(self.put_node_apart(node)),
             Err(ReserveError::TooGreat) => Err(InsertError::Full(node)),
             Err(ReserveError::Memory) => Err(InsertError::Memory(node)),
         }
@@ -119,8 +174,11 @@ impl<K: Key, N: Drop, E: Drop> Graph<K, N, E> {
         if !self.contains_node(from) || !self.contains_node(to) {
             return Err(EdgeError::Gone(edge));
         }
+        if self.has_edge_room() {
+            return Ok(self.put_edge(from, to, edge));
+        }
         match self.reserve_edges(1) {
-            Ok(()) => Ok(self.put_edge(from, to, edge)),
+            Ok(()) => Ok(self.put_edge_apart(from, to, edge)),
             Err(ReserveError::TooGreat) => Err(EdgeError::Full(edge)),
             Err(ReserveError::Memory) => Err(EdgeError::Memory(edge)),
         }

@@ -54,6 +54,7 @@ mod iter;
 mod lists;
 mod look;
 mod neighbours;
+mod next;
 mod order;
 mod references;
 mod search;
@@ -64,7 +65,7 @@ pub use iter::EdgesAt;
 pub use lists::Edge;
 pub use neighbours::Neighbours;
 pub use order::OrderError;
-pub use references::EdgeReferences;
+pub use references::{EdgeReferences, EdgeReferencesAt};
 use slotmap::basic::Keys;
 use slotmap::{Key, NodeKey, ReserveError};
 use slotmap_bounded::BoundedMap;
@@ -205,6 +206,7 @@ impl<K: Key, N: Drop, E: Drop> Graph<K, N, E> {
     /// graph.reserve_nodes(2)?;
     /// assert!(rt; graph.add_node("a").is_ok());
     /// ```
+    #[inline(never)]
     pub fn reserve_nodes(&mut self, additional: usize) -> Result<(), ReserveError>
         ensures makes_room { MakesRoom true self.old.nodes additional (IsOk result) self.new.nodes }
         ensures err { IfErr result (RefusesCapacity (used self.old.nodes + additional)) }
@@ -230,6 +232,7 @@ impl<K: Key, N: Drop, E: Drop> Graph<K, N, E> {
     /// let a = graph.add_node("a")?;
     /// assert!(rt; graph.add_edge(a, a, 5).is_ok());
     /// ```
+    #[inline(never)]
     pub fn reserve_edges(&mut self, additional: usize) -> Result<(), ReserveError>
         ensures makes_room { MakesRoom true self.old.edges additional (IsOk result) self.new.edges }
         ensures err { IfErr result (RefusesCapacity (used self.old.edges + additional)) }

@@ -44,6 +44,15 @@ module _ {T : Type 0} (m : map.FinMap key_cmp T) where
       let w = with_value_is (find (λ k. nat_eq k.index i) (map.keys m)) e is in
       (eqb-true e.0.index i (first_found (λ k. nat_eq k.index i) (map.keys m) e.0 w.0).0, w.1)
 
+  -- so it is live
+  pub there_live : (number : Option ℕ) (k : Key) → Some k ≡ key_there m number → map.contains_key m k ≡ true
+  there_live None k is = absurd (cc)
+  there_live (Some i) k is = by (at_index m i) refl is
+    where
+      by : (o : Option (Key × T)) → at_index m i ≡ o → Some k ≡ option_map (λ e. e.0) o → map.contains_key m k ≡ true
+      by None found is = absurd (cc)
+      by (Some e) found is = let same : k ≡ e.0 = cc in ap (map.contains_key m) same ∙ ap is_some (at_is i e found).1
+
   -- no key with this index is live
   pub none_at : (i : ℕ) → ((k : Key) → map.contains_key m k ≡ true → k.index ≢ i) → at_index m i ≡ None
   none_at i none = by (at_index m i) refl

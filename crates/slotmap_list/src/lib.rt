@@ -51,6 +51,7 @@ use std::ops::Index;
 use thiserror::Error;
 
 mod add;
+mod beside;
 mod clone;
 mod cursor;
 mod debug;
@@ -258,6 +259,7 @@ impl<K: Key, T: Drop> StableList<K, T> {
     /// list.push_back(2)?;
     /// assert_eq!(rt; list.capacity(), capacity);
     /// ```
+    #[inline(never)]
     pub fn reserve(&mut self, additional: usize) -> Result<(), ReserveError>
         ensures makes_room { MakesRoom true self.old.cursors additional (IsOk result) self.new.cursors }
         ensures room { OnOk result (additional ≤ self.new.cursors.room) }

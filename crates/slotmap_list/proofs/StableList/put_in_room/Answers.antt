@@ -1,7 +1,8 @@
 use Rattle.std.proofs.Common.{◌≡◌, true, refl, ap, ◌∙◌, arith}
+use Rattle.std.specs.FinSet as set
 use Rattle.slotmap.specs.Words.{Key}
-use Rattle.slotmap.proofs.Callers.{spent_inserts}
-use Rattle.slotmap_keylist.proofs.Alone.{alone-inserts, gone_stays, new_not_gone}
+use Rattle.slotmap.proofs.Callers.{inserted_len, spent_inserts}
+use Rattle.slotmap_keylist.proofs.Alone.{alone-inserts, gone_stays, new_not_gone, used_alone}
 use Rattle.slotmap_links.specs.Lists.{list_of}
 use Rattle.slotmap_list.specs.Kept.{elements_at}
 use Rattle.slotmap_list.specs.Sequence.{Sequence}
@@ -50,6 +51,14 @@ returns-clause-unspent g c = rw (← c.self.view_is) (new_not_gone _ _ c.insert_
 
 pub returns-clause-cursors : goal.returns-clause-cursors
 returns-clause-cursors g c = rw (← c.self.view_is) (alone-inserts _ _ _ _ c.insert_reserved-key.ensures.inserts)
+
+pub returns-clause-used : goal.returns-clause-used
+returns-clause-used g c =
+    let made = c.insert_reserved-key.ensures in
+    let more = inserted_len true _ _ c.args.value _ made.valid.before made.inserts in
+    let detached = ap set.len made.inserts.detached in
+    let retired = ap set.len made.inserts.retired in
+    rw (← c.self.view_is, used_alone c.self.inside.values, used_alone c.insert_reserved-key.new.self) (omega arith)
 
 pub returns-clause-gone : goal.returns-clause-gone
 returns-clause-gone g c = rw (← c.self.view_is) (gone_stays _ _ _ refl (spent_inserts _ _ true c.insert_reserved-key.ensures.valid.before _ _ c.insert_reserved-key.ensures.inserts))

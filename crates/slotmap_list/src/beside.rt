@@ -1,0 +1,55 @@
+//! The elements beside that of a cursor, each with its value.
+
+ghost use Rattle.std.specs.Prelude.{◌≡◌, Some, None, IfSome, option_map};
+ghost use Rattle.slotmap_list.specs.Sequence.{key_after, key_before, value_of};
+
+use crate::{StableList, key_at};
+use slotmap::Key;
+
+impl<K: Key, T: Drop> StableList<K, T> {
+    /// Returns the cursor after this one and its value, or `None` at the back and for a cursor that
+    /// isn't in the list.
+    ///
+    /// It is [`StableList::next`] and [`StableList::get`] in one, with one look-up less. Constant time.
+    ///
+    /// ```
+    /// let mut list = StableList::new(alloc)?;
+    /// let one = list.push_back(1)?;
+    /// let two = list.push_back(2)?;
+    /// assert_eq!(rt; list.next_element(one), Some((two, &2)));
+    /// assert_eq!(rt; list.next_element(two), None);
+    /// ```
+    pub fn next_element(&self, cursor: K) -> Option<(K, &T)>
+        ensures next { option_map (λ e. K.data_of e.0) result ≡ key_after (K.data_of cursor) self.now.elements }
+        ensures value { IfSome result (λ e. value_of (K.data_of e.0) self.now.elements ≡ Some e.1.now) }
+    {
+        if !self.values.contains_key(cursor) {
+            return None;
+        }
+        let next = key_at(&self.values, self.links.next(cursor.data().idx()))?;
+        Some((next, self.values.value(next)))
+    }
+
+    /// Returns the cursor before this one and its value, or `None` at the front and for a cursor that
+    /// isn't in the list.
+    ///
+    /// It is [`StableList::prev`] and [`StableList::get`] in one, with one look-up less. Constant time.
+    ///
+    /// ```
+    /// let mut list = StableList::new(alloc)?;
+    /// let one = list.push_back(1)?;
+    /// let two = list.push_back(2)?;
+    /// assert_eq!(rt; list.prev_element(two), Some((one, &1)));
+    /// assert_eq!(rt; list.prev_element(one), None);
+    /// ```
+    pub fn prev_element(&self, cursor: K) -> Option<(K, &T)>
+        ensures prev { option_map (λ e. K.data_of e.0) result ≡ key_before None (K.data_of cursor) self.now.elements }
+        ensures value { IfSome result (λ e. value_of (K.data_of e.0) self.now.elements ≡ Some e.1.now) }
+    {
+        if !self.values.contains_key(cursor) {
+            return None;
+        }
+        let prev = key_at(&self.values, self.links.prev(cursor.data().idx()))?;
+        Some((prev, self.values.value(prev)))
+    }
+}
