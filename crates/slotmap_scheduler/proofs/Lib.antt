@@ -11,6 +11,7 @@ pub mod Indexed
 pub mod Inverse
 pub mod Order
 pub mod Results
+pub mod Retained
 pub mod Schedules
 pub mod Seen
 pub mod Sorted

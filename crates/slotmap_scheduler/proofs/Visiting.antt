@@ -32,7 +32,7 @@ module _ {T : Type 0} (k : Key) where
   written_none w q [] none = refl
   written_none w q (e ∷ ws) none = grind (arith, written_none w q ws)
 
-  written_once : (w : T) (ws : Waiting T) → IsOnce ws → IsOnce (with_job k w ws)
+  pub written_once : (w : T) (ws : Waiting T) → IsOnce ws → IsOnce (with_job k w ws)
   written_once w [] once = tt
   written_once w (e ∷ ws) once = elim (eq_by_cmp key_cmp k e.0) as (λ b. IsOnce (cond b ((e.0, (e.1.0, w)) ∷ ws) (e ∷ with_job k w ws))) [
     | true ↦ once
