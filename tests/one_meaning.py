@@ -35,6 +35,7 @@ LEMMAS = {
     'Common': 'what the proofs of a crate cite, passed on by one file',
     'ContentLemmas': 'what a map holds',
     'DrainLemmas': 'drains',
+    'Draining Visiting': 'the steps of a drain, and a loop that visits all: of one structure and of another',
     'FromListLemmas': 'a map that is read from a list of slots',
     'IterLemmas': 'iterators',
     'Results': 'what clauses say of results',
@@ -69,6 +70,7 @@ WORDS = {
     'IsSound IsContent IsIter IsInPlace': 'what always holds, of slots, of a content, of an iterator, of an entry',
     'Content content_code content_of with_value value_of used retired pairs_of': 'the same of each kind of map, and of the states of its machine',
     'drain_loan drain_live drain_count DrainCanStep DrainSteps TakesPair TakesFirst': 'the same of the drain of each kind of map',
+    'KeepsLent SameLoan YieldsInOrder': 'the same of the drain of each structure',
     'IsSlotClone AreSlotClones places_of value_at version_in next_at pairs_from pairs_left': 'the same of slots of each kind',
     'is_found Refuses IsRefused HandsBack': 'what that call finds or ensures, or why it is refused',
     'entry_map_ref entry_map entry_lender entry_key entry_value entry_with entry_without occupied_with IsWritten Enters IsEntryOf IfEntry': 'the same of the entries of each secondary map',
@@ -90,6 +92,7 @@ LEMMA_NAMES = {
 PROVED_TWICE = {
     'as_many linked_along next_here not_first not_last prev_here segment_is segment_long': 'the same of lists of keys, and of numbers',
     'dropped_push slots_equal': 'of words that each map has for itself',
+    'keeps_lent yields_in_order': 'the same of the drain of each structure',
     'first second some_is last_some own': 'a line of logic that a structure proves for itself',
     'below-changed sorted-changed': 'of entries whose values are changed by the value, or by the key',
     'closed_spec end_spec into_unboxed_spec of_unboxed_spec': 'that function of each handle for C, by the name that the checker wants',

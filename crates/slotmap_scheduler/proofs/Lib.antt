@@ -2,6 +2,7 @@ pub mod Callers
 pub mod Common
 pub mod Copied
 pub mod Counting
+pub mod Draining
 pub mod DueCounted
 pub mod Handles
 pub mod HeapPlaces
@@ -10,9 +11,11 @@ pub mod Indexed
 pub mod Inverse
 pub mod Order
 pub mod Results
+pub mod Retained
 pub mod Schedules
 pub mod Seen
 pub mod Sorted
 pub mod TakingDue
 pub mod Timed
+pub mod Visiting
 pub mod Waits

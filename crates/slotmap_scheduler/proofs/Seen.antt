@@ -1,9 +1,9 @@
 -- What a scheduler's user sees, by what its map holds.
-use Rattle.std.proofs.Common.{◌≡◌, ◌<◌, [], ◌∷◌, ◌∙◌}
-use Rattle.slotmap_scheduler.proofs.Common.{ℕ, false, List, Bor, Option, Some, None, is_some, option_copied, length, refl, sym, ap, arith, list_map, slice_get, Vec, All}
+use Rattle.std.proofs.Common.{◌≡◌, ◌<◌, ◌≤◌, [], ◌∷◌, ◌∙◌}
+use Rattle.slotmap_scheduler.proofs.Common.{ℕ, true, false, inl, List, Bor, Option, Some, None, is_some, option_copied, length, refl, sym, ap, arith, list_map, slice_get, Vec, All}
 use Rattle.slotmap_scheduler.proofs.Common.{option_map, find, length-map, slice_get-get_or, Key, key_cmp, Content, get-mapped, len-mapped, Job}
 use Rattle.slotmap_scheduler.proofs.Common.{Entry, job_of, without, ListsJobs, shown, Turn, waiting_of, InOrder, precedes, no_entry, turn_at, heap_entry, unplaced, timed}
-use Rattle.slotmap_scheduler.proofs.Common.{IsSchedule}
+use Rattle.slotmap_scheduler.proofs.Common.{IsSchedule, IsContent, IsLive}
 use Rattle.std.specs.FinMap as map
 use Rattle.slotmap_scheduler.proofs.Order.{job_is, len_is, waits_first, none_due, none_wait}
 use Rattle.slotmap_scheduler.proofs.Heaps.{top_first}
@@ -86,3 +86,15 @@ module _ {T : Type 0} (jobs : Content (Job T)) (count : ℕ) (is : InOrder (time
     same = λ k. find-shown (map.entries jobs.live) k ∙ ap (option_map (λ (j : Job T). (j.turn.0, j.job))) (sym (map.get-entries jobs.live k)) ∙ sym (seen_is jobs count is k);
     count = length-map (map.entries jobs.live) shown ∙ sym (map.len-entries jobs.live) ∙ sym (len_is (timed jobs).live count is ∙ len-mapped unplaced jobs.live);
   }
+
+-- a handle that the map finds, and the least one from an index on
+module _ {T : Type 0} (jobs : Content (Job T)) (count : ℕ) (is : InOrder (timed jobs).live count) (k : Key) where
+  pub found_waits : (j : Job T) → map.get jobs.live k ≡ Some j → (x : T) × (job_of k (waiting_of (timed jobs).live) ≡ Some (j.turn.0, x))
+  found_waits j found = (j.job, seen_is jobs count is k ∙ ap (option_map (λ (y : Job T). (y.turn.0, y.job))) found)
+
+  pub alone_at : IsContent true jobs → (j : Job T) → map.get jobs.live k ≡ Some j → (floor : ℕ) → ((other : Key) → IsLive jobs other → floor ≤ other.index → k.index ≤ other.index)
+      → (q : Key) → is_some (job_of q (waiting_of (timed jobs).live)) ≡ true → floor ≤ q.index → q.index ≤ k.index → q ≡ k
+  alone_at well j found floor first q there from up =
+      let live : IsLive jobs q = contains_seen jobs count is q ∙ there in
+      let least = first q live from in
+      well.apart q k (inl (inl live)) (inl (inl (ap is_some found))) (omega arith)

@@ -39,10 +39,13 @@ ghost use Rattle.slotmap_scheduler.specs.Schedule.{job_of, IsOnce, IsByTime};
 mod calls;
 mod clone;
 mod debug;
+mod drain;
 mod heap;
 mod into_iter;
 mod iter;
+mod retain;
 
+pub use drain::Drain;
 use heap::{Entry, Jobs};
 pub use into_iter::IntoIter;
 pub use iter::{Iter, Keys, Values};
@@ -102,7 +105,7 @@ pub enum ScheduleError<T> {
 }
 
 /// A job was not rescheduled. It keeps its time.
-#[derive(Clone, Copy, Debug, Drop, Error)]
+#[derive(Clone, Copy, Debug, Drop, PartialEq, Eq, Error)]
 pub enum RescheduleError {
     /// No job waits under the handle.
     #[error("no job waits under this handle")]

@@ -1,0 +1,10 @@
+use Rattle.std.proofs.Common.{◌-◌, ◌^◌}
+use Rattle.slotmap.specs.Words.{index_after}
+use Rattle.slotmap_scheduler.proofs.Visiting.{Visiting}
+use Rattle.slotmap_scheduler.proofs.Scheduler.retain.Given as goal
+
+abbrev pub invariant-loop-next : goal.invariant-loop-next
+invariant-loop-next g l = Visiting g.F.FnMut g.K.Key.data_of l.fn.self l.fn.f l.self (index_after (λ k. k) l.last) l.f
+
+abbrev pub decreases-loop-next : goal.decreases-loop-next
+decreases-loop-next g l = 2 ^ 32 - index_after (λ k. k) l.last

@@ -1,0 +1,102 @@
+//! The call that visits all jobs, and keeps or removes each.
+
+ghost use Rattle.std.specs.Prelude.{◌≡◌, ℕ, ◌^◌, ◌<◌, ◌≤◌, Some, None, IfSome, IfNone, is_some, true};
+ghost use Rattle.std.specs.Borrow.{sem};
+ghost use Rattle.slotmap.specs.Words.{Key as KeyOf, IsSpent, KeepsSpent, Leaves, index_after};
+ghost use Rattle.slotmap_scheduler.specs.Schedule.{job_of, without, IsOnce};
+ghost use Rattle.slotmap_scheduler.specs.Retain.{RetainsJobs, CallableOnJobs};
+
+use crate::Scheduler;
+use slotmap::{DefaultKey, Key};
+use slotmap_keylist::{inner, outer};
+
+impl<K: Key, T: Drop> Scheduler<K, T> {
+    ghost use Rattle.slotmap_scheduler.specs.Lends.{lends_waiting};
+
+    // The handle that waits with the least index behind that of the last one, and its time.
+    fn after(&self, last: Option<DefaultKey>) -> Option<(K, u64)>
+        ensures there { IfSome result (λ next. (job : T) × (job_of (K.data_of next.0) self.now.waiting ≡ Some (next.1, job))) }
+        ensures bound { IfSome result (λ next. (K.data_of next.0).index < 2 ^ 32) }
+        ensures behind { IfSome result (λ next. index_after (λ k. k) last ≤ (K.data_of next.0).index) }
+        ensures least { IfSome result (λ next. (q : KeyOf) → is_some (job_of q self.now.waiting) ≡ true → index_after (λ k. k) last ≤ q.index
+            → q.index ≤ (K.data_of next.0).index → q ≡ K.data_of next.0) }
+        ensures none { IfNone result ((q : KeyOf) → is_some (job_of q self.now.waiting) ≡ true → q.index < index_after (λ k. k) last) }
+    {
+        match self.jobs.next_after(last) {
+            Some(next) => Some((outer(next.0), next.1.turn.0)),
+            None => None,
+        }
+    }
+
+    // The job of a handle under which one waits.
+    fn job_mut(&mut self, handle: K) -> &mut T
+        requires { is_some (job_of (K.data_of handle) self.old.waiting) ≡ true }
+        ensures* lends { sem 𝓛 (lends_waiting K.row T.row self.entry (K.data_of handle) result) }
+        ensures job { (time : ℕ) (job : T) → job_of (K.data_of handle) self.old.waiting ≡ Some (time, job) → result.now ≡ job }
+    {
+        match self.get_mut(handle) {
+            Some(job) => job,
+            None => unreachable!(),
+        }
+    }
+
+    // Removes the job of a handle under which one waits, and drops it.
+    fn reject(&mut self, handle: K)
+        requires { is_some (job_of (K.data_of handle) self.old.waiting) ≡ true }
+        ensures removed { self.new.waiting ≡ without (K.data_of handle) self.old.waiting }
+        ensures turns { self.new.turns ≡ self.old.turns }
+        ensures capacity { self.new.handles.capacity ≡ self.old.handles.capacity }
+        ensures leaves { Leaves self.old.handles self.new.handles }
+        ensures for_good { IsSpent self.new.handles (K.data_of handle) }
+        ensures stale { KeepsSpent self.old.handles self.new.handles }
+    {
+        self.cancel(handle);
+    }
+
+    /// Calls a closure once for each job that waits, and removes those for which it returns `false`.
+    ///
+    /// The closure gets the handle, the time and a mutable reference to the job. What it writes is kept.
+    /// The jobs are visited in no particular order. Those that stay keep their turns, and the handle of
+    /// a removed one is never used again. The room and the capacity stay. It takes time linear in the
+    /// number of slots, and logarithmic in the number of jobs for each that it removes.
+    ///
+    /// ```
+    /// let mut scheduler: Scheduler<DefaultKey, &str> = Scheduler::new(alloc)?;
+    /// let tea = scheduler.schedule(30, "tea")?;
+    /// let bell = scheduler.schedule(20, "bell")?;
+    /// scheduler.retain(|_: DefaultKey, time, job| {
+    ///     *job = "kettle";
+    ///     time > 20
+    /// });
+    /// assert_eq!(rt; scheduler.get(tea), Some(&"kettle"));
+    /// assert!(rt; !scheduler.contains(bell));
+    /// ```
+    pub fn retain<F: FnMut(K, u64, &mut T) -> bool>(&mut self, mut f: F)
+    where
+        F: Drop,
+        // For each job, in each state in which calls for other jobs leave the closure.
+        requires { CallableOnJobs F.FnMut K.data_of f self.old.waiting }
+        ensures retained { RetainsJobs F.FnMut K.data_of f self.old.waiting self.new.waiting }
+        ensures once { IsOnce self.old.waiting }
+        ensures turns { self.new.turns ≡ self.old.turns }
+
+        // The capacity stays, and no room is lost.
+        ensures capacity { self.new.handles.capacity ≡ self.old.handles.capacity }
+        ensures leaves { Leaves self.old.handles self.new.handles }
+
+        // What never comes again.
+        ensures for_good { (k : KeyOf) → is_some (job_of k self.old.waiting) ≡ true → job_of k self.new.waiting ≡ None → IsSpent self.new.handles k }
+        ensures stale { KeepsSpent self.old.handles self.new.handles }
+    {
+        // Reads the scheduler, which says that each handle is there once.
+        let _ = self.len();
+        let mut last = None;
+        while let Some(next) = self.after(last) {
+            last = Some(inner(next.0));
+            let stays = f(next.0, next.1, self.job_mut(next.0));
+            if !stays {
+                self.reject(next.0);
+            }
+        }
+    }
+}
