@@ -1,5 +1,7 @@
--- What callers of a scheduler cite: which jobs a loop over `pop_due` took out.
-use Rattle.std.proofs.Common.{◌≡◌, ◌+◌, ◌<◌, ◌≤◌, [], ◌∷◌, ◌++◌, ◌∙◌}
+-- What callers of a scheduler cite: which jobs a loop over `pop_due` took out, and which `retain` left.
+pub use Rattle.slotmap_scheduler.proofs.Retained.{retained_jobs, retained_where}
+pub use Rattle.slotmap_scheduler.proofs.Visiting.{callable_on_jobs}
+use Rattle.std.proofs.Common.{◌≡◌, ◌<◌, ◌≤◌, [], ◌∷◌, ◌++◌, ◌∙◌}
 use Rattle.slotmap_scheduler.proofs.Common.{ℕ, true, false, cond, refl, sym, ap, arith, nat_lt, All, nat_tests, All-nil, All-cons, All-head, Key, Waiting, due_at, left_at}
 
 module _ {T : Type 0} (now : ℕ) where

@@ -1,6 +1,6 @@
 -- What the steps of a drain keep, and what they yield.
 use Rattle.std.proofs.Common.{◌≡◌, ◌⊎◌, [], ◌∷◌, ◌∙◌}
-use Rattle.slotmap_scheduler.proofs.Common.{ℕ, true, Some, None, is_some, inl, inr, refl, sym, ap, subst, arith, Key, IsSpent, KeepsSpent, Leaves, leaves_in_turn}
+use Rattle.slotmap_scheduler.proofs.Common.{ℕ, true, is_some, inl, inr, refl, sym, ap, subst, arith, Key, IsSpent, KeepsSpent, Leaves, leaves_in_turn}
 use Rattle.slotmap_scheduler.proofs.Common.{keys_total, exact_keys, tied, Schedule, Waiting, job_of}
 use Rattle.slotmap_scheduler.specs.declared.drain.Drain.{Drain}
 use Rattle.slotmap_scheduler.specs.Drain.{EmptiesSchedule, SameLoan, KeepsLent, YieldsInOrder, yielded_job}

@@ -1,14 +1,13 @@
 -- What holds of every scheduler, after each call.
-use Rattle.std.proofs.Common.{◌≡◌, ◌≢◌, ◌+◌, ◌≤◌, ◌⊎◌, [], ◌∷◌, ◌∙◌}
-use Rattle.slotmap_scheduler.proofs.Common.{ℕ, true, List, Some, None, zero, suc, is_some, length, refl, sym, ap, inl, inr, arith, vec_len, vec_capacity, option_map, Vec, list_any}
-use Rattle.slotmap_scheduler.proofs.Common.{eq_by_cmp, nat_cmp_total, exact_unsigned, Key, key_cmp, Content, IsContent, Inserts, Removes, Leaves, with_value, keys, keys_total}
-use Rattle.slotmap_scheduler.proofs.Common.{exact_keys, inserted_fresh, inserted_len, removed_len, none_of, itself, tied, content-mapped, get-mapped, len-mapped, mapped-empty}
+use Rattle.std.proofs.Common.{◌≡◌, ◌≢◌, ◌+◌, ◌≤◌, ◌⊎◌, [], ◌∙◌}
+use Rattle.slotmap_scheduler.proofs.Common.{ℕ, true, Some, None, is_some, length, refl, sym, ap, inl, inr, arith, vec_len, vec_capacity, option_map, Vec}
+use Rattle.slotmap_scheduler.proofs.Common.{nat_cmp_total, exact_unsigned, Key, key_cmp, Content, IsContent, Inserts, Removes, Leaves, with_value, keys, keys_total}
+use Rattle.slotmap_scheduler.proofs.Common.{exact_keys, inserted_fresh, inserted_len, removed_len, none_of, tied, content-mapped, get-mapped, len-mapped, mapped-empty}
 use Rattle.slotmap_scheduler.proofs.Common.{mapped-insert, mapped-with, map_values, Job, Entry, Schedule, job_of, in_turn, without, with_job, Turn, waiting_of, InOrder, unplaced}
 use Rattle.slotmap_scheduler.proofs.Common.{timed, spot_of, heap_entry, IsIndexed, handles_of, IsSchedule, IsLive, MakesRoom, cond, get-insert_here, get-insert_other}
 use Rattle.slotmap_scheduler.proofs.Common.{leaves_by_removal, shown_content, mapped-room}
 use Rattle.slotmap.proofs.Callers.{some_entry, vacant_at_most}
 use Rattle.std.specs.FinMap as map
-use Rattle.std.specs.FinSet as set
 use Rattle.slotmap_scheduler.proofs.Order.{added, removed, written, none_in_order, none_wait, job_is, job_stays, len_is}
 use Rattle.slotmap_scheduler.proofs.Handles.{handles_written, handles_content, handles_room}
 use Rattle.slotmap_scheduler.proofs.Inverse.{alike}

@@ -16,8 +16,9 @@
 //! The jobs are in a `SlotMap`, and their turns in a heap in a `Vec`; each job has its place in the
 //! heap. So `schedule`, `reschedule`, `cancel` and the calls that pop a job take time logarithmic in the
 //! number of jobs, unless a vector grows, and `pop_all_due` that for each job that is due. `clear`,
-//! `clone` and all steps of `iter`, `keys` or `values` together take time linear in the number of
-//! slots. `peek`, `get`, `due`, `len` and the like take constant time.
+//! `retain`, `clone` and all steps of `iter`, `keys` or `values` together take time linear in the
+//! number of slots; `retain` and `drain` also take logarithmic time for each job that they take out.
+//! `peek`, `get`, `due`, `len` and the like take constant time.
 //!
 //! ```
 //! let mut scheduler: Scheduler<DefaultKey, &str> = Scheduler::new(alloc)?;
