@@ -76,6 +76,7 @@ WORDS = {
     'entry_map_ref entry_map entry_lender entry_key entry_value entry_with entry_without occupied_with IsWritten Enters IsEntryOf IfEntry': 'the same of the entries of each secondary map',
     'CanReplace AreValuesOf with_values dropped CallsAt': 'several keys or calls of a closure, of each kind of map',
     'Given Step DetachStep StepInsert StepRemove StepDetach StepReattach after_insert after_remove after_detach after_reattach': 'the same of each machine',
+    'key_after': 'the key after another one, in a list of keys or of elements',
     'IsOnce without is_key same times': 'lists of indices or keys: none twice; all but one; how often a key is in one',
     'AreApart AreLinked IsListed IsSegment followed link_between listed no_ends no_link own put_before': 'the same of lists of keys or edges, and of numbers',
     'Nodes IsChain Unlinks Relinks IsWalk follow with_link with_next with_prev link_in ends_in ends_of first_or last_or': 'what is linked both ways: nodes, slots, or the keys of a list',

@@ -8,6 +8,7 @@ pub mod cycles;
 pub mod forward;
 pub mod groups;
 pub mod heirs;
+pub mod outward;
 pub mod reaper;
 pub mod reorder;
 pub mod room;
