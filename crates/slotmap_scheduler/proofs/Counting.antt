@@ -31,11 +31,11 @@ under_split (suc steps) at c within =
       under_after steps (2 * at + 2) (up c),
     )
 
-pub count-le : (p : ℕ → Bool) (n : ℕ) → count_below p n ≤ n
+count-le : (p : ℕ → Bool) (n : ℕ) → count_below p n ≤ n
 count-le p zero = omega arith
 count-le p (suc n) = grind (arith, count-le p n)
 
-pub count_none : (p : ℕ → Bool) (n : ℕ) → ((c : ℕ) → c < n → p c ≡ false) → count_below p n ≡ 0
+count_none : (p : ℕ → Bool) (n : ℕ) → ((c : ℕ) → c < n → p c ≡ false) → count_below p n ≡ 0
 count_none p zero none = refl
 count_none p (suc n) none = grind (arith, none n, count_none p n (λ c less. none c (omega arith)))
 

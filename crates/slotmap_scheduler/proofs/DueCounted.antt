@@ -41,7 +41,7 @@ module _ {T : Type 0} (k : Key) where
 
   -- a job among others, which are counted without it
   module _ (test : Key × (ℕ × T) → Bool) where
-    pub count_without : (ws : Waiting T) (x : ℕ × T) → IsOnce ws → job_of k ws ≡ Some x
+    count_without : (ws : Waiting T) (x : ℕ × T) → IsOnce ws → job_of k ws ≡ Some x
         → length (filter test ws) ≡ cond (test (k, x)) 1 0 + length (filter test (without k ws))
     count_without [] x once there = absurd (cc)
     count_without (e ∷ ws) x once there =
@@ -63,12 +63,12 @@ module _ {T : Type 0} (now : ℕ) where
       grind (arith, nat_tests, none_passes time ws later (All-tail (λ (x : Key × (ℕ × T)). time ≤ x.1.0) e ws all))
 
   -- those that are due are the first
-  pub due_first : (ws : Waiting T) → IsByTime ws → due_at now ws ≡ filter is_due ws
+  due_first : (ws : Waiting T) → IsByTime ws → due_at now ws ≡ filter is_due ws
   due_first [] sorted = refl
   due_first (e ∷ ws) sorted = grind (arith, nat_tests, due_first ws sorted.1, none_passes e.1.0 ws)
 
   -- as many are due as there are places of jobs that are, if each job has one place
-  pub due_placed : (n : ℕ) (handle : ℕ → Key) (time : ℕ → ℕ) (ws : Waiting T) → IsOnce ws → length ws ≡ n
+  due_placed : (n : ℕ) (handle : ℕ → Key) (time : ℕ → ℕ) (ws : Waiting T) → IsOnce ws → length ws ≡ n
       → ((c : ℕ) → c < n → (x : T) × (job_of (handle c) ws ≡ Some (time c, x)))
       → ((c d : ℕ) → c < n → d < n → handle c ≡ handle d → c ≡ d) → length (filter is_due ws) ≡ count_below (λ c. not (nat_lt now (time c))) n
   due_placed zero handle time ws once len there apart = ap (λ l. length (filter is_due l)) (nil_from_length ws len)

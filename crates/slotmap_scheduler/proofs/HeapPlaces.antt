@@ -35,7 +35,7 @@ place_written jobs k j p found = mapped-written unplaced jobs (with_value jobs k
 
 module _ {T Z : Type 0} (jobs : Content (Job T)) (heap : Vec Entry Z) (is : IsPlaced jobs.live heap.items) where
   -- the handle of an entry is live
-  pub placed_live : (i : ℕ) (k : Key) (t : Turn) → heap_entry heap.items i ≡ Some (k, t) → map.contains_key jobs.live k ≡ true
+  placed_live : (i : ℕ) (k : Key) (t : Turn) → heap_entry heap.items i ≡ Some (k, t) → map.contains_key jobs.live k ≡ true
   placed_live i k t there = grind (arith, is.from i k t there)
 
   pub read_live : (i : ℕ) (x : Entry) → i < vec_len heap → x ≡ get_or heap.items i x → map.contains_key jobs.live x.handle ≡ true

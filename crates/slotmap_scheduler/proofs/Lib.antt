@@ -1,21 +1,21 @@
 pub mod Callers
-pub mod Common
-pub mod Copied
-pub mod Counting
-pub mod Draining
-pub mod DueCounted
-pub mod Handles
-pub mod HeapPlaces
-pub mod Heaps
-pub mod Indexed
-pub mod Inverse
-pub mod Order
-pub mod Results
+mod Common
+mod Copied
+mod Counting
+mod Draining
+mod DueCounted
+mod Handles
+mod HeapPlaces
+mod Heaps
+mod Indexed
+mod Inverse
+mod Order
+mod Results
 pub mod Retained
-pub mod Schedules
-pub mod Seen
-pub mod Sorted
-pub mod TakingDue
-pub mod Timed
+mod Schedules
+mod Seen
+mod Sorted
+mod TakingDue
+mod Timed
 pub mod Visiting
-pub mod Waits
+mod Waits

@@ -41,7 +41,7 @@ module _ {T : Type 0} where
     one_handle : (turns : map.FinMap turn_cmp (Key × T)) → IsInverse (map.get jobs) (map.get turns) → (k q : Key) (t : Turn) (x y : T) → map.get jobs k ≡ Some (t, x) → map.get jobs q ≡ Some (t, y) → k ≡ q
     one_handle turns is k q t x y at there = grind (arith, is.to k t x at, is.to q t y there)
 
-    pub by_turn_is : (turns : map.FinMap turn_cmp (Key × T)) → IsInverse (map.get jobs) (map.get turns) → by_turn jobs ≡ turns
+    by_turn_is : (turns : map.FinMap turn_cmp (Key × T)) → IsInverse (map.get jobs) (map.get turns) → by_turn jobs ≡ turns
     by_turn_is turns is =
         let by = inverse (one_handle turns is) in
         map.same_map turns_total exact_turns (by_turn jobs) turns (λ t. same_option _ _ (λ x there. is.to x.0 t x.1 (by.from t x.0 x.1 there)) (λ x there. by.to x.0 t x.1 (is.from t x.0 x.1 there)))

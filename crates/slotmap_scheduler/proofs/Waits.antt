@@ -64,7 +64,7 @@ module _ {A : Type 0} where
   sorted_first (e ∷ es) ws sorted = (all_first (λ x. e.1.0 ≤ x.1.0) es ws sorted.0, sorted_first es ws sorted.1)
 
   -- none is due before the first one, as it is one of them
-  pub least_of : (e : Key × (ℕ × A)) (es ws : Waiting A) → IsByTime ws → ws ≡ e ∷ es → All (λ x. e.1.0 ≤ x.1.0) es
+  least_of : (e : Key × (ℕ × A)) (es ws : Waiting A) → IsByTime ws → ws ≡ e ∷ es → All (λ x. e.1.0 ≤ x.1.0) es
   least_of e es ws sorted is = (rw is at sorted).0
 
   pub least_first : (e : Key × (ℕ × A)) (es ws : Waiting A) → IsByTime ws → ws ≡ e ∷ es → All (λ x. e.1.0 ≤ x.1.0) ws
