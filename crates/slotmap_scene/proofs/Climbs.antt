@@ -8,7 +8,7 @@ use Rattle.slotmap_scene.specs.Climb.{has_node, parent_in, parent_of, ClimbsTo, 
 use Rattle.slotmap_scene.specs.Above.{GoesUp, keys_up, HasRoot, roots_by}
 
 module _ {T : Type 0} where
-  pub leads_live : (nodes : Nodes T) (n : ℕ) (k : Key) → ClimbsTo nodes n k → has_node nodes k
+  leads_live : (nodes : Nodes T) (n : ℕ) (k : Key) → ClimbsTo nodes n k → has_node nodes k
   leads_live nodes zero k leads = leads.0
   leads_live nodes (suc n) k leads = leads.1.0
 
@@ -37,11 +37,11 @@ module _ {T : Type 0} where
       let all = len_removed keys_total exact_keys m k here in
       omega arith
 
-  pub short : (nodes : Nodes T) (n : ℕ) (k : Key) → ClimbsTo nodes n k → n < map.len nodes
+  short : (nodes : Nodes T) (n : ℕ) (k : Key) → ClimbsTo nodes n k → n < map.len nodes
   short nodes n k leads = let h = short_in nodes nodes n k leads (λ q i le up j steps sum. leads_live nodes i q up) in omega arith
 
   -- where a way goes on, and where it ends
-  pub next_up : (nodes : Nodes T) (n : ℕ) (k p : Key) → ClimbsTo nodes n k → parent_of nodes k ≡ Some p → (m : ℕ) × ((n ≡ suc m) × ClimbsTo nodes m p)
+  next_up : (nodes : Nodes T) (n : ℕ) (k p : Key) → ClimbsTo nodes n k → parent_of nodes k ≡ Some p → (m : ℕ) × ((n ≡ suc m) × ClimbsTo nodes m p)
   next_up nodes zero k p leads is = absurd (let h = sym leads.1 ∙ is in cc)
   next_up nodes (suc n) k p leads is = let h = sym leads.1.1 ∙ is in let same : leads.0 ≡ p = cc in (n, (refl, subst (ClimbsTo nodes n) same leads.1.2))
 
@@ -57,7 +57,7 @@ module _ {T : Type 0} where
       down zero same = absurd (apart same)
       down (suc n) steps = let h = sym steps.1.0 ∙ is in let same : steps.0 ≡ p = cc in (n, subst (λ x. StepsTo nodes n x other) same steps.1.1)
 
-  pub root_within : (nodes : Nodes T) (k other : Key) → parent_of nodes k ≡ None → k ≢ other → IsWithin nodes k other → ⊥
+  root_within : (nodes : Nodes T) (k other : Key) → parent_of nodes k ≡ None → k ≢ other → IsWithin nodes k other → ⊥
   root_within nodes k other is apart w = by w.0 w.1
     where
       by : (n : ℕ) → StepsTo nodes n k other → ⊥

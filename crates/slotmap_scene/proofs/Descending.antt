@@ -18,7 +18,7 @@ use Rattle.slotmap_scene.proofs.Climbs.{has_parent, no_cycle}
 use Rattle.slotmap_scene.proofs.Moved.{listed_once, listed_few, listed_parent}
 
 -- one key more at the back, or none
-pub reverse_pushed : (xs : List Key) (o : Option Key) → reverse (xs ++ option_to_list o) ≡ option_to_list o ++ reverse xs
+reverse_pushed : (xs : List Key) (o : Option Key) → reverse (xs ++ option_to_list o) ≡ option_to_list o ++ reverse xs
 reverse_pushed xs None = ap reverse (append-nil xs)
 reverse_pushed xs (Some k) = reverse-append xs (k ∷ [])
 
@@ -31,19 +31,19 @@ each_listed data_of P (x ∷ xs) only = All-cons (λ y. P (data_of y)) x xs
 
 module _ {T : Type 0} where
   -- what is ahead, by the keys on a stack, the next one first: each stands for itself and the siblings behind it
-  abbrev pub Stacked : Nodes T → List Key → List Key → Type 0
+  abbrev Stacked : Nodes T → List Key → List Key → Type 0
   Stacked nodes [] ahead = ahead ≡ []
   Stacked nodes (q ∷ qs) ahead =
       (p : Key) × (before : List Key) × (after : List Key) × (others : List Key) × (children_of nodes p ≡ before ++ q ∷ after) × (ahead ≡ q ∷ (after ++ others)) × Stacked nodes qs others
 
   -- a list of siblings is put on the stack by its first key
-  pub stacked_list : (nodes : Nodes T) (p : Key) (before ks : List Key) → children_of nodes p ≡ before ++ ks → (stack others : List Key) → Stacked nodes stack others
+  stacked_list : (nodes : Nodes T) (p : Key) (before ks : List Key) → children_of nodes p ≡ before ++ ks → (stack others : List Key) → Stacked nodes stack others
       → Stacked nodes (option_to_list (first_or ks None) ++ stack) (ks ++ others)
   stacked_list nodes p before [] is stack others stacked = stacked
   stacked_list nodes p before (k ∷ ks) is stack others stacked = (p, before, ks, others, is, refl, stacked)
 
   -- the next key is taken from the stack, and those behind it and below it are put there
-  pub stacked_step : (nodes : Nodes T) (q : Key) (qs ahead : List Key) → Stacked nodes (q ∷ qs) ahead → (next first : Option Key)
+  stacked_step : (nodes : Nodes T) (q : Key) (qs ahead : List Key) → Stacked nodes (q ∷ qs) ahead → (next first : Option Key)
       → ((p : Key) (before after : List Key) → children_of nodes p ≡ before ++ q ∷ after → next ≡ first_or after None) → first ≡ first_or (children_of nodes q) None
       → (others : List Key) × (ahead ≡ q ∷ others) × Stacked nodes (option_to_list first ++ (option_to_list next ++ qs)) (children_of nodes q ++ others)
   stacked_step nodes q qs ahead s next first next_is first_is =
@@ -59,11 +59,11 @@ module _ {T : Type 0} where
     pub record Descending (listed ahead : List Key) : Type 0 where
       pub order : (rest : List Key) → GoesDown nodes ahead rest → GoesDown nodes (children_of nodes node) (listed ++ rest)
       pub once : (k : Key) → times k listed + times k ahead ≤ 1
-      pub named : (k : Key) → 0 < times k listed + times k ahead → (p : Key) × (parent_of nodes k ≡ Some p) × ((p ≡ node) ⊎ (0 < times p listed)) × IsWithin nodes p node
-      pub closed : (k p : Key) → parent_of nodes k ≡ Some p → (p ≡ node) ⊎ (0 < times p listed) → 0 < times k listed + times k ahead
+      named : (k : Key) → 0 < times k listed + times k ahead → (p : Key) × (parent_of nodes k ≡ Some p) × ((p ≡ node) ⊎ (0 < times p listed)) × IsWithin nodes p node
+      closed : (k p : Key) → parent_of nodes k ≡ Some p → (p ≡ node) ⊎ (0 < times p listed) → 0 < times k listed + times k ahead
 
   module _ (nodes : Nodes T) (scene : IsScene nodes) (node : Key) where
-    pub descending_start : Descending nodes node [] (children_of nodes node)
+    descending_start : Descending nodes node [] (children_of nodes node)
     descending_start = record {
       order = λ rest goes. goes;
       once = λ k. (let few = listed_few nodes scene.listed node k in omega arith);
@@ -112,7 +112,7 @@ module _ {T : Type 0} where
                   | inr was ↦ absurd (let w = rw p_is at was in let none = not_listed in omega arith)
                 ]
 
-        pub descending_step : Descending nodes node (listed ++ q ∷ []) (children_of nodes q ++ others)
+        descending_step : Descending nodes node (listed ++ q ∷ []) (children_of nodes q ++ others)
         descending_step = record {
           order = λ rest goes. subst (GoesDown nodes (children_of nodes node)) (sym (append_assoc listed (q ∷ []) rest)) (d.order (q ∷ rest) (others, (is, goes)));
           once = λ k. once_after k;

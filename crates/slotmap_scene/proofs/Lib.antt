@@ -1,10 +1,10 @@
 pub mod Callers
-pub mod Climbs
-pub mod Descending
-pub mod Moved
-pub mod Neighbours
+mod Climbs
+mod Descending
+mod Moved
+mod Neighbours
 pub mod Offsets
-pub mod Removals
-pub mod Showing
-pub mod Weaving
+mod Removals
+mod Showing
+mod Weaving
 pub mod Worlds

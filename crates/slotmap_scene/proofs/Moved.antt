@@ -29,7 +29,7 @@ is_no_parent : (o : Option Key) (p : Key) → o ≢ Some p → is_parent o p ≡
 is_no_parent None p other = refl
 is_no_parent (Some q) p other = one_other q p (λ same. other (ap Some same))
 
-pub by_parent : (o : Option Key) (p : Key) (P : Type 0) → (o ≡ Some p → P) → (o ≢ Some p → P) → P
+by_parent : (o : Option Key) (p : Key) (P : Type 0) → (o ≡ Some p → P) → (o ≢ Some p → P) → P
 by_parent None p P here other = other (λ e. absurd (cc))
 by_parent (Some q) p P here other = elim (same_or_other q p) [ inl same ↦ here (ap Some same) | inr apart ↦ other (λ e. apart (cc)) ]
 
@@ -49,7 +49,7 @@ module _ {T : Type 0} where
     listed_parent p k more = by_parent (parent_of nodes k) p (parent_of nodes k ≡ Some p) (λ is. is) (λ other. absurd (let none = listed_never p k other in omega arith))
 
   -- the same trees, of other values
-  pub scene_alike : (old new : Nodes T) → ((q : Key) → map.contains_key new q ≡ map.contains_key old q) → ((q : Key) → parent_of new q ≡ parent_of old q) → ((q : Key) → children_of new q ≡ children_of old q)
+  scene_alike : (old new : Nodes T) → ((q : Key) → map.contains_key new q ≡ map.contains_key old q) → ((q : Key) → parent_of new q ≡ parent_of old q) → ((q : Key) → children_of new q ≡ children_of old q)
       → IsScene old → IsScene new
   scene_alike old new keys parents children scene = record {
     tree = tree_same old new keys parents scene.tree;
@@ -83,7 +83,7 @@ module _ {T : Type 0} where
       | inr other ↦ listed_still p x other ∙ scene.listed p x ∙ ap (λ o. is_parent o p) (sym (moved.parents x other))
     ]
 
-    pub scene_moved : ((q : Key) → q ≢ k → map.contains_key new q ≡ map.contains_key old q) → has_node new k → ((p : Key) → parent ≡ Some p → has_node old p × (IsWithin old p k → ⊥)) → IsScene new
+    scene_moved : ((q : Key) → q ≢ k → map.contains_key new q ≡ map.contains_key old q) → has_node new k → ((p : Key) → parent ≡ Some p → has_node old p × (IsWithin old p k → ⊥)) → IsScene new
     scene_moved keys live above = record { tree = tree_moved old new k keys moved.parents parent live moved.parent_is above scene.tree; listed = moved_listed }
 
 -- a copy has the same trees
@@ -118,7 +118,7 @@ module _ {T : Type 0} where
     abbrev fill : Node T → Node T
     fill n = record n { children = f n.children }
 
-    pub filled_keeps : {X : Type 0} (P : Option (Node T) → X) → ((n : Node T) → P (Some (fill n)) ≡ P (Some n)) → (o : Option Key) (q : Key) → P (map.get (with_children_of nodes o f) q) ≡ P (map.get nodes q)
+    filled_keeps : {X : Type 0} (P : Option (Node T) → X) → ((n : Node T) → P (Some (fill n)) ≡ P (Some n)) → (o : Option Key) (q : Key) → P (map.get (with_children_of nodes o f) q) ≡ P (map.get nodes q)
     filled_keeps P keeps None q = refl
     filled_keeps P keeps (Some p) q = changed_keeps nodes p fill P keeps q
 
@@ -272,12 +272,12 @@ module _ {T : Type 0} where
         ];
       }
 
-      pub came_scene : ((x : Key) (ks : List Key) → times x (put ks) ≡ times x ks + same k x) → IsScene with_node
+      came_scene : ((x : Key) (ks : List Key) → times x (put ks) ≡ times x ks + same k x) → IsScene with_node
       came_scene more = scene_moved nodes with_node scene k parent put came_moved more
           (λ q other. ap is_some (came_elsewhere q other) ∙ filled_keeps nodes put is_some (λ n. refl) parent q)
           (ap is_some (get-insert_here filled k (child parent v))) (λ p is. (there p is, λ w. (let gone = gone_within p w in let live = there p is in cc)))
 
-      pub came_child : (p : Key) → parent ≡ Some p → IsNewChild nodes with_node k p v (put (children_of nodes p))
+      came_child : (p : Key) → parent ≡ Some p → IsNewChild nodes with_node k p v (put (children_of nodes p))
       came_child p is = record {
         node = get-insert_here filled k (child parent v) ∙ ap (λ o. Some (child o v)) is;
         children_are = came_moved.children_are p is ∙ ap put (without_none k (children_of nodes p) (never p));
@@ -372,11 +372,11 @@ module _ (side : Side) (s k : Key) where
       let other = is_other q s (λ is. absurd (let one = ap (λ x. same x s) is ∙ one_itself s in omega arith)) in
       ap (λ t. cond t (beside_first side k q (b ++ s ∷ a)) (q ∷ placed side s k (b ++ s ∷ a))) other ∙ ap (λ l. q ∷ l) (placed_at b a (omega arith))
 
-pub placed_is : (side : Side) (s k : Key) (b a : List Key) → times s b ≡ 0 → (around side b s a).0 ++ k ∷ (around side b s a).1 ≡ placed side s k (b ++ s ∷ a)
+placed_is : (side : Side) (s k : Key) (b a : List Key) → times s b ≡ 0 → (around side b s a).0 ++ k ∷ (around side b s a).1 ≡ placed side s k (b ++ s ∷ a)
 placed_is Before s k b a none = sym (placed_at Before s k b a none)
 placed_is After s k b a none = append_assoc b (s ∷ []) (k ∷ a) ∙ sym (placed_at After s k b a none)
 
-pub beside_list : (side : Side) (b : List Key) (s : Key) (a : List Key) → b ++ s ∷ a ≡ (around side b s a).0 ++ (around side b s a).1
+beside_list : (side : Side) (b : List Key) (s : Key) (a : List Key) → b ++ s ∷ a ≡ (around side b s a).0 ++ (around side b s a).1
 beside_list Before b s a = refl
 beside_list After b s a = sym (append_assoc b (s ∷ []) a)
 

@@ -27,9 +27,6 @@ module _ (k : Key) where
       ap (λ t. cond t o (in_front (Some q) k (b ++ k ∷ a))) other ∙ in_front_split (Some q) b a (omega arith)
 
 module _ {T : Type 0} (nodes : Nodes T) (k : Key) where
-  pub no_siblings : parent_of nodes k ≡ None → siblings_of nodes k ≡ []
-  no_siblings root = ap (children_under nodes) root
-
   module _ (scene : IsScene nodes) (p : Key) (own : parent_of nodes k ≡ Some p) (l : Link Key)
       (link : (q : Key) (before after : List Key) → children_of nodes q ≡ before ++ k ∷ after → l ≡ link_between before after) where
     once : times k (children_of nodes p) ≡ 1

@@ -32,10 +32,10 @@ module _ {T : Type 0} (old : Nodes T) where
   deeper : IsTree old → (c p : Key) → parent_of old c ≡ Some p → depth_of c ≡ suc (depth_of p)
   deeper tree c p is = ap length (step_up old c (tree c (has_parent old c p is))) ∙ ap (λ o. suc (length (keys_up old (map.len old) o))) is
 
-  pub down_less : IsTree old → (now : Nodes T) (at child : Key) → parent_of old child ≡ Some at → to_do now child < to_do now at
+  down_less : IsTree old → (now : Nodes T) (at child : Key) → parent_of old child ≡ Some at → to_do now child < to_do now at
   down_less tree now at child is = let below = deeper tree child at is in let few = few_up (map.len old) (Some child) in omega arith
 
-  pub up_less : IsTree old → (now new : Nodes T) (at p : Key) → parent_of old at ≡ Some p → map.len new + 1 ≡ map.len now → to_do new p < to_do now at
+  up_less : IsTree old → (now new : Nodes T) (at p : Key) → parent_of old at ≡ Some p → map.len new + 1 ≡ map.len now → to_do new p < to_do now at
   up_less tree now new at p is less = let below = deeper tree at p is in omega arith
 
 -- a leaf goes
@@ -43,23 +43,23 @@ module _ {T : Type 0} (nodes : Nodes T) (scene : IsScene nodes) (k : Key) (live 
   abbrev left : Nodes T
   left = without_child nodes (parent_of nodes k) k
 
-  abbrev pub pruned : Nodes T
+  abbrev pruned : Nodes T
   pruned = map.remove left k
 
-  pub pruned_len : map.len pruned + 1 ≡ map.len nodes
+  pruned_len : map.len pruned + 1 ≡ map.len nodes
   pruned_len = len_removed keys_total exact_keys left k (left_of nodes scene k is_some (λ b. b) refl (λ n. refl) k ∙ live) ∙ len_alike left nodes (left_of nodes scene k is_some (λ b. b) refl (λ n. refl))
 
-  pub pruned_here : map.get pruned k ≡ None
+  pruned_here : map.get pruned k ≡ None
   pruned_here = grind (arith, keys)
 
-  pub pruned_get : (q : Key) → q ≢ k → map.get pruned q ≡ option_map (forgets k) (map.get nodes q)
+  pruned_get : (q : Key) → q ≢ k → map.get pruned q ≡ option_map (forgets k) (map.get nodes q)
   pruned_get q other = (let kept : map.get pruned q ≡ map.get left q = grind (arith, keys) in kept) ∙ left_get nodes scene k q
 
   pruned_of : {X : Type 0} (P : Option (Node T) → X) (f : X → X) → P None ≡ f (P None) → ((n : Node T) → P (Some (forgets k n)) ≡ f (P (Some n))) → (q : Key) → q ≢ k → P (map.get pruned q) ≡ f (P (map.get nodes q))
   pruned_of P f none some q other = (let kept : map.get pruned q ≡ map.get left q = grind (arith, keys) in ap P kept) ∙ left_of nodes scene k P f none some q
 
   -- no node has it as its parent
-  pub childless : (q : Key) → parent_of nodes q ≡ Some k → ⊥
+  childless : (q : Key) → parent_of nodes q ≡ Some k → ⊥
   childless q is = let one = listed_once nodes scene.listed k q is in let none = ap (times q) leaf in absurd (omega arith)
 
   leads_past : (n : ℕ) (q : Key) → q ≢ k → ClimbsTo nodes n q → ClimbsTo pruned n q
@@ -84,7 +84,7 @@ module _ {T : Type 0} (nodes : Nodes T) (scene : IsScene nodes) (k : Key) (live 
     ];
   }
 
-  pub pruned_other : (q : Key) → has_node pruned q → q ≢ k
+  pruned_other : (q : Key) → has_node pruned q → q ≢ k
   pruned_other q there is = let gone = ap is_some pruned_here in let h = subst (has_node pruned) is there in cc
 
   pub pruned_scene : IsScene pruned

@@ -29,7 +29,7 @@ use Rattle.slotmap_scene.specs.Refusals.{RefusesNode}
 use Rattle.slotmap_scene.proofs.Weaving.{woven_same, Relisted, led_is, woven_by, next_live, prev_live, put_relists, taken_relists}
 
 -- nodes with the same values, parents and children are the same
-pub same_nodes : {T : Type 0} (a b : Nodes T) → ((q : Key) → value_of a q ≡ value_of b q) → ((q : Key) → parent_of a q ≡ parent_of b q) → ((q : Key) → children_of a q ≡ children_of b q) → a ≡ b
+same_nodes : {T : Type 0} (a b : Nodes T) → ((q : Key) → value_of a q ≡ value_of b q) → ((q : Key) → parent_of a q ≡ parent_of b q) → ((q : Key) → children_of a q ≡ children_of b q) → a ≡ b
 same_nodes {T} a b values parents children = map.same_map keys_total exact_keys a b (λ q. by (map.get a q) (map.get b q) (values q) (parents q) (children q))
   where
     by : (o p : Option (Node T)) → option_map (λ (n : Node T). n.value) o ≡ option_map (λ (n : Node T). n.value) p → parent_in o ≡ parent_in p → children_in o ≡ children_in p → o ≡ p
@@ -40,11 +40,11 @@ same_nodes {T} a b values parents children = map.same_map keys_total exact_keys 
 
 module _ {T : Type 0} where
   module _ (m : LinkedNodes T) where
-    pub shown_get : (q : Key) → map.get (shown_nodes m) q ≡ option_map (shown_node m) (map.get m q)
+    shown_get : (q : Key) → map.get (shown_nodes m) q ≡ option_map (shown_node m) (map.get m q)
     shown_get q = get-mapped (shown_node m) m q
 
     -- where all links are the same, the nodes are shown in the same way
-    pub shown_alike : (new : LinkedNodes T) → ((q : Key) → link_of new q ≡ link_of m q) → shown_nodes new ≡ map_values (shown_node m) new
+    shown_alike : (new : LinkedNodes T) → ((q : Key) → link_of new q ≡ link_of m q) → shown_nodes new ≡ map_values (shown_node m) new
     shown_alike new links = λ i. map_values (λ (x : LinkedNode T). record { value = x.value; parent = x.parent; children = followed (λ y. links y i) x.children }) new
 
     pub shown_keys : (q : Key) → map.contains_key (shown_nodes m) q ≡ map.contains_key m q
@@ -67,7 +67,7 @@ module _ {T : Type 0} where
     pub shown_value : (q : Key) → value_of (shown_nodes m) q ≡ own_value (map.get m q)
     shown_value q = shown_part (option_map (λ (n : Node T). n.value)) own_value refl (λ n. refl) q
 
-    pub shown_parent : (q : Key) → parent_of (shown_nodes m) q ≡ above_in (map.get m q)
+    shown_parent : (q : Key) → parent_of (shown_nodes m) q ≡ above_in (map.get m q)
     shown_parent q = shown_part parent_in above_in refl (λ n. refl) q
 
     -- a node that is there is shown with its own value and parent
@@ -92,7 +92,7 @@ module _ {T : Type 0} where
     shown_values = sym (ap (list_map key_and_value) (entries-mapped (shown_node m) m) ∙ map-map key_and_value _ (map.entries m))
 
   -- a node with the same children is shown as it was
-  pub shown_still : (m new : LinkedNodes T) (q : Key) → led_to new q ≡ led_to m q → map.get new q ≡ map.get m q → map.get (shown_nodes new) q ≡ map.get (shown_nodes m) q
+  shown_still : (m new : LinkedNodes T) (q : Key) → led_to new q ≡ led_to m q → map.get new q ≡ map.get m q → map.get (shown_nodes new) q ≡ map.get (shown_nodes m) q
   shown_still m new q led is =
       let all = shown_children new q ∙ led ∙ sym (shown_children m q) in
       sym (shown_seen new q) ∙ (λ i. option_map (λ (n : LinkedNode T). record { value = n.value; parent = n.parent; children = all i }) (is i)) ∙ shown_seen m q
@@ -109,7 +109,7 @@ module _ {T : Type 0} where
       pub nodes_leave : Leaves c new → Leaves (shown_scene c) (shown_scene new)
       nodes_leave leaves = shown_leaves c new (shown_nodes c.live) (shown_nodes new.live) (shown_keys c.live) (shown_len c.live) (shown_keys new.live) (shown_len new.live) leaves
 
-      pub nodes_keep : Keeps c new → Keeps (shown_scene c) (shown_scene new)
+      nodes_keep : Keeps c new → Keeps (shown_scene c) (shown_scene new)
       nodes_keep keeps = shown_keeps c new (shown_nodes c.live) (shown_nodes new.live) (shown_keys c.live) (shown_len c.live) (shown_keys new.live) (shown_len new.live) (ap shown_nodes keeps.live) keeps
 
       pub nodes_make_room : (n : ℕ) (ok : Type 0) → MakesRoom true c n ok new → MakesRoom true (shown_scene c) n ok (shown_scene new)
@@ -127,13 +127,13 @@ module _ {T : Type 0} where
         came_keys : (q : Key) → map.contains_key c.live q ≡ true → map.contains_key new.live q ≡ true
         came_keys q live = rw inserts.live (still_in keys_total exact_keys c.live k (leaf v p) q live)
 
-        pub came_woven : IsWoven new.live
+        came_woven : IsWoven new.live
         came_woven = woven_same c.live new.live (as_before ends_in refl) (as_before link_in refl) came_keys woven
 
         came_live : shown_nodes new.live ≡ map.insert (shown_nodes c.live) k (child p v)
         came_live = shown_alike c.live new.live (as_before link_in refl) ∙ ap (map_values (shown_node c.live)) inserts.live ∙ mapped-insert (shown_node c.live) c.live k (leaf v p)
 
-        pub came_inserts : Inserts (shown_scene c) k (child p v) (shown_scene new)
+        came_inserts : Inserts (shown_scene c) k (child p v) (shown_scene new)
         came_inserts = shown_inserts c new (shown_nodes c.live) (shown_nodes new.live) (shown_keys c.live) (shown_len c.live) (shown_keys new.live) (shown_len new.live) k (leaf v p) (child p v) came_live inserts
 
       -- by the clauses of an insert, whatever it returns
@@ -165,7 +165,7 @@ module _ {T : Type 0} (m : LinkedNodes T) (woven : IsWoven m) where
       | inr other ↦ relisted.others q other ∙ sym (ap children_in (changed_other nodes p fill q other) ∙ shown_children m q)
     ]
 
-    pub list_shown : shown_nodes new ≡ with_children_in nodes p (map.get nodes p) f
+    list_shown : shown_nodes new ≡ with_children_in nodes p (map.get nodes p) f
     list_shown = same_nodes (shown_nodes new) (with_children_in nodes p (map.get nodes p) f)
         (λ q. shown_value new q ∙ relisted.values q ∙ sym (changed_keeps nodes p fill (option_map (λ n. n.value)) (λ n. refl) q ∙ shown_value m q))
         (λ q. shown_parent new q ∙ relisted.parents q ∙ sym (changed_keeps nodes p fill parent_in (λ n. refl) q ∙ shown_parent m q)) list_children
@@ -207,11 +207,11 @@ module _ {T : Type 0} (m : LinkedNodes T) (woven : IsWoven m) where
       links_are = (linked_but woven.linked k none (λ x other. ap link_in (gone_other m x other))).links_are;
     }
 
-    pub gone_woven : IsWoven gone
+    gone_woven : IsWoven gone
     gone_woven = woven_by gone (led_to m) gone_linked woven.apart (λ p x more. left_in keys_total exact_keys m k x
         (λ is. (let zero = subst (λ y. times y (led_to m p) ≡ 0) (sym is) (none p) in omega arith)) (woven.live p x more))
 
-    pub gone_shown : shown_nodes gone ≡ map.remove nodes k
+    gone_shown : shown_nodes gone ≡ map.remove nodes k
     gone_shown = map.same_map keys_total exact_keys (shown_nodes gone) (map.remove nodes k) (λ q. elim (same_or_other q k) [
       | inl is ↦ rw is (shown_get gone k ∙ ap (option_map (shown_node gone)) (gone_here m) ∙ sym (gone_here nodes))
       | inr other ↦ shown_still m gone q (led_is gone (led_to m) gone_linked q) (gone_other m q other) ∙ sym (gone_other nodes q other)

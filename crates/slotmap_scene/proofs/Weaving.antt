@@ -86,23 +86,23 @@ module _ {T : Type 0} (m : LinkedNodes T) (p : Key) (l : Link Key) (on back : Op
     abbrev count : LinkedNode T → LinkedNode T
     count n = record n { children = record n.children { len = f n.children.len } }
 
-    pub relinked_keeps : {X : Type 0} (P : Option (LinkedNode T) → X) → ((n : LinkedNode T) (e : Ends Key) (s : Link Key) → P (Some (record n { children = e; siblings = s })) ≡ P (Some n))
+    relinked_keeps : {X : Type 0} (P : Option (LinkedNode T) → X) → ((n : LinkedNode T) (e : Ends Key) (s : Link Key) → P (Some (record n { children = e; siblings = s })) ≡ P (Some n))
         → (q : Key) → P (map.get (relinked m p l on back f) q) ≡ P (map.get m q)
     relinked_keeps P free q = changed_keeps both_done p count P (λ n. free n (record n.children { len = f n.children.len }) n.siblings) q ∙ both_keep P free q
 
-    pub relinked_links : ((x : Key) → l.prev ≡ Some x → map.contains_key m x ≡ true) → ((x : Key) → l.next ≡ Some x → map.contains_key m x ≡ true)
+    relinked_links : ((x : Key) → l.prev ≡ Some x → map.contains_key m x ≡ true) → ((x : Key) → l.next ≡ Some x → map.contains_key m x ≡ true)
         → (q : Key) → link_of (relinked m p l on back f) q ≡ prev_written l.next back (next_written l.prev on (link_of m)) q
     relinked_links prev next q =
         changed_keeps both_done p count link_in (λ n. refl) q
         ∙ prev_links next_done p back l.next (λ x is. next_keeps m p on is_some (λ n e s. refl) l.prev x ∙ next x is) q
         ∙ (λ i. prev_written l.next back (λ x. next_links m p on l.prev prev x i) q)
 
-    pub relinked_ends : map.contains_key m p ≡ true → ends_of (relinked m p l on back f) p ≡ record { first = own l.prev (ends_of m p).first on; last = own l.next (ends_of m p).last back; len = f (ends_of m p).len }
+    relinked_ends : map.contains_key m p ≡ true → ends_of (relinked m p l on back f) p ≡ record { first = own l.prev (ends_of m p).first on; last = own l.next (ends_of m p).last back; len = f (ends_of m p).len }
     relinked_ends there =
         changed_gives both_done p count ends_in (λ (e : Ends Key). record e { len = f e.len }) (λ n. refl) (both_keep is_some (λ n e s. refl) p ∙ there)
         ∙ ap (λ (e : Ends Key). record e { len = f e.len }) (both_ends there)
 
-    pub relinked_others : (q : Key) → q ≢ p → ends_of (relinked m p l on back f) q ≡ ends_of m q
+    relinked_others : (q : Key) → q ≢ p → ends_of (relinked m p l on back f) q ≡ ends_of m q
     relinked_others q other = ap ends_in (changed_other both_done p count q other) ∙ prev_others next_done p back l.next q other ∙ next_others m p on l.prev q other
 
 -- the ends of a list in which other keys stand at a place now
