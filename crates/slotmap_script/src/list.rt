@@ -1,5 +1,9 @@
 //! Maps written as the JSON text of their list of slots, and read from it.
 
+ghost use Rattle.std.specs.Prelude.{◌≡◌, OnOk};
+ghost use Rattle.std.specs.Io.KnownBytes.{Appends};
+ghost use Rattle.slotmap_script.specs.ListText.{slot_text, slots_text, refusal_text};
+
 use serde::{Deserialize, Deserializer, Format};
 use serde_json::Value;
 use slotmap_basic::SlotMap;
@@ -62,10 +66,17 @@ pub enum LoadError {
 }
 
 /// Writes a map's list of slots as a line of compact JSON, record by record.
-pub fn write_slots<M: Listed>(map: &M, output: &mut impl Write) -> io::Result<()> {
+pub fn write_slots<M: Listed, W: Write>(map: &M, output: &mut W) -> io::Result<()> {
     let Ok(slots) = map.to_slots() else {
         return writeln!(output, "memory");
     };
+    write_list(output, &slots)
+}
+
+// Writes a list of slots as a line of compact JSON, record by record.
+fn write_list<W: Write>(output: &mut W, slots: &[SlotRecord<i32>]) -> io::Result<()>
+    ensures { OnOk result (Appends (W.contents output.old) (W.contents output.new) (slots_text slots.now)) }
+{
     write!(output, "[")?;
     for (i, slot) in slots.iter().enumerate() {
         if i > 0 {
@@ -76,7 +87,9 @@ pub fn write_slots<M: Listed>(map: &M, output: &mut impl Write) -> io::Result<()
     writeln!(output, "]")
 }
 
-fn write_slot(output: &mut impl Write, slot: &SlotRecord<i32>) -> io::Result<()> {
+fn write_slot<W: Write>(output: &mut W, slot: &SlotRecord<i32>) -> io::Result<()>
+    ensures { OnOk result (Appends (W.contents output.old) (W.contents output.new) (slot_text slot.now)) }
+{
     let version = slot.version;
     match slot.value {
         Some(value) => write!(output, "{{\"value\":{value},\"version\":{version}}}"),
@@ -86,11 +99,11 @@ fn write_slot(output: &mut impl Write, slot: &SlotRecord<i32>) -> io::Result<()>
 
 /// Replaces the map by the one that the text describes, and writes `done`. If that fails, the map
 /// stays and the reason is written.
-pub fn load<M: Listed + Drop>(
+pub fn load<M: Listed + Drop, W: Write>(
     alloc: Global,
     map: &mut M,
     text: &str,
-    output: &mut impl Write,
+    output: &mut W,
 ) -> io::Result<()> {
     match read_map(alloc, text) {
         Ok(read) => {
@@ -150,7 +163,9 @@ fn read_value(value: &Value) -> Result<i32, JsonError> {
 }
 
 /// Writes why a map wasn't read.
-pub fn write_refusal(output: &mut impl Write, error: &LoadError) -> io::Result<()> {
+pub fn write_refusal<W: Write>(output: &mut W, error: &LoadError) -> io::Result<()>
+    ensures { OnOk result (Appends (W.contents output.old) (W.contents output.new) (refusal_text error.now)) }
+{
     match error {
         LoadError::Json(JsonError::Shape) => writeln!(output, "shape"),
         LoadError::Slots(SlotsError::TooMany) => writeln!(output, "too many"),

@@ -106,7 +106,7 @@ pub fn run_stretches<M, C>(
     output: &mut impl Write,
 ) -> Result<(), Stop>
 where
-    M: Listed + Drop,
+    M: Primary<DefaultKey, i32> + Listed + Drop,
     C: Commands<M>,
 {
     let mut gathered = BufWriter::new(alloc, output).map_err(|_| Stop::NoScript)?;
@@ -127,12 +127,16 @@ where
 }
 
 // Runs the commands of a stretch, prints the replies, and then prints or reads the list of slots.
-fn print_stretch<M: Listed + Drop, C: Commands<M>>(
+fn print_stretch<M, C>(
     alloc: Global,
     map: &mut M,
     stretch: Stretch<'_, C>,
     output: &mut impl Write,
-) -> Result<(), Stop> {
+) -> Result<(), Stop>
+where
+    M: Primary<DefaultKey, i32> + Listed + Drop,
+    C: Commands<M>,
+{
     let mut replies = C::run(alloc, map, stretch.commands).ok_or(Stop::NoScript)?;
     for reply in &mut replies {
         write_reply(output, reply).map_err(|_| Stop::Output)?;

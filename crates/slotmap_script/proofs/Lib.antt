@@ -1,0 +1,4 @@
+pub mod Appending
+pub mod Lines
+pub mod Numerals
+pub mod Shown
