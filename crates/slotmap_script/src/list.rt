@@ -1,7 +1,10 @@
 //! Maps written as the JSON text of their list of slots, and read from it.
 
-ghost use Rattle.std.specs.Prelude.{◌≡◌, OnOk};
+ghost use Rattle.std.specs.Prelude.{◌≡◌, ℕ, ℤ, List, OnOk, IfOk, IfErr, IsOk};
 ghost use Rattle.std.specs.Io.KnownBytes.{Appends};
+ghost use Rattle.slotmap_core.specs.Words.{Writes, ReadsAs, Accepts, RefusesStart, list_limit};
+ghost use Rattle.slotmap_core.specs.declared.serial.SlotRecord.{SlotRecord};
+ghost use Rattle.slotmap_script.specs.Printed.{PrintsSlots, Loads, IsReason};
 ghost use Rattle.slotmap_script.specs.ListText.{slot_text, slots_text, refusal_text};
 
 use serde::{Deserialize, Deserializer, Format};
@@ -9,6 +12,7 @@ use serde_json::Value;
 use slotmap_basic::SlotMap;
 use slotmap_core::errors::{JsonError, OutOfMemory, SlotsError};
 use slotmap_core::keys::DefaultKey;
+use slotmap_core::primary::Primary;
 use slotmap_core::serial::SlotRecord;
 use slotmap_dense::DenseSlotMap;
 use slotmap_hop::HopSlotMap;
@@ -18,12 +22,16 @@ use std::io;
 use std::io::Write;
 
 /// A map that can be written as a list of slots and read from one.
-pub trait Listed: Sized {
+pub trait Listed: Primary<DefaultKey, i32> {
     /// The map as a list of slots.
-    fn to_slots(&self) -> Result<Vec<SlotRecord<i32>>, OutOfMemory>;
+    fn to_slots(&self) -> Result<Vec<SlotRecord<i32>>, OutOfMemory>
+        ensures { IfOk result (λ slots. Writes (Self.content self.now) slots.items) };
 
     /// The map that a list of slots describes.
-    fn from_slots(alloc: Global, list: Vec<SlotRecord<i32>>) -> Result<Self, SlotsError>;
+    fn from_slots(alloc: Global, list: Vec<SlotRecord<i32>>) -> Result<Self, SlotsError>
+        ensures reads { IfOk result (λ made. ReadsAs Self.REUSES list.items (Self.content made)) }
+        ensures accepted { IsOk result → Accepts list.items list_limit }
+        ensures err { IfErr result (RefusesStart list.items list_limit) };
 }
 
 impl Listed for SlotMap<DefaultKey, i32> {
@@ -66,7 +74,10 @@ pub enum LoadError {
 }
 
 /// Writes a map's list of slots as a line of compact JSON, record by record.
-pub fn write_slots<M: Listed, W: Write>(map: &M, output: &mut W) -> io::Result<()> {
+pub fn write_slots<M: Listed, W: Write>(map: &M, output: &mut W) -> io::Result<()>
+    ensures { OnOk result ((text : List ℕ) × PrintsSlots (M.content map.now) text
+        × Appends (W.contents output.old) (W.contents output.new) text) }
+{
     let Ok(slots) = map.to_slots() else {
         return writeln!(output, "memory");
     };
@@ -104,7 +115,10 @@ pub fn load<M: Listed + Drop, W: Write>(
     map: &mut M,
     text: &str,
     output: &mut W,
-) -> io::Result<()> {
+) -> io::Result<()>
+    ensures { OnOk result ((text : List ℕ) × Loads M.REUSES (M.content map.old) text (M.content map.new)
+        × Appends (W.contents output.old) (W.contents output.new) text) }
+{
     match read_map(alloc, text) {
         Ok(read) => {
             *map = read;
@@ -114,9 +128,15 @@ pub fn load<M: Listed + Drop, W: Write>(
     }
 }
 
-fn read_map<M: Listed>(alloc: Global, text: &str) -> Result<M, LoadError> {
-    let slots = read_slots(alloc, text).map_err(LoadError::Json)?;
-    M::from_slots(alloc, slots).map_err(LoadError::Slots)
+fn read_map<M: Listed>(alloc: Global, text: &str) -> Result<M, LoadError>
+    ensures ok { IfOk result (λ made. (slots : List (SlotRecord ℤ)) × Accepts slots list_limit
+        × ReadsAs M.REUSES slots (M.content made)) }
+    ensures err { IfErr result IsReason }
+{
+    match read_slots(alloc, text) {
+        Ok(slots) => M::from_slots(alloc, slots).map_err(LoadError::Slots),
+        Err(error) => Err(LoadError::Json(error)),
+    }
 }
 
 fn read_slots(alloc: Global, text: &str) -> Result<Vec<SlotRecord<i32>>, JsonError> {

@@ -2,6 +2,7 @@
 
 ghost use Rattle.std.specs.Prelude.{◌≡◌, OnOk, List, ℕ};
 ghost use Rattle.std.specs.Io.KnownBytes.{Appends};
+ghost use Rattle.slotmap_script.specs.Printed.{PrintsReplies};
 ghost use Rattle.slotmap_script.specs.ReplyText.{IsReplyText, found_text, keys_text};
 
 use slotmap_core::commands::Reply;
@@ -12,6 +13,18 @@ use std::io::Write;
 
 /// A reply to a line.
 pub type LineReply = Reply<DefaultKey, i32, i32, OutOfMemory>;
+
+/// Writes replies, each as a line of its own.
+pub fn write_replies<W: Write>(output: &mut W, replies: Vec<LineReply>) -> io::Result<()>
+    ensures { OnOk result ((text : List ℕ) × PrintsReplies replies.items text
+        × Appends (W.contents output.old) (W.contents output.new) text) }
+{
+    for reply in replies {
+        let mut reply = reply;
+        write_reply(output, &mut reply)?;
+    }
+    Ok(())
+}
 
 /// Writes a reply as a line of its own. Keys are written by ascending index; `reply` is sorted in
 /// place for that.
