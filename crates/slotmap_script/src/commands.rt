@@ -22,12 +22,12 @@ pub type Plain = Command<DefaultKey, i32>;
 pub type Detachable = DetachCommand<DefaultKey, i32>;
 
 /// The commands of the maps `M`: which lines they have, and how they are run.
-pub trait Commands<M: Primary<DefaultKey, i32>>: Sized + Drop {
+pub trait Commands<M>: Sized + Drop {
     /// The command of the words of a line, if the maps have such a line.
     ghost command_of: { List (List ℕ) → Option Self };
 
-    /// With which replies these commands take a map from one content to another.
-    ghost replies_to: { Bool → Content ℤ → List Self → List (Reply Key ℤ ℤ OutOfMemory) → Content ℤ → Type 0 };
+    /// With which replies these commands take a map from one value to another.
+    ghost replies_to: { M → List Self → List (Reply Key ℤ ℤ OutOfMemory) → M → Type 0 };
 
     /// The command of a line with these words, or `None` if the maps have no such line.
     fn from_words(words: &[&str]) -> Option<Self>
@@ -36,7 +36,7 @@ pub trait Commands<M: Primary<DefaultKey, i32>>: Sized + Drop {
     /// Runs the commands in order and returns the replies, or `None` if there is no memory for
     /// them.
     fn run(alloc: Global, map: &mut M, commands: Vec<Self>) -> Option<Vec<LineReply>>
-        ensures ran { IfSome result (λ replies. replies_to M.REUSES (M.content map.old) commands.items replies.items (M.content map.new)) };
+        ensures ran { IfSome result (λ replies. replies_to map.old commands.items replies.items map.new) };
 
     // No command has more than three words.
     ghost at_most_three: { (words : List (List ℕ)) → 3 < length words → command_of words ≡ None };
@@ -45,7 +45,7 @@ pub trait Commands<M: Primary<DefaultKey, i32>>: Sized + Drop {
 impl<M: Primary<DefaultKey, i32>> Commands<M> for Plain {
     ghost command_of = { plain_of };
 
-    ghost replies_to = { Answers Step };
+    ghost replies_to = { λ old commands replies new. Answers Step M.REUSES (M.content old) commands replies (M.content new) };
 
     fn from_words(words: &[&str]) -> Option<Self> {
         plain(words)
@@ -63,7 +63,7 @@ impl<M: Primary<DefaultKey, i32>> Commands<M> for Plain {
 impl<M: Detaching<DefaultKey, i32>> Commands<M> for Detachable {
     ghost command_of = { detachable_of };
 
-    ghost replies_to = { Answers DetachStep };
+    ghost replies_to = { λ old commands replies new. Answers DetachStep M.REUSES (M.content old) commands replies (M.content new) };
 
     fn from_words(words: &[&str]) -> Option<Self> {
         detachable(words)

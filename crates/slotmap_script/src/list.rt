@@ -1,10 +1,10 @@
 //! Maps written as the JSON text of their list of slots, and read from it.
 
-ghost use Rattle.std.specs.Prelude.{◌≡◌, ℕ, ℤ, List, OnOk, IfOk, IfErr, IsOk};
+ghost use Rattle.std.specs.Prelude.{◌≡◌, ℕ, ℤ, List, OnOk, IfOk, IfErr, ⊤, true, false};
 ghost use Rattle.std.specs.Io.KnownBytes.{Appends};
 ghost use Rattle.slotmap_core.specs.Words.{Writes, ReadsAs, Accepts, RefusesStart, list_limit};
 ghost use Rattle.slotmap_core.specs.declared.serial.SlotRecord.{SlotRecord};
-ghost use Rattle.slotmap_script.specs.Printed.{PrintsSlots, Loads, IsReason};
+ghost use Rattle.slotmap_script.specs.Printed.{Lists, PrintsSlots, Loads, IsReason};
 ghost use Rattle.slotmap_script.specs.ListText.{slot_text, slots_text, refusal_text};
 
 use serde::{Deserialize, Deserializer, Format};
@@ -12,7 +12,6 @@ use serde_json::Value;
 use slotmap_basic::SlotMap;
 use slotmap_core::errors::{JsonError, OutOfMemory, SlotsError};
 use slotmap_core::keys::DefaultKey;
-use slotmap_core::primary::Primary;
 use slotmap_core::serial::SlotRecord;
 use slotmap_dense::DenseSlotMap;
 use slotmap_hop::HopSlotMap;
@@ -22,19 +21,27 @@ use std::io;
 use std::io::Write;
 
 /// A map that can be written as a list of slots and read from one.
-pub trait Listed: Primary<DefaultKey, i32> {
+pub trait Listed: Sized {
+    // The lists that it may be written as, the map that a list may be read as, and why a list isn't read.
+    ghost lists: { Lists Self } = { record { writes = λ _ _. ⊤; reads = λ _ _. ⊤; refuses = λ _ _. ⊤ } };
+
     /// The map as a list of slots.
     fn to_slots(&self) -> Result<Vec<SlotRecord<i32>>, OutOfMemory>
-        ensures { IfOk result (λ slots. Writes (Self.content self.now) slots.items) };
+        ensures { IfOk result (λ slots. lists.writes self.now slots.items) };
 
     /// The map that a list of slots describes.
     fn from_slots(alloc: Global, list: Vec<SlotRecord<i32>>) -> Result<Self, SlotsError>
-        ensures reads { IfOk result (λ made. ReadsAs Self.REUSES list.items (Self.content made)) }
-        ensures accepted { IsOk result → Accepts list.items list_limit }
-        ensures err { IfErr result (RefusesStart list.items list_limit) };
+        ensures reads { IfOk result (λ made. lists.reads list.items made) }
+        ensures err { IfErr result (lists.refuses list.items) };
 }
 
 impl Listed for SlotMap<DefaultKey, i32> {
+    ghost lists = { record {
+      writes = λ map slots. Writes map slots;
+      reads = λ slots made. Accepts slots list_limit × ReadsAs true slots made;
+      refuses = λ slots error. RefusesStart slots list_limit error;
+    } };
+
     fn to_slots(&self) -> Result<Vec<SlotRecord<i32>>, OutOfMemory> {
         SlotMap::to_slots(self)
     }
@@ -45,6 +52,12 @@ impl Listed for SlotMap<DefaultKey, i32> {
 }
 
 impl Listed for DenseSlotMap<DefaultKey, i32> {
+    ghost lists = { record {
+      writes = λ map slots. Writes map.content slots;
+      reads = λ slots made. Accepts slots list_limit × ReadsAs false slots made.content;
+      refuses = λ slots error. RefusesStart slots list_limit error;
+    } };
+
     fn to_slots(&self) -> Result<Vec<SlotRecord<i32>>, OutOfMemory> {
         DenseSlotMap::to_slots(self)
     }
@@ -55,6 +68,12 @@ impl Listed for DenseSlotMap<DefaultKey, i32> {
 }
 
 impl Listed for HopSlotMap<DefaultKey, i32> {
+    ghost lists = { record {
+      writes = λ map slots. Writes map.content slots;
+      reads = λ slots made. Accepts slots list_limit × ReadsAs true slots made.content;
+      refuses = λ slots error. RefusesStart slots list_limit error;
+    } };
+
     fn to_slots(&self) -> Result<Vec<SlotRecord<i32>>, OutOfMemory> {
         HopSlotMap::to_slots(self)
     }
@@ -75,7 +94,7 @@ pub enum LoadError {
 
 /// Writes a map's list of slots as a line of compact JSON, record by record.
 pub fn write_slots<M: Listed, W: Write>(map: &M, output: &mut W) -> io::Result<()>
-    ensures { OnOk result ((text : List ℕ) × PrintsSlots (M.content map.now) text
+    ensures { OnOk result ((text : List ℕ) × PrintsSlots M.lists map.now text
         × Appends (W.contents output.old) (W.contents output.new) text) }
 {
     let Ok(slots) = map.to_slots() else {
@@ -116,7 +135,7 @@ pub fn load<M: Listed + Drop, W: Write>(
     text: &str,
     output: &mut W,
 ) -> io::Result<()>
-    ensures { OnOk result ((text : List ℕ) × Loads M.REUSES (M.content map.old) text (M.content map.new)
+    ensures { OnOk result ((text : List ℕ) × Loads M.lists map.old text map.new
         × Appends (W.contents output.old) (W.contents output.new) text) }
 {
     match read_map(alloc, text) {
@@ -129,9 +148,8 @@ pub fn load<M: Listed + Drop, W: Write>(
 }
 
 fn read_map<M: Listed>(alloc: Global, text: &str) -> Result<M, LoadError>
-    ensures ok { IfOk result (λ made. (slots : List (SlotRecord ℤ)) × Accepts slots list_limit
-        × ReadsAs M.REUSES slots (M.content made)) }
-    ensures err { IfErr result IsReason }
+    ensures ok { IfOk result (λ made. (slots : List (SlotRecord ℤ)) × M.lists.reads slots made) }
+    ensures err { IfErr result (IsReason M.lists) }
 {
     match read_slots(alloc, text) {
         Ok(slots) => M::from_slots(alloc, slots).map_err(LoadError::Slots),

@@ -12,6 +12,7 @@ use crate::script::{End, Stretch, parse};
 use crate::stop::Stop;
 use slotmap_basic::SlotMap;
 use slotmap_core::keys::DefaultKey;
+use slotmap_core::primary::Primary;
 use slotmap_dense::DenseSlotMap;
 use slotmap_hop::HopSlotMap;
 use std::alloc::Global;
@@ -88,7 +89,7 @@ fn run_hop<R: Read, W: Write>(alloc: Global, input: &mut R, output: &mut W) -> R
 /// Parses all lines of a script, and runs it on a new map.
 pub fn run_on<M, C, R, W>(alloc: Global, input: &mut R, output: &mut W) -> Result<(), Stop>
 where
-    M: Listed + Drop,
+    M: Primary<DefaultKey, i32> + Listed + Drop,
     C: Commands<M>,
     R: Read,
     W: Write,
@@ -136,7 +137,7 @@ where
     C: Commands<M>,
     W: Write,
     ensures { OnOk result ((text : List ℕ)
-        × Prints C.replies_to M.REUSES (list_map stretch_of stretches.entry.items) (M.content map.old) text (M.content map.new)
+        × Prints C.replies_to M.lists (list_map stretch_of stretches.entry.items) map.old text map.new
         × Appends (W.contents output.old) (W.contents output.new) text) }
 {
     for stretch in stretches {
@@ -157,7 +158,7 @@ where
     C: Commands<M>,
     W: Write,
     ensures { OnOk result ((text : List ℕ)
-        × PrintsStretch C.replies_to M.REUSES (stretch_of stretch.entry) (M.content map.old) text (M.content map.new)
+        × PrintsStretch C.replies_to M.lists (stretch_of stretch.entry) map.old text map.new
         × Appends (W.contents output.old) (W.contents output.new) text) }
 {
     let Stretch { commands, end } = stretch;
@@ -178,7 +179,7 @@ fn print_end<M, W>(alloc: Global, map: &mut M, end: End<'_>, output: &mut W) -> 
 where
     M: Listed + Drop,
     W: Write,
-    ensures { OnOk result ((text : List ℕ) × PrintsEnd M.REUSES (ending_of end.entry) (M.content map.old) text (M.content map.new)
+    ensures { OnOk result ((text : List ℕ) × PrintsEnd M.lists (ending_of end.entry) map.old text map.new
         × Appends (W.contents output.old) (W.contents output.new) text) }
 {
     match end {

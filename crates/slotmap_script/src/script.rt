@@ -5,8 +5,6 @@ ghost use Rattle.slotmap_script.specs.ScriptText.{lines_of, words_of, said_by, s
 
 use crate::commands::Commands;
 use crate::stop::Stop;
-use slotmap_core::keys::DefaultKey;
-use slotmap_core::primary::Primary;
 use std::alloc::Global;
 use std::mem;
 
@@ -36,7 +34,7 @@ enum Line<'a, C> {
 }
 
 /// Parses every line of a script. The last line may lack its line feed.
-pub fn parse<'a, M: Primary<DefaultKey, i32>, C: Commands<M>>(
+pub fn parse<'a, M, C: Commands<M>>(
     alloc: Global,
     script: &'a [u8],
 ) -> Result<Vec<Stretch<'a, C>>, Stop>
@@ -55,7 +53,7 @@ pub fn parse<'a, M: Primary<DefaultKey, i32>, C: Commands<M>>(
 }
 
 // Adds the lines of a script to the stretches and to the commands that follow them.
-fn parse_lines<'a, M: Primary<DefaultKey, i32>, C: Commands<M>>(
+fn parse_lines<'a, M, C: Commands<M>>(
     alloc: Global,
     script: &'a [u8],
     stretches: &mut Vec<Stretch<'a, C>>,
@@ -114,9 +112,7 @@ fn add_line<'a, C: Drop>(
 }
 
 // Parses a line, or returns `None` if it isn't UTF-8 or not a line of a script.
-fn parse_line<'a, M: Primary<DefaultKey, i32>, C: Commands<M>>(
-    bytes: &'a [u8],
-) -> Option<Line<'a, C>>
+fn parse_line<'a, M, C: Commands<M>>(bytes: &'a [u8]) -> Option<Line<'a, C>>
     ensures { option_map said_of result ≡ said_by C.command_of bytes.now }
 {
     match str::from_utf8(bytes) {
@@ -125,7 +121,7 @@ fn parse_line<'a, M: Primary<DefaultKey, i32>, C: Commands<M>>(
     }
 }
 
-fn parse_text<'a, M: Primary<DefaultKey, i32>, C: Commands<M>>(text: &'a str) -> Option<Line<'a, C>>
+fn parse_text<'a, M, C: Commands<M>>(text: &'a str) -> Option<Line<'a, C>>
     ensures { option_map said_of result ≡ said_by_text C.command_of text.now }
 {
     match text.strip_prefix("load ") {
@@ -137,7 +133,7 @@ fn parse_text<'a, M: Primary<DefaultKey, i32>, C: Commands<M>>(text: &'a str) ->
 }
 
 // Parses a command: its words with one space between them, and nothing before or after.
-fn parse_command<M: Primary<DefaultKey, i32>, C: Commands<M>>(text: &str) -> Option<C>
+fn parse_command<M, C: Commands<M>>(text: &str) -> Option<C>
     ensures { result ≡ C.command_of (words_of text.now) }
 {
     // No command has more than three words.

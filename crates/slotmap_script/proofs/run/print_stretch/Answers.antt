@@ -9,7 +9,7 @@ returns-in-Ok-print_end g c =
       told.0 ++ last.0,
       record {
         replies = c.in-Some.replies.items;
-        mid = g.M.Primary.content c.run.new.map;
+        mid = c.run.new.map;
         answers = c.in-Some.ensures.ran;
         told = told.0;
         tells = told.1;

@@ -11,7 +11,7 @@ loop-stretch-preserved g c =
       tt,
       (
         before.0 ++ one.0,
-        stretch_more_of g.C.Commands.replies_to g.M.Primary.REUSES c.loop-stretch.yielded _ _ _ before.0 one.0 c.in-Some.stretch before.1 one.1,
+        stretch_more_of g.C.Commands.replies_to g.M.Listed.lists c.loop-stretch.yielded _ _ _ before.0 one.0 c.in-Some.stretch before.1 one.1,
         Appends-trans _ _ _ before.0 one.0 before.2 one.2,
       ),
     )
