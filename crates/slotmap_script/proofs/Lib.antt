@@ -2,4 +2,4 @@ pub mod Appending
 pub mod Lines
 pub mod Numerals
 pub mod Printing
-pub mod Shown
+pub mod ShownRuns

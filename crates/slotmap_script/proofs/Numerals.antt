@@ -10,7 +10,7 @@ use Rattle.std.specs.Int.{w32}
 use Rattle.std.proofs.lemmas.Bool.{cases_eq}
 use Rattle.std.proofs.lemmas.Bool.Decides.{nat_tests}
 use Rattle.std.proofs.lemmas.Str.Parse.{IsNumeralModel, numerals_by_value, tells_all_ascii_digits, parse_digits, parse_signed_plain, parse_signed_minus}
-use Rattle.slotmap_script.specs.CommandText.{is_numeral, numeral_below, number_of}
+use Rattle.slotmap_script.specs.CommandText.{is_numeral, numeral_below, word_number}
 
 numerals : IsNumeralModel (λ ds. all_ascii_digits ds ≡ true) (digits_value 10)
 numerals = numerals_by_value _ tells_all_ascii_digits
@@ -47,14 +47,14 @@ at_most_below : {T E : Type 0} (P Q : Type 0) (n m : ℕ) (v : T) (r : Result T 
 at_most_below P Q n m v (Ok x) h = ((h.0.0, h.0.1, omega (arith, h.0.2)), h.1)
 at_most_below P Q n m v (Err e) h = not_at_most P Q n m h
 
-with_minus : (bs : List ℕ) → get_or bs 0 0 ≡ 45 → number_of bs ≡ option_map (λ n. neg_ℤ (pos n)) (numeral_below (2 ^ 31 + 1) (drop 1 bs))
+with_minus : (bs : List ℕ) → get_or bs 0 0 ≡ 45 → word_number bs ≡ option_map (λ n. neg_ℤ (pos n)) (numeral_below (2 ^ 31 + 1) (drop 1 bs))
 with_minus bs h = grind (arith, nat_tests)
 
-without_minus : (bs : List ℕ) → get_or bs 0 0 ≢ 45 → number_of bs ≡ option_map pos (numeral_below (2 ^ 31) bs)
+without_minus : (bs : List ℕ) → get_or bs 0 0 ≢ 45 → word_number bs ≡ option_map pos (numeral_below (2 ^ 31) bs)
 without_minus bs h = grind (arith, nat_tests)
 
 -- `parse` at `i32` reads a number, unless the text begins with a plus
-pub signed_is : {E : Type 0} (bs : List ℕ) (r : Result ℤ E) → ParsesSigned w32 10 bs r → get_or bs 0 0 ≢ 43 → result_ok r ≡ number_of bs
+pub signed_is : {E : Type 0} (bs : List ℕ) (r : Result ℤ E) → ParsesSigned w32 10 bs r → get_or bs 0 0 ≢ 43 → result_ok r ≡ word_number bs
 signed_is {E} bs r h plain = elim (cases_eq (get_or bs 0 0) 45) [
   | inl minus ↦ ok_below (λ n. neg_ℤ (pos n)) (2 ^ 31 + 1) (drop 1 bs) r (at_most_below _ _ _ _ _ r (parse_signed_minus numerals {E = E} w32 bs r h minus)) ∙ sym (with_minus bs minus)
   | inr none ↦ ok_below pos (2 ^ 31) bs r (parse_signed_plain numerals {E = E} w32 bs r h plain none) ∙ sym (without_minus bs none)
@@ -65,5 +65,5 @@ plus_is_no_digit [] h = absurd (omega (arith, h))
 plus_is_no_digit (b ∷ bs) h = rw h refl
 
 -- a number has no plus
-pub no_plus : (bs : List ℕ) → get_or bs 0 0 ≡ 43 → number_of bs ≡ None
+pub no_plus : (bs : List ℕ) → get_or bs 0 0 ≡ 43 → word_number bs ≡ None
 no_plus bs h = without_minus bs (λ e. omega (arith, e, h)) ∙ ap (option_map pos) (no_digits (2 ^ 31) bs (plus_is_no_digit bs h))

@@ -7,7 +7,7 @@ use Rattle.slotmap_script.specs.ReplyText.{IsReplyText}
 use Rattle.std.proofs.lemmas.List.{map-append}
 use Rattle.slotmap_script.specs.ScriptText.{Ending, stretch_of}
 use Rattle.slotmap_script.specs.declared.script.Stretch.{Stretch}
-use Rattle.slotmap_script.specs.Printed.{Lists, PrintsReplies, PrintsStretch, Prints}
+use Rattle.slotmap_script.specs.Printed.{SlotLists, PrintsReplies, PrintsStretch, Prints}
 use Rattle.slotmap_script.proofs.Lines.{append_nil}
 
 pub reply_more : (replies : List (Reply Key ℤ ℤ OutOfMemory)) (text : List ℕ) (reply : Reply Key ℤ ℤ OutOfMemory) (more : List ℕ) → PrintsReplies replies text → IsReplyText reply more
@@ -16,7 +16,7 @@ reply_more [] text reply more h is = (more, [], is, refl, ap (λ t. t ++ more) h
 reply_more (first ∷ replies) text reply more h is =
     (h.0, h.1 ++ more, h.2, reply_more replies h.1 reply more h.3 is, ap (λ t. t ++ more) h.4 ∙ append_assoc h.0 h.1 more)
 
-module _ {C M : Type 0} (Answers : M → List C → List (Reply Key ℤ ℤ OutOfMemory) → M → Type 0) (lists : Lists M) where
+module _ {C M : Type 0} (Answers : M → List C → List (Reply Key ℤ ℤ OutOfMemory) → M → Type 0) (lists : SlotLists M) where
   pub stretch_more : (stretches : List (List C × Ending)) (old mid new : M) (text more : List ℕ) (stretch : List C × Ending) → Prints Answers lists stretches old text mid
       → PrintsStretch Answers lists stretch mid more new → Prints Answers lists (stretches ++ stretch ∷ []) old (text ++ more) new
   stretch_more [] old mid new text more stretch h one =

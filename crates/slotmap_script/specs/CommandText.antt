@@ -24,14 +24,14 @@ abbrev pub numeral_below : ℕ → List ℕ → Option ℕ
 numeral_below limit word = if is_numeral word && nat_lt (digits_value 10 word) limit then Some (digits_value 10 word) else None
 
 -- a numeral, perhaps after a minus: a number of 32 bits
-abbrev pub number_of : List ℕ → Option ℤ
-number_of word =
+abbrev pub word_number : List ℕ → Option ℤ
+word_number word =
     if starts_with_minus word then option_map (λ n. neg_ℤ (pos n)) (numeral_below (2 ^ 31 + 1) (drop 1 word))
     else option_map pos (numeral_below (2 ^ 31) word)
 
 -- a numeral of 64 bits: a key as one number. Each number is that of a key, as `from_ffi` reads it
-abbrev pub key_of : List ℕ → Option Key
-key_of word = option_map (λ n. key_from (n % 2 ^ 32) (n / 2 ^ 32)) (numeral_below (2 ^ 64) word)
+abbrev pub word_key : List ℕ → Option Key
+word_key word = option_map (λ n. key_from (n % 2 ^ 32) (n / 2 ^ 32)) (numeral_below (2 ^ 64) word)
 
 -- the command of these words, which every kind of map has
 abbrev pub plain_of : List (List ℕ) → Option (Command Key ℤ)
@@ -40,9 +40,9 @@ plain_of (name ∷ []) =
     if says name "keys" then Some command.Keys else (
     if says name "clear" then Some command.Clear else None))
 plain_of (name ∷ word ∷ []) =
-    if says name "insert" then option_map command.Insert (number_of word) else (
-    if says name "get" then option_map command.Get (key_of word) else (
-    if says name "remove" then option_map command.Remove (key_of word) else None))
+    if says name "insert" then option_map command.Insert (word_number word) else (
+    if says name "get" then option_map command.Get (word_key word) else (
+    if says name "remove" then option_map command.Remove (word_key word) else None))
 plain_of _ = None
 
 -- the key of one word and the number of another
@@ -53,9 +53,9 @@ reattach_of _ _ = None
 -- the command of these words, for a kind of map whose keys can be detached
 abbrev pub detachable_of : List (List ℕ) → Option (DetachCommand Key ℤ)
 detachable_of (name ∷ word ∷ []) =
-    if says name "detach" then option_map detaching.Detach (key_of word) else option_map detaching.Plain (plain_of (name ∷ word ∷ []))
+    if says name "detach" then option_map detaching.Detach (word_key word) else option_map detaching.Plain (plain_of (name ∷ word ∷ []))
 detachable_of (name ∷ word ∷ value ∷ []) =
-    if says name "reattach" then reattach_of (key_of word) (number_of value) else None
+    if says name "reattach" then reattach_of (word_key word) (word_number value) else None
 detachable_of words = option_map detaching.Plain (plain_of words)
 
 -- no command has more than three words

@@ -12,12 +12,12 @@ use Rattle.slotmap_script.specs.declared.list.LoadError.{LoadError}
 use Rattle.slotmap_script.specs.declared.list.LoadError.TheVariants as load
 
 -- what a kind of map does: the lists of slots that a map may be written as, the map that a list may be read as, and why a list isn't read
-pub record Lists (M : Type 0) : Type 1 where
+pub record SlotLists (M : Type 0) : Type 1 where
   pub writes : M → List (SlotRecord ℤ) → Type 0
   pub reads : List (SlotRecord ℤ) → M → Type 0
   pub refuses : List (SlotRecord ℤ) → SlotsError → Type 0
 
-module _ {M : Type 0} (lists : Lists M) where
+module _ {M : Type 0} (lists : SlotLists M) where
   -- the list of slots that the map is written as, or that there is no memory for it
   abbrev pub PrintsSlots : M → List ℕ → Type 0
   PrintsSlots map text = ((slots : List (SlotRecord ℤ)) × lists.writes map slots × (text ≡ slots_text slots)) ⊎ (text ≡ line (codes "memory"))
@@ -44,7 +44,7 @@ abbrev pub PrintsReplies : List (Reply Key ℤ ℤ OutOfMemory) → List ℕ →
 PrintsReplies [] text = text ≡ []
 PrintsReplies (reply ∷ replies) text = (first rest : List ℕ) × IsReplyText reply first × PrintsReplies replies rest × (text ≡ first ++ rest)
 
-module _ {C M : Type 0} (Answers : M → List C → List (Reply Key ℤ ℤ OutOfMemory) → M → Type 0) (lists : Lists M) where
+module _ {C M : Type 0} (Answers : M → List C → List (Reply Key ℤ ℤ OutOfMemory) → M → Type 0) (lists : SlotLists M) where
   -- a stretch prints the replies to its commands, and then its end
   pub record PrintsStretch (stretch : List C × Ending) (old : M) (text : List ℕ) (new : M) : Type 0 where
     pub replies : List (Reply Key ℤ ℤ OutOfMemory)

@@ -5,7 +5,7 @@ ghost use Rattle.slotmap_core.specs.Words.{Key, Content, Step, DetachStep, FnRet
 ghost use Rattle.slotmap_core.specs.declared.commands.Reply.{Reply};
 ghost use Rattle.slotmap_core.specs.declared.errors.OutOfMemory.{OutOfMemory};
 ghost use Rattle.slotmap_script.specs.Answered.{Answers};
-ghost use Rattle.slotmap_script.specs.CommandText.{number_of, numeral_below, key_of, plain_of, detachable_of, plain_at_most_three, detachable_at_most_three};
+ghost use Rattle.slotmap_script.specs.CommandText.{word_number, numeral_below, word_key, plain_of, detachable_of, plain_at_most_three, detachable_at_most_three};
 
 use crate::reply::LineReply;
 use slotmap_core::commands::{Command, DetachCommand};
@@ -203,7 +203,7 @@ fn plain_pair(name: &str, word: &str) -> Option<Plain>
 
 // Reads a key, which is one number of digits alone.
 fn key(word: &str) -> Option<DefaultKey>
-    ensures { result ≡ key_of word.now }
+    ensures { result ≡ word_key word.now }
 {
     Some(DefaultKey::from(KeyData::from_ffi(numeral(word)?)))
 }
@@ -220,7 +220,7 @@ fn numeral(word: &str) -> Option<u64>
 
 // Reads a number without a plus sign.
 fn number(word: &str) -> Option<i32>
-    ensures { result ≡ number_of word.now }
+    ensures { result ≡ word_number word.now }
 {
     if word.starts_with('+') {
         return None;

@@ -4,7 +4,7 @@ ghost use Rattle.std.specs.Prelude.{◌≡◌, ℕ, ℤ, List, OnOk, IfOk, IfErr
 ghost use Rattle.std.specs.Io.KnownBytes.{Appends};
 ghost use Rattle.slotmap_core.specs.Words.{Writes, ReadsAs, Accepts, RefusesStart, list_limit};
 ghost use Rattle.slotmap_core.specs.declared.serial.SlotRecord.{SlotRecord};
-ghost use Rattle.slotmap_script.specs.Printed.{Lists, PrintsSlots, Loads, IsReason};
+ghost use Rattle.slotmap_script.specs.Printed.{SlotLists, PrintsSlots, Loads, IsReason};
 ghost use Rattle.slotmap_script.specs.ListText.{slot_text, slots_text, refusal_text};
 
 use serde::{Deserialize, Deserializer, Format};
@@ -23,7 +23,7 @@ use std::io::Write;
 /// A map that can be written as a list of slots and read from one.
 pub trait Listed: Sized {
     // The lists that it may be written as, the map that a list may be read as, and why a list isn't read.
-    ghost lists: { Lists Self } = { record { writes = λ _ _. ⊤; reads = λ _ _. ⊤; refuses = λ _ _. ⊤ } };
+    ghost lists: { SlotLists Self } = { record { writes = λ _ _. ⊤; reads = λ _ _. ⊤; refuses = λ _ _. ⊤ } };
 
     /// The map as a list of slots.
     fn to_slots(&self) -> Result<Vec<SlotRecord<i32>>, OutOfMemory>

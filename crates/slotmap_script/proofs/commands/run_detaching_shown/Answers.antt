@@ -1,7 +1,7 @@
 use Rattle.std.proofs.Common.{ℤ}
 use Rattle.slotmap_core.proofs.Common.{Key, RunGiven, given}
 use Rattle.slotmap_core.specs.declared.errors.OutOfMemory.{OutOfMemory}
-use Rattle.slotmap_script.proofs.Shown.{IfSome-from_ok, detach_follows_shown}
+use Rattle.slotmap_script.proofs.ShownRuns.{IfSome-from_ok, detach_follows_shown}
 use Rattle.slotmap_script.proofs.commands.run_detaching_shown.Goals as goal
 
 pub returns : goal.returns
