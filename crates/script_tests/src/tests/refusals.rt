@@ -1,6 +1,6 @@
 //! Replies that no small script produces, and maps that have fewer lines.
 
-ghost use Rattle.std.specs.Prelude.{if◌then◌else◌, nat_le, length, Some, None, ⊤};
+ghost use Rattle.std.specs.Prelude.{if◌then◌else◌, nat_le, length, Some, None, IfSome, ⊤};
 ghost use Rattle.script_tests.specs.Words.{more_than_three};
 
 use slotmap_basic::SlotMap;
@@ -97,7 +97,9 @@ impl Commands<Refusing> for Unanswered {
         }
     }
 
-    fn run(alloc: Global, _map: &mut Refusing, commands: Vec<Self>) -> Option<Vec<LineReply>> {
+    fn run(alloc: Global, _map: &mut Refusing, commands: Vec<Self>) -> Option<Vec<LineReply>>
+        ensures ran { IfSome result (λ replies. ⊤) }
+    {
         if commands.is_empty() {
             Some(Vec::new(alloc))
         } else {
