@@ -1,5 +1,12 @@
 //! Maps written as the JSON text of their list of slots, and read from it.
 
+ghost use Rattle.std.specs.Prelude.{◌≡◌, ℕ, ℤ, List, OnOk, IfOk, IfErr, ⊤, true, false};
+ghost use Rattle.std.specs.Io.KnownBytes.{Appends};
+ghost use Rattle.slotmap_core.specs.Words.{Writes, ReadsAs, Accepts, RefusesStart, list_limit};
+ghost use Rattle.slotmap_core.specs.declared.serial.SlotRecord.{SlotRecord};
+ghost use Rattle.slotmap_script.specs.Printed.{SlotLists, PrintsSlots, Loads, IsReason};
+ghost use Rattle.slotmap_script.specs.ListText.{slot_text, slots_text, refusal_text};
+
 use serde::{Deserialize, Deserializer, Format};
 use serde_json::Value;
 use slotmap_basic::SlotMap;
@@ -15,14 +22,26 @@ use std::io::Write;
 
 /// A map that can be written as a list of slots and read from one.
 pub trait Listed: Sized {
+    // The lists that it may be written as, the map that a list may be read as, and why a list isn't read.
+    ghost lists: { SlotLists Self } = { record { writes = λ _ _. ⊤; reads = λ _ _. ⊤; refuses = λ _ _. ⊤ } };
+
     /// The map as a list of slots.
-    fn to_slots(&self) -> Result<Vec<SlotRecord<i32>>, OutOfMemory>;
+    fn to_slots(&self) -> Result<Vec<SlotRecord<i32>>, OutOfMemory>
+        ensures { IfOk result (λ slots. lists.writes self.now slots.items) };
 
     /// The map that a list of slots describes.
-    fn from_slots(alloc: Global, list: Vec<SlotRecord<i32>>) -> Result<Self, SlotsError>;
+    fn from_slots(alloc: Global, list: Vec<SlotRecord<i32>>) -> Result<Self, SlotsError>
+        ensures reads { IfOk result (λ made. lists.reads list.items made) }
+        ensures err { IfErr result (lists.refuses list.items) };
 }
 
 impl Listed for SlotMap<DefaultKey, i32> {
+    ghost lists = { record {
+      writes = λ map slots. Writes map slots;
+      reads = λ slots made. Accepts slots list_limit × ReadsAs true slots made;
+      refuses = λ slots error. RefusesStart slots list_limit error;
+    } };
+
     fn to_slots(&self) -> Result<Vec<SlotRecord<i32>>, OutOfMemory> {
         SlotMap::to_slots(self)
     }
@@ -33,6 +52,12 @@ impl Listed for SlotMap<DefaultKey, i32> {
 }
 
 impl Listed for DenseSlotMap<DefaultKey, i32> {
+    ghost lists = { record {
+      writes = λ map slots. Writes map.content slots;
+      reads = λ slots made. Accepts slots list_limit × ReadsAs false slots made.content;
+      refuses = λ slots error. RefusesStart slots list_limit error;
+    } };
+
     fn to_slots(&self) -> Result<Vec<SlotRecord<i32>>, OutOfMemory> {
         DenseSlotMap::to_slots(self)
     }
@@ -43,6 +68,12 @@ impl Listed for DenseSlotMap<DefaultKey, i32> {
 }
 
 impl Listed for HopSlotMap<DefaultKey, i32> {
+    ghost lists = { record {
+      writes = λ map slots. Writes map.content slots;
+      reads = λ slots made. Accepts slots list_limit × ReadsAs true slots made.content;
+      refuses = λ slots error. RefusesStart slots list_limit error;
+    } };
+
     fn to_slots(&self) -> Result<Vec<SlotRecord<i32>>, OutOfMemory> {
         HopSlotMap::to_slots(self)
     }
@@ -62,10 +93,20 @@ pub enum LoadError {
 }
 
 /// Writes a map's list of slots as a line of compact JSON, record by record.
-pub fn write_slots<M: Listed>(map: &M, output: &mut impl Write) -> io::Result<()> {
+pub fn write_slots<M: Listed, W: Write>(map: &M, output: &mut W) -> io::Result<()>
+    ensures { OnOk result ((text : List ℕ) × PrintsSlots M.lists map.now text
+        × Appends (W.contents output.old) (W.contents output.new) text) }
+{
     let Ok(slots) = map.to_slots() else {
         return writeln!(output, "memory");
     };
+    write_list(output, &slots)
+}
+
+// Writes a list of slots as a line of compact JSON, record by record.
+fn write_list<W: Write>(output: &mut W, slots: &[SlotRecord<i32>]) -> io::Result<()>
+    ensures { OnOk result (Appends (W.contents output.old) (W.contents output.new) (slots_text slots.now)) }
+{
     write!(output, "[")?;
     for (i, slot) in slots.iter().enumerate() {
         if i > 0 {
@@ -76,7 +117,9 @@ pub fn write_slots<M: Listed>(map: &M, output: &mut impl Write) -> io::Result<()
     writeln!(output, "]")
 }
 
-fn write_slot(output: &mut impl Write, slot: &SlotRecord<i32>) -> io::Result<()> {
+fn write_slot<W: Write>(output: &mut W, slot: &SlotRecord<i32>) -> io::Result<()>
+    ensures { OnOk result (Appends (W.contents output.old) (W.contents output.new) (slot_text slot.now)) }
+{
     let version = slot.version;
     match slot.value {
         Some(value) => write!(output, "{{\"value\":{value},\"version\":{version}}}"),
@@ -86,12 +129,15 @@ fn write_slot(output: &mut impl Write, slot: &SlotRecord<i32>) -> io::Result<()>
 
 /// Replaces the map by the one that the text describes, and writes `done`. If that fails, the map
 /// stays and the reason is written.
-pub fn load<M: Listed + Drop>(
+pub fn load<M: Listed + Drop, W: Write>(
     alloc: Global,
     map: &mut M,
     text: &str,
-    output: &mut impl Write,
-) -> io::Result<()> {
+    output: &mut W,
+) -> io::Result<()>
+    ensures { OnOk result ((text : List ℕ) × Loads M.lists map.old text map.new
+        × Appends (W.contents output.old) (W.contents output.new) text) }
+{
     match read_map(alloc, text) {
         Ok(read) => {
             *map = read;
@@ -101,9 +147,14 @@ pub fn load<M: Listed + Drop>(
     }
 }
 
-fn read_map<M: Listed>(alloc: Global, text: &str) -> Result<M, LoadError> {
-    let slots = read_slots(alloc, text).map_err(LoadError::Json)?;
-    M::from_slots(alloc, slots).map_err(LoadError::Slots)
+fn read_map<M: Listed>(alloc: Global, text: &str) -> Result<M, LoadError>
+    ensures ok { IfOk result (λ made. (slots : List (SlotRecord ℤ)) × M.lists.reads slots made) }
+    ensures err { IfErr result (IsReason M.lists) }
+{
+    match read_slots(alloc, text) {
+        Ok(slots) => M::from_slots(alloc, slots).map_err(LoadError::Slots),
+        Err(error) => Err(LoadError::Json(error)),
+    }
 }
 
 fn read_slots(alloc: Global, text: &str) -> Result<Vec<SlotRecord<i32>>, JsonError> {
@@ -150,7 +201,9 @@ fn read_value(value: &Value) -> Result<i32, JsonError> {
 }
 
 /// Writes why a map wasn't read.
-pub fn write_refusal(output: &mut impl Write, error: &LoadError) -> io::Result<()> {
+pub fn write_refusal<W: Write>(output: &mut W, error: &LoadError) -> io::Result<()>
+    ensures { OnOk result (Appends (W.contents output.old) (W.contents output.new) (refusal_text error.now)) }
+{
     match error {
         LoadError::Json(JsonError::Shape) => writeln!(output, "shape"),
         LoadError::Slots(SlotsError::TooMany) => writeln!(output, "too many"),

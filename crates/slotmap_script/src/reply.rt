@@ -1,5 +1,10 @@
 //! The text of replies.
 
+ghost use Rattle.std.specs.Prelude.{◌≡◌, OnOk, List, ℕ};
+ghost use Rattle.std.specs.Io.KnownBytes.{Appends};
+ghost use Rattle.slotmap_script.specs.Printed.{PrintsReplies};
+ghost use Rattle.slotmap_script.specs.ReplyText.{IsReplyText, found_text, keys_text};
+
 use slotmap_core::commands::Reply;
 use slotmap_core::errors::OutOfMemory;
 use slotmap_core::keys::{DefaultKey, Key};
@@ -9,9 +14,24 @@ use std::io::Write;
 /// A reply to a line.
 pub type LineReply = Reply<DefaultKey, i32, i32, OutOfMemory>;
 
+/// Writes replies, each as a line of its own.
+pub fn write_replies<W: Write>(output: &mut W, replies: Vec<LineReply>) -> io::Result<()>
+    ensures { OnOk result ((text : List ℕ) × PrintsReplies replies.items text
+        × Appends (W.contents output.old) (W.contents output.new) text) }
+{
+    for reply in replies {
+        let mut reply = reply;
+        write_reply(output, &mut reply)?;
+    }
+    Ok(())
+}
+
 /// Writes a reply as a line of its own. Keys are written by ascending index; `reply` is sorted in
 /// place for that.
-pub fn write_reply(output: &mut impl Write, reply: &mut LineReply) -> io::Result<()> {
+pub fn write_reply<W: Write>(output: &mut W, reply: &mut LineReply) -> io::Result<()>
+    ensures { OnOk result ((text : List ℕ) × IsReplyText reply.old text
+        × Appends (W.contents output.old) (W.contents output.new) text) }
+{
     match reply {
         Reply::Key(key) => writeln!(output, "key {}", key.data().as_ffi()),
         Reply::Full(_) => writeln!(output, "full"),
@@ -30,14 +50,18 @@ pub fn write_reply(output: &mut impl Write, reply: &mut LineReply) -> io::Result
     }
 }
 
-fn write_found(output: &mut impl Write, found: Option<i32>) -> io::Result<()> {
+fn write_found<W: Write>(output: &mut W, found: Option<i32>) -> io::Result<()>
+    ensures { OnOk result (Appends (W.contents output.old) (W.contents output.new) (found_text found)) }
+{
     match found {
         Some(value) => writeln!(output, "value {value}"),
         None => writeln!(output, "none"),
     }
 }
 
-fn write_keys(output: &mut impl Write, keys: &[DefaultKey]) -> io::Result<()> {
+fn write_keys<W: Write>(output: &mut W, keys: &[DefaultKey]) -> io::Result<()>
+    ensures { OnOk result (Appends (W.contents output.old) (W.contents output.new) (keys_text keys.now)) }
+{
     write!(output, "keys")?;
     for key in keys {
         write!(output, " {}", key.data().as_ffi())?;

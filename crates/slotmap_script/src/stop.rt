@@ -1,5 +1,7 @@
 //! Why a script ends before its last reply.
 
+ghost use Rattle.std.specs.Prelude.{◌≡◌};
+
 use std::alloc::AllocFailed;
 
 /// Why a script ends early.
@@ -16,6 +18,10 @@ pub enum Stop {
 }
 
 impl<T: Drop> From<AllocFailed<T>> for Stop {
+    ghost use Rattle.slotmap_script.specs.declared.stop.Stop.TheVariants.{NoScript};
+
+    ghost from_gives = { λ error stop. stop ≡ NoScript };
+
     fn from(_error: AllocFailed<T>) -> Stop {
         Stop::NoScript
     }

@@ -1,5 +1,8 @@
 //! Replies that no small script produces, and maps that have fewer lines.
 
+ghost use Rattle.std.specs.Prelude.{if◌then◌else◌, nat_le, length, Some, None, IfSome, ⊤};
+ghost use Rattle.script_tests.specs.Words.{more_than_three};
+
 use slotmap_basic::SlotMap;
 use slotmap_core::commands::Reply;
 use slotmap_core::errors::{JsonError, OutOfMemory, SlotsError};
@@ -82,17 +85,29 @@ impl Listed for Refusing {
 struct Unanswered;
 
 impl Commands<Refusing> for Unanswered {
-    fn from_words(_words: &[&str]) -> Option<Self> {
-        Some(Unanswered)
+    ghost command_of = { λ words. if nat_le (length words) 3 then Some (record {}) else None };
+
+    ghost replies_to = { λ old commands replies new. ⊤ };
+
+    fn from_words(words: &[&str]) -> Option<Self> {
+        if words.len() <= 3 {
+            Some(Unanswered)
+        } else {
+            None
+        }
     }
 
-    fn run(alloc: Global, _map: &mut Refusing, commands: Vec<Self>) -> Option<Vec<LineReply>> {
+    fn run(alloc: Global, _map: &mut Refusing, commands: Vec<Self>) -> Option<Vec<LineReply>>
+        ensures ran { IfSome result (λ replies. ⊤) }
+    {
         if commands.is_empty() {
             Some(Vec::new(alloc))
         } else {
             None
         }
     }
+
+    ghost at_most_three = { more_than_three (record {}) };
 }
 
 // The status and the output of a script on a map for which there is no memory.
@@ -130,7 +145,7 @@ static PLAIN: [(&str, &str, u8); 3] = [
 // The status and the output of a script on a map whose keys can't be detached.
 fn run_plain(alloc: Global, mut script: &[u8]) -> (u8, Vec<u8>) {
     let mut output = Vec::new(alloc);
-    let ended = run_on::<SlotMap<DefaultKey, i32>, Plain>(alloc, &mut script, &mut output);
+    let ended = run_on::<SlotMap<DefaultKey, i32>, Plain, _, _>(alloc, &mut script, &mut output);
     (finish(ended, &mut output), output)
 }
 

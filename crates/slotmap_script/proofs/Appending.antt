@@ -1,0 +1,38 @@
+-- One write after another, and lists of texts with a byte between each two.
+use Rattle.std.proofs.Common.{◌≡◌, ◌+◌, ◌<◌, ◌≤◌, ℕ, List, [], ◌∷◌, ◌++◌, Option, Some, None, length, take, map, get_or, append_assoc, ap, subst, sym, ◌∙◌, refl, arith, rules}
+use Rattle.std.specs.Io.KnownBytes.{Appends}
+use Rattle.std.specs.List.{join_with_byte}
+use Rattle.std.proofs.lemmas.List.{map_more, length-take-le, length-map}
+
+-- what two writes append
+pub Appends-trans : (old mid new : Option (List ℕ)) (first second : List ℕ) → Appends old mid first → Appends mid new second → Appends old new (first ++ second)
+Appends-trans None mid new first second h k = tt
+Appends-trans (Some xs) None new first second h k = absurd h
+Appends-trans (Some xs) (Some ys) None first second h k = absurd k
+Appends-trans (Some xs) (Some ys) (Some zs) first second h k = k ∙ ap (λ t. t ++ second) h ∙ append_assoc xs first second
+
+join_push : (c : ℕ) (xs : List (List ℕ)) (y : List ℕ) → 0 < length xs → join_with_byte c (xs ++ y ∷ []) ≡ join_with_byte c xs ++ (c ∷ y)
+join_push c [] y h = absurd (omega arith)
+join_push c (x ∷ []) y h = refl
+join_push c (x ∷ z ∷ zs) y h = ap (λ t. x ++ c ∷ t) (join_push c (z ∷ zs) y (omega arith)) ∙ sym (append_assoc x (c ∷ join_with_byte c (z ∷ zs)) (c ∷ y))
+
+join_one : (c : ℕ) (xs : List (List ℕ)) (y : List ℕ) → length xs ≡ 0 → join_with_byte c (xs ++ y ∷ []) ≡ join_with_byte c xs ++ y
+join_one c [] y h = refl
+join_one c (x ∷ xs) y h = absurd (omega arith)
+
+module _ {X : Type 0} (c : ℕ) (f : X → List ℕ) (xs : List X) (i : ℕ) (d : X) (within : i < length xs) (front : List ℕ) (old now : Option (List ℕ))
+    (before : Appends old now (front ++ join_with_byte c (map f (take i xs)))) where
+  count : length (map f (take i xs)) ≡ i
+  count = length-map (take i xs) f ∙ length-take-le i xs (omega arith)
+
+  -- a further text stands after the byte
+  pub join_more : 0 < i → (mid new : Option (List ℕ)) → Appends now mid (c ∷ []) → Appends mid new (f (get_or xs i d)) → Appends old new (front ++ join_with_byte c (map f (take (i + 1) xs)))
+  join_more some mid new byte text =
+      let step = ap (join_with_byte c) (map_more f xs i d within) ∙ join_push c (map f (take i xs)) (f (get_or xs i d)) (omega (arith, count)) in
+      rw (step, ← append_assoc) (Appends-trans old now new _ _ before (Appends-trans now mid new _ _ byte text))
+
+  -- the first text stands alone
+  pub join_first : i ≤ 0 → (new : Option (List ℕ)) → Appends now new (f (get_or xs i d)) → Appends old new (front ++ join_with_byte c (map f (take (i + 1) xs)))
+  join_first none new text =
+      let step = ap (join_with_byte c) (map_more f xs i d within) ∙ join_one c (map f (take i xs)) (f (get_or xs i d)) (omega (arith, count)) in
+      rw (step, ← append_assoc) (Appends-trans old now new _ _ before text)

@@ -1,0 +1,30 @@
+-- One reply more, and one stretch more.
+use Rattle.std.proofs.Common.{◌≡◌, ℤ, ℕ, Bool, List, [], ◌∷◌, ◌++◌, map, append_assoc, ap, subst, sym, ◌∙◌, refl}
+use Rattle.slotmap_core.proofs.Common.{Key}
+use Rattle.slotmap_core.specs.declared.commands.Reply.{Reply}
+use Rattle.slotmap_core.specs.declared.errors.OutOfMemory.{OutOfMemory}
+use Rattle.slotmap_script.specs.ReplyText.{IsReplyText}
+use Rattle.std.proofs.lemmas.List.{map-append}
+use Rattle.slotmap_script.specs.ScriptText.{Ending, stretch_of}
+use Rattle.slotmap_script.specs.declared.script.Stretch.{Stretch}
+use Rattle.slotmap_script.specs.Printed.{SlotLists, PrintsReplies, PrintsStretch, Prints}
+use Rattle.slotmap_script.proofs.Lines.{append_nil}
+
+pub reply_more : (replies : List (Reply Key ℤ ℤ OutOfMemory)) (text : List ℕ) (reply : Reply Key ℤ ℤ OutOfMemory) (more : List ℕ) → PrintsReplies replies text → IsReplyText reply more
+    → PrintsReplies (replies ++ reply ∷ []) (text ++ more)
+reply_more [] text reply more h is = (more, [], is, refl, ap (λ t. t ++ more) h ∙ sym (append_nil more))
+reply_more (first ∷ replies) text reply more h is =
+    (h.0, h.1 ++ more, h.2, reply_more replies h.1 reply more h.3 is, ap (λ t. t ++ more) h.4 ∙ append_assoc h.0 h.1 more)
+
+module _ {C M : Type 0} (Answers : M → List C → List (Reply Key ℤ ℤ OutOfMemory) → M → Type 0) (lists : SlotLists M) where
+  pub stretch_more : (stretches : List (List C × Ending)) (old mid new : M) (text more : List ℕ) (stretch : List C × Ending) → Prints Answers lists stretches old text mid
+      → PrintsStretch Answers lists stretch mid more new → Prints Answers lists (stretches ++ stretch ∷ []) old (text ++ more) new
+  stretch_more [] old mid new text more stretch h one =
+      (new, more, [], subst (λ (c : M). PrintsStretch Answers lists stretch c more new) h.0 one, (refl, refl), ap (λ t. t ++ more) h.1 ∙ sym (append_nil more))
+  stretch_more (first ∷ stretches) old mid new text more stretch h one =
+      (h.0, h.1, h.2 ++ more, h.3, stretch_more stretches h.0 mid new h.2 more stretch h.4 one, ap (λ t. t ++ more) h.5 ∙ append_assoc h.1 h.2 more)
+
+  pub stretch_more_of : (stretches : List (Stretch C)) (old mid new : M) (text more : List ℕ) (stretch : Stretch C) → Prints Answers lists (map stretch_of stretches) old text mid
+      → PrintsStretch Answers lists (stretch_of stretch) mid more new → Prints Answers lists (map stretch_of (stretches ++ stretch ∷ [])) old (text ++ more) new
+  stretch_more_of stretches old mid new text more stretch h one =
+      rw (map-append stretch_of stretches (stretch ∷ [])) (stretch_more (map stretch_of stretches) old mid new text more (stretch_of stretch) h one)

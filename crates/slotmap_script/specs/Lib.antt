@@ -1,0 +1,6 @@
+pub mod Answered
+pub mod CommandText
+pub mod ListText
+pub mod Printed
+pub mod ReplyText
+pub mod ScriptText
