@@ -194,7 +194,7 @@ module _ {V : Type 0} (c : Content V) (room capacity : ℕ) (is : IsBounded c ro
       exact = (let u = same_used in let e = is.exact in omega arith);
     }
 
-    pub refused : IsBounded new room capacity
+    refused : IsBounded new room capacity
     refused = record {
       valid = makes.after;
       vacant = (let next = ap map.len makes.keeps.next in let v = is.vacant in omega arith);

@@ -1,1 +1,1 @@
-pub mod Bounds
+mod Bounds

@@ -75,7 +75,7 @@ pub lacks : {E : Type 0} (end : SeenEdge E → Key) (edges : Edges E) (x : Key) 
 lacks end edges x none k ks lists = sym (absent_unlisted end edges x none k ks lists)
 
 -- a key comes
-pub indices_inserted : {V : Type 0} (c : Content V) (k : Key) (v : V) (d : Content V) → HaveIndices c → Inserts c k v d → IsContent true d → d.capacity ≡ c.capacity → k.index ≤ d.capacity → HaveIndices d
+indices_inserted : {V : Type 0} (c : Content V) (k : Key) (v : V) (d : Content V) → HaveIndices c → Inserts c k v d → IsContent true d → d.capacity ≡ c.capacity → k.index ≤ d.capacity → HaveIndices d
 indices_inserted c k v d indices inserts valid capacity within = record {
   within = λ q live. (elim (same_or_other q k) [
     | inl is ↦ ((valid.within q (inl (inl live))).0, (let at = ap (λ (q : Key). q.index) is in omega arith))
@@ -102,7 +102,7 @@ module _ {N E : Type 0} (end : SeenEdge E → Key) (nodes : Content N) (edges : 
     grown_seen = same_seen end nodes edges links t end nodes' edges' links' (λ x. ap (λ m. option_map end (map.get m x)) same_edges) grows.lists grown_edges (λ k. ap (λ m. map.contains_key m k) same_nodes)
 
   -- other nodes, with all ends of edges among them
-  pub threaded_beside : (new : Content N) → HaveIndices new → new.capacity ≡ nodes.capacity → ((x : Key) (e : SeenEdge E) → map.get edges.live x ≡ Some e → IsLive new (end e)) → IsThreaded end new edges links
+  threaded_beside : (new : Content N) → HaveIndices new → new.capacity ≡ nodes.capacity → ((x : Key) (e : SeenEdge E) → map.get edges.live x ≡ Some e → IsLive new (end e)) → IsThreaded end new edges links
   threaded_beside new indices capacity ends = threaded_along end nodes edges links t end new edges links (λ x. refl) (λ p. refl) indices t.edge_indices (let o = t.owners in omega arith) t.members t.disjoint ends
 
   -- a node comes

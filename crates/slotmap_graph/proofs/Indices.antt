@@ -55,7 +55,7 @@ module _ {V : Type 0} (c : Content V) (indices : HaveIndices c) where
 
 module _ {V : Type 0} (c : Content V) (indices : HaveIndices c) where
   -- the first of several indices
-  pub first_index : (i : ℕ) (is : List ℕ) → AreIndices c.live (i ∷ is) → (k : Key) × IsLive c k × (k.index ≡ i) × (key_at c.live i ≡ k)
+  first_index : (i : ℕ) (is : List ℕ) → AreIndices c.live (i ∷ is) → (k : Key) × IsLive c k × (k.index ≡ i) × (key_at c.live i ≡ k)
   first_index i is all =
       let found = all i (let first = often_first i i is in let one = number_itself i in omega arith) in
       (found.0, found.1, found.2, ap (key_at c.live) (sym found.2) ∙ key_at_live c indices found.0 found.1)

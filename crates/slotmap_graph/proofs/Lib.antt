@@ -1,12 +1,12 @@
-pub mod Adjacent
+mod Adjacent
 pub mod Callers
-pub mod Common
-pub mod Counted
-pub mod Cycles
-pub mod Followed
-pub mod GraphSteps
-pub mod Indices
-pub mod Searches
-pub mod Thinned
-pub mod Threaded
-pub mod TopologicalOrders
+mod Common
+mod Counted
+mod Cycles
+mod Followed
+mod GraphSteps
+mod Indices
+mod Searches
+mod Thinned
+mod Threaded
+mod TopologicalOrders

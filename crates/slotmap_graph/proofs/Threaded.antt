@@ -50,14 +50,14 @@ alike w (Some v) (Some u) same = refl
 
 -- what is seen at each node
 module _ {N E : Type 0} (nodes : map.FinMap key_cmp N) (edges : Edges E) (links : Lists) where
-  pub get-by_node : (k : Key) → map.get (by_node nodes edges links) k ≡ option_map (λ _. keys_at edges (list_of links k.index)) (map.get nodes k)
+  get-by_node : (k : Key) → map.get (by_node nodes edges links) k ≡ option_map (λ _. keys_at edges (list_of links k.index)) (map.get nodes k)
   unfolding by_node
   get-by_node k = get-changed (λ k. keys_at edges (list_of links k.index)) nodes k
 
-  pub seen_at : (k : Key) → edges_at (by_node nodes edges links) k ≡ cond (map.contains_key nodes k) (keys_at edges (list_of links k.index)) []
+  seen_at : (k : Key) → edges_at (by_node nodes edges links) k ≡ cond (map.contains_key nodes k) (keys_at edges (list_of links k.index)) []
   seen_at k = ap (λ o. unwrap_or o []) (get-by_node k) ∙ chosen (keys_at edges (list_of links k.index)) [] (map.get nodes k)
 
-  pub at_node : (k : Key) → map.contains_key nodes k ≡ true → edges_at (by_node nodes edges links) k ≡ keys_at edges (list_of links k.index)
+  at_node : (k : Key) → map.contains_key nodes k ≡ true → edges_at (by_node nodes edges links) k ≡ keys_at edges (list_of links k.index)
   at_node k live = seen_at k ∙ ap (λ b. cond b (keys_at edges (list_of links k.index)) []) live
 
   pub at_none : (k : Key) → map.contains_key nodes k ≡ false → edges_at (by_node nodes edges links) k ≡ []
@@ -97,7 +97,7 @@ module _ {N E : Type 0} (end : SeenEdge E → Key) (nodes : Content N) (edges : 
           let l = t.live p i (let sum = ap (often i) at ∙ often_first i i is in let one = number_itself i in omega arith) in
           none l.0 l.1 l.2 l.4)
 
-  pub empty_at_zero : list_of links 0 ≡ []
+  empty_at_zero : list_of links 0 ≡ []
   empty_at_zero = empty_at 0 (λ x e there at. (let low = (t.node_indices.within (end e) (t.ends x e there)).0 in omega arith))
 
   -- the list at the index of a node, or at 0
@@ -201,7 +201,7 @@ module _ {N E : Type 0} (end : SeenEdge E → Key) (nodes : Content N) (edges : 
         by None is some = absurd (cc)
         by (Some d) is some = ap is_some (source x d is).1
 
-    pub same_keys_at : HaveIndices edges' → (p : ℕ) → keys_at edges'.live (list_of links' p) ≡ keys_at edges.live (list_of links p)
+    same_keys_at : HaveIndices edges' → (p : ℕ) → keys_at edges'.live (list_of links' p) ≡ keys_at edges.live (list_of links p)
     same_keys_at indices p = ap (keys_at edges'.live) (same_lists p) ∙ keys_same edges t.edge_indices edges' indices (list_of links p) (indices_at p) (λ k live _. still k live)
 
     pub threaded_along : HaveIndices nodes' → HaveIndices edges' → nodes'.capacity < length links'.lists → edges'.capacity < links'.members → AreDisjoint links'
@@ -318,7 +318,7 @@ module _ {N E : Type 0} (end : SeenEdge E → Key) (nodes : Content N) (edges : 
         let apart : x ≢ k = λ at. (let f = ap (λ m. map.get m x) is in let gone : map.get (map.remove edges.live k) k ≡ None = grind (arith, keys) in let g = ap (map.get (map.remove edges.live k)) at in cc) in
         (apart, sym (left_others x apart) ∙ found)
 
-    pub left_indices : HaveIndices new
+    left_indices : HaveIndices new
     left_indices = record {
       within = λ x live. (let within = t.edge_indices.within x (were x live) in (within.0, omega (arith, within.1, capacity)));
       apart = λ a b of_a of_b. t.edge_indices.apart a b (were a of_a) (were b of_b);

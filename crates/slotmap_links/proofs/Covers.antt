@@ -51,10 +51,10 @@ module _ (ends : List Ends) (links : List Link) (kept : AreKept ends links) (n :
   abbrev more_ends : List Ends
   more_ends = ends ++ replicate (n - length ends) no_ends
 
-  pub kept_owners : AreKept more_ends links
+  kept_owners : AreKept more_ends links
   kept_owners = kept_along ends more_ends links links (λ q. ap bounds (read_padded ends (n - length ends) q no_ends)) (λ q. refl) kept (omega arith) kept.few
 
-  pub seen_owners_more : lists_by more_ends links ≡ with_owners (lists_by ends links) n
+  seen_owners_more : lists_by more_ends links ≡ with_owners (lists_by ends links) n
   seen_owners_more = λ i. record {
     lists = (map-append (λ e. followed (link_at links) (bounds e)) ends (replicate (n - length ends) no_ends)
         ∙ ap (λ l. (lists_by ends links).lists ++ l) (map_replicate (λ e. followed (link_at links) (bounds e)) (n - length ends) no_ends)
@@ -69,10 +69,10 @@ module _ (ends : List Ends) (links : List Link) (kept : AreKept ends links) (n :
     long : length more_links ≡ max (length links) n
     long = let a = length-append links (replicate (n - length links) no_link) in let b = length-replicate (n - length links) no_link in omega arith
 
-    pub kept_members : AreKept ends more_links
+    kept_members : AreKept ends more_links
     kept_members = kept_along ends ends links more_links (λ q. refl) (λ q. ap neighbours (read_padded links (n - length links) q no_link)) kept (let l = long in omega arith) (let l = long in let f = kept.few in omega arith)
 
-    pub seen_members_more : lists_by ends more_links ≡ with_members (lists_by ends links) n
+    seen_members_more : lists_by ends more_links ≡ with_members (lists_by ends links) n
     seen_members_more = λ i. record {
       lists = list_map (λ e. followed (λ q. neighbours (read_padded links (n - length links) q no_link i)) (bounds e)) ends;
       members = long i;

@@ -1,12 +1,12 @@
-pub mod Begins
+mod Begins
 pub mod Callers
 pub mod Changes
 pub mod Counts
-pub mod Covers
-pub mod KeptLists
+mod Covers
+mod KeptLists
 pub mod Linking
-pub mod Relisting
+mod Relisting
 pub mod SeenLists
-pub mod Segments
-pub mod Splicing
-pub mod Written
+mod Segments
+mod Splicing
+mod Written

@@ -23,7 +23,7 @@ module _ (lists : ℕ → List ℕ) (apart : AreApart lists) (p k : ℕ) (ks : L
         (let b = ap (times x) (others q other) in omega arith)
   ]
 
-  pub apart_now : AreApart lists'
+  apart_now : AreApart lists'
   apart_now = record {
     once = λ q x. (elim (same_or_other q p) [
       | inl is ↦ (let a = ap (λ q. times x (lists' q)) is ∙ ap (times x) here in elim (same_or_other x k) [
@@ -44,7 +44,7 @@ module _ (lists : ℕ → List ℕ) (apart : AreApart lists) (p k : ℕ) (ks : L
     ]);
   }
 
-  pub within_now : (n : ℕ) → k < n → ((q x : ℕ) → 0 < times x (lists q) → x < n) → (q x : ℕ) → 0 < times x (lists' q) → x < n
+  within_now : (n : ℕ) → k < n → ((q x : ℕ) → 0 < times x (lists q) → x < n) → (q x : ℕ) → 0 < times x (lists' q) → x < n
   within_now n below within q x more = elim (same_or_other q p) [
     | inl is ↦ (let a = ap (λ q. times x (lists' q)) is ∙ ap (times x) here in elim (same_or_other x k) [
       | inl e ↦ omega arith

@@ -107,14 +107,6 @@ module _ (link : ℕ → Neighbours) (most : ℕ) (first : Option ℕ) (t : IsTa
   pub tail_is : follow link most first ≡ t.ahead
   tail_is = ap (follow link most) t.first_is ∙ follow_tail most t.before t.ahead t.links_are t.few
 
-  -- at its end nothing is left
-  pub tail_end : first ≡ None → follow link most first ≡ []
-  tail_end none = by t.ahead refl
-    where
-      by : (ks : List ℕ) → t.ahead ≡ ks → follow link most first ≡ []
-      by [] is = tail_is ∙ is
-      by (k ∷ ks) is = absurd (let h = sym none ∙ t.first_is ∙ ap (λ l. first_or l None) is in cc)
-
   -- before that, one number and the rest
   pub tail_front : (k : ℕ) → first ≡ Some k → IsTail link most (link k).next × (follow link most first ≡ k ∷ follow link most (link k).next)
   tail_front k some = by t.ahead refl

@@ -95,14 +95,3 @@ linked_self linked = record {
 module _ {ends ends' : ℕ → Bounds} {link link' : ℕ → Neighbours} (same_ends : (q : ℕ) → ends' q ≡ ends q) (same_links : (q : ℕ) → link' q ≡ link q) where
   pub linked_along : AreLinked ends link (λ p. followed link (ends p)) → AreLinked ends' link' (λ p. followed link' (ends' p))
   linked_along = subst (λ (x : (ℕ → Bounds) × (ℕ → Neighbours)). AreLinked x.0 x.1 (λ p. followed x.1 (x.0 p))) (λ i. ((λ q. sym (same_ends q) i), (λ q. sym (same_links q) i)))
-
-  pub followed_along : (p : ℕ) → followed link' (ends' p) ≡ followed link (ends p)
-  followed_along p = λ i. followed (λ q. same_links q i) (same_ends p i)
-
--- the link of a number that is in no list may be any
-pub linked_but : {ends : ℕ → Bounds} {link link' : ℕ → Neighbours} {lists : ℕ → List ℕ} → AreLinked ends link lists → (k : ℕ) → ((p : ℕ) → times k (lists p) ≡ 0)
-    → ((q : ℕ) → q ≢ k → link' q ≡ link q) → AreLinked ends link' lists
-linked_but linked k none same = record {
-  ends_are = linked.ends_are;
-  links_are = λ p before x after is. same x (λ e. (let there = ap (times x) is ∙ in_midst before x after in let gone = rw (← e) at (none p) in absurd (omega arith))) ∙ linked.links_are p before x after is;
-}

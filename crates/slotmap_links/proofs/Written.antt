@@ -12,7 +12,7 @@ use Rattle.slotmap_links.proofs.Linking.{first_in, last_in, split_at, without_sp
 use Rattle.slotmap_links.proofs.Relisting.{relists_put, relists_taken}
 
 -- what holds of each number that an option has
-pub if_some : (o : Option ℕ) (P : ℕ → Type 0) → ((k : ℕ) → o ≡ Some k → P k) → IfSome o P
+if_some : (o : Option ℕ) (P : ℕ → Type 0) → ((k : ℕ) → o ≡ Some k → P k) → IfSome o P
 if_some None P all = tt
 if_some (Some k) P all = all k refl
 
@@ -43,10 +43,10 @@ module _ (e mid end : ℕ → Bounds) (p : ℕ) (prev next first last : Option �
   mid_here : mid p ≡ record (e p) { first = own prev (e p).first first }
   mid_here = one p ∙ ap (λ b. cond b (record (e p) { first = own prev (e p).first first }) (e p)) (is_itself p)
 
-  pub end_here : end p ≡ record { first = own prev (e p).first first; last = own next (e p).last last; len = (e p).len }
+  end_here : end p ≡ record { first = own prev (e p).first first; last = own next (e p).last last; len = (e p).len }
   end_here = two p ∙ ap (λ b. cond b (record (mid p) { last = own next (mid p).last last }) (mid p)) (is_itself p) ∙ ap (λ (m : Bounds). record m { last = own next m.last last }) mid_here
 
-  pub end_there : (q : ℕ) → q ≢ p → end q ≡ e q
+  end_there : (q : ℕ) → q ≢ p → end q ≡ e q
   end_there q other = two q ∙ ap (λ b. cond b (record (mid q) { last = own next (mid q).last last }) (mid q)) (is_other q p other)
       ∙ one q ∙ ap (λ b. cond b (record (e q) { first = own prev (e q).first first }) (e q)) (is_other q p other)
 

@@ -45,7 +45,7 @@ module _ {T : Type 0} where
   values-append [] ys = refl
   values-append (x ∷ xs) ys = ap (λ l. x.1 ∷ l) (values-append xs ys)
 
-  pub Adds-start : (es : List (Key × T)) → Adds es [] es
+  Adds-start : (es : List (Key × T)) → Adds es [] es
   Adds-start es = record { added = []; behind = sym (append-nil es); values_are = refl }
 
   pub Adds-push : (old mid new : List (Key × T)) (vs : List T) (k : Key) (v : T) → Adds old vs mid → new ≡ mid ++ (k, v) ∷ [] → Adds old (vs ++ v ∷ []) new

@@ -10,7 +10,7 @@ use Rattle.slotmap_list.proofs.Adding.{stands_or_first}
 
 module _ {T : Type 0} where
   -- a list whose first element was taken out, and then the others
-  pub emptied_then : (old mid : Sequence T) (k : Key) (v : T) → old.elements ≡ (k, v) ∷ mid.elements → IsSpent mid.cursors k → KeepsSpent old.cursors mid.cursors
+  emptied_then : (old mid : Sequence T) (k : Key) (v : T) → old.elements ≡ (k, v) ∷ mid.elements → IsSpent mid.cursors k → KeepsSpent old.cursors mid.cursors
       → Leaves old.cursors mid.cursors → mid.cursors.capacity ≡ old.cursors.capacity → (end : Sequence T) → EmptiesList mid end → EmptiesList old end
   emptied_then old mid k v takes spent keeps leaves capacity end empties = record {
     empty = empties.empty;

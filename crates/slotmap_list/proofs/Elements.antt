@@ -10,7 +10,7 @@ abbrev pub same : Key → Key → Bool
 same q k = eq_by_cmp key_cmp q k
 
 -- by whether two keys are one
-pub by_key : (P : Bool → Type 0) (q k : Key) → (q ≡ k → P true) → (q ≢ k → same q k ≡ false → P false) → P (same q k)
+by_key : (P : Bool → Type 0) (q k : Key) → (q ≡ k → P true) → (q ≢ k → same q k ≡ false → P false) → P (same q k)
 by_key P q k here there = elim (same q k) as (λ b. same q k ≡ b → P b) [ true ↦ λ t. here (tied keys_total exact_keys q k t) | false ↦ λ t. there (untied keys_total exact_keys q k t) t ] refl
 
 pub other_key : (q k : Key) → q ≢ k → same q k ≡ false

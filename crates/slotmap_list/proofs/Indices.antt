@@ -136,7 +136,7 @@ module _ {T : Type 0} (c : Content T) where
 pub in_first : (i : ℕ) (is : List ℕ) → 0 < times i (i ∷ is)
 in_first i is = let first = times_first i i is in let one = one_itself i in omega arith
 
-pub in_rest : (i q : ℕ) (is : List ℕ) → 0 < times q is → 0 < times q (i ∷ is)
+in_rest : (i q : ℕ) (is : List ℕ) → 0 < times q is → 0 < times q (i ∷ is)
 in_rest i q is more = let first = times_first q i is in omega arith
 
 module _ {T : Type 0} {m : map.FinMap key_cmp T} where

@@ -1,17 +1,17 @@
-pub mod Adding
+mod Adding
 pub mod Callers
-pub mod Draining
-pub mod Elements
-pub mod Ends
-pub mod Indices
-pub mod Keeping
-pub mod Keeps
+mod Draining
+mod Elements
+mod Ends
+mod Indices
+mod Keeping
+mod Keeps
 pub mod Looks
-pub mod Moved
-pub mod Moving
-pub mod Parts
-pub mod Pops
-pub mod Results
-pub mod Seen
-pub mod Swapping
+mod Moved
+mod Moving
+mod Parts
+mod Pops
+mod Results
+mod Seen
+mod Swapping
 pub mod Visiting

@@ -37,7 +37,7 @@ module _ {T : Type 0} (m : map.FinMap key_cmp T) where
   value_none k (i ∷ is) none = none_by k i is (at_index m i) refl none (value_none k is none)
 
   -- one that has an element is live, and its index is in the list
-  pub value_in : (k : Key) (is : List ℕ) → is_some (value_of k (elements_at m is)) ≡ true → (is_some (map.get m k) ≡ true) × (0 < times k.index is)
+  value_in : (k : Key) (is : List ℕ) → is_some (value_of k (elements_at m is)) ≡ true → (is_some (map.get m k) ≡ true) × (0 < times k.index is)
   value_in k is some = (by (map.get m k) refl, (let often = as_often m k is in let more = times_some k (elements_at m is) some in omega arith))
     where
       by : (o : Option T) → map.get m k ≡ o → is_some o ≡ true
