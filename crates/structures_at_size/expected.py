@@ -66,6 +66,7 @@ def list_part(size):
         number = size + turn
         order.insert(at + 1 if number % 2 == 0 else at, number)
     tell("inserted", order)
+    tell("by steps", order[1:] + order[-2::-1])
     moves = []
     for turn in range(turns):
         one, other = random.pick(cursors), random.pick(cursors)
@@ -170,17 +171,23 @@ def graph_part(size):
         graph.add_edge(hub, node, node)
     tell("built", graph.seen(nodes))
     tell("edges", [number for edge in graph.edges.values() for number in edge])
+    tell("nodes", graph.value.values())
 
+    for edge in graph.out[hub]:
+        graph.edges[edge][2] += 1
     for node in hub, nodes[-1]:
         tell("neighbours", graph.ends_of(node))
         tell("beside", graph.ends_of(node) + [graph.edges[edge][0] for edge in graph.into[node]])
+        edges = [graph.edges[edge] for edge in [*graph.out[node], *graph.into[node]]]
+        tell("along", [value for _, _, value in edges])
+        tell("with ends", [number for edge in edges for number in edge])
         tell("reachable", graph.reachable(node))
     # A path leads through all nodes, so that they have one order.
     order = range(size, -1, -1)
     tell("in order", order)
     tell("in a cycle", [size, 1])
     tell("in order", order)
-    tell("found", [random.pick(nodes) for _ in range(10)])
+    tell("found", [random.pick(nodes) + 1 for _ in range(10)])
 
     graph.next_edge += 1
     edges = list(graph.edges)

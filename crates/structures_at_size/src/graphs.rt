@@ -107,15 +107,66 @@ fn sum_beside(graph: &Numbers, node: NodeKey) -> Sum {
     sum
 }
 
-// Each edge: the numbers of its ends, and its own.
+// An edge: the numbers of its ends, and its own.
+fn add_edge_of(graph: &Numbers, from: NodeKey, to: NodeKey, value: u64, sum: &mut Sum) {
+    sum.add(number_of(graph, from));
+    sum.add(number_of(graph, to));
+    sum.add(value);
+}
+
+// Each edge.
 fn sum_of_edges(graph: &Numbers) -> Sum {
     let mut sum = Sum::new();
     for (_, from, to, value) in graph.edge_references() {
-        sum.add(number_of(graph, from));
-        sum.add(number_of(graph, to));
-        sum.add(*value);
+        add_edge_of(graph, from, to, *value, &mut sum);
     }
     sum
+}
+
+// Each edge from a node, and each edge to it.
+fn sum_of_edges_at(graph: &Numbers, node: NodeKey) -> Sum {
+    let mut sum = Sum::new();
+    for (_, from, to, value) in graph.edge_references_from(node) {
+        add_edge_of(graph, from, to, *value, &mut sum);
+    }
+    for (_, from, to, value) in graph.edge_references_to(node) {
+        add_edge_of(graph, from, to, *value, &mut sum);
+    }
+    sum
+}
+
+// The number of each node.
+fn sum_of_all_nodes(graph: &Numbers) -> Sum {
+    let mut sum = Sum::new();
+    for (_, number) in graph.node_references() {
+        sum.add(*number);
+    }
+    sum
+}
+
+// The numbers of the edges from a node and to it, one after the other.
+fn sum_along(graph: &Numbers, node: NodeKey) -> Sum {
+    let mut sum = Sum::new();
+    let mut edge = graph.first_from(node).unwrap_or_default();
+    for _ in 0..graph.out_degree(node) {
+        sum.add_found(graph.edge(edge));
+        edge = graph.next_from(edge).unwrap_or_default();
+    }
+    let mut edge = graph.first_to(node).unwrap_or_default();
+    for _ in 0..graph.in_degree(node) {
+        sum.add_found(graph.edge(edge));
+        edge = graph.next_to(edge).unwrap_or_default();
+    }
+    sum
+}
+
+// Adds 1 to the number of each edge from a node.
+fn write_along(graph: &mut Numbers, node: NodeKey) {
+    let mut edge = graph.first_from(node).unwrap_or_default();
+    for _ in 0..graph.out_degree(node) {
+        increment(graph.edge_mut(edge));
+        edge = graph.next_from(edge).unwrap_or_default();
+    }
 }
 
 // Prints the numbers of nodes in their order, and returns whether there were some and it did.
@@ -135,6 +186,8 @@ fn tell_nodes<E: Drop>(
 fn search(rt: &HostRuntime, graph: &Numbers, node: NodeKey) -> bool {
     tell_nodes(rt, "neighbours", graph, graph.neighbours(rt.alloc(), node))
         && tell(rt, "beside", sum_beside(graph, node))
+        && tell(rt, "along", sum_along(graph, node))
+        && tell(rt, "with ends", sum_of_edges_at(graph, node))
         && tell_nodes(rt, "reachable", graph, graph.reachable(rt.alloc(), node))
 }
 
@@ -250,6 +303,7 @@ fn look(
     random: &mut Random,
     hub: NodeKey,
 ) -> bool {
+    write_along(graph, hub);
     search(rt, graph, hub)
         && search(rt, graph, last_of(nodes))
         && sort(rt, graph)
@@ -326,6 +380,7 @@ fn run_with_hub(
     add_spokes(graph, hub, nodes)
         && tell(rt, "built", sum_of(graph, nodes))
         && tell(rt, "edges", sum_of_edges(graph))
+        && tell(rt, "nodes", sum_of_all_nodes(graph))
         && look(rt, graph, nodes, random, hub)
         && change_all(rt, graph, nodes, random)
         && copy(rt, graph, nodes, hub)

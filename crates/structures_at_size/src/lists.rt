@@ -29,6 +29,25 @@ fn sum_from_back(list: &Numbers) -> Sum {
     sum
 }
 
+// The numbers behind the first one, and those before the last one, each by a step from the one beside it.
+fn sum_by_steps(list: &Numbers) -> Sum {
+    let mut sum = Sum::new();
+    let mut at = list.first().unwrap_or_default();
+    for _ in 0..list.len() {
+        if let Some((next, value)) = list.next_element(at) {
+            sum.add(*value);
+            at = next;
+        }
+    }
+    for _ in 0..list.len() {
+        if let Some((prev, value)) = list.prev_element(at) {
+            sum.add(*value);
+            at = prev;
+        }
+    }
+    sum
+}
+
 // Adds a number at the back if it is even, and else at the front.
 fn push(list: &mut Numbers, cursors: &mut Vec<Cursor>, value: u64) -> bool {
     match value % 2 {
@@ -227,6 +246,7 @@ fn insert_and_move(
     let turns = size.min(1000);
     let moved = insert_all(list, cursors, random, size, turns)
         && tell(rt, "inserted", sum_of(list))
+        && tell(rt, "by steps", sum_by_steps(list))
         && tell(rt, "moves", move_beside(list, cursors, random, turns));
     write_all(list, cursors);
     moved && tell(rt, "moved and written", sum_of(list))
