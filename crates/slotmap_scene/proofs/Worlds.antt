@@ -60,6 +60,16 @@ module _ {T : Type 0} (nodes : Nodes T) where
   pub world_root : (under : T → T → T) (k : Key) (node : Node T) → map.get nodes k ≡ Some node → node.parent ≡ None → IsWorld under nodes k node.value
   world_root under k node there top = record { own = node.value; above = []; path = root_path k node there top; made = refl }
 
+  -- any other node is where its own value says, under its parent
+  pub world_child : (under : T → T → T) (k p : Key) (node : Node T) (w : T) → map.get nodes k ≡ Some node → node.parent ≡ Some p
+      → IsWorld under nodes p w → IsWorld under nodes k (under node.value w)
+  world_child under k p node w there up world = record {
+    own = node.value;
+    above = world.own ∷ world.above;
+    path = child_path k p node there up (world.own ∷ world.above) world.path;
+    made = ap (under node.value) world.made;
+  }
+
   -- what `world` returns, where it is known by these two
   pub world_is : (under : T → T → T) (k : Key) (w : T) (result : Option T) → IsWorld under nodes k w
       → IfSome result (IsWorld under nodes k) → IfNone result (lacks_node nodes k) → result ≡ Some w

@@ -1,5 +1,5 @@
-pub mod Appending
-pub mod Lines
-pub mod Numerals
-pub mod Printing
-pub mod ShownRuns
+mod Appending
+mod Lines
+mod Numerals
+mod Printing
+mod ShownRuns
