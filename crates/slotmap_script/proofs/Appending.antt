@@ -1,7 +1,8 @@
 -- One write after another, and lists of texts with a byte between each two.
-use Rattle.std.proofs.Common.{◌≡◌, ◌+◌, ◌<◌, ◌≤◌, ℕ, List, [], ◌∷◌, ◌++◌, Option, Some, None, length, take, map, get_or, append_assoc, ap, subst, sym, ◌∙◌, refl, arith, rules}
-use Rattle.std.specs.Io.KnownBytes.{Appends}
+use Rattle.std.proofs.Common.{◌≡◌, ◌+◌, ◌<◌, ◌≤◌, ℕ, List, [], ◌∷◌, ◌++◌, Option, Some, None, length, take, map, get_or, append_assoc, ap, sym, ◌∙◌, refl, arith}
+use Rattle.std.specs.Io.KnownBytes.{Appends, Keeps}
 use Rattle.std.specs.List.{join_with_byte}
+use Rattle.slotmap_script.proofs.Lines.{append_nil}
 use Rattle.std.proofs.lemmas.List.{map_more, length-take-le, length-map}
 
 -- what two writes append
@@ -10,6 +11,18 @@ Appends-trans None mid new first second h k = tt
 Appends-trans (Some xs) None new first second h k = absurd h
 Appends-trans (Some xs) (Some ys) None first second h k = absurd k
 Appends-trans (Some xs) (Some ys) (Some zs) first second h k = k ∙ ap (λ t. t ++ second) h ∙ append_assoc xs first second
+
+-- nothing is appended where nothing was written
+pub Appends-none : (old : Option (List ℕ)) → Appends old old []
+Appends-none None = tt
+Appends-none (Some xs) = sym (append_nil xs)
+
+-- what stays known after a write
+pub Appends-kept : (old mid new : Option (List ℕ)) (text : List ℕ) → Appends old mid text → Keeps mid new → Appends old new text
+Appends-kept None mid new text h k = tt
+Appends-kept (Some xs) None new text h k = absurd h
+Appends-kept (Some xs) (Some ys) None text h k = absurd k
+Appends-kept (Some xs) (Some ys) (Some zs) text h k = k ∙ h
 
 join_push : (c : ℕ) (xs : List (List ℕ)) (y : List ℕ) → 0 < length xs → join_with_byte c (xs ++ y ∷ []) ≡ join_with_byte c xs ++ (c ∷ y)
 join_push c [] y h = absurd (omega arith)

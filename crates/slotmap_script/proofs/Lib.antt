@@ -1,4 +1,5 @@
 mod Appending
+mod Ending
 mod Lines
 mod Numerals
 mod Printing

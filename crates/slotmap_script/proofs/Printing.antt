@@ -1,5 +1,5 @@
 -- One reply more, and one stretch more.
-use Rattle.std.proofs.Common.{◌≡◌, ℤ, ℕ, Bool, List, [], ◌∷◌, ◌++◌, map, append_assoc, ap, subst, sym, ◌∙◌, refl}
+use Rattle.std.proofs.Common.{◌≡◌, ℤ, ℕ, List, [], ◌∷◌, ◌++◌, Option, map, append_assoc, ap, subst, sym, ◌∙◌, refl}
 use Rattle.slotmap_core.proofs.Common.{Key}
 use Rattle.slotmap_core.specs.declared.commands.Reply.{Reply}
 use Rattle.slotmap_core.specs.declared.errors.OutOfMemory.{OutOfMemory}
@@ -7,7 +7,13 @@ use Rattle.slotmap_script.specs.ReplyText.{IsReplyText}
 use Rattle.std.proofs.lemmas.List.{map-append}
 use Rattle.slotmap_script.specs.ScriptText.{Ending, stretch_of}
 use Rattle.slotmap_script.specs.declared.script.Stretch.{Stretch}
-use Rattle.slotmap_script.specs.Printed.{SlotLists, PrintsReplies, PrintsStretch, Prints}
+use Rattle.slotmap_script.specs.declared.stop.Stop.{Stop}
+use Rattle.slotmap_script.specs.declared.stop.Stop.TheVariants as stop
+use Rattle.std.specs.Io.KnownBytes.{Appends}
+use Rattle.std.specs.Iterator.{Yields}
+use Rattle.std.specs.Vec.Iter.{into_iter_items, into_iter_steps}
+use Rattle.std.specs.declared.vec.IntoIter.{IntoIter}
+use Rattle.slotmap_script.specs.Printed.{SlotLists, PrintsReplies, PrintsStretch, Prints, StopsStretches, StopsStretch}
 use Rattle.slotmap_script.proofs.Lines.{append_nil}
 
 pub reply_more : (replies : List (Reply Key ℤ ℤ OutOfMemory)) (text : List ℕ) (reply : Reply Key ℤ ℤ OutOfMemory) (more : List ℕ) → PrintsReplies replies text → IsReplyText reply more
@@ -28,3 +34,26 @@ module _ {C M : Type 0} (Answers : M → List C → List (Reply Key ℤ ℤ OutO
       → PrintsStretch Answers lists (stretch_of stretch) mid more new → Prints Answers lists (map stretch_of (stretches ++ stretch ∷ [])) old (text ++ more) new
   stretch_more_of stretches old mid new text more stretch h one =
       rw (map-append stretch_of stretches (stretch ∷ [])) (stretch_more (map stretch_of stretches) old mid new text more (stretch_of stretch) h one)
+
+  -- the stretches before the one that stops
+  pub stops_after : (stretches before left : List (Stretch C)) → stretches ≡ before ++ left → (begun last : M) (text : List ℕ) → Prints Answers lists (map stretch_of before) begun text last
+      → (old now new : Option (List ℕ)) → Appends old now text → (why : Stop) → StopsStretch (new ≡ now) why
+      → StopsStretches Answers lists (map stretch_of stretches) begun (Appends old new) why
+  stops_after stretches before left parts begun last text prints old now new written stop.NoScript same =
+      let cut : map stretch_of stretches ≡ map stretch_of before ++ map stretch_of left = ap (map stretch_of) parts ∙ map-append stretch_of before left in
+      (text, (map stretch_of before, map stretch_of left, last, cut, prints), rw same written)
+  stops_after stretches before left parts begun last text prints old now new written stop.Output same = tt
+  stops_after stretches before left parts begun last text prints old now new written stop.Usage same = absurd same
+  stops_after stretches before left parts begun last text prints old now new written (stop.BadLine number) same = absurd same
+
+-- what a loop over a vector took, and what is left
+pub taken_and_left : {X Z : Type 0} (all left : IntoIter X Z) (taken : List X) → Yields (into_iter_steps {X = X} {Z = Z}) all taken left → into_iter_items all ≡ taken ++ into_iter_items left
+taken_and_left all left [] run = ap into_iter_items run
+taken_and_left all left (x ∷ taken) run = run.1.0 ∙ ap (λ xs. x ∷ xs) (taken_and_left run.0 left taken run.2)
+
+-- what stops one stretch, told of what the writer holds
+pub stops_with : {W : Type 0} (contents : W → Option (List ℕ)) (now new : W) (why : Stop) → StopsStretch (new ≡ now) why → StopsStretch (contents new ≡ contents now) why
+stops_with contents now new stop.NoScript same = ap contents same
+stops_with contents now new stop.Output same = tt
+stops_with contents now new stop.Usage same = same
+stops_with contents now new (stop.BadLine number) same = same

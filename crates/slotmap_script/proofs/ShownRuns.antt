@@ -1,5 +1,5 @@
 -- Runs whose look-ups show the values themselves.
-use Rattle.std.proofs.Common.{◌≡◌, ℤ, Bool, List, Result, Ok, Err, Option, Some, None, IfOk, arith}
+use Rattle.std.proofs.Common.{◌≡◌, ℤ, List, Result, Ok, Err, Option, IfOk, arith}
 use Rattle.std.specs.Prelude.{IfSome}
 use Rattle.std.specs.Result.{result_ok}
 use Rattle.slotmap_core.proofs.Common.{Key, Content, State, RunGiven, Step, DetachStep, RunFollows}

@@ -1,10 +1,9 @@
 -- Which words are which commands.
-use Rattle.std.specs.Prelude.{◌≡◌, ◌<◌, refl, ℤ, pos, neg_ℤ, ℕ, ◌+◌, ◌%◌, ◌/◌, ◌^◌, Bool, ◌&&◌, List, [], ◌∷◌, length, drop, codes, if◌then◌else◌, nat_lt, nat_le, Option, Some, None, option_map}
+use Rattle.std.specs.Prelude.{◌≡◌, ◌<◌, refl, ℤ, pos, neg_ℤ, ℕ, ◌+◌, ◌%◌, ◌/◌, ◌^◌, Bool, ◌&&◌, List, [], ◌∷◌, length, drop, codes, if◌then◌else◌, nat_lt, Option, Some, None, option_map}
 use Rattle.std.proofs.Common.{arith}
 use Prim.Native.String.{String}
 use Rattle.std.specs.Str.{all_ascii_digits, bytes_eq}
 use Rattle.std.specs.Str.Parse.{digits_value, starts_with_minus}
-use Rattle.std.specs.List.{slice_split}
 use Rattle.slotmap_core.specs.Words.{Key, key_from}
 use Rattle.slotmap_core.specs.declared.commands.Command.{Command}
 use Rattle.slotmap_core.specs.declared.commands.Command.TheVariants as command

@@ -1,6 +1,9 @@
 pub mod Answered
 pub mod CommandText
+pub mod Ended
+pub mod Kinds
 pub mod ListText
 pub mod Printed
 pub mod ReplyText
 pub mod ScriptText
+pub mod StopText

@@ -1,5 +1,5 @@
 -- The text of a list of slots, and of the reasons why a list isn't read.
-use Rattle.std.specs.Prelude.{◌≡◌, ℤ, ℕ, List, [], ◌∷◌, ◌++◌, codes, map, Option, Some, None}
+use Rattle.std.specs.Prelude.{ℤ, ℕ, List, ◌++◌, codes, map, Option, Some, None}
 use Rattle.std.specs.Fmt.{decimal, signed_decimal}
 use Rattle.std.specs.List.{join_with_byte}
 use Rattle.slotmap_core.specs.declared.serial.SlotRecord.{SlotRecord}

@@ -10,6 +10,8 @@ use Rattle.slotmap_script.specs.ListText.{slots_text, refusal_text}
 use Rattle.slotmap_script.specs.ScriptText.{Ending, prints_slots, loads, ends_script}
 use Rattle.slotmap_script.specs.declared.list.LoadError.{LoadError}
 use Rattle.slotmap_script.specs.declared.list.LoadError.TheVariants as load
+use Rattle.slotmap_script.specs.declared.stop.Stop.{Stop}
+use Rattle.slotmap_script.specs.declared.stop.Stop.TheVariants as stop
 
 -- what a kind of map does: the lists of slots that a map may be written as, the map that a list may be read as, and why a list isn't read
 pub record SlotLists (M : Type 0) : Type 1 where
@@ -61,3 +63,19 @@ module _ {C M : Type 0} (Answers : M → List C → List (Reply Key ℤ ℤ OutO
   Prints [] old text new = (new ≡ old) × (text ≡ [])
   Prints (stretch ∷ stretches) old text new =
       (mid : M) × (first rest : List ℕ) × PrintsStretch stretch old first mid × Prints stretches mid rest new × (text ≡ first ++ rest)
+
+  -- the first of these stretches print this text, and there is no memory for the replies of the next
+  abbrev pub PrintsFirst : List (List C × Ending) → M → List ℕ → Type 0
+  PrintsFirst stretches old text = (first rest : List (List C × Ending)) × (last : M) × (stretches ≡ first ++ rest) × Prints first old text last
+
+  -- why the run of these stretches stops, and what it printed; what a failed write leaves isn't known
+  abbrev pub StopsStretches : List (List C × Ending) → M → (List ℕ → Type 0) → Stop → Type 0
+  StopsStretches stretches old Printed stop.NoScript = (text : List ℕ) × PrintsFirst stretches old text × Printed text
+  StopsStretches stretches old Printed stop.Output = ⊤
+  StopsStretches stretches old Printed _ = ⊥
+
+-- why a stretch stops: there is no memory for its replies, and then this holds; or they can't be written
+abbrev pub StopsStretch : Type 0 → Stop → Type 0
+StopsStretch Unwritten stop.NoScript = Unwritten
+StopsStretch Unwritten stop.Output = ⊤
+StopsStretch Unwritten _ = ⊥

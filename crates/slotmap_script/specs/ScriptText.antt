@@ -1,5 +1,5 @@
 -- What the lines of a script say.
-use Rattle.std.specs.Prelude.{◌≡◌, ℕ, ◌+◌, List, [], ◌∷◌, ◌++◌, length, drop, map, codes, if◌then◌else◌, nat_eq, not, ◌==◌, Option, Some, None, option_map, ⊤}
+use Rattle.std.specs.Prelude.{◌≡◌, ℕ, ◌+◌, List, [], ◌∷◌, ◌++◌, length, drop, map, codes, if◌then◌else◌, nat_eq, ◌==◌, Option, Some, None, option_map, ⊤}
 use Rattle.std.specs.List.{slice_split, onto_first, starts_with}
 use Rattle.std.specs.Str.{is_utf8}
 use Rattle.slotmap_script.specs.CommandText.{says}

@@ -1,10 +1,10 @@
 //! Maps written as the JSON text of their list of slots, and read from it.
 
-ghost use Rattle.std.specs.Prelude.{◌≡◌, ℕ, ℤ, List, OnOk, IfOk, IfErr, ⊤, true, false};
+ghost use Rattle.std.specs.Prelude.{◌≡◌, ℕ, ℤ, List, OnOk, IfOk, IfErr, ⊤};
 ghost use Rattle.std.specs.Io.KnownBytes.{Appends};
-ghost use Rattle.slotmap_core.specs.Words.{Writes, ReadsAs, Accepts, RefusesStart, list_limit};
 ghost use Rattle.slotmap_core.specs.declared.serial.SlotRecord.{SlotRecord};
 ghost use Rattle.slotmap_script.specs.Printed.{SlotLists, PrintsSlots, Loads, IsReason};
+ghost use Rattle.slotmap_script.specs.Kinds.{basic_lists, dense_lists, hop_lists};
 ghost use Rattle.slotmap_script.specs.ListText.{slot_text, slots_text, refusal_text};
 
 use serde::{Deserialize, Deserializer, Format};
@@ -36,11 +36,7 @@ pub trait Listed: Sized {
 }
 
 impl Listed for SlotMap<DefaultKey, i32> {
-    ghost lists = { record {
-      writes = λ map slots. Writes map slots;
-      reads = λ slots made. Accepts slots list_limit × ReadsAs true slots made;
-      refuses = λ slots error. RefusesStart slots list_limit error;
-    } };
+    ghost lists = { basic_lists };
 
     fn to_slots(&self) -> Result<Vec<SlotRecord<i32>>, OutOfMemory> {
         SlotMap::to_slots(self)
@@ -52,11 +48,7 @@ impl Listed for SlotMap<DefaultKey, i32> {
 }
 
 impl Listed for DenseSlotMap<DefaultKey, i32> {
-    ghost lists = { record {
-      writes = λ map slots. Writes map.content slots;
-      reads = λ slots made. Accepts slots list_limit × ReadsAs false slots made.content;
-      refuses = λ slots error. RefusesStart slots list_limit error;
-    } };
+    ghost lists = { dense_lists };
 
     fn to_slots(&self) -> Result<Vec<SlotRecord<i32>>, OutOfMemory> {
         DenseSlotMap::to_slots(self)
@@ -68,11 +60,7 @@ impl Listed for DenseSlotMap<DefaultKey, i32> {
 }
 
 impl Listed for HopSlotMap<DefaultKey, i32> {
-    ghost lists = { record {
-      writes = λ map slots. Writes map.content slots;
-      reads = λ slots made. Accepts slots list_limit × ReadsAs true slots made.content;
-      refuses = λ slots error. RefusesStart slots list_limit error;
-    } };
+    ghost lists = { hop_lists };
 
     fn to_slots(&self) -> Result<Vec<SlotRecord<i32>>, OutOfMemory> {
         HopSlotMap::to_slots(self)

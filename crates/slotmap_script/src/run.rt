@@ -1,15 +1,19 @@
 //! The run of a script, from its words to its status.
 
-ghost use Rattle.std.specs.Prelude.{ℕ, List, OnOk, map as list_map};
-ghost use Rattle.std.specs.Io.KnownBytes.{Appends};
+ghost use Rattle.std.specs.Prelude.{◌≡◌, ◌⊎◌, ℕ, List, None, OnOk, IfErr, map as list_map, string_bytes};
+ghost use Rattle.std.specs.Io.KnownBytes.{Appends, Keeps};
+ghost use Rattle.slotmap_core.specs.Words.{IsNew};
 ghost use Rattle.slotmap_script.specs.ScriptText.{stretch_of, ending_of};
-ghost use Rattle.slotmap_script.specs.Printed.{Prints, PrintsStretch, PrintsEnd};
+ghost use Rattle.slotmap_script.specs.Printed.{Prints, PrintsStretch, PrintsEnd, StopsStretches, StopsStretch};
+ghost use Rattle.slotmap_script.specs.Kinds.{kind_of, basic_kind, dense_kind, hop_kind, AreRead, PrintsAll, StopsRun};
+ghost use Rattle.slotmap_script.specs.Ended.{kind_named, Runs, Refuses, Stops};
+ghost use Rattle.slotmap_script.specs.StopText.{stop_status, stop_text, Finishes};
 
 use crate::commands::{Commands, Detachable, Plain};
 use crate::list::{Listed, load, write_slots};
 use crate::reply::write_replies;
 use crate::script::{End, Stretch, parse};
-use crate::stop::Stop;
+use crate::stop::{Stop, write_stop};
 use slotmap_basic::SlotMap;
 use slotmap_core::keys::DefaultKey;
 use slotmap_core::primary::Primary;
@@ -17,7 +21,7 @@ use slotmap_dense::DenseSlotMap;
 use slotmap_hop::HopSlotMap;
 use std::alloc::Global;
 use std::io;
-use std::io::{BufWriter, Read, Write};
+use std::io::{Read, Write};
 
 /// Runs the script of the input on the kind of map that the words name, and returns the exit
 /// status.
@@ -30,39 +34,71 @@ use std::io::{BufWriter, Read, Write};
 /// - 3 if the script can't be read, the output can't be written, or memory for the script, the map
 ///   or the replies runs out.
 ///
-/// After a write that failed nothing more is written.
-pub fn run_script(
+/// After a write that failed nothing more is written. Each reply is written in several small parts,
+/// so the output of a long script is best buffered.
+pub fn run_script<R: Read, W: Write>(
     alloc: Global,
     words: &[String],
-    input: &mut impl Read,
-    output: &mut impl Write,
-) -> u8 {
+    input: &mut R,
+    output: &mut W,
+) -> u8
+    ensures statuses { (result ≡ 0) ⊎ (result ≡ 2) ⊎ (result ≡ 3) }
+    ensures runs { result ≡ 0 → (text : List ℕ) × Runs (list_map string_bytes words.now) (R.remaining input.old) text
+        × Appends (W.contents output.old) (W.contents output.new) text }
+    ensures refuses { result ≡ 2 → (text : List ℕ) × Refuses (list_map string_bytes words.now) (R.remaining input.old) text
+        × Appends (W.contents output.old) (W.contents output.new) text }
+    ensures unread { kind_named (list_map string_bytes words.now) ≡ None → input.new ≡ input.old }
+{
     let ended = run_kind(alloc, words, input, output);
     finish(ended, output)
 }
 
 /// Writes why a script ended early, and returns the status, as [`run_script`] has it.
-pub fn finish(ended: Result<(), Stop>, output: &mut impl Write) -> u8 {
-    let (status, written) = match ended {
-        Ok(()) => return 0,
-        Err(Stop::Output) => return 3,
-        Err(Stop::Usage) => (2, writeln!(output, "usage: slotrun basic|dense|hop")),
-        Err(Stop::BadLine(number)) => (2, writeln!(output, "bad line {number}")),
-        Err(Stop::NoScript) => (3, writeln!(output, "no script")),
-    };
-    match written.and_then(|()| output.flush()) {
+pub fn finish<W: Write>(ended: Result<(), Stop>, output: &mut W) -> u8
+    ensures ends { Finishes ended (Appends (W.contents output.old) (W.contents output.new)) result }
+    ensures silent { IfErr ended (λ why. why ≡ Stop.Output → output.new ≡ output.old) }
+{
+    match ended {
+        Ok(()) => flush(output, 0),
+        // After a write that failed nothing more is written.
+        Err(Stop::Output) => 3,
+        Err(stop) => tell(output, &stop),
+    }
+}
+
+// Writes why a script ended early, and returns the status.
+fn tell<W: Write>(output: &mut W, stop: &Stop) -> u8
+    ensures { ((result ≡ stop_status stop.now) × Appends (W.contents output.old) (W.contents output.new) (stop_text stop.now)) ⊎ (result ≡ 3) }
+{
+    match write_stop(output, stop) {
+        Ok(()) => flush(output, stop.status()),
+        Err(_) => 3,
+    }
+}
+
+// Returns the status, or 3 if what was written can't be passed on.
+fn flush<W: Write>(output: &mut W, status: u8) -> u8
+    ensures { ((result ≡ status) × Keeps (W.contents output.old) (W.contents output.new)) ⊎ (result ≡ 3) }
+{
+    match output.flush() {
         Ok(()) => status,
         Err(_) => 3,
     }
 }
 
 // Picks the kind of map, and the commands that it has.
-fn run_kind(
+fn run_kind<R: Read, W: Write>(
     alloc: Global,
     words: &[String],
-    input: &mut impl Read,
-    output: &mut impl Write,
-) -> Result<(), Stop> {
+    input: &mut R,
+    output: &mut W,
+) -> Result<(), Stop>
+    ensures ok { OnOk result ((text : List ℕ) × Runs (list_map string_bytes words.now) (R.remaining input.old) text
+        × Appends (W.contents output.old) (W.contents output.new) text) }
+    ensures err { IfErr result (Stops (list_map string_bytes words.now) (R.remaining input.old)
+        (Appends (W.contents output.old) (W.contents output.new))) }
+    ensures unread { kind_named (list_map string_bytes words.now) ≡ None → input.new ≡ input.old }
+{
     let [kind] = words else {
         return Err(Stop::Usage);
     };
@@ -74,15 +110,27 @@ fn run_kind(
     }
 }
 
-fn run_basic<R: Read, W: Write>(alloc: Global, input: &mut R, output: &mut W) -> Result<(), Stop> {
+fn run_basic<R: Read, W: Write>(alloc: Global, input: &mut R, output: &mut W) -> Result<(), Stop>
+    ensures ok { OnOk result ((script text : List ℕ) × AreRead (R.remaining input.old) script × PrintsAll basic_kind script text
+        × Appends (W.contents output.old) (W.contents output.new) text) }
+    ensures err { IfErr result (StopsRun basic_kind (R.remaining input.old) (Appends (W.contents output.old) (W.contents output.new))) }
+{
     run_on::<SlotMap<DefaultKey, i32>, Detachable, R, W>(alloc, input, output)
 }
 
-fn run_dense<R: Read, W: Write>(alloc: Global, input: &mut R, output: &mut W) -> Result<(), Stop> {
+fn run_dense<R: Read, W: Write>(alloc: Global, input: &mut R, output: &mut W) -> Result<(), Stop>
+    ensures ok { OnOk result ((script text : List ℕ) × AreRead (R.remaining input.old) script × PrintsAll dense_kind script text
+        × Appends (W.contents output.old) (W.contents output.new) text) }
+    ensures err { IfErr result (StopsRun dense_kind (R.remaining input.old) (Appends (W.contents output.old) (W.contents output.new))) }
+{
     run_on::<DenseSlotMap<DefaultKey, i32>, Detachable, R, W>(alloc, input, output)
 }
 
-fn run_hop<R: Read, W: Write>(alloc: Global, input: &mut R, output: &mut W) -> Result<(), Stop> {
+fn run_hop<R: Read, W: Write>(alloc: Global, input: &mut R, output: &mut W) -> Result<(), Stop>
+    ensures ok { OnOk result ((script text : List ℕ) × AreRead (R.remaining input.old) script × PrintsAll hop_kind script text
+        × Appends (W.contents output.old) (W.contents output.new) text) }
+    ensures err { IfErr result (StopsRun hop_kind (R.remaining input.old) (Appends (W.contents output.old) (W.contents output.new))) }
+{
     run_on::<HopSlotMap<DefaultKey, i32>, Plain, R, W>(alloc, input, output)
 }
 
@@ -93,19 +141,28 @@ where
     C: Commands<M>,
     R: Read,
     W: Write,
+    ensures ok { OnOk result ((script text : List ℕ) × AreRead (R.remaining input.old) script
+        × PrintsAll (kind_of C.command_of C.replies_to M.lists (λ map. IsNew (M.content map))) script text
+        × Appends (W.contents output.old) (W.contents output.new) text) }
+    ensures err { IfErr result (StopsRun (kind_of C.command_of C.replies_to M.lists (λ map. IsNew (M.content map)))
+        (R.remaining input.old) (Appends (W.contents output.old) (W.contents output.new))) }
 {
     let mut script = Vec::new(alloc);
-    input.read_to_end(&mut script).map_err(|_| Stop::NoScript)?;
+    let Ok(_) = input.read_to_end(&mut script) else {
+        return Err(Stop::NoScript);
+    };
     let stretches = parse::<M, C>(alloc, &script)?;
-    let map = M::with_key(alloc).map_err(|_| Stop::NoScript)?;
+    let Ok(map) = M::with_key(alloc) else {
+        return Err(Stop::NoScript);
+    };
     run_stretches(alloc, map, stretches, output)
 }
 
-/// Runs the stretches of a script on a map, and writes the replies. These are gathered before they are
-/// written.
+/// Runs the stretches of a script on a map, one after another, and writes the replies. It stops at
+/// the first for whose replies there is no memory.
 pub fn run_stretches<M, C, W>(
     alloc: Global,
-    mut map: M,
+    map: M,
     stretches: Vec<Stretch<'_, C>>,
     output: &mut W,
 ) -> Result<(), Stop>
@@ -113,35 +170,15 @@ where
     M: Listed + Drop,
     C: Commands<M>,
     W: Write,
-{
-    let mut gathered = BufWriter::new(alloc, output).map_err(|_| Stop::NoScript)?;
-    let ended = print_stretches(alloc, &mut map, stretches, &mut gathered);
-    let ended = match ended {
-        Err(Stop::Output) => Err(Stop::Output),
-        ended => gathered.flush().map_err(|_| Stop::Output).and(ended),
-    };
-    // What a failed write left unwritten is dropped.
-    let (_output, _unwritten) = gathered.into_parts();
-    ended
-}
-
-// Runs stretches one after another, up to the first that stops.
-fn print_stretches<M, C, W>(
-    alloc: Global,
-    map: &mut M,
-    stretches: Vec<Stretch<'_, C>>,
-    output: &mut W,
-) -> Result<(), Stop>
-where
-    M: Listed + Drop,
-    C: Commands<M>,
-    W: Write,
-    ensures { OnOk result ((text : List ℕ)
-        × Prints C.replies_to M.lists (list_map stretch_of stretches.entry.items) map.old text map.new
+    ensures ok { OnOk result ((text : List ℕ) × (last : M)
+        × Prints C.replies_to M.lists (list_map stretch_of stretches.entry.items) map text last
         × Appends (W.contents output.old) (W.contents output.new) text) }
+    ensures err { IfErr result (StopsStretches C.replies_to M.lists (list_map stretch_of stretches.entry.items) map
+        (Appends (W.contents output.old) (W.contents output.new))) }
 {
+    let mut map = map;
     for stretch in stretches {
-        print_stretch(alloc, map, stretch, output)?;
+        print_stretch(alloc, &mut map, stretch, output)?;
     }
     Ok(())
 }
@@ -157,9 +194,10 @@ where
     M: Listed + Drop,
     C: Commands<M>,
     W: Write,
-    ensures { OnOk result ((text : List ℕ)
+    ensures ok { OnOk result ((text : List ℕ)
         × PrintsStretch C.replies_to M.lists (stretch_of stretch.entry) map.old text map.new
         × Appends (W.contents output.old) (W.contents output.new) text) }
+    ensures err { IfErr result (StopsStretch (output.new ≡ output.old)) }
 {
     let Stretch { commands, end } = stretch;
     let Some(replies) = C::run(alloc, map, commands) else {

@@ -1,4 +1,4 @@
-use Rattle.std.proofs.Common.{rules, tests, sym, ◌∙◌, true, false}
+use Rattle.std.proofs.Common.{rules, sym, ◌∙◌}
 use Rattle.std.proofs.lemmas.Bool.{false≢true}
 use Rattle.std.proofs.lemmas.Str.Pattern.{starts_char}
 use Rattle.slotmap_script.proofs.Numerals.{signed_is, no_plus}

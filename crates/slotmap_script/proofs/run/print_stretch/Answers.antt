@@ -2,8 +2,8 @@ use Rattle.std.proofs.Common.{◌++◌, refl}
 use Rattle.slotmap_script.proofs.Appending.{Appends-trans}
 use Rattle.slotmap_script.proofs.run.print_stretch.Goals as goal
 
-pub returns-in-Ok-print_end : goal.returns-in-Ok-print_end
-returns-in-Ok-print_end g c =
+pub returns-in-Ok-print_end-clause-ok : goal.returns-in-Ok-print_end-clause-ok
+returns-in-Ok-print_end-clause-ok g c =
     let told = c.in-Ok.ensures in
     let last = c.in-Ok-print_end.ensures in (
       told.0 ++ last.0,

@@ -1,4 +1,4 @@
-use Rattle.std.proofs.Common.{◌≡◌, ◌++◌, [], map, ap, ◌∙◌}
+use Rattle.std.proofs.Common.{◌++◌, [], map, ap, ◌∙◌}
 use Rattle.std.proofs.lemmas.List.{map-append}
 use Rattle.slotmap_script.specs.ScriptText.{stretches_from, stretch_of}
 use Rattle.slotmap_script.proofs.Lines.{append_nil}

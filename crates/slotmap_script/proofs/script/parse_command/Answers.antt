@@ -1,4 +1,4 @@
-use Rattle.std.proofs.Common.{◌≡◌, ap, sym, ◌∙◌, lit<, arith, rules}
+use Rattle.std.proofs.Common.{ap, sym, ◌∙◌, lit<, arith}
 use Rattle.std.proofs.lemmas.Iterator.Splits.{YieldsList-from_str_split}
 use Rattle.std.proofs.lemmas.Iterator.Consumers.{YieldsList-turn, YieldsList-end}
 use Rattle.slotmap_script.specs.ScriptText.{words_of}

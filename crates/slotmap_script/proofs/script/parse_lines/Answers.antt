@@ -1,4 +1,4 @@
-use Rattle.std.proofs.Common.{◌≡◌, ap, sym, ◌∙◌, Some, refl}
+use Rattle.std.proofs.Common.{ap, sym, ◌∙◌}
 use Rattle.std.specs.Prelude.{option_map}
 use Rattle.slotmap_script.specs.ScriptText.{said_of}
 use Rattle.slotmap_script.proofs.Lines.{parsed_none, parsed_more}

@@ -1,4 +1,4 @@
-use Rattle.std.proofs.Common.{◌≡◌, ◌+◌, ◌<◌, ◌≤◌, length, eqb, sym, ◌∙◌, ap, add-one, arith, rules, tests}
+use Rattle.std.proofs.Common.{◌+◌, eqb, add-one, rules, tests}
 use Rattle.std.proofs.lemmas.Iterator.{YieldsList-from_slice}
 use Rattle.std.proofs.lemmas.Iterator.Search.{position_from_yields_List}
 use Rattle.slotmap_script.proofs.Lines.{lines_first, lines_last, found_at, not_found, take_rest}

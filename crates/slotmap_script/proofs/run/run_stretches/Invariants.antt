@@ -2,7 +2,7 @@ use Rattle.std.proofs.Common.{ℕ, List, map}
 use Rattle.std.specs.Io.KnownBytes.{Appends}
 use Rattle.slotmap_script.specs.ScriptText.{stretch_of}
 use Rattle.slotmap_script.specs.Printed.{Prints}
-use Rattle.slotmap_script.proofs.run.print_stretches.Given as goal
+use Rattle.slotmap_script.proofs.run.run_stretches.Given as goal
 
 -- the stretches so far are printed
 abbrev pub invariant-loop-stretch : goal.invariant-loop-stretch
