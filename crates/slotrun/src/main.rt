@@ -1,8 +1,10 @@
 //! Runs a script of map commands from standard input.
 #![tactic(auto)]
 
+ghost use Rattle.std.specs.Prelude.{◌≡◌, ◌⊎◌};
+
 use slotmap_script::run_script;
-use std::io::{ErrorKind, Write};
+use std::io::{BufWriter, ErrorKind, Stdout, Write};
 use std::process::ExitCode;
 use std::{env, io};
 
@@ -15,16 +17,32 @@ fn words(rt: &HostRuntime) -> io::Result<Vec<String>> {
     Ok(words)
 }
 
-fn main(rt: HostRuntime) -> ExitCode {
-    let mut output = rt.stdout();
-    let words = match words(&rt) {
+// The program's words, and its output, which is gathered before it is written.
+fn start(rt: &HostRuntime) -> io::Result<(Vec<String>, BufWriter<Stdout>)> {
+    let words = match words(rt) {
         Ok(words) => words,
         // A word that isn't UTF-8 names no kind of map; so it counts as no words.
         Err(error) if error.kind() == ErrorKind::InvalidData => Vec::new(rt.alloc()),
-        Err(_) => {
-            let _ = writeln!(output, "no script");
-            return ExitCode::from(3);
-        }
+        Err(error) => return Err(error),
     };
-    ExitCode::from(run_script(rt.alloc(), &words, &mut rt.stdin(), &mut output))
+    let output = BufWriter::new(rt.alloc(), rt.stdout())?;
+    Ok((words, output))
+}
+
+// Runs the script of the input, and returns the exit status.
+fn run(rt: &HostRuntime) -> u8
+    ensures { (result ≡ 0) ⊎ (result ≡ 2) ⊎ (result ≡ 3) }
+{
+    let Ok((words, mut output)) = start(rt) else {
+        let _ = writeln!(rt.stdout(), "no script");
+        return 3;
+    };
+    let status = run_script(rt.alloc(), &words, &mut rt.stdin(), &mut output);
+    // What a failed write left unwritten is dropped.
+    let (_stdout, _unwritten) = output.into_parts();
+    status
+}
+
+fn main(rt: HostRuntime) -> ExitCode {
+    ExitCode::from(run(&rt))
 }

@@ -4,7 +4,7 @@ use super::list;
 use slotmap_script::run_script;
 use std::alloc::{AllocError, Global};
 use std::io;
-use std::io::{ErrorKind, Read, Write};
+use std::io::{BufWriter, ErrorKind, Read, Write};
 use std::process::Abort;
 use std::test::Fail;
 
@@ -121,20 +121,28 @@ fn long_script(alloc: Global) -> Result<Vec<u8>, AllocError> {
     Ok(script)
 }
 
-// Runs a script with a writer that fails at one call, and returns the writer and the status.
+// Runs a script with a writer that fails at one call, buffered as in the program or not, and
+// returns the writer and the status.
 fn run_failing(
     alloc: Global,
     words: &[String],
     mut script: &[u8],
     fails_at: usize,
-) -> (FailingWriter, u8) {
-    let mut output = FailingWriter {
+    is_buffered: bool,
+) -> Result<(FailingWriter, u8), Fail> {
+    let mut writer = FailingWriter {
         fails_at,
         calls: 0,
         taken: Vec::new(alloc),
     };
+    if !is_buffered {
+        let status = run_script(alloc, words, &mut script, &mut writer);
+        return Ok((writer, status));
+    }
+    let mut output = BufWriter::new(alloc, writer)?;
     let status = run_script(alloc, words, &mut script, &mut output);
-    (output, status)
+    let (writer, _unwritten) = output.into_parts();
+    Ok((writer, status))
 }
 
 // Each call of the writer fails in turn. The status is then 3, and no call follows. Returns the
@@ -144,10 +152,11 @@ fn each_call_fails(
     alloc: Global,
     word: &str,
     script: &[u8],
+    is_buffered: bool,
 ) -> Result<(FailingWriter, u8), Fail> {
     let words = list(alloc, &[word])?;
     for fails_at in 1..1000 {
-        let (output, status) = run_failing(alloc, &words, script, fails_at);
+        let (output, status) = run_failing(alloc, &words, script, fails_at, is_buffered)?;
         if output.calls < fails_at {
             return Ok((output, status));
         }
@@ -163,9 +172,10 @@ fn hold_writes(
     alloc: Global,
     word: &str,
     script: &[u8],
+    is_buffered: bool,
     want: (usize, usize, u8),
 ) -> Result<(), Fail> {
-    let (output, status) = each_call_fails(rt, alloc, word, script)?;
+    let (output, status) = each_call_fails(rt, alloc, word, script, is_buffered)?;
     assert!(rt; output.calls >= want.0);
     assert_eq!(rt; (output.taken.len(), status), (want.1, want.2));
     Ok(())
@@ -181,8 +191,9 @@ static WRITES: [(&str, &[u8], (usize, usize, u8)); 4] = [
 #[test]
 fn failing_writers(rt: HostRuntime) -> Result<(), Fail> {
     for (word, script, want) in &WRITES {
-        hold_writes(&rt, rt.alloc(), word, script, *want)?;
+        hold_writes(&rt, rt.alloc(), word, script, false, *want)?;
+        hold_writes(&rt, rt.alloc(), word, script, true, *want)?;
     }
     let long = long_script(rt.alloc())?;
-    hold_writes(&rt, rt.alloc(), "basic", &long, (8, 60849, 0))
+    hold_writes(&rt, rt.alloc(), "basic", &long, true, (8, 60849, 0))
 }
