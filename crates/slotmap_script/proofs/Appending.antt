@@ -1,6 +1,6 @@
 -- One write after another, and lists of texts with a byte between each two.
 use Rattle.std.proofs.Common.{◌≡◌, ◌+◌, ◌<◌, ◌≤◌, ℕ, List, [], ◌∷◌, ◌++◌, Option, Some, None, length, take, map, get_or, append_assoc, ap, sym, ◌∙◌, refl, arith}
-use Rattle.std.specs.Io.KnownBytes.{Appends, Keeps}
+use Rattle.std.specs.Io.KnownBytes.{Appends, Keeps, append_known}
 use Rattle.std.specs.List.{join_with_byte}
 use Rattle.slotmap_script.proofs.Lines.{append_nil}
 use Rattle.std.proofs.lemmas.List.{map_more, length-take-le, length-map}
@@ -23,6 +23,12 @@ Appends-kept None mid new text h k = tt
 Appends-kept (Some xs) None new text h k = absurd h
 Appends-kept (Some xs) (Some ys) None text h k = absurd k
 Appends-kept (Some xs) (Some ys) (Some zs) text h k = k ∙ h
+
+-- what was written to a buffered writer with nothing left in its buffer was written to the inner one
+pub Appends-passed_on : (old known : Option (List ℕ)) (buffer text : List ℕ) → Appends old (append_known known buffer) text → buffer ≡ [] → Appends old known text
+Appends-passed_on None known buffer text h empty = tt
+Appends-passed_on (Some xs) None buffer text h empty = absurd h
+Appends-passed_on (Some xs) (Some ys) buffer text h empty = sym (append_nil ys) ∙ ap (λ t. ys ++ t) (sym empty) ∙ h
 
 join_push : (c : ℕ) (xs : List (List ℕ)) (y : List ℕ) → 0 < length xs → join_with_byte c (xs ++ y ∷ []) ≡ join_with_byte c xs ++ (c ∷ y)
 join_push c [] y h = absurd (omega arith)

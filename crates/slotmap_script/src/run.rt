@@ -1,12 +1,14 @@
 //! The run of a script, from its words to its status.
 
-ghost use Rattle.std.specs.Prelude.{◌≡◌, ◌⊎◌, ℕ, List, None, OnOk, IfErr, map as list_map, string_bytes};
+ghost use Rattle.std.specs.Prelude.{◌≡◌, ◌⊎◌, ℕ, List, [], None, OnOk, IfErr, map as list_map, string_bytes};
+ghost use Rattle.std.specs.Io.Buffered.{writer_contents, writer_buffer};
 ghost use Rattle.std.specs.Io.KnownBytes.{Appends, Keeps};
 ghost use Rattle.slotmap_core.specs.Words.{IsNew};
 ghost use Rattle.slotmap_script.specs.ScriptText.{stretch_of, ending_of};
 ghost use Rattle.slotmap_script.specs.Printed.{Prints, PrintsStretch, PrintsEnd, StopsStretches, StopsStretch};
 ghost use Rattle.slotmap_script.specs.Kinds.{kind_of, basic_kind, dense_kind, hop_kind, AreRead, PrintsAll, StopsRun};
 ghost use Rattle.slotmap_script.specs.Ended.{kind_named, Runs, Refuses, Stops};
+ghost use Rattle.slotmap_script.specs.declared.stop.Stop.TheVariants.{Output};
 ghost use Rattle.slotmap_script.specs.StopText.{stop_status, stop_text, Finishes};
 
 use crate::commands::{Commands, Detachable, Plain};
@@ -21,7 +23,7 @@ use slotmap_dense::DenseSlotMap;
 use slotmap_hop::HopSlotMap;
 use std::alloc::Global;
 use std::io;
-use std::io::{Read, Write};
+use std::io::{BufWriter, Read, Write};
 
 /// Runs the script of the input on the kind of map that the words name, and returns the exit
 /// status.
@@ -34,32 +36,38 @@ use std::io::{Read, Write};
 /// - 3 if the script can't be read, the output can't be written, or memory for the script, the map
 ///   or the replies runs out.
 ///
-/// After a write that failed nothing more is written. Each reply is written in several small parts,
-/// so the output of a long script is best buffered.
-pub fn run_script<R: Read, W: Write>(
+/// After a write that failed nothing more is written. With the status it returns the writer; all
+/// that was printed has been passed on to it, unless the status is 3.
+pub fn run_script<R: Read, W: Write + Drop>(
     alloc: Global,
     words: &[String],
     input: &mut R,
-    output: &mut W,
-) -> u8
-    ensures statuses { (result ≡ 0) ⊎ (result ≡ 2) ⊎ (result ≡ 3) }
-    ensures runs { result ≡ 0 → (text : List ℕ) × Runs (list_map string_bytes words.now) (R.remaining input.old) text
-        × Appends (W.contents output.old) (W.contents output.new) text }
-    ensures refuses { result ≡ 2 → (text : List ℕ) × Refuses (list_map string_bytes words.now) (R.remaining input.old) text
-        × Appends (W.contents output.old) (W.contents output.new) text }
+    output: BufWriter<W>,
+) -> (u8, W)
+    ensures statuses { (result.0 ≡ 0) ⊎ (result.0 ≡ 2) ⊎ (result.0 ≡ 3) }
+    ensures runs { result.0 ≡ 0 → (text : List ℕ) × Runs (list_map string_bytes words.now) (R.remaining input.old) text
+        × Appends (writer_contents W.contents output) (W.contents result.1) text }
+    ensures refuses { result.0 ≡ 2 → (text : List ℕ) × Refuses (list_map string_bytes words.now) (R.remaining input.old) text
+        × Appends (writer_contents W.contents output) (W.contents result.1) text }
     ensures unread { kind_named (list_map string_bytes words.now) ≡ None → input.new ≡ input.old }
 {
-    let ended = run_kind(alloc, words, input, output);
-    finish(ended, output)
+    let mut output = output;
+    let ended = run_kind(alloc, words, input, &mut output);
+    let status = finish(ended, &mut output);
+    // What a failed write left unwritten is dropped.
+    let (writer, _unwritten) = output.into_parts();
+    (status, writer)
 }
 
-/// Writes why a script ended early, and returns the status, as [`run_script`] has it.
-pub fn finish<W: Write>(ended: Result<(), Stop>, output: &mut W) -> u8
-    ensures ends { Finishes ended (Appends (W.contents output.old) (W.contents output.new)) result }
-    ensures silent { IfErr ended (λ why. why ≡ Stop.Output → output.new ≡ output.old) }
+/// Writes why a script ended early, passes on all that was written, and returns the status, as
+/// [`run_script`] has it.
+pub fn finish<W: Write + Drop>(ended: Result<(), Stop>, output: &mut BufWriter<W>) -> u8
+    ensures ends { Finishes ended (Appends (writer_contents W.contents output.old) (writer_contents W.contents output.new)) result }
+    ensures passes_on { (writer_buffer output.new ≡ []) ⊎ (result ≡ 3) }
+    ensures silent { IfErr ended (λ why. why ≡ Output → output.new ≡ output.old) }
 {
     match ended {
-        Ok(()) => flush(output, 0),
+        Ok(()) => pass_on(output, 0),
         // After a write that failed nothing more is written.
         Err(Stop::Output) => 3,
         Err(stop) => tell(output, &stop),
@@ -67,18 +75,21 @@ pub fn finish<W: Write>(ended: Result<(), Stop>, output: &mut W) -> u8
 }
 
 // Writes why a script ended early, and returns the status.
-fn tell<W: Write>(output: &mut W, stop: &Stop) -> u8
-    ensures { ((result ≡ stop_status stop.now) × Appends (W.contents output.old) (W.contents output.new) (stop_text stop.now)) ⊎ (result ≡ 3) }
+fn tell<W: Write + Drop>(output: &mut BufWriter<W>, stop: &Stop) -> u8
+    ensures ends { ((result ≡ stop_status stop.now) × Appends (writer_contents W.contents output.old) (writer_contents W.contents output.new)
+        (stop_text stop.now)) ⊎ (result ≡ 3) }
+    ensures passes_on { (writer_buffer output.new ≡ []) ⊎ (result ≡ 3) }
 {
-    match write_stop(output, stop) {
-        Ok(()) => flush(output, stop.status()),
-        Err(_) => 3,
-    }
+    let Ok(()) = write_stop(output, stop) else {
+        return 3;
+    };
+    pass_on(output, stop.status())
 }
 
 // Returns the status, or 3 if what was written can't be passed on.
-fn flush<W: Write>(output: &mut W, status: u8) -> u8
-    ensures { ((result ≡ status) × Keeps (W.contents output.old) (W.contents output.new)) ⊎ (result ≡ 3) }
+fn pass_on<W: Write + Drop>(output: &mut BufWriter<W>, status: u8) -> u8
+    ensures ends { ((result ≡ status) × Keeps (writer_contents W.contents output.old) (writer_contents W.contents output.new)) ⊎ (result ≡ 3) }
+    ensures passes_on { (writer_buffer output.new ≡ []) ⊎ (result ≡ 3) }
 {
     match output.flush() {
         Ok(()) => status,

@@ -33,13 +33,11 @@ fn start(rt: &HostRuntime) -> io::Result<(Vec<String>, BufWriter<Stdout>)> {
 fn run(rt: &HostRuntime) -> u8
     ensures { (result ≡ 0) ⊎ (result ≡ 2) ⊎ (result ≡ 3) }
 {
-    let Ok((words, mut output)) = start(rt) else {
+    let Ok((words, output)) = start(rt) else {
         let _ = writeln!(rt.stdout(), "no script");
         return 3;
     };
-    let status = run_script(rt.alloc(), &words, &mut rt.stdin(), &mut output);
-    // What a failed write left unwritten is dropped.
-    let (_stdout, _unwritten) = output.into_parts();
+    let (status, _stdout) = run_script(rt.alloc(), &words, &mut rt.stdin(), output);
     status
 }
 

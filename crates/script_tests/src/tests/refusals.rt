@@ -14,6 +14,7 @@ use slotmap_script::reply::{LineReply, write_reply};
 use slotmap_script::run::{finish, run_on, run_stretches};
 use slotmap_script::script::parse;
 use std::alloc::Global;
+use std::io::BufWriter;
 use std::test::Fail;
 
 // The line of a reply.
@@ -115,9 +116,10 @@ fn run_refusing(alloc: Global, script: &[u8]) -> Result<(u8, Vec<u8>), Fail> {
     let stretches = parse::<Refusing, Unanswered>(alloc, script)
         .ok()
         .ok_or("a script")?;
-    let mut output = Vec::new(alloc);
+    let mut output = BufWriter::new(alloc, Vec::new(alloc))?;
     let ended = run_stretches(alloc, Refusing, stretches, &mut output);
-    Ok((finish(ended, &mut output), output))
+    let status = finish(ended, &mut output);
+    Ok((status, output.into_parts().0))
 }
 
 // Replies before the failure are printed; then the script ends.
@@ -143,18 +145,20 @@ static PLAIN: [(&str, &str, u8); 3] = [
 ];
 
 // The status and the output of a script on a map whose keys can't be detached.
-fn run_plain(alloc: Global, mut script: &[u8]) -> (u8, Vec<u8>) {
-    let mut output = Vec::new(alloc);
+fn run_plain(alloc: Global, mut script: &[u8]) -> Result<(u8, Vec<u8>), Fail> {
+    let mut output = BufWriter::new(alloc, Vec::new(alloc))?;
     let ended = run_on::<SlotMap<DefaultKey, i32>, Plain, _, _>(alloc, &mut script, &mut output);
-    (finish(ended, &mut output), output)
+    let status = finish(ended, &mut output);
+    Ok((status, output.into_parts().0))
 }
 
 // The lines of a map whose keys can't be detached.
 #[test]
-fn plain_lines(rt: HostRuntime) {
+fn plain_lines(rt: HostRuntime) -> Result<(), Fail> {
     for (script, want, wanted_status) in &PLAIN {
-        let (status, output) = run_plain(rt.alloc(), script.as_bytes());
+        let (status, output) = run_plain(rt.alloc(), script.as_bytes())?;
         assert_eq!(rt; status, *wanted_status);
         assert_eq!(rt; output.as_slice(), want.as_bytes());
     }
+    Ok(())
 }

@@ -54,8 +54,8 @@ fn hold_fault(
 ) -> Result<(), Fail> {
     let words = list(alloc, words)?;
     let mut input = FailingReader { bytes };
-    let mut output = Vec::new(alloc);
-    let status = run_script(alloc, &words, &mut input, &mut output);
+    let output = BufWriter::new(alloc, Vec::new(alloc))?;
+    let (status, output) = run_script(alloc, &words, &mut input, output);
     assert_eq!(rt; (output.as_slice(), status), (want.0.as_bytes(), want.1));
     Ok(())
 }
@@ -121,27 +121,22 @@ fn long_script(alloc: Global) -> Result<Vec<u8>, AllocError> {
     Ok(script)
 }
 
-// Runs a script with a writer that fails at one call, buffered as in the program or not, and
+// Runs a script with a writer that fails at one call, behind a buffer of this many bytes, and
 // returns the writer and the status.
 fn run_failing(
     alloc: Global,
     words: &[String],
     mut script: &[u8],
     fails_at: usize,
-    is_buffered: bool,
+    capacity: usize,
 ) -> Result<(FailingWriter, u8), Fail> {
-    let mut writer = FailingWriter {
+    let writer = FailingWriter {
         fails_at,
         calls: 0,
         taken: Vec::new(alloc),
     };
-    if !is_buffered {
-        let status = run_script(alloc, words, &mut script, &mut writer);
-        return Ok((writer, status));
-    }
-    let mut output = BufWriter::new(alloc, writer)?;
-    let status = run_script(alloc, words, &mut script, &mut output);
-    let (writer, _unwritten) = output.into_parts();
+    let output = BufWriter::with_capacity(alloc, capacity, writer)?;
+    let (status, writer) = run_script(alloc, words, &mut script, output);
     Ok((writer, status))
 }
 
@@ -152,11 +147,11 @@ fn each_call_fails(
     alloc: Global,
     word: &str,
     script: &[u8],
-    is_buffered: bool,
+    capacity: usize,
 ) -> Result<(FailingWriter, u8), Fail> {
     let words = list(alloc, &[word])?;
     for fails_at in 1..1000 {
-        let (output, status) = run_failing(alloc, &words, script, fails_at, is_buffered)?;
+        let (output, status) = run_failing(alloc, &words, script, fails_at, capacity)?;
         if output.calls < fails_at {
             return Ok((output, status));
         }
@@ -172,10 +167,10 @@ fn hold_writes(
     alloc: Global,
     word: &str,
     script: &[u8],
-    is_buffered: bool,
+    capacity: usize,
     want: (usize, usize, u8),
 ) -> Result<(), Fail> {
-    let (output, status) = each_call_fails(rt, alloc, word, script, is_buffered)?;
+    let (output, status) = each_call_fails(rt, alloc, word, script, capacity)?;
     assert!(rt; output.calls >= want.0);
     assert_eq!(rt; (output.taken.len(), status), (want.1, want.2));
     Ok(())
@@ -191,9 +186,9 @@ static WRITES: [(&str, &[u8], (usize, usize, u8)); 4] = [
 #[test]
 fn failing_writers(rt: HostRuntime) -> Result<(), Fail> {
     for (word, script, want) in &WRITES {
-        hold_writes(&rt, rt.alloc(), word, script, false, *want)?;
-        hold_writes(&rt, rt.alloc(), word, script, true, *want)?;
+        hold_writes(&rt, rt.alloc(), word, script, 0, *want)?;
+        hold_writes(&rt, rt.alloc(), word, script, 8192, *want)?;
     }
     let long = long_script(rt.alloc())?;
-    hold_writes(&rt, rt.alloc(), "basic", &long, true, (8, 60849, 0))
+    hold_writes(&rt, rt.alloc(), "basic", &long, 8192, (8, 60849, 0))
 }

@@ -1,9 +1,24 @@
-use Rattle.std.proofs.Common.{map, string_bytes}
-use Rattle.slotmap_script.proofs.Ending.{refuses_at_2}
+use Rattle.std.proofs.Common.{map, string_bytes, ap}
+use Rattle.std.specs.Io.Buffered.{writer_contents, writer_buffer, writer_inner}
+use Rattle.slotmap_script.proofs.Ending.{runs_at_0, refuses_at_2}
 use Rattle.slotmap_script.proofs.run.run_script.Goals as goal
+
+pub returns-clause-runs : goal.returns-clause-runs
+returns-clause-runs g c =
+    let contents = writer_contents g.W.Write.contents in
+    let end = c.finish-status in
+    rw (ap g.W.Write.contents c.into_parts-writer.ensures.inner) (
+    runs_at_0 (map string_bytes c.args.words.now) (g.R.Read.remaining c.args.input.now) (contents c.args.output) (contents c.run_kind-ended.new.output)
+    (g.W.Write.contents (writer_inner end.new.output)) (writer_buffer end.new.output) c.run_kind-ended.result end.result c.run_kind-ended.ensures.ok end.ensures.ends
+    end.ensures.passes_on
+    )
 
 pub returns-clause-refuses : goal.returns-clause-refuses
 returns-clause-refuses g c =
-    let contents = g.W.Write.contents in
-    refuses_at_2 (map string_bytes c.args.words.now) (g.R.Read.remaining c.args.input.now) (contents c.args.output.now) (contents c.run_kind-ended.new.output)
-    (contents c.finish.new.output) c.run_kind-ended.result c.finish.result c.run_kind-ended.ensures.err c.finish.ensures.ends
+    let contents = writer_contents g.W.Write.contents in
+    let end = c.finish-status in
+    rw (ap g.W.Write.contents c.into_parts-writer.ensures.inner) (
+    refuses_at_2 (map string_bytes c.args.words.now) (g.R.Read.remaining c.args.input.now) (contents c.args.output) (contents c.run_kind-ended.new.output)
+    (g.W.Write.contents (writer_inner end.new.output)) (writer_buffer end.new.output) c.run_kind-ended.result end.result c.run_kind-ended.ensures.err end.ensures.ends
+    end.ensures.passes_on
+    )
