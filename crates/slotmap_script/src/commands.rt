@@ -140,6 +140,7 @@ fn make(_key: DefaultKey) -> Result<i32, OutOfMemory> {
     Err(OutOfMemory)
 }
 
+#[inline(always)]
 fn detachable(words: &[&str]) -> Option<Detachable>
     ensures { result ≡ detachable_of (map (λ word. word.now) words.now) }
 {
@@ -151,6 +152,7 @@ fn detachable(words: &[&str]) -> Option<Detachable>
     }
 }
 
+#[inline(always)]
 fn detachable_pair(name: &str, word: &str) -> Option<Detachable>
     ensures { result ≡ detachable_of (name.now ∷ word.now ∷ []) }
 {
@@ -190,6 +192,7 @@ fn plain_word(name: &str) -> Option<Plain>
     }
 }
 
+#[inline(always)]
 fn plain_pair(name: &str, word: &str) -> Option<Plain>
     ensures { result ≡ plain_of (name.now ∷ word.now ∷ []) }
 {

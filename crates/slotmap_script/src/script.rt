@@ -91,6 +91,7 @@ fn split_line(text: &[u8]) -> (&[u8], &[u8])
 }
 
 // Adds a line to the commands, or ends their stretch.
+#[inline(always)]
 fn add_line<'a, C: Drop>(
     alloc: Global,
     stretches: &mut Vec<Stretch<'a, C>>,
