@@ -191,7 +191,8 @@ def page():
         f"`run_new` rests on {len(plain)}, of {sum(len(it.code()) for it in plain)} lines without comments; both together on {len(found)}, of "
         f"{sum(len(it.code()) for it in found)}. A line that begins with `module _` names the parameters that the definitions below it take first. "
         "Behind them stand only the checker, the logic and std. Of std they use finite maps and sets, and the words below. The commands and replies are "
-        "[enums of the library](api/runs.md)."
+        "[enums of the library](api/runs.md). What the program `slotrun` prints is the text of the replies of such runs, one after another "
+        "([what is proved of it](SLOTRUN.md#what-is-proved-of-it))."
     )
     lines = [*first, "", "# The machine, and all that the theorem stands on", "", *wrapped(text), ""]
     lines += [*wrapped(", ".join(f"`{it}`" for it in names_of_std(found)), "> "), "", "## The theorem", ""]
