@@ -21,10 +21,11 @@ pub record MapKind (C M : Type 0) : Type 1 where
   pub lists : SlotLists M
   pub is_new : M → Type 0
 
+-- the kind of map that has these
 abbrev pub kind_of : {C M : Type 0} → (List (List ℕ) → Option C) → (M → List C → List (Reply Key ℤ ℤ OutOfMemory) → M → Type 0) → SlotLists M → (M → Type 0) → MapKind C M
 kind_of command_of replies_to lists is_new = record { command_of = command_of; replies_to = replies_to; lists = lists; is_new = is_new }
 
--- a `SlotMap` is written and read as its content
+-- The lists of the three kinds: each map is written and read as its content. The lists that are read are those of the maps' own calls
 abbrev pub basic_lists : SlotLists (Content ℤ)
 basic_lists = record {
   writes = λ map slots. Writes map slots;
@@ -46,6 +47,7 @@ hop_lists = record {
   refuses = λ slots error. RefusesStart slots list_limit error;
 }
 
+-- The three kinds. Keys of a `HopSlotMap` can't be detached, and a `DenseSlotMap` asks for memory where it uses a slot again
 abbrev pub basic_kind : MapKind (DetachCommand Key ℤ) (Content ℤ)
 basic_kind = record {
   command_of = detachable_of;

@@ -19,7 +19,7 @@ stop_status (stop.BadLine number) = 2
 stop_status stop.NoScript = 3
 stop_status stop.Output = 3
 
--- A script ends with this status, and prints what is said here of its end. The status is 3 also where that can't be written
+-- A script ends with this status, and prints the line of its end, or the status is 3: that line may not have been written
 abbrev pub Finishes : {T : Type 0} → Result T Stop → (List ℕ → Type 0) → ℕ → Type 0
 Finishes (Ok _) Printed status = ((status ≡ 0) × Printed []) ⊎ (status ≡ 3)
 Finishes (Err why) Printed status = ((status ≡ stop_status why) × Printed (stop_text why)) ⊎ (status ≡ 3)
