@@ -25,7 +25,8 @@ Appends-kept (Some xs) (Some ys) None text h k = absurd k
 Appends-kept (Some xs) (Some ys) (Some zs) text h k = k ∙ h
 
 -- what was written to a buffered writer with nothing left in its buffer was written to the inner one
-pub Appends-passed_on : (old known : Option (List ℕ)) (buffer text : List ℕ) → Appends old (append_known known buffer) text → buffer ≡ [] → Appends old known text
+pub Appends-passed_on : (old known : Option (List ℕ)) (buffer text : List ℕ) → Appends old (append_known known buffer) text → buffer ≡ []
+    → Appends old known text
 Appends-passed_on None known buffer text h empty = tt
 Appends-passed_on (Some xs) None buffer text h empty = absurd h
 Appends-passed_on (Some xs) (Some ys) buffer text h empty = sym (append_nil ys) ∙ ap (λ t. ys ++ t) (sym empty) ∙ h

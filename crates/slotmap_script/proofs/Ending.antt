@@ -21,25 +21,28 @@ is_false false P is none = refl
 not_said : (word bytes : List ℕ) → (word ≡ bytes → ⊥) → bytes_eq word bytes ≡ false
 not_said word bytes other = is_false (bytes_eq word bytes) (word ≡ bytes) (bytes_eq-Decides word bytes) other
 
-other_word : (word : List ℕ) → (word ≡ codes "basic" → ⊥) → (word ≡ codes "dense" → ⊥) → (word ≡ codes "hop" → ⊥) → kind_named (word ∷ []) ≡ None
+other_word : (word : List ℕ) → (word ≡ codes "basic" → ⊥) → (word ≡ codes "dense" → ⊥) → (word ≡ codes "hop" → ⊥)
+    → kind_named (word ∷ []) ≡ None
 other_word word not_basic not_dense not_hop =
     rw (not_said word (codes "basic") not_basic, not_said word (codes "dense") not_dense, not_said word (codes "hop") not_hop) refl
 
 -- one word that is no kind
-pub none_named : (words : List (String Global)) (word : String Global) → length words < 2 → word ≡ get_or words 0 word → (string_bytes word ≡ codes "basic" → ⊥)
-    → (string_bytes word ≡ codes "dense" → ⊥) → (string_bytes word ≡ codes "hop" → ⊥) → kind_named (map string_bytes words) ≡ None
+pub none_named : (words : List (String Global)) (word : String Global) → length words < 2 → word ≡ get_or words 0 word
+    → (string_bytes word ≡ codes "basic" → ⊥) → (string_bytes word ≡ codes "dense" → ⊥) → (string_bytes word ≡ codes "hop" → ⊥) → kind_named (map string_bytes words) ≡ None
 none_named [] word few is not_basic not_dense not_hop = refl
 none_named (first ∷ []) word few is not_basic not_dense not_hop = rw (← is) (other_word (string_bytes word) not_basic not_dense not_hop)
 none_named (first ∷ second ∷ rest) word few is not_basic not_dense not_hop = absurd (omega arith)
 
 -- the bytes that were read, in a vector that was empty
-pub are_read : (known : Option (List ℕ)) (before after script : List ℕ) → IfSome known (λ bytes. after ≡ before ++ bytes) → before ≡ [] → script ≡ after → AreRead known script
+pub are_read : (known : Option (List ℕ)) (before after script : List ℕ) → IfSome known (λ bytes. after ≡ before ++ bytes) → before ≡ []
+    → script ≡ after → AreRead known script
 are_read None before after script reads empty is = tt
 are_read (Some bytes) before after script reads empty is = is ∙ reads ∙ ap (λ t. t ++ bytes) empty
 
 module _ {C M : Type 0} (kind : MapKind C M) (known : Option (List ℕ)) (old : Option (List ℕ)) where
   -- what stops the parse stops the run, and nothing is printed
-  pub stops_parsed : (script : List ℕ) → AreRead known script → (why : Stop) → StopsParse kind.command_of (lines_of script) why → StopsRun kind known (Appends old old) why
+  pub stops_parsed : (script : List ℕ) → AreRead known script → (why : Stop) → StopsParse kind.command_of (lines_of script) why
+      → StopsRun kind known (Appends old old) why
   stops_parsed script read (stop.BadLine number) first = (script, read, first, Appends-none old)
   stops_parsed script read stop.NoScript memory = ([], inl refl, Appends-none old)
   stops_parsed script read stop.Usage none = absurd none
@@ -53,7 +56,8 @@ module _ (words : List (List ℕ)) (known : Option (List ℕ)) (old mid inner : 
   bad_line hop number stops = stops
 
   -- what was printed before the last line and with it has all been passed on
-  passed_on : (first last : List ℕ) → Appends old mid first → Appends mid (append_known inner buffer) last → buffer ≡ [] → Appends old inner (first ++ last)
+  passed_on : (first last : List ℕ) → Appends old mid first → Appends mid (append_known inner buffer) last → buffer ≡ []
+      → Appends old inner (first ++ last)
   passed_on first last h k empty = Appends-passed_on old inner buffer (first ++ last) (Appends-trans old mid (append_known inner buffer) first last h k) empty
 
   empty_below_3 : (status : ℕ) → (buffer ≡ []) ⊎ (status ≡ 3) → status < 3 → buffer ≡ []
@@ -84,6 +88,7 @@ module _ (words : List (List ℕ)) (known : Option (List ℕ)) (old mid inner : 
       (stop_text stop.Usage, inl (stops.0, refl), passed_on [] _ stops.1 ends.1 (empty_below_3 status all (omega (arith, two))))
   refuses_at_2 (Err (stop.BadLine number)) status stops (inl ends) all two =
       let bad = bad_line stops.0 number stops.2 in
-      (stop_text (stop.BadLine number), inr (stops.0, stops.1, (bad.0, number, bad.1, bad.2, refl)), passed_on [] _ bad.3 ends.1 (empty_below_3 status all (omega (arith, two))))
+      let empty = empty_below_3 status all (omega (arith, two)) in
+      (stop_text (stop.BadLine number), inr (stops.0, stops.1, (bad.0, number, bad.1, bad.2, refl)), passed_on [] _ bad.3 ends.1 empty)
   refuses_at_2 (Err stop.NoScript) status stops (inl ends) all two = absurd (omega (arith, ends.0, two))
   refuses_at_2 (Err stop.Output) status stops (inl ends) all two = absurd (omega (arith, ends.0, two))

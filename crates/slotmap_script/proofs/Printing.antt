@@ -36,7 +36,8 @@ module _ {C M : Type 0} (Answers : M → List C → List (Reply Key ℤ ℤ OutO
       rw (map-append stretch_of stretches (stretch ∷ [])) (stretch_more (map stretch_of stretches) old mid new text more (stretch_of stretch) h one)
 
   -- the stretches before the one that stops
-  pub stops_after : (stretches before left : List (Stretch C)) → stretches ≡ before ++ left → (begun last : M) (text : List ℕ) → Prints Answers lists (map stretch_of before) begun text last
+  pub stops_after : (stretches before left : List (Stretch C)) → stretches ≡ before ++ left → (begun last : M) (text : List ℕ)
+      → Prints Answers lists (map stretch_of before) begun text last
       → (old now new : Option (List ℕ)) → Appends old now text → (why : Stop) → StopsStretch (new ≡ now) why
       → StopsStretches Answers lists (map stretch_of stretches) begun (Appends old new) why
   stops_after stretches before left parts begun last text prints old now new written stop.NoScript same =
@@ -47,12 +48,14 @@ module _ {C M : Type 0} (Answers : M → List C → List (Reply Key ℤ ℤ OutO
   stops_after stretches before left parts begun last text prints old now new written (stop.BadLine number) same = absurd same
 
 -- what a loop over a vector took, and what is left
-pub taken_and_left : {X Z : Type 0} (all left : IntoIter X Z) (taken : List X) → Yields (into_iter_steps {X = X} {Z = Z}) all taken left → into_iter_items all ≡ taken ++ into_iter_items left
+pub taken_and_left : {X Z : Type 0} (all left : IntoIter X Z) (taken : List X) → Yields (into_iter_steps {X = X} {Z = Z}) all taken left
+    → into_iter_items all ≡ taken ++ into_iter_items left
 taken_and_left all left [] run = ap into_iter_items run
 taken_and_left all left (x ∷ taken) run = run.1.0 ∙ ap (λ xs. x ∷ xs) (taken_and_left run.0 left taken run.2)
 
 -- what stops one stretch, told of what the writer holds
-pub stops_with : {W : Type 0} (contents : W → Option (List ℕ)) (now new : W) (why : Stop) → StopsStretch (new ≡ now) why → StopsStretch (contents new ≡ contents now) why
+pub stops_with : {W : Type 0} (contents : W → Option (List ℕ)) (now new : W) (why : Stop) → StopsStretch (new ≡ now) why
+    → StopsStretch (contents new ≡ contents now) why
 stops_with contents now new stop.NoScript same = ap contents same
 stops_with contents now new stop.Output same = tt
 stops_with contents now new stop.Usage same = same

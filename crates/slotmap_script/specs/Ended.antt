@@ -47,8 +47,8 @@ module _ (words : List (List ℕ)) (known : Option (List ℕ)) where
   -- the words name no kind of map, or the script that is read has a bad line; this text says so
   abbrev pub Refuses : List ℕ → Type 0
   Refuses text = ((kind_named words ≡ None) × (text ≡ stop_text stop.Usage))
-      ⊎ ((kind : KindName) × (kind_named words ≡ Some kind) × ((script : List ℕ) × (number : ℕ) × AreRead known script × IsBadLine kind script number
-      × (text ≡ stop_text (stop.BadLine number))))
+      ⊎ ((kind : KindName) × (kind_named words ≡ Some kind) × ((script : List ℕ) × (number : ℕ) × AreRead known script
+      × IsBadLine kind script number × (text ≡ stop_text (stop.BadLine number))))
 
   -- why the program stops before the end, and what it printed
   abbrev pub Stops : (List ℕ → Type 0) → Stop → Type 0

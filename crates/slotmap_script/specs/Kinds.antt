@@ -22,7 +22,8 @@ pub record MapKind (C M : Type 0) : Type 1 where
   pub is_new : M → Type 0
 
 -- the kind of map that has these
-abbrev pub kind_of : {C M : Type 0} → (List (List ℕ) → Option C) → (M → List C → List (Reply Key ℤ ℤ OutOfMemory) → M → Type 0) → SlotLists M → (M → Type 0) → MapKind C M
+abbrev pub kind_of : {C M : Type 0} → (List (List ℕ) → Option C) → (M → List C → List (Reply Key ℤ ℤ OutOfMemory) → M → Type 0)
+    → SlotLists M → (M → Type 0) → MapKind C M
 kind_of command_of replies_to lists is_new = record { command_of = command_of; replies_to = replies_to; lists = lists; is_new = is_new }
 
 -- The lists of the three kinds: each map is written and read as its content. The lists that are read are those of the maps' own calls
@@ -90,7 +91,9 @@ module _ {C M : Type 0} (kind : MapKind C M) where
   -- Why a run stops, and what it printed: nothing at a bad line, nothing or the first stretches where memory runs out or the script can't be
   -- read. What a failed write leaves isn't known
   abbrev pub StopsRun : Option (List ℕ) → (List ℕ → Type 0) → Stop → Type 0
-  StopsRun known Printed (stop.BadLine number) = (script : List ℕ) × AreRead known script × IsFirstBad kind.command_of (lines_of script) number × Printed []
-  StopsRun known Printed stop.NoScript = (text : List ℕ) × ((text ≡ []) ⊎ ((script : List ℕ) × AreRead known script × PrintsSome script text)) × Printed text
+  StopsRun known Printed (stop.BadLine number) =
+      (script : List ℕ) × AreRead known script × IsFirstBad kind.command_of (lines_of script) number × Printed []
+  StopsRun known Printed stop.NoScript =
+      (text : List ℕ) × ((text ≡ []) ⊎ ((script : List ℕ) × AreRead known script × PrintsSome script text)) × Printed text
   StopsRun known Printed stop.Output = ⊤
   StopsRun known Printed stop.Usage = ⊥

@@ -66,7 +66,8 @@ module _ {C M : Type 0} (Answers : M → List C → List (Reply Key ℤ ℤ OutO
 
   -- the first of these stretches print this text, and there is no memory for the replies of the next
   abbrev pub PrintsFirst : List (List C × Ending) → M → List ℕ → Type 0
-  PrintsFirst stretches old text = (first rest : List (List C × Ending)) × (last : M) × (stretches ≡ first ++ rest) × Prints first old text last
+  PrintsFirst stretches old text =
+      (first rest : List (List C × Ending)) × (last : M) × (stretches ≡ first ++ rest) × Prints first old text last
 
   -- why the run of these stretches stops, and what it printed; what a failed write leaves isn't known
   abbrev pub StopsStretches : List (List C × Ending) → M → (List ℕ → Type 0) → Stop → Type 0

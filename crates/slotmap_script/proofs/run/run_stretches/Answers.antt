@@ -25,8 +25,10 @@ returns-in_err-print_stretch-clause-err g c =
     let refused : c.from_residual.result ≡ Err why = search rules in
     let parts = taken_and_left c.into_iter-stretch-iterator.result c.loop-stretch.stretch-iterator c.loop-stretch.yielded c.loop-stretch.yielded_by in
     let all = c.into_iter-stretch-iterator.ensures.into_iter_gives.0 in
+    let held = contents c.args.output.now in
+    let held_now = contents c.loop-stretch.output in
+    let stops = stops_with contents c.loop-stretch.output c.print_stretch.new.output why c.in_err-print_stretch.ensures.err in
     rw refused (
-    stops_after g.C.Commands.replies_to g.M.Listed.lists c.args.stretches.items c.loop-stretch.yielded (into_iter_items c.loop-stretch.stretch-iterator) (sym all ∙ parts) c.args.map
-    c.loop-stretch.map before.0 before.1 (contents c.args.output.now) (contents c.loop-stretch.output) (contents c.print_stretch.new.output) before.2 why
-    (stops_with contents c.loop-stretch.output c.print_stretch.new.output why c.in_err-print_stretch.ensures.err)
+    stops_after g.C.Commands.replies_to g.M.Listed.lists c.args.stretches.items c.loop-stretch.yielded (into_iter_items c.loop-stretch.stretch-iterator)
+    (sym all ∙ parts) c.args.map c.loop-stretch.map before.0 before.1 held held_now (contents c.print_stretch.new.output) before.2 why stops
     )
