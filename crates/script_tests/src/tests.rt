@@ -22,7 +22,7 @@ fn list(alloc: Global, words: &[&str]) -> Result<Vec<String>, AllocError> {
 }
 
 // The status and the output of a script.
-fn outcome(alloc: Global, words: &[&str], script: &[u8]) -> Result<(u8, String), Fail> {
+fn outcome(alloc: Global, words: &[&str], script: &[u8]) -> Result<(Option<u8>, String), Fail> {
     let words = list(alloc, words)?;
     let mut input = script;
     let output = BufWriter::new(alloc, Vec::new(alloc))?;

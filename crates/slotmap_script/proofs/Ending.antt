@@ -1,14 +1,15 @@
 -- Why a script stops, from what its parts say.
-use Rattle.std.proofs.Common.{◌≡◌, ◌⊎◌, ◌<◌, ℕ, List, [], ◌∷◌, ◌++◌, length, get_or, map, Option, Some, None, Result, Ok, Err, OnOk, IfErr, string_bytes, String, Global, Bool, true, false, ap, subst, ◌∙◌, refl, arith, inl, inr}
+use Rattle.std.proofs.Common.{◌≡◌, ◌<◌, ℕ, List, [], ◌∷◌, ◌++◌, length, get_or, map, Option, Some, None, Result, Ok, Err, OnOk, OnSome, IfErr, string_bytes, String, Global, Bool, true, false, ap, subst, ◌∙◌, refl, arith, inl, inr}
 use Rattle.std.specs.Bool.{Decides}
 use Rattle.std.specs.Prelude.{codes, IfSome}
 use Rattle.std.specs.Str.{bytes_eq}
+use Rattle.std.proofs.lemmas.Option.{none-some}
 use Rattle.std.proofs.lemmas.Slice.Eq.{bytes_eq-Decides}
 use Rattle.std.specs.Io.KnownBytes.{Appends, append_known}
 use Rattle.slotmap_script.specs.ScriptText.{lines_of, StopsParse}
 use Rattle.slotmap_script.specs.Kinds.{MapKind, AreRead, StopsRun}
 use Rattle.slotmap_script.specs.StopText.{stop_text, Finishes}
-use Rattle.slotmap_script.specs.Ended.{KindName, basic, dense, hop, kind_named, Runs, Refuses, Stops, StopsOn, IsBadLine}
+use Rattle.slotmap_script.specs.Ended.{KindName, basic, dense, hop, kind_named, Runs, StopsShort, Refuses, Stops, StopsOn, IsBadLine}
 use Rattle.slotmap_script.specs.declared.stop.Stop.{Stop}
 use Rattle.slotmap_script.specs.declared.stop.Stop.TheVariants as stop
 use Rattle.slotmap_script.proofs.Appending.{Appends-none, Appends-trans, Appends-passed_on}
@@ -48,6 +49,9 @@ module _ {C M : Type 0} (kind : MapKind C M) (known : Option (List ℕ)) (old : 
   stops_parsed script read stop.Usage none = absurd none
   stops_parsed script read stop.Output none = absurd none
 
+same_status : (status other : ℕ) → Some status ≡ Some other → status ≡ other
+same_status status other same = cc
+
 module _ (words : List (List ℕ)) (known : Option (List ℕ)) (old mid inner : Option (List ℕ)) (buffer : List ℕ) where
   bad_line : (kind : KindName) (number : ℕ) → StopsOn kind known (Appends old mid) (stop.BadLine number)
       → (script : List ℕ) × AreRead known script × IsBadLine kind script number × Appends old mid []
@@ -60,35 +64,47 @@ module _ (words : List (List ℕ)) (known : Option (List ℕ)) (old mid inner : 
       → Appends old inner (first ++ last)
   passed_on first last h k empty = Appends-passed_on old inner buffer (first ++ last) (Appends-trans old mid (append_known inner buffer) first last h k) empty
 
-  empty_below_3 : (status : ℕ) → (buffer ≡ []) ⊎ (status ≡ 3) → status < 3 → buffer ≡ []
-  empty_below_3 status (inl empty) below = empty
-  empty_below_3 status (inr three) below = absurd (omega (arith, three))
-
   -- status 0 is that of a whole run
-  pub runs_at_0 : {T : Type 0} (ended : Result T Stop) (status : ℕ) → OnOk ended ((text : List ℕ) × Runs words known text × Appends old mid text)
-      → Finishes ended (Appends mid (append_known inner buffer)) status → (buffer ≡ []) ⊎ (status ≡ 3) → status ≡ 0
+  pub runs_at_0 : {T : Type 0} (ended : Result T Stop) (result : Option ℕ) → OnOk ended ((text : List ℕ) × Runs words known text × Appends old mid text)
+      → IfSome result (Finishes ended (Appends mid (append_known inner buffer))) → OnSome result (buffer ≡ []) → result ≡ Some 0
       → (text : List ℕ) × Runs words known text × Appends old inner text
-  runs_at_0 (Ok done) status ran (inl ends) all zero =
-      (ran.0, ran.1, subst (λ t. Appends old inner t) (append_nil ran.0) (passed_on ran.0 [] ran.2 ends.1 (empty_below_3 status all (omega (arith, zero)))))
-  runs_at_0 (Ok done) status ran (inr fails) all zero = absurd (omega (arith, fails, zero))
-  runs_at_0 (Err why) status ran (inr fails) all zero = absurd (omega (arith, fails, zero))
-  runs_at_0 (Err stop.Usage) status ran (inl ends) all zero = absurd (omega (arith, ends.0, zero))
-  runs_at_0 (Err (stop.BadLine number)) status ran (inl ends) all zero = absurd (omega (arith, ends.0, zero))
-  runs_at_0 (Err stop.NoScript) status ran (inl ends) all zero = absurd (omega (arith, ends.0, zero))
-  runs_at_0 (Err stop.Output) status ran (inl ends) all zero = absurd (omega (arith, ends.0, zero))
+  runs_at_0 ended None ran ends empty zero = absurd (none-some _ zero)
+  runs_at_0 (Ok done) (Some status) ran ends empty zero =
+      (ran.0, ran.1, subst (λ t. Appends old inner t) (append_nil ran.0) (passed_on ran.0 [] ran.2 ends.1 empty))
+  runs_at_0 (Err stop.Output) (Some status) ran ends empty zero = absurd ends
+  runs_at_0 (Err stop.Usage) (Some status) ran ends empty zero = absurd (omega (arith, ends.0, same_status status 0 zero))
+  runs_at_0 (Err (stop.BadLine number)) (Some status) ran ends empty zero = absurd (omega (arith, ends.0, same_status status 0 zero))
+  runs_at_0 (Err stop.NoScript) (Some status) ran ends empty zero = absurd (omega (arith, ends.0, same_status status 0 zero))
 
   -- status 2 is that of a fault of the words or of a line
-  pub refuses_at_2 : {T : Type 0} (ended : Result T Stop) (status : ℕ) → IfErr ended (Stops words known (Appends old mid))
-      → Finishes ended (Appends mid (append_known inner buffer)) status → (buffer ≡ []) ⊎ (status ≡ 3) → status ≡ 2
+  pub refuses_at_2 : {T : Type 0} (ended : Result T Stop) (result : Option ℕ) → IfErr ended (Stops words known (Appends old mid))
+      → IfSome result (Finishes ended (Appends mid (append_known inner buffer))) → OnSome result (buffer ≡ []) → result ≡ Some 2
       → (text : List ℕ) × Refuses words known text × Appends old inner text
-  refuses_at_2 (Ok done) status stops (inl ends) all two = absurd (omega (arith, ends.0, two))
-  refuses_at_2 (Ok done) status stops (inr fails) all two = absurd (omega (arith, fails, two))
-  refuses_at_2 (Err why) status stops (inr fails) all two = absurd (omega (arith, fails, two))
-  refuses_at_2 (Err stop.Usage) status stops (inl ends) all two =
-      (stop_text stop.Usage, inl (stops.0, refl), passed_on [] _ stops.1 ends.1 (empty_below_3 status all (omega (arith, two))))
-  refuses_at_2 (Err (stop.BadLine number)) status stops (inl ends) all two =
+  refuses_at_2 ended None stops ends empty two = absurd (none-some _ two)
+  refuses_at_2 (Ok done) (Some status) stops ends empty two = absurd (omega (arith, ends.0, same_status status 2 two))
+  refuses_at_2 (Err stop.Output) (Some status) stops ends empty two = absurd ends
+  refuses_at_2 (Err stop.NoScript) (Some status) stops ends empty two = absurd (omega (arith, ends.0, same_status status 2 two))
+  refuses_at_2 (Err stop.Usage) (Some status) stops ends empty two =
+      (stop_text stop.Usage, inl (stops.0, refl), passed_on [] _ stops.1 ends.1 empty)
+  refuses_at_2 (Err (stop.BadLine number)) (Some status) stops ends empty two =
       let bad = bad_line stops.0 number stops.2 in
-      let empty = empty_below_3 status all (omega (arith, two)) in
       (stop_text (stop.BadLine number), inr (stops.0, stops.1, (bad.0, number, bad.1, bad.2, refl)), passed_on [] _ bad.3 ends.1 empty)
-  refuses_at_2 (Err stop.NoScript) status stops (inl ends) all two = absurd (omega (arith, ends.0, two))
-  refuses_at_2 (Err stop.Output) status stops (inl ends) all two = absurd (omega (arith, ends.0, two))
+
+  no_script : (kind : KindName) → StopsOn kind known (Appends old mid) stop.NoScript
+      → (before : List ℕ) × StopsOn kind known (λ first. before ++ stop_text stop.NoScript ≡ first ++ stop_text stop.NoScript) stop.NoScript × Appends old mid before
+  no_script basic stops = (stops.0, (stops.0, stops.1, refl), stops.2)
+  no_script dense stops = (stops.0, (stops.0, stops.1, refl), stops.2)
+  no_script hop stops = (stops.0, (stops.0, stops.1, refl), stops.2)
+
+  -- status 3 is that of a script that can't be read, or for which there is no memory
+  pub stops_at_3 : {T : Type 0} (ended : Result T Stop) (result : Option ℕ) → IfErr ended (Stops words known (Appends old mid))
+      → IfSome result (Finishes ended (Appends mid (append_known inner buffer))) → OnSome result (buffer ≡ []) → result ≡ Some 3
+      → (text : List ℕ) × StopsShort words known text × Appends old inner text
+  stops_at_3 ended None stops ends empty three = absurd (none-some _ three)
+  stops_at_3 (Ok done) (Some status) stops ends empty three = absurd (omega (arith, ends.0, same_status status 3 three))
+  stops_at_3 (Err stop.Output) (Some status) stops ends empty three = absurd ends
+  stops_at_3 (Err stop.Usage) (Some status) stops ends empty three = absurd (omega (arith, ends.0, same_status status 3 three))
+  stops_at_3 (Err (stop.BadLine number)) (Some status) stops ends empty three = absurd (omega (arith, ends.0, same_status status 3 three))
+  stops_at_3 (Err stop.NoScript) (Some status) stops ends empty three =
+      let short = no_script stops.0 stops.2 in
+      (short.0 ++ stop_text stop.NoScript, (stops.0, stops.1, short.1), passed_on short.0 _ short.2 ends.1 empty)

@@ -1,5 +1,5 @@
 -- How the program ends: its status, and all that it prints.
-use Rattle.std.specs.Prelude.{◌≡◌, ◌⊎◌, ℕ, List, [], ◌∷◌, if◌then◌else◌, Option, Some, None}
+use Rattle.std.specs.Prelude.{◌≡◌, ◌⊎◌, ℕ, List, [], ◌∷◌, ◌++◌, if◌then◌else◌, Option, Some, None}
 use Rattle.slotmap_script.specs.CommandText.{says}
 use Rattle.slotmap_script.specs.StopText.{stop_text}
 use Rattle.slotmap_script.specs.ScriptText.{lines_of, IsFirstBad}
@@ -54,3 +54,7 @@ module _ (words : List (List ℕ)) (known : Option (List ℕ)) where
   abbrev pub Stops : (List ℕ → Type 0) → Stop → Type 0
   Stops Printed stop.Usage = (kind_named words ≡ None) × Printed []
   Stops Printed why = (kind : KindName) × (kind_named words ≡ Some kind) × StopsOn kind known Printed why
+
+  -- the text ends with the line that there was no memory for the script, or that it couldn't be read; this is what was printed before
+  abbrev pub StopsShort : List ℕ → Type 0
+  StopsShort text = Stops (λ before. text ≡ before ++ stop_text stop.NoScript) stop.NoScript

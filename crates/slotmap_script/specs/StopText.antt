@@ -1,5 +1,5 @@
 -- The last line of a script that ends early, and its status.
-use Rattle.std.specs.Prelude.{◌≡◌, ◌⊎◌, ℕ, List, [], ◌++◌, codes, Result, Ok, Err}
+use Rattle.std.specs.Prelude.{◌≡◌, ℕ, List, [], ◌++◌, codes, Result, Ok, Err}
 use Rattle.std.specs.Fmt.{decimal}
 use Rattle.slotmap_script.specs.ReplyText.{line}
 use Rattle.slotmap_script.specs.declared.stop.Stop.{Stop}
@@ -19,7 +19,8 @@ stop_status (stop.BadLine number) = 2
 stop_status stop.NoScript = 3
 stop_status stop.Output = 3
 
--- A script ends with this status, and prints the line of its end, or the status is 3: that line may not have been written
+-- a script that ended so has this status, and its last line is printed; there is no status after a write that failed
 abbrev pub Finishes : {T : Type 0} → Result T Stop → (List ℕ → Type 0) → ℕ → Type 0
-Finishes (Ok _) Printed status = ((status ≡ 0) × Printed []) ⊎ (status ≡ 3)
-Finishes (Err why) Printed status = ((status ≡ stop_status why) × Printed (stop_text why)) ⊎ (status ≡ 3)
+Finishes (Ok _) Printed status = (status ≡ 0) × Printed []
+Finishes (Err stop.Output) Printed status = ⊥
+Finishes (Err why) Printed status = (status ≡ stop_status why) × Printed (stop_text why)

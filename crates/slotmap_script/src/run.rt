@@ -1,13 +1,13 @@
 //! The run of a script, from its words to its status.
 
-ghost use Rattle.std.specs.Prelude.{◌≡◌, ◌⊎◌, ℕ, List, [], None, OnOk, IfErr, map as list_map, string_bytes};
+ghost use Rattle.std.specs.Prelude.{◌≡◌, ◌⊎◌, ℕ, List, [], Some, None, OnOk, OnSome, IfSome, IfErr, map as list_map, string_bytes};
 ghost use Rattle.std.specs.Io.Buffered.{writer_contents, writer_buffer};
 ghost use Rattle.std.specs.Io.KnownBytes.{Appends, Keeps};
 ghost use Rattle.slotmap_core.specs.Words.{IsNew};
 ghost use Rattle.slotmap_script.specs.ScriptText.{stretch_of, ending_of};
 ghost use Rattle.slotmap_script.specs.Printed.{Prints, PrintsStretch, PrintsEnd, StopsStretches, StopsStretch};
 ghost use Rattle.slotmap_script.specs.Kinds.{kind_of, basic_kind, dense_kind, hop_kind, AreRead, PrintsAll, StopsRun};
-ghost use Rattle.slotmap_script.specs.Ended.{kind_named, Runs, Refuses, Stops};
+ghost use Rattle.slotmap_script.specs.Ended.{kind_named, Runs, Refuses, Stops, StopsShort};
 ghost use Rattle.slotmap_script.specs.declared.stop.Stop.TheVariants.{Output};
 ghost use Rattle.slotmap_script.specs.StopText.{stop_status, stop_text, Finishes};
 
@@ -26,28 +26,29 @@ use std::io;
 use std::io::{BufWriter, Read, Write};
 
 /// Runs the script of the input on the kind of map that the words name, and returns the exit
-/// status.
+/// status and the writer.
 ///
 /// The kinds are `basic`, `dense` and `hop`. All lines are parsed before the first is run. The
 /// status is one of these:
 ///
 /// - 0 after a run,
 /// - 2 if the words or a line are wrong,
-/// - 3 if the script can't be read, the output can't be written, or memory for the script, the map
-///   or the replies runs out.
+/// - 3 if the script can't be read, or memory for the script, the map or the replies runs out.
 ///
-/// After a write that failed nothing more is written. With the status it returns the writer; all
-/// that was printed has been passed on to it, unless the status is 3.
+/// All that was printed has then been passed on to the writer. There is no status if the output
+/// can't be written. After a write that failed nothing more is written.
 pub fn run_script<R: Read, W: Write + Drop>(
     alloc: Global,
     words: &[String],
     input: &mut R,
     output: BufWriter<W>,
-) -> (u8, W)
-    ensures statuses { (result.0 ≡ 0) ⊎ (result.0 ≡ 2) ⊎ (result.0 ≡ 3) }
-    ensures runs { result.0 ≡ 0 → (text : List ℕ) × Runs (list_map string_bytes words.now) (R.remaining input.old) text
+) -> (Option<u8>, W)
+    ensures statuses { IfSome result.0 (λ status. (status ≡ 0) ⊎ (status ≡ 2) ⊎ (status ≡ 3)) }
+    ensures runs { result.0 ≡ Some 0 → (text : List ℕ) × Runs (list_map string_bytes words.now) (R.remaining input.old) text
         × Appends (writer_contents W.contents output) (W.contents result.1) text }
-    ensures refuses { result.0 ≡ 2 → (text : List ℕ) × Refuses (list_map string_bytes words.now) (R.remaining input.old) text
+    ensures refuses { result.0 ≡ Some 2 → (text : List ℕ) × Refuses (list_map string_bytes words.now) (R.remaining input.old) text
+        × Appends (writer_contents W.contents output) (W.contents result.1) text }
+    ensures stops { result.0 ≡ Some 3 → (text : List ℕ) × StopsShort (list_map string_bytes words.now) (R.remaining input.old) text
         × Appends (writer_contents W.contents output) (W.contents result.1) text }
     ensures unread { kind_named (list_map string_bytes words.now) ≡ None → input.new ≡ input.old }
 {
@@ -60,40 +61,38 @@ pub fn run_script<R: Read, W: Write + Drop>(
 }
 
 /// Writes why a script ended early, passes on all that was written, and returns the status, as
-/// [`run_script`] has it.
-pub fn finish<W: Write + Drop>(ended: Result<(), Stop>, output: &mut BufWriter<W>) -> u8
-    ensures ends { Finishes ended (Appends (writer_contents W.contents output.old) (writer_contents W.contents output.new)) result }
-    ensures passes_on { (writer_buffer output.new ≡ []) ⊎ (result ≡ 3) }
+/// [`run_script`] has it. It returns `None` if that or an earlier write fails.
+pub fn finish<W: Write + Drop>(ended: Result<(), Stop>, output: &mut BufWriter<W>) -> Option<u8>
+    ensures ends { IfSome result (Finishes ended (Appends (writer_contents W.contents output.old) (writer_contents W.contents output.new))) }
+    ensures passes_on { OnSome result (writer_buffer output.new ≡ []) }
     ensures silent { IfErr ended (λ why. why ≡ Output → output.new ≡ output.old) }
 {
     match ended {
         Ok(()) => pass_on(output, 0),
         // After a write that failed nothing more is written.
-        Err(Stop::Output) => 3,
+        Err(Stop::Output) => None,
         Err(stop) => tell(output, &stop),
     }
 }
 
 // Writes why a script ended early, and returns the status.
-fn tell<W: Write + Drop>(output: &mut BufWriter<W>, stop: &Stop) -> u8
-    ensures ends { ((result ≡ stop_status stop.now) × Appends (writer_contents W.contents output.old) (writer_contents W.contents output.new)
-        (stop_text stop.now)) ⊎ (result ≡ 3) }
-    ensures passes_on { (writer_buffer output.new ≡ []) ⊎ (result ≡ 3) }
+fn tell<W: Write + Drop>(output: &mut BufWriter<W>, stop: &Stop) -> Option<u8>
+    ensures ends { IfSome result (λ status. (status ≡ stop_status stop.now)
+        × Appends (writer_contents W.contents output.old) (writer_contents W.contents output.new) (stop_text stop.now)) }
+    ensures passes_on { OnSome result (writer_buffer output.new ≡ []) }
 {
-    let Ok(()) = write_stop(output, stop) else {
-        return 3;
-    };
+    write_stop(output, stop).ok()?;
     pass_on(output, stop.status())
 }
 
-// Returns the status, or 3 if what was written can't be passed on.
-fn pass_on<W: Write + Drop>(output: &mut BufWriter<W>, status: u8) -> u8
-    ensures ends { ((result ≡ status) × Keeps (writer_contents W.contents output.old) (writer_contents W.contents output.new)) ⊎ (result ≡ 3) }
-    ensures passes_on { (writer_buffer output.new ≡ []) ⊎ (result ≡ 3) }
+// Returns the status, or `None` if what was written can't be passed on.
+fn pass_on<W: Write + Drop>(output: &mut BufWriter<W>, status: u8) -> Option<u8>
+    ensures ends { IfSome result (λ same. (same ≡ status) × Keeps (writer_contents W.contents output.old) (writer_contents W.contents output.new)) }
+    ensures passes_on { OnSome result (writer_buffer output.new ≡ []) }
 {
     match output.flush() {
-        Ok(()) => status,
-        Err(_) => 3,
+        Ok(()) => Some(status),
+        Err(_) => None,
     }
 }
 

@@ -29,7 +29,8 @@ fn start(rt: &HostRuntime) -> io::Result<(Vec<String>, BufWriter<Stdout>)> {
     Ok((words, output))
 }
 
-// Runs the script of the input, and returns the exit status.
+// Runs the script of the input, and returns the exit status, which is 3 if the output can't be
+// written.
 fn run(rt: &HostRuntime) -> u8
     ensures { (result ≡ 0) ⊎ (result ≡ 2) ⊎ (result ≡ 3) }
 {
@@ -38,7 +39,7 @@ fn run(rt: &HostRuntime) -> u8
         return 3;
     };
     let (status, _stdout) = run_script(rt.alloc(), &words, &mut rt.stdin(), output);
-    status
+    status.unwrap_or(3)
 }
 
 fn main(rt: HostRuntime) -> ExitCode {

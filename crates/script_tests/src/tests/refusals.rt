@@ -112,7 +112,7 @@ impl Commands<Refusing> for Unanswered {
 }
 
 // The status and the output of a script on a map for which there is no memory.
-fn run_refusing(alloc: Global, script: &[u8]) -> Result<(u8, Vec<u8>), Fail> {
+fn run_refusing(alloc: Global, script: &[u8]) -> Result<(Option<u8>, Vec<u8>), Fail> {
     let stretches = parse::<Refusing, Unanswered>(alloc, script)
         .ok()
         .ok_or("a script")?;
@@ -128,7 +128,7 @@ fn refused_memory(rt: HostRuntime) -> Result<(), Fail> {
     let script = b"slots\nload []\nload [{\"version\":0}]\nlen\nslots\n";
     let (status, output) = run_refusing(rt.alloc(), script)?;
     let want = b"memory\ntoo many\nmemory\nno script\n";
-    assert_eq!(rt; (status, output.as_slice()), (3, want.as_slice()));
+    assert_eq!(rt; (status, output.as_slice()), (Some(3), want.as_slice()));
     Ok(())
 }
 
@@ -145,7 +145,7 @@ static PLAIN: [(&str, &str, u8); 3] = [
 ];
 
 // The status and the output of a script on a map whose keys can't be detached.
-fn run_plain(alloc: Global, mut script: &[u8]) -> Result<(u8, Vec<u8>), Fail> {
+fn run_plain(alloc: Global, mut script: &[u8]) -> Result<(Option<u8>, Vec<u8>), Fail> {
     let mut output = BufWriter::new(alloc, Vec::new(alloc))?;
     let ended = run_on::<SlotMap<DefaultKey, i32>, Plain, _, _>(alloc, &mut script, &mut output);
     let status = finish(ended, &mut output);
@@ -157,7 +157,7 @@ fn run_plain(alloc: Global, mut script: &[u8]) -> Result<(u8, Vec<u8>), Fail> {
 fn plain_lines(rt: HostRuntime) -> Result<(), Fail> {
     for (script, want, wanted_status) in &PLAIN {
         let (status, output) = run_plain(rt.alloc(), script.as_bytes())?;
-        assert_eq!(rt; status, *wanted_status);
+        assert_eq!(rt; status, Some(*wanted_status));
         assert_eq!(rt; output.as_slice(), want.as_bytes());
     }
     Ok(())
