@@ -35,11 +35,13 @@ module _ {T : Type 0} (jobs : Content (Job T)) (count : ℕ) (is : InOrder (time
   seen_job j found before job seen = grind (arith, seen_is)
 
 -- a job as it is in the map: with its place, and without
-spot_there : {T : Type 0} (o : Option (Job T)) (t : Turn) (x : T) → option_map unplaced o ≡ Some (t, x) → (p : ℕ) × (option_map {U = ℕ × Turn} (λ (j : Job T). (j.place, j.turn)) o ≡ Some (p, t))
+spot_there : {T : Type 0} (o : Option (Job T)) (t : Turn) (x : T) → option_map unplaced o ≡ Some (t, x) → (p : ℕ)
+    × (option_map {U = ℕ × Turn} (λ (j : Job T). (j.place, j.turn)) o ≡ Some (p, t))
 spot_there None t x is = absurd (cc)
 spot_there (Some j) t x is = (j.place, grind arith)
 
-pub job_there : {T : Type 0} (o : Option (Job T)) (p : ℕ) (t : Turn) → option_map {U = ℕ × Turn} (λ (j : Job T). (j.place, j.turn)) o ≡ Some (p, t) → (x : T) × (option_map unplaced o ≡ Some (t, x))
+pub job_there : {T : Type 0} (o : Option (Job T)) (p : ℕ) (t : Turn) → option_map {U = ℕ × Turn} (λ (j : Job T). (j.place, j.turn)) o ≡ Some (p, t)
+    → (x : T) × (option_map unplaced o ≡ Some (t, x))
 job_there None p t is = absurd (cc)
 job_there (Some j) p t is = (j.job, grind arith)
 
@@ -92,7 +94,8 @@ module _ {T : Type 0} (jobs : Content (Job T)) (count : ℕ) (is : InOrder (time
   pub found_waits : (j : Job T) → map.get jobs.live k ≡ Some j → (x : T) × (job_of k (waiting_of (timed jobs).live) ≡ Some (j.turn.0, x))
   found_waits j found = (j.job, seen_is jobs count is k ∙ ap (option_map (λ (y : Job T). (y.turn.0, y.job))) found)
 
-  pub alone_at : IsContent true jobs → (j : Job T) → map.get jobs.live k ≡ Some j → (floor : ℕ) → ((other : Key) → IsLive jobs other → floor ≤ other.index → k.index ≤ other.index)
+  pub alone_at : IsContent true jobs → (j : Job T) → map.get jobs.live k ≡ Some j → (floor : ℕ)
+      → ((other : Key) → IsLive jobs other → floor ≤ other.index → k.index ≤ other.index)
       → (q : Key) → is_some (job_of q (waiting_of (timed jobs).live)) ≡ true → floor ≤ q.index → q.index ≤ k.index → q ≡ k
   alone_at well j found floor first q there from up =
       let live : IsLive jobs q = contains_seen jobs count is q ∙ there in

@@ -9,7 +9,8 @@ use Rattle.slotmap_scheduler.proofs.Scheduler.cancel.Goals as goal
 
 pub invariant_of-self-2 : goal.invariant_of-self-2
 invariant_of-self-2 g c =
-    left_schedule c.self.inside.jobs c.self.inside.count c.self.inside.heap c.self.invariant c.inner.result c.in_ok-removed.removed (sym c.take_out.ensures.value ∙ c.in_ok-removed.was) c.take_out.new.jobs
+    left_schedule c.self.inside.jobs c.self.inside.count c.self.inside.heap c.self.invariant c.inner.result c.in_ok-removed.removed
+    (sym c.take_out.ensures.value ∙ c.in_ok-removed.was) c.take_out.new.jobs
     c.in_ok-removed.ensures.removes c.take_out.new.heap c.take_out.ensures.valid.after c.take_out.ensures.indexed c.take_out.ensures.capacity
 
 pub returns : goal.returns
@@ -23,16 +24,22 @@ returns g c =
     let len = c.self.invariant.indexed.len in
     let now = out.indexed.len in
     record {
-      job = rw (← c.self.view_is, ← c.inner.ensures) (ap (option_map (λ (j : Job g.row.T.Denot). j.job)) (sym found) ∙ job_seen c.self.inside.jobs c.self.inside.count c.self.invariant.order c.inner.result);
-      removed = rw (← c.self.view_is, ← c.inner.ensures) (left_waits c.self.inside.jobs c.self.inside.count c.self.inside.heap c.self.invariant c.inner.result c.in_ok-removed.removed found c.take_out.new.jobs removes);
-      one_less = rw (← c.self.view_is) (left_less c.self.inside.jobs c.self.inside.count c.self.inside.heap c.self.invariant c.inner.result c.in_ok-removed.removed found c.take_out.new.jobs removes);
-      others = rw (← c.self.view_is, ← c.inner.ensures) (left_others c.self.inside.jobs c.self.inside.count c.self.inside.heap c.self.invariant c.inner.result c.in_ok-removed.removed found c.take_out.new.jobs removes);
-      handles = rw (← c.self.view_is, ← c.inner.ensures) (handles_removed (timed c.self.inside.jobs) (timed c.take_out.new.jobs) c.self.inside.heap c.take_out.new.heap c.inner.result removes (omega arith) out.capacity);
+      job = rw (← c.self.view_is, ← c.inner.ensures)
+          (ap (option_map (λ (j : Job g.row.T.Denot). j.job)) (sym found) ∙ job_seen c.self.inside.jobs c.self.inside.count c.self.invariant.order c.inner.result);
+      removed = rw (← c.self.view_is, ← c.inner.ensures)
+          (left_waits c.self.inside.jobs c.self.inside.count c.self.inside.heap c.self.invariant c.inner.result c.in_ok-removed.removed found c.take_out.new.jobs removes);
+      one_less = rw (← c.self.view_is)
+          (left_less c.self.inside.jobs c.self.inside.count c.self.inside.heap c.self.invariant c.inner.result c.in_ok-removed.removed found c.take_out.new.jobs removes);
+      others = rw (← c.self.view_is, ← c.inner.ensures)
+          (left_others c.self.inside.jobs c.self.inside.count c.self.inside.heap c.self.invariant c.inner.result c.in_ok-removed.removed found c.take_out.new.jobs removes);
+      handles = rw (← c.self.view_is, ← c.inner.ensures)
+          (handles_removed (timed c.self.inside.jobs) (timed c.take_out.new.jobs) c.self.inside.heap c.take_out.new.heap c.inner.result removes (omega arith) out.capacity);
       turns = search rules;
       unchanged = search rules;
       capacity = rw (← c.self.view_is) (same_capacity (timed c.self.inside.jobs) (timed c.take_out.new.jobs) c.self.inside.heap c.take_out.new.heap out.valid.capacity out.capacity);
       leaves = rw (← c.self.view_is) (handles_left (timed c.self.inside.jobs) (timed c.take_out.new.jobs) c.self.inside.heap c.take_out.new.heap
-          (left_leaves c.self.inside.jobs c.self.inside.count c.self.inside.heap c.self.invariant c.inner.result c.in_ok-removed.removed found c.take_out.new.jobs removes) (omega arith) (omega arith) out.capacity);
+          (left_leaves c.self.inside.jobs c.self.inside.count c.self.inside.heap c.self.invariant c.inner.result c.in_ok-removed.removed found
+          c.take_out.new.jobs removes) (omega arith) (omega arith) out.capacity);
       for_good = rw (← c.inner.ensures) (handles_spent (timed c.take_out.new.jobs) c.take_out.new.heap c.inner.result (removed_spent _ _ true well c.inner.result live removes));
       stale = rw (← c.self.view_is) (handles_stale _ _ c.self.inside.heap c.take_out.new.heap (spent_removes _ _ true well c.inner.result live removes));
     }

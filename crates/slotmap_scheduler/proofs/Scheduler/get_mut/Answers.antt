@@ -14,7 +14,8 @@ returns-in-Some g c = (
       ∙ ap (λ k. record c.args.self.now { waiting = with_job k w c.args.self.now.waiting }) c.inner.ensures),
   record {
     writes_back = tt;
-    value = rw (← c.self.view_is, ← c.inner.ensures) (ap (option_map (λ (j : Job g.row.T.Denot). j.job)) c.in-Some.ensures.value ∙ job_seen c.self.inside.jobs c.self.inside.count c.self.invariant.order c.inner.result);
+    value = rw (← c.self.view_is, ← c.inner.ensures)
+        (ap (option_map (λ (j : Job g.row.T.Denot). j.job)) c.in-Some.ensures.value ∙ job_seen c.self.inside.jobs c.self.inside.count c.self.invariant.order c.inner.result);
   },
 )
 
@@ -23,6 +24,7 @@ returns-in-None g c = (
   same_unlent _ _ c.self.view_is,
   record {
     writes_back = tt;
-    value = rw (← c.self.view_is, ← c.inner.ensures) (ap (option_map (λ (j : Job g.row.T.Denot). j.job)) c.in-None.ensures.value ∙ job_seen c.self.inside.jobs c.self.inside.count c.self.invariant.order c.inner.result);
+    value = rw (← c.self.view_is, ← c.inner.ensures)
+        (ap (option_map (λ (j : Job g.row.T.Denot). j.job)) c.in-None.ensures.value ∙ job_seen c.self.inside.jobs c.self.inside.count c.self.invariant.order c.inner.result);
   },
 )

@@ -17,7 +17,8 @@ returns-clause-later g c now later =
 pub returns-in_err-next-clause-none : goal.returns-in_err-next-clause-none
 returns-in_err-next-clause-none g c =
     let none = none_copied _ _ c.first.ensures.value c.in_err-next.was in
-    rw (c.from_residual.ensures, ← c.self.view_is) (empty_waits c.self.inside.jobs c.self.inside.count c.self.inside.heap c.self.invariant (ap (λ xs. slice_get xs 0) (sym c.deref.ensures.value) ∙ none))
+    rw (c.from_residual.ensures, ← c.self.view_is)
+    (empty_waits c.self.inside.jobs c.self.inside.count c.self.inside.heap c.self.invariant (ap (λ xs. slice_get xs 0) (sym c.deref.ensures.value) ∙ none))
 
 pub returns-clause-sorted : goal.returns-clause-sorted
 returns-clause-sorted g c = rw (← c.self.view_is) (waits_by_time (timed c.self.inside.jobs).live)
