@@ -414,6 +414,15 @@ def scheduler_part(size):
     tell("all due", all_due(jobs, 500))
     tell("left", jobs.seen())
     tell("cleared", [])
+    retained, drained = [], []
+    for job in sorted(jobs.turn):
+        time, turn = jobs.turn[job]
+        value = (jobs.value[job] + time) & MASK
+        if value % 3 != 0:
+            retained += [time, value]
+            drained.append((time, turn, value))
+    tell("retained", retained)
+    tell("drained", [number for time, _, value in sorted(drained) for number in (time, value)])
     tell("copied", all_due(jobs, 1000))
 
 
