@@ -48,11 +48,11 @@ module _ {T : Type 0} (jobs : Content (Job T)) (empty : jobs.live ≡ map.empty)
     room = (let len = no_len in omega arith);
   }
 
-module _ {T Z : Type 0} (jobs : Content (Job T)) (count : ℕ) (heap : Vec Entry Z) (is : IsSchedule jobs count heap) where
-  -- the handles are a content
-  pub schedule_content : IsContent true (handles_of (timed jobs) heap)
-  schedule_content = handles_content (timed jobs) heap is.valid is.indexed.len is.room
+-- the handles are a content
+pub schedule_content : {T Z : Type 0} {jobs : Content (Job T)} {count : ℕ} {heap : Vec Entry Z} → IsSchedule jobs count heap → IsContent true (handles_of (timed jobs) heap)
+schedule_content {jobs = jobs} {heap = heap} is = handles_content (timed jobs) heap is.valid is.indexed.len is.room
 
+module _ {T Z : Type 0} {jobs : Content (Job T)} {count : ℕ} {heap : Vec Entry Z} (is : IsSchedule jobs count heap) where
   -- room was made in the map and in the heap
   pub reserved_schedule : (jobs' : Content (Job T)) (heap' : Vec Entry Z) (n : ℕ) (ok : Type 0) → MakesRoom true jobs n ok jobs' → heap'.items ≡ heap.items → vec_len heap' ≡ vec_len heap
       → vec_capacity heap ≤ vec_capacity heap' → IsSchedule jobs' count heap'
@@ -227,16 +227,14 @@ module _ {T Z : Type 0} (jobs : Content (Job T)) (count : ℕ) (heap : Vec Entry
           let handles = handles_written (timed jobs) (timed now) heap heap k (j.turn, w) (ap is_some had) (mapped-with unplaced jobs jobs k (record j { job = w })) refl refl in
           λ i. record { waiting = waiting i; handles = handles i; turns = count }
 
--- room was made in the map and in the heap, so for the handles
-pub reserved_room : {T Z : Type 0} (jobs : Content (Job T)) (count : ℕ) (heap : Vec Entry Z) (is : IsSchedule jobs count heap) (jobs' : Content (Job T))
-    (heap' : Vec Entry Z) (n : ℕ) (made ok : Type 0)
-    → MakesRoom true jobs n made jobs' → heap'.items ≡ heap.items → vec_len heap' ≡ vec_len heap → vec_capacity heap ≤ vec_capacity heap'
-    → (vec_len heap + n ≤ vec_capacity heap → vec_capacity heap' ≡ vec_capacity heap) → (ok → made × (vec_len heap' + n ≤ vec_capacity heap'))
-    → (n ≤ jobs.room → vec_len heap + n ≤ vec_capacity heap → ok)
-    → MakesRoom true (handles_of (timed jobs) heap) n ok (handles_of (timed jobs') heap')
-reserved_room jobs count heap is jobs' heap' n made ok makes items len more same has had =
-    handles_room (timed jobs) (timed jobs') heap heap' n made ok (mapped-room unplaced jobs jobs' n made makes) (schedule_content jobs count heap is)
-    (schedule_content jobs' count heap' (reserved_schedule jobs count heap is jobs' heap' n made makes items len more)) is.indexed.len len more same has had
+  -- room was made in the map and in the heap, so for the handles
+  pub reserved_room : (jobs' : Content (Job T)) (heap' : Vec Entry Z) (n : ℕ) (made ok : Type 0) → MakesRoom true jobs n made jobs' → heap'.items ≡ heap.items
+      → vec_len heap' ≡ vec_len heap → vec_capacity heap ≤ vec_capacity heap' → (vec_len heap + n ≤ vec_capacity heap → vec_capacity heap' ≡ vec_capacity heap)
+      → (ok → made × (vec_len heap' + n ≤ vec_capacity heap')) → (n ≤ jobs.room → vec_len heap + n ≤ vec_capacity heap → ok)
+      → MakesRoom true (handles_of (timed jobs) heap) n ok (handles_of (timed jobs') heap')
+  reserved_room jobs' heap' n made ok makes items len more same has had =
+      handles_room (timed jobs) (timed jobs') heap heap' n made ok (mapped-room unplaced jobs jobs' n made makes) (schedule_content is)
+      (schedule_content (reserved_schedule jobs' heap' n made makes items len more)) is.indexed.len len more same has had
 
 -- all jobs were taken out
 pub schedule_cleared : {T Z : Type 0} (jobs jobs' : Content (Job T)) (count : ℕ) (heap heap' : Vec Entry Z) → IsSchedule jobs count heap

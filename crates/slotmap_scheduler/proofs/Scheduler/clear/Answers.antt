@@ -31,7 +31,7 @@ returns-clause-leaves g c =
 
 pub returns-clause-for_good : goal.returns-clause-for_good
 returns-clause-for_good g c k waits =
-    let live = contains_seen c.self.inside.jobs c.self.inside.count c.self.invariant.order k ∙ rw (← c.self.view_is) at waits in
+    let live = contains_seen c.self.invariant k ∙ rw (← c.self.view_is) at waits in
     let none = contains-mapped unplaced c.clear.new.self.live k ∙ ap (λ m. map.contains_key m k) c.clear.ensures.empty ∙ ap is_some (map.get-empty {X = Job g.row.T.Denot} key_cmp k) in
     handles_spent (timed c.clear.new.self) c.clear-2.new.self k (left_spent (timed c.self.inside.jobs) (timed c.clear.new.self) true c.self.invariant.valid k
     (mapped-leaves unplaced c.self.inside.jobs c.clear.new.self c.clear.ensures.leaves) (live-mapped unplaced c.self.inside.jobs k live) none)
