@@ -66,6 +66,18 @@ fn sum_of(jobs: &Numbers) -> Sum {
     sum
 }
 
+// The time of each job, by the list of the handles, and then each number.
+fn sum_of_lists(jobs: &Numbers) -> Sum {
+    let mut sum = Sum::new();
+    for handle in jobs.keys() {
+        sum.add_some(jobs.due(handle));
+    }
+    for number in jobs.values() {
+        sum.add(*number);
+    }
+    sum
+}
+
 // Each of these jobs that waits, by its handle.
 fn sum_of_handles(jobs: &Numbers, handles: &[DefaultKey]) -> Sum {
     let mut sum = Sum::new();
@@ -115,6 +127,7 @@ fn fill(
     size: u64,
 ) -> bool {
     let told = tell(rt, "scheduled", sum_of(jobs))
+        && tell(rt, "listed", sum_of_lists(jobs))
         && tell(rt, "moves", reschedule_some(jobs, handles, random, size))
         && tell(
             rt,
@@ -158,6 +171,24 @@ fn drain(jobs: &mut Numbers) -> Sum {
     sum
 }
 
+// Takes a scheduler apart: each job with its time.
+fn sum_in_order(jobs: Numbers) -> Sum {
+    let mut sum = Sum::new();
+    for (_, time, number) in jobs {
+        sum.add(time);
+        sum.add(number);
+    }
+    sum
+}
+
+// Takes a copy apart.
+fn take_apart(rt: &HostRuntime, jobs: &Numbers) -> bool {
+    match jobs.clone() {
+        Ok(copy) => tell(rt, "in order", sum_in_order(copy)),
+        Err(_) => false,
+    }
+}
+
 // Keeps some jobs of a copy, and drains it.
 fn retain_and_drain(rt: &HostRuntime, jobs: &Numbers, handles: &[DefaultKey]) -> bool {
     let Ok(mut copy) = jobs.clone() else {
@@ -176,6 +207,7 @@ fn copy(rt: &HostRuntime, jobs: &mut Numbers, handles: &[DefaultKey]) -> bool {
     };
     jobs.clear();
     tell(rt, "cleared", sum_of(jobs))
+        && take_apart(rt, &copy)
         && retain_and_drain(rt, &copy, handles)
         && tell_all_due(rt, "copied", &mut copy, 1000)
 }
