@@ -1,4 +1,4 @@
--- What callers of a world cite: a loop over the positions of its keys, which may change the components on the way.
+-- What callers of a world cite: loops over the positions of its keys, which change components or remove entities on their way.
 use Rattle.std.proofs.Common.{◌≡◌, ◌≢◌, ◌⊎◌, ℕ, zero, suc, ◌+◌, ◌-◌, ◌<◌, ◌≤◌, true, false, Some, List}
 use Rattle.std.proofs.Common.{Option, None, IfSome, IfNone, swap_remove}
 use Rattle.std.proofs.lemmas.Grind.{common_steps}
@@ -25,7 +25,8 @@ module _ {V : Type 0} where
       → map.contains_key (map.from_entries {R = key_cmp} (zip ks vs)) k ≡ true
   stands_in [] vs same i k there = absurd (cc)
   stands_in (q ∷ ks) [] same i k there = absurd (omega (arith, same))
-  stands_in (q ∷ ks) (v ∷ vs) same zero k there = grind (arith, map.get-insert keys_total (map.from_entries (zip ks vs)) q v k, tied keys_total exact_keys k q)
+  stands_in (q ∷ ks) (v ∷ vs) same zero k there =
+      grind (arith, map.get-insert keys_total (map.from_entries (zip ks vs)) q v k, tied keys_total exact_keys k q)
   stands_in (q ∷ ks) (v ∷ vs) same (suc i) k there =
       let rest = stands_in ks vs (omega (arith, same)) i k there in
       grind (arith, map.get-insert keys_total (map.from_entries (zip ks vs)) q v k)
@@ -44,14 +45,16 @@ module _ {V : Type 0} where
       ap suc (once_in ks vs (omega (arith, same)) (first_apart (q, v) (zip ks vs) once).1 i j k here there)
 
   -- each key of the map stands at a position
-  found_in : (ks : List Key) (vs : List V) → length vs ≡ length ks → (k : Key) → map.contains_key (map.from_entries {R = key_cmp} (zip ks vs)) k ≡ true
+  found_in : (ks : List Key) (vs : List V) → length vs ≡ length ks → (k : Key)
+      → map.contains_key (map.from_entries {R = key_cmp} (zip ks vs)) k ≡ true
       → (i : ℕ) × (slice_get ks i ≡ Some k)
   found_in [] vs same k live = absurd (let none = map.get-empty {X = V} key_cmp k in cc)
   found_in (q ∷ ks) [] same k live = absurd (omega (arith, same))
   found_in (q ∷ ks) (v ∷ vs) same k live = elim (alike_or_apart keys_total exact_keys k q) [
     | inl is ↦ (0, ap Some (sym is))
     | inr other ↦
-        let rest = found_in ks vs (omega (arith, same)) k (grind (arith, map.get-insert keys_total (map.from_entries (zip ks vs)) q v k, tied keys_total exact_keys k q)) in
+        let rest = found_in ks vs (omega (arith, same)) k
+        (grind (arith, map.get-insert keys_total (map.from_entries (zip ks vs)) q v k, tied keys_total exact_keys k q)) in
         (suc rest.0, rest.1)
   ]
 
@@ -82,14 +85,15 @@ module _ {V : Type 0} where
 abbrev pub ListsKeys : {K V : Type 0} → (K → Key) → List K → Dense V → Type 0
 ListsKeys data_of slice d = record { keys : list_map data_of slice ≡ d.keys; count : length slice ≡ map.len d.content.live; valid : IsDense d }
 
--- a loop over the positions of the keys, which adds and removes no entity, is at one of them: `Change` says what became of each key before it, where `part` is what a
--- world has of a key; what it has of the others is as it was
+-- a loop over the positions of the keys is at one of them, and no entity came or went: `Change` says what became of each key before the position, where
+-- `part` is what a world has of a key, and what it has of the others is as it was
 pub record Passes {E T X : Type 0} (old now : World E T) (at : ℕ) (part : World E T → Key → X) (Change : Key → X → X → Type 0) : Type 0 where
   pub entities : now.entities ≡ old.entities
   pub changed : (i : ℕ) (k : Key) → i < at → slice_get old.entities.keys i ≡ Some k → Change k (part old k) (part now k)
   pub ahead : (k : Key) → ((i : ℕ) → i < at → slice_get old.entities.keys i ≢ Some k) → part now k ≡ part old k
 
-module _ {E T X : Type 0} {part : World E T → Key → X} {Change : Key → X → X → Type 0} {old now : World E T} {at : ℕ} (passes : Passes old now at part Change) where
+module _ {E T X : Type 0} {part : World E T → Key → X} {Change : Key → X → X → Type 0} {old now : World E T} {at : ℕ}
+    (passes : Passes old now at part Change) where
   module _ {K : Type 0} (data_of : K → Key) (slice : List K) (listed : ListsKeys data_of slice now.entities) (inside : at < map.len old.entities.content.live)
       (k : K) (here : k ≡ get_or slice at k) where
     stands : slice_get old.entities.keys at ≡ Some (data_of k)
@@ -120,7 +124,8 @@ module _ {E T X : Type 0} {part : World E T → Key → X} {Change : Key → X �
         changes = rw (← as_it_was) change
 
   -- after the loop this holds of each entity
-  pub pass_end : IsDense old.entities → map.len old.entities.content.live ≤ at → (k : Key) → IsLive old.entities.content k → Change k (part old k) (part now k)
+  pub pass_end : IsDense old.entities → map.len old.entities.content.live ≤ at → (k : Key) → IsLive old.entities.content k
+      → Change k (part old k) (part now k)
   pass_end valid all k live =
       let stands = stands_somewhere old.entities valid k live in
       passes.changed stands.0 k (omega (arith, all, key_count old.entities valid, slice_get_within old.entities.keys stands.0 k stands.1)) stands.1
@@ -129,7 +134,8 @@ module _ {X : Type 0} where
   before_gap : (xs : List X) (p i : ℕ) (d : X) → i < p → p < length xs → slice_get (swap_remove xs p d) i ≡ slice_get xs i
   before_gap xs p i d less inside = grind (arith, common_steps, slice_get-get_or xs i d, slice_get-get_or (swap_remove xs p d) i d)
 
-  behind_gap : (xs : List X) (p i : ℕ) (d x : X) → p ≤ i → p < length xs → slice_get (swap_remove xs p d) i ≡ Some x → (j : ℕ) × (p < j) × (slice_get xs j ≡ Some x)
+  behind_gap : (xs : List X) (p i : ℕ) (d x : X) → p ≤ i → p < length xs → slice_get (swap_remove xs p d) i ≡ Some x → (j : ℕ)
+      × (p < j) × (slice_get xs j ≡ Some x)
   behind_gap xs p i d x more inside found =
       let short : i < length xs - 1 = grind (arith, common_steps, slice_get_within (swap_remove xs p d) i x found) in
       let is = slice_get-get_or (swap_remove xs p d) i d (slice_get_within (swap_remove xs p d) i x found) in
@@ -151,7 +157,8 @@ module _ {V T P : Type 0} (old new : World V T) (valid : IsDense old.entities) (
     gap_before : (i : ℕ) → i < at → slice_get new.entities.keys i ≡ slice_get old.entities.keys i
     gap_before i less = ap (λ ks. slice_get ks i) closes.keys ∙ before_gap old.entities.keys closes.position i k (omega (arith, gap, less)) within
 
-    gap_behind : (i : ℕ) (q : Key) → at ≤ i → slice_get new.entities.keys i ≡ Some q → (j : ℕ) × (at < j) × (slice_get old.entities.keys j ≡ Some q)
+    gap_behind : (i : ℕ) (q : Key) → at ≤ i → slice_get new.entities.keys i ≡ Some q → (j : ℕ) × (at < j)
+        × (slice_get old.entities.keys j ≡ Some q)
     gap_behind i q more found = rw (← gap) (behind_gap old.entities.keys closes.position i k q (omega (arith, gap, more)) within (rw closes.keys at found))
 
   kept_before : (result : Option (V × P)) → IfSome result (λ removed. ClosesGap old.entities k removed.0 new.entities) → IfNone result (new ≡ old)
@@ -173,9 +180,10 @@ module _ {V T P : Type 0} (old new : World V T) (valid : IsDense old.entities) (
       )
   kept_behind (Some taken) closes same removed i q more found = gap_behind taken closes i q more found
 
--- a loop over the positions that removes entities on its way: `Keeps` says what became of each key before the position, what the world has of the others is as it was, and
--- each entity that is gone was one that `Goes`
-pub record Thins {E T X : Type 0} (old now : World E T) (at : ℕ) (part : World E T → Key → X) (Keeps : Key → X → X → Type 0) (Goes : Key → X → Type 0) : Type 0 where
+-- the same of a loop that removes entities on its way: `Keeps` says what became of each key before the position, what the world has of the others is as
+-- it was, and each entity that is gone was one that `Goes`
+pub record Thins {E T X : Type 0} (old now : World E T) (at : ℕ) (part : World E T → Key → X) (Keeps : Key → X → X → Type 0)
+    (Goes : Key → X → Type 0) : Type 0 where
   pub kept : (i : ℕ) (k : Key) → i < at → slice_get now.entities.keys i ≡ Some k → Keeps k (part old k) (part now k)
   pub ahead : (i : ℕ) (k : Key) → at ≤ i → slice_get now.entities.keys i ≡ Some k → part now k ≡ part old k
   pub still : (k : Key) → IsLive now.entities.content k → IsLive old.entities.content k
@@ -202,7 +210,8 @@ module _ {E T X : Type 0} {part : World E T → Key → X} {Keeps : Key → X �
         | inl is ↦ rw is keeps_here
         | inr other ↦ rw (others q other) (thins.kept i q (before i q less (stood i q found) other) (stood i q found))
       ];
-      ahead = λ i q more found. others q (apart i q (λ is. omega (arith, more, is)) (stood i q found)) ∙ thins.ahead i q (omega (arith, more)) (stood i q found);
+      ahead = λ i q more found. others q (apart i q (λ is. omega (arith, more, is)) (stood i q found))
+          ∙ thins.ahead i q (omega (arith, more)) (stood i q found);
       still = λ q live. thins.still q (rw same at live);
       gone = λ q live. rw same (thins.gone q live);
     }
@@ -217,7 +226,8 @@ module _ {E T X : Type 0} {part : World E T → Key → X} {Keeps : Key → X �
         keeps_here = rw (← unchanged_here) keeps
 
     -- a step that removes the entity at the position
-    pub thin_out : (new : World E T) {P : Type 0} (result : Option (E × P)) → IfSome result (λ removed. ClosesGap now.entities (data_of k) removed.0 new.entities)
+    pub thin_out : (new : World E T) {P : Type 0} (result : Option (E × P))
+        → IfSome result (λ removed. ClosesGap now.entities (data_of k) removed.0 new.entities)
         → IfNone result (new ≡ now) → new.entities.content.live ≡ map.remove now.entities.content.live (data_of k)
         → Goes (data_of k) (part now (data_of k)) → ((q : Key) → q ≢ data_of k → part new q ≡ part now q) → Thins old new at part Keeps Goes
     thin_out new {P} result closes same removed goes others = record {
@@ -242,7 +252,8 @@ module _ {E T X : Type 0} {part : World E T → Key → X} {Keeps : Key → X �
         was_in q live = grind (arith, get_after_remove keys_total exact_keys now.entities.content.live (data_of k) q)
 
   -- after the loop each entity that is there was kept, and each other one was one to go
-  pub thin_end : IsDense now.entities → map.len now.entities.content.live ≤ at → (k : Key) → IsLive now.entities.content k → Keeps k (part old k) (part now k)
+  pub thin_end : IsDense now.entities → map.len now.entities.content.live ≤ at → (k : Key) → IsLive now.entities.content k
+      → Keeps k (part old k) (part now k)
   thin_end valid all k live =
       let stands = stands_somewhere now.entities valid k live in
       thins.kept stands.0 k (omega (arith, all, key_count now.entities valid, slice_get_within now.entities.keys stands.0 k stands.1)) stands.1
