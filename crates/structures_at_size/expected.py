@@ -391,6 +391,7 @@ def scheduler_part(size):
     random, jobs, handles = Random(5), Jobs(), []
     schedule_all(jobs, handles, random, 0, size)
     tell("scheduled", jobs.seen())
+    tell("listed", [jobs.turn[job][0] for job in sorted(jobs.turn)] + [jobs.value[job] for job in sorted(jobs.turn)])
     for _ in range(size):
         job = random.pick(handles)
         jobs.put(job, random.draw() % 1000)
@@ -414,6 +415,17 @@ def scheduler_part(size):
     tell("all due", all_due(jobs, 500))
     tell("left", jobs.seen())
     tell("cleared", [])
+    in_order = sorted(jobs.turn, key=jobs.turn.get)
+    tell("in order", [number for job in in_order for number in (jobs.turn[job][0], jobs.value[job])])
+    retained, drained = [], []
+    for job in sorted(jobs.turn):
+        time, turn = jobs.turn[job]
+        value = (jobs.value[job] + time) & MASK
+        if value % 3 != 0:
+            retained += [time, value]
+            drained.append((time, turn, value))
+    tell("retained", retained)
+    tell("drained", [number for time, _, value in sorted(drained) for number in (time, value)])
     tell("copied", all_due(jobs, 1000))
 
 

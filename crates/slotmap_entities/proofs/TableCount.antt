@@ -25,7 +25,8 @@ module _ {E V : Type 0} where
   counted zero m live long within = omega (arith, long)
   counted (suc n) m live long within = by (map.entries m) refl (λ rest less inner. counted n rest less inner)
     where
-      by : (es : List (ℕ × (ℕ × V))) → map.entries m ≡ es → ((m : Pairs V) (live : map.FinMap key_cmp E) → map.len m ≡ n → Within m live → map.len m ≤ map.len live) → map.len m ≤ map.len live
+      by : (es : List (ℕ × (ℕ × V))) → map.entries m ≡ es
+          → ((m : Pairs V) (live : map.FinMap key_cmp E) → map.len m ≡ n → Within m live → map.len m ≤ map.len live) → map.len m ≤ map.len live
       by [] is fewer = absurd (let none = map.len-entries m ∙ ap length is in omega (arith, long, none))
       by (e ∷ es) is fewer =
           let found = first_found m e es is in

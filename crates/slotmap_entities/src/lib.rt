@@ -35,7 +35,7 @@
 //! ```
 #![tactic(auto, using(slotmap::proofs::Callers::keys))]
 
-ghost use Rattle.std.specs.Prelude.{◌≡◌, ◌≢◌, ◌+◌, ◌<◌, ◌≤◌, ◌↔◌, Some, None, IfOk, IsOk, OnErr, IfErr, IfSome, OnSome, IfNone, IsTrue, true, false, zip, option_copied, option_map, map as list_map};
+ghost use Rattle.std.specs.Prelude.{◌≡◌, ◌≢◌, ◌+◌, ◌<◌, ◌≤◌, ◌↔◌, Some, None, IfOk, IsOk, OnErr, IfErr, IfSome, OnSome, IfNone, IsTrue, true, false, zip, length, option_copied, option_map, map as list_map};
 ghost use Rattle.std.specs.FinMap as map;
 ghost use Rattle.std.specs.Option.{option_copied_mut};
 ghost use Rattle.std.specs.Borrow.{sem};
@@ -427,6 +427,7 @@ impl<K: Key, E: Drop, T: Tables<K>> World<K, E, T> {
     /// ```
     pub fn keys_as_slice(&self) -> &[K]
         ensures keys { list_map K.data_of result.now ≡ self.now.entities.keys }
+        ensures count { length result.now ≡ map.len self.now.entities.content.live }
         // So each entity is there once.
         ensures valid { IsDense self.now.entities }
     {

@@ -1,8 +1,9 @@
--- What callers of a scheduler cite: which jobs a loop over `pop_due` took out, and which `retain` left.
+-- What callers of a scheduler cite: which jobs a loop over `pop_due` took out, which `retain` left, and that none is due sooner.
 pub use Rattle.slotmap_scheduler.proofs.Retained.{retained_jobs, retained_where}
 pub use Rattle.slotmap_scheduler.proofs.Visiting.{callable_on_jobs}
 use Rattle.std.proofs.Common.{◌≡◌, ◌<◌, ◌≤◌, [], ◌∷◌, ◌++◌, ◌∙◌}
-use Rattle.slotmap_scheduler.proofs.Common.{ℕ, true, false, cond, refl, sym, ap, arith, nat_lt, All, nat_tests, All-nil, All-cons, All-head, Key, Waiting, due_at, left_at}
+use Rattle.slotmap_scheduler.proofs.Common.{ℕ, true, false, cond, refl, sym, ap, arith, nat_lt, All, nat_tests, All-nil, All-cons, All-head, All-tail}
+use Rattle.slotmap_scheduler.proofs.Common.{Key, Waiting, in_turn, IsByTime, due_at, left_at}
 
 module _ {T : Type 0} (now : ℕ) where
   abbrev IsDue : Key × (ℕ × T) → Type 0
@@ -29,3 +30,21 @@ module _ {T : Type 0} (now : ℕ) where
   -- a loop whose invariant says that the same jobs are left at `now` took out those that are due, and no others
   pub due_taken : (old new : Waiting T) → left_at now new ≡ left_at now old → All (λ e. now < e.1.0) new → (due : Waiting T) × (old ≡ due ++ new) × All (λ e. e.1.0 ≤ now) due
   due_taken old new same later = (due_at now old, due_and_left old ∙ ap (λ ws. due_at now old ++ ws) (sym same ∙ none_taken new later), all_due old)
+
+-- where no job is due before a time, none is once one more is scheduled for that time or later
+module _ {T : Type 0} (time : ℕ) where
+  abbrev NoSooner : Key × (ℕ × T) → Type 0
+  NoSooner e = time ≤ e.1.0
+
+  pub none_sooner : (x : Key × (ℕ × T)) (es : Waiting T) → time ≤ x.1.0 → All (λ e. time ≤ e.1.0) es → All (λ e. time ≤ e.1.0) (in_turn x es)
+  none_sooner x [] low all = All-cons NoSooner x [] low all
+  none_sooner x (e ∷ es) low all = elim (nat_lt x.1.0 e.1.0) as (λ b. All NoSooner (cond b (x ∷ e ∷ es) (e ∷ in_turn x es))) [
+    | true ↦ All-cons NoSooner x (e ∷ es) low all
+    | false ↦ All-cons NoSooner e (in_turn x es) (All-head NoSooner e es all) (none_sooner x es low (All-tail NoSooner e es all))
+  ]
+
+-- of two jobs that are taken out one after the other, the first is due no later
+pub first_no_later : {T : Type 0} (a b : Key × (ℕ × T)) (es fs gs : Waiting T) → IsByTime es → es ≡ a ∷ fs → fs ≡ b ∷ gs → a.1.0 ≤ b.1.0
+first_no_later {T} a b es fs gs sorted one two =
+    let from = rw (one ∙ ap (λ l. a ∷ l) two) at sorted in
+    All-head (λ (x : Key × (ℕ × T)). a.1.0 ≤ x.1.0) b gs from.0

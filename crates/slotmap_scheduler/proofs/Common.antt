@@ -3,7 +3,8 @@ pub use Rattle.std.proofs.Common.{ap, append-nil, append_assoc, arith, Bool, Bor
 pub use Rattle.std.proofs.Common.{option_copied, refl, Result, rules, set as list_set, Some, subst, suc, sym, T, true, vec_len, zero, ℕ}
 pub use Rattle.std.proofs.lemmas.Bool.Decides.{nat_tests}
 pub use Rattle.std.proofs.lemmas.Cmp.{on_total, then_total}
-pub use Rattle.std.proofs.lemmas.List.{get_or-append_right, get_or_append_left, get_or_default, get_or-set_other, get_or-set_same, get_or_read_under, length-append, length-map, length-set, map_push, nil_from_length}
+pub use Rattle.std.proofs.lemmas.List.{get_or-append_right, get_or_append_left, get_or_default, get_or-set_other, get_or-set_same, get_or_read_under}
+pub use Rattle.std.proofs.lemmas.List.{length-append, length-map, length-set, map_push, nil_from_length}
 pub use Rattle.std.proofs.lemmas.List.Edits.{Swapped}
 pub use Rattle.std.proofs.lemmas.List.Elements.{All-cons, All-from_recursion, All-head, All-map, All-nil, All-push, All-tail, same_from_all_zip}
 pub use Rattle.std.proofs.lemmas.Map.Lookups.{CmpEqualImpliesEq, exact_pairs, exact_unsigned}
@@ -17,7 +18,8 @@ pub use Rattle.std.specs.declared.cmp.Ordering.{Ordering}
 pub use Rattle.std.specs.declared.cmp.Ordering.TheVariants.{Less}
 pub use Rattle.std.specs.declared.vec.Vec.{Vec}
 pub use Rattle.slotmap.proofs.Callers.{alike_or_apart, alone_spent, clone_len, contains-keys_of, exact_keys, get-insert_here, get-insert_other, get_after_insert}
-pub use Rattle.slotmap.proofs.Callers.{get_after_remove, inserted_fresh, inserted_len, inserted_not_spent, itself, keys, keys_total, leaves_by_removal, leaves_in_turn, leaves_none, left_spent, len-keys_of, len_removed, live-insert_still}
+pub use Rattle.slotmap.proofs.Callers.{get_after_remove, inserted_fresh, inserted_len, inserted_not_spent, itself, keys, keys_total, leaves_by_removal}
+pub use Rattle.slotmap.proofs.Callers.{leaves_in_turn, leaves_none, left_spent, len-keys_of, len_removed, live-insert_still}
 pub use Rattle.slotmap.proofs.Callers.{live-remove_other, none_of, removed_len, removed_spent, same_lent, same_or_other, same_unlent, spent_alone, spent_inserts, spent_leaves}
 pub use Rattle.slotmap.proofs.Callers.{spent_removes, tied, untied}
 pub use Rattle.slotmap.specs.Words.{AreClones, Content, Inserts, IsCloneBy, IsCloneOf, IsContent, IsCopy, IsLive, IsNew, IsSpent, KeepsSpent, Key, key_cmp, Leaves, MakesRoom}

@@ -22,7 +22,8 @@ module _ {A : Type 0} (is_clone : A → A → Type 0) where
   back : {B : Type 0} (o p : Option (B × A)) → IsCloneOf Clones o p → (b : B) (y : A) → p ≡ Some (b, y) → (x : A) × (o ≡ Some (b, x)) × is_clone x y
   back o p is b y at = grind arith
 
-  seen_clones : (es fs : List (Turn × (Key × A))) → AllZip (λ (e f : Turn × (Key × A)). (f.0 ≡ e.0) × Clones e.1 f.1) es fs → AreClones (IsDueClone is_clone) (list_map as_seen es) (list_map as_seen fs)
+  seen_clones : (es fs : List (Turn × (Key × A))) → AllZip (λ (e f : Turn × (Key × A)). (f.0 ≡ e.0) × Clones e.1 f.1) es fs
+      → AreClones (IsDueClone is_clone) (list_map as_seen es) (list_map as_seen fs)
   seen_clones [] [] are = tt
   seen_clones [] (f ∷ fs) are = absurd are
   seen_clones (e ∷ es) [] are = absurd are
@@ -40,7 +41,8 @@ module _ {A : Type 0} (is_clone : A → A → Type 0) where
 
     turn_clones : (t : Turn) → IsCloneOf Clones (map.get (by_turn jobs) t) (map.get (by_turn copy) t)
     turn_clones t = elim (map.get (by_turn jobs) t) as (λ o. map.get (by_turn jobs) t ≡ o → IsCloneOf Clones o (map.get (by_turn copy) t)) [
-      | None ↦ λ none. none_there _ (λ x there. let was = back (map.get jobs x.0) (map.get copy x.0) (clones x.0) t x.1 (by.from t x.0 x.1 there) in let at = is.turns.to x.0 t was.0 was.1 in absurd (cc))
+      | None ↦ λ none. none_there _ (λ x there. let was = back (map.get jobs x.0) (map.get copy x.0) (clones x.0) t x.1 (by.from t x.0 x.1 there) in
+          let at = is.turns.to x.0 t was.0 was.1 in absurd (cc))
       | Some x ↦ λ some. (let now = forth (map.get jobs x.0) (map.get copy x.0) (clones x.0) t x.1 (is.turns.from t x.0 x.1 some) in rw (by.to x.0 t now.0 now.1) (refl, now.2))
     ] refl
 
@@ -64,11 +66,13 @@ module _ {A : Type 0} (is_clone : A → A → Type 0) where
     pub waiting_copied : AreClones (IsDueClone is_clone) (waiting_of (timed jobs).live) (waiting_of (timed copy).live)
     waiting_copied = copied_waits (timed jobs).live (timed copy).live count is.order timed_clones.live len_copied
 
-    same_spot : (o p : Option (Job A)) → IsCloneOf clones_job o p → option_map {U = ℕ × Turn} (λ (j : Job A). (j.place, j.turn)) p ≡ option_map {U = ℕ × Turn} (λ (j : Job A). (j.place, j.turn)) o
+    same_spot : (o p : Option (Job A)) → IsCloneOf clones_job o p
+        → option_map {U = ℕ × Turn} (λ (j : Job A). (j.place, j.turn)) p ≡ option_map {U = ℕ × Turn} (λ (j : Job A). (j.place, j.turn)) o
     same_spot o p are = grind arith
 
     -- the copy is a scheduler, if its heap has a place for each slot that has none live or retired
-    pub schedule_copied : (heap' : Vec Entry Z) → heap'.items ≡ heap.items → vec_len heap' ≡ vec_len heap → IsContent true copy → copy.capacity ≤ vec_capacity heap' → IsSchedule copy count heap'
+    pub schedule_copied : (heap' : Vec Entry Z) → heap'.items ≡ heap.items → vec_len heap' ≡ vec_len heap → IsContent true copy
+        → copy.capacity ≤ vec_capacity heap' → IsSchedule copy count heap'
     schedule_copied heap' items len well capacity = record {
       order = copied_order (timed jobs).live (timed copy).live count is.order timed_clones.live len_copied;
       valid = content-mapped unplaced copy true well;

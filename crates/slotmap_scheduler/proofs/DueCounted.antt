@@ -82,7 +82,7 @@ module _ {T : Type 0} (now : ℕ) where
       count_without (handle n) is_due ws (time n, last.0) once last.1 ∙ ap (λ m. cond (not (nat_lt now (time n))) 1 0 + m) rest
 
 -- as many are due as the heap has entries that are
-module _ {T Z : Type 0} (jobs : Content (Job T)) (count : ℕ) (heap : Vec Entry Z) (is : IsSchedule jobs count heap) where
+module _ {T Z : Type 0} {jobs : Content (Job T)} {count : ℕ} {heap : Vec Entry Z} (is : IsSchedule jobs count heap) where
   abbrev handle_at : ℕ → Key
   handle_at c = (get_or heap.items c no_entry).handle
 

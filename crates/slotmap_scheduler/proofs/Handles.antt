@@ -68,9 +68,11 @@ module _ {T Z : Type 0} where
     same_handles same len capacity i = record (without_values (same i)) { room = min (same i).room (capacity i - len i); capacity = min (same i).capacity (capacity i) }
 
     -- room was made in the map and in the heap
-    pub handles_room : (n : ℕ) (made ok : Type 0) → MakesRoom true old n made new → IsContent true (handles_of old heap) → IsContent true (handles_of new heap') → vec_len heap ≡ map.len old.live
+    pub handles_room : (n : ℕ) (made ok : Type 0) → MakesRoom true old n made new → IsContent true (handles_of old heap)
+        → IsContent true (handles_of new heap') → vec_len heap ≡ map.len old.live
         → vec_len heap' ≡ vec_len heap → vec_capacity heap ≤ vec_capacity heap' → (vec_len heap + n ≤ vec_capacity heap → vec_capacity heap' ≡ vec_capacity heap)
-        → (ok → made × (vec_len heap' + n ≤ vec_capacity heap')) → (n ≤ old.room → vec_len heap + n ≤ vec_capacity heap → ok) → MakesRoom true (handles_of old heap) n ok (handles_of new heap')
+        → (ok → made × (vec_len heap' + n ≤ vec_capacity heap')) → (n ≤ old.room → vec_len heap + n ≤ vec_capacity heap → ok)
+        → MakesRoom true (handles_of old heap) n ok (handles_of new heap')
     handles_room n made ok makes before after all len more same has had =
         let same_used = used_alone old in
         let live = len-keys_of old.live in
@@ -96,7 +98,8 @@ module _ {T Z : Type 0} where
         }
 
     -- a job that is written changes no handle
-    pub handles_written : (k : Key) (v : Turn × T) → IsLive old k → new ≡ with_value old k v → vec_len heap' ≡ vec_len heap → vec_capacity heap' ≡ vec_capacity heap → handles_of new heap' ≡ handles_of old heap
+    pub handles_written : (k : Key) (v : Turn × T) → IsLive old k → new ≡ with_value old k v → vec_len heap' ≡ vec_len heap
+        → vec_capacity heap' ≡ vec_capacity heap → handles_of new heap' ≡ handles_of old heap
     handles_written k v live is len capacity =
         let same : without_values new ≡ without_values old = ap (λ (c : Content (Turn × T)). without_values c) is ∙ alone-written old k v live in
         λ i. record (same i) { room = min (same i).room (capacity i - len i); capacity = min (same i).capacity (capacity i) }

@@ -27,7 +27,8 @@ module _ {T Z : Type 0} where
   resettled_then one two = record { placed = two.placed; same = two.same ∙ one.same; len = two.len ∙ one.len; capacity = two.capacity ∙ one.capacity }
 
 -- what a test of two entries says of their turns
-pub compared : {Z : Type 0} (heap : Vec Entry Z) (i j : ℕ) (x y : Entry) → i < vec_len heap → j < vec_len heap → x ≡ get_or heap.items i x → y ≡ get_or heap.items j y → (b : Bool) → precedes x.turn y.turn ≡ b
+pub compared : {Z : Type 0} (heap : Vec Entry Z) (i j : ℕ) (x y : Entry) → i < vec_len heap → j < vec_len heap → x ≡ get_or heap.items i x
+    → y ≡ get_or heap.items j y → (b : Bool) → precedes x.turn y.turn ≡ b
     → precedes (turn_at heap.items i) (turn_at heap.items j) ≡ b
 compared heap i j x y in_i in_j is_x is_y b test =
     let at_i = get_or_read_under heap.items i (vec_len heap) x no_entry is_x in_i heap.ok.0 in
@@ -37,7 +38,8 @@ compared heap i j x y in_i in_j is_x is_y b test =
 -- the first entry is before no other one
 pub top_first : (heap : List Entry) → IsHeap heap → (fuel i : ℕ) → i ≤ fuel → i < length heap → precedes (turn_at heap i) (turn_at heap 0) ≡ false
 top_first heap ordered zero i within inside = grind (arith, itself (turn_at heap 0))
-top_first heap ordered (suc fuel) i within inside = grind (arith, same_or_not i 0, itself (turn_at heap 0), across (turn_at heap 0) (turn_at heap (up i)) (turn_at heap i), ordered i, top_first heap ordered fuel (up i))
+top_first heap ordered (suc fuel) i within inside =
+    grind (arith, same_or_not i 0, itself (turn_at heap 0), across (turn_at heap 0) (turn_at heap (up i)) (turn_at heap i), ordered i, top_first heap ordered fuel (up i))
 
 module _ (heap : List Entry) (at : ℕ) (but : IsHeapBut at heap) where
   -- it is in its place: none below it is before it
@@ -70,7 +72,8 @@ module _ (heap : List Entry) (at : ℕ) (but : IsHeapBut at heap) where
     sunk child first by =
         let turns = swapped at child by in
         record {
-          pairs = λ c low inside apart far. grind (arith, same_or_not (up c) at, same_or_not c at, turns.0, turns.1, turns.2 c, turns.2 (up c), but.pairs c, but.bridges child, first.least c, first.low, first.below, first.inside);
+          pairs = λ c low inside apart far.
+              grind (arith, same_or_not (up c) at, same_or_not c at, turns.0, turns.1, turns.2 c, turns.2 (up c), but.pairs c, but.bridges child, first.least c, first.low, first.below, first.inside);
           bridges = λ c low inside under high. grind (arith, turns.0, turns.2 c, but.pairs c, first.below);
         }
 

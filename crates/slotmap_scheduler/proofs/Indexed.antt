@@ -1,6 +1,7 @@
 -- A heap that has the turn of each job: what each call on the map and the heap leaves.
 use Rattle.std.proofs.Common.{◌≡◌, ◌+◌, ◌<◌, [], ◌∷◌, ◌++◌, ◌∙◌}
-use Rattle.slotmap_scheduler.proofs.Common.{ℕ, true, List, Option, Some, None, list_set, get_or, length, refl, sym, ap, arith, vec_len, option_map, Vec, length-set, get_or_append_left, get_or-append_right}
+use Rattle.slotmap_scheduler.proofs.Common.{ℕ, true, List, Option, Some, None, list_set, get_or, length, refl, sym, ap, arith, vec_len, option_map, Vec}
+use Rattle.slotmap_scheduler.proofs.Common.{length-set, get_or_append_left, get_or-append_right}
 use Rattle.slotmap_scheduler.proofs.Common.{get_or-set_same, get_or-set_other, slice_get-get_or, Key, Content, IsContent, Inserts, Removes, with_value, keys, inserted_fresh}
 use Rattle.slotmap_scheduler.proofs.Common.{inserted_len, removed_len, none_of, mapped-inserts, content-mapped, get-mapped, mapped-insert, Job, Entry, Turn, no_entry, unplaced}
 use Rattle.slotmap_scheduler.proofs.Common.{timed, spot_of, IsPlaced, IsHeap, IsHeapBut, Resettled, IsIndexed}
@@ -13,17 +14,20 @@ same_job o i j x y = grind arith
 
 module _ {T Z : Type 0} where
   -- the heap was set in order
-  pub indexed_settled : {jobs jobs' : Content (Job T)} {heap heap' : Vec Entry Z} → Resettled jobs heap jobs' heap' → IsHeap heap'.items → vec_len heap ≡ map.len (timed jobs).live → IsIndexed jobs' heap'
+  pub indexed_settled : {jobs jobs' : Content (Job T)} {heap heap' : Vec Entry Z} → Resettled jobs heap jobs' heap' → IsHeap heap'.items
+      → vec_len heap ≡ map.len (timed jobs).live → IsIndexed jobs' heap'
   indexed_settled s ordered len = record { placed = s.placed; ordered = ordered; len = s.len ∙ len ∙ sym (ap (λ (c : Content (Turn × T)). map.len c.live) s.same) }
 
   -- a job was put into the map, and an entry behind the others
-  module _ (jobs mid : Content (Job T)) (heap : Vec Entry Z) (is : IsIndexed jobs heap) (valid : IsContent true jobs) (k : Key) (turn : Turn) (job : T) (inserts : Inserts jobs k (record { turn = turn; place = vec_len heap; job = job }) mid)
+  module _ (jobs mid : Content (Job T)) (heap : Vec Entry Z) (is : IsIndexed jobs heap) (valid : IsContent true jobs) (k : Key) (turn : Turn) (job : T)
+      (inserts : Inserts jobs k (record { turn = turn; place = vec_len heap; job = job }) mid)
       (pushed : Vec Entry Z) (len : vec_len pushed ≡ vec_len heap + 1) (items : pushed.items ≡ heap.items ++ record { turn = turn; handle = k } ∷ []) where
     below : (i : ℕ) (d : Entry) → i < vec_len heap → get_or pushed.items i d ≡ get_or heap.items i d
     below i d within = ap (λ es. get_or es i d) items ∙ get_or_append_left heap.items (record { turn = turn; handle = k } ∷ []) d i (omega (arith, heap.ok.0))
 
     last : (d : Entry) → get_or pushed.items (vec_len heap) d ≡ record { turn = turn; handle = k }
-    last d = rw heap.ok.0 (ap (λ es. get_or es (length heap.items) d) items ∙ get_or-append_right heap.items (record { turn = turn; handle = k } ∷ []) (length heap.items) (length heap.items) d refl (omega arith) ∙ grind arith)
+    last d = rw heap.ok.0 (ap (λ es. get_or es (length heap.items) d) items
+        ∙ get_or-append_right heap.items (record { turn = turn; handle = k } ∷ []) (length heap.items) (length heap.items) d refl (omega arith) ∙ grind arith)
 
     free : map.get jobs.live k ≡ None
     free = none_of (map.get jobs.live k) (inserted_fresh true jobs k _ mid valid inserts)
@@ -31,7 +35,8 @@ module _ {T Z : Type 0} where
     pub put_placed : IsPlaced mid.live pushed.items
     put_placed = rw inserts.live (placed_put jobs.live heap.items is.placed pushed.items k (record { turn = turn; place = vec_len heap; job = job }) (vec_len heap) refl
         (entry_is pushed (vec_len heap) (record { turn = turn; handle = k }) (omega arith) (sym (last _)))
-        (λ i other. read_alike heap.items pushed.items i i (λ within. (omega (arith, heap.ok.0, pushed.ok.0), below i no_entry (omega (arith, pushed.ok.0)))) (λ past. omega (arith, heap.ok.0, pushed.ok.0)))
+        (λ i other. read_alike heap.items pushed.items i i (λ within. (omega (arith, heap.ok.0, pushed.ok.0), below i no_entry (omega (arith, pushed.ok.0))))
+        (λ past. omega (arith, heap.ok.0, pushed.ok.0)))
         (λ q t there. absurd (let within = entry_within heap.items (vec_len heap) (q, t) (is.placed.to q (vec_len heap) t there) in omega (arith, heap.ok.0)))
         (λ i t there. absurd (let was = is.placed.from i k t there in let none = free in cc)))
 
@@ -46,7 +51,8 @@ module _ {T Z : Type 0} where
 
   module _ (jobs : Content (Job T)) (heap : Vec Entry Z) (is : IsIndexed jobs heap) (k : Key) (j : Job T) (found : map.get jobs.live k ≡ Some j) where
     -- it was taken out, and its entry
-    pub left_indexed : (jobs' : Content (Job T)) (heap' : Vec Entry Z) → Removes (timed jobs) k (timed jobs') → IsPlaced jobs'.live heap'.items → IsHeap heap'.items → vec_len heap' + 1 ≡ vec_len heap → IsIndexed jobs' heap'
+    pub left_indexed : (jobs' : Content (Job T)) (heap' : Vec Entry Z) → Removes (timed jobs) k (timed jobs') → IsPlaced jobs'.live heap'.items
+        → IsHeap heap'.items → vec_len heap' + 1 ≡ vec_len heap → IsIndexed jobs' heap'
     left_indexed jobs' heap' removes placed ordered len = record {
       placed = placed;
       ordered = ordered;
@@ -78,7 +84,8 @@ module _ {T Z : Type 0} where
 
       pub turned_placed : IsPlaced (map.insert jobs.live k (record j { turn = turn })) now
       turned_placed = placed_put jobs.live heap.items is.placed now k (record j { turn = turn }) j.place refl
-          (ap (option_map _) (slice_get-get_or now j.place no_entry (omega (arith, long, inside)) ∙ ap Some (get_or-set_same heap.items j.place (record e { turn = turn }) no_entry inside)) ∙ ap (λ h. Some (h, turn)) mine)
+          (ap (option_map _) (slice_get-get_or now j.place no_entry (omega (arith, long, inside))
+          ∙ ap Some (get_or-set_same heap.items j.place (record e { turn = turn }) no_entry inside)) ∙ ap (λ h. Some (h, turn)) mine)
           (λ i other. read_alike heap.items now i i (λ low. (omega (arith, long), get_or-set_other heap.items j.place i (record e { turn = turn }) no_entry other)) (λ past. omega (arith, long)))
           (λ q t there. grind (arith, is.placed.to q j.place t there, is.placed.to k j.place j.turn spot)) (λ i t there. one_place _ (is.placed.from i k t there) spot)
 

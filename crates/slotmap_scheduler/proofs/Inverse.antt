@@ -19,7 +19,8 @@ module _ {K L X : Type 0} where
   alike f f' g g' same_f same_g is = record { to = λ k l x at. same_g l ∙ is.to k l x (sym (same_f k) ∙ at); from = λ l k x at. same_f k ∙ is.from l k x (sym (same_g l) ∙ at) }
 
 -- two of K, and two of L, are the same or not
-module _ {K L X : Type 0} (dk : (a b : K) → (a ≡ b) ⊎ (a ≢ b)) (dl : (a b : L) → (a ≡ b) ⊎ (a ≢ b)) (f f' : K → Option (L × X)) (g g' : L → Option (K × X)) (is : IsInverse f g) where
+module _ {K L X : Type 0} (dk : (a b : K) → (a ≡ b) ⊎ (a ≢ b)) (dl : (a b : L) → (a ≡ b) ⊎ (a ≢ b)) (f f' : K → Option (L × X))
+    (g g' : L → Option (K × X)) (is : IsInverse f g) where
   put_to : (k : K) (l : L) (x : X) → Puts f f' k l x → Puts g g' l k x → (q : K) (p : L) (y : X) → f' q ≡ Some (p, y) → g' p ≡ Some (q, y)
   put_to k l x a b q p y at = grind (arith, dk q k, dl p l, a.others q, a.alone q y, b.others p, is.to q p y)
 
@@ -44,7 +45,8 @@ module _ {K L X : Type 0} (dk : (a b : K) → (a ≡ b) ⊎ (a ≢ b)) (dl : (a 
       from = λ p q y at. grind (arith, dk q k1, dk q k2, dl p l1, dl p l2, others q, rest p, is.from p q y, is.to k1 l1 x1, is.to k2 l2 x2);
     }
 
-module _ {K L X : Type 0} (dk : (a b : K) → (a ≡ b) ⊎ (a ≢ b)) (dl : (a b : L) → (a ≡ b) ⊎ (a ≢ b)) (f f' : K → Option (L × X)) (g g' : L → Option (K × X)) (is : IsInverse f g) (k : K) (l : L) (x : X) where
+module _ {K L X : Type 0} (dk : (a b : K) → (a ≡ b) ⊎ (a ≢ b)) (dl : (a b : L) → (a ≡ b) ⊎ (a ≢ b)) (f f' : K → Option (L × X))
+    (g g' : L → Option (K × X)) (is : IsInverse f g) (k : K) (l : L) (x : X) where
   round : IsInverse g f
   round = record { to = is.from; from = is.to }
 

@@ -43,11 +43,13 @@ module _ {T : Type 0} where
       put_found [] all = grind (arith, itself keys_total exact_keys k)
       put_found (e ∷ es) all = grind (arith, itself keys_total exact_keys k, apart e all.0, put_found es all.1)
 
-      put_with_job : (w : T) (es : List (Turn × (Key × T))) → AllByRecursion IsOther es → with_job k w (list_map as_seen (put turn_cmp t (k, job) es)) ≡ list_map as_seen (put turn_cmp t (k, w) es)
+      put_with_job : (w : T) (es : List (Turn × (Key × T))) → AllByRecursion IsOther es
+          → with_job k w (list_map as_seen (put turn_cmp t (k, job) es)) ≡ list_map as_seen (put turn_cmp t (k, w) es)
       put_with_job w [] all = grind (arith, itself keys_total exact_keys k)
       put_with_job w (e ∷ es) all = grind (arith, itself keys_total exact_keys k, apart e all.0, put_with_job w es all.1)
 
-      put_without : (es : List (Turn × (Key × T))) → AllByRecursion IsOther es → AllByRecursion (λ (e : Turn × (Key × T)). t ≢ e.0) es → without k (list_map as_seen (put turn_cmp t (k, job) es)) ≡ list_map as_seen es
+      put_without : (es : List (Turn × (Key × T))) → AllByRecursion IsOther es → AllByRecursion (λ (e : Turn × (Key × T)). t ≢ e.0) es
+          → without k (list_map as_seen (put turn_cmp t (k, job) es)) ≡ list_map as_seen es
       put_without [] all turns = grind (arith, itself keys_total exact_keys k)
       put_without (e ∷ es) all turns = grind (arith, itself keys_total exact_keys k, apart e all.0, all_kept es all.1, put_without es all.1 turns.1, exact_turns t e.0, turns.0)
 
@@ -114,8 +116,11 @@ module _ {T : Type 0} where
             (puts keys_total exact_keys jobs k t w (λ q x there. grind (arith, is.turns.to q t x there, turn_at)))
             (puts turns_total exact_turns (by_turn jobs) t k w (λ u x there. grind (arith, is.turns.from u k x there, at))))
             (grind (arith, map.len-insert turns_total (by_turn jobs) t (k, w), map.len-insert keys_total jobs k (t, w), is.len, at, turn_at))
-            (λ q u x there. grind (arith, get_after_insert keys_total exact_keys jobs k (t, w) q (u, x) there, is.numbered q u x, is.numbered k t job at)) in
-            (with.0, with.1 ∙ ap (list_map as_seen) (entries_put turns_total exact_turns (by_turn jobs) t (k, w)) ∙ sym (ap (λ es. with_job k w (list_map as_seen es)) among ∙ put_with_job k t job w others other_keys))
+            (λ q u x there. grind (arith, get_after_insert keys_total exact_keys jobs k (t, w) q (u, x) there, is.numbered q u x, is.numbered k t job at)) in (
+              with.0,
+              with.1 ∙ ap (list_map as_seen) (entries_put turns_total exact_turns (by_turn jobs) t (k, w))
+                  ∙ sym (ap (λ es. with_job k w (list_map as_seen es)) among ∙ put_with_job k t job w others other_keys),
+            )
 
       -- it is the first, if no other turn is before its own
       module _ (least : (q : Key) (u : Turn) (x : T) → map.get jobs q ≡ Some (u, x) → precedes u t ≡ false) where
@@ -131,13 +136,15 @@ module _ {T : Type 0} where
 
         -- where it isn't due, none is
         pub none_due : (now : ℕ) → now < t.0 → All (λ e. now < e.1.0) (waiting_of jobs)
-        none_due now later = All-map (λ (e : Key × (ℕ × T)). now < e.1.0) as_seen (map.entries (by_turn jobs)) (All-from_recursion (λ (e : Turn × (Key × T)). now < e.0.0) (map.entries (by_turn jobs))
+        none_due now later = All-map (λ (e : Key × (ℕ × T)). now < e.1.0) as_seen (map.entries (by_turn jobs))
+            (All-from_recursion (λ (e : Turn × (Key × T)). now < e.0.0) (map.entries (by_turn jobs))
             (all_of turns_total exact_turns (λ u x. now < u.0) (by_turn jobs) (λ u x there. let up = time_up_to t u (least x.0 u x.1 (is.turns.from u x.0 x.1 there)) in omega arith)))
 
     -- which time and which job a handle has
     pub job_is : (k : Key) → job_of k (waiting_of jobs) ≡ option_map (λ (x : Turn × T). (x.0.0, x.1)) (map.get jobs k)
     job_is k = elim (map.get jobs k) as (λ o. map.get jobs k ≡ o → job_of k (waiting_of jobs) ≡ option_map (λ (x : Turn × T). (x.0.0, x.1)) o) [
-      | None ↦ λ none. none_found k (map.entries (by_turn jobs)) (all_of turns_total exact_turns (λ u x. k ≢ x.0) (by_turn jobs) (λ u x there same. let was = is.turns.from u x.0 x.1 there in let gone = ap (map.get jobs) (sym same) ∙ none in cc))
+      | None ↦ λ none. none_found k (map.entries (by_turn jobs))
+          (all_of turns_total exact_turns (λ u x. k ≢ x.0) (by_turn jobs) (λ u x there same. let was = is.turns.from u x.0 x.1 there in let gone = ap (map.get jobs) (sym same) ∙ none in cc))
       | Some x ↦ λ at. ap (λ es. job_of k (list_map as_seen es)) (among k x.0 x.1 at) ∙ put_found k x.0 x.1 (others k x.0 x.1 at) (other_keys k x.0 x.1 at)
     ] refl
 

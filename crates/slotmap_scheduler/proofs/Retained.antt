@@ -19,7 +19,8 @@ module _ {T : Type 0} (left : Key → ℕ → T → Option T) where
   abbrev left_where : Waiting T → Key × (ℕ × T) → Option (Key × (ℕ × T))
   left_where seen e = cond (is_some (job_of e.0 seen)) (left_of e) (Some e)
 
-  filter_map_same : (f g : Key × (ℕ × T) → Option (Key × (ℕ × T))) (k : Key) → ((e : Key × (ℕ × T)) → e.0 ≢ k → f e ≡ g e) → (ws : Waiting T) → job_of k ws ≡ None → filter_map f ws ≡ filter_map g ws
+  filter_map_same : (f g : Key × (ℕ × T) → Option (Key × (ℕ × T))) (k : Key) → ((e : Key × (ℕ × T)) → e.0 ≢ k → f e ≡ g e)
+      → (ws : Waiting T) → job_of k ws ≡ None → filter_map f ws ≡ filter_map g ws
   filter_map_same f g k same [] none = refl
   filter_map_same f g k same (e ∷ ws) none =
       let other : e.0 ≢ k = λ is. (let i = itself keys_total exact_keys k in let n = rw is at none in absurd (grind arith)) in
@@ -48,7 +49,8 @@ module _ {T : Type 0} (left : Key → ℕ → T → Option T) where
     not_seen e is = ap (λ b. cond b (left_of e) (Some e)) (ap (λ q. is_some (job_of q seen)) is ∙ ap is_some fresh)
 
     -- a job that stays, with what the call wrote
-    kept_left : (w : T) → left k due.0 due.1 ≡ Some w → (ws : Waiting T) → IsOnce ws → job_of k ws ≡ Some due → filter_map (left_where seen) (with_job k w ws) ≡ filter_map (left_where seen_too) ws
+    kept_left : (w : T) → left k due.0 due.1 ≡ Some w → (ws : Waiting T) → IsOnce ws → job_of k ws ≡ Some due
+        → filter_map (left_where seen) (with_job k w ws) ≡ filter_map (left_where seen_too) ws
     kept_left w leaves [] once there = absurd (cc)
     kept_left w leaves (e ∷ ws) once there = elim (same_or_other e.0 k) [
       | inl is ↦
@@ -92,7 +94,8 @@ module _ {K T : Type 0} (data_of : K → Key) (left : Key → ℕ → T → Opti
       (there : job_of (data_of x.handle) ws ≡ Some (x.time, x.before)) where
     left_after : filter_map (left_where left seen) (after_visit data_of x ws) ≡ filter_map (left_where left ((data_of x.handle, (x.time, x.before)) ∷ seen)) ws
     left_after = elim x.stays as (λ b. left (data_of x.handle) x.time x.before ≡ cond b (Some x.after) None
-        → filter_map (left_where left seen) (cond b (with_job (data_of x.handle) x.after ws) (without (data_of x.handle) ws)) ≡ filter_map (left_where left ((data_of x.handle, (x.time, x.before)) ∷ seen)) ws) [
+        → filter_map (left_where left seen) (cond b (with_job (data_of x.handle) x.after ws) (without (data_of x.handle) ws)) ≡ filter_map
+        (left_where left ((data_of x.handle, (x.time, x.before)) ∷ seen)) ws) [
           | true ↦ λ kept. kept_left left (data_of x.handle) (x.time, x.before) seen fresh x.after kept ws once there
           | false ↦ λ gone. dropped_left left (data_of x.handle) (x.time, x.before) seen fresh gone ws once there
         ] leaves
@@ -111,7 +114,8 @@ module _ {K T : Type 0} (data_of : K → Key) (left : Key → ℕ → T → Opti
   ]
 
   all_left : (xs : List (JobVisit K T)) → AllByRecursion LeavesBy xs → IsOnce (jobs_seen data_of xs) → (ws : Waiting T) → IsOnce ws
-      → ((k : Key) (due : ℕ × T) → job_of k (jobs_seen data_of xs) ≡ Some due → job_of k ws ≡ Some due) → after_visits data_of xs ws ≡ filter_map (left_where left (jobs_seen data_of xs)) ws
+      → ((k : Key) (due : ℕ × T) → job_of k (jobs_seen data_of xs) ≡ Some due → job_of k ws ≡ Some due)
+      → after_visits data_of xs ws ≡ filter_map (left_where left (jobs_seen data_of xs)) ws
   all_left [] leaves once_seen ws once there = sym (none_seen left ws)
   all_left (x ∷ xs) leaves once_seen ws once there =
       let k = data_of x.handle in
@@ -123,7 +127,8 @@ module _ {K T : Type 0} (data_of : K → Key) (left : Key → ℕ → T → Opti
       ∙ left_after x (jobs_seen data_of xs) once_seen.0 leaves.0 ws once here
 
   -- where each job was seen, none is left as it was
-  every_seen : (seen ws : Waiting T) → IsOnce ws → ((k : Key) → is_some (job_of k ws) ≡ true → is_some (job_of k seen) ≡ true) → filter_map (left_where left seen) ws ≡ filter_map (left_of left) ws
+  every_seen : (seen ws : Waiting T) → IsOnce ws → ((k : Key) → is_some (job_of k ws) ≡ true → is_some (job_of k seen) ≡ true)
+      → filter_map (left_where left seen) ws ≡ filter_map (left_of left) ws
   every_seen seen [] once all = refl
   every_seen seen (e ∷ ws) once all =
       let here = all e.0 (grind (arith, itself keys_total exact_keys e.0)) in

@@ -48,11 +48,11 @@ module _ {T : Type 0} (jobs : Content (Job T)) (empty : jobs.live ≡ map.empty)
     room = (let len = no_len in omega arith);
   }
 
-module _ {T Z : Type 0} (jobs : Content (Job T)) (count : ℕ) (heap : Vec Entry Z) (is : IsSchedule jobs count heap) where
-  -- the handles are a content
-  pub schedule_content : IsContent true (handles_of (timed jobs) heap)
-  schedule_content = handles_content (timed jobs) heap is.valid is.indexed.len is.room
+-- the handles are a content
+pub schedule_content : {T Z : Type 0} {jobs : Content (Job T)} {count : ℕ} {heap : Vec Entry Z} → IsSchedule jobs count heap → IsContent true (handles_of (timed jobs) heap)
+schedule_content {jobs = jobs} {heap = heap} is = handles_content (timed jobs) heap is.valid is.indexed.len is.room
 
+module _ {T Z : Type 0} {jobs : Content (Job T)} {count : ℕ} {heap : Vec Entry Z} (is : IsSchedule jobs count heap) where
   -- room was made in the map and in the heap
   pub reserved_schedule : (jobs' : Content (Job T)) (heap' : Vec Entry Z) (n : ℕ) (ok : Type 0) → MakesRoom true jobs n ok jobs' → heap'.items ≡ heap.items → vec_len heap' ≡ vec_len heap
       → vec_capacity heap ≤ vec_capacity heap' → IsSchedule jobs' count heap'
@@ -72,7 +72,14 @@ module _ {T Z : Type 0} (jobs : Content (Job T)) (count : ℕ) (heap : Vec Entry
     unused = none_of (map.get (timed jobs).live k) (inserted_fresh true (timed jobs) k ((time, count), job) (timed jobs') is.valid inserts)
 
     put_next : (map.len jobs'.next + 1 ≡ map.len jobs.next) ⊎ (map.len jobs'.next ≡ 0)
-    put_next = grind (arith, is.valid.offers inserts.below_limit, map.len-remove nat_cmp_total jobs.next k.index, ap map.len inserts.next, inserts.offered, some_entry nat_cmp_total exact_unsigned jobs.next k.index)
+    put_next = grind (
+      arith,
+      is.valid.offers inserts.below_limit,
+      map.len-remove nat_cmp_total jobs.next k.index,
+      ap map.len inserts.next,
+      inserts.offered,
+      some_entry nat_cmp_total exact_unsigned jobs.next k.index,
+    )
 
     put_order : InOrder (timed jobs').live (count + 1) × (waiting_of (timed jobs').live ≡ in_turn (k, (time, job)) (waiting_of (timed jobs).live))
     put_order = rw inserts.live (added (timed jobs).live count is.order k time job unused)
@@ -174,7 +181,12 @@ module _ {T Z : Type 0} (jobs : Content (Job T)) (count : ℕ) (heap : Vec Entry
 
       module _ (heap' : Vec Entry Z) (indexed : IsIndexed jobs' heap') (capacity : vec_capacity heap' ≡ vec_capacity heap) where
         pub turned_schedule : IsSchedule jobs' (count + 1) heap'
-        turned_schedule = record { order = turned_order.0; valid = rw turned (content_written (timed jobs) is.valid k (ap is_some had) ((time, count), j.job)); indexed = indexed; room = (let len = turned_len in let next = ap (λ (c : Content (Turn × T)). map.len c.next) turned in let room = is.room in omega arith) }
+        turned_schedule = record {
+          order = turned_order.0;
+          valid = rw turned (content_written (timed jobs) is.valid k (ap is_some had) ((time, count), j.job));
+          indexed = indexed;
+          room = (let len = turned_len in let next = ap (λ (c : Content (Turn × T)). map.len c.next) turned in let room = is.room in omega arith);
+        }
 
         pub turned_handles : handles_of (timed jobs') heap' ≡ handles_of (timed jobs) heap
         turned_handles = handles_written (timed jobs) (timed jobs') heap heap' k ((time, count), j.job) (ap is_some had) turned (indexed.len ∙ turned_len ∙ sym is.indexed.len) capacity
@@ -200,27 +212,33 @@ module _ {T Z : Type 0} (jobs : Content (Job T)) (count : ℕ) (heap : Vec Entry
       written_schedule = record {
         order = rw live_written now_written.0;
         valid = rw (mapped-with unplaced jobs jobs k (record j { job = w })) (content_written (timed jobs) is.valid k (ap is_some had) (j.turn, w));
-        indexed = record { placed = alike (spot_of jobs.live) _ (heap_entry heap.items) _ same_spot (λ i. refl) is.indexed.placed; ordered = is.indexed.ordered; len = is.indexed.len ∙ sym len_written };
+        indexed = record {
+          placed = alike (spot_of jobs.live) _ (heap_entry heap.items) _ same_spot (λ i. refl) is.indexed.placed;
+          ordered = is.indexed.ordered;
+          len = is.indexed.len ∙ sym len_written;
+        };
         room = (let same = len_written in let room = is.room in omega arith);
       }
 
-      pub written_seen : ◌≡◌ {A = Schedule T} (record { waiting = waiting_of (timed now).live; handles = handles_of (timed now) heap; turns = count }) (record { waiting = with_job k w (waiting_of (timed jobs).live); handles = handles_of (timed jobs) heap; turns = count })
+      pub written_seen : ◌≡◌ {A = Schedule T} (record { waiting = waiting_of (timed now).live; handles = handles_of (timed now) heap; turns = count })
+          (record { waiting = with_job k w (waiting_of (timed jobs).live); handles = handles_of (timed jobs) heap; turns = count })
       written_seen =
           let waiting = ap waiting_of live_written ∙ now_written.1 in
           let handles = handles_written (timed jobs) (timed now) heap heap k (j.turn, w) (ap is_some had) (mapped-with unplaced jobs jobs k (record j { job = w })) refl refl in
           λ i. record { waiting = waiting i; handles = handles i; turns = count }
 
--- room was made in the map and in the heap, so for the handles
-pub reserved_room : {T Z : Type 0} (jobs : Content (Job T)) (count : ℕ) (heap : Vec Entry Z) (is : IsSchedule jobs count heap) (jobs' : Content (Job T)) (heap' : Vec Entry Z) (n : ℕ) (made ok : Type 0)
-    → MakesRoom true jobs n made jobs' → heap'.items ≡ heap.items → vec_len heap' ≡ vec_len heap → vec_capacity heap ≤ vec_capacity heap'
-    → (vec_len heap + n ≤ vec_capacity heap → vec_capacity heap' ≡ vec_capacity heap) → (ok → made × (vec_len heap' + n ≤ vec_capacity heap')) → (n ≤ jobs.room → vec_len heap + n ≤ vec_capacity heap → ok)
-    → MakesRoom true (handles_of (timed jobs) heap) n ok (handles_of (timed jobs') heap')
-reserved_room jobs count heap is jobs' heap' n made ok makes items len more same has had =
-    handles_room (timed jobs) (timed jobs') heap heap' n made ok (mapped-room unplaced jobs jobs' n made makes) (schedule_content jobs count heap is)
-    (schedule_content jobs' count heap' (reserved_schedule jobs count heap is jobs' heap' n made makes items len more)) is.indexed.len len more same has had
+  -- room was made in the map and in the heap, so for the handles
+  pub reserved_room : (jobs' : Content (Job T)) (heap' : Vec Entry Z) (n : ℕ) (made ok : Type 0) → MakesRoom true jobs n made jobs' → heap'.items ≡ heap.items
+      → vec_len heap' ≡ vec_len heap → vec_capacity heap ≤ vec_capacity heap' → (vec_len heap + n ≤ vec_capacity heap → vec_capacity heap' ≡ vec_capacity heap)
+      → (ok → made × (vec_len heap' + n ≤ vec_capacity heap')) → (n ≤ jobs.room → vec_len heap + n ≤ vec_capacity heap → ok)
+      → MakesRoom true (handles_of (timed jobs) heap) n ok (handles_of (timed jobs') heap')
+  reserved_room jobs' heap' n made ok makes items len more same has had =
+      handles_room (timed jobs) (timed jobs') heap heap' n made ok (mapped-room unplaced jobs jobs' n made makes) (schedule_content is)
+      (schedule_content (reserved_schedule jobs' heap' n made makes items len more)) is.indexed.len len more same has had
 
 -- all jobs were taken out
-pub schedule_cleared : {T Z : Type 0} (jobs jobs' : Content (Job T)) (count : ℕ) (heap heap' : Vec Entry Z) → IsSchedule jobs count heap → IsContent true jobs' → jobs'.live ≡ map.empty → Leaves jobs jobs'
+pub schedule_cleared : {T Z : Type 0} (jobs jobs' : Content (Job T)) (count : ℕ) (heap heap' : Vec Entry Z) → IsSchedule jobs count heap
+    → IsContent true jobs' → jobs'.live ≡ map.empty → Leaves jobs jobs'
     → vec_len heap' ≡ 0 → vec_capacity heap' ≡ vec_capacity heap → IsSchedule jobs' count heap'
 schedule_cleared {T} jobs jobs' count heap heap' is valid empty leaves none capacity =
     let live = ap map.len empty ∙ map.len-empty key_cmp (Job T) in

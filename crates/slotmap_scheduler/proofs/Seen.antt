@@ -2,7 +2,7 @@
 use Rattle.std.proofs.Common.{◌≡◌, ◌<◌, ◌≤◌, [], ◌∷◌, ◌∙◌}
 use Rattle.slotmap_scheduler.proofs.Common.{ℕ, true, false, inl, List, Bor, Option, Some, None, is_some, option_copied, length, refl, sym, ap, arith, list_map, slice_get, Vec, All}
 use Rattle.slotmap_scheduler.proofs.Common.{option_map, find, length-map, slice_get-get_or, Key, key_cmp, Content, get-mapped, len-mapped, Job}
-use Rattle.slotmap_scheduler.proofs.Common.{Entry, job_of, without, ListsJobs, shown, Turn, waiting_of, InOrder, precedes, no_entry, turn_at, heap_entry, unplaced, timed}
+use Rattle.slotmap_scheduler.proofs.Common.{Entry, job_of, without, ListsJobs, shown, Turn, waiting_of, precedes, no_entry, turn_at, heap_entry, unplaced, timed}
 use Rattle.slotmap_scheduler.proofs.Common.{IsSchedule, IsContent, IsLive}
 use Rattle.std.specs.FinMap as map
 use Rattle.slotmap_scheduler.proofs.Order.{job_is, len_is, waits_first, none_due, none_wait}
@@ -13,10 +13,10 @@ use Rattle.slotmap_scheduler.proofs.HeapPlaces.{entry_within}
 pub none_copied : {A : Type 0} (r : Option (Bor A)) (o : Option A) → option_copied r ≡ o → r ≡ None → o ≡ None
 none_copied r o is none = grind arith
 
-module _ {T : Type 0} (jobs : Content (Job T)) (count : ℕ) (is : InOrder (timed jobs).live count) (k : Key) where
+module _ {T Z : Type 0} {jobs : Content (Job T)} {count : ℕ} {heap : Vec Entry Z} (is : IsSchedule jobs count heap) (k : Key) where
   -- the time and the job of a handle
   seen_is : job_of k (waiting_of (timed jobs).live) ≡ option_map (λ (j : Job T). (j.turn.0, j.job)) (map.get jobs.live k)
-  seen_is = grind (arith, job_is (timed jobs).live count is k, get-mapped unplaced jobs.live k)
+  seen_is = grind (arith, job_is (timed jobs).live count is.order k, get-mapped unplaced jobs.live k)
 
   pub job_seen : option_map (λ (j : Job T). j.job) (map.get jobs.live k) ≡ option_map (λ (due : ℕ × T). due.1) (job_of k (waiting_of (timed jobs).live))
   job_seen = grind (arith, seen_is)
@@ -35,16 +35,18 @@ module _ {T : Type 0} (jobs : Content (Job T)) (count : ℕ) (is : InOrder (time
   seen_job j found before job seen = grind (arith, seen_is)
 
 -- a job as it is in the map: with its place, and without
-spot_there : {T : Type 0} (o : Option (Job T)) (t : Turn) (x : T) → option_map unplaced o ≡ Some (t, x) → (p : ℕ) × (option_map {U = ℕ × Turn} (λ (j : Job T). (j.place, j.turn)) o ≡ Some (p, t))
+spot_there : {T : Type 0} (o : Option (Job T)) (t : Turn) (x : T) → option_map unplaced o ≡ Some (t, x) → (p : ℕ)
+    × (option_map {U = ℕ × Turn} (λ (j : Job T). (j.place, j.turn)) o ≡ Some (p, t))
 spot_there None t x is = absurd (cc)
 spot_there (Some j) t x is = (j.place, grind arith)
 
-pub job_there : {T : Type 0} (o : Option (Job T)) (p : ℕ) (t : Turn) → option_map {U = ℕ × Turn} (λ (j : Job T). (j.place, j.turn)) o ≡ Some (p, t) → (x : T) × (option_map unplaced o ≡ Some (t, x))
+pub job_there : {T : Type 0} (o : Option (Job T)) (p : ℕ) (t : Turn) → option_map {U = ℕ × Turn} (λ (j : Job T). (j.place, j.turn)) o ≡ Some (p, t)
+    → (x : T) × (option_map unplaced o ≡ Some (t, x))
 job_there None p t is = absurd (cc)
 job_there (Some j) p t is = (j.job, grind arith)
 
 -- the job at the top of the heap
-module _ {T Z : Type 0} (jobs : Content (Job T)) (count : ℕ) (heap : Vec Entry Z) (is : IsSchedule jobs count heap) where
+module _ {T Z : Type 0} {jobs : Content (Job T)} {count : ℕ} {heap : Vec Entry Z} (is : IsSchedule jobs count heap) where
   turn_there : (i : ℕ) (k : Key) (t : Turn) → heap_entry heap.items i ≡ Some (k, t) → turn_at heap.items i ≡ t
   turn_there i k t there = grind (arith, slice_get-get_or heap.items i no_entry (entry_within heap.items i (k, t) there))
 
@@ -76,25 +78,26 @@ module _ {T Z : Type 0} (jobs : Content (Job T)) (count : ℕ) (heap : Vec Entry
       no_items (x ∷ xs) none = absurd (cc)
 
 -- the jobs as an iterator yields them
-module _ {T : Type 0} (jobs : Content (Job T)) (count : ℕ) (is : InOrder (timed jobs).live count) where
+module _ {T Z : Type 0} {jobs : Content (Job T)} {count : ℕ} {heap : Vec Entry Z} (is : IsSchedule jobs count heap) where
   find-shown : (es : List (Key × Job T)) (k : Key) → job_of k (list_map shown es) ≡ option_map (λ (j : Job T). (j.turn.0, j.job)) (find key_cmp k es)
   find-shown [] k = refl
   find-shown (e ∷ es) k = grind (arith, find-shown es k)
 
   pub lists_jobs : ListsJobs (waiting_of (timed jobs).live) (list_map shown (map.entries jobs.live))
   lists_jobs = record {
-    same = λ k. find-shown (map.entries jobs.live) k ∙ ap (option_map (λ (j : Job T). (j.turn.0, j.job))) (sym (map.get-entries jobs.live k)) ∙ sym (seen_is jobs count is k);
-    count = length-map (map.entries jobs.live) shown ∙ sym (map.len-entries jobs.live) ∙ sym (len_is (timed jobs).live count is ∙ len-mapped unplaced jobs.live);
+    same = λ k. find-shown (map.entries jobs.live) k ∙ ap (option_map (λ (j : Job T). (j.turn.0, j.job))) (sym (map.get-entries jobs.live k)) ∙ sym (seen_is is k);
+    count = length-map (map.entries jobs.live) shown ∙ sym (map.len-entries jobs.live) ∙ sym (len_is (timed jobs).live count is.order ∙ len-mapped unplaced jobs.live);
   }
 
 -- a handle that the map finds, and the least one from an index on
-module _ {T : Type 0} (jobs : Content (Job T)) (count : ℕ) (is : InOrder (timed jobs).live count) (k : Key) where
+module _ {T Z : Type 0} {jobs : Content (Job T)} {count : ℕ} {heap : Vec Entry Z} (is : IsSchedule jobs count heap) (k : Key) where
   pub found_waits : (j : Job T) → map.get jobs.live k ≡ Some j → (x : T) × (job_of k (waiting_of (timed jobs).live) ≡ Some (j.turn.0, x))
-  found_waits j found = (j.job, seen_is jobs count is k ∙ ap (option_map (λ (y : Job T). (y.turn.0, y.job))) found)
+  found_waits j found = (j.job, seen_is is k ∙ ap (option_map (λ (y : Job T). (y.turn.0, y.job))) found)
 
-  pub alone_at : IsContent true jobs → (j : Job T) → map.get jobs.live k ≡ Some j → (floor : ℕ) → ((other : Key) → IsLive jobs other → floor ≤ other.index → k.index ≤ other.index)
+  pub alone_at : IsContent true jobs → (j : Job T) → map.get jobs.live k ≡ Some j → (floor : ℕ)
+      → ((other : Key) → IsLive jobs other → floor ≤ other.index → k.index ≤ other.index)
       → (q : Key) → is_some (job_of q (waiting_of (timed jobs).live)) ≡ true → floor ≤ q.index → q.index ≤ k.index → q ≡ k
   alone_at well j found floor first q there from up =
-      let live : IsLive jobs q = contains_seen jobs count is q ∙ there in
+      let live : IsLive jobs q = contains_seen is q ∙ there in
       let least = first q live from in
       well.apart q k (inl (inl live)) (inl (inl (ap is_some found))) (omega arith)

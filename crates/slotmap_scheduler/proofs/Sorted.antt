@@ -52,13 +52,18 @@ module _ {K X : Type 0} {R : K → K → Ordering} (total : IsTotalOrder R) (exa
 
 module _ {K L X : Type 0} {R : K → K → Ordering} (total : IsTotalOrder R) (exact : CmpEqualImpliesEq R) (m : map.FinMap R (L × X)) (k : K) where
   pub puts : (l : L) (x : X) → ((q : K) (y : X) → map.get m q ≡ Some (l, y) → q ≡ k) → Puts (map.get m) (map.get (map.insert m k (l, x))) k l x
-  puts l x alone = record { here = grind (arith, map.get-insert total m k (l, x) k, itself total exact k); others = λ q other. grind (arith, map.get-insert total m k (l, x) q, tied total exact q k); alone = alone }
+  puts l x alone = record {
+    here = grind (arith, map.get-insert total m k (l, x) k, itself total exact k);
+    others = λ q other. grind (arith, map.get-insert total m k (l, x) q, tied total exact q k);
+    alone = alone;
+  }
 
   pub drops : Drops (map.get m) (map.get (map.remove m k)) k
   drops = record { gone = grind (arith, map.get-remove total m k k, itself total exact k); others = λ q other. grind (arith, map.get-remove total m k q, tied total exact q k) }
 
 -- maps with the same keys, where Q holds of the two values of each
-module _ {K X : Type 0} {R : K → K → Ordering} (total : IsTotalOrder R) (exact : CmpEqualImpliesEq R) (Q : X → X → Type 0) (m n : map.FinMap R X) (alike : (k : K) → IsCloneOf Q (map.get m k) (map.get n k)) where
+module _ {K X : Type 0} {R : K → K → Ordering} (total : IsTotalOrder R) (exact : CmpEqualImpliesEq R) (Q : X → X → Type 0) (m n : map.FinMap R X)
+    (alike : (k : K) → IsCloneOf Q (map.get m k) (map.get n k)) where
   -- an entry of the first, with the value of the second
   abbrev other : K × X → K × X
   other e = (e.0, unwrap_or (map.get n e.0) e.1)
@@ -84,12 +89,15 @@ module _ {K X : Type 0} {R : K → K → Ordering} (total : IsTotalOrder R) (exa
   entries_other : map.entries n ≡ list_map other (map.entries m)
   entries_other =
       let sorted = subst T (sym (sorted-other (map.entries m))) (map.entries_sorted m) in
-      ap map.entries (map.same_map total exact n (map.from_sorted (list_map other (map.entries m))) (λ q. sym (map.get-from_sorted R (list_map other (map.entries m)) q sorted ∙ find-other q (map.entries m)
-      ∙ ap (option_map (λ v. unwrap_or (map.get n q) v)) (sym (map.get-entries m q)) ∙ value_other (map.get m q) (map.get n q) (alike q)))) ∙ map.entries-from_sorted R (list_map other (map.entries m)) sorted
+      ap map.entries (map.same_map total exact n (map.from_sorted (list_map other (map.entries m)))
+      (λ q. sym (map.get-from_sorted R (list_map other (map.entries m)) q sorted ∙ find-other q (map.entries m)
+      ∙ ap (option_map (λ v. unwrap_or (map.get n q) v)) (sym (map.get-entries m q)) ∙ value_other (map.get m q) (map.get n q) (alike q))))
+      ∙ map.entries-from_sorted R (list_map other (map.entries m)) sorted
 
   -- so their entries are alike, one by one
   pub entries_alike : AllZip (λ (e f : K × X). (f.0 ≡ e.0) × Q e.1 f.1) (map.entries m) (map.entries n)
-  entries_alike = subst (AllZip (λ (e f : K × X). (f.0 ≡ e.0) × Q e.1 f.1) (map.entries m)) (sym entries_other) (by (map.entries m) (all_of total exact (λ k v. Q v (unwrap_or (map.get n k) v)) m (λ k v there. clone_other (map.get m k) (map.get n k) v (alike k) there)))
+  entries_alike = subst (AllZip (λ (e f : K × X). (f.0 ≡ e.0) × Q e.1 f.1) (map.entries m)) (sym entries_other)
+      (by (map.entries m) (all_of total exact (λ k v. Q v (unwrap_or (map.get n k) v)) m (λ k v there. clone_other (map.get m k) (map.get n k) v (alike k) there)))
     where
       by : (es : List (K × X)) → AllByRecursion (λ (e : K × X). Q e.1 (unwrap_or (map.get n e.0) e.1)) es → AllZip (λ (e f : K × X). (f.0 ≡ e.0) × Q e.1 f.1) es (list_map other es)
       by [] all = tt

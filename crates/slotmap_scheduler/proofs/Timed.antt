@@ -26,7 +26,8 @@ module _ {T : Type 0} where
       turn_found : (es : List (Key × (Turn × T))) → AllByRecursion (λ (e : Key × (Turn × T)). map.get jobs e.0 ≡ Some e.1) es → (k : Key) (t : Turn) (job : T)
           → map.get jobs k ≡ Some (t, job) → find key_cmp k es ≡ Some (t, job) → find turn_cmp t (list_map turned es) ≡ Some (k, job)
       turn_found [] all k t job at found = absurd (cc)
-      turn_found (e ∷ es) all k t job at found = grind (arith, tied turns_total exact_turns t e.1.0, untied turns_total exact_turns t e.1.0, all.0, one e.0 k t e.1.1 job, turn_found es all.1 k t job at)
+      turn_found (e ∷ es) all k t job at found =
+          grind (arith, tied turns_total exact_turns t e.1.0, untied turns_total exact_turns t e.1.0, all.0, one e.0 k t e.1.1 job, turn_found es all.1 k t job at)
 
       pub inverse : IsInverse (map.get jobs) (map.get (by_turn jobs))
       unfolding by_turn
@@ -38,13 +39,15 @@ module _ {T : Type 0} where
             from = λ t k job at. found_turn (map.entries jobs) all t k job (sym (by t) ∙ at);
           }
 
-    one_handle : (turns : map.FinMap turn_cmp (Key × T)) → IsInverse (map.get jobs) (map.get turns) → (k q : Key) (t : Turn) (x y : T) → map.get jobs k ≡ Some (t, x) → map.get jobs q ≡ Some (t, y) → k ≡ q
+    one_handle : (turns : map.FinMap turn_cmp (Key × T)) → IsInverse (map.get jobs) (map.get turns) → (k q : Key) (t : Turn) (x y : T)
+        → map.get jobs k ≡ Some (t, x) → map.get jobs q ≡ Some (t, y) → k ≡ q
     one_handle turns is k q t x y at there = grind (arith, is.to k t x at, is.to q t y there)
 
     by_turn_is : (turns : map.FinMap turn_cmp (Key × T)) → IsInverse (map.get jobs) (map.get turns) → by_turn jobs ≡ turns
     by_turn_is turns is =
         let by = inverse (one_handle turns is) in
-        map.same_map turns_total exact_turns (by_turn jobs) turns (λ t. same_option _ _ (λ x there. is.to x.0 t x.1 (by.from t x.0 x.1 there)) (λ x there. by.to x.0 t x.1 (is.from t x.0 x.1 there)))
+        map.same_map turns_total exact_turns (by_turn jobs) turns
+        (λ t. same_option _ _ (λ x there. is.to x.0 t x.1 (by.from t x.0 x.1 there)) (λ x there. by.to x.0 t x.1 (is.from t x.0 x.1 there)))
 
   -- jobs that are in order, and how they wait, by what finds each by its turn
   pub in_order : (jobs : Timed T) (count : ℕ) (turns : map.FinMap turn_cmp (Key × T)) → IsInverse (map.get jobs) (map.get turns) → map.len turns ≡ map.len jobs

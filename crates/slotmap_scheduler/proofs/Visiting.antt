@@ -236,13 +236,15 @@ module _ {F K T : Type 0} {g : Mut F (K × (ℕ × (MutBor T × Unit {0}))) (Boo
 
       pub visiting_kept : stays ≡ true → Visiting g data_of old f (record now { waiting = with_job k after.now now.waiting }) (k.index + 1) f''
       visiting_kept keep = step (record now { waiting = with_job k after.now now.waiting }) (sym (ap (λ b. if b then with_job k after.now now.waiting else without k now.waiting) keep))
-          (λ q other. written_other k after.now q now.waiting other) (λ none. absurd (let some = written_waits k (time, shown.now) at after.now in let h = ap is_some none in cc)) refl refl (leaves_none now.handles) (λ q s. s)
+          (λ q other. written_other k after.now q now.waiting other)
+          (λ none. absurd (let some = written_waits k (time, shown.now) at after.now in let h = ap is_some none in cc)) refl refl (leaves_none now.handles) (λ q s. s)
 
       pub visiting_dropped : {new : Schedule T} → stays ≡ false → new.waiting ≡ without k (with_job k after.now now.waiting) → IsSpent new.handles k → new.turns ≡ now.turns
           → new.handles.capacity ≡ now.handles.capacity → Leaves now.handles new.handles → KeepsSpent now.handles new.handles → Visiting g data_of old f new (k.index + 1) f''
       visiting_dropped {new} drop removed spent turns capacity leaves keeps =
           let now_is = removed ∙ written_without k after.now now.waiting in
-          step new (now_is ∙ sym (ap (λ b. if b then with_job k after.now now.waiting else without k now.waiting) drop)) (λ q other. ap (job_of q) now_is ∙ other_found k q now.waiting other) (λ _. spent) turns capacity leaves keeps
+          step new (now_is ∙ sym (ap (λ b. if b then with_job k after.now now.waiting else without k now.waiting) drop))
+          (λ q other. ap (job_of q) now_is ∙ other_found k q now.waiting other) (λ _. spent) turns capacity leaves keeps
 
 -- a closure that can always be called
 module _ {F K T : Type 0} (g : Mut F (K × (ℕ × (MutBor T × Unit {0}))) (Bool × (MutBor T × Unit {0}))) (data_of : K → Key) where

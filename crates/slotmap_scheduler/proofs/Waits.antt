@@ -49,7 +49,8 @@ module _ {A : Type 0} where
     module _ (count : ℕ) (is : InOrder jobs count) where
       pub waits_once : IsOnce (waiting_of jobs)
       waits_once =
-          once (map.entries (by_turn jobs)) (map.entries_sorted (by_turn jobs)) (all_of turns_total exact_turns (λ t x. map.get jobs x.0 ≡ Some (t, x.1)) (by_turn jobs) (λ t x there. is.turns.from t x.0 x.1 there))
+          once (map.entries (by_turn jobs)) (map.entries_sorted (by_turn jobs))
+          (all_of turns_total exact_turns (λ t x. map.get jobs x.0 ≡ Some (t, x.1)) (by_turn jobs) (λ t x there. is.turns.from t x.0 x.1 there))
 
     pub waits_by_time : IsByTime (waiting_of jobs)
     waits_by_time = by_time (map.entries (by_turn jobs)) (map.entries_sorted (by_turn jobs))

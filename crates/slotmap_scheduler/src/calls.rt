@@ -349,7 +349,8 @@ impl<K: Key, T: Drop> Scheduler<K, T> {
     ///
     /// First it counts the jobs that are due, and reserves room for so many in the vector. So it fails
     /// only if memory runs out, and nothing has changed then. Where the vector has that room, the call
-    /// succeeds, however many jobs wait. The scheduler's capacity stays. It takes time logarithmic in
+    /// succeeds, however many jobs wait, and the vector's capacity stays. The scheduler's capacity stays
+    /// in any case. It takes time logarithmic in
     /// the number of jobs for each job that is due; the count takes constant time for each.
     ///
     /// ```
@@ -361,7 +362,7 @@ impl<K: Key, T: Drop> Scheduler<K, T> {
     /// assert_eq!(rt; due.as_slice(), [(bell, "bell"), (tea, "tea")].as_slice());
     /// ```
     pub fn pop_all_due(&mut self, now: u64, due: &mut Vec<(K, T)>) -> Result<(), AllocError>
-        // The first jobs that wait are taken out, and were due: all that were, if the call succeeds.
+        // All jobs that are due are taken out, if the call succeeds, and none if it fails.
         ensures taken { TakesDue K.data_of now self.old.waiting due.old.items due.new.items self.new.waiting }
         ensures none_left { OnOk result (All (λ e. now < e.1.0) self.new.waiting) }
         ensures sorted { IsByTime self.old.waiting }
@@ -377,17 +378,20 @@ impl<K: Key, T: Drop> Scheduler<K, T> {
         ensures same_items { OnErr result (due.new.items ≡ due.old.items) }
         ensures same_room { OnErr result (vec_capacity due.new ≡ vec_capacity due.old) }
 
-        // It fails only where the vector lacks room for the jobs that are due.
+        // It fails only where the vector lacks room for the jobs that are due. Where it has that room,
+        // its capacity stays.
         ensures had_room { vec_len due.old + length (due_at now self.old.waiting) ≤ vec_capacity due.old → IsOk result }
-        ensures full { OnErr result (vec_capacity due.new < vec_len due.new + length (due_at now self.new.waiting)) }
-        ensures next_due { OnErr result (0 < length (due_at now self.new.waiting)) }
+        ensures in_place { vec_len due.old + length (due_at now self.old.waiting) ≤ vec_capacity due.old → vec_capacity due.new ≡ vec_capacity due.old }
+        ensures no_less_room { vec_capacity due.old ≤ vec_capacity due.new }
+        ensures full { OnErr result (vec_capacity due.old < vec_len due.old + length (due_at now self.old.waiting)) }
+        ensures next_due { OnErr result (0 < length (due_at now self.old.waiting)) }
 
         // What never comes again.
         ensures for_good { (k : KeyOf) → is_some (job_of k self.old.waiting) ≡ true → job_of k self.new.waiting ≡ None → IsSpent self.new.handles k }
         ensures stale { KeepsSpent self.old.handles self.new.handles }
     {
         let count = self.due_count(now);
-        due.reserve(count)?;
+        make_room(due, count)?;
         while let Some(job) = self.pop_due(now) {
             due.push_reserved(job);
         }

@@ -1,6 +1,6 @@
 //! The heap of turns, which knows the job that is next.
 
-ghost use Rattle.std.specs.Prelude.{◌≡◌, ◌≢◌, ℕ, ◌+◌, ◌<◌, ◌≤◌, Some, IfSome, IfNone, OnSome, OnOk, IsOk, true, length, vec_len, vec_capacity};
+ghost use Rattle.std.specs.Prelude.{◌≡◌, ◌≢◌, ℕ, ◌+◌, ◌<◌, ◌≤◌, Some, IfSome, IfNone, OnSome, OnOk, OnErr, IsOk, true, length, vec_len, vec_capacity};
 ghost use Rattle.std.specs.List.{SwappedAt};
 ghost use Rattle.std.specs.FinMap as map;
 ghost use Rattle.slotmap.specs.Words.{IsLive, StaysValid, Inserts, Removes, with_value};
@@ -115,19 +115,21 @@ fn settle<T: Drop>(jobs: &mut Jobs<T>, heap: &mut Vec<Entry>, place: usize)
     sift_down(jobs, heap, at);
 }
 
-// Makes room for `additional` more entries. If there is room, it changes nothing.
-pub(crate) fn make_room(heap: &mut Vec<Entry>, additional: usize) -> Result<(), AllocError>
-    ensures keeps { heap.new.items ≡ heap.old.items }
-    ensures len { vec_len heap.new ≡ vec_len heap.old }
-    ensures ok { OnOk result (vec_len heap.new + additional ≤ vec_capacity heap.new) }
-    ensures capacity { vec_capacity heap.old ≤ vec_capacity heap.new }
-    ensures succeeds { vec_len heap.old + additional ≤ vec_capacity heap.old → IsOk result }
-    ensures had_room { vec_len heap.old + additional ≤ vec_capacity heap.old → vec_capacity heap.new ≡ vec_capacity heap.old }
+// Makes room for `additional` more items. If there is room, it changes nothing.
+pub(crate) fn make_room<X>(items: &mut Vec<X>, additional: usize) -> Result<(), AllocError>
+    ensures keeps { items.new.items ≡ items.old.items }
+    ensures len { vec_len items.new ≡ vec_len items.old }
+    ensures ok { OnOk result (vec_len items.new + additional ≤ vec_capacity items.new) }
+    ensures capacity { vec_capacity items.old ≤ vec_capacity items.new }
+    ensures succeeds { vec_len items.old + additional ≤ vec_capacity items.old → IsOk result }
+    ensures had_room { vec_len items.old + additional ≤ vec_capacity items.old → vec_capacity items.new ≡ vec_capacity items.old }
+    ensures full { OnErr result (vec_capacity items.old < vec_len items.old + additional) }
+    ensures err { OnErr result (vec_capacity items.new ≡ vec_capacity items.old) }
 {
-    if additional <= heap.capacity() - heap.len() {
+    if additional <= items.capacity() - items.len() {
         return Ok(());
     }
-    heap.reserve(additional)
+    items.reserve(additional)
 }
 
 // Puts a job in, for which there is room.

@@ -2,12 +2,15 @@
 #![tactic(auto, using(slotmap::proofs::Callers::keys))]
 
 pub mod arm;
+pub mod boats;
 pub mod bodies;
 pub mod cursors;
 pub mod cycles;
 pub mod forward;
+pub mod fuses;
 pub mod groups;
 pub mod heirs;
+pub mod jobs;
 pub mod outward;
 pub mod reaper;
 pub mod reorder;

@@ -66,6 +66,18 @@ fn sum_of(jobs: &Numbers) -> Sum {
     sum
 }
 
+// The time of each job, by the list of the handles, and then each number.
+fn sum_of_lists(jobs: &Numbers) -> Sum {
+    let mut sum = Sum::new();
+    for handle in jobs.keys() {
+        sum.add_some(jobs.due(handle));
+    }
+    for number in jobs.values() {
+        sum.add(*number);
+    }
+    sum
+}
+
 // Each of these jobs that waits, by its handle.
 fn sum_of_handles(jobs: &Numbers, handles: &[DefaultKey]) -> Sum {
     let mut sum = Sum::new();
@@ -115,6 +127,7 @@ fn fill(
     size: u64,
 ) -> bool {
     let told = tell(rt, "scheduled", sum_of(jobs))
+        && tell(rt, "listed", sum_of_lists(jobs))
         && tell(rt, "moves", reschedule_some(jobs, handles, random, size))
         && tell(
             rt,
@@ -140,13 +153,63 @@ fn pop(
         && tell(rt, "left", sum_of_handles(jobs, handles.as_slice()))
 }
 
+// Adds its time to each number, and keeps those that 3 doesn't divide then.
+fn retain_some(jobs: &mut Numbers) {
+    jobs.retain(|_: DefaultKey, time, number| {
+        *number = number.wrapping_add(time);
+        *number % 3 != 0
+    });
+}
+
+// Drains a scheduler: each job with its time.
+fn drain(jobs: &mut Numbers) -> Sum {
+    let mut sum = Sum::new();
+    for (_, time, number) in jobs.drain() {
+        sum.add(time);
+        sum.add(number);
+    }
+    sum
+}
+
+// Takes a scheduler apart: each job with its time.
+fn sum_in_order(jobs: Numbers) -> Sum {
+    let mut sum = Sum::new();
+    for (_, time, number) in jobs {
+        sum.add(time);
+        sum.add(number);
+    }
+    sum
+}
+
+// Takes a copy apart.
+fn take_apart(rt: &HostRuntime, jobs: &Numbers) -> bool {
+    match jobs.clone() {
+        Ok(copy) => tell(rt, "in order", sum_in_order(copy)),
+        Err(_) => false,
+    }
+}
+
+// Keeps some jobs of a copy, and drains it.
+fn retain_and_drain(rt: &HostRuntime, jobs: &Numbers, handles: &[DefaultKey]) -> bool {
+    let Ok(mut copy) = jobs.clone() else {
+        return false;
+    };
+    retain_some(&mut copy);
+    tell(rt, "retained", sum_of_handles(&copy, handles))
+        && tell(rt, "drained", drain(&mut copy))
+        && copy.is_empty()
+}
+
 // Copies a scheduler, and clears it. All jobs of the copy are taken out.
-fn copy(rt: &HostRuntime, jobs: &mut Numbers) -> bool {
+fn copy(rt: &HostRuntime, jobs: &mut Numbers, handles: &[DefaultKey]) -> bool {
     let Ok(mut copy) = jobs.clone() else {
         return false;
     };
     jobs.clear();
-    tell(rt, "cleared", sum_of(jobs)) && tell_all_due(rt, "copied", &mut copy, 1000)
+    tell(rt, "cleared", sum_of(jobs))
+        && take_apart(rt, &copy)
+        && retain_and_drain(rt, &copy, handles)
+        && tell_all_due(rt, "copied", &mut copy, 1000)
 }
 
 // The calls on an empty scheduler.
@@ -160,7 +223,7 @@ fn run_in(
     schedule_all(jobs, handles, random, 0, size)
         && fill(rt, jobs, handles.as_slice(), random, size)
         && pop(rt, jobs, handles, random, size)
-        && copy(rt, jobs)
+        && copy(rt, jobs, handles.as_slice())
 }
 
 // The same in a scheduler that is made.

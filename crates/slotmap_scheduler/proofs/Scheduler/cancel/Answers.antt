@@ -9,7 +9,7 @@ use Rattle.slotmap_scheduler.proofs.Scheduler.cancel.Goals as goal
 
 pub invariant_of-self-2 : goal.invariant_of-self-2
 invariant_of-self-2 g c =
-    left_schedule c.self.inside.jobs c.self.inside.count c.self.inside.heap c.self.invariant c.inner.result c.in_ok-removed.removed (sym c.take_out.ensures.value ∙ c.in_ok-removed.was) c.take_out.new.jobs
+    left_schedule c.self.invariant c.inner.result c.in_ok-removed.removed (sym c.take_out.ensures.value ∙ c.in_ok-removed.was) c.take_out.new.jobs
     c.in_ok-removed.ensures.removes c.take_out.new.heap c.take_out.ensures.valid.after c.take_out.ensures.indexed c.take_out.ensures.capacity
 
 pub returns : goal.returns
@@ -19,20 +19,21 @@ returns g c =
     let removes = c.in_ok-removed.ensures.removes in
     let live = live-mapped unplaced c.self.inside.jobs c.inner.result (ap is_some found) in
     let well = c.self.invariant.valid in
-    let fewer = left_len c.self.inside.jobs c.self.inside.count c.self.inside.heap c.self.invariant c.inner.result c.in_ok-removed.removed found c.take_out.new.jobs removes in
+    let fewer = left_len c.self.invariant c.inner.result c.in_ok-removed.removed found c.take_out.new.jobs removes in
     let len = c.self.invariant.indexed.len in
     let now = out.indexed.len in
     record {
-      job = rw (← c.self.view_is, ← c.inner.ensures) (ap (option_map (λ (j : Job g.row.T.Denot). j.job)) (sym found) ∙ job_seen c.self.inside.jobs c.self.inside.count c.self.invariant.order c.inner.result);
-      removed = rw (← c.self.view_is, ← c.inner.ensures) (left_waits c.self.inside.jobs c.self.inside.count c.self.inside.heap c.self.invariant c.inner.result c.in_ok-removed.removed found c.take_out.new.jobs removes);
-      one_less = rw (← c.self.view_is) (left_less c.self.inside.jobs c.self.inside.count c.self.inside.heap c.self.invariant c.inner.result c.in_ok-removed.removed found c.take_out.new.jobs removes);
-      others = rw (← c.self.view_is, ← c.inner.ensures) (left_others c.self.inside.jobs c.self.inside.count c.self.inside.heap c.self.invariant c.inner.result c.in_ok-removed.removed found c.take_out.new.jobs removes);
-      handles = rw (← c.self.view_is, ← c.inner.ensures) (handles_removed (timed c.self.inside.jobs) (timed c.take_out.new.jobs) c.self.inside.heap c.take_out.new.heap c.inner.result removes (omega arith) out.capacity);
+      job = rw (← c.self.view_is, ← c.inner.ensures) (ap (option_map (λ (j : Job g.row.T.Denot). j.job)) (sym found) ∙ job_seen c.self.invariant c.inner.result);
+      removed = rw (← c.self.view_is, ← c.inner.ensures) (left_waits c.self.invariant c.inner.result c.in_ok-removed.removed found c.take_out.new.jobs removes);
+      one_less = rw (← c.self.view_is) (left_less c.self.invariant c.inner.result c.in_ok-removed.removed found c.take_out.new.jobs removes);
+      others = rw (← c.self.view_is, ← c.inner.ensures) (left_others c.self.invariant c.inner.result c.in_ok-removed.removed found c.take_out.new.jobs removes);
+      handles = rw (← c.self.view_is, ← c.inner.ensures)
+          (handles_removed (timed c.self.inside.jobs) (timed c.take_out.new.jobs) c.self.inside.heap c.take_out.new.heap c.inner.result removes (omega arith) out.capacity);
       turns = search rules;
       unchanged = search rules;
       capacity = rw (← c.self.view_is) (same_capacity (timed c.self.inside.jobs) (timed c.take_out.new.jobs) c.self.inside.heap c.take_out.new.heap out.valid.capacity out.capacity);
       leaves = rw (← c.self.view_is) (handles_left (timed c.self.inside.jobs) (timed c.take_out.new.jobs) c.self.inside.heap c.take_out.new.heap
-          (left_leaves c.self.inside.jobs c.self.inside.count c.self.inside.heap c.self.invariant c.inner.result c.in_ok-removed.removed found c.take_out.new.jobs removes) (omega arith) (omega arith) out.capacity);
+          (left_leaves c.self.invariant c.inner.result c.in_ok-removed.removed found c.take_out.new.jobs removes) (omega arith) (omega arith) out.capacity);
       for_good = rw (← c.inner.ensures) (handles_spent (timed c.take_out.new.jobs) c.take_out.new.heap c.inner.result (removed_spent _ _ true well c.inner.result live removes));
       stale = rw (← c.self.view_is) (handles_stale _ _ c.self.inside.heap c.take_out.new.heap (spent_removes _ _ true well c.inner.result live removes));
     }
@@ -40,9 +41,9 @@ returns g c =
 pub returns-in_err-removed-clause-job : goal.returns-in_err-removed-clause-job
 returns-in_err-removed-clause-job g c =
     rw (← c.self.view_is, ← c.inner.ensures) (c.from_residual.ensures ∙ ap (option_map (λ (j : Job g.row.T.Denot). j.job)) (sym c.in_err-removed.was ∙ c.take_out.ensures.value)
-    ∙ job_seen c.self.inside.jobs c.self.inside.count c.self.invariant.order c.inner.result)
+    ∙ job_seen c.self.invariant c.inner.result)
 
 pub returns-in_err-removed-clause-removed : goal.returns-in_err-removed-clause-removed
 returns-in_err-removed-clause-removed g c =
     rw (← c.self.view_is, ← c.inner.ensures) (ap (λ jobs. waiting_of (timed jobs).live) c.in_err-removed.ensures.unchanged.0
-    ∙ sym (without_none c.inner.result _ (none_seen c.self.inside.jobs c.self.inside.count c.self.invariant.order c.inner.result (sym c.take_out.ensures.value ∙ c.in_err-removed.was))))
+    ∙ sym (without_none c.inner.result _ (none_seen c.self.invariant c.inner.result (sym c.take_out.ensures.value ∙ c.in_err-removed.was))))

@@ -2,4 +2,4 @@ use Rattle.slotmap_scheduler.proofs.Schedules.{schedule_content}
 use Rattle.slotmap_scheduler.proofs.Scheduler.capacity.Goals as goal
 
 pub returns-clause-valid : goal.returns-clause-valid
-returns-clause-valid g c = rw (← c.self.view_is) (schedule_content c.self.inside.jobs c.self.inside.count c.self.inside.heap c.self.invariant)
+returns-clause-valid g c = rw (← c.self.view_is) (schedule_content c.self.invariant)

@@ -9,7 +9,8 @@ use Rattle.slotmap_scheduler.proofs.Scheduler.clear.Goals as goal
 
 pub invariant_of-self : goal.invariant_of-self
 invariant_of-self g c =
-    schedule_cleared c.self.inside.jobs c.clear.new.self c.self.inside.count c.self.inside.heap c.clear-2.new.self c.self.invariant c.clear.ensures.valid.after c.clear.ensures.empty c.clear.ensures.leaves c.clear-2.ensures.len c.clear-2.ensures.capacity
+    schedule_cleared c.self.inside.jobs c.clear.new.self c.self.inside.count c.self.inside.heap c.clear-2.new.self c.self.invariant c.clear.ensures.valid.after
+    c.clear.ensures.empty c.clear.ensures.leaves c.clear-2.ensures.len c.clear-2.ensures.capacity
 
 pub returns-clause-empty : goal.returns-clause-empty
 returns-clause-empty g c = none_waits c.clear.new.self c.clear.ensures.empty
@@ -24,16 +25,18 @@ returns-clause-capacity g c =
 pub returns-clause-leaves : goal.returns-clause-leaves
 returns-clause-leaves g c =
     let waiting = c.self.invariant.indexed.len in
-    rw (← c.self.view_is) (handles_left (timed c.self.inside.jobs) (timed c.clear.new.self) c.self.inside.heap c.clear-2.new.self (mapped-leaves unplaced c.self.inside.jobs c.clear.new.self c.clear.ensures.leaves)
+    rw (← c.self.view_is) (handles_left (timed c.self.inside.jobs) (timed c.clear.new.self) c.self.inside.heap c.clear-2.new.self
+    (mapped-leaves unplaced c.self.inside.jobs c.clear.new.self c.clear.ensures.leaves)
     (omega (arith, c.clear-2.ensures.len)) (omega (arith, c.clear-2.ensures.len)) c.clear-2.ensures.capacity)
 
 pub returns-clause-for_good : goal.returns-clause-for_good
 returns-clause-for_good g c k waits =
-    let live = contains_seen c.self.inside.jobs c.self.inside.count c.self.invariant.order k ∙ rw (← c.self.view_is) at waits in
+    let live = contains_seen c.self.invariant k ∙ rw (← c.self.view_is) at waits in
     let none = contains-mapped unplaced c.clear.new.self.live k ∙ ap (λ m. map.contains_key m k) c.clear.ensures.empty ∙ ap is_some (map.get-empty {X = Job g.row.T.Denot} key_cmp k) in
     handles_spent (timed c.clear.new.self) c.clear-2.new.self k (left_spent (timed c.self.inside.jobs) (timed c.clear.new.self) true c.self.invariant.valid k
     (mapped-leaves unplaced c.self.inside.jobs c.clear.new.self c.clear.ensures.leaves) (live-mapped unplaced c.self.inside.jobs k live) none)
 
 pub returns-clause-stale : goal.returns-clause-stale
 returns-clause-stale g c =
-    rw (← c.self.view_is) (handles_stale (timed c.self.inside.jobs) (timed c.clear.new.self) c.self.inside.heap c.clear-2.new.self (spent_leaves _ _ (mapped-leaves unplaced c.self.inside.jobs c.clear.new.self c.clear.ensures.leaves)))
+    rw (← c.self.view_is) (handles_stale (timed c.self.inside.jobs) (timed c.clear.new.self) c.self.inside.heap c.clear-2.new.self
+    (spent_leaves _ _ (mapped-leaves unplaced c.self.inside.jobs c.clear.new.self c.clear.ensures.leaves)))

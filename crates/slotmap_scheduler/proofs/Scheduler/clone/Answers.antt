@@ -22,7 +22,8 @@ invariant_of-result g c =
     (omega (arith, c.len.ensures, c.capacity.ensures.value))
 
 pub returns-clause-clones : goal.returns-clause-clones
-returns-clause-clones g c = rw (← c.self.view_is) (waiting_copied g.T.Clone.is_clone c.self.inside.jobs c.in_ok-jobs.jobs c.in_ok-jobs.ensures.clones c.self.inside.count c.self.inside.heap c.self.invariant)
+returns-clause-clones g c = rw (← c.self.view_is)
+    (waiting_copied g.T.Clone.is_clone c.self.inside.jobs c.in_ok-jobs.jobs c.in_ok-jobs.ensures.clones c.self.inside.count c.self.inside.heap c.self.invariant)
 
 pub returns-clause-same_if_clones_equal : goal.returns-clause-same_if_clones_equal
 returns-clause-same_if_clones_equal g c same = same_from_all_zip _ _ _ (returns-clause-clones g c) (λ x y are i. (are.0 i, (are.1.0 i, same x.1.1 y.1.1 are.1.1 i)))

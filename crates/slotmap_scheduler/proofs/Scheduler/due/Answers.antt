@@ -4,7 +4,7 @@ use Rattle.slotmap_scheduler.proofs.Seen.{due_seen}
 use Rattle.slotmap_scheduler.proofs.Scheduler.due.Goals as goal
 
 pub returns : goal.returns
-returns g c = rw (← c.self.view_is, ← c.inner.ensures) (ap (option_map (λ (j : Job g.row.T.Denot). j.turn.0)) c.in_ok-get.ensures.value ∙ due_seen c.self.inside.jobs c.self.inside.count c.self.invariant.order c.inner.result)
+returns g c = rw (← c.self.view_is, ← c.inner.ensures) (ap (option_map (λ (j : Job g.row.T.Denot). j.turn.0)) c.in_ok-get.ensures.value ∙ due_seen c.self.invariant c.inner.result)
 
 pub returns-in_err-get : goal.returns-in_err-get
-returns-in_err-get g c = rw (← c.self.view_is, ← c.inner.ensures) (grind (arith, c.from_residual.ensures, c.get.ensures.value, c.in_err-get.was, due_seen c.self.inside.jobs c.self.inside.count c.self.invariant.order c.inner.result))
+returns-in_err-get g c = rw (← c.self.view_is, ← c.inner.ensures) (grind (arith, c.from_residual.ensures, c.get.ensures.value, c.in_err-get.was, due_seen c.self.invariant c.inner.result))

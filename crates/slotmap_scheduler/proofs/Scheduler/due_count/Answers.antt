@@ -9,7 +9,7 @@ count_due-requires g c = rw (c.deref.ensures.value) c.self.invariant.indexed.ord
 
 pub returns-clause-value : goal.returns-clause-value
 returns-clause-value g c =
-    rw (← c.self.view_is) (c.count_due.ensures ∙ ap (due_under c.args.now 0) c.deref.ensures.value ∙ due_counted c.self.inside.jobs c.self.inside.count c.self.inside.heap c.self.invariant c.args.now)
+    rw (← c.self.view_is) (c.count_due.ensures ∙ ap (due_under c.args.now 0) c.deref.ensures.value ∙ due_counted c.self.invariant c.args.now)
 
 pub returns-clause-sorted : goal.returns-clause-sorted
 returns-clause-sorted g c = rw (← c.self.view_is) (waits_by_time (timed c.self.inside.jobs).live)

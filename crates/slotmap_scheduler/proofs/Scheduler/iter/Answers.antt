@@ -4,7 +4,7 @@ use Rattle.slotmap_scheduler.proofs.Scheduler.iter.Goals as goal
 
 pub returns : goal.returns
 returns g c = record {
-  jobs = rw (← c.self.view_is, c.iter.ensures.in_order) (lists_jobs c.self.inside.jobs c.self.inside.count c.self.invariant.order);
+  jobs = rw (← c.self.view_is, c.iter.ensures.in_order) (lists_jobs c.self.invariant);
   in_order = rw (← c.self.view_is, c.iter.ensures.in_order) (shown_in_order c.self.inside.jobs.live);
   once = rw (c.iter.ensures.in_order) (shown_once c.self.inside.jobs.live);
 }

@@ -7,17 +7,17 @@ use Rattle.slotmap_scheduler.proofs.Scheduler.peek.Goals as goal
 pub returns-clause-first : goal.returns-clause-first
 returns-clause-first g c =
     let top : slice_get c.self.inside.heap.items 0 ≡ Some c.in_ok-next.next.now = sym (c.in_ok-next.ensures.value ∙ ap (λ xs. slice_get xs 0) c.deref.ensures.value) in
-    rw (← c.self.view_is, c.outer.ensures) (top_waits c.self.inside.jobs c.self.inside.count c.self.inside.heap c.self.invariant c.in_ok-next.next.now top)
+    rw (← c.self.view_is, c.outer.ensures) (top_waits c.self.invariant c.in_ok-next.next.now top)
 
 pub returns-clause-later : goal.returns-clause-later
 returns-clause-later g c now later =
     let top : slice_get c.self.inside.heap.items 0 ≡ Some c.in_ok-next.next.now = sym (c.in_ok-next.ensures.value ∙ ap (λ xs. slice_get xs 0) c.deref.ensures.value) in
-    rw (← c.self.view_is) (top_later c.self.inside.jobs c.self.inside.count c.self.inside.heap c.self.invariant c.in_ok-next.next.now top now later)
+    rw (← c.self.view_is) (top_later c.self.invariant c.in_ok-next.next.now top now later)
 
 pub returns-in_err-next-clause-none : goal.returns-in_err-next-clause-none
 returns-in_err-next-clause-none g c =
     let none = none_copied _ _ c.first.ensures.value c.in_err-next.was in
-    rw (c.from_residual.ensures, ← c.self.view_is) (empty_waits c.self.inside.jobs c.self.inside.count c.self.inside.heap c.self.invariant (ap (λ xs. slice_get xs 0) (sym c.deref.ensures.value) ∙ none))
+    rw (c.from_residual.ensures, ← c.self.view_is) (empty_waits c.self.invariant (ap (λ xs. slice_get xs 0) (sym c.deref.ensures.value) ∙ none))
 
 pub returns-clause-sorted : goal.returns-clause-sorted
 returns-clause-sorted g c = rw (← c.self.view_is) (waits_by_time (timed c.self.inside.jobs).live)

@@ -1,9 +1,13 @@
-use Rattle.slotmap_scheduler.proofs.Common.{length}
+use Rattle.std.proofs.Common.{◌≡◌}
+use Rattle.slotmap_scheduler.proofs.Common.{length, vec_capacity}
 use Rattle.slotmap_scheduler.proofs.TakingDue.{Taking}
 use Rattle.slotmap_scheduler.proofs.Scheduler.pop_all_due.Given as goal
 
 abbrev pub invariant-loop-job : goal.invariant-loop-job
-invariant-loop-job g l = Taking g.K.Key.data_of l.now l.fn.self l.fn.due l.self l.due
+invariant-loop-job g l = record {
+  taking : Taking g.K.Key.data_of l.now l.fn.self l.fn.due l.self l.due;
+  room : vec_capacity l.due ≡ vec_capacity l.initial.due;
+}
 
 abbrev pub decreases-loop-job : goal.decreases-loop-job
 decreases-loop-job g l = length l.self.waiting

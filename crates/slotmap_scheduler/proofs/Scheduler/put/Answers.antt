@@ -9,24 +9,26 @@ put_in-handle-requires g c = let room = rw (← c.self.view_is) at c.requires.ro
 pub invariant_of-self : goal.invariant_of-self
 invariant_of-self g c =
     let put = c.put_in-handle.ensures in
-    put_schedule c.self.inside.jobs c.self.inside.count c.self.inside.heap c.self.invariant c.put_in-handle.new.jobs c.put_in-handle.result c.args.time c.args.job put.inserts c.put_in-handle.new.heap put.valid.after put.indexed put.capacity
+    put_schedule c.self.invariant c.put_in-handle.new.jobs c.put_in-handle.result c.args.time c.args.job put.inserts c.put_in-handle.new.heap put.valid.after put.indexed put.capacity
 
 pub returns : goal.returns
 returns g c =
     let put = c.put_in-handle.ensures in
     let well = c.self.invariant.valid in
-    let more = put_len c.self.inside.jobs c.self.inside.count c.self.inside.heap c.self.invariant c.put_in-handle.new.jobs c.put_in-handle.result c.args.time c.args.job put.inserts in
+    let more = put_len c.self.invariant c.put_in-handle.new.jobs c.put_in-handle.result c.args.time c.args.job put.inserts in
     let len = c.self.invariant.indexed.len in
     let now = put.indexed.len in
     record {
-      waits = rw (← c.self.view_is, c.outer.ensures) (put_waits c.self.inside.jobs c.self.inside.count c.self.inside.heap c.self.invariant c.put_in-handle.new.jobs c.put_in-handle.result c.args.time c.args.job put.inserts);
-      there = rw (c.outer.ensures) (put_there c.self.inside.jobs c.self.inside.count c.self.inside.heap c.self.invariant c.put_in-handle.new.jobs c.put_in-handle.result c.args.time c.args.job put.inserts);
-      others = rw (← c.self.view_is, c.outer.ensures) (put_others c.self.inside.jobs c.self.inside.count c.self.inside.heap c.self.invariant c.put_in-handle.new.jobs c.put_in-handle.result c.args.time c.args.job put.inserts);
-      one_more = rw (← c.self.view_is) (put_more c.self.inside.jobs c.self.inside.count c.self.inside.heap c.self.invariant c.put_in-handle.new.jobs c.put_in-handle.result c.args.time c.args.job put.inserts);
-      fresh = rw (← c.self.view_is, c.outer.ensures) (put_fresh c.self.inside.jobs c.self.inside.count c.self.inside.heap c.self.invariant c.put_in-handle.new.jobs c.put_in-handle.result c.args.time c.args.job put.inserts);
+      waits = rw (← c.self.view_is, c.outer.ensures) (put_waits c.self.invariant c.put_in-handle.new.jobs c.put_in-handle.result c.args.time c.args.job put.inserts);
+      there = rw (c.outer.ensures) (put_there c.self.invariant c.put_in-handle.new.jobs c.put_in-handle.result c.args.time c.args.job put.inserts);
+      others = rw (← c.self.view_is, c.outer.ensures) (put_others c.self.invariant c.put_in-handle.new.jobs c.put_in-handle.result c.args.time c.args.job put.inserts);
+      one_more = rw (← c.self.view_is) (put_more c.self.invariant c.put_in-handle.new.jobs c.put_in-handle.result c.args.time c.args.job put.inserts);
+      fresh = rw (← c.self.view_is, c.outer.ensures) (put_fresh c.self.invariant c.put_in-handle.new.jobs c.put_in-handle.result c.args.time c.args.job put.inserts);
       unspent = rw (← c.self.view_is, c.outer.ensures) (handles_unspent (timed c.self.inside.jobs) (timed c.put_in-handle.new.jobs) c.self.inside.heap c.put_in-handle.new.heap _ _ put.inserts well);
-      handles = rw (← c.self.view_is, c.outer.ensures) (handles_inserted (timed c.self.inside.jobs) (timed c.put_in-handle.new.jobs) c.self.inside.heap c.put_in-handle.new.heap _ _ put.inserts (omega arith) (omega (arith, put.capacity)));
+      handles = rw (← c.self.view_is, c.outer.ensures)
+          (handles_inserted (timed c.self.inside.jobs) (timed c.put_in-handle.new.jobs) c.self.inside.heap c.put_in-handle.new.heap _ _ put.inserts (omega arith) (omega (arith, put.capacity)));
       capacity = rw (← c.self.view_is) (same_capacity (timed c.self.inside.jobs) (timed c.put_in-handle.new.jobs) c.self.inside.heap c.put_in-handle.new.heap put.valid.capacity put.capacity);
       turns = search rules;
-      stale = rw (← c.self.view_is) (handles_stale (timed c.self.inside.jobs) (timed c.put_in-handle.new.jobs) c.self.inside.heap c.put_in-handle.new.heap (spent_inserts _ _ true well _ _ put.inserts));
+      stale = rw (← c.self.view_is)
+          (handles_stale (timed c.self.inside.jobs) (timed c.put_in-handle.new.jobs) c.self.inside.heap c.put_in-handle.new.heap (spent_inserts _ _ true well _ _ put.inserts));
     }

@@ -7,39 +7,41 @@ use Rattle.slotmap_scheduler.proofs.Scheduler.reschedule.Goals as goal
 
 pub returns-then-not-contains_key-clause-err : goal.returns-then-not-contains_key-clause-err
 returns-then-not-contains_key-clause-err g c =
-    rw (← c.self.view_is, ← c.inner-key.ensures) (none_seen c.self.inside.jobs c.self.inside.count c.self.invariant.order c.inner-key.result (none_of _ (sym c.contains_key.ensures.value ∙ c.if-not-contains_key.true)))
+    rw (← c.self.view_is, ← c.inner-key.ensures) (none_seen c.self.invariant c.inner-key.result (none_of _ (sym c.contains_key.ensures.value ∙ c.if-not-contains_key.true)))
 
 pub invariant_of-self : goal.invariant_of-self
 invariant_of-self g c =
     let j = some_is _ (sym c.contains_key.ensures.value ∙ c.if-not-contains_key.false) in
-    turned_schedule c.self.inside.jobs c.self.inside.count c.self.inside.heap c.self.invariant c.inner-key.result j.0 j.1 c.args.time c.set_turn.new.jobs (c.set_turn.ensures.written j.0 j.1) c.set_turn.new.heap c.set_turn.ensures.indexed c.set_turn.ensures.capacity
+    turned_schedule c.self.invariant c.inner-key.result j.0 j.1 c.args.time c.set_turn.new.jobs
+    (c.set_turn.ensures.written j.0 j.1) c.set_turn.new.heap c.set_turn.ensures.indexed c.set_turn.ensures.capacity
 
 pub returns-clause-moved : goal.returns-clause-moved
 returns-clause-moved g c before job seen =
     let j = some_is _ (sym c.contains_key.ensures.value ∙ c.if-not-contains_key.false) in
-    let same = seen_job c.self.inside.jobs c.self.inside.count c.self.invariant.order c.inner-key.result j.0 j.1 before job (rw (← c.self.view_is, ← c.inner-key.ensures) at seen) in
-    rw (← c.self.view_is, ← c.inner-key.ensures, ← same) (turned_waits c.self.inside.jobs c.self.inside.count c.self.inside.heap c.self.invariant c.inner-key.result j.0 j.1 c.args.time c.set_turn.new.jobs (c.set_turn.ensures.written j.0 j.1))
+    let same = seen_job c.self.invariant c.inner-key.result j.0 j.1 before job (rw (← c.self.view_is, ← c.inner-key.ensures) at seen) in
+    rw (← c.self.view_is, ← c.inner-key.ensures, ← same) (turned_waits c.self.invariant c.inner-key.result j.0 j.1 c.args.time c.set_turn.new.jobs (c.set_turn.ensures.written j.0 j.1))
 
 pub returns-clause-there : goal.returns-clause-there
 returns-clause-there g c =
     let j = some_is _ (sym c.contains_key.ensures.value ∙ c.if-not-contains_key.false) in
-    rw (← c.self.view_is, ← c.inner-key.ensures) (turned_there c.self.inside.jobs c.self.inside.count c.self.inside.heap c.self.invariant c.inner-key.result j.0 j.1 c.args.time c.set_turn.new.jobs (c.set_turn.ensures.written j.0 j.1))
+    rw (← c.self.view_is, ← c.inner-key.ensures) (turned_there c.self.invariant c.inner-key.result j.0 j.1 c.args.time c.set_turn.new.jobs (c.set_turn.ensures.written j.0 j.1))
 
 pub returns-clause-others : goal.returns-clause-others
 returns-clause-others g c =
     let j = some_is _ (sym c.contains_key.ensures.value ∙ c.if-not-contains_key.false) in
-    rw (← c.self.view_is, ← c.inner-key.ensures) (turned_others c.self.inside.jobs c.self.inside.count c.self.inside.heap c.self.invariant c.inner-key.result j.0 j.1 c.args.time c.set_turn.new.jobs (c.set_turn.ensures.written j.0 j.1))
+    rw (← c.self.view_is, ← c.inner-key.ensures) (turned_others c.self.invariant c.inner-key.result j.0 j.1 c.args.time c.set_turn.new.jobs (c.set_turn.ensures.written j.0 j.1))
 
 pub returns-clause-as_many : goal.returns-clause-as_many
 returns-clause-as_many g c =
     let j = some_is _ (sym c.contains_key.ensures.value ∙ c.if-not-contains_key.false) in
-    rw (← c.self.view_is) (turned_more c.self.inside.jobs c.self.inside.count c.self.inside.heap c.self.invariant c.inner-key.result j.0 j.1 c.args.time c.set_turn.new.jobs (c.set_turn.ensures.written j.0 j.1))
+    rw (← c.self.view_is) (turned_more c.self.invariant c.inner-key.result j.0 j.1 c.args.time c.set_turn.new.jobs (c.set_turn.ensures.written j.0 j.1))
 
 pub returns-clause-waits : goal.returns-clause-waits
 returns-clause-waits g c =
-    rw (← c.self.view_is, ← c.inner-key.ensures) (sym (contains_seen c.self.inside.jobs c.self.inside.count c.self.invariant.order c.inner-key.result) ∙ sym c.contains_key.ensures.value ∙ c.if-not-contains_key.false)
+    rw (← c.self.view_is, ← c.inner-key.ensures) (sym (contains_seen c.self.invariant c.inner-key.result) ∙ sym c.contains_key.ensures.value ∙ c.if-not-contains_key.false)
 
 pub returns-clause-handles : goal.returns-clause-handles
 returns-clause-handles g c =
     let j = some_is _ (sym c.contains_key.ensures.value ∙ c.if-not-contains_key.false) in
-    rw (← c.self.view_is) (turned_handles c.self.inside.jobs c.self.inside.count c.self.inside.heap c.self.invariant c.inner-key.result j.0 j.1 c.args.time c.set_turn.new.jobs (c.set_turn.ensures.written j.0 j.1) c.set_turn.new.heap c.set_turn.ensures.indexed c.set_turn.ensures.capacity)
+    rw (← c.self.view_is) (turned_handles c.self.invariant c.inner-key.result j.0 j.1 c.args.time c.set_turn.new.jobs
+    (c.set_turn.ensures.written j.0 j.1) c.set_turn.new.heap c.set_turn.ensures.indexed c.set_turn.ensures.capacity)

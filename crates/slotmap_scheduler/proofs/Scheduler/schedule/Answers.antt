@@ -2,7 +2,7 @@ use Rattle.slotmap_scheduler.proofs.Schedules.{schedule_content}
 use Rattle.slotmap_scheduler.proofs.Scheduler.schedule.Goals as goal
 
 pub returns-then-self-clause-valid : goal.returns-then-self-clause-valid
-returns-then-self-clause-valid g c = rw (← c.self.view_is) (schedule_content c.self.inside.jobs c.self.inside.count c.self.inside.heap c.self.invariant)
+returns-then-self-clause-valid g c = rw (← c.self.view_is) (schedule_content c.self.invariant)
 
 pub returns-in-Ok-clause-stale : goal.returns-in-Ok-clause-stale
 returns-in-Ok-clause-stale g c k spent =

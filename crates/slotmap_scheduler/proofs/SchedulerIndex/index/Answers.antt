@@ -4,7 +4,7 @@ use Rattle.slotmap_scheduler.proofs.Seen.{contains_seen, job_seen}
 use Rattle.slotmap_scheduler.proofs.SchedulerIndex.index.Goals as goal
 
 pub index-requires : goal.index-requires
-index-requires g c = contains_seen c.self.inside.jobs c.self.inside.count c.self.invariant.order c.inner.result ∙ rw (← c.self.view_is, ← c.inner.ensures) at c.requires
+index-requires g c = contains_seen c.self.invariant c.inner.result ∙ rw (← c.self.view_is, ← c.inner.ensures) at c.requires
 
 pub returns : goal.returns
-returns g c = rw (← c.self.view_is, ← c.inner.ensures) (sym (job_seen c.self.inside.jobs c.self.inside.count c.self.invariant.order c.inner.result) ∙ ap (option_map (λ (j : Job g.row.T.Denot). j.job)) c.index.ensures)
+returns g c = rw (← c.self.view_is, ← c.inner.ensures) (sym (job_seen c.self.invariant c.inner.result) ∙ ap (option_map (λ (j : Job g.row.T.Denot). j.job)) c.index.ensures)

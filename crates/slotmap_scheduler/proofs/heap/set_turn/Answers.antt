@@ -24,4 +24,5 @@ returns-clause-written g c j found =
 
 pub returns-clause-indexed : goal.returns-clause-indexed
 returns-clause-indexed g c =
-    indexed_settled c.settle.ensures.resettled c.settle.ensures.heap (turned_len c.args.jobs.now c.args.heap.now c.requires.indexed c.args.handle c.index_mut-job.result.now c.index_mut-job.ensures.value c.args.turn)
+    indexed_settled c.settle.ensures.resettled c.settle.ensures.heap
+    (turned_len c.args.jobs.now c.args.heap.now c.requires.indexed c.args.handle c.index_mut-job.result.now c.index_mut-job.ensures.value c.args.turn)

@@ -13,7 +13,8 @@ loop-child-preserved g c =
     let len = c.exchange.ensures.resettled.len in
     let long : length c.exchange.new.heap.items ≡ length c.loop-child.heap.items = omega (arith, c.loop-child.heap.ok.0, c.exchange.new.heap.ok.0) in
     let inside : c.in-Some.child < vec_len c.loop-child.heap = omega (arith, first.inside, c.loop-child.heap.ok.0) in
-    let before = compared c.loop-child.heap c.in-Some.child c.loop-child.at c.index.result.now c.index-in-Some.result.now inside i.within c.index.ensures c.index-in-Some.ensures true (sym c.is_before.ensures ∙ c.if-not-is_before.false) in
+    let before = compared c.loop-child.heap c.in-Some.child c.loop-child.at c.index.result.now c.index-in-Some.result.now inside i.within c.index.ensures
+    c.index-in-Some.ensures true (sym c.is_before.ensures ∙ c.if-not-is_before.false) in
     record {
       within = omega arith;
       but = sunk c.loop-child.heap.items c.loop-child.at i.but c.exchange.new.heap.items long c.in-Some.child first c.exchange.ensures.swapped;

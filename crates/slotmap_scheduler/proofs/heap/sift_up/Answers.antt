@@ -14,6 +14,7 @@ returns-then-not-is_before-clause-above g c some =
 pub loop-at-preserved : goal.loop-at-preserved
 loop-at-preserved g c = record {
   within = (let now = c.loop-at.invariant.within in let len = c.exchange.ensures.resettled.len in omega arith);
-  but = risen c.loop-at.heap.items c.loop-at.at c.loop-at.invariant.but c.exchange.new.heap.items (omega (arith, c.exchange.ensures.resettled.len, c.loop-at.heap.ok.0, c.exchange.new.heap.ok.0)) c.loop-at-test.true c.exchange.ensures.swapped;
+  but = risen c.loop-at.heap.items c.loop-at.at c.loop-at.invariant.but c.exchange.new.heap.items
+      (omega (arith, c.exchange.ensures.resettled.len, c.loop-at.heap.ok.0, c.exchange.new.heap.ok.0)) c.loop-at-test.true c.exchange.ensures.swapped;
   resettled = resettled_then c.loop-at.invariant.resettled c.exchange.ensures.resettled;
 }

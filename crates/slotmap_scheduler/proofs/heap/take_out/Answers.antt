@@ -54,10 +54,14 @@ returns-clause-removes g c =
 
 pub returns-clause-valid : goal.returns-clause-valid
 returns-clause-valid g c =
-    rw (c.settle.ensures.resettled.same, place_written c.remove.new.self c.index.result.now.handle c.index_mut.result.now c.in_ok-removed.removed.place c.index_mut.ensures.value) (mapped-stays unplaced _ _ c.remove.ensures.valid)
+    rw (
+      c.settle.ensures.resettled.same,
+      place_written c.remove.new.self c.index.result.now.handle c.index_mut.result.now c.in_ok-removed.removed.place c.index_mut.ensures.value,
+    ) (mapped-stays unplaced _ _ c.remove.ensures.valid)
 
 pub returns-clause-indexed : goal.returns-clause-indexed
 returns-clause-indexed g c =
     let s = c.settle.ensures.resettled in
-    left_indexed c.args.jobs.now c.args.heap.now c.requires c.args.handle c.in_ok-removed.removed (sym c.remove.ensures.value ∙ c.in_ok-removed.was) c.settle.new.jobs c.settle.new.heap (returns-clause-removes g c)
+    left_indexed c.args.jobs.now c.args.heap.now c.requires c.args.handle c.in_ok-removed.removed
+    (sym c.remove.ensures.value ∙ c.in_ok-removed.was) c.settle.new.jobs c.settle.new.heap (returns-clause-removes g c)
     s.placed c.settle.ensures.heap (ap (λ n. n + 1) s.len ∙ c.swap_remove.ensures.len)

@@ -1,15 +1,13 @@
-use Rattle.std.proofs.Common.{◌≡◌, ◌≢◌, ℕ, ◌-◌, ◌<◌, Some, slice_get}
+use Rattle.std.proofs.Common.{◌≡◌, ◌≢◌, ◌-◌, Some}
 use Rattle.std.specs.FinMap as map
-use Rattle.slotmap.specs.Words.{Key, IsLive, get}
+use Rattle.slotmap.specs.Words.{get}
+use Rattle.slotmap_entities.proofs.Callers.{Thins}
 use Rattle.structure_examples.proofs.reaper.reap.Given as goal
 
--- the entities before this position have lives, and those that had some are there with as many
+-- the entities before this position have lives, as many as before, and those that are gone had none
 abbrev pub invariant-loop-at : goal.invariant-loop-at
-invariant-loop-at l = record {
-  alive : (i : ℕ) (k : Key) → i < l.at → slice_get l.world.entities.keys i ≡ Some k → get l.world.tables.0.pairs k ≢ Some 0;
-  others : (k : Key) → IsLive l.fn.world.entities.content k → get l.fn.world.tables.0.pairs k ≢ Some 0
-      → IsLive l.world.entities.content k × (get l.world.tables.0.pairs k ≡ get l.fn.world.tables.0.pairs k);
-}
+invariant-loop-at l = Thins l.fn.world l.world l.at (λ w k. get w.tables.0.pairs k)
+    (λ k before after. (after ≢ Some 0) × (after ≡ before)) (λ k before. before ≡ Some 0)
 
 abbrev pub decreases-loop-at : goal.decreases-loop-at
 decreases-loop-at l = map.len l.world.entities.content.live - l.at

@@ -5,7 +5,8 @@ use Rattle.slotmap.proofs.Callers.{keys_total, room_again}
 use Rattle.structure_examples.proofs.stores.fill_again.Goals as goal
 
 -- a call that succeeds adds one entity, and takes up room for one at most
-one_more : {E : Type 0} (old new : Content ℕ) (result : Result Key E) (entity : ℕ) → IsOk result → IfOk result (λ k. Inserts old k entity new) → IfOk result (λ k. map.get old.live k ≡ None)
+one_more : {E : Type 0} (old new : Content ℕ) (result : Result Key E) (entity : ℕ) → IsOk result → IfOk result (λ k. Inserts old k entity new)
+    → IfOk result (λ k. map.get old.live k ≡ None)
     → (map.len new.live ≡ map.len old.live + 1) × (old.room ≤ new.room + 1)
 one_more old new (Ok k) entity ok adds fresh = (grind (arith, adds.live, map.len-insert keys_total old.live k entity, fresh), adds.room)
 one_more old new (Err e) entity ok adds fresh = absurd (cc)
