@@ -7,7 +7,7 @@ use Rattle.slotmap_graph.proofs.Common.{is_itself, is_other, often, often_first,
 use Rattle.std.specs.List.{filter_map}
 use Rattle.slotmap_graph.proofs.Common.{cons_option, is_some, length, suc}
 use Rattle.slotmap_graph.proofs.Common.{first_or, key_after, first_number, number_after, other_number, option_map, same_Some, eq-eqb}
-use Rattle.slotmap_graph.proofs.Common.{without_number, by_first_number, AreIndices, HaveIndices, key_at, keys_at, IfSome, IfNone, often_joined}
+use Rattle.slotmap_graph.proofs.Common.{without_number, by_first_number, AreIndices, HaveIndices, key_at, keys_at, often_joined}
 use Rattle.slotmap.specs.Words.{null_key}
 use Rattle.std.specs.FinMap as map
 
@@ -55,7 +55,7 @@ module _ {V : Type 0} (c : Content V) (indices : HaveIndices c) where
 
 module _ {V : Type 0} (c : Content V) (indices : HaveIndices c) where
   -- the first of several indices
-  first_index : (i : ℕ) (is : List ℕ) → AreIndices c.live (i ∷ is) → (k : Key) × IsLive c k × (k.index ≡ i) × (key_at c.live i ≡ k)
+  pub first_index : (i : ℕ) (is : List ℕ) → AreIndices c.live (i ∷ is) → (k : Key) × IsLive c k × (k.index ≡ i) × (key_at c.live i ≡ k)
   first_index i is all =
       let found = all i (let first = often_first i i is in let one = number_itself i in omega arith) in
       (found.0, found.1, found.2, ap (key_at c.live) (sym found.2) ∙ key_at_live c indices found.0 found.1)
@@ -131,14 +131,9 @@ module _ {V : Type 0} (c : Content V) (indices : HaveIndices c) where
       let k = key_at c.live i in
       one_entry k (entries_at (keys_at c.live is)) (map.get c.live k) (ap (map.contains_key c.live) found.3 ∙ found.1) ∙ ap suc (entries_long is (later_indices i is all))
 
-  -- the key that is found at an index
-  pub key_found_at : (i : ℕ) → (k : Key) × (map.contains_key c.live k ≡ true) × (k.index ≡ i) → (o : Option Key) → IfSome o (IsLive c) → IfSome o (λ k. k.index ≡ i) → IfNone o ((k : Key) → IsLive c k → k.index ≢ i) → o ≡ Some (key_at c.live i)
-  key_found_at i there None live at none = absurd (none there.0 there.1 there.2)
-  key_found_at i there (Some k) live at none = ap Some (sym (key_at_live c indices k live) ∙ ap (key_at c.live) at)
-
-  -- the same of the first of several indices
-  pub key_found : (i : ℕ) (is : List ℕ) → AreIndices c.live (i ∷ is) → (o : Option Key) → IfSome o (IsLive c) → IfSome o (λ k. k.index ≡ i) → IfNone o ((k : Key) → IsLive c k → k.index ≢ i) → o ≡ Some (key_at c.live i)
-  key_found i is all o live at none = key_found_at i (let found = first_index i is all in (found.0, found.1, found.2)) o live at none
+  -- a live key is the one at its index
+  pub key_is : (i : ℕ) (k : Key) → IsLive c k → k.index ≡ i → key_at c.live i ≡ k
+  key_is i k live index = ap (key_at c.live) (sym index) ∙ key_at_live c indices k live
 
   -- the key after another one, by their indices
   first_of : (is : List ℕ) → first_or (keys_at c.live is) None ≡ option_map (key_at c.live) (first_number is None)

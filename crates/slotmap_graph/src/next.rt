@@ -75,7 +75,7 @@ impl<K: Key, N: Drop, E: Drop> Graph<K, N, E> {
             return None;
         }
         let next = self.out.next(edge.data().idx())?;
-        self.edges.key_at(next)
+        Some(self.edges.live_key(next))
     }
 
     /// Returns the edge after this one among the incoming edges of the node where it ends. It returns
@@ -100,6 +100,6 @@ impl<K: Key, N: Drop, E: Drop> Graph<K, N, E> {
             return None;
         }
         let next = self.into.next(edge.data().idx())?;
-        self.edges.key_at(next)
+        Some(self.edges.live_key(next))
     }
 }

@@ -186,8 +186,8 @@ module _ {T : Type 0} {m : map.FinMap key_cmp T} where
 module _ {T : Type 0} {m : map.FinMap key_cmp T} {is : List ℕ} (all : AreLiveIndices m is) (i : ℕ) (rest : List ℕ) where
   -- an index of the list is that of a live key
   module _ (there : 0 < times i is) where
-    pub live_there : ((k : Key) → map.contains_key m k ≡ true → k.index ≢ i) → ⊥
-    live_there none = let gone = none_at m i none in let e = element_of all i there in cc
+    pub key_of_index : (k : Key) × (map.contains_key m k ≡ true) × (k.index ≡ i)
+    key_of_index = let e = element_of all i there in let at = at_is m i e.0 e.1 in (e.0.0, ap is_some at.1, at.0)
 
   module _ (k : Key) (v : T) (index : k.index ≡ i) (found : map.get m k ≡ Some v) where
     here : at_index m i ≡ Some (k, v)

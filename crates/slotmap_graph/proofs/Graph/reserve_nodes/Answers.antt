@@ -8,6 +8,16 @@ returns-in_err-cover_both-clause-out g c k = rw (← c.self.view_is) (ap (λ b. 
 pub returns-in_err-cover_both-clause-into : goal.returns-in_err-cover_both-clause-into
 returns-in_err-cover_both-clause-into g c k = rw (← c.self.view_is) (ap (λ b. edges_at b k) (grown_seen to _ _ _ c.self.invariant.into c.self.inside.nodes c.self.inside.edges c.cover_both.new.into refl refl (omega arith) (omega arith) c.cover_both.ensures.into))
 
+pub invariant_of-self : goal.invariant_of-self
+invariant_of-self g c = record {
+  out = grown from _ _ _ c.self.invariant.out c.self.inside.nodes c.self.inside.edges c.cover_both.new.out refl refl (omega arith) (omega arith) c.cover_both.ensures.out
+      (let was = c.self.invariant.out.owners in let more = c.cover_both.ensures.out.owners in omega arith)
+      (let was = c.self.invariant.out.members in let more = c.cover_both.ensures.out.members in omega arith);
+  into = grown to _ _ _ c.self.invariant.into c.self.inside.nodes c.self.inside.edges c.cover_both.new.into refl refl (omega arith) (omega arith) c.cover_both.ensures.into
+      (let was = c.self.invariant.into.owners in let more = c.cover_both.ensures.into.owners in omega arith)
+      (let was = c.self.invariant.into.members in let more = c.cover_both.ensures.into.members in omega arith);
+}
+
 pub invariant_of-self-2 : goal.invariant_of-self-2
 invariant_of-self-2 g c = record {
   out = grown from _ _ _ c.self.invariant.out c.reserve.new.self c.self.inside.edges c.cover_both.new.out c.reserve.ensures.makes_room.keeps.live refl c.reserve.ensures.makes_room.capacity (omega arith) c.cover_both.ensures.out
