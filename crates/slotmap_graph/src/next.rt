@@ -5,7 +5,7 @@ ghost use Rattle.std.specs.Option.{option_and_then};
 ghost use Rattle.std.specs.FinMap as map;
 ghost use Rattle.slotmap.specs.Words.{Key as KeyOf};
 ghost use Rattle.slotmap_keylist.specs.KeyLists.{times};
-ghost use Rattle.slotmap_keylist.specs.Linked.{first_or};
+ghost use Rattle.slotmap_links.specs.Lists.{first_or};
 ghost use Rattle.slotmap_graph.specs.Parts.{ListsEdges, edges_at, from, key_after, to};
 
 use crate::{EdgeKey, Graph};

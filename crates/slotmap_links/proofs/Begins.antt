@@ -15,7 +15,8 @@ use Rattle.slotmap_links.proofs.SeenLists.{list_here, member_stands, not_first, 
 -- the numbers from a number on
 from_there : (k : ℕ) (before after : List ℕ) → times k before ≡ 0 → numbers_from k (before ++ k ∷ after) ≡ k ∷ after
 from_there k [] after none = ap (λ b. cond b (k ∷ after) (numbers_from k after)) (is_itself k)
-from_there k (q ∷ before) after none = ap (λ b. cond b (q ∷ (before ++ k ∷ after)) (numbers_from k (before ++ k ∷ after))) (not_first k after q before none) ∙ from_there k before after (not_later k after q before none)
+from_there k (q ∷ before) after none = ap (λ b. cond b (q ∷ (before ++ k ∷ after)) (numbers_from k (before ++ k ∷ after))) (not_first k after q before none)
+    ∙ from_there k before after (not_later k after q before none)
 
 module _ (ends : List Ends) (links : List Link) (kept : AreKept ends links) (s : Lists) (seen : lists_by ends links ≡ s) (p : ℕ) where
   pub segment_begins : (x : Ends) → x ≡ get_or ends p x → p < length s.lists

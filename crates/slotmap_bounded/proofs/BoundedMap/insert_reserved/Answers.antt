@@ -6,11 +6,14 @@ invariant_of-self g c = inserted c.self.inside.map c.self.inside.room c.self.ins
     c.in-Ok.ensures.ok (rw (← c.self.view_is) at c.requires.room) c.insert.ensures.valid.after
 
 pub returns-clause-valid : goal.returns-clause-valid
-returns-clause-valid g c = rw (← c.self.view_is) (stays _ _ _ _ _ c.self.invariant (inserted c.self.inside.map c.self.inside.room c.self.inside.capacity c.self.invariant (g.K.Key.data_of c.in-Ok.key) c.args.value c.insert.new.self
+returns-clause-valid g c =
+    rw (← c.self.view_is)
+    (stays _ _ _ _ _ c.self.invariant (inserted c.self.inside.map c.self.inside.room c.self.inside.capacity c.self.invariant (g.K.Key.data_of c.in-Ok.key) c.args.value c.insert.new.self
     c.in-Ok.ensures.ok (rw (← c.self.view_is) at c.requires.room) c.insert.ensures.valid.after))
 
 pub returns-clause-inserts : goal.returns-clause-inserts
-returns-clause-inserts g c = rw (← c.self.view_is) (inserts_bounded c.self.inside.map c.self.inside.room c.self.inside.capacity c.self.invariant (g.K.Key.data_of c.in-Ok.key) c.args.value c.insert.new.self
+returns-clause-inserts g c =
+    rw (← c.self.view_is) (inserts_bounded c.self.inside.map c.self.inside.room c.self.inside.capacity c.self.invariant (g.K.Key.data_of c.in-Ok.key) c.args.value c.insert.new.self
     c.in-Ok.ensures.ok (rw (← c.self.view_is) at c.requires.room))
 
 pub returns-clause-within : goal.returns-clause-within

@@ -11,15 +11,19 @@ pub returns-then-not-contains_key-clause-value : goal.returns-then-not-contains_
 returns-then-not-contains_key-clause-value g c = rw (← c.self.view_is) (none_after _ _ (sym c.contains_key.ensures.value ∙ c.if-not-contains_key.true))
 
 pub returns-then-not-contains_key-clause-along : goal.returns-then-not-contains_key-clause-along
-returns-then-not-contains_key-clause-along g c = rw (← c.self.view_is) (after_along to _ _ _ c.self.invariant.into c.args.edge _ (none_after _ _ (sym c.contains_key.ensures.value ∙ c.if-not-contains_key.true)))
+returns-then-not-contains_key-clause-along g c =
+    rw (← c.self.view_is) (after_along to _ _ _ c.self.invariant.into c.args.edge _ (none_after _ _ (sym c.contains_key.ensures.value ∙ c.if-not-contains_key.true)))
 
 pub returns-in_err-next-clause-value : goal.returns-in_err-next-clause-value
 returns-in_err-next-clause-value g c = rw (c.from_residual.ensures, ← c.self.view_is) (ap (option_map (key_at c.self.inside.edges.live)) (sym c.in_err-next.was)
-    ∙ after_is to _ _ _ c.self.invariant.into c.args.edge c.idx.result (c.idx.ensures.value ∙ ap (λ (k : Key). k.index) c.data.ensures.value) c.next.result c.next.ensures (sym c.contains_key.ensures.value ∙ c.if-not-contains_key.false))
+    ∙ after_is to _ _ _ c.self.invariant.into c.args.edge c.idx.result (c.idx.ensures.value ∙ ap (λ (k : Key). k.index) c.data.ensures.value) c.next.result
+    c.next.ensures (sym c.contains_key.ensures.value ∙ c.if-not-contains_key.false))
 
 pub returns-in_err-next-clause-along : goal.returns-in_err-next-clause-along
-returns-in_err-next-clause-along g c = rw (c.from_residual.ensures, ← c.self.view_is) (after_along to _ _ _ c.self.invariant.into c.args.edge _ (ap (option_map (key_at c.self.inside.edges.live)) (sym c.in_err-next.was)
-    ∙ after_is to _ _ _ c.self.invariant.into c.args.edge c.idx.result (c.idx.ensures.value ∙ ap (λ (k : Key). k.index) c.data.ensures.value) c.next.result c.next.ensures (sym c.contains_key.ensures.value ∙ c.if-not-contains_key.false)))
+returns-in_err-next-clause-along g c = rw (c.from_residual.ensures, ← c.self.view_is)
+    (after_along to _ _ _ c.self.invariant.into c.args.edge _ (ap (option_map (key_at c.self.inside.edges.live)) (sym c.in_err-next.was)
+    ∙ after_is to _ _ _ c.self.invariant.into c.args.edge c.idx.result (c.idx.ensures.value ∙ ap (λ (k : Key). k.index) c.data.ensures.value) c.next.result
+    c.next.ensures (sym c.contains_key.ensures.value ∙ c.if-not-contains_key.false)))
 
 pub live_key-requires : goal.live_key-requires
 live_key-requires g c =

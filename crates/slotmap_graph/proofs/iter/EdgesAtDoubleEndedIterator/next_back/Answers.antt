@@ -19,4 +19,5 @@ pub returns-clause-steps : goal.returns-clause-steps
 returns-clause-steps g c =
     let live = c.self.inside.edges.now.live in
     sym c.self.view_is ∙ ap (keys_at live) c.in_ok-index.ensures.steps ∙ map-append (key_at live) c.next_back.new.self (c.in_ok-index.index ∷ [])
-    ∙ ap (λ k. keys_at live c.next_back.new.self ++ k ∷ []) (key_is c.self.inside.edges.now c.self.invariant.0 c.in_ok-index.index c.live_key.result c.live_key.ensures.live c.live_key.ensures.index)
+    ∙ ap (λ k. keys_at live c.next_back.new.self ++ k ∷ []) (key_is c.self.inside.edges.now c.self.invariant.0 c.in_ok-index.index c.live_key.result
+    c.live_key.ensures.live c.live_key.ensures.index)
