@@ -29,14 +29,14 @@ impl<K: Key, T: Drop> StableList<K, T> {
         ensures keeps { OnErr result (Keeps self.old.cursors self.new.cursors) }
         ensures gone { KeepsSpent self.old.cursors self.new.cursors }
     {
-        if self.has_room() {
-            return Ok(self.put_in_room(place, value));
+        if !self.has_room() {
+            match self.reserve(1) {
+                Ok(()) => {}
+                Err(ReserveError::TooGreat) => return Err(PushError::Full(value)),
+                Err(ReserveError::Memory) => return Err(PushError::Memory(value)),
+            }
         }
-        match self.reserve(1) {
-            Ok(()) => Ok(self.put_apart(place, value)),
-            Err(ReserveError::TooGreat) => Err(PushError::Full(value)),
-            Err(ReserveError::Memory) => Err(PushError::Memory(value)),
-        }
+        Ok(self.put_in_room(place, value))
     }
 
     // Whether an element can be put in before more room is made.
@@ -45,24 +45,6 @@ impl<K: Key, T: Drop> StableList<K, T> {
         ensures { IsTrue result ↔ 0 < self.now.cursors.room }
     {
         self.values.has_room()
-    }
-
-    // Puts an element into a place after the vectors have grown. Not inlined, so that `put` has no way
-    // back from there.
-    #[cold]
-    #[inline(never)]
-    fn put_apart(&mut self, place: Place, value: T) -> K
-        requires place { is_place place self.old.elements ≡ true }
-        requires room { 0 < self.old.cursors.room }
-        ensures elements { self.new.elements ≡ put_by_place place (K.data_of result, value) self.old.elements }
-        ensures fresh { value_of (K.data_of result) self.old.elements ≡ None }
-        ensures unspent { IsSpent self.old.cursors (K.data_of result) → ⊥ }
-        ensures cursors { Inserts self.old.cursors (K.data_of result) tt self.new.cursors }
-        ensures used { used self.new.cursors ≡ used self.old.cursors + 1 }
-        ensures capacity { self.new.cursors.capacity ≡ self.old.cursors.capacity }
-        ensures gone { KeepsSpent self.old.cursors self.new.cursors }
-    {
-        self.put_in_room(place, value)
     }
 
     // Puts an element into a place, where there is room for it.

@@ -1,4 +1,8 @@
 use Rattle.slotmap_list.proofs.StableList.put.Goals as goal
+use Rattle.slotmap_list.proofs.StableList.put.Goals.{then-not-has_room+in-Ok, else-not-has_room}
 
-pub returns-in-Ok-clause-gone : goal.returns-in-Ok-clause-gone
-returns-in-Ok-clause-gone g c k spent = c.put_apart.ensures.gone k (c.reserve.ensures.gone k spent)
+pub returns-clause-gone : goal.returns-clause-gone
+returns-clause-gone g c k spent = c.put_in_room.ensures.gone k (elim c.if-not-has_room.branch [
+  | then-not-has_room+in-Ok w ↦ rw w.self-is (w.reserve.ensures.gone k spent)
+  | else-not-has_room w ↦ rw w.self-is spent
+])
