@@ -1,7 +1,10 @@
 //! Maps written as the JSON text of their list of slots, and read from it.
 
-ghost use Rattle.std.specs.Prelude.{◌≡◌, ℕ, ℤ, List, OnOk, IfOk, IfErr, ⊤};
+ghost use Rattle.std.specs.Prelude.{◌≡◌, ℕ, ℤ, List, Some, option_and_then, OnOk, IfOk, IfErr, ⊤};
 ghost use Rattle.std.specs.Io.KnownBytes.{Appends};
+ghost use Rattle.serde_json.specs.Find.{as_number, as_i64};
+ghost use Rattle.serde_json.specs.View.{view};
+ghost use Rattle.slotmap_core.specs.declared.errors.JsonError.TheVariants.{Shape};
 ghost use Rattle.slotmap_core.specs.declared.serial.SlotRecord.{SlotRecord};
 ghost use Rattle.slotmap_script.specs.Printed.{SlotLists, PrintsSlots, Loads, IsReason};
 ghost use Rattle.slotmap_script.specs.Kinds.{basic_lists, dense_lists, hop_lists};
@@ -183,7 +186,11 @@ impl<'de> Deserialize<'de> for SlotList {
     }
 }
 
-fn read_value(value: &Value) -> Result<i32, JsonError> {
+// Reads a number of 32 bits.
+fn read_value(value: &Value) -> Result<i32, JsonError>
+    ensures ok { IfOk result (λ number. option_and_then as_i64 (as_number (view value.now)) ≡ Some number) }
+    ensures err { IfErr result (λ error. error ≡ Shape) }
+{
     let number = value.as_i64().ok_or(JsonError::Shape)?;
     i32::try_from(number).map_err(|_| JsonError::Shape)
 }

@@ -43,6 +43,7 @@ pub fn run_script<R: Read, W: Write + Drop>(
     input: &mut R,
     output: BufWriter<W>,
 ) -> (Option<u8>, W)
+    // What was printed, by the status.
     ensures statuses { IfSome result.0 (λ status. (status ≡ 0) ⊎ (status ≡ 2) ⊎ (status ≡ 3)) }
     ensures runs { result.0 ≡ Some 0 → (text : List ℕ) × Runs (list_map string_bytes words.now) (R.remaining input.old) text
         × Appends (writer_contents W.contents output) (W.contents result.1) text }
@@ -50,6 +51,8 @@ pub fn run_script<R: Read, W: Write + Drop>(
         × Appends (writer_contents W.contents output) (W.contents result.1) text }
     ensures stops { result.0 ≡ Some 3 → (text : List ℕ) × StopsShort (list_map string_bytes words.now) (R.remaining input.old) text
         × Appends (writer_contents W.contents output) (W.contents result.1) text }
+
+    // Words that name no kind are refused before the input is read.
     ensures unread { kind_named (list_map string_bytes words.now) ≡ None → input.new ≡ input.old }
 {
     let mut output = output;
@@ -75,7 +78,7 @@ pub fn finish<W: Write + Drop>(ended: Result<(), Stop>, output: &mut BufWriter<W
     }
 }
 
-// Writes why a script ended early, and returns the status.
+// Writes why a script ended early, and returns the status, or `None` if it can't be written.
 fn tell<W: Write + Drop>(output: &mut BufWriter<W>, stop: &Stop) -> Option<u8>
     ensures ends { IfSome result (λ status. (status ≡ stop_status stop.now)
         × Appends (writer_contents W.contents output.old) (writer_contents W.contents output.new) (stop_text stop.now)) }
