@@ -46,22 +46,6 @@ impl<K: Key, N: Drop, E: Drop> Graph<K, N, E> {
         self.nodes.insert_reserved(node)
     }
 
-    // Adds a node after the vectors have grown. Not inlined, so that `add_node` has no way back from
-    // there.
-    #[cold]
-    #[inline(never)]
-    fn put_node_apart(&mut self, node: N) -> K
-        requires { 0 < self.old.nodes.room }
-        ensures adds { Inserts self.old.nodes (K.data_of result) node self.new.nodes }
-        ensures capacity { self.new.nodes.capacity ≡ self.old.nodes.capacity }
-        ensures valid { IsContent true self.old.nodes }
-        ensures edges { self.new.edges ≡ self.old.edges }
-        ensures out { SameEdges self.old.out self.new.out }
-        ensures into { SameEdges self.old.into self.new.into }
-    {
-        self.put_node(node)
-    }
-
     // Adds an edge for which there is room, between nodes that exist.
     #[inline(always)]
     fn put_edge(&mut self, from: K, to: K, edge: E) -> EdgeKey
@@ -80,24 +64,6 @@ impl<K: Key, N: Drop, E: Drop> Graph<K, N, E> {
         put_last(&mut self.out, from, key);
         put_last(&mut self.into, to, key);
         key
-    }
-
-    // Adds an edge after the vectors have grown. Not inlined, so that `add_edge` has no way back from
-    // there.
-    #[cold]
-    #[inline(never)]
-    fn put_edge_apart(&mut self, from: K, to: K, edge: E) -> EdgeKey
-        requires room { 0 < self.old.edges.room }
-        requires from { IsLive self.old.nodes (K.data_of from) }
-        requires to { IsLive self.old.nodes (K.data_of to) }
-        ensures adds { Inserts self.old.edges result (record { from = K.data_of from; to = K.data_of to; value = edge }) self.new.edges }
-        ensures capacity { self.new.edges.capacity ≡ self.old.edges.capacity }
-        ensures valid { IsContent true self.old.edges }
-        ensures out { PutsBehind self.old.out (K.data_of from) result self.new.out }
-        ensures into { PutsBehind self.old.into (K.data_of to) result self.new.into }
-        ensures nodes { self.new.nodes ≡ self.old.nodes }
-    {
-        self.put_edge(from, to, edge)
     }
 
     /// Adds a node with no edge, and returns its key, which no node had before.
@@ -127,14 +93,14 @@ impl<K: Key, N: Drop, E: Drop> Graph<K, N, E> {
         ensures in_place { 0 < self.old.nodes.room → self.new.nodes.capacity ≡ self.old.nodes.capacity }
         ensures unchanged { OnErr result (Keeps self.old.nodes self.new.nodes) }
     {
-        if self.has_node_room() {
-            return Ok(self.put_node(node));
+        if !self.has_node_room() {
+            match self.reserve_nodes(1) {
+                Ok(()) => {}
+                Err(ReserveError::TooGreat) => return Err(InsertError::Full(node)),
+                Err(ReserveError::Memory) => return Err(InsertError::Memory(node)),
+            }
         }
-        match self.reserve_nodes(1) {
-            Ok(()) => Ok(self.put_node_apart(node)),
-            Err(ReserveError::TooGreat) => Err(InsertError::Full(node)),
-            Err(ReserveError::Memory) => Err(InsertError::Memory(node)),
-        }
+        Ok(self.put_node(node))
     }
 
     /// Adds an edge from one node to another, and returns its key, which no edge had before.
@@ -175,14 +141,14 @@ impl<K: Key, N: Drop, E: Drop> Graph<K, N, E> {
         if !self.contains_node(from) || !self.contains_node(to) {
             return Err(EdgeError::Gone(edge));
         }
-        if self.has_edge_room() {
-            return Ok(self.put_edge(from, to, edge));
+        if !self.has_edge_room() {
+            match self.reserve_edges(1) {
+                Ok(()) => {}
+                Err(ReserveError::TooGreat) => return Err(EdgeError::Full(edge)),
+                Err(ReserveError::Memory) => return Err(EdgeError::Memory(edge)),
+            }
         }
-        match self.reserve_edges(1) {
-            Ok(()) => Ok(self.put_edge_apart(from, to, edge)),
-            Err(ReserveError::TooGreat) => Err(EdgeError::Full(edge)),
-            Err(ReserveError::Memory) => Err(EdgeError::Memory(edge)),
-        }
+        Ok(self.put_edge(from, to, edge))
     }
 
     /// Removes an edge, and returns its value, or `None` if it doesn't exist. Its key is never used

@@ -1,8 +1,8 @@
 //! Callers of a list, each proved only from its contracts.
 
-ghost use Rattle.std.specs.Prelude.{◌≡◌, ◌≢◌, IsSome, Some, None, IfSome, IfNone, IfOk, OnOk, OnErr};
+ghost use Rattle.std.specs.Prelude.{◌≡◌, ◌≢◌, ◌⊎◌, IsSome, Some, None, IfSome, IfNone, IfOk, OnOk, OnErr};
 ghost use Rattle.slotmap.specs.Words.{Key as KeyOf, IsSpent};
-ghost use Rattle.slotmap_list.specs.Sequence.{first_or, value_of};
+ghost use Rattle.slotmap_list.specs.Sequence.{first_or, key_after, key_before, value_of};
 
 use slotmap_list::{Cursor, PlaceError, StableList};
 
@@ -47,4 +47,21 @@ pub fn touch(list: &mut StableList<Cursor, u64>, cursor: Cursor) -> Option<u64>
 {
     list.move_to_front(cursor);
     list.get(cursor).copied()
+}
+
+/// Returns what is selected once the element of a cursor goes: the one behind it, or else the one before
+/// it, with its value. It returns `None` if the list has no other element.
+pub fn next_selected(list: &StableList<Cursor, u64>, cursor: Cursor) -> Option<(Cursor, u64)>
+    ensures beside { IfSome result (λ e. (key_after cursor list.now.elements ≡ Some e.0) ⊎ (key_before None cursor list.now.elements ≡ Some e.0)) }
+    ensures value { IfSome result (λ e. value_of e.0 list.now.elements ≡ Some e.1) }
+    ensures last { IfNone result (key_after cursor list.now.elements ≡ None) }
+    ensures only { IfNone result (key_before None cursor list.now.elements ≡ None) }
+{
+    match list.next_element(cursor) {
+        Some((next, value)) => Some((next, *value)),
+        None => match list.prev_element(cursor) {
+            Some((prev, value)) => Some((prev, *value)),
+            None => None,
+        },
+    }
 }
