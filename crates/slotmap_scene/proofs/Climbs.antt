@@ -1,11 +1,14 @@
 -- The way up from each node: where it ends, what a change of the nodes does to it, and the keys that an iterator yields on it.
 use Rattle.std.proofs.Common.{◌≡◌, ◌≢◌, ℕ, zero, suc, ◌+◌, ◌≤◌, ◌<◌, ◌↔◌, true, Option, Some, None, is_some, refl, sym, ap, subst, ◌∙◌, inl, inr, arith, false, cond, List, [], ◌∷◌}
+use Rattle.std.specs.Option.{option_map}
 use Rattle.std.specs.FinMap as map
+use Rattle.std.proofs.lemmas.Option.{same_Some}
 use Rattle.slotmap.specs.Words.{Key}
 use Rattle.slotmap.proofs.Callers.{same_or_other, keys_total, exact_keys, left_in, len_removed, some_entry}
 use Rattle.slotmap_scene.specs.Node.{Node, Nodes}
 use Rattle.slotmap_scene.specs.Climb.{has_node, parent_in, parent_of, ClimbsTo, IsTree, StepsTo, IsWithin}
-use Rattle.slotmap_scene.specs.Above.{GoesUp, keys_up, HasRoot, roots_by}
+use Rattle.slotmap_scene.specs.Above.{GoesUp, keys_up, HasRoot}
+use Rattle.slotmap_scene.specs.Family.{children_in, children_of, value_of}
 
 module _ {T : Type 0} where
   leads_live : (nodes : Nodes T) (n : ℕ) (k : Key) → ClimbsTo nodes n k → has_node nodes k
@@ -63,6 +66,21 @@ module _ {T : Type 0} where
       by : (n : ℕ) → StepsTo nodes n k other → ⊥
       by zero same = apart same
       by (suc n) steps = let h = sym steps.1.0 ∙ is in cc
+
+  -- a node by what is known of it
+  pub node_is : (nodes : Nodes T) (k : Key) (v : T) → value_of nodes k ≡ Some v → map.get nodes k ≡ Some (record { value = v; parent = parent_of nodes k; children = children_of nodes k })
+  node_is nodes k v own = by (map.get nodes k) own
+    where
+      by : (o : Option (Node T)) → option_map (λ (n : Node T). n.value) o ≡ Some v → o ≡ Some (record { value = v; parent = parent_in o; children = children_in o })
+      by None is = absurd (cc)
+      by (Some n) is = let same = same_Some n.value v is in λ i. Some (record { value = same i; parent = n.parent; children = n.children })
+
+  pub node_there : (nodes : Nodes T) (k : Key) → has_node nodes k → (n : Node T) × (map.get nodes k ≡ Some n) × (n.parent ≡ parent_of nodes k)
+  node_there nodes k live = by (map.get nodes k) live
+    where
+      by : (o : Option (Node T)) → is_some o ≡ true → (n : Node T) × (o ≡ Some n) × (n.parent ≡ parent_in o)
+      by None is = absurd (cc)
+      by (Some n) is = (n, refl, refl)
 
   -- what a loop up from a node knows at another one, so many steps up
   pub record Climbing (nodes : Nodes T) (from at : Key) (steps : ℕ) : Type 0 where
@@ -203,6 +221,9 @@ module _ {T : Type 0} (nodes : Nodes T) where
       by zero climbs = subst (HasRoot nodes) (sym climbs.1) tt
       by (suc n) climbs = subst (HasRoot nodes) (sym climbs.1.1) (n, climbs.1.2)
 
+  pub rooted_there : (k : Key) → HasRoot nodes (Some k) → has_node nodes k
+  rooted_there k has = leads_live nodes has.0 k has.1
+
   -- a key with what is above its parent
   pub step_up : (k : Key) → HasRoot nodes (Some k) → keys_up nodes (map.len nodes) (Some k) ≡ k ∷ keys_up nodes (map.len nodes) (parent_of nodes k)
   step_up k has =
@@ -227,11 +248,3 @@ module _ {T : Type 0} (nodes : Nodes T) where
       by : (o : Option Key) → parent_of nodes k ≡ o → HasRoot nodes o
       by None is = tt
       by (Some p) is = tree p (parent_there nodes tree k p is)
-
-module _ {N : Type 0} (parent : N → Option Key) where
-  -- the next root among these nodes
-  pub root_first : (nodes rest : List (Key × N)) (k : Key) (node : N) → nodes ≡ (k, node) ∷ rest → is_some (parent node) ≡ false → roots_by parent nodes ≡ k ∷ roots_by parent rest
-  root_first nodes rest k node is root = ap (roots_by parent) is ∙ ap (λ b. cond b (roots_by parent rest) (k ∷ roots_by parent rest)) root
-
-  pub root_passed : (nodes rest : List (Key × N)) (k : Key) (node : N) → nodes ≡ (k, node) ∷ rest → is_some (parent node) ≡ true → roots_by parent nodes ≡ roots_by parent rest
-  root_passed nodes rest k node is below = ap (roots_by parent) is ∙ ap (λ b. cond b (roots_by parent rest) (k ∷ roots_by parent rest)) below

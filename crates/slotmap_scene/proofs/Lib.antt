@@ -1,10 +1,12 @@
 pub mod Callers
 mod Climbs
 mod Descending
+mod Families
+mod Indices
 mod Moved
 mod Neighbours
 pub mod Offsets
+mod Placing
 mod Removals
-mod Showing
-mod Weaving
+mod SceneSteps
 pub mod Worlds

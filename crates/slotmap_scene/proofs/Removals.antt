@@ -59,7 +59,7 @@ module _ {T : Type 0} (nodes : Nodes T) (scene : IsScene nodes) (k : Key) (live 
   pruned_of P f none some q other = (let kept : map.get pruned q ≡ map.get left q = grind (arith, keys) in ap P kept) ∙ left_of nodes scene k P f none some q
 
   -- no node has it as its parent
-  childless : (q : Key) → parent_of nodes q ≡ Some k → ⊥
+  pub childless : (q : Key) → parent_of nodes q ≡ Some k → ⊥
   childless q is = let one = listed_once nodes scene.listed k q is in let none = ap (times q) leaf in absurd (omega arith)
 
   leads_past : (n : ℕ) (q : Key) → q ≢ k → ClimbsTo nodes n q → ClimbsTo pruned n q

@@ -53,7 +53,7 @@ impl<K: Key, T: Drop> Scene<K, T> {
         push_some(&mut ahead, self.nodes.first(inner(node)))?;
         while let Some(key) = ahead.pop() {
             below.push(outer(key))?;
-            push_some(&mut ahead, self.nodes.link(key).next.get())?;
+            push_some(&mut ahead, self.nodes.next(key))?;
             push_some(&mut ahead, self.nodes.first(key))?;
         }
         Ok(below)

@@ -14,7 +14,8 @@
 //!   again.
 //! - A call that fails changes nothing, and returns what it was given. It uses up no key.
 //!
-//! The children of a node are kept as links between siblings. So only a new node may need memory, and
+//! The children of a node are kept as links between siblings, beside the map of the values, by the
+//! indices of their keys. So only a new node may need memory, and
 //! none if a node was removed or room was reserved; the capacity stays then. No move and no removal
 //! changes the capacity, and no removal loses room.
 //!
@@ -26,8 +27,8 @@
 //!   the sibling, unless both nodes have the same parent.
 //! - [`Scene::remove`] takes time linear in the number of nodes that it removes, and
 //!   [`Scene::descendants`] in the number of those that it lists.
-//! - [`Scene::clear`] and [`Scene::clone`] take time linear in the number of slots. So do all steps of
-//!   [`Scene::iter`], [`Scene::keys`] or [`Scene::values`] together.
+//! - [`Scene::clear`] takes time linear in the capacity, and [`Scene::clone`] in the number of slots. So do
+//!   all steps of [`Scene::iter`], [`Scene::keys`] or [`Scene::values`] together.
 //!
 //! ```
 //! let mut scene: Scene<DefaultKey, &str> = Scene::new(alloc)?;
@@ -326,7 +327,7 @@ impl<K: Key, T: Drop> Scene<K, T> {
     pub fn get(&self, node: K) -> Option<&T>
         ensures { option_copied result ≡ value_of self.now.live (K.data_of node) }
     {
-        Some(&self.nodes.get(inner(node))?.value)
+        self.nodes.get(inner(node))
     }
 
     /// Returns a mutable reference to the value of a node, or `None` if it doesn't exist, in constant
@@ -383,7 +384,7 @@ impl<K: Key, T: Drop> Scene<K, T> {
         ensures value { option_map K.data_of result ≡ parent_of self.now.live (K.data_of node) }
         ensures live { IfSome result (λ parent. has_node self.now.live (K.data_of parent)) }
     {
-        Some(outer(self.nodes.get(inner(node))?.parent?))
+        Some(outer(self.parent_key(inner(node))?))
     }
 }
 
@@ -396,6 +397,6 @@ impl<K: Key, T: Drop> Index<K> for Scene<K, T> {
     ghost index_gives = { λ scene node value. value_of scene.live (K.data_of node) ≡ Some value };
 
     fn index(&self, node: K) -> &T {
-        &self.nodes[inner(node)].value
+        &self.nodes[inner(node)]
     }
 }

@@ -62,7 +62,7 @@ impl<K: Key, T: Drop> Scene<K, T> {
     {
         let node = inner(node);
         self.parent_key(node)?;
-        Some(outer(self.nodes.link(node).next.get()?))
+        Some(outer(self.nodes.next(node)?))
     }
 
     /// Returns the key of the sibling in front of a node, or `None` if the node is the first child, a
@@ -81,7 +81,7 @@ impl<K: Key, T: Drop> Scene<K, T> {
     {
         let node = inner(node);
         self.parent_key(node)?;
-        Some(outer(self.nodes.link(node).prev.get()?))
+        Some(outer(self.nodes.prev(node)?))
     }
 
     // Whether a sibling, which has this parent, is below another node. It takes constant time if that one

@@ -1,10 +1,9 @@
 use Rattle.std.proofs.Common.{◌≡◌, ◌≢◌, [], ◌∷◌, ◌++◌, length, length-append, map as list_map, ap, ◌∙◌, arith}
 use Rattle.std.specs.Prelude.{option_to_list}
 use Rattle.std.proofs.lemmas.List.{length-map, map-append, nil_from_length}
-use Rattle.slotmap.specs.Words.{Key}
-use Rattle.slotmap_keylist.specs.declared.Link.{Link}
 use Rattle.slotmap_scene.specs.Climb.{IsWithin, has_node}
 use Rattle.slotmap_scene.proofs.Descending.{each_listed, descended, walk_longer, walk_start, walk_step}
+use Rattle.slotmap_scene.proofs.Neighbours.{next_of}
 use Rattle.slotmap_scene.proofs.Scene.descendants.Goals as goal
 
 pub loop-key-init : goal.loop-key-init
@@ -17,8 +16,8 @@ loop-key-preserved g c =
     let listed = list_map g.K.Key.data_of c.loop-key.below.items in
     let more : list_map g.K.Key.data_of c.push.new.self.items ≡ listed ++ c.in-Some.key ∷ [] =
     ap (list_map g.K.Key.data_of) c.in_ok-push.ensures.items ∙ map-append g.K.Key.data_of c.loop-key.below.items (c.outer.result ∷ []) ∙ ap (λ k. listed ++ k ∷ []) c.outer.ensures in
-    rw more (walk_step _ (rw (← c.self.view_is) c.self.invariant) (g.K.Key.data_of c.args.node) listed c.loop-key.ahead.items c.pop.new.self.items c.in-Some.key c.loop-key.invariant c.in-Some.ensures.items c.get.result c.first-in-Some.result
-    (rw (← c.self.view_is) (λ p before after is. c.get.ensures.value ∙ ap (λ (l : Link Key). l.next) (c.link.ensures.value p before after is))) (rw (← c.self.view_is) c.first-in-Some.ensures) c.push_some-in-Some-2.new.keys.items
+    rw more (walk_step _ (rw (← c.self.view_is) c.self.invariant) (g.K.Key.data_of c.args.node) listed c.loop-key.ahead.items c.pop.new.self.items c.in-Some.key c.loop-key.invariant c.in-Some.ensures.items c.next.result c.first-in-Some.result
+    (next_of _ (rw (← c.self.view_is) c.self.invariant) c.in-Some.key c.next.result (rw (← c.self.view_is) c.next.ensures)) (rw (← c.self.view_is) c.first-in-Some.ensures) c.push_some-in-Some-2.new.keys.items
     (c.in_ok-push_some-3.ensures ∙ ap (λ l. l ++ option_to_list c.first-in-Some.result) c.in_ok-push_some-2.ensures))
 
 pub loop-key-smaller : goal.loop-key-smaller

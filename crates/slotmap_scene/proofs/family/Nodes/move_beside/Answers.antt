@@ -1,7 +1,7 @@
-use Rattle.std.proofs.Common.{Some, ◌∙◌}
+use Rattle.std.proofs.Common.{Some, is_some, refl, ◌∙◌}
 use Rattle.slotmap_scene.specs.Family.{placed}
 use Rattle.slotmap_scene.proofs.Climbs.{parent_there}
-use Rattle.slotmap_scene.proofs.Moved.{spent_alike, hung_alone, keys_among, moved_among, hung_keys, hung_sibling, scene_among, times_placed, values_among}
+use Rattle.slotmap_scene.proofs.Moved.{spent_alike, hung_alone, keys_among, moved_among, hung_keys, hung_sibling, left_of, scene_among, times_placed, values_among}
 use Rattle.slotmap_scene.proofs.family.Nodes.move_beside.Goals as goal
 
 pub attach_beside-requires-clause-alone : goal.attach_beside-requires-clause-alone
@@ -30,3 +30,7 @@ returns-clause-scene g c =
 pub returns-clause-stale : goal.returns-clause-stale
 returns-clause-stale g c =
     rw (c.attach_beside.ensures, c.set_parent.ensures, c.leave.ensures) (spent_alike c.args.self.now _ (keys_among c.args.self.now.live c.requires.scene c.args.node c.args.parent c.requires.node (parent_there c.args.self.now.live c.requires.scene.tree c.args.sibling c.args.parent c.requires.sibling) (placed c.args.side c.args.sibling c.args.node)))
+
+pub set_parent-requires-clause-parent : goal.set_parent-requires-clause-parent
+set_parent-requires-clause-parent g c = rw c.leave.ensures (left_of c.args.self.now.live c.requires.scene c.args.node is_some (λ b. b) refl (λ n. refl) c.args.parent
+    ∙ parent_there c.args.self.now.live c.requires.scene.tree c.args.sibling c.args.parent c.requires.sibling)
