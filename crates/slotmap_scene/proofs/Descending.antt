@@ -63,7 +63,7 @@ module _ {T : Type 0} where
       closed : (k p : Key) → parent_of nodes k ≡ Some p → (p ≡ node) ⊎ (0 < times p listed) → 0 < times k listed + times k ahead
 
   module _ (nodes : Nodes T) (scene : IsScene nodes) (node : Key) where
-    descending_start : Descending nodes node [] (children_of nodes node)
+    pub descending_start : Descending nodes node [] (children_of nodes node)
     descending_start = record {
       order = λ rest goes. goes;
       once = λ k. (let few = listed_few nodes scene.listed node k in omega arith);
@@ -75,7 +75,7 @@ module _ {T : Type 0} where
     }
 
     module _ (listed ahead : List Key) (d : Descending nodes node listed ahead) where
-      below_node : (k : Key) → 0 < times k listed + times k ahead → has_node nodes k × IsWithin nodes k node × (k ≢ node)
+      pub below_node : (k : Key) → 0 < times k listed + times k ahead → has_node nodes k × IsWithin nodes k node × (k ≢ node)
       below_node k more =
           let from = d.named k more in (
             has_parent nodes k from.0 from.1,
@@ -112,7 +112,7 @@ module _ {T : Type 0} where
                   | inr was ↦ absurd (let w = rw p_is at was in let none = not_listed in omega arith)
                 ]
 
-        descending_step : Descending nodes node (listed ++ q ∷ []) (children_of nodes q ++ others)
+        pub descending_step : Descending nodes node (listed ++ q ∷ []) (children_of nodes q ++ others)
         descending_step = record {
           order = λ rest goes. subst (GoesDown nodes (children_of nodes node)) (sym (append_assoc listed (q ∷ []) rest)) (d.order (q ∷ rest) (others, (is, goes)));
           once = λ k. once_after k;
@@ -169,7 +169,7 @@ module _ {T : Type 0} where
       steps_listed zero k is = inl is
       steps_listed (suc n) k steps = inr (let more = done.closed k steps.0 steps.1.0 (steps_listed n steps.0 steps.1.1) in omega arith)
 
-      all_listed : (k : Key) → IsWithin nodes k node → k ≢ node → 0 < times k listed
+      pub all_listed : (k : Key) → IsWithin nodes k node → k ≢ node → 0 < times k listed
       all_listed k w apart = elim (steps_listed w.0 k w.1) [ inl is ↦ absurd (apart is) | inr more ↦ more ]
 
   -- these are the keys of all that is below a node

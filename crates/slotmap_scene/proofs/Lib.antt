@@ -1,3 +1,4 @@
+mod ByLevel
 pub mod Callers
 mod Climbs
 mod Descending
@@ -6,5 +7,6 @@ mod Neighbours
 pub mod Offsets
 mod Removals
 mod Showing
+mod WalkingDown
 mod Weaving
 pub mod Worlds

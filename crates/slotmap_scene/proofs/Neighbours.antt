@@ -12,7 +12,7 @@ use Rattle.slotmap_scene.specs.Family.{behind, children_of, children_under, in_f
 use Rattle.slotmap_scene.proofs.Moved.{listed_once}
 
 module _ (k : Key) where
-  behind_split : (b a : List Key) → times k b ≡ 0 → behind k (b ++ k ∷ a) ≡ first_or a None
+  pub behind_split : (b a : List Key) → times k b ≡ 0 → behind k (b ++ k ∷ a) ≡ first_or a None
   behind_split [] a none = ap (λ t. cond t (first_or a None) (behind k a)) (is_itself k)
   behind_split (q ∷ b) a none =
       let first = times_first k q b in

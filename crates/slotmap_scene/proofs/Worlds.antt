@@ -185,6 +185,16 @@ joined_transform nodes under of k (Some w) composed joins = record {
   made = composed.made ∙ fold_of under of (of composed.own) composed.above ∙ fold_world under joins (of composed.own) (list_map of composed.above);
 }
 
+pub world_composed : {T W : Type 0} (nodes : Nodes T) (under : W → W → W) (of : T → W) (k : Key) (w : W) → Joins under
+    → IsWorldOf under of nodes k w → IsComposed under of nodes k w
+world_composed nodes under of k w joins world = record {
+  own = world.own;
+  above = world.above;
+  path = world.path;
+  made = world.made
+      ∙ sym (fold_of under of (of world.own) world.above ∙ fold_world under joins (of world.own) (list_map of world.above));
+}
+
 -- where there is no parent, there is no node
 module _ {T : Type 0} (nodes : Nodes T) (k p : Key) (node : Node T) (there : map.get nodes k ≡ Some node) (up : node.parent ≡ Some p) where
   pub parent_found : IsTree nodes → {X : Type 0} (result : Option X) → IfNone result (lacks_node nodes p) → IfNone result (lacks_node nodes k)

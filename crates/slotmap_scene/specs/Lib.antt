@@ -3,6 +3,7 @@ pub mod Below
 pub mod Climb
 pub mod Family
 pub mod Lends
+pub mod Levels
 pub mod LinkedNodes
 pub mod Node
 pub mod Offset

@@ -55,6 +55,7 @@ ghost use Rattle.slotmap_scene.specs.Family.{children_of, is_parent, value_of};
 
 use crate::family::Nodes;
 pub use above::{Ancestors, Roots};
+pub use below::KeysBelow;
 pub use children::ChildKeys;
 pub use iter::{Iter, Keys, Values};
 use slotmap::{DefaultKey, InsertError, Key, ReserveError};
@@ -73,6 +74,7 @@ mod debug;
 mod family;
 mod insert;
 mod iter;
+mod levels;
 mod links;
 mod nodes;
 mod siblings;
@@ -108,9 +110,12 @@ impl<K, T> Model for Scene<K, T> {
 /// A node was not added. The error holds its value.
 #[derive(Debug, Drop, Error)]
 pub enum AddError<T> {
-    /// The parent doesn't exist, or the sibling has none.
+    /// The parent doesn't exist.
     #[error("the parent is gone")]
     Gone(T),
+    /// The sibling doesn't exist, or is a root.
+    #[error("the sibling is gone, or a root")]
+    GoneSibling(T),
     /// There are as many nodes as a map can hold.
     #[error("the scene is full")]
     Full(T),
