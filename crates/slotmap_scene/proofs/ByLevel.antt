@@ -1,11 +1,9 @@
 -- The nodes of a scene, level by level from the roots down.
-use Rattle.std.proofs.Common.{◌≡◌, ◌≢◌, ℕ, zero, suc, ◌+◌, ◌<◌, ◌≤◌, true, false, cond, Option, Some, None, is_some, List, [], ◌∷◌, ◌++◌, length, get_or, take, refl, sym, ap, subst, ◌∙◌, inl, inr, arith, append_assoc}
-use Rattle.std.specs.Prelude.{map as list_map, option_map}
-use Rattle.std.specs.List.{All, fold}
+use Rattle.std.proofs.Common.{◌≡◌, ◌≢◌, ℕ, zero, suc, ◌+◌, ◌<◌, ◌≤◌, true, false, cond, Option, Some, None, is_some, List, [], ◌∷◌, ◌++◌, length, get_or, take, refl, sym, ap, ◌∙◌, inl, inr, arith, append_assoc}
+use Rattle.std.specs.Prelude.{map as list_map}
 use Rattle.std.specs.FinMap as map
 use Rattle.std.specs.FinMap.Entries.{find}
-use Rattle.std.proofs.lemmas.List.{map_push, take_all, take_more, take-append-le}
-use Rattle.std.proofs.lemmas.List.Elements.{All-push, All-weaker}
+use Rattle.std.proofs.lemmas.List.{take_all, take_more, take-append-le}
 use Rattle.slotmap.specs.Words.{Key, key_cmp}
 use Rattle.slotmap.proofs.Callers.{keys_total, exact_keys, tied, itself, same_or_other}
 use Rattle.slotmap_keylist.specs.KeyLists.{same, times}
@@ -14,10 +12,8 @@ use Rattle.slotmap_keylist.proofs.MapKeys.{keys_once}
 use Rattle.slotmap_scene.specs.Node.{Node, Nodes}
 use Rattle.slotmap_scene.specs.Above.{roots_by, roots_in}
 use Rattle.slotmap_scene.specs.Climb.{has_node, parent_in, parent_of, ClimbsTo}
-use Rattle.slotmap_scene.specs.Family.{children_of, is_parent, value_of, IsScene}
-use Rattle.slotmap_scene.specs.Levels.{AreWorlds, children_of_each, GoesByLevel, keys_of_pairs}
-use Rattle.slotmap_scene.proofs.Worlds.{world_composed}
-use Rattle.slotmap_scene.specs.WorldValue.{IsPathFrom, IsWorldOf, IsComposed, Joins}
+use Rattle.slotmap_scene.specs.Family.{children_of, is_parent, IsScene}
+use Rattle.slotmap_scene.specs.Levels.{children_of_each, GoesByLevel}
 
 not_some : {A : Type 0} (o : Option A) → is_some o ≡ false → o ≡ None
 not_some None is = refl
@@ -234,43 +230,3 @@ parent_known (Some q) p more = elim (same_or_other q p) [
   | inl is ↦ ap Some is
   | inr other ↦ absurd (let none = one_other q p other in omega arith)
 ]
-
--- what holds of each key that is ahead holds of the first one, and of those behind it
-pub first_ahead : (P : Key → Type 0) (it rest : List Key) (k : Key) → it ≡ k ∷ rest → ((q : Key) → 0 < times q it → P q) → P k × ((q : Key) → 0 < times q rest → P q)
-first_ahead P it rest k is all = (
-  all k (let t = ap (times k) is ∙ times_first k k rest in let one = one_itself k in omega arith),
-  λ q more. all q (let t = ap (times q) is ∙ times_first q k rest in omega arith),
-)
-
--- one more pair
-pub pairs_pushed : {K W : Type 0} (data_of : K → Key) (xs : List (K × W)) (x : K × W) (new : List (K × W)) → new ≡ xs ++ x ∷ [] → (it rest all : List Key)
-    → keys_of_pairs data_of xs ++ it ≡ all → it ≡ data_of x.0 ∷ rest → keys_of_pairs data_of new ++ rest ≡ all
-pairs_pushed {K} {W} data_of xs x new new_is it rest all walked it_is =
-    ap (λ l. keys_of_pairs data_of l ++ rest) new_is ∙ ap (λ l. l ++ rest) (map_push (λ (p : K × W). data_of p.0) xs x)
-    ∙ append_assoc (keys_of_pairs data_of xs) (data_of x.0 ∷ []) rest ∙ ap (λ l. keys_of_pairs data_of xs ++ l) (sym it_is) ∙ walked
-
--- the transforms on the way down
-module _ {T W : Type 0} (nodes : Nodes T) (under : W → W → W) (of : T → W) (k : Key) (v : T) (own : value_of nodes k ≡ Some v) where
-  pub world_of_root : parent_of nodes k ≡ None → IsWorldOf under of nodes k (of v)
-  world_of_root root =
-      record { own = v; above = []; path = (own, subst (λ p. IsPathFrom nodes p []) (sym root) tt); made = refl }
-
-  pub world_of_child : (p : Key) (w : W) → parent_of nodes k ≡ Some p → IsWorldOf under of nodes p w → IsWorldOf under of nodes k (under (of v) w)
-  world_of_child p w up world = record {
-    own = v;
-    above = world.own ∷ world.above;
-    path = (own, subst (λ q. IsPathFrom nodes q (world.own ∷ world.above)) (sym up) world.path);
-    made = ap (under (of v)) world.made;
-  }
-
--- one more pair with its transform
-pub worlds_pushed : {K T W : Type 0} (data_of : K → Key) (under : W → W → W) (of : T → W) (nodes : Nodes T) (xs new : List (K × W)) (k : K) (w : W) → new ≡ xs ++ (k, w) ∷ []
-    → AreWorlds data_of under of nodes xs → IsWorldOf under of nodes (data_of k) w → AreWorlds data_of under of nodes new
-worlds_pushed data_of under of nodes xs new k w is each own = rw is (All-push (λ e. IsWorldOf under of nodes (data_of e.0) e.1) xs (k, w) each own)
-
--- where transforms join, each is what it comes to on the way up too
-pub worlds_composed : {K T W : Type 0} (data_of : K → Key) (under : W → W → W) (of : T → W) (nodes : Nodes T) (pairs : List (K × W)) → Joins under
-    → AreWorlds data_of under of nodes pairs → All (λ e. IsComposed under of nodes (data_of e.0) e.1) pairs
-worlds_composed data_of under of nodes pairs joins each =
-    All-weaker (λ e. IsWorldOf under of nodes (data_of e.0) e.1) (λ e. IsComposed under of nodes (data_of e.0) e.1)
-    (λ e world. world_composed nodes under of (data_of e.0) e.1 joins world) pairs each

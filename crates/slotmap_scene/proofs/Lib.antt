@@ -2,6 +2,8 @@ mod ByLevel
 pub mod Callers
 mod Climbs
 mod Descending
+pub mod KeyLoops
+pub mod ListedWorlds
 mod Moved
 mod Neighbours
 pub mod Offsets

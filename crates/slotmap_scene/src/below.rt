@@ -1,6 +1,6 @@
 //! The nodes below a node.
 
-ghost use Rattle.std.specs.Prelude.{◌≡◌, ◌≢◌, ◌<◌, ◌≤◌, ◌++◌, ◌∷◌, [], Some, IfOk, OnOk, option_map, option_to_list, map as list_map};
+ghost use Rattle.std.specs.Prelude.{◌≡◌, ◌≢◌, ◌<◌, ◌≤◌, ◌∷◌, [], Some, IfOk, option_map, map as list_map};
 ghost use Rattle.std.specs.Iterator.{YieldsFirstBy, item_count};
 ghost use Rattle.std.specs.List.{All};
 ghost use Rattle.slotmap.specs.Words.{Key as KeyOf};
@@ -10,8 +10,8 @@ ghost use Rattle.slotmap_scene.specs.Climb.{IsWithin, has_node};
 ghost use Rattle.slotmap_scene.specs.Family.{children_of};
 
 use crate::Scene;
-use slotmap::{DefaultKey, Key};
-use slotmap_keylist::{inner, outer};
+use slotmap::Key;
+use slotmap_keylist::inner;
 use std::alloc::AllocError;
 use std::iter::FusedIterator;
 use std::marker::Model;
@@ -55,16 +55,6 @@ impl<'a, K: Key, T: Drop> Iterator for KeysBelow<'a, K, T> {
 }
 
 impl<'a, K: Key, T: Drop> FusedIterator for KeysBelow<'a, K, T> {}
-
-// Puts a key behind the others, if there is one.
-fn push_some(keys: &mut Vec<DefaultKey>, key: Option<DefaultKey>) -> Result<(), AllocError>
-    ensures { OnOk result (keys.new.items ≡ keys.old.items ++ option_to_list key) }
-{
-    if let Some(key) = key {
-        keys.push(key)?;
-    }
-    Ok(())
-}
 
 impl<K: Key, T: Drop> Scene<K, T> {
     // The key behind this one, which has no children, on a walk through all that is below a node: the next
@@ -164,13 +154,8 @@ impl<K: Key, T: Drop> Scene<K, T> {
         ensures once { IfOk result (λ keys. (k : KeyOf) → times k (list_map K.data_of keys.items) ≤ 1) }
     {
         let mut below = Vec::new(self.alloc);
-        // The keys that are ahead, the next one last. Each stands for its later siblings too.
-        let mut ahead = Vec::new(self.alloc);
-        push_some(&mut ahead, self.nodes.first(inner(node)))?;
-        while let Some(key) = ahead.pop() {
-            below.push(outer(key))?;
-            push_some(&mut ahead, self.nodes.link(key).next.get())?;
-            push_some(&mut ahead, self.nodes.first(key))?;
+        for key in self.keys_below(node) {
+            below.push(key)?;
         }
         Ok(below)
     }

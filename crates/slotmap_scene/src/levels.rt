@@ -24,7 +24,8 @@ impl<K: Key, T: HasTransform + Drop> Scene<K, T> {
         ensures each { OnOk result (AreWorlds K.data_of T.Transform.under T.transform_of self.now.live all.new.items) }
     {
         for root in self.roots() {
-            all.push((root, self[root].transform()))?;
+            let own = self[root].transform();
+            all.push((root, own))?;
         }
         Ok(())
     }

@@ -6,7 +6,7 @@
 //! - The nodes form trees: each has a root above it, [`Scene::depth`] steps away.
 //! - Each node appears exactly once in its parent's list of children, and in no other.
 //! - [`Scene::descendants`] lists the nodes below a node, each once: depth-first, in the order of the
-//!   children.
+//!   children. [`Scene::keys_below`] yields them one by one, and needs no memory.
 //! - [`Scene::reparent`] moves a node with its subtree, as the last child of its new parent, and
 //!   [`Scene::move_before`] and [`Scene::move_after`] to a place beside a sibling. A move is refused
 //!   exactly if a node doesn't exist or the move would make a cycle.
@@ -25,9 +25,10 @@
 //!   parent. [`Scene::move_before`] and [`Scene::move_after`] take time linear in the number of those above
 //!   the sibling, unless both nodes have the same parent.
 //! - [`Scene::remove`] takes time linear in the number of nodes that it removes, and
-//!   [`Scene::descendants`] in the number of those that it lists.
-//! - [`Scene::clear`] and [`Scene::clone`] take time linear in the number of slots. So do all steps of
-//!   [`Scene::iter`], [`Scene::keys`] or [`Scene::values`] together.
+//!   [`Scene::descendants`] in the number of those that it lists. So do all steps of
+//!   [`Scene::keys_below`] together, and one of them at most in the depth of the trees.
+//! - [`Scene::clear`], [`Scene::clone`] and [`Scene::world_transforms`] take time linear in the number of
+//!   slots. So do all steps of [`Scene::iter`], [`Scene::keys`] or [`Scene::values`] together.
 //!
 //! ```
 //! let mut scene: Scene<DefaultKey, &str> = Scene::new(alloc)?;

@@ -1,7 +1,9 @@
-use Rattle.std.proofs.Common.{◌++◌, ap, ◌∙◌, arith}
+use Rattle.std.proofs.Common.{◌++◌, refl, ap, ◌∙◌, arith}
 use Rattle.slotmap_keylist.specs.KeyLists.{times}
 use Rattle.slotmap_scene.specs.Levels.{keys_of_pairs}
-use Rattle.slotmap_scene.proofs.ByLevel.{first_ahead, pairs_pushed, parent_known, world_of_child, worlds_pushed}
+use Rattle.slotmap_scene.proofs.ByLevel.{parent_known}
+use Rattle.slotmap_scene.proofs.ListedWorlds.{world_of_child, worlds_pushed}
+use Rattle.slotmap_scene.proofs.KeyLoops.{first_ahead, passed}
 use Rattle.slotmap_scene.proofs.Climbs.{has_parent}
 use Rattle.slotmap_scene.proofs.Scene.push_children.Goals as goal
 
@@ -17,18 +19,18 @@ loop-child-init g c =
     }
 
 pub index-requires : goal.index-requires
-index-requires g c = has_parent _ _ _ (first_ahead _ _ _ _ c.in-Some.ensures.steps c.loop-child.invariant.ahead).0
+index-requires g c = has_parent _ _ _ (first_ahead _ _ _ c.in-Some.ensures.steps _ c.loop-child.invariant.ahead).0
 
 pub loop-child-preserved : goal.loop-child-preserved
 loop-child-preserved g c =
     let i = c.loop-child.invariant in
     let of = g.T.HasTransform.transform_of in
-    let ahead = first_ahead _ _ _ _ c.in-Some.ensures.steps i.ahead in
+    let ahead = first_ahead _ _ _ c.in-Some.ensures.steps _ i.ahead in
     let own = world_of_child _ g.T.Transform.Transform.under of _ _ c.index.ensures _ _ ahead.0 c.requires.world in
     record {
       can_next = tt;
       is_finite = tt;
-      walked = pairs_pushed g.K.Key.data_of _ _ _ c.in_ok-push.ensures.items _ _ _ i.walked c.in-Some.ensures.steps;
+      walked = passed _ _ _ c.in-Some.ensures.steps (λ e. g.K.Key.data_of e.0) _ _ _ refl c.in_ok-push.ensures.items ∙ i.walked;
       ahead = ahead.1;
       each = worlds_pushed g.K.Key.data_of _ of _ _ _ _ _ c.in_ok-push.ensures.items i.each (rw (c.under.ensures, c.transform-own.ensures) own);
     }

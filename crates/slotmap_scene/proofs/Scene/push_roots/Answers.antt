@@ -1,8 +1,9 @@
-use Rattle.std.proofs.Common.{◌++◌, ap, ◌∙◌, arith}
+use Rattle.std.proofs.Common.{refl, ap, ◌∙◌, arith}
 use Rattle.std.proofs.lemmas.List.Elements.{All-nil}
 use Rattle.slotmap_keylist.specs.KeyLists.{times}
-use Rattle.slotmap_scene.specs.Levels.{keys_of_pairs}
-use Rattle.slotmap_scene.proofs.ByLevel.{first_ahead, listed_root, pairs_pushed, world_of_root, worlds_pushed}
+use Rattle.slotmap_scene.proofs.ByLevel.{listed_root}
+use Rattle.slotmap_scene.proofs.ListedWorlds.{world_of_root, worlds_pushed}
+use Rattle.slotmap_scene.proofs.KeyLoops.{first_ahead, passed}
 use Rattle.slotmap_scene.proofs.Scene.push_roots.Goals as goal
 
 pub loop-root-init : goal.loop-root-init
@@ -17,18 +18,18 @@ loop-root-init g c =
     }
 
 pub index-requires : goal.index-requires
-index-requires g c = (first_ahead _ _ _ _ c.in-Some.ensures.steps c.loop-root.invariant.ahead).0.0
+index-requires g c = (first_ahead _ _ _ c.in-Some.ensures.steps _ c.loop-root.invariant.ahead).0.0
 
 pub loop-root-preserved : goal.loop-root-preserved
 loop-root-preserved g c =
     let i = c.loop-root.invariant in
     let of = g.T.HasTransform.transform_of in
-    let ahead = first_ahead _ _ _ _ c.in-Some.ensures.steps i.ahead in
+    let ahead = first_ahead _ _ _ c.in-Some.ensures.steps _ i.ahead in
     let own = world_of_root _ g.T.Transform.Transform.under of _ _ c.index.ensures ahead.0.1 in
     record {
       can_next = tt;
       is_finite = tt;
-      walked = pairs_pushed g.K.Key.data_of _ _ _ c.in_ok-push.ensures.items _ _ _ i.walked c.in-Some.ensures.steps;
+      walked = passed _ _ _ c.in-Some.ensures.steps (λ e. g.K.Key.data_of e.0) _ _ _ refl c.in_ok-push.ensures.items ∙ i.walked;
       ahead = ahead.1;
-      each = worlds_pushed g.K.Key.data_of _ of _ _ _ _ _ c.in_ok-push.ensures.items i.each (rw c.transform.ensures own);
+      each = worlds_pushed g.K.Key.data_of _ of _ _ _ _ _ c.in_ok-push.ensures.items i.each (rw c.transform-own.ensures own);
     }

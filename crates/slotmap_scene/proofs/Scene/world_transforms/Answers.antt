@@ -1,7 +1,8 @@
-use Rattle.std.proofs.Common.{length, sym, ap, ◌∙◌, arith}
+use Rattle.std.proofs.Common.{sym, ap, ◌∙◌, arith}
 use Rattle.std.proofs.Math.ListN.{get_or-map}
 use Rattle.std.proofs.lemmas.List.{length-map}
-use Rattle.slotmap_scene.proofs.ByLevel.{going_live, going_long, going_on, going_once, levels_all, levels_done, worlds_composed}
+use Rattle.slotmap_scene.proofs.ByLevel.{going_live, going_long, going_on, going_once, levels_all, levels_done}
+use Rattle.slotmap_scene.proofs.ListedWorlds.{worlds_composed}
 use Rattle.slotmap_scene.proofs.Scene.world_transforms.Goals as goal
 
 pub loop-at-smaller : goal.loop-at-smaller

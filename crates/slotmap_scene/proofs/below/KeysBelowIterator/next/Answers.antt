@@ -1,4 +1,4 @@
-use Rattle.std.proofs.Common.{sym, ap, ◌∙◌, option_map, length, arith}
+use Rattle.std.proofs.Common.{sym, ap, ◌∙◌, option_map}
 use Rattle.slotmap_scene.specs.Below.{all_below, keys_from}
 use Rattle.slotmap_scene.proofs.below.KeysBelowIterator.next.Goals as goal
 
