@@ -28,7 +28,7 @@ module _ {T : Type 0} (nodes : Nodes T) where
   child_path k p node there up above path = path_step k node there above (subst (λ q. IsPathFrom nodes q above) (sym up) path)
 
   -- a path goes up from a node that is there
-  path_live : (k : Key) (values : List T) → IsPathUp nodes k values → has_node nodes k
+  pub path_live : (k : Key) (values : List T) → IsPathUp nodes k values → has_node nodes k
   path_live k [] path = absurd path
   path_live k (v ∷ above) path = found (map.get nodes k) path.0
     where
@@ -55,6 +55,13 @@ module _ {T : Type 0} (nodes : Nodes T) where
       let own : a.own ≡ b.own = cc in
       let above : a.above ≡ b.above = cc in
       a.made ∙ (λ i. world_along under (own i) (above i)) ∙ sym b.made
+
+  pub one_world_of : {W : Type 0} (under : W → W → W) (of : T → W) (k : Key) (v w : W) → IsWorldOf under of nodes k v → IsWorldOf under of nodes k w → v ≡ w
+  one_world_of under of k v w a b =
+      let same = one_path (Some k) (a.own ∷ a.above) (b.own ∷ b.above) a.path b.path in
+      let own : a.own ≡ b.own = cc in
+      let above : a.above ≡ b.above = cc in
+      a.made ∙ (λ i. world_along under (of (own i)) (list_map of (above i))) ∙ sym b.made
 
   -- a root is where its own value says
   pub world_root : (under : T → T → T) (k : Key) (node : Node T) → map.get nodes k ≡ Some node → node.parent ≡ None → IsWorld under nodes k node.value
@@ -183,6 +190,16 @@ joined_transform nodes under of k (Some w) composed joins = record {
   above = composed.above;
   path = composed.path;
   made = composed.made ∙ fold_of under of (of composed.own) composed.above ∙ fold_world under joins (of composed.own) (list_map of composed.above);
+}
+
+pub world_composed : {T W : Type 0} (nodes : Nodes T) (under : W → W → W) (of : T → W) (k : Key) (w : W) → Joins under
+    → IsWorldOf under of nodes k w → IsComposed under of nodes k w
+world_composed nodes under of k w joins world = record {
+  own = world.own;
+  above = world.above;
+  path = world.path;
+  made = world.made
+      ∙ sym (fold_of under of (of world.own) world.above ∙ fold_world under joins (of world.own) (list_map of world.above));
 }
 
 -- where there is no parent, there is no node

@@ -4,6 +4,7 @@ pub mod Climb
 pub mod Family
 pub mod Kept
 pub mod Lends
+pub mod Levels
 pub mod Node
 pub mod Offset
 pub mod Refusals

@@ -2,8 +2,8 @@
 //!
 //! [`Scene::fold_up`] folds a closure along the values from a node up to its root. [`Scene::world`]
 //! returns a node's value in the coordinates of its root, where the values are [`Transform`]s. Where a
-//! value has a transform among other things, [`Scene::world_transform`] returns that one. What is
-//! proved of them:
+//! value has a transform among other things, [`Scene::world_transform`] returns that one, and
+//! [`Scene::world_transforms`] those of all nodes. What is proved of the first three:
 //!
 //! - The closure is called once for each value from the node's own to the root's, in that order.
 //! - The result of `world` and `world_transform` is the node's own transform composed with its
