@@ -64,6 +64,22 @@ module _ {V W : Type 0} (f : Key → V → W) where
 pub by_live : {V : Type 0} (m : map.FinMap key_cmp V) (k : Key) (P : Type 0) → (map.contains_key m k ≡ true → P) → (map.contains_key m k ≡ false → P) → P
 by_live m k P here gone = elim (map.contains_key m k) as (λ b. map.contains_key m k ≡ b → P) [ true ↦ here | false ↦ gone ] refl
 
+pub covers_less : (n m : ℕ) (ps : List ℕ) (ls : Lists) → AreCovered n ps ls → m ≤ n → AreCovered m ps ls
+covers_less n m ps ls covered less = record {
+  parents = (let was = covered.parents in omega arith);
+  owners = (let was = covered.owners in omega arith);
+  members = (let was = covered.members in omega arith);
+}
+
+-- the parent that is written, by its index
+pub parent_has : {V : Type 0} (c : Content V) (o : Option Key) → IfSome o (IsLive c) → (parent_index o ≡ 0) ⊎ HasKey c (parent_index o)
+parent_has c None is = inl refl
+parent_has c (Some p) is = inr (p, is, refl)
+
+pub parent_found : {V : Type 0} (c : Content V) → HaveIndices c → (o : Option Key) → IfSome o (IsLive c) → found_at c.live (parent_index o) ≡ o
+parent_found c indices None is = found_zero c indices
+parent_found c indices (Some p) is = found_live c indices p is
+
 -- what is read of the parents
 pub read_above : (ps : List ℕ) (at i parent : ℕ) → parent ≡ get_or ps at parent → at ≡ i → i < length ps → parent ≡ above ps i
 read_above ps at i parent read is there = read ∙ get_or_default ps at parent 0 (omega arith) ∙ ap (above ps) is
@@ -140,11 +156,7 @@ module _ {V : Type 0} (c : Content V) (parents : List ℕ) (children : Lists) (k
   indices_at p i inside = (kept.listed p i inside).1
 
   pub has_place : (k : Key) → IsLive c k → AreCovered k.index parents children
-  has_place k live = let within = (kept.indices.within k live).1 in record {
-    parents = (let covered = kept.covered.parents in omega arith);
-    owners = (let covered = kept.covered.owners in omega arith);
-    members = (let covered = kept.covered.members in omega arith);
-  }
+  has_place k live = covers_less c.capacity k.index parents children kept.covered (kept.indices.within k live).1
 
   -- a list is empty where no key has the index
   pub list_none : (p : ℕ) → ((k : Key) → IsLive c k → k.index ≢ p) → list_of children p ≡ []
@@ -296,14 +308,6 @@ module _ {V : Type 0} (c : Content V) (parents : List ℕ) (children : Lists) (k
 
   -- another index is written as that of the parent of k
   module _ (k : Key) (o : Option Key) (is_parent : IfSome o (IsLive c)) where
-    parent_has : (o : Option Key) → IfSome o (IsLive c) → (parent_index o ≡ 0) ⊎ HasKey c (parent_index o)
-    parent_has None is = inl refl
-    parent_has (Some p) is = inr (p, is, refl)
-
-    parent_found : (o : Option Key) → IfSome o (IsLive c) → found_at c.live (parent_index o) ≡ o
-    parent_found None is = found_zero c kept.indices
-    parent_found (Some p) is = found_live c kept.indices p is
-
     module _ (live : IsLive c k) (new : List ℕ) (new_is : new ≡ set parents k.index (parent_index o)) where
       above_here : above new k.index ≡ parent_index o
       above_here = ap (λ l. above l k.index) new_is ∙ get_or-set_same parents k.index (parent_index o) 0 (has_place k live).parents
@@ -318,7 +322,7 @@ module _ {V : Type 0} (c : Content V) (parents : List ℕ) (children : Lists) (k
         disjoint = kept.disjoint;
         listed = kept.listed;
         has_parent = λ q of_c. elim (same_or_other q k) [
-          | inl at ↦ subst (λ i. (i ≡ 0) ⊎ HasKey c i) (sym (ap (λ (q : Key). above new q.index) at ∙ above_here)) (parent_has o is_parent)
+          | inl at ↦ subst (λ i. (i ≡ 0) ⊎ HasKey c i) (sym (ap (λ (q : Key). above new q.index) at ∙ above_here)) (parent_has c o is_parent)
           | inr other ↦ subst (λ i. (i ≡ 0) ⊎ HasKey c i) (sym (above_there q of_c other)) (kept.has_parent q of_c)
         ];
       }
@@ -330,7 +334,7 @@ module _ {V : Type 0} (c : Content V) (parents : List ℕ) (children : Lists) (k
       hung_seen = same_nodes (nodes_by c.live new children) (with_parent nodes k o)
           (λ q. seen_value c.live new children q ∙ sym (changed_keeps nodes k hang (option_map (λ n. n.value)) (λ n. refl) q ∙ seen_value c.live parents children q))
           (λ q. elim (same_or_other q k) [
-            | inl at ↦ rw at (parent_live c.live new children k live ∙ ap (found_at c.live) above_here ∙ parent_found o is_parent
+            | inl at ↦ rw at (parent_live c.live new children k live ∙ ap (found_at c.live) above_here ∙ parent_found c kept.indices o is_parent
                 ∙ sym (changed_gives nodes k hang parent_in (λ _. o) (λ n. refl) (seen_has c.live parents children k ∙ live)))
             | inr other ↦ by_live c.live q _
                 (λ of_c. parent_live c.live new children q of_c ∙ ap (found_at c.live) (above_there q of_c other) ∙ sym (parent_live c.live parents children q of_c))
@@ -354,6 +358,14 @@ module _ {V : Type 0} (c : Content V) (parents : List ℕ) (children : Lists) (k
         ap (keys_at d.live) same_list ∙ keys_same c kept.indices d also (list_of children q.index) (indices_at q.index) children_still in
         λ i. record { value = v; parent = parent i; children = own i }
 
+    pub get_alike : (q : Key) → map.get d.live q ≡ map.get c.live q → (IsLive c q → (v : V) → node_at d.live parents' children' q v ≡ node_at c.live parents children q v)
+        → map.get (nodes_by d.live parents' children') q ≡ map.get nodes q
+    get_alike q same alike = seen_get d.live parents' children' q ∙ ap (option_map (node_at d.live parents' children' q)) same ∙ by (map.get c.live q) refl ∙ sym (seen_get c.live parents children q)
+      where
+        by : (o : Option V) → map.get c.live q ≡ o → option_map (node_at d.live parents' children' q) o ≡ option_map (node_at c.live parents children q) o
+        by None is = refl
+        by (Some v) is = ap Some (alike (ap is_some is) v)
+
     -- where all keys are still there
     module _ (still : (q : Key) → IsLive c q → IsLive d q) (same_lists : (p : ℕ) → list_of children' p ≡ list_of children p) where
       has_still : (i : ℕ) → HasKey c i → HasKey d i
@@ -376,6 +388,8 @@ module _ {V : Type 0} (c : Content V) (parents : List ℕ) (children : Lists) (k
         pub kept_along : AreCovered d.capacity parents' children' → AreDisjoint children' → IsKept d parents' children'
         kept_along covered disjoint = kept_still covered disjoint (λ q live. above_still (above parents q.index) (above parents' q.index) (same_parents q.index) (kept.has_parent q (same_keys q live)))
 
+        pub node_along : (q : Key) → IsLive c q → (v : V) → node_at d.live parents' children' q v ≡ node_at c.live parents children q v
+        node_along q live = node_still q live (same_parents q.index) (same_lists q.index) (λ p of_c _. still p of_c) (λ x of_c _. still x of_c)
+
         pub get_along : (q : Key) → IsLive c q → map.get (nodes_by d.live parents' children') q ≡ option_map (node_at c.live parents children q) (map.get d.live q)
-        get_along q live = seen_get d.live parents' children' q
-            ∙ ap (λ f. option_map f (map.get d.live q)) (λ i v. node_still q live (same_parents q.index) (same_lists q.index) (λ p of_c _. still p of_c) (λ x of_c _. still x of_c) v i)
+        get_along q live = seen_get d.live parents' children' q ∙ ap (λ f. option_map f (map.get d.live q)) (λ i v. node_along q live v i)

@@ -1,5 +1,5 @@
 -- A node is put among the children of another one or taken out of them, or gets another parent: what is kept then, and what it shows.
-use Rattle.std.proofs.Common.{◌≡◌, ◌≢◌, ◌⊎◌, ◌<◌, ◌≤◌, ℕ, cond, nat_eq, Option, Some, None, IfSome, List, [], ◌∷◌, ◌++◌, length, set, refl, true, false, sym, ap, subst, ◌∙◌, inl, inr, arith}
+use Rattle.std.proofs.Common.{◌≡◌, ◌≢◌, ◌+◌, ◌<◌, ◌≤◌, ℕ, cond, nat_eq, Option, Some, None, IfSome, List, [], ◌∷◌, ◌++◌, length, set, refl, true, false, sym, ap, subst, ◌∙◌, inl, inr, arith}
 use Rattle.std.specs.FinMap as map
 use Rattle.std.proofs.lemmas.List.{map-append}
 use Rattle.slotmap.specs.Words.{Key, Content, IsLive}
@@ -15,43 +15,25 @@ use Rattle.slotmap_scene.specs.Kept.{AreIndices, HasKey, IsKept, IsParent, above
 use Rattle.slotmap_scene.proofs.Indices.{key_at_live, key_beside, without_key}
 use Rattle.slotmap_scene.proofs.Families.{above_has, above_none, child_in, has_place, hung, hung_seen, indices_at, is_free, relisted, relisted_seen, seen_has}
 
--- what is in a list to which k came
+-- a list to which k comes has no other number
 module _ (s k i : ℕ) where
-  before_was : (ks : List ℕ) → 0 < often i (put_before s k ks) → (0 < often i ks) ⊎ (i ≡ k)
-  before_was [] more = absurd (omega arith)
-  before_was (q ∷ ks) more = elim (nat_eq q s) as (λ b. 0 < often i (cond b (k ∷ q ∷ ks) (q ∷ put_before s k ks)) → (0 < often i (q ∷ ks)) ⊎ (i ≡ k)) [
-    | true ↦ λ more. (elim (same_or_other_number k i) [
-      | inl at ↦ inr (sym at)
-      | inr apart ↦ inl (let first = often_first i k (q ∷ ks) in let none = number_other k i apart in omega arith)
-    ])
-    | false ↦ λ more. (elim (same_or_other_number q i) [
-      | inl at ↦ inl (let first = often_first i q ks in let one = ap (λ n. same_number n i) at ∙ number_itself i in omega arith)
-      | inr apart ↦ (let first = often_first i q (put_before s k ks) in let none = number_other q i apart in elim (before_was ks (omega arith)) [
-        | inl was ↦ inl (let more = often_first i q ks in omega arith)
-        | inr at ↦ inr at
-      ])
-    ])
-  ] more
-
-  behind_was : (ks : List ℕ) → 0 < often i (put_behind s k ks) → (0 < often i ks) ⊎ (i ≡ k)
-  behind_was [] more = absurd (omega arith)
-  behind_was (q ∷ ks) more = elim (same_or_other_number q i) [
-    | inl at ↦ inl (let first = often_first i q ks in let one = ap (λ n. same_number n i) at ∙ number_itself i in omega arith)
-    | inr apart ↦ elim (nat_eq q s) as (λ b. 0 < often i (cond b (q ∷ k ∷ ks) (q ∷ put_behind s k ks)) → (0 < often i (q ∷ ks)) ⊎ (i ≡ k)) [
-      | true ↦ λ more. (elim (same_or_other_number k i) [
-        | inl at ↦ inr (sym at)
-        | inr other ↦ inl (let first = often_first i q (k ∷ ks) in let second = often_first i k ks in let none = number_other k i other in let was = often_first i q ks in omega arith)
-      ])
-      | false ↦ λ more. (let first = often_first i q (put_behind s k ks) in let none = number_other q i apart in elim (behind_was ks (omega arith)) [
-        | inl was ↦ inl (let more = often_first i q ks in omega arith)
-        | inr at ↦ inr at
-      ])
-    ] more
+  before_few : (ks : List ℕ) → often i (put_before s k ks) ≤ often i ks + same_number k i
+  before_few [] = omega arith
+  before_few (q ∷ ks) = elim (nat_eq q s) as (λ b. often i (cond b (k ∷ q ∷ ks) (q ∷ put_before s k ks)) ≤ often i (q ∷ ks) + same_number k i) [
+    | true ↦ (let first = often_first i k (q ∷ ks) in omega arith)
+    | false ↦ (let first = often_first i q (put_before s k ks) in let was = often_first i q ks in let rest = before_few ks in omega arith)
   ]
 
-  beside_was : (side : Side) (ks : List ℕ) → 0 < often i (beside side s k ks) → (0 < often i ks) ⊎ (i ≡ k)
-  beside_was Before = before_was
-  beside_was After = behind_was
+  behind_few : (ks : List ℕ) → often i (put_behind s k ks) ≤ often i ks + same_number k i
+  behind_few [] = omega arith
+  behind_few (q ∷ ks) = elim (nat_eq q s) as (λ b. often i (cond b (q ∷ k ∷ ks) (q ∷ put_behind s k ks)) ≤ often i (q ∷ ks) + same_number k i) [
+    | true ↦ (let first = often_first i q (k ∷ ks) in let second = often_first i k ks in let was = often_first i q ks in omega arith)
+    | false ↦ (let first = often_first i q (put_behind s k ks) in let was = often_first i q ks in let rest = behind_few ks in omega arith)
+  ]
+
+  beside_few : (side : Side) (ks : List ℕ) → often i (beside side s k ks) ≤ often i ks + same_number k i
+  beside_few Before = before_few
+  beside_few After = behind_few
 
 module _ {V : Type 0} (c : Content V) (parents : List ℕ) (children : Lists) (kept : IsKept c parents children) (self : Content (Node V)) (view : family c parents children ≡ self) where
   pub is_live : (k : Key) → has_node self.live k → IsLive c k
@@ -85,39 +67,33 @@ module _ {V : Type 0} (c : Content V) (parents : List ℕ) (children : Lists) (k
     abbrev was_list : List ℕ
     was_list = list_of children p.index
 
-    own : HasKey c k.index
-    own = (k, is_live k node, refl)
-
     had : AreIndices c was_list
     had = indices_at c parents children kept p.index
+
+    came : (i : ℕ) → 0 < often i was_list + same_number k.index i → HasKey c i
+    came i more = elim (same_or_other_number k.index i) [
+      | inl at ↦ (k, is_live k node, at)
+      | inr apart ↦ had i (let none = number_other k.index i apart in omega arith)
+    ]
 
     at_k : key_at c.live k.index ≡ k
     at_k = key_at_live c kept.indices k (is_live k node)
 
     pub put_in_front : new ≡ with_list children p.index (k.index ∷ was_list) → AreDisjoint new → Relists p new (λ ks. k ∷ ks)
     put_in_front = relists p (is_live p there) (k.index ∷ was_list)
-        (λ i more. elim (same_or_other_number k.index i) [
-          | inl at ↦ (k, is_live k node, at)
-          | inr apart ↦ had i (let first = often_first i k.index was_list in let none = number_other k.index i apart in omega arith)
-        ])
+        (λ i more. came i (let first = often_first i k.index was_list in omega arith))
         (λ ks. k ∷ ks) (λ n. at_k n ∷ keys_at c.live was_list) new
 
     pub put_at_end : new ≡ with_list children p.index (was_list ++ k.index ∷ []) → AreDisjoint new → Relists p new (λ ks. ks ++ k ∷ [])
     put_at_end = relists p (is_live p there) (was_list ++ k.index ∷ [])
-        (λ i more. elim (same_or_other_number k.index i) [
-          | inl at ↦ (k, is_live k node, at)
-          | inr apart ↦ had i (let joined = often_joined i was_list (k.index ∷ []) in let first = often_first i k.index [] in let none = number_other k.index i apart in omega arith)
-        ])
+        (λ i more. came i (let joined = often_joined i was_list (k.index ∷ []) in let first = often_first i k.index [] in omega arith))
         (λ ks. ks ++ k ∷ []) (map-append (key_at c.live) was_list (k.index ∷ []) ∙ ap (λ q. keys_at c.live was_list ++ q ∷ []) at_k) new
 
     pub put_on_side : (side : Side) (s : Key) → 0 < times s (children_of self.live p) → new ≡ with_list children p.index (beside side s.index k.index was_list) → AreDisjoint new → Relists p new (placed side s k)
     put_on_side side s sibling =
         let inside = child_in c parents children kept p s (let same = ap (λ (s' : Content (Node V)). times s (children_of s'.live p)) view in omega arith) in
         relists p (is_live p there) (beside side s.index k.index was_list)
-        (λ i more. elim (beside_was s.index k.index i side was_list more) [
-          | inl was ↦ had i was
-          | inr at ↦ (k, is_live k node, sym at)
-        ])
+        (λ i more. came i (let few = beside_few s.index k.index i side was_list in omega arith))
         (placed side s k) (key_beside c kept.indices s k inside.1 (is_live k node) side was_list had inside.2) new
 
   -- k leaves the children of its parent, whose index was read, if it has one

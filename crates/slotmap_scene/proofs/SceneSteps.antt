@@ -1,5 +1,5 @@
 -- What a call makes of the nodes of a scene, as a whole: nodes come or go, more places are made, a value is written, or all is copied.
-use Rattle.std.proofs.Common.{◌≡◌, ◌≢◌, ◌-◌, ◌+◌, ◌⊎◌, ◌<◌, ◌≤◌, ℕ, zero, suc, true, false, cond, nat_lt, Option, Some, None, IfSome, Result, Ok, Err, IsOk, IsErr, OnOk, OnErr, is_some, is_ok, if◌then◌else◌, List, [], ◌∷◌, ◌++◌, length, length-append, replicate, set, take, map as list_map, refl, sym, ap, subst, ◌∙◌, inl, inr, arith}
+use Rattle.std.proofs.Common.{◌≡◌, ◌≢◌, ◌-◌, ◌+◌, ◌⊎◌, ◌<◌, ◌≤◌, ℕ, zero, suc, true, false, cond, nat_lt, Option, Some, None, IfSome, Result, Ok, Err, IsOk, IsErr, OnOk, OnErr, is_some, is_ok, if◌then◌else◌, max, List, [], ◌∷◌, ◌++◌, length, length-append, replicate, set, take, map as list_map, refl, sym, ap, subst, ◌∙◌, inl, inr, arith}
 use Rattle.std.specs.Option.{option_map}
 use Rattle.std.specs.FinMap as map
 use Rattle.std.proofs.lemmas.List.{length-replicate, length-set, get_or-set_same, get_or-set_other, take_all}
@@ -19,7 +19,7 @@ use Rattle.slotmap_scene.specs.Climb.{parent_of}
 use Rattle.slotmap_scene.specs.Family.{IsNodeClone, child, children_of, with_value}
 use Rattle.slotmap_scene.specs.Kept.{AreCovered, CoversMore, HoldsMore, HasKey, HaveIndices, IsKept, above, family, found_at, parent_index, keys_at, node_at, nodes_by}
 use Rattle.slotmap_scene.proofs.Indices.{found_live, found_zero}
-use Rattle.slotmap_scene.proofs.Families.{above_still, by_live, children_live, list_none, get_along, indices_still, kept_along, kept_still, node_still, nowhere, parent_live, seen_get, seen_has, seen_len}
+use Rattle.slotmap_scene.proofs.Families.{above_still, by_live, children_live, list_none, get_alike, get_along, indices_still, kept_along, node_along, covers_less, parent_found, parent_has, kept_still, node_still, nowhere, parent_live, seen_get, seen_has, seen_len}
 
 -- what is known of the values is known of the nodes
 module _ {V : Type 0} (c : Content V) (parents : List ℕ) (children : Lists) where
@@ -49,32 +49,17 @@ module _ {V : Type 0} (c : Content V) (parents : List ℕ) (children : Lists) wh
     family_inserts k v o live = shown_inserts c d seen_was seen_now (seen_has c.live parents children) (seen_len c.live parents children) (seen_has d.live parents' children') (seen_len d.live parents' children') k v (child o v) live
 
 -- places are made, for lists and for parents
-covers_more : (s : Lists) → AreDisjoint s → (n m : ℕ) (mid new : Lists) → mid ≡ with_owners s n → (new ≡ with_members mid m) ⊎ (new ≡ mid) → CoversMore s new
-covers_more s disjoint n m mid new is either = record {
-  lists = same;
-  owners = (let more = ap (λ (l : Lists). length l.lists) is ∙ length-append s.lists (replicate (n - length s.lists) []) in let now = now_lists either in omega arith);
-  members = (let same = ap (λ (l : Lists). l.members) is in let more = now_members either in omega arith);
-  disjoint = disjoint_still s new disjoint same (let same = ap (λ (l : Lists). l.members) is in let more = now_members either in omega arith);
-}
-  where
-    now_lists : (new ≡ with_members mid m) ⊎ (new ≡ mid) → length new.lists ≡ length mid.lists
-    now_lists (inl is) = ap (λ (l : Lists). length l.lists) is
-    now_lists (inr is) = ap (λ (l : Lists). length l.lists) is
-
-    now_members : (new ≡ with_members mid m) ⊎ (new ≡ mid) → mid.members ≤ new.members
-    now_members (inl is) = let e = ap (λ (l : Lists). l.members) is in omega arith
-    now_members (inr is) = let e = ap (λ (l : Lists). l.members) is in omega arith
-
-    of_mid : (new ≡ with_members mid m) ⊎ (new ≡ mid) → (p : ℕ) → list_of new p ≡ list_of mid p
-    of_mid (inl is) p = ap (λ l. list_of l p) is
-    of_mid (inr is) p = ap (λ l. list_of l p) is
-
-    same : (p : ℕ) → list_of new p ≡ list_of s p
-    same p = of_mid either p ∙ ap (λ l. list_of l p) is ∙ list_covered s n p
+covers_by : (s : Lists) → AreDisjoint s → (n m : ℕ) (new : Lists) → s.members ≤ m → new ≡ record (with_owners s n) { members = m } → CoversMore s new
+covers_by s disjoint n m new more is = subst (CoversMore s) (sym is) (record {
+  lists = list_covered s n;
+  owners = (let long = length-append s.lists (replicate {A = List ℕ} (n - length s.lists) []) in omega arith);
+  members = more;
+  disjoint = disjoint_still s (record (with_owners s n) { members = m }) disjoint (list_covered s n) more;
+})
 
 pub covered : (s : Lists) → AreDisjoint s → (n m : ℕ) (mid new : Lists) {A B : Type 0} (r : Result A B) → mid ≡ with_owners s n → OnOk r (new ≡ with_members mid m) → OnErr r (new ≡ mid) → CoversMore s new
-covered s disjoint n m mid new (Ok a) is ok err = covers_more s disjoint n m mid new is (inl ok)
-covered s disjoint n m mid new (Err b) is ok err = covers_more s disjoint n m mid new is (inr err)
+covered s disjoint n m mid new (Ok a) is ok err = covers_by s disjoint n (max s.members m) new (omega arith) (ok ∙ ap (λ l. with_members l m) is)
+covered s disjoint n m mid new (Err b) is ok err = covers_by s disjoint n s.members new (omega arith) (err ∙ is)
 
 padded : (ps : List ℕ) (n i : ℕ) → above (ps ++ replicate n 0) i ≡ above ps i
 padded [] zero i = refl
@@ -94,18 +79,11 @@ held ps n len long more (Ok x) now is =
     )
 held ps n len long more (Err e) now is = (record { same = λ i. ap (λ l. above l i) is; more = (let same = ap length is in omega arith) }, tt)
 
-covers_still : (n m : ℕ) (ps qs : List ℕ) (old new : Lists) → AreCovered n ps old → HoldsMore ps qs → CoversMore old new → m ≤ n → AreCovered m qs new
-covers_still n m ps qs old new covered holds covers less = record {
+covers_still : (n : ℕ) (ps qs : List ℕ) (old new : Lists) → AreCovered n ps old → HoldsMore ps qs → CoversMore old new → AreCovered n qs new
+covers_still n ps qs old new covered holds covers = record {
   parents = (let was = covered.parents in let more = holds.more in omega arith);
   owners = (let was = covered.owners in let more = covers.owners in omega arith);
   members = (let was = covered.members in let more = covers.members in omega arith);
-}
-
-pub covers_less : (n m : ℕ) (ps : List ℕ) (ls : Lists) → AreCovered n ps ls → m ≤ n → AreCovered m ps ls
-covers_less n m ps ls covered less = record {
-  parents = (let was = covered.parents in omega arith);
-  owners = (let was = covered.owners in omega arith);
-  members = (let was = covered.members in omega arith);
 }
 
 -- a call that fails
@@ -171,17 +149,13 @@ module _ {V : Type 0} (c : Content V) (parents : List ℕ) (children : Lists) (k
     grown_kept covered = kept_along c parents children kept d grown_indices parents' children' (λ q live. same_live q ∙ live) grows.lists (λ q live. sym (same_live q) ∙ live) holds.same covered grows.disjoint
 
     pub grown_seen : nodes_by d.live parents' children' ≡ nodes
-    grown_seen = map.same_map keys_total exact_keys _ _ (λ q. by_live c.live q _
-        (λ live. get_along c parents children kept d grown_indices parents' children' (λ q live. same_live q ∙ live) grows.lists (λ q live. sym (same_live q) ∙ live) holds.same q live
-        ∙ ap (λ m. option_map (node_at c.live parents children q) (map.get m q)) same ∙ sym (seen_get c.live parents children q))
-        (λ gone. (let none = none_of (map.get c.live q) gone in
-        seen_get d.live parents' children' q ∙ ap (option_map (node_at d.live parents' children' q)) (ap (λ m. map.get m q) same ∙ none)
-        ∙ sym (seen_get c.live parents children q ∙ ap (option_map (node_at c.live parents children q)) none))))
+    grown_seen = map.same_map keys_total exact_keys _ _ (λ q. get_alike c parents children kept d grown_indices parents' children' q (ap (λ m. map.get m q) same)
+        (λ live. node_along c parents children kept d grown_indices parents' children' (λ q live. same_live q ∙ live) grows.lists (λ q live. sym (same_live q) ∙ live) holds.same q live))
 
   -- places are made, and no room
   module _ (parents' : List ℕ) (children' : Lists) (holds : HoldsMore parents parents') (covers : CoversMore children children') where
     pub covered_kept : IsKept c parents' children'
-    covered_kept = grown_kept c refl (omega arith) parents' children' holds covers (covers_still c.capacity c.capacity parents parents' children children' kept.covered holds covers (omega arith))
+    covered_kept = grown_kept c refl (omega arith) parents' children' holds covers (covers_still c.capacity parents parents' children children' kept.covered holds covers)
 
     pub covered_seen : IsContent true c → (n : ℕ) (ok : Type 0) → (ok → ⊥) → (n ≤ c.room → ⊥) → MakesRoom true (family c parents children) n ok (family c parents' children')
     covered_seen valid n ok fails full = family_room c parents children c parents' children' (grown_seen c refl (omega arith) parents' children' holds covers) n ok (no_room c valid n ok fails full)
@@ -225,13 +199,9 @@ module _ {V : Type 0} (c : Content V) (parents : List ℕ) (children : Lists) (k
     above_other : (q : Key) → IsLive c q → above new q.index ≡ above parents q.index
     above_other q live = ap (λ l. above l q.index) new_is ∙ get_or-set_other parents k.index q.index (parent_index o) 0 (no_other q live)
 
-    parent_had : (o : Option Key) → IfSome o (IsLive c) → (parent_index o ≡ 0) ⊎ HasKey d (parent_index o)
-    parent_had None is = inl refl
-    parent_had (Some p) is = inr (p, stays p is, refl)
-
-    parent_came : (o : Option Key) → IfSome o (IsLive c) → found_at d.live (parent_index o) ≡ o
-    parent_came None is = found_zero d came_indices
-    parent_came (Some p) is = found_live d came_indices p (stays p is)
+    parent_stays : (o : Option Key) → IfSome o (IsLive c) → IfSome o (IsLive d)
+    parent_stays None is = tt
+    parent_stays (Some p) is = stays p is
 
     pub came_kept : IsKept d new children
     came_kept = kept_still c parents children kept d came_indices new children stays (λ p. refl)
@@ -242,7 +212,7 @@ module _ {V : Type 0} (c : Content V) (parents : List ℕ) (children : Lists) (k
         })
         kept.disjoint
         (λ q live. elim (same_or_other q k) [
-          | inl at ↦ subst (λ i. (i ≡ 0) ⊎ HasKey d i) (sym (ap (λ (q : Key). above new q.index) at ∙ came_above)) (parent_had o is_parent)
+          | inl at ↦ subst (λ i. (i ≡ 0) ⊎ HasKey d i) (sym (ap (λ (q : Key). above new q.index) at ∙ came_above)) (parent_has d o (parent_stays o is_parent))
           | inr other ↦ (let was = sym (ap is_some (came_other q other)) ∙ live in
               above_still c parents children kept d came_indices new children stays (λ p. refl) (above parents q.index) (above new q.index) (above_other q was) (kept.has_parent q was))
         ])
@@ -252,17 +222,12 @@ module _ {V : Type 0} (c : Content V) (parents : List ℕ) (children : Lists) (k
       | inl at ↦ rw at (seen_get d.live new children k ∙ ap (option_map (node_at d.live new children k)) (ap (λ m. map.get m k) inserts.live ∙ get-insert_here c.live k v)
           ∙ (λ i. Some (record {
             value = v;
-            parent = (ap (found_at d.live) came_above ∙ parent_came o is_parent) i;
+            parent = (ap (found_at d.live) came_above ∙ parent_found d came_indices o (parent_stays o is_parent)) i;
             children = ap (keys_at d.live) (list_none c parents children kept k.index (λ x live. no_other x live)) i;
           }))
           ∙ sym (get-insert_here nodes k (child o v)))
-      | inr other ↦ by_live c.live q _
-          (λ live. seen_get d.live new children q ∙ ap (option_map (node_at d.live new children q)) (came_other q other)
-          ∙ ap (λ f. option_map f (map.get c.live q)) (λ i v. node_still c parents children kept d came_indices new children q live (above_other q live) refl (λ p of_c _. stays p of_c) (λ x of_c _. stays x of_c) v i)
-          ∙ sym (seen_get c.live parents children q))
-          (λ gone. (let none = none_of (map.get c.live q) gone in
-          seen_get d.live new children q ∙ ap (option_map (node_at d.live new children q)) (came_other q other ∙ none)
-          ∙ sym (seen_get c.live parents children q ∙ ap (option_map (node_at c.live parents children q)) none)))
+      | inr other ↦ get_alike c parents children kept d came_indices new children q (came_other q other)
+          (λ live. node_still c parents children kept d came_indices new children q live (above_other q live) refl (λ p of_c _. stays p of_c) (λ x of_c _. stays x of_c))
           ∙ sym (get-insert_other nodes k (child o v) q other)
     ])
 
@@ -312,11 +277,7 @@ module _ {V : Type 0} (c : Content V) (parents : List ℕ) (children : Lists) (k
     pub gone_kept : IsKept d parents children
     gone_kept = record {
       indices = left_indices;
-      covered = record {
-        parents = (let covered = kept.covered.parents in omega arith);
-        owners = (let covered = kept.covered.owners in omega arith);
-        members = (let covered = kept.covered.members in omega arith);
-      };
+      covered = covers_less c.capacity d.capacity parents children kept.covered (omega arith);
       disjoint = kept.disjoint;
       listed = λ p i inside. (let was = kept.listed p i inside in (
         has_left p was.0 (λ at. (let none = ap (λ p. often i (list_of children p)) at ∙ ap (often i) ownerless in omega arith)),
@@ -331,15 +292,9 @@ module _ {V : Type 0} (c : Content V) (parents : List ℕ) (children : Lists) (k
     pub gone_seen : nodes_by d.live parents children ≡ map.remove nodes k
     gone_seen = map.same_map keys_total exact_keys _ _ (λ q. elim (same_or_other q k) [
       | inl at ↦ rw at (seen_get d.live parents children k ∙ ap (option_map (node_at d.live parents children k)) (ap (λ m. map.get m k) is ∙ gone_here c.live) ∙ sym (gone_here nodes))
-      | inr other ↦ by_live c.live q _
-          (λ of_q. seen_get d.live parents children q ∙ ap (option_map (node_at d.live parents children q)) (left_get q other)
-          ∙ ap (λ f. option_map f (map.get c.live q)) (λ i v. node_still c parents children kept d left_indices parents children q of_q refl refl
+      | inr other ↦ get_alike c parents children kept d left_indices parents children q (left_get q other) (λ of_q. node_still c parents children kept d left_indices parents children q of_q refl refl
           (λ p of_c at. ap is_some (left_get p (λ e. not_above q of_q (sym at ∙ ap (λ (q : Key). q.index) e))) ∙ of_c)
-          (λ x of_c inside. ap is_some (left_get x (λ e. unlisted q.index x.index inside (ap (λ (q : Key). q.index) e))) ∙ of_c) v i)
-          ∙ sym (seen_get c.live parents children q))
-          (λ gone. (let none = none_of (map.get c.live q) gone in
-          seen_get d.live parents children q ∙ ap (option_map (node_at d.live parents children q)) (left_get q other ∙ none)
-          ∙ sym (seen_get c.live parents children q ∙ ap (option_map (node_at c.live parents children q)) none)))
+          (λ x of_c inside. ap is_some (left_get x (λ e. unlisted q.index x.index inside (ap (λ (q : Key). q.index) e))) ∙ of_c))
           ∙ sym (gone_other nodes q other)
     ])
 
@@ -362,18 +317,14 @@ module _ {V : Type 0} (c : Content V) (parents : List ℕ) (children : Lists) (k
 
     pub written_seen : nodes_by written.live parents children ≡ with_value nodes k v
     written_seen = map.same_map keys_total exact_keys _ _ (λ q. elim (same_or_other q k) [
-      | inl at ↦ rw at (along k (ap is_some there) ∙ ap (option_map (node_at c.live parents children k)) (get-insert_here c.live k v)
+      | inl at ↦ rw at (seen_get written.live parents children k ∙ ap (option_map (node_at written.live parents children k)) (get-insert_here c.live k v) ∙ ap Some (along k (ap is_some there) v)
           ∙ sym (changed_here nodes k (λ n. record n { value = v }) ∙ ap (option_map (λ (n : Node V). record n { value = v })) (seen_get c.live parents children k ∙ ap (option_map (node_at c.live parents children k)) there)))
-      | inr other ↦ by_live c.live q _
-          (λ live. along q live ∙ ap (option_map (node_at c.live parents children q)) (get-insert_other c.live k v q other) ∙ sym (seen_get c.live parents children q))
-          (λ gone. (let none = none_of (map.get c.live q) gone in
-          seen_get written.live parents children q ∙ ap (option_map (node_at written.live parents children q)) (get-insert_other c.live k v q other ∙ none)
-          ∙ sym (seen_get c.live parents children q ∙ ap (option_map (node_at c.live parents children q)) none)))
+      | inr other ↦ get_alike c parents children kept written written_indices parents children q (get-insert_other c.live k v q other) (along q)
           ∙ sym (changed_other nodes k (λ n. record n { value = v }) q other)
     ])
       where
-        along : (q : Key) → IsLive c q → map.get (nodes_by written.live parents children) q ≡ option_map (node_at c.live parents children q) (map.get written.live q)
-        along = get_along c parents children kept written written_indices parents children (λ q live. written_keys q ∙ live) (λ p. refl) (λ q live. sym (written_keys q) ∙ live) (λ i. refl)
+        along : (q : Key) → IsLive c q → (x : V) → node_at written.live parents children q x ≡ node_at c.live parents children q x
+        along = node_along c parents children kept written written_indices parents children (λ q live. written_keys q ∙ live) (λ p. refl) (λ q live. sym (written_keys q) ∙ live) (λ i. refl)
 
   -- a copy has the same parents and children
   module _ (is_clone : V → V → Type 0) (copy : Content V) (clones : IsCloneBy is_clone c copy) (capacity : copy.capacity ≡ c.capacity) where
@@ -385,11 +336,7 @@ module _ {V : Type 0} (c : Content V) (parents : List ℕ) (children : Lists) (k
 
     pub copied_kept : IsKept copy parents children
     copied_kept = kept_along c parents children kept copy copied_indices parents children (λ q live. copied_keys q ∙ live) (λ p. refl) (λ q live. sym (copied_keys q) ∙ live) (λ i. refl)
-        (record {
-          parents = (let covered = kept.covered.parents in omega arith);
-          owners = (let covered = kept.covered.owners in omega arith);
-          members = (let covered = kept.covered.members in omega arith);
-        }) kept.disjoint
+        (covers_less c.capacity copy.capacity parents children kept.covered (omega arith)) kept.disjoint
 
     pub copied_seen : IsCloneBy (IsNodeClone is_clone) (family c parents children) (family copy parents children)
     copied_seen = record {
