@@ -7,23 +7,22 @@ use Rattle.std.specs.FinMap.Entries.{find, below_all, is_sorted}
 use Rattle.std.proofs.Math.Nat.{eq-zero-or-pos}
 use Rattle.std.proofs.lemmas.List.{get_or_default, length-map, length-set, get_or-set_same, get_or-set_other}
 use Rattle.std.proofs.lemmas.Option.{same_Some}
-use Rattle.slotmap.specs.Words.{Key, key_cmp, Content, IsContent, IsLive, Inserts}
-use Rattle.slotmap.proofs.Callers.{keys_total, exact_keys, keys, tied, same_or_other, get-insert_here, get-insert_other, live-insert_still, inserted_fresh, clone_live}
+use Rattle.slotmap.specs.Words.{Key, key_cmp, Content, IsLive}
+use Rattle.slotmap.proofs.Callers.{keys_total, exact_keys, tied, same_or_other}
 use Rattle.slotmap_keylist.specs.KeyLists.{times}
 use Rattle.slotmap_keylist.specs.Linked.{first_or, last_or}
 use Rattle.slotmap_keylist.proofs.Counts.{one_itself, times_first}
 use Rattle.slotmap_keylist.proofs.MapKeys.{key_live}
 use Rattle.slotmap_keylist.proofs.Changed.{changed_gives, changed_keeps, changed_other}
 use Rattle.slotmap_keylist.proofs.Mapped.{some-mapped}
-use Rattle.slotmap_keylist.proofs.Shown.{shown_inserts}
 use Rattle.slotmap_links.specs.Lists.{Lists, list_of, times as often, first_or as first_number, last_or as last_number, number_after, number_before, with_list, IsIn, IsFree, AreDisjoint}
 use Rattle.slotmap_links.proofs.Callers.{list_now, list_other, owners_stay}
 use Rattle.slotmap_links.proofs.Counts.{times_first as often_first, one_itself as number_itself, same_or_other as same_or_other_number}
 use Rattle.slotmap_scene.specs.Node.{Node, Nodes, key_and_value}
-use Rattle.slotmap_scene.specs.Above.{roots_by, roots_in}
-use Rattle.slotmap_scene.specs.Climb.{parent_in, parent_of, has_node, with_parent}
+use Rattle.slotmap_scene.specs.Above.{roots_in}
+use Rattle.slotmap_scene.specs.Climb.{parent_in, parent_of, with_parent}
 use Rattle.slotmap_scene.specs.Family.{behind, children_in, in_front, children_of, value_of, with_children_in}
-use Rattle.slotmap_scene.specs.Kept.{AreCovered, AreIndices, CoversMore, HasKey, HaveIndices, IsKept, above, family, found_at, key_at, parent_index, keys_at, node_at, nodes_by, owner_of, roots_of}
+use Rattle.slotmap_scene.specs.Kept.{AreCovered, AreIndices, HasKey, HaveIndices, IsKept, above, found_at, key_at, parent_index, keys_at, node_at, nodes_by, owner_of, roots_of}
 use Rattle.slotmap_scene.proofs.Indices.{first_key, found_has, found_is, found_key, key_after, key_ahead, last_key, found_live, found_same, found_zero, keys_same, no_key, times_key}
 
 -- nodes with the same values, parents and children are the same

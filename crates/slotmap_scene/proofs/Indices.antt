@@ -1,5 +1,5 @@
 -- The keys of a map by their indices, and lists of keys by those of indices.
-use Rattle.std.proofs.Common.{◌≡◌, ◌≢◌, ℕ, ◌+◌, ◌<◌, ◌≤◌, Bool, true, false, cond, not, if◌then◌else◌, nat_eq, Option, Some, None, IfSome, IfNone, is_some, List, [], ◌∷◌, ◌++◌, unwrap_or, refl, sym, ap, ◌∙◌, inl, inr, arith, eq-eqb, eqb-true, map as list_map}
+use Rattle.std.proofs.Common.{◌≡◌, ◌≢◌, ℕ, ◌<◌, Bool, true, false, cond, not, if◌then◌else◌, nat_eq, Option, Some, None, IfSome, IfNone, List, [], ◌∷◌, ◌++◌, unwrap_or, refl, sym, ap, ◌∙◌, inl, inr, arith, eq-eqb, eqb-true}
 use Rattle.std.specs.Option.{option_map}
 use Rattle.std.specs.List.{find}
 use Rattle.std.specs.FinMap as map

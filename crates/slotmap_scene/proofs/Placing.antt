@@ -1,14 +1,14 @@
 -- A node is put among the children of another one or taken out of them, or gets another parent: what is kept then, and what it shows.
-use Rattle.std.proofs.Common.{◌≡◌, ◌≢◌, ◌+◌, ◌<◌, ◌≤◌, ℕ, cond, nat_eq, Option, Some, None, IfSome, List, [], ◌∷◌, ◌++◌, length, set, refl, true, false, sym, ap, subst, ◌∙◌, inl, inr, arith}
+use Rattle.std.proofs.Common.{◌≡◌, ◌≢◌, ◌+◌, ◌<◌, ◌≤◌, ℕ, cond, nat_eq, Option, Some, None, IfSome, List, [], ◌∷◌, ◌++◌, length, set, true, false, sym, ap, subst, ◌∙◌, inl, inr, arith}
 use Rattle.std.specs.FinMap as map
 use Rattle.std.proofs.lemmas.List.{map-append}
 use Rattle.slotmap.specs.Words.{Key, Content, IsLive}
 use Rattle.slotmap_keylist.specs.KeyLists.{times, without}
 use Rattle.slotmap_links.specs.Lists.{Lists, list_of, times as often, with_list, IsIn, IsFree, AreDisjoint, put_before, put_behind, without as without_number}
-use Rattle.slotmap_links.proofs.Counts.{times_first as often_first, times_joined as often_joined, times_gone as often_gone, times_without as often_without, one_itself as number_itself, one_other as number_other, same as same_number, same_or_other as same_or_other_number}
+use Rattle.slotmap_links.proofs.Counts.{times_first as often_first, times_joined as often_joined, times_gone as often_gone, times_without as often_without, one_other as number_other, same as same_number, same_or_other as same_or_other_number}
 use Rattle.slotmap_scene.specs.declared.tree.Side.{Side}
 use Rattle.slotmap_scene.specs.declared.tree.Side.TheVariants.{Before, After}
-use Rattle.slotmap_scene.specs.Node.{Node, Nodes}
+use Rattle.slotmap_scene.specs.Node.{Node}
 use Rattle.slotmap_scene.specs.Climb.{has_node, parent_of, with_parent}
 use Rattle.slotmap_scene.specs.Family.{children_of, placed, with_children_in, without_child}
 use Rattle.slotmap_scene.specs.Kept.{AreIndices, HasKey, IsKept, IsParent, above, beside, family, parent_index, key_at, keys_at}

@@ -1,5 +1,5 @@
 -- What a call makes of the nodes of a scene, as a whole: nodes come or go, more places are made, a value is written, or all is copied.
-use Rattle.std.proofs.Common.{◌≡◌, ◌≢◌, ◌-◌, ◌+◌, ◌⊎◌, ◌<◌, ◌≤◌, ℕ, zero, suc, true, false, cond, nat_lt, Option, Some, None, IfSome, Result, Ok, Err, IsOk, IsErr, OnOk, OnErr, is_some, is_ok, if◌then◌else◌, max, List, [], ◌∷◌, ◌++◌, length, length-append, replicate, set, take, map as list_map, refl, sym, ap, subst, ◌∙◌, inl, inr, arith}
+use Rattle.std.proofs.Common.{◌≡◌, ◌≢◌, ◌-◌, ◌+◌, ◌⊎◌, ◌<◌, ◌≤◌, ℕ, zero, suc, true, false, cond, nat_lt, Option, Some, None, IfSome, Result, Ok, Err, IsOk, IsErr, OnOk, OnErr, is_some, is_ok, if◌then◌else◌, max, List, [], ◌∷◌, ◌++◌, length, length-append, replicate, set, take, refl, sym, ap, subst, ◌∙◌, inl, inr, arith}
 use Rattle.std.specs.Option.{option_map}
 use Rattle.std.specs.FinMap as map
 use Rattle.std.proofs.lemmas.List.{length-replicate, length-set, get_or-set_same, get_or-set_other, take_all}
@@ -7,7 +7,7 @@ use Rattle.slotmap.specs.Words.{Key, key_cmp, Content, IsContent, IsLive, KeepsS
 use Rattle.slotmap_bounded.specs.Bounded.{capacity_with, grown}
 use Rattle.std.proofs.lemmas.Bool.Decides.{nat_tests}
 use Rattle.slotmap.specs.Words as words
-use Rattle.slotmap.proofs.Callers.{keys_total, exact_keys, keys, none_of, same_or_other, get-insert_here, get-insert_other, live-insert_still, inserted_fresh, clone_live}
+use Rattle.slotmap.proofs.Callers.{keys_total, exact_keys, keys, same_or_other, get-insert_here, get-insert_other, live-insert_still, inserted_fresh, clone_live}
 use Rattle.slotmap_keylist.specs.KeyLists.{times}
 use Rattle.slotmap_keylist.proofs.Changed.{changed_here, changed_other}
 use Rattle.slotmap_keylist.proofs.Shown.{shown_content, shown_inserts, shown_keeps, shown_keeps_spent, shown_leaves, shown_makes_room}
@@ -18,8 +18,8 @@ use Rattle.slotmap_scene.specs.Node.{Node, Nodes}
 use Rattle.slotmap_scene.specs.Climb.{parent_of}
 use Rattle.slotmap_scene.specs.Family.{IsNodeClone, child, children_of, with_value}
 use Rattle.slotmap_scene.specs.Kept.{AreCovered, CoversMore, HoldsMore, HasKey, HaveIndices, IsKept, above, family, found_at, parent_index, keys_at, node_at, nodes_by}
-use Rattle.slotmap_scene.proofs.Indices.{found_live, found_zero}
-use Rattle.slotmap_scene.proofs.Families.{above_still, by_live, children_live, list_none, get_alike, get_along, indices_still, kept_along, node_along, covers_less, parent_found, parent_has, kept_still, node_still, nowhere, parent_live, seen_get, seen_has, seen_len}
+use Rattle.slotmap_scene.proofs.Indices.{found_live}
+use Rattle.slotmap_scene.proofs.Families.{above_still, children_live, list_none, get_alike, get_along, indices_still, kept_along, node_along, covers_less, parent_found, parent_has, kept_still, node_still, nowhere, parent_live, seen_get, seen_has, seen_len}
 
 -- what is known of the values is known of the nodes
 module _ {V : Type 0} (c : Content V) (parents : List ℕ) (children : Lists) where

@@ -1,7 +1,7 @@
 use Rattle.std.proofs.Common.{◌≡◌, ◌∷◌, Some, sym, ap, subst, ◌∙◌}
 use Rattle.std.proofs.lemmas.Option.{same_Some}
 use Rattle.slotmap_scene.specs.Kept.{AreIndices, key_at, keys_at}
-use Rattle.slotmap_scene.proofs.Indices.{first_index, found_is, found_key, later_indices}
+use Rattle.slotmap_scene.proofs.Indices.{first_index, found_is, found_key}
 use Rattle.slotmap_scene.proofs.children.ChildKeysIterator.next.Goals as goal
 
 pub returns-in_err-key_at-clause-steps : goal.returns-in_err-key_at-clause-steps

@@ -1,4 +1,3 @@
-use Rattle.std.proofs.Common.{◌≡◌}
 use Rattle.std.specs.List.{each_same}
 use Rattle.slotmap_scene.proofs.SceneSteps.{copied_kept, copied_seen}
 use Rattle.slotmap_scene.proofs.clone.NodesClone.clone.Goals as goal

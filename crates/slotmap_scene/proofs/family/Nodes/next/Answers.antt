@@ -1,10 +1,7 @@
-use Rattle.std.proofs.Common.{◌≡◌, ◌<◌, is_some, sym, ap, subst, ◌∙◌}
+use Rattle.std.proofs.Common.{◌≡◌, sym, ap, ◌∙◌}
 use Rattle.std.specs.Option.{option_map}
-use Rattle.std.specs.FinMap as map
-use Rattle.slotmap_keylist.specs.KeyLists.{times}
-use Rattle.slotmap_links.specs.Lists.{list_of, number_after, IsIn}
-use Rattle.slotmap_scene.specs.Family.{children_of}
-use Rattle.slotmap_scene.specs.Kept.{key_at, nodes_by}
+use Rattle.slotmap_links.specs.Lists.{list_of, number_after}
+use Rattle.slotmap_scene.specs.Kept.{key_at}
 use Rattle.slotmap_scene.proofs.Indices.{after_inside}
 use Rattle.slotmap_scene.proofs.Families.{child_in, indices_at, key_found, next_seen}
 use Rattle.slotmap_scene.proofs.family.Nodes.next.Goals as goal

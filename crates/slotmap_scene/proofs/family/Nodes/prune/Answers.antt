@@ -1,4 +1,4 @@
-use Rattle.std.proofs.Common.{is_some, refl, sym, ap, ◌∙◌, arith, option_map}
+use Rattle.std.proofs.Common.{is_some, refl, sym, ap, ◌∙◌, option_map}
 use Rattle.slotmap.proofs.Callers.{leaves_in_turn}
 use Rattle.slotmap_keylist.specs.KeyLists.{times, without}
 use Rattle.slotmap_keylist.proofs.Counts.{times_gone}

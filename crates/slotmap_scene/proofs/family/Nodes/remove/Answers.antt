@@ -1,11 +1,5 @@
 use Rattle.std.proofs.Common.{true, is_some, sym, ap, ◌∙◌}
-use Rattle.slotmap.specs.Words.{Key, Content}
 use Rattle.slotmap.proofs.Callers.{leaves_by_removal}
-use Rattle.slotmap_keylist.specs.KeyLists.{times}
-use Rattle.slotmap_scene.specs.Node.{Node}
-use Rattle.slotmap_scene.specs.Climb.{parent_of}
-use Rattle.slotmap_scene.specs.Family.{children_of}
-use Rattle.std.specs.FinMap as map
 use Rattle.slotmap_scene.proofs.Families.{seen_value}
 use Rattle.slotmap_scene.proofs.Placing.{is_live}
 use Rattle.slotmap_scene.proofs.SceneSteps.{family_leaves, gone_kept, gone_seen}

@@ -1,4 +1,4 @@
-use Rattle.std.proofs.Common.{ap, ◌∙◌, arith}
+use Rattle.std.proofs.Common.{ap, ◌∙◌}
 use Rattle.slotmap_links.specs.Lists.{list_of}
 use Rattle.slotmap_links.proofs.Changes.{list_cleared}
 use Rattle.slotmap_scene.proofs.SceneSteps.{bare_kept, bare_seen}
