@@ -147,7 +147,7 @@ indices_still c d indices were more = record {
   apart = λ a b of_a of_b. indices.apart a b (were a of_a) (were b of_b);
 }
 
-module _ {V : Type 0} (c : Content V) (parents : List ℕ) (children : Lists) (kept : IsKept c parents children) where
+module _ {V : Type 0} {c : Content V} {parents : List ℕ} {children : Lists} (kept : IsKept c parents children) where
   abbrev nodes : Nodes V
   nodes = nodes_by c.live parents children
 

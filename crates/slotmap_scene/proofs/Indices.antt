@@ -105,9 +105,6 @@ module _ {T : Type 0} (c : Content T) (indices : HaveIndices c) where
   pub last_index : (is : List ℕ) (i : ℕ) → AreIndices c (is ++ i ∷ []) → HasKey c i
   last_index is i all = all i (let joined = often_joined i is (i ∷ []) in let first = often_first i i [] in let one = number_itself i in omega arith)
 
-  pub front_indices : (is : List ℕ) (i : ℕ) → AreIndices c (is ++ i ∷ []) → AreIndices c is
-  front_indices is i all j more = all j (let joined = often_joined j is (i ∷ []) in omega arith)
-
   -- two keys are one where their indices are
   same_at : (i : ℕ) → HasKey c i → (k : Key) → IsLive c k → is_key (key_at c.live i) k ≡ nat_eq i k.index
   same_at i has k live = elim (same_or_other has.0 k) [

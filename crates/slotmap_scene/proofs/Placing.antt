@@ -35,21 +35,22 @@ module _ (s k i : ℕ) where
   beside_few Before = before_few
   beside_few After = behind_few
 
-module _ {V : Type 0} (c : Content V) (parents : List ℕ) (children : Lists) (kept : IsKept c parents children) (self : Content (Node V)) (view : family c parents children ≡ self) where
+module _ {V : Type 0} {c : Content V} {parents : List ℕ} {children : Lists} (kept : IsKept c parents children)
+    {self : Content (Node V)} (view : family c parents children ≡ self) where
   pub is_live : (k : Key) → has_node self.live k → IsLive c k
   is_live k there = sym (seen_has c.live parents children k) ∙ ap (λ (s : Content (Node V)). map.contains_key s.live k) view ∙ there
 
   pub owner_there : (p : Key) → has_node self.live p → p.index < length children.lists
-  owner_there p there = (has_place c parents children kept p (is_live p there)).owners
+  owner_there p there = (has_place kept p (is_live p there)).owners
 
   pub place_there : (k : Key) → has_node self.live k → k.index < length parents
-  place_there k there = (has_place c parents children kept k (is_live k there)).parents
+  place_there k there = (has_place kept k (is_live k there)).parents
 
   pub free_there : (k : Key) → has_node self.live k → ((p : Key) → times k (children_of self.live p) ≡ 0) → IsFree children k.index
-  free_there k there alone = is_free c parents children kept k (is_live k there) (λ p. ap (λ (s : Content (Node V)). times k (children_of s.live p)) view ∙ alone p)
+  free_there k there alone = is_free kept k (is_live k there) (λ p. ap (λ (s : Content (Node V)). times k (children_of s.live p)) view ∙ alone p)
 
   pub child_there : (p k : Key) → 0 < times k (children_of self.live p) → IsIn children p.index k.index
-  child_there p k more = (child_in c parents children kept p k (let same = ap (λ (s : Content (Node V)). times k (children_of s.live p)) view in omega arith)).2
+  child_there p k more = (child_in kept p k (let same = ap (λ (s : Content (Node V)). times k (children_of s.live p)) view in omega arith)).2
 
   -- the children of p are others
   abbrev Relists : Key → Lists → (List Key → List Key) → Type 0
@@ -58,8 +59,8 @@ module _ {V : Type 0} (c : Content V) (parents : List ℕ) (children : Lists) (k
   relists : (p : Key) → IsLive c p → (is : List ℕ) → AreIndices c is → (f : List Key → List Key) → keys_at c.live is ≡ f (keys_at c.live (list_of children p.index))
       → (new : Lists) → new ≡ with_list children p.index is → AreDisjoint new → Relists p new f
   relists p live is all f made new new_is disjoint = (
-    relisted c parents children kept p live is all f made new new_is disjoint,
-    ap (λ n. record (family c parents children) { live = n }) (relisted_seen c parents children kept p live is all f made new new_is)
+    relisted kept p live is all f made new new_is disjoint,
+    ap (λ n. record (family c parents children) { live = n }) (relisted_seen kept p live is all f made new new_is)
         ∙ ap (λ (s : Content (Node V)). record s { live = with_children_in s.live p (map.get s.live p) f }) view,
   )
 
@@ -68,7 +69,7 @@ module _ {V : Type 0} (c : Content V) (parents : List ℕ) (children : Lists) (k
     was_list = list_of children p.index
 
     had : AreIndices c was_list
-    had = indices_at c parents children kept p.index
+    had = indices_at kept p.index
 
     came : (i : ℕ) → 0 < often i was_list + same_number k.index i → HasKey c i
     came i more = elim (same_or_other_number k.index i) [
@@ -91,7 +92,7 @@ module _ {V : Type 0} (c : Content V) (parents : List ℕ) (children : Lists) (k
 
     pub put_on_side : (side : Side) (s : Key) → 0 < times s (children_of self.live p) → new ≡ with_list children p.index (beside side s.index k.index was_list) → AreDisjoint new → Relists p new (placed side s k)
     put_on_side side s sibling =
-        let inside = child_in c parents children kept p s (let same = ap (λ (s' : Content (Node V)). times s (children_of s'.live p)) view in omega arith) in
+        let inside = child_in kept p s (let same = ap (λ (s' : Content (Node V)). times s (children_of s'.live p)) view in omega arith) in
         relists p (is_live p there) (beside side s.index k.index was_list)
         (λ i more. came i (let few = beside_few s.index k.index i side was_list in omega arith))
         (placed side s k) (key_beside c kept.indices s k inside.1 (is_live k node) side was_list had inside.2) new
@@ -100,17 +101,17 @@ module _ {V : Type 0} (c : Content V) (parents : List ℕ) (children : Lists) (k
   module _ (k : Key) (node : has_node self.live k) (parent : ℕ) (read : parent ≡ above parents k.index) where
     pub left_none : parent ≡ 0 → self ≡ record self { live = without_child self.live (parent_of self.live k) k }
     left_none none =
-        let own = ap (λ (s : Content (Node V)). parent_of s.live k) (sym view) ∙ above_none c parents children kept k (is_live k node) (sym read ∙ none) in
+        let own = ap (λ (s : Content (Node V)). parent_of s.live k) (sym view) ∙ above_none kept k (is_live k node) (sym read ∙ none) in
         ap (λ o. record self { live = without_child self.live o k }) (sym own)
 
     module _ (some : parent ≢ 0) where
       up : (p : Key) × IsLive c p × (p.index ≡ parent) × (parent_of self.live k ≡ Some p)
       up =
-          let above_k = above_has c parents children kept k (is_live k node) (λ none. some (read ∙ none)) in
+          let above_k = above_has kept k (is_live k node) (λ none. some (read ∙ none)) in
           (above_k.0, above_k.1, above_k.2 ∙ sym read, ap (λ (s : Content (Node V)). parent_of s.live k) (sym view) ∙ above_k.3)
 
       pub left_below : parent < length children.lists
-      left_below = subst (λ p. p < length children.lists) up.2 (has_place c parents children kept up.0 up.1).owners
+      left_below = subst (λ p. p < length children.lists) up.2 (has_place kept up.0 up.1).owners
 
       pub left_listed : ((p : Key) → parent_of self.live k ≡ Some p → times k (children_of self.live p) ≡ 1) → IsIn children parent k.index
       left_listed once = subst (λ p. IsIn children p k.index) up.2 (child_there up.0 k (let one = once up.0 up.3 in omega arith))
@@ -122,9 +123,9 @@ module _ {V : Type 0} (c : Content V) (parents : List ℕ) (children : Lists) (k
           let left_p = relists p up.1 (without_number k.index (list_of children p.index))
           (λ i more. elim (same_or_other_number i k.index) [
             | inl at ↦ absurd (let none = ap (λ j. often j (without_number k.index (list_of children p.index))) at ∙ often_gone k.index (list_of children p.index) in omega arith)
-            | inr apart ↦ indices_at c parents children kept p.index i (let same = often_without k.index i (list_of children p.index) apart in omega arith)
+            | inr apart ↦ indices_at kept p.index i (let same = often_without k.index i (list_of children p.index) apart in omega arith)
           ])
-          (without k) (without_key c kept.indices k (is_live k node) (list_of children p.index) (indices_at c parents children kept p.index))
+          (without k) (without_key c kept.indices k (is_live k node) (list_of children p.index) (indices_at kept p.index))
           new (subst (λ p. new ≡ with_list children p (without_number k.index (list_of children p))) (sym up.2) new_is) disjoint in
           (left_p.0, left_p.1 ∙ ap (λ o. record self { live = without_child self.live o k }) (sym up.3))
 
@@ -136,7 +137,7 @@ module _ {V : Type 0} (c : Content V) (parents : List ℕ) (children : Lists) (k
   pub hangs : (k : Key) → has_node self.live k → (o : Option Key) → IsParent self.live o → (new : List ℕ) → new ≡ set parents k.index (parent_index o)
       → IsKept c new children × (family c new children ≡ record self { live = with_parent self.live k o })
   hangs k node o is_parent new new_is = (
-    hung c parents children kept k o (parent_alive o is_parent) (is_live k node) new new_is,
-    ap (λ n. record (family c parents children) { live = n }) (hung_seen c parents children kept k o (parent_alive o is_parent) (is_live k node) new new_is)
+    hung kept k o (parent_alive o is_parent) (is_live k node) new new_is,
+    ap (λ n. record (family c parents children) { live = n }) (hung_seen kept k o (parent_alive o is_parent) (is_live k node) new new_is)
         ∙ ap (λ (s : Content (Node V)). record s { live = with_parent s.live k o }) view,
   )

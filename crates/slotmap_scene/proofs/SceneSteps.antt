@@ -33,14 +33,8 @@ module _ {V : Type 0} (c : Content V) (parents : List ℕ) (children : Lists) wh
     abbrev seen_now : Nodes V
     seen_now = nodes_by d.live parents' children'
 
-    pub family_spent : KeepsSpent c d → KeepsSpent (family c parents children) (family d parents' children')
-    family_spent = shown_keeps_spent c d seen_was seen_now (seen_has c.live parents children) (seen_len c.live parents children) (seen_has d.live parents' children') (seen_len d.live parents' children')
-
     pub family_leaves : Leaves c d → Leaves (family c parents children) (family d parents' children')
     family_leaves = shown_leaves c d seen_was seen_now (seen_has c.live parents children) (seen_len c.live parents children) (seen_has d.live parents' children') (seen_len d.live parents' children')
-
-    pub family_keeps : seen_now ≡ seen_was → Keeps c d → Keeps (family c parents children) (family d parents' children')
-    family_keeps = shown_keeps c d seen_was seen_now (seen_has c.live parents children) (seen_len c.live parents children) (seen_has d.live parents' children') (seen_len d.live parents' children')
 
     pub family_room : seen_now ≡ seen_was → (n : ℕ) (ok : Type 0) → MakesRoom true c n ok d → MakesRoom true (family c parents children) n ok (family d parents' children')
     family_room same = shown_makes_room c d seen_was seen_now (seen_has c.live parents children) (seen_len c.live parents children) (seen_has d.live parents' children') (seen_len d.live parents' children') same true
@@ -133,7 +127,7 @@ module _ {V : Type 0} (c : Content V) (none : c.live ≡ map.empty) (parents : L
   pub bare_seen : nodes_by c.live parents children ≡ map.empty
   bare_seen = map.same_map keys_total exact_keys _ _ (λ q. seen_get c.live parents children q ∙ ap (option_map (node_at c.live parents children q)) (no_live q) ∙ sym (map.get-empty {X = Node V} key_cmp q))
 
-module _ {V : Type 0} (c : Content V) (parents : List ℕ) (children : Lists) (kept : IsKept c parents children) where
+module _ {V : Type 0} {c : Content V} {parents : List ℕ} {children : Lists} (kept : IsKept c parents children) where
   abbrev nodes : Nodes V
   nodes = nodes_by c.live parents children
 
@@ -146,11 +140,11 @@ module _ {V : Type 0} (c : Content V) (parents : List ℕ) (children : Lists) (k
     grown_indices = indices_still c d kept.indices (λ k live. sym (same_live k) ∙ live) more
 
     pub grown_kept : AreCovered d.capacity parents' children' → IsKept d parents' children'
-    grown_kept covered = kept_along c parents children kept d grown_indices parents' children' (λ q live. same_live q ∙ live) grows.lists (λ q live. sym (same_live q) ∙ live) holds.same covered grows.disjoint
+    grown_kept covered = kept_along kept d grown_indices parents' children' (λ q live. same_live q ∙ live) grows.lists (λ q live. sym (same_live q) ∙ live) holds.same covered grows.disjoint
 
     pub grown_seen : nodes_by d.live parents' children' ≡ nodes
-    grown_seen = map.same_map keys_total exact_keys _ _ (λ q. get_alike c parents children kept d grown_indices parents' children' q (ap (λ m. map.get m q) same)
-        (λ live. node_along c parents children kept d grown_indices parents' children' (λ q live. same_live q ∙ live) grows.lists (λ q live. sym (same_live q) ∙ live) holds.same q live))
+    grown_seen = map.same_map keys_total exact_keys _ _ (λ q. get_alike kept d grown_indices parents' children' q (ap (λ m. map.get m q) same)
+        (λ live. node_along kept d grown_indices parents' children' (λ q live. same_live q ∙ live) grows.lists (λ q live. sym (same_live q) ∙ live) holds.same q live))
 
   -- places are made, and no room
   module _ (parents' : List ℕ) (children' : Lists) (holds : HoldsMore parents parents') (covers : CoversMore children children') where
@@ -204,7 +198,7 @@ module _ {V : Type 0} (c : Content V) (parents : List ℕ) (children : Lists) (k
     parent_stays (Some p) is = stays p is
 
     pub came_kept : IsKept d new children
-    came_kept = kept_still c parents children kept d came_indices new children stays (λ p. refl)
+    came_kept = kept_still kept d came_indices new children stays (λ p. refl)
         (record {
           parents = (let n = ap length new_is ∙ length-set parents k.index (parent_index o) in let covered = kept.covered.parents in omega arith);
           owners = (let covered = kept.covered.owners in omega arith);
@@ -214,7 +208,7 @@ module _ {V : Type 0} (c : Content V) (parents : List ℕ) (children : Lists) (k
         (λ q live. elim (same_or_other q k) [
           | inl at ↦ subst (λ i. (i ≡ 0) ⊎ HasKey d i) (sym (ap (λ (q : Key). above new q.index) at ∙ came_above)) (parent_has d o (parent_stays o is_parent))
           | inr other ↦ (let was = sym (ap is_some (came_other q other)) ∙ live in
-              above_still c parents children kept d came_indices new children stays (λ p. refl) (above parents q.index) (above new q.index) (above_other q was) (kept.has_parent q was))
+              above_still kept d came_indices new children stays (λ p. refl) (above parents q.index) (above new q.index) (above_other q was) (kept.has_parent q was))
         ])
 
     came_seen : nodes_by d.live new children ≡ map.insert nodes k (child o v)
@@ -223,11 +217,11 @@ module _ {V : Type 0} (c : Content V) (parents : List ℕ) (children : Lists) (k
           ∙ (λ i. Some (record {
             value = v;
             parent = (ap (found_at d.live) came_above ∙ parent_found d came_indices o (parent_stays o is_parent)) i;
-            children = ap (keys_at d.live) (list_none c parents children kept k.index (λ x live. no_other x live)) i;
+            children = ap (keys_at d.live) (list_none kept k.index (λ x live. no_other x live)) i;
           }))
           ∙ sym (get-insert_here nodes k (child o v)))
-      | inr other ↦ get_alike c parents children kept d came_indices new children q (came_other q other)
-          (λ live. node_still c parents children kept d came_indices new children q live (above_other q live) refl (λ p of_c _. stays p of_c) (λ x of_c _. stays x of_c))
+      | inr other ↦ get_alike kept d came_indices new children q (came_other q other)
+          (λ live. node_still kept d came_indices new children q live (above_other q live) refl (λ p of_c _. stays p of_c) (λ x of_c _. stays x of_c))
           ∙ sym (get-insert_other nodes k (child o v) q other)
     ])
 
@@ -257,7 +251,7 @@ module _ {V : Type 0} (c : Content V) (parents : List ℕ) (children : Lists) (k
 
     -- no list has it, and it has none
     unlisted : (p i : ℕ) → IsIn children p i → i ≢ k.index
-    unlisted p i inside at = let none = nowhere c parents children kept k live alone p in let here = ap (λ i. often i (list_of children p)) at in omega arith
+    unlisted p i inside at = let none = nowhere kept k live alone p in let here = ap (λ i. often i (list_of children p)) at in omega arith
 
     ownerless : list_of children k.index ≡ []
     ownerless = by (list_of children k.index) (sym (children_live c.live parents children k live) ∙ leaf)
@@ -292,7 +286,7 @@ module _ {V : Type 0} (c : Content V) (parents : List ℕ) (children : Lists) (k
     pub gone_seen : nodes_by d.live parents children ≡ map.remove nodes k
     gone_seen = map.same_map keys_total exact_keys _ _ (λ q. elim (same_or_other q k) [
       | inl at ↦ rw at (seen_get d.live parents children k ∙ ap (option_map (node_at d.live parents children k)) (ap (λ m. map.get m k) is ∙ gone_here c.live) ∙ sym (gone_here nodes))
-      | inr other ↦ get_alike c parents children kept d left_indices parents children q (left_get q other) (λ of_q. node_still c parents children kept d left_indices parents children q of_q refl refl
+      | inr other ↦ get_alike kept d left_indices parents children q (left_get q other) (λ of_q. node_still kept d left_indices parents children q of_q refl refl
           (λ p of_c at. ap is_some (left_get p (λ e. not_above q of_q (sym at ∙ ap (λ (q : Key). q.index) e))) ∙ of_c)
           (λ x of_c inside. ap is_some (left_get x (λ e. unlisted q.index x.index inside (ap (λ (q : Key). q.index) e))) ∙ of_c))
           ∙ sym (gone_other nodes q other)
@@ -313,18 +307,18 @@ module _ {V : Type 0} (c : Content V) (parents : List ℕ) (children : Lists) (k
     written_indices = indices_still c written kept.indices (λ q live. sym (written_keys q) ∙ live) (omega arith)
 
     pub written_kept : IsKept written parents children
-    written_kept = kept_along c parents children kept written written_indices parents children (λ q live. written_keys q ∙ live) (λ p. refl) (λ q live. sym (written_keys q) ∙ live) (λ i. refl) kept.covered kept.disjoint
+    written_kept = kept_along kept written written_indices parents children (λ q live. written_keys q ∙ live) (λ p. refl) (λ q live. sym (written_keys q) ∙ live) (λ i. refl) kept.covered kept.disjoint
 
     pub written_seen : nodes_by written.live parents children ≡ with_value nodes k v
     written_seen = map.same_map keys_total exact_keys _ _ (λ q. elim (same_or_other q k) [
       | inl at ↦ rw at (seen_get written.live parents children k ∙ ap (option_map (node_at written.live parents children k)) (get-insert_here c.live k v) ∙ ap Some (along k (ap is_some there) v)
           ∙ sym (changed_here nodes k (λ n. record n { value = v }) ∙ ap (option_map (λ (n : Node V). record n { value = v })) (seen_get c.live parents children k ∙ ap (option_map (node_at c.live parents children k)) there)))
-      | inr other ↦ get_alike c parents children kept written written_indices parents children q (get-insert_other c.live k v q other) (along q)
+      | inr other ↦ get_alike kept written written_indices parents children q (get-insert_other c.live k v q other) (along q)
           ∙ sym (changed_other nodes k (λ n. record n { value = v }) q other)
     ])
       where
         along : (q : Key) → IsLive c q → (x : V) → node_at written.live parents children q x ≡ node_at c.live parents children q x
-        along = node_along c parents children kept written written_indices parents children (λ q live. written_keys q ∙ live) (λ p. refl) (λ q live. sym (written_keys q) ∙ live) (λ i. refl)
+        along = node_along kept written written_indices parents children (λ q live. written_keys q ∙ live) (λ p. refl) (λ q live. sym (written_keys q) ∙ live) (λ i. refl)
 
   -- a copy has the same parents and children
   module _ (is_clone : V → V → Type 0) (copy : Content V) (clones : IsCloneBy is_clone c copy) (capacity : copy.capacity ≡ c.capacity) where
@@ -335,7 +329,7 @@ module _ {V : Type 0} (c : Content V) (parents : List ℕ) (children : Lists) (k
     copied_indices = indices_still c copy kept.indices (λ q live. sym (copied_keys q) ∙ live) (omega arith)
 
     pub copied_kept : IsKept copy parents children
-    copied_kept = kept_along c parents children kept copy copied_indices parents children (λ q live. copied_keys q ∙ live) (λ p. refl) (λ q live. sym (copied_keys q) ∙ live) (λ i. refl)
+    copied_kept = kept_along kept copy copied_indices parents children (λ q live. copied_keys q ∙ live) (λ p. refl) (λ q live. sym (copied_keys q) ∙ live) (λ i. refl)
         (covers_less c.capacity copy.capacity parents children kept.covered (omega arith)) kept.disjoint
 
     pub copied_seen : IsCloneBy (IsNodeClone is_clone) (family c parents children) (family copy parents children)
@@ -355,5 +349,5 @@ module _ {V : Type 0} (c : Content V) (parents : List ℕ) (children : Lists) (k
         by : (q : Key) (o : Option V) → map.get c.live q ≡ o → IsCloneOf is_clone o (map.get copy.live q) → IsCloneOf (IsNodeClone is_clone) (option_map (node_at c.live parents children q) o) (map.get (nodes_by copy.live parents children) q)
         by q None there is = seen_get copy.live parents children q ∙ ap (option_map (node_at copy.live parents children q)) is
         by q (Some v) there is = subst (IsCloneOf (IsNodeClone is_clone) (Some (node_at c.live parents children q v)))
-            (sym (get_along c parents children kept copy copied_indices parents children (λ q live. copied_keys q ∙ live) (λ p. refl) (λ q live. sym (copied_keys q) ∙ live) (λ i. refl) q (ap is_some there)))
+            (sym (get_along kept copy copied_indices parents children (λ q live. copied_keys q ∙ live) (λ p. refl) (λ q live. sym (copied_keys q) ∙ live) (λ i. refl) q (ap is_some there)))
             (at q v (map.get copy.live q) is)

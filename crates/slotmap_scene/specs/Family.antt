@@ -44,11 +44,6 @@ abbrev pub placed : Side → Key → Key → List Key → List Key
 placed side s k [] = k ∷ []
 placed side s k (q ∷ qs) = cond (is_key q s) (beside_first side k q qs) (q ∷ placed side s k qs)
 
--- the two parts of a list that a place on this side of s is between, where these keys are before s and behind it
-abbrev pub around : Side → List Key → Key → List Key → List Key × List Key
-around Before before s after = (before, s ∷ after)
-around After before s after = (before ++ s ∷ [], after)
-
 module _ {T : Type 0} where
   -- the children of a node, if there is one
   abbrev pub children_in : Option (Node T) → List Key

@@ -4,8 +4,8 @@ use Rattle.slotmap_scene.proofs.clone.NodesClone.clone.Goals as goal
 
 pub invariant_of-result : goal.invariant_of-result
 invariant_of-result g c = rw (each_same c.self.inside.parents.items c.in_ok-clone-2.field-0.items c.in_ok-clone-2.ensures.cases.0, c.in_ok-clone-3.ensures)
-    (copied_kept c.self.inside.values c.self.inside.parents.items c.self.inside.children c.self.invariant g.T.Clone.is_clone c.in_ok-clone.field-0 c.in_ok-clone.ensures.clones c.in_ok-clone.ensures.capacity)
+    (copied_kept c.self.invariant g.T.Clone.is_clone c.in_ok-clone.field-0 c.in_ok-clone.ensures.clones c.in_ok-clone.ensures.capacity)
 
 pub returns : goal.returns
 returns g c = rw (each_same c.self.inside.parents.items c.in_ok-clone-2.field-0.items c.in_ok-clone-2.ensures.cases.0, c.in_ok-clone-3.ensures, ← c.self.view_is)
-    (record { cases = copied_seen c.self.inside.values c.self.inside.parents.items c.self.inside.children c.self.invariant g.T.Clone.is_clone c.in_ok-clone.field-0 c.in_ok-clone.ensures.clones c.in_ok-clone.ensures.capacity })
+    (record { cases = copied_seen c.self.invariant g.T.Clone.is_clone c.in_ok-clone.field-0 c.in_ok-clone.ensures.clones c.in_ok-clone.ensures.capacity })

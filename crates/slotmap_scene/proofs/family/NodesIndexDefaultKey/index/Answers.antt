@@ -4,7 +4,7 @@ use Rattle.slotmap_scene.proofs.Placing.{is_live}
 use Rattle.slotmap_scene.proofs.family.NodesIndexDefaultKey.index.Goals as goal
 
 pub value-requires : goal.value-requires
-value-requires g c = is_live c.self.inside.values c.self.inside.parents.items c.self.inside.children c.self.invariant c.args.self.now c.self.view_is c.args.node c.requires
+value-requires g c = is_live c.self.invariant c.self.view_is c.args.node c.requires
 
 pub returns : goal.returns
 returns g c = rw (← c.self.view_is) (seen_value c.self.inside.values.live c.self.inside.parents.items c.self.inside.children c.args.node ∙ c.value.ensures)
