@@ -1,5 +1,6 @@
 -- The keys of a map by their indices, and lists of keys by those of indices.
-use Rattle.std.proofs.Common.{◌≡◌, ◌≢◌, ℕ, ◌<◌, Bool, true, false, cond, not, if◌then◌else◌, nat_eq, Option, Some, None, IfSome, IfNone, List, [], ◌∷◌, ◌++◌, unwrap_or, refl, sym, ap, ◌∙◌, inl, inr, arith, eq-eqb, eqb-true}
+use Rattle.std.proofs.Common.{◌≡◌, ◌≢◌, ℕ, ◌<◌, Bool, true, false, cond, not, if◌then◌else◌, nat_eq, Option, Some, None, IfSome}
+use Rattle.std.proofs.Common.{IfNone, List, [], ◌∷◌, ◌++◌, unwrap_or, refl, sym, ap, ◌∙◌, inl, inr, arith, eq-eqb, eqb-true}
 use Rattle.std.specs.Option.{option_map}
 use Rattle.std.specs.List.{find}
 use Rattle.std.specs.FinMap as map
@@ -10,8 +11,10 @@ use Rattle.slotmap_keylist.specs.KeyLists.{is_key, same, times, without}
 use Rattle.slotmap_keylist.specs.Linked.{first_or, last_or}
 use Rattle.slotmap_keylist.proofs.Counts.{is_itself, is_other, one_itself, one_other, times_first}
 use Rattle.slotmap_keylist.proofs.MapKeys.{key_live, key_there}
-use Rattle.slotmap_links.specs.Lists.{times as often, without as without_number, first_or as first_number, last_or as last_number, number_after, number_before, put_before, put_behind}
-use Rattle.slotmap_links.proofs.Counts.{times_first as often_first, times_joined as often_joined, one_itself as number_itself, is_other as other_number, same as same_number, same_or_other as same_or_other_number}
+use Rattle.slotmap_links.specs.Lists.{times as often, without as without_number, first_or as first_number, last_or as last_number, number_after}
+use Rattle.slotmap_links.specs.Lists.{number_before, put_before, put_behind}
+use Rattle.slotmap_links.proofs.Counts.{times_first as often_first, times_joined as often_joined, one_itself as number_itself, is_other as other_number}
+use Rattle.slotmap_links.proofs.Counts.{same as same_number, same_or_other as same_or_other_number}
 use Rattle.slotmap_links.proofs.Linking.{first_in}
 use Rattle.slotmap_scene.specs.declared.tree.Side.{Side}
 use Rattle.slotmap_scene.specs.declared.tree.Side.TheVariants.{Before, After}
@@ -29,7 +32,8 @@ first_found p (q ∷ ks) k is = elim (p q) as (λ b. p q ≡ b → cond b (Some 
 ] refl is
 
 -- one key has the index
-find_only : (ks : List Key) (k : Key) → 0 < times k ks → ((q : Key) → 0 < times q ks → q.index ≡ k.index → q ≡ k) → find (λ q. nat_eq q.index k.index) ks ≡ Some k
+find_only : (ks : List Key) (k : Key) → 0 < times k ks → ((q : Key) → 0 < times q ks → q.index ≡ k.index → q ≡ k)
+    → find (λ q. nat_eq q.index k.index) ks ≡ Some k
 find_only [] k there alone = absurd (omega arith)
 find_only (q ∷ ks) k there alone = elim (same_or_other_number q.index k.index) [
   | inl at ↦ ap (λ b. cond b (Some q) (find (λ q. nat_eq q.index k.index) ks)) (eq-eqb q.index k.index at)
@@ -73,13 +77,15 @@ module _ {T : Type 0} (c : Content T) (indices : HaveIndices c) where
     where
       by : (o : Option Key) → found_at c.live i ≡ o → o ≡ None
       by None is = refl
-      by (Some k) is = let found = first_found (λ k. nat_eq k.index i) (map.keys c.live) k is in absurd (none k (key_live c.live k found.1) (eqb-true k.index i found.0))
+      by (Some k) is = let found = first_found (λ k. nat_eq k.index i) (map.keys c.live) k is in
+          absurd (none k (key_live c.live k found.1) (eqb-true k.index i found.0))
 
   pub found_zero : found_at c.live 0 ≡ None
   found_zero = found_none 0 (λ k live at. (let low = (indices.within k live).0 in omega arith))
 
   -- the key that the map finds at an index
-  pub found_is : (i : ℕ) (o : Option Key) → IfSome o (IsLive c) → IfSome o (λ k. k.index ≡ i) → IfNone o ((k : Key) → IsLive c k → k.index ≢ i) → o ≡ found_at c.live i
+  pub found_is : (i : ℕ) (o : Option Key) → IfSome o (IsLive c) → IfSome o (λ k. k.index ≡ i)
+      → IfNone o ((k : Key) → IsLive c k → k.index ≢ i) → o ≡ found_at c.live i
   found_is i None live at none = sym (found_none i none)
   found_is i (Some k) live at none = sym (found_live k live) ∙ ap (found_at c.live) at
 
@@ -108,8 +114,10 @@ module _ {T : Type 0} (c : Content T) (indices : HaveIndices c) where
   -- two keys are one where their indices are
   same_at : (i : ℕ) → HasKey c i → (k : Key) → IsLive c k → is_key (key_at c.live i) k ≡ nat_eq i k.index
   same_at i has k live = elim (same_or_other has.0 k) [
-    | inl is ↦ ap (λ q. is_key q k) (key_has c indices i has ∙ is) ∙ is_itself k ∙ sym (eq-eqb i k.index (sym has.2 ∙ ap (λ (q : Key). q.index) is))
-    | inr other ↦ ap (λ q. is_key q k) (key_has c indices i has) ∙ is_other has.0 k other ∙ sym (other_number i k.index (λ e. other (indices.apart has.0 k has.1 live (has.2 ∙ e))))
+    | inl is ↦ ap (λ q. is_key q k) (key_has c indices i has ∙ is) ∙ is_itself k
+        ∙ sym (eq-eqb i k.index (sym has.2 ∙ ap (λ (q : Key). q.index) is))
+    | inr other ↦ ap (λ q. is_key q k) (key_has c indices i has) ∙ is_other has.0 k other
+        ∙ sym (other_number i k.index (λ e. other (indices.apart has.0 k has.1 live (has.2 ∙ e))))
   ]
 
   -- how often a key is among those with these indices
@@ -127,44 +135,58 @@ module _ {T : Type 0} (c : Content T) (indices : HaveIndices c) where
   no_key (i ∷ is) all k gone =
       let has = first_index i is all in
       let first = times_first k (key_at c.live i) (keys_at c.live is) in
-      let none = ap (λ q. same q k) (key_has c indices i has) ∙ one_other has.0 k (λ e. (let live = ap (map.contains_key c.live) (sym e) ∙ has.1 in absurd (let f = gone in cc))) in
+      let none = ap (λ q. same q k) (key_has c indices i has)
+          ∙ one_other has.0 k (λ e. (let live = ap (map.contains_key c.live) (sym e) ∙ has.1 in absurd (let f = gone in cc))) in
       let rest = no_key is (later_indices i is all) k gone in
       omega arith
 
   -- a key is taken out, or put on one side of another one
-  pub without_key : (k : Key) → IsLive c k → (is : List ℕ) → AreIndices c is → keys_at c.live (without_number k.index is) ≡ without k (keys_at c.live is)
+  pub without_key : (k : Key) → IsLive c k → (is : List ℕ) → AreIndices c is
+      → keys_at c.live (without_number k.index is) ≡ without k (keys_at c.live is)
   without_key k live [] all = refl
   without_key k live (i ∷ is) all =
       let rest = without_key k live is (later_indices i is all) in
       let goes = λ (b : Bool). cond (not b) (key_at c.live i ∷ without k (keys_at c.live is)) (without k (keys_at c.live is)) in
-      elim (nat_eq i k.index) as (λ b. is_key (key_at c.live i) k ≡ b → keys_at c.live (cond (not b) (i ∷ without_number k.index is) (without_number k.index is)) ≡ without k (keys_at c.live (i ∷ is))) [
+      elim (nat_eq i k.index) as
+          (λ b. is_key (key_at c.live i) k ≡ b
+          → keys_at c.live (cond (not b) (i ∷ without_number k.index is) (without_number k.index is)) ≡ without k (keys_at c.live (i ∷ is))) [
         | true ↦ λ at. rest ∙ sym (ap goes at)
         | false ↦ λ at. ap (λ l. key_at c.live i ∷ l) rest ∙ sym (ap goes at)
       ] (same_at i (first_index i is all) k live)
 
   module _ (s k : Key) (sibling : IsLive c s) (live : IsLive c k) where
     later_there : (i : ℕ) (is : List ℕ) → nat_eq i s.index ≡ false → 0 < often s.index (i ∷ is) → 0 < often s.index is
-    later_there i is apart there = let first = often_first s.index i is in let none : same_number i s.index ≡ 0 = ap (λ b. if b then 1 else 0) apart in omega arith
+    later_there i is apart there = let first = often_first s.index i is in let none : same_number i s.index ≡ 0 = ap (λ b. if b then 1 else 0) apart in
+        omega arith
 
-    key_before : (is : List ℕ) → AreIndices c is → 0 < often s.index is → keys_at c.live (put_before s.index k.index is) ≡ placed Before s k (keys_at c.live is)
+    key_before : (is : List ℕ) → AreIndices c is → 0 < often s.index is
+        → keys_at c.live (put_before s.index k.index is) ≡ placed Before s k (keys_at c.live is)
     key_before [] all there = absurd (omega arith)
     key_before (i ∷ is) all there =
         let now = λ (b : Bool). cond b (k ∷ key_at c.live i ∷ keys_at c.live is) (key_at c.live i ∷ placed Before s k (keys_at c.live is)) in
-        elim (nat_eq i s.index) as (λ b. nat_eq i s.index ≡ b → is_key (key_at c.live i) s ≡ b → keys_at c.live (cond b (k.index ∷ i ∷ is) (i ∷ put_before s.index k.index is)) ≡ placed Before s k (keys_at c.live (i ∷ is))) [
+        elim (nat_eq i s.index) as
+            (λ b. nat_eq i s.index ≡ b → is_key (key_at c.live i) s ≡ b
+            → keys_at c.live (cond b (k.index ∷ i ∷ is) (i ∷ put_before s.index k.index is)) ≡ placed Before s k (keys_at c.live (i ∷ is))) [
           | true ↦ λ _ at. (λ n. key_at_live c indices k live n ∷ key_at c.live i ∷ keys_at c.live is) ∙ sym (ap now at)
-          | false ↦ λ apart at. ap (λ l. key_at c.live i ∷ l) (key_before is (later_indices i is all) (later_there i is apart there)) ∙ sym (ap now at)
+          | false ↦ λ apart at. ap (λ l. key_at c.live i ∷ l) (key_before is (later_indices i is all) (later_there i is apart there))
+              ∙ sym (ap now at)
         ] refl (same_at i (first_index i is all) s sibling)
 
-    key_behind : (is : List ℕ) → AreIndices c is → 0 < often s.index is → keys_at c.live (put_behind s.index k.index is) ≡ placed After s k (keys_at c.live is)
+    key_behind : (is : List ℕ) → AreIndices c is → 0 < often s.index is
+        → keys_at c.live (put_behind s.index k.index is) ≡ placed After s k (keys_at c.live is)
     key_behind [] all there = absurd (omega arith)
     key_behind (i ∷ is) all there =
         let now = λ (b : Bool). cond b (key_at c.live i ∷ k ∷ keys_at c.live is) (key_at c.live i ∷ placed After s k (keys_at c.live is)) in
-        elim (nat_eq i s.index) as (λ b. nat_eq i s.index ≡ b → is_key (key_at c.live i) s ≡ b → keys_at c.live (cond b (i ∷ k.index ∷ is) (i ∷ put_behind s.index k.index is)) ≡ placed After s k (keys_at c.live (i ∷ is))) [
+        elim (nat_eq i s.index) as
+            (λ b. nat_eq i s.index ≡ b → is_key (key_at c.live i) s ≡ b
+            → keys_at c.live (cond b (i ∷ k.index ∷ is) (i ∷ put_behind s.index k.index is)) ≡ placed After s k (keys_at c.live (i ∷ is))) [
           | true ↦ λ _ at. (λ n. key_at c.live i ∷ key_at_live c indices k live n ∷ keys_at c.live is) ∙ sym (ap now at)
-          | false ↦ λ apart at. ap (λ l. key_at c.live i ∷ l) (key_behind is (later_indices i is all) (later_there i is apart there)) ∙ sym (ap now at)
+          | false ↦ λ apart at. ap (λ l. key_at c.live i ∷ l) (key_behind is (later_indices i is all) (later_there i is apart there))
+              ∙ sym (ap now at)
         ] refl (same_at i (first_index i is all) s sibling)
 
-    pub key_beside : (side : Side) (is : List ℕ) → AreIndices c is → 0 < often s.index is → keys_at c.live (beside side s.index k.index is) ≡ placed side s k (keys_at c.live is)
+    pub key_beside : (side : Side) (is : List ℕ) → AreIndices c is → 0 < often s.index is
+        → keys_at c.live (beside side s.index k.index is) ≡ placed side s k (keys_at c.live is)
     key_beside Before is = key_before is
     key_beside After is = key_behind is
 
@@ -173,24 +195,31 @@ module _ {T : Type 0} (c : Content T) (indices : HaveIndices c) where
   first_key [] = refl
   first_key (i ∷ is) = refl
 
-  pub last_key : (is : List ℕ) (o : Option ℕ) → last_or (keys_at c.live is) (option_map (key_at c.live) o) ≡ option_map (key_at c.live) (last_number is o)
+  pub last_key : (is : List ℕ) (o : Option ℕ) → last_or (keys_at c.live is) (option_map (key_at c.live) o) ≡ option_map (key_at c.live)
+      (last_number is o)
   last_key [] o = refl
   last_key (i ∷ is) o = last_key is (Some i)
 
-  pub key_after : (k : Key) → IsLive c k → (is : List ℕ) → AreIndices c is → behind k (keys_at c.live is) ≡ option_map (key_at c.live) (number_after k.index is)
+  pub key_after : (k : Key) → IsLive c k → (is : List ℕ) → AreIndices c is
+      → behind k (keys_at c.live is) ≡ option_map (key_at c.live) (number_after k.index is)
   key_after k live [] all = refl
   key_after k live (i ∷ is) all =
       ap (λ b. cond b (first_or (keys_at c.live is) None) (behind k (keys_at c.live is))) (same_at i (first_index i is all) k live)
-      ∙ elim (nat_eq i k.index) as (λ b. cond b (first_or (keys_at c.live is) None) (behind k (keys_at c.live is)) ≡ option_map (key_at c.live) (cond b (first_number is None) (number_after k.index is))) [
+      ∙ elim (nat_eq i k.index) as
+          (λ b. cond b (first_or (keys_at c.live is) None) (behind k (keys_at c.live is)) ≡ option_map (key_at c.live)
+          (cond b (first_number is None) (number_after k.index is))) [
         | true ↦ first_key is
         | false ↦ key_after k live is (later_indices i is all)
       ]
 
-  pub key_ahead : (k : Key) → IsLive c k → (is : List ℕ) → AreIndices c is → (o : Option ℕ) → in_front (option_map (key_at c.live) o) k (keys_at c.live is) ≡ option_map (key_at c.live) (number_before o k.index is)
+  pub key_ahead : (k : Key) → IsLive c k → (is : List ℕ) → AreIndices c is → (o : Option ℕ)
+      → in_front (option_map (key_at c.live) o) k (keys_at c.live is) ≡ option_map (key_at c.live) (number_before o k.index is)
   key_ahead k live [] all o = refl
   key_ahead k live (i ∷ is) all o =
       ap (λ b. cond b (option_map (key_at c.live) o) (in_front (Some (key_at c.live i)) k (keys_at c.live is))) (same_at i (first_index i is all) k live)
-      ∙ elim (nat_eq i k.index) as (λ b. cond b (option_map (key_at c.live) o) (in_front (Some (key_at c.live i)) k (keys_at c.live is)) ≡ option_map (key_at c.live) (cond b o (number_before (Some i) k.index is))) [
+      ∙ elim (nat_eq i k.index) as
+          (λ b. cond b (option_map (key_at c.live) o) (in_front (Some (key_at c.live i)) k (keys_at c.live is)) ≡ option_map (key_at c.live)
+          (cond b o (number_before (Some i) k.index is))) [
         | true ↦ refl
         | false ↦ key_ahead k live is (later_indices i is all) (Some i)
       ]
@@ -200,11 +229,13 @@ module _ {T : Type 0} (c : Content T) (indices : HaveIndices c) where
     pub found_same : (i : ℕ) (has : HasKey c i) → IsLive d has.0 → found_at d.live i ≡ found_at c.live i
     found_same i has live = ap (found_at d.live) (sym has.2) ∙ found_live d also has.0 live ∙ sym (found_has c indices i has)
 
-    pub keys_same : (is : List ℕ) → AreIndices c is → ((k : Key) → IsLive c k → 0 < often k.index is → IsLive d k) → keys_at d.live is ≡ keys_at c.live is
+    pub keys_same : (is : List ℕ) → AreIndices c is → ((k : Key) → IsLive c k → 0 < often k.index is → IsLive d k)
+        → keys_at d.live is ≡ keys_at c.live is
     keys_same [] all still = refl
     keys_same (i ∷ is) all still =
         let has = first_index i is all in
-        let live = still has.0 has.1 (let first = often_first has.0.index i is in let one = ap (λ n. same_number i n) has.2 ∙ number_itself i in omega arith) in
+        let live = still has.0 has.1 (let first = often_first has.0.index i is in let one = ap (λ n. same_number i n) has.2 ∙ number_itself i in
+            omega arith) in
         let one = ap (λ o. unwrap_or o null_key) (found_same i has live) in
         let rest = keys_same is (later_indices i is all) (λ k of_c more. still k of_c (let first = often_first k.index i is in omega arith)) in
         λ n. one n ∷ rest n

@@ -1,11 +1,13 @@
 -- A node is put among the children of another one or taken out of them, or gets another parent: what is kept then, and what it shows.
-use Rattle.std.proofs.Common.{◌≡◌, ◌≢◌, ◌+◌, ◌<◌, ◌≤◌, ℕ, cond, nat_eq, Option, Some, None, IfSome, List, [], ◌∷◌, ◌++◌, length, set, true, false, sym, ap, subst, ◌∙◌, inl, inr, arith}
+use Rattle.std.proofs.Common.{◌≡◌, ◌≢◌, ◌+◌, ◌<◌, ◌≤◌, ℕ, cond, nat_eq, Option, Some, None, IfSome, List, [], ◌∷◌, ◌++◌}
+use Rattle.std.proofs.Common.{length, set, true, false, sym, ap, subst, ◌∙◌, inl, inr, arith}
 use Rattle.std.specs.FinMap as map
 use Rattle.std.proofs.lemmas.List.{map-append}
 use Rattle.slotmap.specs.Words.{Key, Content, IsLive}
 use Rattle.slotmap_keylist.specs.KeyLists.{times, without}
 use Rattle.slotmap_links.specs.Lists.{Lists, list_of, times as often, with_list, IsIn, IsFree, AreDisjoint, put_before, put_behind, without as without_number}
-use Rattle.slotmap_links.proofs.Counts.{times_first as often_first, times_joined as often_joined, times_gone as often_gone, times_without as often_without, one_other as number_other, same as same_number, same_or_other as same_or_other_number}
+use Rattle.slotmap_links.proofs.Counts.{times_first as often_first, times_joined as often_joined, times_gone as often_gone, times_without as often_without}
+use Rattle.slotmap_links.proofs.Counts.{one_other as number_other, same as same_number, same_or_other as same_or_other_number}
 use Rattle.slotmap_scene.specs.declared.tree.Side.{Side}
 use Rattle.slotmap_scene.specs.declared.tree.Side.TheVariants.{Before, After}
 use Rattle.slotmap_scene.specs.Node.{Node}
@@ -56,7 +58,8 @@ module _ {V : Type 0} {c : Content V} {parents : List ℕ} {children : Lists} (k
   abbrev Relists : Key → Lists → (List Key → List Key) → Type 0
   Relists p new f = IsKept c parents new × (family c parents new ≡ record self { live = with_children_in self.live p (map.get self.live p) f })
 
-  relists : (p : Key) → IsLive c p → (is : List ℕ) → AreIndices c is → (f : List Key → List Key) → keys_at c.live is ≡ f (keys_at c.live (list_of children p.index))
+  relists : (p : Key) → IsLive c p → (is : List ℕ) → AreIndices c is → (f : List Key → List Key)
+      → keys_at c.live is ≡ f (keys_at c.live (list_of children p.index))
       → (new : Lists) → new ≡ with_list children p.index is → AreDisjoint new → Relists p new f
   relists p live is all f made new new_is disjoint = (
     relisted kept p live is all f made new new_is disjoint,
@@ -90,7 +93,8 @@ module _ {V : Type 0} {c : Content V} {parents : List ℕ} {children : Lists} (k
         (λ i more. came i (let joined = often_joined i was_list (k.index ∷ []) in let first = often_first i k.index [] in omega arith))
         (λ ks. ks ++ k ∷ []) (map-append (key_at c.live) was_list (k.index ∷ []) ∙ ap (λ q. keys_at c.live was_list ++ q ∷ []) at_k) new
 
-    pub put_on_side : (side : Side) (s : Key) → 0 < times s (children_of self.live p) → new ≡ with_list children p.index (beside side s.index k.index was_list) → AreDisjoint new → Relists p new (placed side s k)
+    pub put_on_side : (side : Side) (s : Key) → 0 < times s (children_of self.live p)
+        → new ≡ with_list children p.index (beside side s.index k.index was_list) → AreDisjoint new → Relists p new (placed side s k)
     put_on_side side s sibling =
         let inside = child_in kept p s (let same = ap (λ (s' : Content (Node V)). times s (children_of s'.live p)) view in omega arith) in
         relists p (is_live p there) (beside side s.index k.index was_list)
@@ -122,7 +126,8 @@ module _ {V : Type 0} {c : Content V} {parents : List ℕ} {children : Lists} (k
           let p = up.0 in
           let left_p = relists p up.1 (without_number k.index (list_of children p.index))
           (λ i more. elim (same_or_other_number i k.index) [
-            | inl at ↦ absurd (let none = ap (λ j. often j (without_number k.index (list_of children p.index))) at ∙ often_gone k.index (list_of children p.index) in omega arith)
+            | inl at ↦ absurd (let none = ap (λ j. often j (without_number k.index (list_of children p.index))) at
+                ∙ often_gone k.index (list_of children p.index) in omega arith)
             | inr apart ↦ indices_at kept p.index i (let same = often_without k.index i (list_of children p.index) apart in omega arith)
           ])
           (without k) (without_key c kept.indices k (is_live k node) (list_of children p.index) (indices_at kept p.index))
@@ -134,7 +139,8 @@ module _ {V : Type 0} {c : Content V} {parents : List ℕ} {children : Lists} (k
   parent_alive None is = tt
   parent_alive (Some p) is = is_live p is
 
-  pub hangs : (k : Key) → has_node self.live k → (o : Option Key) → IsParent self.live o → (new : List ℕ) → new ≡ set parents k.index (parent_index o)
+  pub hangs : (k : Key) → has_node self.live k → (o : Option Key) → IsParent self.live o → (new : List ℕ)
+      → new ≡ set parents k.index (parent_index o)
       → IsKept c new children × (family c new children ≡ record self { live = with_parent self.live k o })
   hangs k node o is_parent new new_is = (
     hung kept k o (parent_alive o is_parent) (is_live k node) new new_is,

@@ -1,5 +1,7 @@
 -- What a call makes of the nodes of a scene, as a whole: nodes come or go, more places are made, a value is written, or all is copied.
-use Rattle.std.proofs.Common.{◌≡◌, ◌≢◌, ◌-◌, ◌+◌, ◌⊎◌, ◌<◌, ◌≤◌, ℕ, zero, suc, true, false, cond, nat_lt, Option, Some, None, IfSome, Result, Ok, Err, IsOk, IsErr, OnOk, OnErr, is_some, is_ok, if◌then◌else◌, max, List, [], ◌∷◌, ◌++◌, length, length-append, replicate, set, take, refl, sym, ap, subst, ◌∙◌, inl, inr, arith}
+use Rattle.std.proofs.Common.{◌≡◌, ◌≢◌, ◌-◌, ◌+◌, ◌⊎◌, ◌<◌, ◌≤◌, ℕ, zero, suc, true, false, cond, nat_lt, Option, Some}
+use Rattle.std.proofs.Common.{None, IfSome, Result, Ok, Err, IsOk, IsErr, OnOk, OnErr, is_some, is_ok, if◌then◌else◌, max, List, [], ◌∷◌}
+use Rattle.std.proofs.Common.{◌++◌, length, length-append, replicate, set, take, refl, sym, ap, subst, ◌∙◌, inl, inr, arith}
 use Rattle.std.specs.Option.{option_map}
 use Rattle.std.specs.FinMap as map
 use Rattle.std.proofs.lemmas.List.{length-replicate, length-set, get_or-set_same, get_or-set_other, take_all}
@@ -7,7 +9,8 @@ use Rattle.slotmap.specs.Words.{Key, key_cmp, Content, IsContent, IsLive, KeepsS
 use Rattle.slotmap_bounded.specs.Bounded.{capacity_with, grown}
 use Rattle.std.proofs.lemmas.Bool.Decides.{nat_tests}
 use Rattle.slotmap.specs.Words as words
-use Rattle.slotmap.proofs.Callers.{keys_total, exact_keys, keys, same_or_other, get-insert_here, get-insert_other, live-insert_still, inserted_fresh, clone_live}
+use Rattle.slotmap.proofs.Callers.{keys_total, exact_keys, keys, same_or_other, get-insert_here, get-insert_other, live-insert_still, inserted_fresh}
+use Rattle.slotmap.proofs.Callers.{clone_live}
 use Rattle.slotmap_keylist.specs.KeyLists.{times}
 use Rattle.slotmap_keylist.proofs.Changed.{changed_here, changed_other}
 use Rattle.slotmap_keylist.proofs.Shown.{shown_content, shown_inserts, shown_keeps, shown_keeps_spent, shown_leaves, shown_makes_room}
@@ -17,9 +20,11 @@ use Rattle.slotmap_links.proofs.Changes.{disjoint_still}
 use Rattle.slotmap_scene.specs.Node.{Node, Nodes}
 use Rattle.slotmap_scene.specs.Climb.{parent_of}
 use Rattle.slotmap_scene.specs.Family.{IsNodeClone, child, children_of, with_value}
-use Rattle.slotmap_scene.specs.Kept.{AreCovered, CoversMore, HoldsMore, HasKey, HaveIndices, IsKept, above, family, found_at, parent_index, keys_at, node_at, nodes_by}
+use Rattle.slotmap_scene.specs.Kept.{AreCovered, CoversMore, HoldsMore, HasKey, HaveIndices, IsKept, above, family, found_at, parent_index, keys_at, node_at}
+use Rattle.slotmap_scene.specs.Kept.{nodes_by}
 use Rattle.slotmap_scene.proofs.Indices.{found_live}
-use Rattle.slotmap_scene.proofs.Families.{above_still, children_live, list_none, get_alike, get_along, indices_still, kept_along, node_along, covers_less, parent_found, parent_has, kept_still, node_still, nowhere, parent_live, seen_get, seen_has, seen_len}
+use Rattle.slotmap_scene.proofs.Families.{above_still, children_live, list_none, get_alike, get_along, indices_still, kept_along, node_along, covers_less}
+use Rattle.slotmap_scene.proofs.Families.{parent_found, parent_has, kept_still, node_still, nowhere, parent_live, seen_get, seen_has, seen_len}
 
 -- what is known of the values is known of the nodes
 module _ {V : Type 0} (c : Content V) (parents : List ℕ) (children : Lists) where
@@ -34,16 +39,22 @@ module _ {V : Type 0} (c : Content V) (parents : List ℕ) (children : Lists) wh
     seen_now = nodes_by d.live parents' children'
 
     pub family_leaves : Leaves c d → Leaves (family c parents children) (family d parents' children')
-    family_leaves = shown_leaves c d seen_was seen_now (seen_has c.live parents children) (seen_len c.live parents children) (seen_has d.live parents' children') (seen_len d.live parents' children')
+    family_leaves = shown_leaves c d seen_was seen_now (seen_has c.live parents children) (seen_len c.live parents children)
+        (seen_has d.live parents' children') (seen_len d.live parents' children')
 
-    pub family_room : seen_now ≡ seen_was → (n : ℕ) (ok : Type 0) → MakesRoom true c n ok d → MakesRoom true (family c parents children) n ok (family d parents' children')
-    family_room same = shown_makes_room c d seen_was seen_now (seen_has c.live parents children) (seen_len c.live parents children) (seen_has d.live parents' children') (seen_len d.live parents' children') same true
+    pub family_room : seen_now ≡ seen_was → (n : ℕ) (ok : Type 0) → MakesRoom true c n ok d
+        → MakesRoom true (family c parents children) n ok (family d parents' children')
+    family_room same = shown_makes_room c d seen_was seen_now (seen_has c.live parents children) (seen_len c.live parents children)
+        (seen_has d.live parents' children') (seen_len d.live parents' children') same true
 
-    family_inserts : (k : Key) (v : V) (o : Option Key) → seen_now ≡ map.insert seen_was k (child o v) → Inserts c k v d → Inserts (family c parents children) k (child o v) (family d parents' children')
-    family_inserts k v o live = shown_inserts c d seen_was seen_now (seen_has c.live parents children) (seen_len c.live parents children) (seen_has d.live parents' children') (seen_len d.live parents' children') k v (child o v) live
+    family_inserts : (k : Key) (v : V) (o : Option Key) → seen_now ≡ map.insert seen_was k (child o v) → Inserts c k v d
+        → Inserts (family c parents children) k (child o v) (family d parents' children')
+    family_inserts k v o live = shown_inserts c d seen_was seen_now (seen_has c.live parents children) (seen_len c.live parents children)
+        (seen_has d.live parents' children') (seen_len d.live parents' children') k v (child o v) live
 
 -- places are made, for lists and for parents
-covers_by : (s : Lists) → AreDisjoint s → (n m : ℕ) (new : Lists) → s.members ≤ m → new ≡ record (with_owners s n) { members = m } → CoversMore s new
+covers_by : (s : Lists) → AreDisjoint s → (n m : ℕ) (new : Lists) → s.members ≤ m → new ≡ record (with_owners s n) { members = m }
+    → CoversMore s new
 covers_by s disjoint n m new more is = subst (CoversMore s) (sym is) (record {
   lists = list_covered s n;
   owners = (let long = length-append s.lists (replicate {A = List ℕ} (n - length s.lists) []) in omega arith);
@@ -51,7 +62,8 @@ covers_by s disjoint n m new more is = subst (CoversMore s) (sym is) (record {
   disjoint = disjoint_still s (record (with_owners s n) { members = m }) disjoint (list_covered s n) more;
 })
 
-pub covered : (s : Lists) → AreDisjoint s → (n m : ℕ) (mid new : Lists) {A B : Type 0} (r : Result A B) → mid ≡ with_owners s n → OnOk r (new ≡ with_members mid m) → OnErr r (new ≡ mid) → CoversMore s new
+pub covered : (s : Lists) → AreDisjoint s → (n m : ℕ) (mid new : Lists) {A B : Type 0} (r : Result A B) → mid ≡ with_owners s n
+    → OnOk r (new ≡ with_members mid m) → OnErr r (new ≡ mid) → CoversMore s new
 covered s disjoint n m mid new (Ok a) is ok err = covers_by s disjoint n (max s.members m) new (omega arith) (ok ∙ ap (λ l. with_members l m) is)
 covered s disjoint n m mid new (Err b) is ok err = covers_by s disjoint n s.members new (omega arith) (err ∙ is)
 
@@ -62,7 +74,8 @@ padded [] (suc n) (suc i) = padded [] n i
 padded (p ∷ ps) n zero = refl
 padded (p ∷ ps) n (suc i) = padded ps n i
 
-pub held : (ps : List ℕ) (n len : ℕ) → len ≡ length ps → length ps ≤ n → {A B : Type 0} (r : Result A B) (now : List ℕ) → now ≡ (if is_ok r then take n ps ++ replicate (n - len) 0 else ps)
+pub held : (ps : List ℕ) (n len : ℕ) → len ≡ length ps → length ps ≤ n → {A B : Type 0} (r : Result A B) (now : List ℕ)
+    → now ≡ (if is_ok r then take n ps ++ replicate (n - len) 0 else ps)
     → HoldsMore ps now × OnOk r (n ≤ length now)
 held ps n len long more (Ok x) now is =
     let now_is : now ≡ ps ++ replicate (n - len) 0 = is ∙ ap (λ l. l ++ replicate (n - len) 0) (take_all n ps more) in
@@ -101,7 +114,8 @@ module _ {V : Type 0} (c : Content V) (valid : IsContent true c) (n : ℕ) where
   }
 
   pub fits_most : (capacity : ℕ) → capacity ≡ capacity_with c n → capacity ≤ most → used c + n ≤ most
-  fits_most capacity is few = elim (nat_lt c.room n) as (λ b. nat_lt c.room n ≡ b → capacity ≡ cond b (used c + grown (used c) n) c.capacity → used c + n ≤ most) [
+  fits_most capacity is few = elim (nat_lt c.room n) as
+      (λ b. nat_lt c.room n ≡ b → capacity ≡ cond b (used c + grown (used c) n) c.capacity → used c + n ≤ most) [
     | true ↦ λ _ is. (omega arith)
     | false ↦ λ more is. (let fits = valid.room_fits in grind (arith, nat_tests))
   ] refl is
@@ -113,7 +127,8 @@ module _ {V : Type 0} (c : Content V) (none : c.live ≡ map.empty) (parents : L
 
   pub bare_kept : ((p : ℕ) → list_of children p ≡ []) → AreCovered c.capacity parents children → IsKept c parents children
   bare_kept empty covered = record {
-    indices = record { within = λ k live. absurd (let gone = ap is_some (no_live k) in cc); apart = λ a b live. absurd (let gone = ap is_some (no_live a) in cc) };
+    indices = record { within = λ k live. absurd (let gone = ap is_some (no_live k) in cc); apart = λ a b live. absurd
+        (let gone = ap is_some (no_live a) in cc) };
     covered = covered;
     disjoint = record {
       once = λ p k. (let e = ap (often k) (empty p) in omega arith);
@@ -125,14 +140,17 @@ module _ {V : Type 0} (c : Content V) (none : c.live ≡ map.empty) (parents : L
   }
 
   pub bare_seen : nodes_by c.live parents children ≡ map.empty
-  bare_seen = map.same_map keys_total exact_keys _ _ (λ q. seen_get c.live parents children q ∙ ap (option_map (node_at c.live parents children q)) (no_live q) ∙ sym (map.get-empty {X = Node V} key_cmp q))
+  bare_seen = map.same_map keys_total exact_keys _ _
+      (λ q. seen_get c.live parents children q ∙ ap (option_map (node_at c.live parents children q)) (no_live q)
+      ∙ sym (map.get-empty {X = Node V} key_cmp q))
 
 module _ {V : Type 0} {c : Content V} {parents : List ℕ} {children : Lists} (kept : IsKept c parents children) where
   abbrev nodes : Nodes V
   nodes = nodes_by c.live parents children
 
   -- the same values, in more places
-  module _ (d : Content V) (same : d.live ≡ c.live) (more : c.capacity ≤ d.capacity) (parents' : List ℕ) (children' : Lists) (holds : HoldsMore parents parents') (grows : CoversMore children children') where
+  module _ (d : Content V) (same : d.live ≡ c.live) (more : c.capacity ≤ d.capacity) (parents' : List ℕ) (children' : Lists)
+      (holds : HoldsMore parents parents') (grows : CoversMore children children') where
     same_live : (q : Key) → map.contains_key d.live q ≡ map.contains_key c.live q
     same_live q = ap (λ m. map.contains_key m q) same
 
@@ -140,25 +158,32 @@ module _ {V : Type 0} {c : Content V} {parents : List ℕ} {children : Lists} (k
     grown_indices = indices_still c d kept.indices (λ k live. sym (same_live k) ∙ live) more
 
     pub grown_kept : AreCovered d.capacity parents' children' → IsKept d parents' children'
-    grown_kept covered = kept_along kept d grown_indices parents' children' (λ q live. same_live q ∙ live) grows.lists (λ q live. sym (same_live q) ∙ live) holds.same covered grows.disjoint
+    grown_kept covered = kept_along kept d grown_indices parents' children' (λ q live. same_live q ∙ live) grows.lists
+        (λ q live. sym (same_live q) ∙ live) holds.same covered grows.disjoint
 
     pub grown_seen : nodes_by d.live parents' children' ≡ nodes
     grown_seen = map.same_map keys_total exact_keys _ _ (λ q. get_alike kept d grown_indices parents' children' q (ap (λ m. map.get m q) same)
-        (λ live. node_along kept d grown_indices parents' children' (λ q live. same_live q ∙ live) grows.lists (λ q live. sym (same_live q) ∙ live) holds.same q live))
+        (λ live. node_along kept d grown_indices parents' children' (λ q live. same_live q ∙ live) grows.lists
+            (λ q live. sym (same_live q) ∙ live) holds.same q live))
 
   -- places are made, and no room
   module _ (parents' : List ℕ) (children' : Lists) (holds : HoldsMore parents parents') (covers : CoversMore children children') where
     pub covered_kept : IsKept c parents' children'
-    covered_kept = grown_kept c refl (omega arith) parents' children' holds covers (covers_still c.capacity parents parents' children children' kept.covered holds covers)
+    covered_kept = grown_kept c refl (omega arith) parents' children' holds covers
+        (covers_still c.capacity parents parents' children children' kept.covered holds covers)
 
-    pub covered_seen : IsContent true c → (n : ℕ) (ok : Type 0) → (ok → ⊥) → (n ≤ c.room → ⊥) → MakesRoom true (family c parents children) n ok (family c parents' children')
-    covered_seen valid n ok fails full = family_room c parents children c parents' children' (grown_seen c refl (omega arith) parents' children' holds covers) n ok (no_room c valid n ok fails full)
+    pub covered_seen : IsContent true c → (n : ℕ) (ok : Type 0) → (ok → ⊥) → (n ≤ c.room → ⊥)
+        → MakesRoom true (family c parents children) n ok (family c parents' children')
+    covered_seen valid n ok fails full = family_room c parents children c parents' children'
+        (grown_seen c refl (omega arith) parents' children' holds covers) n ok (no_room c valid n ok fails full)
 
-  pub unroomed : IsContent true c → (n : ℕ) (ok : Type 0) → (ok → ⊥) → (n ≤ c.room → ⊥) → MakesRoom true (family c parents children) n ok (family c parents children)
+  pub unroomed : IsContent true c → (n : ℕ) (ok : Type 0) → (ok → ⊥) → (n ≤ c.room → ⊥)
+      → MakesRoom true (family c parents children) n ok (family c parents children)
   unroomed valid n ok fails full = family_room c parents children c parents children refl n ok (no_room c valid n ok fails full)
 
   -- a node comes
-  module _ (k : Key) (v : V) (d : Content V) (inserts : Inserts c k v d) (valid : IsContent true c) (after : IsContent true d) (capacity : d.capacity ≡ c.capacity) (within : k.index ≤ d.capacity)
+  module _ (k : Key) (v : V) (d : Content V) (inserts : Inserts c k v d) (valid : IsContent true c) (after : IsContent true d)
+      (capacity : d.capacity ≡ c.capacity) (within : k.index ≤ d.capacity)
       (o : Option Key) (is_parent : IfSome o (IsLive c)) (new : List ℕ) (new_is : new ≡ set parents k.index (parent_index o)) where
     stays : (q : Key) → IsLive c q → IsLive d q
     stays q live = ap (λ m. map.contains_key m q) inserts.live ∙ live-insert_still c.live k v q live
@@ -173,7 +198,8 @@ module _ {V : Type 0} {c : Content V} {parents : List ℕ} {children : Lists} (k
     came_other q other = ap (λ m. map.get m q) inserts.live ∙ get-insert_other c.live k v q other
 
     no_other : (q : Key) → IsLive c q → q.index ≢ k.index
-    no_other q live at = let one : q ≡ k = after.apart q k (inl (inl (stays q live))) (inl (inl here)) at in let f = ap (map.contains_key c.live) (sym one) ∙ live in let gone = fresh in cc
+    no_other q live at = let one : q ≡ k = after.apart q k (inl (inl (stays q live))) (inl (inl here)) at in
+        let f = ap (map.contains_key c.live) (sym one) ∙ live in let gone = fresh in cc
 
     came_indices : HaveIndices d
     came_indices = record {
@@ -206,14 +232,17 @@ module _ {V : Type 0} {c : Content V} {parents : List ℕ} {children : Lists} (k
         })
         kept.disjoint
         (λ q live. elim (same_or_other q k) [
-          | inl at ↦ subst (λ i. (i ≡ 0) ⊎ HasKey d i) (sym (ap (λ (q : Key). above new q.index) at ∙ came_above)) (parent_has d o (parent_stays o is_parent))
+          | inl at ↦ subst (λ i. (i ≡ 0) ⊎ HasKey d i) (sym (ap (λ (q : Key). above new q.index) at ∙ came_above))
+              (parent_has d o (parent_stays o is_parent))
           | inr other ↦ (let was = sym (ap is_some (came_other q other)) ∙ live in
-              above_still kept d came_indices new children stays (λ p. refl) (above parents q.index) (above new q.index) (above_other q was) (kept.has_parent q was))
+              above_still kept d came_indices new children stays (λ p. refl) (above parents q.index) (above new q.index) (above_other q was)
+                  (kept.has_parent q was))
         ])
 
     came_seen : nodes_by d.live new children ≡ map.insert nodes k (child o v)
     came_seen = map.same_map keys_total exact_keys _ _ (λ q. elim (same_or_other q k) [
-      | inl at ↦ rw at (seen_get d.live new children k ∙ ap (option_map (node_at d.live new children k)) (ap (λ m. map.get m k) inserts.live ∙ get-insert_here c.live k v)
+      | inl at ↦ rw at (seen_get d.live new children k
+          ∙ ap (option_map (node_at d.live new children k)) (ap (λ m. map.get m k) inserts.live ∙ get-insert_here c.live k v)
           ∙ (λ i. Some (record {
             value = v;
             parent = (ap (found_at d.live) came_above ∙ parent_found d came_indices o (parent_stays o is_parent)) i;
@@ -229,7 +258,8 @@ module _ {V : Type 0} {c : Content V} {parents : List ℕ} {children : Lists} (k
     came_inserts = family_inserts c parents children d new children k v o came_seen inserts
 
   -- a node goes that has no children, is no child and is no parent
-  module _ (k : Key) (live : IsLive c k) (leaf : children_of nodes k ≡ []) (alone : (p : Key) → times k (children_of nodes p) ≡ 0) (childless : (q : Key) → parent_of nodes q ≢ Some k)
+  module _ (k : Key) (live : IsLive c k) (leaf : children_of nodes k ≡ []) (alone : (p : Key) → times k (children_of nodes p) ≡ 0)
+      (childless : (q : Key) → parent_of nodes q ≢ Some k)
       (d : Content V) (is : d.live ≡ map.remove c.live k) (capacity : d.capacity ≡ c.capacity) where
     left_get : (q : Key) → q ≢ k → map.get d.live q ≡ map.get c.live q
     left_get q other = ap (λ m. map.get m q) is ∙ grind (arith, keys)
@@ -241,7 +271,8 @@ module _ {V : Type 0} {c : Content V} {parents : List ℕ} {children : Lists} (k
     gone_other m q other = grind (arith, keys)
 
     not_k : (q : Key) → IsLive d q → q ≢ k
-    not_k q of_d at = let none = ap (λ m. map.get m k) is ∙ gone_here c.live in let f = ap (λ q. is_some (map.get d.live q)) (sym at) ∙ of_d in let g = ap is_some none in cc
+    not_k q of_d at = let none = ap (λ m. map.get m k) is ∙ gone_here c.live in let f = ap (λ q. is_some (map.get d.live q)) (sym at) ∙ of_d in
+        let g = ap is_some none in cc
 
     was_live : (q : Key) → IsLive d q → IsLive c q
     was_live q of_d = sym (ap is_some (left_get q (not_k q of_d))) ∙ of_d
@@ -285,8 +316,10 @@ module _ {V : Type 0} {c : Content V} {parents : List ℕ} {children : Lists} (k
 
     pub gone_seen : nodes_by d.live parents children ≡ map.remove nodes k
     gone_seen = map.same_map keys_total exact_keys _ _ (λ q. elim (same_or_other q k) [
-      | inl at ↦ rw at (seen_get d.live parents children k ∙ ap (option_map (node_at d.live parents children k)) (ap (λ m. map.get m k) is ∙ gone_here c.live) ∙ sym (gone_here nodes))
-      | inr other ↦ get_alike kept d left_indices parents children q (left_get q other) (λ of_q. node_still kept d left_indices parents children q of_q refl refl
+      | inl at ↦ rw at (seen_get d.live parents children k
+          ∙ ap (option_map (node_at d.live parents children k)) (ap (λ m. map.get m k) is ∙ gone_here c.live) ∙ sym (gone_here nodes))
+      | inr other ↦ get_alike kept d left_indices parents children q (left_get q other)
+          (λ of_q. node_still kept d left_indices parents children q of_q refl refl
           (λ p of_c at. ap is_some (left_get p (λ e. not_above q of_q (sym at ∙ ap (λ (q : Key). q.index) e))) ∙ of_c)
           (λ x of_c inside. ap is_some (left_get x (λ e. unlisted q.index x.index inside (ap (λ (q : Key). q.index) e))) ∙ of_c))
           ∙ sym (gone_other nodes q other)
@@ -307,18 +340,23 @@ module _ {V : Type 0} {c : Content V} {parents : List ℕ} {children : Lists} (k
     written_indices = indices_still c written kept.indices (λ q live. sym (written_keys q) ∙ live) (omega arith)
 
     pub written_kept : IsKept written parents children
-    written_kept = kept_along kept written written_indices parents children (λ q live. written_keys q ∙ live) (λ p. refl) (λ q live. sym (written_keys q) ∙ live) (λ i. refl) kept.covered kept.disjoint
+    written_kept = kept_along kept written written_indices parents children (λ q live. written_keys q ∙ live) (λ p. refl)
+        (λ q live. sym (written_keys q) ∙ live) (λ i. refl) kept.covered kept.disjoint
 
     pub written_seen : nodes_by written.live parents children ≡ with_value nodes k v
     written_seen = map.same_map keys_total exact_keys _ _ (λ q. elim (same_or_other q k) [
-      | inl at ↦ rw at (seen_get written.live parents children k ∙ ap (option_map (node_at written.live parents children k)) (get-insert_here c.live k v) ∙ ap Some (along k (ap is_some there) v)
-          ∙ sym (changed_here nodes k (λ n. record n { value = v }) ∙ ap (option_map (λ (n : Node V). record n { value = v })) (seen_get c.live parents children k ∙ ap (option_map (node_at c.live parents children k)) there)))
+      | inl at ↦ rw at (seen_get written.live parents children k
+          ∙ ap (option_map (node_at written.live parents children k)) (get-insert_here c.live k v) ∙ ap Some (along k (ap is_some there) v)
+          ∙ sym (changed_here nodes k (λ n. record n { value = v })
+              ∙ ap (option_map (λ (n : Node V). record n { value = v }))
+              (seen_get c.live parents children k ∙ ap (option_map (node_at c.live parents children k)) there)))
       | inr other ↦ get_alike kept written written_indices parents children q (get-insert_other c.live k v q other) (along q)
           ∙ sym (changed_other nodes k (λ n. record n { value = v }) q other)
     ])
       where
         along : (q : Key) → IsLive c q → (x : V) → node_at written.live parents children q x ≡ node_at c.live parents children q x
-        along = node_along kept written written_indices parents children (λ q live. written_keys q ∙ live) (λ p. refl) (λ q live. sym (written_keys q) ∙ live) (λ i. refl)
+        along = node_along kept written written_indices parents children (λ q live. written_keys q ∙ live) (λ p. refl)
+            (λ q live. sym (written_keys q) ∙ live) (λ i. refl)
 
   -- a copy has the same parents and children
   module _ (is_clone : V → V → Type 0) (copy : Content V) (clones : IsCloneBy is_clone c copy) (capacity : copy.capacity ≡ c.capacity) where
@@ -329,12 +367,14 @@ module _ {V : Type 0} {c : Content V} {parents : List ℕ} {children : Lists} (k
     copied_indices = indices_still c copy kept.indices (λ q live. sym (copied_keys q) ∙ live) (omega arith)
 
     pub copied_kept : IsKept copy parents children
-    copied_kept = kept_along kept copy copied_indices parents children (λ q live. copied_keys q ∙ live) (λ p. refl) (λ q live. sym (copied_keys q) ∙ live) (λ i. refl)
+    copied_kept = kept_along kept copy copied_indices parents children (λ q live. copied_keys q ∙ live) (λ p. refl)
+        (λ q live. sym (copied_keys q) ∙ live) (λ i. refl)
         (covers_less c.capacity copy.capacity parents children kept.covered (omega arith)) kept.disjoint
 
     pub copied_seen : IsCloneBy (IsNodeClone is_clone) (family c parents children) (family copy parents children)
     copied_seen = record {
-      live = λ q. subst (λ o. IsCloneOf (IsNodeClone is_clone) o (map.get (nodes_by copy.live parents children) q)) (sym (seen_get c.live parents children q)) (by q (map.get c.live q) refl (clones.live q));
+      live = λ q. subst (λ o. IsCloneOf (IsNodeClone is_clone) o (map.get (nodes_by copy.live parents children) q))
+          (sym (seen_get c.live parents children q)) (by q (map.get c.live q) refl (clones.live q));
       detached = clones.detached;
       retired = clones.retired;
       next = clones.next;
@@ -342,12 +382,15 @@ module _ {V : Type 0} {c : Content V} {parents : List ℕ} {children : Lists} (k
       stack = clones.stack;
     }
       where
-        at : (q : Key) (v : V) (p : Option V) → IsCloneOf is_clone (Some v) p → IsCloneOf (IsNodeClone is_clone) (Some (node_at c.live parents children q v)) (option_map (node_at c.live parents children q) p)
+        at : (q : Key) (v : V) (p : Option V) → IsCloneOf is_clone (Some v) p
+            → IsCloneOf (IsNodeClone is_clone) (Some (node_at c.live parents children q v)) (option_map (node_at c.live parents children q) p)
         at q v None is = is
         at q v (Some w) is = (is, refl, refl)
 
-        by : (q : Key) (o : Option V) → map.get c.live q ≡ o → IsCloneOf is_clone o (map.get copy.live q) → IsCloneOf (IsNodeClone is_clone) (option_map (node_at c.live parents children q) o) (map.get (nodes_by copy.live parents children) q)
+        by : (q : Key) (o : Option V) → map.get c.live q ≡ o → IsCloneOf is_clone o (map.get copy.live q)
+            → IsCloneOf (IsNodeClone is_clone) (option_map (node_at c.live parents children q) o) (map.get (nodes_by copy.live parents children) q)
         by q None there is = seen_get copy.live parents children q ∙ ap (option_map (node_at copy.live parents children q)) is
         by q (Some v) there is = subst (IsCloneOf (IsNodeClone is_clone) (Some (node_at c.live parents children q v)))
-            (sym (get_along kept copy copied_indices parents children (λ q live. copied_keys q ∙ live) (λ p. refl) (λ q live. sym (copied_keys q) ∙ live) (λ i. refl) q (ap is_some there)))
+            (sym (get_along kept copy copied_indices parents children (λ q live. copied_keys q ∙ live) (λ p. refl)
+                (λ q live. sym (copied_keys q) ∙ live) (λ i. refl) q (ap is_some there)))
             (at q v (map.get copy.live q) is)

@@ -1,5 +1,6 @@
 -- How a scene is kept: its values in a map, and beside it, by the index of a key, the index of the parent and those of the children.
-use Rattle.std.specs.Prelude.{◌≡◌, ◌⊎◌, ℕ, ◌<◌, ◌≤◌, Option, Some, None, IfSome, List, length, map as list_map, unwrap_or, nat_eq, slice_index_or, cond}
+use Rattle.std.specs.Prelude.{◌≡◌, ◌⊎◌, ℕ, ◌<◌, ◌≤◌, Option, Some, None, IfSome, List, length, map as list_map, unwrap_or, nat_eq}
+use Rattle.std.specs.Prelude.{slice_index_or, cond}
 use Rattle.std.specs.List.{find, filter}
 use Rattle.std.specs.FinMap as map
 use Rattle.slotmap.specs.Words.{Key, key_cmp, null_key, Content, IsLive}

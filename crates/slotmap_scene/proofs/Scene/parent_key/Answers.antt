@@ -4,4 +4,5 @@ use Rattle.slotmap_scene.proofs.Climbs.{parent_rooted}
 use Rattle.slotmap_scene.proofs.Scene.parent_key.Goals as goal
 
 pub returns-clause-rooted : goal.returns-clause-rooted
-returns-clause-rooted g c = rw (← c.self.view_is) (subst (HasRoot c.self.inside.nodes.live) (sym c.parent.ensures) (parent_rooted c.self.inside.nodes.live c.self.invariant.tree c.args.node))
+returns-clause-rooted g c = rw (← c.self.view_is)
+    (subst (HasRoot c.self.inside.nodes.live) (sym c.parent.ensures) (parent_rooted c.self.inside.nodes.live c.self.invariant.tree c.args.node))

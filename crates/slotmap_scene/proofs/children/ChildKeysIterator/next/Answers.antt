@@ -9,7 +9,9 @@ returns-in_err-key_at-clause-steps g c =
     let nodes = c.self.inside.nodes.now in
     let i = c.in_ok-index.index in
     let has = first_index nodes c.self.invariant.0 i c.next.new.self (subst (AreIndices nodes) c.in_ok-index.ensures.steps c.self.invariant.1) in
-    let found : c.key_at.result ≡ Some (key_at nodes.live i) = found_is nodes c.self.invariant.0 i c.key_at.result c.key_at.ensures.live c.key_at.ensures.index c.key_at.ensures.none ∙ found_key nodes c.self.invariant.0 i has in
+    let found : c.key_at.result ≡ Some
+        (key_at nodes.live i) = found_is nodes c.self.invariant.0 i c.key_at.result c.key_at.ensures.live c.key_at.ensures.index c.key_at.ensures.none
+        ∙ found_key nodes c.self.invariant.0 i has in
     absurd (let none = c.in_err-key_at.was in cc)
 
 pub returns-clause-steps : goal.returns-clause-steps
@@ -17,6 +19,8 @@ returns-clause-steps g c =
     let nodes = c.self.inside.nodes.now in
     let i = c.in_ok-index.index in
     let has = first_index nodes c.self.invariant.0 i c.next.new.self (subst (AreIndices nodes) c.in_ok-index.ensures.steps c.self.invariant.1) in
-    let found : c.key_at.result ≡ Some (key_at nodes.live i) = found_is nodes c.self.invariant.0 i c.key_at.result c.key_at.ensures.live c.key_at.ensures.index c.key_at.ensures.none ∙ found_key nodes c.self.invariant.0 i has in
+    let found : c.key_at.result ≡ Some
+        (key_at nodes.live i) = found_is nodes c.self.invariant.0 i c.key_at.result c.key_at.ensures.live c.key_at.ensures.index c.key_at.ensures.none
+        ∙ found_key nodes c.self.invariant.0 i has in
     rw c.outer.ensures (sym c.self.view_is ∙ ap (keys_at nodes.live) c.in_ok-index.ensures.steps
     ∙ ap (λ k. k ∷ keys_at nodes.live c.next.new.self) (same_Some (key_at nodes.live i) c.in_ok-key_at.field-0 (sym found ∙ c.in_ok-key_at.was)))

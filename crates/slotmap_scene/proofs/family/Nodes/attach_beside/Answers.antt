@@ -6,13 +6,17 @@ pub put_beside-requires-clause-parent : goal.put_beside-requires-clause-parent
 put_beside-requires-clause-parent g c = owner_there c.self.invariant c.self.view_is c.args.parent c.requires.parent
 
 pub put_beside-requires-clause-sibling : goal.put_beside-requires-clause-sibling
-put_beside-requires-clause-sibling g c = child_there c.self.invariant c.self.view_is c.args.parent c.args.sibling (let once = c.requires.sibling in omega arith)
+put_beside-requires-clause-sibling g c = child_there c.self.invariant c.self.view_is c.args.parent c.args.sibling
+    (let once = c.requires.sibling in omega arith)
 
 pub put_beside-requires-clause-free : goal.put_beside-requires-clause-free
 put_beside-requires-clause-free g c = free_there c.self.invariant c.self.view_is c.args.node c.requires.node c.requires.alone
 
 pub invariant_of-self : goal.invariant_of-self
-invariant_of-self g c = (put_on_side c.self.invariant c.self.view_is c.args.parent c.args.node c.requires.parent c.requires.node c.put_beside.new.children c.args.side c.args.sibling (let once = c.requires.sibling in omega arith) c.put_beside.ensures.list c.put_beside.ensures.disjoint).0
+invariant_of-self g c =
+    (put_on_side c.self.invariant c.self.view_is c.args.parent c.args.node c.requires.parent c.requires.node c.put_beside.new.children c.args.side
+    c.args.sibling (let once = c.requires.sibling in omega arith) c.put_beside.ensures.list c.put_beside.ensures.disjoint).0
 
 pub returns : goal.returns
-returns g c = (put_on_side c.self.invariant c.self.view_is c.args.parent c.args.node c.requires.parent c.requires.node c.put_beside.new.children c.args.side c.args.sibling (let once = c.requires.sibling in omega arith) c.put_beside.ensures.list c.put_beside.ensures.disjoint).1
+returns g c = (put_on_side c.self.invariant c.self.view_is c.args.parent c.args.node c.requires.parent c.requires.node c.put_beside.new.children
+    c.args.side c.args.sibling (let once = c.requires.sibling in omega arith) c.put_beside.ensures.list c.put_beside.ensures.disjoint).1

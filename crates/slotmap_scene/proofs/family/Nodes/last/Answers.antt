@@ -13,12 +13,20 @@ last-requires g c = rw (c.owner.ensures, ← c.self.view_is) (owner_below c.self
 
 pub returns-in_err-last : goal.returns-in_err-last
 returns-in_err-last g c = rw (c.from_residual.ensures, ← c.self.view_is) (
-    ap (option_map (key_at c.self.inside.values.live)) (sym c.in_err-last.was ∙ c.last.ensures ∙ ap (λ p. last_number (list_of c.self.inside.children p) None) (c.owner.ensures ∙ ap (λ (s : Content (Node g.row.T.Denot)). owner_of s.live c.args.node) (sym c.self.view_is))) ∙ last_seen c.self.invariant c.args.node)
+    ap (option_map (key_at c.self.inside.values.live))
+        (sym c.in_err-last.was ∙ c.last.ensures
+        ∙ ap (λ p. last_number (list_of c.self.inside.children p) None)
+        (c.owner.ensures ∙ ap (λ (s : Content (Node g.row.T.Denot)). owner_of s.live c.args.node) (sym c.self.view_is)))
+        ∙ last_seen c.self.invariant c.args.node)
 
 pub returns : goal.returns
 returns g c =
     let list = list_of c.self.inside.children c.owner.result in
     let has = indices_at c.self.invariant c.owner.result c.in_ok-last.field-0 (last_in list c.in_ok-last.field-0 (sym c.last.ensures ∙ c.in_ok-last.was)) in
     rw (← c.self.view_is) (
-    key_found c.self.invariant c.last.result c.in_ok-last.field-0 c.in_ok-last.was has c.key_at.result c.key_at.ensures.live c.key_at.ensures.index c.key_at.ensures.none
-    ∙ ap (option_map (key_at c.self.inside.values.live)) (c.last.ensures ∙ ap (λ p. last_number (list_of c.self.inside.children p) None) (c.owner.ensures ∙ ap (λ (s : Content (Node g.row.T.Denot)). owner_of s.live c.args.node) (sym c.self.view_is))) ∙ last_seen c.self.invariant c.args.node)
+    key_found c.self.invariant c.last.result c.in_ok-last.field-0 c.in_ok-last.was has c.key_at.result c.key_at.ensures.live c.key_at.ensures.index
+        c.key_at.ensures.none
+    ∙ ap (option_map (key_at c.self.inside.values.live))
+        (c.last.ensures ∙ ap (λ p. last_number (list_of c.self.inside.children p) None)
+        (c.owner.ensures ∙ ap (λ (s : Content (Node g.row.T.Denot)). owner_of s.live c.args.node) (sym c.self.view_is)))
+        ∙ last_seen c.self.invariant c.args.node)

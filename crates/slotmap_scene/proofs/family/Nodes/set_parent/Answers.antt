@@ -3,12 +3,15 @@ use Rattle.slotmap_scene.proofs.Placing.{hangs, place_there}
 use Rattle.slotmap_scene.proofs.family.Nodes.set_parent.Goals as goal
 
 pub index_mut-requires : goal.index_mut-requires
-index_mut-requires g c = let place = place_there c.self.invariant c.self.view_is c.args.node c.requires.node in let same = c.self.inside.parents.ok.0 in let at = c.index_of.ensures in omega arith
+index_mut-requires g c = let place = place_there c.self.invariant c.self.view_is c.args.node c.requires.node in let same = c.self.inside.parents.ok.0 in
+    let at = c.index_of.ensures in omega arith
 
 pub invariant_of-self : goal.invariant_of-self
 invariant_of-self g c = (hangs c.self.invariant c.self.view_is c.args.node c.requires.node c.args.parent c.requires.parent
-    (set c.self.inside.parents.items c.index_of.result c.parent_index.result) (λ n. set c.self.inside.parents.items (c.index_of.ensures n) (c.parent_index.ensures n))).0
+    (set c.self.inside.parents.items c.index_of.result c.parent_index.result)
+        (λ n. set c.self.inside.parents.items (c.index_of.ensures n) (c.parent_index.ensures n))).0
 
 pub returns : goal.returns
 returns g c = (hangs c.self.invariant c.self.view_is c.args.node c.requires.node c.args.parent c.requires.parent
-    (set c.self.inside.parents.items c.index_of.result c.parent_index.result) (λ n. set c.self.inside.parents.items (c.index_of.ensures n) (c.parent_index.ensures n))).1
+    (set c.self.inside.parents.items c.index_of.result c.parent_index.result)
+        (λ n. set c.self.inside.parents.items (c.index_of.ensures n) (c.parent_index.ensures n))).1

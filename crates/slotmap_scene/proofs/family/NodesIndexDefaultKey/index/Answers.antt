@@ -7,4 +7,5 @@ pub value-requires : goal.value-requires
 value-requires g c = is_live c.self.invariant c.self.view_is c.args.node c.requires
 
 pub returns : goal.returns
-returns g c = rw (← c.self.view_is) (seen_value c.self.inside.values.live c.self.inside.parents.items c.self.inside.children c.args.node ∙ c.value.ensures)
+returns g c = rw (← c.self.view_is)
+    (seen_value c.self.inside.values.live c.self.inside.parents.items c.self.inside.children c.args.node ∙ c.value.ensures)
