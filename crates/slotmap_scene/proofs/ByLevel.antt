@@ -1,5 +1,6 @@
 -- The nodes of a scene, level by level from the roots down.
-use Rattle.std.proofs.Common.{◌≡◌, ◌≢◌, ℕ, zero, suc, ◌+◌, ◌<◌, ◌≤◌, true, false, cond, Option, Some, None, is_some, List, [], ◌∷◌, ◌++◌, length, get_or, take, refl, sym, ap, ◌∙◌, inl, inr, arith, append_assoc}
+use Rattle.std.proofs.Common.{◌≡◌, ◌≢◌, ℕ, zero, suc, ◌+◌, ◌<◌, ◌≤◌, true, false, cond, Option, Some, None, is_some, List, [], ◌∷◌}
+use Rattle.std.proofs.Common.{◌++◌, length, get_or, take, refl, sym, ap, ◌∙◌, inl, inr, arith, append_assoc}
 use Rattle.std.specs.Prelude.{map as list_map}
 use Rattle.std.specs.FinMap as map
 use Rattle.std.specs.FinMap.Entries.{find}
@@ -30,15 +31,22 @@ module _ {N : Type 0} (parent : N → Option Key) (k : Key) where
   abbrev listed_keys : List (Key × N) → List Key
   listed_keys es = list_map (λ e. e.0) es
 
+  -- by whether the first one is a root
+  by_first : (P : List Key → Type 0) (e : Key × N) (es : List (Key × N)) → (is_some (parent e.1) ≡ true → P (roots_by parent es))
+      → (is_some (parent e.1) ≡ false → P (e.0 ∷ roots_by parent es)) → P (roots_by parent (e ∷ es))
+  by_first P e es child root =
+      elim (is_some (parent e.1)) as (λ b. is_some (parent e.1) ≡ b → P (cond b (roots_by parent es) (e.0 ∷ roots_by parent es))) [
+        | true ↦ child
+        | false ↦ root
+      ] refl
+
   roots_few : (es : List (Key × N)) → times k (roots_by parent es) ≤ times k (listed_keys es)
   roots_few [] = omega arith
   roots_few (e ∷ es) =
       let rest = roots_few es in
       let keys = times_first k e.0 (listed_keys es) in
-      elim (is_some (parent e.1)) as (λ b. times k (cond b (roots_by parent es) (e.0 ∷ roots_by parent es)) ≤ times k (e.0 ∷ listed_keys es)) [
-        | true ↦ (omega arith)
-        | false ↦ (let first = times_first k e.0 (roots_by parent es) in omega arith)
-      ]
+      let first = times_first k e.0 (roots_by parent es) in
+      by_first (λ ks. times k ks ≤ times k (e.0 ∷ listed_keys es)) e es (λ child. omega arith) (λ root. omega arith)
 
   found_first : (e : Key × N) (es : List (Key × N)) → k ≡ e.0 → find key_cmp k (e ∷ es) ≡ Some e.1
   found_first e es is = let i = itself keys_total exact_keys k in grind (arith, rw is at i)
@@ -49,40 +57,36 @@ module _ {N : Type 0} (parent : N → Option Key) (k : Key) where
   root_there : (n : N) (es : List (Key × N)) → find key_cmp k es ≡ Some n → parent n ≡ None → 0 < times k (roots_by parent es)
   root_there n [] found root = absurd (cc)
   root_there n (e ∷ es) found root =
-      elim (is_some (parent e.1)) as (λ b. is_some (parent e.1) ≡ b → 0 < times k (cond b (roots_by parent es) (e.0 ∷ roots_by parent es))) [
-        | true ↦ λ child. root_there n es (elim (same_or_other k e.0) [
-          | inl is ↦ absurd (let at = sym (found_first e es is) ∙ found in let same_node : e.1 ≡ n = cc in let none = ap (λ m. is_some (parent m)) same_node ∙ ap is_some root in cc)
-          | inr other ↦ sym (found_behind e es other) ∙ found
-        ]) root
-        | false ↦ λ top.
-            let first = times_first k e.0 (roots_by parent es) in
-            elim (same_or_other k e.0) [
-              | inl is ↦ (let one = ap (λ q. same q k) (sym is) ∙ one_itself k in omega arith)
-              | inr other ↦ (let rest = root_there n es (sym (found_behind e es other) ∙ found) root in omega arith)
-            ]
-      ] refl
+      let first = times_first k e.0 (roots_by parent es) in
+      elim (same_or_other k e.0) [
+        | inl is ↦
+            let h = sym (found_first e es is) ∙ found in
+            let own : e.1 ≡ n = cc in
+            let one = ap (λ q. same q k) (sym is) ∙ one_itself k in
+            by_first (λ ks. 0 < times k ks) e es
+            (λ child. absurd (let none = ap (λ m. is_some (parent m)) own ∙ ap is_some root in cc)) (λ top. omega arith)
+        | inr other ↦
+            let rest = root_there n es (sym (found_behind e es other) ∙ found) root in
+            by_first (λ ks. 0 < times k ks) e es (λ child. rest) (λ top. omega arith)
+      ]
 
-  root_is : (es : List (Key × N)) → times k (listed_keys es) ≤ 1 → 0 < times k (roots_by parent es) → (n : N) × (find key_cmp k es ≡ Some n) × (parent n ≡ None)
+  root_is : (es : List (Key × N)) → times k (listed_keys es) ≤ 1 → 0 < times k (roots_by parent es)
+      → (n : N) × (find key_cmp k es ≡ Some n) × (parent n ≡ None)
   root_is [] once more = absurd (omega arith)
   root_is (e ∷ es) once more =
       let keys = times_first k e.0 (listed_keys es) in
+      let first = times_first k e.0 (roots_by parent es) in
       elim (same_or_other k e.0) [
         | inl is ↦
             let one = ap (λ q. same q k) (sym is) ∙ one_itself k in
-            let few = roots_few es in (
-              e.1,
-              found_first e es is,
-              not_some (parent e.1) (elim (is_some (parent e.1)) as (λ b. 0 < times k (cond b (roots_by parent es) (e.0 ∷ roots_by parent es)) → b ≡ false) [
-                | true ↦ λ some. absurd (omega arith)
-                | false ↦ λ some. refl
-              ] more),
-            )
+            let few = roots_few es in
+            let root =
+            by_first (λ ks. 0 < times k ks → parent e.1 ≡ None) e es (λ child some. absurd (omega arith)) (λ top some. not_some (parent e.1) top) more in
+            (e.1, found_first e es is, root)
         | inr other ↦
             let none = one_other e.0 k (λ is. other (sym is)) in
-            let rest = root_is es (omega arith) (elim (is_some (parent e.1)) as (λ b. 0 < times k (cond b (roots_by parent es) (e.0 ∷ roots_by parent es)) → 0 < times k (roots_by parent es)) [
-              | true ↦ λ some. some
-              | false ↦ λ some. (let first = times_first k e.0 (roots_by parent es) in omega arith)
-            ] more) in
+            let later = by_first (λ ks. 0 < times k ks → 0 < times k (roots_by parent es)) e es (λ child some. some) (λ top some. omega arith) more in
+            let rest = root_is es (omega arith) later in
             (rest.0, found_behind e es other ∙ rest.1, rest.2)
       ]
 
@@ -104,7 +108,9 @@ module _ {T : Type 0} (nodes : Nodes T) where
     where
       by : (o : Option (Node T)) → map.get nodes k ≡ o → 0 < times k roots
       by None none = absurd (let h = ap is_some none in cc)
-      by (Some n) there = root_there (λ (m : Node T). m.parent) k n (map.entries nodes) (sym (map.get-entries nodes k) ∙ there) (sym (ap parent_in there) ∙ root)
+      by (Some n) there =
+          let found = sym (map.get-entries nodes k) ∙ there in
+          root_there (λ (m : Node T). m.parent) k n (map.entries nodes) found (sym (ap parent_in there) ∙ root)
 
 module _ {T : Type 0} (nodes : Nodes T) (scene : IsScene nodes) where
   -- how often a key is among the children of some nodes
@@ -183,13 +189,15 @@ module _ {T : Type 0} (nodes : Nodes T) (scene : IsScene nodes) where
     levels_all k live = let up = scene.tree k live in listed_up up.0 k up.1
 
 -- one more node whose children are listed
-each_pushed : {T : Type 0} (nodes : Nodes T) (ks : List Key) (k : Key) → children_of_each nodes (ks ++ k ∷ []) ≡ children_of_each nodes ks ++ children_of nodes k
+each_pushed : {T : Type 0} (nodes : Nodes T) (ks : List Key) (k : Key)
+    → children_of_each nodes (ks ++ k ∷ []) ≡ children_of_each nodes ks ++ children_of nodes k
 each_pushed nodes [] k = append_nil_of (children_of nodes k)
   where
     append_nil_of : (xs : List Key) → xs ++ [] ≡ xs
     append_nil_of [] = refl
     append_nil_of (x ∷ xs) = ap (λ l. x ∷ l) (append_nil_of xs)
-each_pushed nodes (q ∷ ks) k = ap (λ l. children_of nodes q ++ l) (each_pushed nodes ks k) ∙ sym (append_assoc (children_of nodes q) (children_of_each nodes ks) (children_of nodes k))
+each_pushed nodes (q ∷ ks) k =
+    ap (λ l. children_of nodes q ++ l) (each_pushed nodes ks k) ∙ sym (append_assoc (children_of nodes q) (children_of_each nodes ks) (children_of nodes k))
 
 part_of_keys : (k : Key) (i : ℕ) (ks : List Key) → times k (take i ks) ≤ times k ks
 part_of_keys k zero ks = omega arith
@@ -217,9 +225,12 @@ module _ {T : Type 0} (nodes : Nodes T) (scene : IsScene nodes) (at : ℕ) (keys
   pub going_live : (k : Key) → 0 < times k keys → has_node nodes k
   going_live = levels_live nodes scene keys (take at keys) is part
 
-  pub going_on : (k : Key) → at < length keys → k ≡ get_or keys at k → (more : List Key) → more ≡ keys ++ children_of nodes k → Levels nodes (at + 1) more
+  pub going_on : (k : Key) → at < length keys → k ≡ get_or keys at k → (more : List Key)
+      → more ≡ keys ++ children_of nodes k → Levels nodes (at + 1) more
   going_on k inside here more more_is =
-      let first : take (at + 1) more ≡ take at keys ++ k ∷ [] = ap (take (at + 1)) more_is ∙ take-append-le (at + 1) keys (children_of nodes k) (omega arith) ∙ take_more keys at k inside ∙ ap (λ q. take at keys ++ q ∷ []) (sym here) in
+      let first : take (at + 1) more ≡ take at keys ++ k ∷ [] =
+      ap (take (at + 1)) more_is ∙ take-append-le (at + 1) keys (children_of nodes k) (omega arith)
+      ∙ take_more keys at k inside ∙ ap (λ q. take at keys ++ q ∷ []) (sym here) in
       more_is ∙ ap (λ l. l ++ children_of nodes k) is ∙ append_assoc (roots nodes) (children_of_each nodes (take at keys)) (children_of nodes k)
       ∙ sym (ap (λ l. roots nodes ++ l) (ap (children_of_each nodes) first ∙ each_pushed nodes (take at keys) k))
 

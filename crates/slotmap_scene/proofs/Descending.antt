@@ -1,5 +1,6 @@
 -- A walk down from a node: the keys that were listed, and those that are ahead.
-use Rattle.std.proofs.Common.{◌≡◌, ◌≢◌, ◌⊎◌, ℕ, zero, suc, ◌+◌, ◌<◌, ◌≤◌, Some, List, [], ◌∷◌, ◌++◌, length, length-append, refl, sym, ap, subst, ◌∙◌, inl, inr, arith, append_assoc}
+use Rattle.std.proofs.Common.{◌≡◌, ◌≢◌, ◌⊎◌, ℕ, zero, suc, ◌+◌, ◌<◌, ◌≤◌, Some, List, [], ◌∷◌, ◌++◌, length}
+use Rattle.std.proofs.Common.{length-append, refl, sym, ap, subst, ◌∙◌, inl, inr, arith, append_assoc}
 use Rattle.std.specs.Prelude.{map as list_map}
 use Rattle.std.specs.List.{All}
 use Rattle.std.proofs.lemmas.List.Elements.{All-nil, All-cons}
@@ -16,7 +17,8 @@ use Rattle.slotmap_scene.proofs.Climbs.{has_parent, no_cycle}
 use Rattle.slotmap_scene.proofs.Moved.{listed_once, listed_few, listed_parent}
 
 -- what holds of each key that is listed
-pub each_listed : {K : Type 0} (data_of : K → Key) (P : Key → Type 0) (xs : List K) → ((k : Key) → 0 < times k (list_map data_of xs) → P k) → All (λ x. P (data_of x)) xs
+pub each_listed : {K : Type 0} (data_of : K → Key) (P : Key → Type 0) (xs : List K) → ((k : Key) → 0 < times k (list_map data_of xs) → P k)
+    → All (λ x. P (data_of x)) xs
 each_listed data_of P [] only = All-nil _
 each_listed data_of P (x ∷ xs) only = All-cons (λ y. P (data_of y)) x xs
     (only (data_of x) (let first = times_first (data_of x) (data_of x) (list_map data_of xs) in let one = one_itself (data_of x) in omega arith))
@@ -28,7 +30,8 @@ module _ {T : Type 0} where
     pub record Descending (listed ahead : List Key) : Type 0 where
       pub order : (rest : List Key) → GoesDown nodes ahead rest → GoesDown nodes (children_of nodes node) (listed ++ rest)
       pub once : (k : Key) → times k listed + times k ahead ≤ 1
-      named : (k : Key) → 0 < times k listed + times k ahead → (p : Key) × (parent_of nodes k ≡ Some p) × ((p ≡ node) ⊎ (0 < times p listed)) × IsWithin nodes p node
+      named : (k : Key) → 0 < times k listed + times k ahead
+          → (p : Key) × (parent_of nodes k ≡ Some p) × ((p ≡ node) ⊎ (0 < times p listed)) × IsWithin nodes p node
       closed : (k p : Key) → parent_of nodes k ≡ Some p → (p ≡ node) ⊎ (0 < times p listed) → 0 < times k listed + times k ahead
 
   module _ (nodes : Nodes T) (scene : IsScene nodes) (node : Key) where
@@ -57,7 +60,8 @@ module _ {T : Type 0} where
         counted : (k : Key) → times k ahead ≡ same q k + times k others
         counted k = ap (times k) is ∙ times_first k q others
 
-        after : (k : Key) → times k (listed ++ q ∷ []) + times k (children_of nodes q ++ others) ≡ times k listed + times k ahead + times k (children_of nodes q)
+        after : (k : Key) → times k (listed ++ q ∷ []) + times k (children_of nodes q ++ others)
+            ≡ times k listed + times k ahead + times k (children_of nodes q)
         after k = let a = times_pushed k listed q in let b = times_joined k (children_of nodes q) others in let c = counted k in omega arith
 
         next_ahead : 0 < times q listed + times q ahead
@@ -83,7 +87,8 @@ module _ {T : Type 0} where
 
         pub descending_step : Descending nodes node (listed ++ q ∷ []) (children_of nodes q ++ others)
         descending_step = record {
-          order = λ rest goes. subst (GoesDown nodes (children_of nodes node)) (sym (append_assoc listed (q ∷ []) rest)) (d.order (q ∷ rest) (others, (is, goes)));
+          order = λ rest goes. subst (GoesDown nodes (children_of nodes node)) (sym (append_assoc listed (q ∷ []) rest))
+              (d.order (q ∷ rest) (others, (is, goes)));
           once = λ k. once_after k;
           named = λ k more. named_after k more;
           closed = λ k p own from. closed_after k p own from;
@@ -100,7 +105,8 @@ module _ {T : Type 0} where
                 → (p : Key) × (parent_of nodes k ≡ Some p) × ((p ≡ node) ⊎ (0 < times p (listed ++ q ∷ []))) × IsWithin nodes p node
             named_after k more = by (times k (children_of nodes q)) refl
               where
-                by : (n : ℕ) → times k (children_of nodes q) ≡ n → (p : Key) × (parent_of nodes k ≡ Some p) × ((p ≡ node) ⊎ (0 < times p (listed ++ q ∷ []))) × IsWithin nodes p node
+                by : (n : ℕ) → times k (children_of nodes q) ≡ n
+                    → (p : Key) × (parent_of nodes k ≡ Some p) × ((p ≡ node) ⊎ (0 < times p (listed ++ q ∷ []))) × IsWithin nodes p node
                 by zero none =
                     let from = d.named k (let a = after k in omega arith) in
                     (from.0, from.1, elim from.2 [ inl at ↦ inl at | inr was ↦ inr (let a = times_pushed from.0 listed q in omega arith) ], from.3)
@@ -111,14 +117,19 @@ module _ {T : Type 0} where
                   (below_node q next_ahead).1,
                 )
 
-            closed_after : (k p : Key) → parent_of nodes k ≡ Some p → (p ≡ node) ⊎ (0 < times p (listed ++ q ∷ [])) → 0 < times k (listed ++ q ∷ []) + times k (children_of nodes q ++ others)
+            closed_after : (k p : Key) → parent_of nodes k ≡ Some p → (p ≡ node) ⊎ (0 < times p (listed ++ q ∷ []))
+                → 0 < times k (listed ++ q ∷ []) + times k (children_of nodes q ++ others)
             closed_after k p own from =
                 let a = after k in
                 elim from [
                   | inl at ↦ (let more = d.closed k p own (inl at) in omega arith)
                   | inr some ↦ elim (same_or_other p q) [
                     | inl here ↦ (let one = listed_once nodes scene.listed q k (own ∙ ap Some here) in omega arith)
-                    | inr other ↦ (let b = times_pushed p listed q in let none = one_other q p (λ e. other (sym e)) in let more = d.closed k p own (inr (omega arith)) in omega arith)
+                    | inr other ↦ (
+                        let b = times_pushed p listed q in
+                        let none = one_other q p (λ e. other (sym e)) in
+                        let more = d.closed k p own (inr (omega arith)) in
+                        omega arith)
                   ]
                 ]
 

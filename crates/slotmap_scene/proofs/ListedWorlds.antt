@@ -27,32 +27,38 @@ module _ {T W : Type 0} (nodes : Nodes T) (under : W → W → W) (of : T → W)
     made = ap (under (of v)) world.made;
   }
 
--- one more pair with its transform
-pub worlds_pushed : {K T W : Type 0} (data_of : K → Key) (under : W → W → W) (of : T → W) (nodes : Nodes T) (xs new : List (K × W)) (k : K) (w : W) → new ≡ xs ++ (k, w) ∷ []
-    → AreWorlds data_of under of nodes xs → IsWorldOf under of nodes (data_of k) w → AreWorlds data_of under of nodes new
-worlds_pushed data_of under of nodes xs new k w is each own = rw is (All-push (λ e. IsWorldOf under of nodes (data_of e.0) e.1) xs (k, w) each own)
+module _ {K T W : Type 0} (data_of : K → Key) (under : W → W → W) (of : T → W) (nodes : Nodes T) where
+  abbrev IsPlaced : K × W → Type 0
+  IsPlaced e = IsWorldOf under of nodes (data_of e.0) e.1
 
--- where transforms join, each is what it comes to on the way up too
-pub worlds_composed : {K T W : Type 0} (data_of : K → Key) (under : W → W → W) (of : T → W) (nodes : Nodes T) (pairs : List (K × W)) → Joins under
-    → AreWorlds data_of under of nodes pairs → All (λ e. IsComposed under of nodes (data_of e.0) e.1) pairs
-worlds_composed data_of under of nodes pairs joins each =
-    All-weaker (λ e. IsWorldOf under of nodes (data_of e.0) e.1) (λ e. IsComposed under of nodes (data_of e.0) e.1)
-    (λ e world. world_composed nodes under of (data_of e.0) e.1 joins world) pairs each
+  -- one more pair with its transform
+  pub worlds_pushed : (xs new : List (K × W)) (k : K) (w : W) → new ≡ xs ++ (k, w) ∷ [] → AreWorlds data_of under of nodes xs
+      → IsWorldOf under of nodes (data_of k) w → AreWorlds data_of under of nodes new
+  worlds_pushed xs new k w is each own = rw is (All-push IsPlaced xs (k, w) each own)
 
--- what holds of each transform that is listed holds of that of each node, if all nodes are listed
-module _ {K T W : Type 0} (data_of : K → Key) (under : W → W → W) (of : T → W) (nodes : Nodes T) (P : W → Type 0) (k : Key) (w : W) (world : IsWorldOf under of nodes k w) where
-  listed_world : (pairs : List (K × W)) → AreWorlds data_of under of nodes pairs → All (λ e. P e.1) pairs → 0 < times k (keys_of_pairs data_of pairs) → P w
-  listed_world [] worlds holds there = absurd (omega arith)
-  listed_world (e ∷ es) worlds holds there =
-      let Own : K × W → Type 0 = λ e. IsWorldOf under of nodes (data_of e.0) e.1 in
-      elim (same_or_other (data_of e.0) k) [
-        | inl is ↦ subst P (one_world_of nodes under of k e.1 w (subst (λ q. IsWorldOf under of nodes q e.1) is (All-head Own e es worlds)) world) (All-head (λ e. P e.1) e es holds)
-        | inr other ↦
-            let first = times_first k (data_of e.0) (keys_of_pairs data_of es) in
-            let none = one_other (data_of e.0) k other in
-            listed_world es (All-tail Own e es worlds) (All-tail (λ e. P e.1) e es holds) (omega arith)
-      ]
+  -- where transforms join, each is what it comes to on the way up too
+  pub worlds_composed : (pairs : List (K × W)) → Joins under → AreWorlds data_of under of nodes pairs
+      → All (λ e. IsComposed under of nodes (data_of e.0) e.1) pairs
+  worlds_composed pairs joins each =
+      All-weaker IsPlaced (λ e. IsComposed under of nodes (data_of e.0) e.1)
+      (λ e world. world_composed nodes under of (data_of e.0) e.1 joins world) pairs each
 
-  pub each_world : (pairs : List (K × W)) → AreWorlds data_of under of nodes pairs → ((q : Key) → has_node nodes q → 0 < times q (keys_of_pairs data_of pairs))
-      → All (λ e. P e.1) pairs → P w
-  each_world pairs worlds all holds = listed_world pairs worlds holds (all k (path_live nodes k (world.own ∷ world.above) world.path))
+  -- what holds of each transform that is listed holds of that of each node, if all nodes are listed
+  module _ (P : W → Type 0) (k : Key) (w : W) (world : IsWorldOf under of nodes k w) where
+    listed_world : (pairs : List (K × W)) → AreWorlds data_of under of nodes pairs → All (λ e. P e.1) pairs
+        → 0 < times k (keys_of_pairs data_of pairs) → P w
+    listed_world [] worlds holds there = absurd (omega arith)
+    listed_world (e ∷ es) worlds holds there = elim (same_or_other (data_of e.0) k) [
+      | inl is ↦
+          let own = subst (λ q. IsWorldOf under of nodes q e.1) is (All-head IsPlaced e es worlds) in
+          subst P (one_world_of nodes under of k e.1 w own world) (All-head (λ e. P e.1) e es holds)
+      | inr other ↦
+          let first = times_first k (data_of e.0) (keys_of_pairs data_of es) in
+          let none = one_other (data_of e.0) k other in
+          listed_world es (All-tail IsPlaced e es worlds) (All-tail (λ e. P e.1) e es holds) (omega arith)
+    ]
+
+    pub each_world : (pairs : List (K × W)) → AreWorlds data_of under of nodes pairs
+        → ((q : Key) → has_node nodes q → 0 < times q (keys_of_pairs data_of pairs)) → All (λ e. P e.1) pairs → P w
+    each_world pairs worlds all holds =
+        listed_world pairs worlds holds (all k (path_live nodes k (world.own ∷ world.above) world.path))

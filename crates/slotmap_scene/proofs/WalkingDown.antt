@@ -1,12 +1,13 @@
 -- A walk through all that is below a node, from sibling to sibling and from the last one up.
-use Rattle.std.proofs.Common.{◌≡◌, ◌≢◌, false, ℕ, zero, suc, ◌+◌, ◌<◌, ◌≤◌, cond, Option, Some, None, List, [], ◌∷◌, ◌++◌, length, length-append, refl, sym, ap, subst, ◌∙◌, arith, append_assoc, append-nil}
+use Rattle.std.proofs.Common.{◌≡◌, ◌≢◌, false, ℕ, zero, suc, ◌+◌, ◌<◌, ◌≤◌, cond, Option, Some, None, List, [], ◌∷◌}
+use Rattle.std.proofs.Common.{◌++◌, length, length-append, refl, sym, ap, subst, ◌∙◌, arith, append_assoc, append-nil}
 use Rattle.std.specs.FinMap as map
 use Rattle.slotmap.specs.Words.{Key, same_keys}
 use Rattle.slotmap_keylist.specs.KeyLists.{is_key, same, times}
 use Rattle.slotmap_keylist.specs.Linked.{first_or}
 use Rattle.slotmap_keylist.proofs.Counts.{is_itself, is_other, one_itself, times_first, times_joined}
 use Rattle.slotmap_scene.specs.Node.{Node, Nodes}
-use Rattle.slotmap_scene.specs.Below.{GoesDown, keys_down, all_below, keys_from, AreAhead, StandsAt, WalksBelow}
+use Rattle.slotmap_scene.specs.Below.{GoesDown, keys_down, all_below, keys_from, AreAhead, WalkStands, WalksBelow}
 use Rattle.slotmap_scene.specs.Climb.{has_node, parent_in, parent_of, StepsTo, IsWithin}
 use Rattle.slotmap_scene.specs.Family.{behind, children_of, children_under, siblings_of, IsScene}
 use Rattle.slotmap_scene.proofs.Climbs.{Climbing, climbing_start, climbing_step, has_parent, no_cycle}
@@ -65,7 +66,7 @@ module _ {T : Type 0} (nodes : Nodes T) (node : Key) where
   -- the way up from the key at which a walk stands: what is ahead of it is what is ahead of this one
   pub record Rises (key at : Key) (steps : ℕ) : Type 0 where
     pub climbing : Climbing nodes key at steps
-    stands : StandsAt nodes node key
+    stands : WalkStands nodes node key
     left : ℕ
     is_ahead : AreAhead nodes node left at stands.ahead
 
@@ -175,7 +176,7 @@ module _ {T : Type 0} (nodes : Nodes T) (scene : IsScene nodes) (node : Key) whe
       absurd (no_cycle nodes scene.tree node steps.0 (ap (parent_of nodes) (sym here) ∙ steps.1.0) (n, steps.1.1))
 
   -- a step of the walk, to the first of the keys that are ahead now
-  module _ (key : Key) (stands : StandsAt nodes node key) where
+  module _ (key : Key) (stands : WalkStands nodes node key) where
     advance : (k : Key) (others : List Key) (n : ℕ) → GoesDown nodes (k ∷ others) stands.rest → AreAhead nodes node (suc n) k others
         → GoesOn nodes node key (Some k)
     advance k others n goes is_ahead =
@@ -214,7 +215,7 @@ module _ {T : Type 0} (nodes : Nodes T) (scene : IsScene nodes) (node : Key) whe
           ∙ ap (λ l. key ∷ l) (nothing_down nodes stands.rest (subst (λ ks. GoesDown nodes ks stands.rest) none (leaf_goes leaf))),
     )
 
-  pub rise_start : (key : Key) → StandsAt nodes node key → Rises nodes node key key 0
+  pub rise_start : (key : Key) → WalkStands nodes node key → Rises nodes node key key 0
   rise_start key stands =
       let up = stands.is_ahead in
       let own = own_parent key up.0 up.1 up.2 up.4 in record {

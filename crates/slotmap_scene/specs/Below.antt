@@ -39,7 +39,7 @@ module _ {T : Type 0} where
       × (children_of nodes p ≡ before ++ k ∷ after) × (ahead ≡ after ++ others) × AreAhead nodes node n p others
 
   -- a walk through all that is below a node stands at k
-  pub record StandsAt (nodes : Nodes T) (node k : Key) : Type 0 where
+  pub record WalkStands (nodes : Nodes T) (node k : Key) : Type 0 where
     pub done : List Key
     pub rest : List Key
     pub ahead : List Key
@@ -51,7 +51,7 @@ module _ {T : Type 0} where
   -- the same, or it has come to its end
   abbrev pub StandsOrEnds : Nodes T → Key → Option Key → Type 0
   StandsOrEnds nodes node None = ⊤
-  StandsOrEnds nodes node (Some k) = StandsAt nodes node k
+  StandsOrEnds nodes node (Some k) = WalkStands nodes node k
 
   -- what holds of each walk
   pub record WalksBelow (nodes : Nodes T) (node : Key) (at : Option Key) : Type 0 where

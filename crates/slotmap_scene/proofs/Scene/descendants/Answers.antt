@@ -24,8 +24,8 @@ loop-key-preserved g c =
 done : (g : Over) (c : In-None g) → Descended c.args.self.now.live (g.K.Key.data_of c.args.node) (list_map g.K.Key.data_of c.loop-key.below.items)
 done g c =
     let listed = list_map g.K.Key.data_of c.loop-key.below.items in
-    subst (Descended c.args.self.now.live (g.K.Key.data_of c.args.node))
-        (ap (λ l. listed ++ l) c.in-None.ensures.steps.0 ∙ append-nil listed) c.loop-key.invariant.listed
+    let all = ap (λ l. listed ++ l) c.in-None.ensures.steps.0 ∙ append-nil listed in
+    subst (Descended c.args.self.now.live (g.K.Key.data_of c.args.node)) all c.loop-key.invariant.listed
 
 pub returns-clause-order : goal.returns-clause-order
 returns-clause-order g c = (done g c).order
@@ -35,8 +35,9 @@ returns-clause-all g c = (done g c).all
 
 pub returns-clause-only : goal.returns-clause-only
 returns-clause-only g c =
-    each_listed g.K.Key.data_of
-        (λ k. has_node c.args.self.now.live k × IsWithin c.args.self.now.live k (g.K.Key.data_of c.args.node) × (k ≢ g.K.Key.data_of c.args.node)) _
+    let nodes = c.args.self.now.live in
+    let node = g.K.Key.data_of c.args.node in
+    each_listed g.K.Key.data_of (λ k. has_node nodes k × IsWithin nodes k node × (k ≢ node)) _
     (done g c).only
 
 pub returns-clause-once : goal.returns-clause-once
