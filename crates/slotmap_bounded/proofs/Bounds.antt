@@ -1,5 +1,6 @@
 -- A content with another room: what each call of the map does to it.
-use Rattle.std.proofs.Common.{◌≡◌, ℕ, ◌+◌, ◌-◌, ◌<◌, ◌≤◌, ◌∙◌, true, false, List, Option, Some, None, subst, cond, if◌then◌else◌, is_some, inl, inr, refl, sym, ap, arith}
+use Rattle.std.proofs.Common.{◌≡◌, ℕ, ◌+◌, ◌-◌, ◌<◌, ◌≤◌, ◌∙◌, true, false, List, Option, Some, None, subst, cond, if◌then◌else◌}
+use Rattle.std.proofs.Common.{is_some, inl, inr, refl, sym, ap, arith}
 use Rattle.std.specs.FinMap as map
 use Rattle.std.specs.FinSet as set
 use Rattle.std.specs.Ordering.{nat_cmp}
@@ -257,7 +258,8 @@ module _ {V : Type 0} (c : Content V) (room capacity : ℕ) (is : IsBounded c ro
     }
 
 -- the capacity stays
-pub stays : {V : Type 0} (c new : Content V) (room now capacity : ℕ) → IsBounded c room capacity → IsBounded new now capacity → StaysValid true (bounded c room capacity) (bounded new now capacity)
+pub stays : {V : Type 0} (c new : Content V) (room now capacity : ℕ) → IsBounded c room capacity → IsBounded new now capacity
+    → StaysValid true (bounded c room capacity) (bounded new now capacity)
 stays c new room now capacity was is = record { before = bounded_valid c room capacity was; after = bounded_valid new now capacity is; capacity = refl }
 
 -- nothing was inserted yet
@@ -270,7 +272,8 @@ starts {V} c room new valid fits =
     record { valid = valid; vacant = omega arith; fits = fits; exact = omega arith }
 
 -- a copy, where room was made as in the map that was copied
-module _ {V : Type 0} (c : Content V) (room capacity : ℕ) (is : IsBounded c room capacity) (is_clone : V → V → Type 0) (mid : Content V) (clones : IsCloneBy is_clone c mid) (ok : Type 0) (new : Content V) (makes : MakesRoom true mid room ok new) where
+module _ {V : Type 0} (c : Content V) (room capacity : ℕ) (is : IsBounded c room capacity) (is_clone : V → V → Type 0) (mid : Content V)
+    (clones : IsCloneBy is_clone c mid) (ok : Type 0) (new : Content V) (makes : MakesRoom true mid room ok new) where
   pub copied : ok → IsBounded new room capacity
   copied done =
       let keeps = makes.keeps in

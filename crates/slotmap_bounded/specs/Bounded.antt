@@ -1,11 +1,11 @@
 -- A content that promises as much room as was asked for.
-use Rattle.std.specs.Prelude.{◌≡◌, ℕ, ◌+◌, ◌-◌, ◌/◌, ◌≤◌, true, cond, max, min, nat_lt}
+use Rattle.std.specs.Prelude.{◌≡◌, ℕ, ◌+◌, ◌-◌, ◌≤◌, true, cond, max, min, nat_lt}
 use Rattle.std.specs.FinMap as map
 use Rattle.slotmap.specs.Words.{Content, IsContent, most, used}
 
--- how many more keys are promised where room for n is asked for: half as many as there are, if that is more, within the limit
+-- how many more keys are promised where room for n is asked for: as many as there are, and four at least, if that is more, within the limit
 abbrev pub grown : ℕ → ℕ → ℕ
-grown used n = max n (min (used / 2) (most - used))
+grown used n = max n (min (max used 4) (most - used))
 
 module _ {V : Type 0} where
   -- the same content with another room and another capacity

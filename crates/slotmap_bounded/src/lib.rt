@@ -19,7 +19,8 @@
 //! ```
 #![tactic(auto, using(slotmap::proofs::Callers::keys))]
 
-ghost use Rattle.std.specs.Prelude.{◌≡◌, ◌≢◌, ℕ, ◌+◌, ◌-◌, ◌<◌, ◌≤◌, if◌then◌else◌, Some, IfOk, OnOk, OnErr, IfErr, IsOk, IsTrue, ◌↔◌, OnSome, IfSome, IfNone, Ok, option_copied, true};
+ghost use Rattle.std.specs.Prelude.{◌≡◌, ◌≢◌, ℕ, ◌+◌, ◌-◌, ◌<◌, ◌≤◌, if◌then◌else◌, Some, IfOk, OnOk, OnErr, IfErr, IsOk, IsTrue};
+ghost use Rattle.std.specs.Prelude.{◌↔◌, OnSome, IfSome, IfNone, Ok, option_copied, false, true};
 ghost use Rattle.std.specs.FinMap as map;
 ghost use Rattle.std.specs.Borrow.{sem};
 ghost use Rattle.std.specs.Option.{option_copied_mut};
@@ -34,6 +35,9 @@ use std::marker::Model;
 
 // How many keys a map holds at most.
 const MOST: usize = 4_294_967_294;
+
+// For how many keys room is made at least, where some is made.
+const FEW: usize = 4;
 
 /// A slot map that promises the room that it counted where it was reserved, and no more.
 ///
@@ -70,6 +74,18 @@ fn freed<K: Key>(key: K) -> usize
     1
 }
 
+// Rules out a case that is proved impossible. An impossible write, beyond every slice, stands there: LLVM
+// knows that no such write runs, and drops the test.
+#[inline(always)]
+fn exclude(case: bool)
+    requires { case ≡ false }
+{
+    if case {
+        let nowhere: &mut [u8] = &mut [];
+        nowhere[1 << 64] = 0;
+    }
+}
+
 // For how many more keys room is made where it is asked for so many.
 fn grown(used: usize, additional: usize) -> usize
     requires used { used ≤ most }
@@ -78,7 +94,7 @@ fn grown(used: usize, additional: usize) -> usize
     ensures enough { additional ≤ result }
     ensures limit { used + result ≤ most }
 {
-    additional.max((used / 2).min(MOST - used))
+    additional.max(used.max(FEW).min(MOST - used))
 }
 
 impl<K: Key, V: Drop> BoundedMap<K, V> {
@@ -166,8 +182,8 @@ impl<K: Key, V: Drop> BoundedMap<K, V> {
 
     /// Reserves room for `additional` more keys. If there is room, it changes nothing.
     ///
-    /// Where it makes room, it makes room for half as many keys as there are, if that is more. So inserts
-    /// that reserve room for one key each take constant time on average.
+    /// Where it makes room, it makes room for as many keys as there are, and for four at least, if that is
+    /// more. So inserts that reserve room for one key each take constant time on average.
     ///
     /// The capacity is that of [`BoundedMap::capacity_for`] then. It fails with `TooGreat` if more than
     /// 4294967294 keys would be there, counting those that are retired, and with `Memory` if memory runs
@@ -207,9 +223,16 @@ impl<K: Key, V: Drop> BoundedMap<K, V> {
         ensures within { (K.data_of result).index ≤ self.new.capacity }
         ensures valid { StaysValid true self.old self.new }
     {
-        let key = self.map.insert(value).unwrap();
-        self.room -= 1;
-        key
+        match self.map.insert(value) {
+            Ok(key) => {
+                self.room -= 1;
+                key
+            }
+            Err(_) => {
+                exclude(true);
+                unreachable!()
+            }
+        }
     }
 
     /// Removes a key, and returns its value, or `None` if the key isn't live. The capacity stays.
@@ -287,6 +310,44 @@ impl<K: Key, V: Drop> BoundedMap<K, V> {
         ensures none { IfNone result ((other : KeyOf) → IsLive self.now other → other.index ≢ index) }
     {
         self.map.key_at(index)
+    }
+
+    /// Returns the live key with this index. The caller proves that there is one. Constant time.
+    ///
+    /// ```
+    /// let mut map: BoundedMap<DefaultKey, &str> = BoundedMap::with_capacity(alloc, 1)?;
+    /// let a = map.insert_reserved("a");
+    /// assert_eq!(rt; map.live_key(a.data().idx()), a);
+    /// ```
+    #[inline(always)]
+    pub fn live_key(&self, index: u32) -> K
+        requires { (k : KeyOf) × IsLive self.now k × (k.index ≡ index) }
+        ensures live { IsLive self.now (K.data_of result) }
+        ensures index { (K.data_of result).index ≡ index }
+    {
+        match self.map.key_at(index) {
+            Some(key) => key,
+            None => {
+                exclude(true);
+                unreachable!()
+            }
+        }
+    }
+
+    /// Does nothing. It tells the compiler that a key is live, as the caller proves. So a look-up of the
+    /// key after this call doesn't read the key's slot to test that.
+    ///
+    /// ```
+    /// let mut map: BoundedMap<DefaultKey, &str> = BoundedMap::with_capacity(alloc, 1)?;
+    /// let a = map.insert_reserved("a");
+    /// map.note_live(a);
+    /// assert_eq!(rt; map.get(a), Some(&"a"));
+    /// ```
+    #[inline(always)]
+    pub fn note_live(&self, key: K)
+        requires { IsLive self.now (K.data_of key) }
+    {
+        exclude(!self.map.contains_key(key));
     }
 
     /// Returns the value of a key, or `None` if the key isn't live. Constant time.

@@ -17,7 +17,8 @@ module _ {K : Type 0} (data_of : K → Key) where
       omega (arith, first, here, rest)
 
   -- where `contains` says no, no path leads
-  pub not_found : (keys : List K) (x : Key) → ((i : ℕ) (other : K) → 0 ≤ i → i < length keys → is_key (data_of (get_or keys i other)) x ≡ false) → 0 < times x (list_map data_of keys) → ⊥
+  pub not_found : (keys : List K) (x : Key) → ((i : ℕ) (other : K) → 0 ≤ i → i < length keys → is_key (data_of (get_or keys i other)) x ≡ false)
+      → 0 < times x (list_map data_of keys) → ⊥
   not_found keys x apart some = let none = none_is keys x apart in absurd (omega (arith, none, some))
 
 -- a loop along the edges of a node: the keys that it passed, with a fact of each, and those ahead of it
@@ -65,7 +66,8 @@ pub none_first : (ks : List Key) → None ≡ first_or ks None → ks ≡ []
 none_first [] is = refl
 none_first (q ∷ ks) is = absurd (cc)
 
-pub along_start : {E : Type 0} (end : SeenEdge E → Key) (edges : Edges E) (node : Key) (all : List Key) → ListsEdges end edges node all → (at : Option Key) → at ≡ first_or all None → (Passed : Key → Type 0) → GoesAlong all at Passed
+pub along_start : {E : Type 0} (end : SeenEdge E → Key) (edges : Edges E) (node : Key) (all : List Key) → ListsEdges end edges node all → (at : Option Key)
+    → at ≡ first_or all None → (Passed : Key → Type 0) → GoesAlong all at Passed
 along_start end edges node all lists at is Passed = record { passed = []; ahead = all; list = refl; here = is; once = listed_once end edges node all lists; each = λ k more. absurd (omega arith) }
 
 module _ (all : List Key) (k : Key) (Passed : Key → Type 0) (along : GoesAlong all (Some k) Passed) where

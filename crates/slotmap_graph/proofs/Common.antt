@@ -20,15 +20,16 @@ pub use Rattle.slotmap.specs.Words.{ClonesEqual, contains_key, Content, get, Ins
 pub use Rattle.slotmap.specs.Words.{KeepsSpent, Key, key_cmp, Leaves, most, Pairs, Removes, with_value}
 pub use Rattle.slotmap_keylist.proofs.Counts.{behind_split, filter_all, filter_less, here_or_behind, is_itself, is_other, no_more_than, none_behind, one_itself}
 pub use Rattle.slotmap_keylist.proofs.Counts.{one_other, times_first, times_gone, times_joined, times_pushed, times_there, times_without, without_none}
-pub use Rattle.slotmap_keylist.proofs.Linking.{cons_not_nil, cut_at, in_midst, split_at}
+pub use Rattle.slotmap_keylist.proofs.Linking.{in_midst, split_at}
 pub use Rattle.slotmap_keylist.proofs.MapKeys.{key_live, key_there, keys_once}
 pub use Rattle.slotmap_keylist.specs.KeyLists.{is_key, same, times, without}
-pub use Rattle.slotmap_keylist.specs.Linked.{first_or}
 pub use Rattle.slotmap_links.proofs.Callers.{list_covered, list_now, list_other, owners_stay}
 pub use Rattle.slotmap_links.proofs.Changes.{disjoint_still, list_cleared, list_without, pushed_here, pushed_still, pushed_was}
-pub use Rattle.slotmap_links.proofs.Counts.{one_itself as number_itself, is_other as other_number, one_other as number_other, same_or_other as same_or_other_number, times_first as often_first, times_without as often_without}
+pub use Rattle.slotmap_links.proofs.Counts.{one_itself as number_itself, is_other as other_number, one_other as number_other, same_or_other as same_or_other_number}
+pub use Rattle.slotmap_links.proofs.Counts.{times_first as often_first, times_without as often_without}
 pub use Rattle.slotmap_links.proofs.Counts.{times_gone as often_gone, times_joined as often_joined, by_first as by_first_number, same as same_number}
-pub use Rattle.slotmap_links.specs.Lists.{first_or as first_number, number_after}
+pub use Rattle.slotmap_links.proofs.Linking.{cons_not_nil, cut_at}
+pub use Rattle.slotmap_links.specs.Lists.{first_or, number_after}
 pub use Rattle.slotmap_links.specs.Lists.{AreDisjoint, IsFree, IsIn, Lists, list_of, with_list, with_members, with_owners, times as often, without as without_number}
 pub use Rattle.slotmap_graph.specs.Parts.{avoids, ByNode, clones_edge, Edges, edges_at, ends, ends_at, EndsLive, from, IsJoined, key_after, ListsEdges, PutsAlone}
 pub use Rattle.slotmap_graph.specs.Parts.{PutsBehind, SameEdges, Seen, SeenEdge, to, touches, value, with_edge, with_edge_in}

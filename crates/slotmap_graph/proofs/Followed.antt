@@ -45,14 +45,16 @@ first_step ks rest None step = sym (ap (λ l. first_or l None) step.0)
 first_step ks rest (Some x) step = sym (ap (λ l. first_or l None) step)
 
 -- the next edge of a walk along the edges of a node
-module _ {E : Type 0} (end : SeenEdge E → Key) (edges : Edges E) (node : Key) (all : List Key) (lists : ListsEdges end edges node all) (passed ahead rest : List Key) (x : Key) (so_far : passed ++ ahead ≡ all) (next : ahead ≡ x ∷ rest) where
+module _ {E : Type 0} (end : SeenEdge E → Key) (edges : Edges E) (node : Key) (all : List Key) (lists : ListsEdges end edges node all) (passed ahead rest : List Key)
+    (x : Key) (so_far : passed ++ ahead ≡ all) (next : ahead ≡ x ∷ rest) where
   pub next_edge : (e : SeenEdge E) × (map.get edges x ≡ Some e) × (end e ≡ node)
   next_edge = listed_edge end edges node all lists x (walked_in passed ahead rest all x so_far next)
 
   pub next_live : map.contains_key edges x ≡ true
   next_live = ap is_some next_edge.1
 
-module _ {E : Type 0} (edges : Edges E) (node : Key) (all : List Key) (lists : ListsEdges from edges node all) (passed ahead rest : List Key) (x : Key) (so_far : passed ++ ahead ≡ all) (next : ahead ≡ x ∷ rest) where
+module _ {E : Type 0} (edges : Edges E) (node : Key) (all : List Key) (lists : ListsEdges from edges node all) (passed ahead rest : List Key) (x : Key)
+    (so_far : passed ++ ahead ≡ all) (next : ahead ≡ x ∷ rest) where
   abbrev this : (e : SeenEdge E) × (map.get edges x ≡ Some e) × (e.from ≡ node)
   this = next_edge from edges node all lists passed ahead rest x so_far next
 

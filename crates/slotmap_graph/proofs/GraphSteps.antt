@@ -5,7 +5,9 @@ use Rattle.slotmap_graph.proofs.Common.{refl, sym, ap, subst, inl, inr, arith, K
 use Rattle.slotmap_graph.proofs.Common.{IsBeside, with_value, keys, same_or_other, get-insert_here, get-insert_other, get-put_live, get-put_other, leaves_none}
 use Rattle.slotmap_graph.proofs.Common.{leaves_by_removal, inserted_fresh, live-insert_still, is_key, times, without, is_itself, is_other, times_first}
 use Rattle.slotmap_graph.proofs.Common.{one_itself, Lists, AreDisjoint, list_of, often, SeenEdge, Edges, IsJoined, ListsEdges, PutsAlone, SameEdges}
-use Rattle.slotmap_graph.proofs.Common.{edges_at, from, to, touches, HaveIndices, IsThreaded, IsGraph, CoversMore, by_node, IsFree, PutsBehind, with_list, with_members, with_owners, list_covered, disjoint_still, length-append, Result, Ok, Err, ClonesEqual, IsCloneBy, IsCloneOf, clones_edge, clone_live}
+use Rattle.slotmap_graph.proofs.Common.{edges_at, from, to, touches, HaveIndices, IsThreaded, IsGraph, CoversMore, by_node, IsFree, PutsBehind, with_list, with_members}
+use Rattle.slotmap_graph.proofs.Common.{with_owners, list_covered, disjoint_still, length-append, Result, Ok, Err, ClonesEqual, IsCloneBy, IsCloneOf, clones_edge}
+use Rattle.slotmap_graph.proofs.Common.{clone_live}
 use Rattle.std.proofs.Common.{◌-◌, OnOk, OnErr, replicate}
 use Rattle.std.specs.FinMap as map
 use Rattle.slotmap_graph.proofs.Adjacent.{absent_unlisted, listed_edge, none_listed, nothing_listed}
@@ -32,7 +34,8 @@ module _ {E : Type 0} (edges : Edges E) (k : Key) where
       (found.0, found.1, let here : is_key found.0.to k ≡ true = rw found.2 (is_itself k) in grind arith)
 
   -- if both lists are empty, no edge does
-  none_touches : (ks js : List Key) → ListsEdges from edges k ks → ks ≡ [] → ListsEdges to edges k js → js ≡ [] → (x : Key) (e : SeenEdge E) → map.get edges x ≡ Some e → touches k e ≡ false
+  none_touches : (ks js : List Key) → ListsEdges from edges k ks → ks ≡ [] → ListsEdges to edges k js → js ≡ [] → (x : Key) (e : SeenEdge E)
+      → map.get edges x ≡ Some e → touches k e ≡ false
   none_touches ks js out no_out into no_into x e there =
       let apart_from = is_other e.from k (none_listed from edges k ks out no_out x e there) in
       let apart_to = is_other e.to k (none_listed to edges k js into no_into x e there) in
@@ -43,7 +46,8 @@ pub first_there : (ks : List Key) (x : Key) (rest : List Key) → ks ≡ x ∷ r
 first_there ks x rest is = let first = ap (times x) is ∙ times_first x x rest in let one = one_itself x in omega arith
 
 -- by the clauses of a step of an iterator over a list, whatever it returns
-pub into_found : {E : Type 0} (edges : Edges E) (k : Key) (ks rest : List Key) → ListsEdges to edges k ks → (found : Option Key) → MatchOption found ((ks ≡ []) × (rest ≡ [])) (λ x. ks ≡ x ∷ rest)
+pub into_found : {E : Type 0} (edges : Edges E) (k : Key) (ks rest : List Key) → ListsEdges to edges k ks → (found : Option Key)
+    → MatchOption found ((ks ≡ []) × (rest ≡ [])) (λ x. ks ≡ x ∷ rest)
     → IfSome found (λ x. (e : SeenEdge E) × (map.get edges x ≡ Some e) × (touches k e ≡ true))
 into_found edges k ks rest lists None step = tt
 into_found edges k ks rest lists (Some x) step = into_touches edges k ks lists x (first_there ks x rest step)
@@ -56,10 +60,12 @@ into_none edges k js ks rest out none lists (Some x) step = tt
 -- a node that no edge touches has no edge in its lists
 module _ {E : Type 0} (edges : Edges E) (k : Key) (untouched : (x : Key) (e : SeenEdge E) → map.get edges x ≡ Some e → touches k e ≡ false) (ks : List Key) where
   pub none_from : ListsEdges from edges k ks → ks ≡ []
-  none_from lists = nothing_listed from edges k ks lists (λ x e there at. let none = untouched x e there in let h : is_key e.from k ≡ true = rw at (is_itself k) in let t : touches k e ≡ true = ap (λ b. b || is_key e.to k) h in absurd (cc))
+  none_from lists = nothing_listed from edges k ks lists (λ x e there at. let none = untouched x e there in let h : is_key e.from k ≡ true = rw at (is_itself k) in
+      let t : touches k e ≡ true = ap (λ b. b || is_key e.to k) h in absurd (cc))
 
   pub none_to : ListsEdges to edges k ks → ks ≡ []
-  none_to lists = nothing_listed to edges k ks lists (λ x e there at. let none = untouched x e there in let h : is_key e.to k ≡ true = rw at (is_itself k) in let t : touches k e ≡ true = grind arith in absurd (cc))
+  none_to lists = nothing_listed to edges k ks lists (λ x e there at. let none = untouched x e there in let h : is_key e.to k ≡ true = rw at (is_itself k) in
+      let t : touches k e ≡ true = grind arith in absurd (cc))
 
 -- every graph is joined
 pub graph_joined : {N E : Type 0} (nodes : Content N) (edges : Content (SeenEdge E)) (outs intos : Lists) → IsGraph nodes edges outs intos
@@ -75,7 +81,8 @@ pub lacks : {E : Type 0} (end : SeenEdge E → Key) (edges : Edges E) (x : Key) 
 lacks end edges x none k ks lists = sym (absent_unlisted end edges x none k ks lists)
 
 -- a key comes
-indices_inserted : {V : Type 0} (c : Content V) (k : Key) (v : V) (d : Content V) → HaveIndices c → Inserts c k v d → IsContent true d → d.capacity ≡ c.capacity → k.index ≤ d.capacity → HaveIndices d
+indices_inserted : {V : Type 0} (c : Content V) (k : Key) (v : V) (d : Content V) → HaveIndices c → Inserts c k v d → IsContent true d → d.capacity ≡ c.capacity
+    → k.index ≤ d.capacity → HaveIndices d
 indices_inserted c k v d indices inserts valid capacity within = record {
   within = λ q live. (elim (same_or_other q k) [
     | inl is ↦ ((valid.within q (inl (inl live))).0, (let at = ap (λ (q : Key). q.index) is in omega arith))
@@ -95,18 +102,23 @@ module _ {N E : Type 0} (end : SeenEdge E → Key) (nodes : Content N) (edges : 
     grown_edges = indices_still edges edges' t.edge_indices (λ k live. sym (ap (λ m. map.contains_key m k) same_edges) ∙ live) more_edges
 
     pub grown : nodes'.capacity < length links'.lists → edges'.capacity < links'.members → IsThreaded end nodes' edges' links'
-    grown owners members = threaded_along end nodes edges links t end nodes' edges' links' (λ x. ap (λ m. option_map end (map.get m x)) same_edges) grows.lists grown_nodes grown_edges owners members grows.disjoint
+    grown owners members = threaded_along end nodes edges links t end nodes' edges' links' (λ x. ap (λ m. option_map end (map.get m x)) same_edges) grows.lists
+        grown_nodes grown_edges owners members grows.disjoint
         (λ x e there. ap (λ m. map.contains_key m (end e)) same_nodes ∙ t.ends x e there)
 
     pub grown_seen : by_node nodes'.live edges'.live links' ≡ by_node nodes.live edges.live links
-    grown_seen = same_seen end nodes edges links t end nodes' edges' links' (λ x. ap (λ m. option_map end (map.get m x)) same_edges) grows.lists grown_edges (λ k. ap (λ m. map.contains_key m k) same_nodes)
+    grown_seen = same_seen end nodes edges links t end nodes' edges' links' (λ x. ap (λ m. option_map end (map.get m x)) same_edges) grows.lists grown_edges
+        (λ k. ap (λ m. map.contains_key m k) same_nodes)
 
   -- other nodes, with all ends of edges among them
-  threaded_beside : (new : Content N) → HaveIndices new → new.capacity ≡ nodes.capacity → ((x : Key) (e : SeenEdge E) → map.get edges.live x ≡ Some e → IsLive new (end e)) → IsThreaded end new edges links
-  threaded_beside new indices capacity ends = threaded_along end nodes edges links t end new edges links (λ x. refl) (λ p. refl) indices t.edge_indices (let o = t.owners in omega arith) t.members t.disjoint ends
+  threaded_beside : (new : Content N) → HaveIndices new → new.capacity ≡ nodes.capacity
+      → ((x : Key) (e : SeenEdge E) → map.get edges.live x ≡ Some e → IsLive new (end e)) → IsThreaded end new edges links
+  threaded_beside new indices capacity ends = threaded_along end nodes edges links t end new edges links (λ x. refl) (λ p. refl) indices t.edge_indices
+      (let o = t.owners in omega arith) t.members t.disjoint ends
 
   -- a node comes
-  module _ (k : Key) (v : N) (new : Content N) (inserts : Inserts nodes k v new) (was : IsContent true nodes) (valid : IsContent true new) (capacity : new.capacity ≡ nodes.capacity) (within : k.index ≤ new.capacity) where
+  module _ (k : Key) (v : N) (new : Content N) (inserts : Inserts nodes k v new) (was : IsContent true nodes) (valid : IsContent true new)
+      (capacity : new.capacity ≡ nodes.capacity) (within : k.index ≤ new.capacity) where
     still_node : (q : Key) → IsLive nodes q → IsLive new q
     still_node q live = ap (λ m. map.contains_key m q) inserts.live ∙ live-insert_still nodes.live k v q live
 
@@ -125,7 +137,8 @@ module _ {N E : Type 0} (end : SeenEdge E → Key) (nodes : Content N) (edges : 
     ])
 
   -- an edge comes
-  module _ (k : Key) (e : SeenEdge E) (new : Content (SeenEdge E)) (inserts : Inserts edges k e new) (fresh : map.get edges.live k ≡ None) (valid : IsContent true new) (capacity : new.capacity ≡ edges.capacity) (within : k.index ≤ new.capacity)
+  module _ (k : Key) (e : SeenEdge E) (new : Content (SeenEdge E)) (inserts : Inserts edges k e new) (fresh : map.get edges.live k ≡ None) (valid : IsContent true new)
+      (capacity : new.capacity ≡ edges.capacity) (within : k.index ≤ new.capacity)
       (live : IsLive nodes (end e)) where
     new_indices : HaveIndices new
     new_indices = indices_inserted edges k e new t.edge_indices inserts valid capacity within
@@ -141,13 +154,15 @@ module _ {N E : Type 0} (end : SeenEdge E → Key) (nodes : Content N) (edges : 
       edge_seen = put_seen end nodes edges links t k e fresh live new inserts.live new_indices capacity now now_is
 
   -- a node goes at which no edge is
-  module _ (k : Key) (new : Content N) (is : new.live ≡ map.remove nodes.live k) (capacity : new.capacity ≡ nodes.capacity) (apart : (x : Key) (e : SeenEdge E) → map.get edges.live x ≡ Some e → end e ≢ k) where
+  module _ (k : Key) (new : Content N) (is : new.live ≡ map.remove nodes.live k) (capacity : new.capacity ≡ nodes.capacity) (apart : (x : Key) (e : SeenEdge E)
+      → map.get edges.live x ≡ Some e → end e ≢ k) where
     left_nodes : (q : Key) → q ≢ k → map.contains_key new.live q ≡ map.contains_key nodes.live q
     left_nodes q other = ap (λ m. map.contains_key m q) is ∙ grind (arith, keys)
 
     was_node : (q : Key) → IsLive new q → IsLive nodes q
     was_node q live = elim (same_or_other q k) [
-      | inl at ↦ absurd (let gone : map.contains_key (map.remove nodes.live k) k ≡ false = grind (arith, keys) in let f = ap (λ m. map.contains_key m q) is in let g = ap (map.contains_key (map.remove nodes.live k)) at in cc)
+      | inl at ↦ absurd (let gone : map.contains_key (map.remove nodes.live k) k ≡ false = grind (arith, keys) in let f = ap (λ m. map.contains_key m q) is in
+          let g = ap (map.contains_key (map.remove nodes.live k)) at in cc)
       | inr other ↦ sym (left_nodes q other) ∙ live
     ]
 
@@ -156,10 +171,12 @@ module _ {N E : Type 0} (end : SeenEdge E → Key) (nodes : Content N) (edges : 
 
     pub gone_seen : SameEdges (by_node nodes.live edges.live links) (by_node new.live edges.live links)
     gone_seen = other_nodes end nodes edges links t new (λ q. elim (same_or_other q k) [
-      | inl at ↦ elim (map.contains_key nodes.live k) as (λ b. map.contains_key nodes.live k ≡ b → (map.contains_key new.live q ≡ map.contains_key nodes.live q) ⊎ (list_of links q.index ≡ [])) [
-        | true ↦ λ live. inr (ap (λ (q : Key). list_of links q.index) at ∙ empty_at end nodes edges links t k.index (λ x e there same. apart x e there (t.node_indices.apart (end e) k (t.ends x e there) live same)))
-        | false ↦ λ gone. inl (ap (map.contains_key new.live) at ∙ ap (λ m. map.contains_key m k) is ∙ grind (arith, keys) ∙ sym (ap (map.contains_key nodes.live) at))
-      ] refl
+      | inl at ↦ elim (map.contains_key nodes.live k) as (λ b. map.contains_key nodes.live k ≡ b
+          → (map.contains_key new.live q ≡ map.contains_key nodes.live q) ⊎ (list_of links q.index ≡ [])) [
+            | true ↦ λ live. inr (ap (λ (q : Key). list_of links q.index) at ∙ empty_at end nodes edges links t k.index
+                (λ x e there same. apart x e there (t.node_indices.apart (end e) k (t.ends x e there) live same)))
+            | false ↦ λ gone. inl (ap (map.contains_key new.live) at ∙ ap (λ m. map.contains_key m k) is ∙ grind (arith, keys) ∙ sym (ap (map.contains_key nodes.live) at))
+          ] refl
       | inr other ↦ inl (left_nodes q other)
     ])
 
@@ -221,7 +238,8 @@ covers_more s disjoint n m mid new is either = record {
     same p = of_mid either p ∙ ap (λ l. list_of l p) is ∙ list_covered s n p
 
 -- the same lists, for more owners and members
-pub covered : (s : Lists) → AreDisjoint s → (n m : ℕ) (mid new : Lists) {A B : Type 0} (r : Result A B) → mid ≡ with_owners s n → OnOk r (new ≡ with_members mid m) → OnErr r (new ≡ mid) → CoversMore s new
+pub covered : (s : Lists) → AreDisjoint s → (n m : ℕ) (mid new : Lists) {A B : Type 0} (r : Result A B) → mid ≡ with_owners s n
+    → OnOk r (new ≡ with_members mid m) → OnErr r (new ≡ mid) → CoversMore s new
 covered s disjoint n m mid new (Ok a) is ok err = covers_more s disjoint n m mid new is (inl ok)
 covered s disjoint n m mid new (Err b) is ok err = covers_more s disjoint n m mid new is (inr err)
 

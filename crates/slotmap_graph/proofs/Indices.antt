@@ -6,8 +6,8 @@ use Rattle.slotmap_graph.proofs.Common.{Content, IsLive, key_there, key_live, sa
 use Rattle.slotmap_graph.proofs.Common.{is_itself, is_other, often, often_first, same_number, number_itself, number_other, same_or_other, same_or_other_number}
 use Rattle.std.specs.List.{filter_map}
 use Rattle.slotmap_graph.proofs.Common.{cons_option, is_some, length, suc}
-use Rattle.slotmap_graph.proofs.Common.{first_or, key_after, first_number, number_after, other_number, option_map, same_Some, eq-eqb}
-use Rattle.slotmap_graph.proofs.Common.{without_number, by_first_number, AreIndices, HaveIndices, key_at, keys_at, IfSome, IfNone, often_joined}
+use Rattle.slotmap_graph.proofs.Common.{first_or, key_after, number_after, other_number, option_map, same_Some, eq-eqb}
+use Rattle.slotmap_graph.proofs.Common.{without_number, by_first_number, AreIndices, HaveIndices, key_at, keys_at, often_joined}
 use Rattle.slotmap.specs.Words.{null_key}
 use Rattle.std.specs.FinMap as map
 
@@ -19,7 +19,7 @@ indices_still c d indices were more = record {
 }
 
 -- the number after another one is in the list
-first_inside : (ks : List ℕ) (i : ℕ) → first_number ks None ≡ Some i → 0 < often i ks
+first_inside : (ks : List ℕ) (i : ℕ) → first_or ks None ≡ Some i → 0 < often i ks
 first_inside [] i is = absurd (cc)
 first_inside (q ∷ ks) i is = let first = often_first i q ks in let one = ap (λ n. same_number n i) (same_Some q i is) ∙ number_itself i in omega arith
 
@@ -27,7 +27,7 @@ pub after_inside : (k i : ℕ) (ks : List ℕ) → number_after k ks ≡ Some i 
 after_inside k i [] is = absurd (cc)
 after_inside k i (q ∷ ks) is =
     let first = often_first i q ks in
-    elim (nat_eq q k) as (λ b. cond b (first_number ks None) (number_after k ks) ≡ Some i → 0 < often i (q ∷ ks)) [
+    elim (nat_eq q k) as (λ b. cond b (first_or ks None) (number_after k ks) ≡ Some i → 0 < often i (q ∷ ks)) [
       | true ↦ λ is. (let more = first_inside ks i is in omega arith)
       | false ↦ λ is. (let more = after_inside k i ks is in omega arith)
     ] is
@@ -55,7 +55,7 @@ module _ {V : Type 0} (c : Content V) (indices : HaveIndices c) where
 
 module _ {V : Type 0} (c : Content V) (indices : HaveIndices c) where
   -- the first of several indices
-  first_index : (i : ℕ) (is : List ℕ) → AreIndices c.live (i ∷ is) → (k : Key) × IsLive c k × (k.index ≡ i) × (key_at c.live i ≡ k)
+  pub first_index : (i : ℕ) (is : List ℕ) → AreIndices c.live (i ∷ is) → (k : Key) × IsLive c k × (k.index ≡ i) × (key_at c.live i ≡ k)
   first_index i is all =
       let found = all i (let first = often_first i i is in let one = number_itself i in omega arith) in
       (found.0, found.1, found.2, ap (key_at c.live) (sym found.2) ∙ key_at_live c indices found.0 found.1)
@@ -111,7 +111,8 @@ module _ {V : Type 0} (c : Content V) (indices : HaveIndices c) where
         rest ∙ sym (ap (λ b. cond (not b) (key_at c.live i ∷ without k (keys_at c.live is)) (without k (keys_at c.live is))) (ap (λ q. is_key q k) is_k ∙ is_itself k))))
         (λ other. (let apart : found.0 ≢ k = λ e. other (sym found.2 ∙ ap (λ (q : Key). q.index) e) in
         let one : key_at d.live i ≡ key_at c.live i = ap (key_at d.live) (sym found.2) ∙ key_at_live d also found.0 (still found.0 found.1 apart) ∙ sym found.3 in
-        (λ n. one n ∷ rest n) ∙ sym (ap (λ b. cond (not b) (key_at c.live i ∷ without k (keys_at c.live is)) (without k (keys_at c.live is))) (ap (λ q. is_key q k) found.3 ∙ is_other found.0 k apart))))
+        (λ n. one n ∷ rest n)
+        ∙ sym (ap (λ b. cond (not b) (key_at c.live i ∷ without k (keys_at c.live is)) (without k (keys_at c.live is))) (ap (λ q. is_key q k) found.3 ∙ is_other found.0 k apart))))
 
   -- as many entries as indices
   abbrev entry : Key → V → Key × V
@@ -131,17 +132,12 @@ module _ {V : Type 0} (c : Content V) (indices : HaveIndices c) where
       let k = key_at c.live i in
       one_entry k (entries_at (keys_at c.live is)) (map.get c.live k) (ap (map.contains_key c.live) found.3 ∙ found.1) ∙ ap suc (entries_long is (later_indices i is all))
 
-  -- the key that is found at an index
-  pub key_found_at : (i : ℕ) → (k : Key) × (map.contains_key c.live k ≡ true) × (k.index ≡ i) → (o : Option Key) → IfSome o (IsLive c) → IfSome o (λ k. k.index ≡ i) → IfNone o ((k : Key) → IsLive c k → k.index ≢ i) → o ≡ Some (key_at c.live i)
-  key_found_at i there None live at none = absurd (none there.0 there.1 there.2)
-  key_found_at i there (Some k) live at none = ap Some (sym (key_at_live c indices k live) ∙ ap (key_at c.live) at)
-
-  -- the same of the first of several indices
-  pub key_found : (i : ℕ) (is : List ℕ) → AreIndices c.live (i ∷ is) → (o : Option Key) → IfSome o (IsLive c) → IfSome o (λ k. k.index ≡ i) → IfNone o ((k : Key) → IsLive c k → k.index ≢ i) → o ≡ Some (key_at c.live i)
-  key_found i is all o live at none = key_found_at i (let found = first_index i is all in (found.0, found.1, found.2)) o live at none
+  -- a live key is the one at its index
+  pub key_is : (i : ℕ) (k : Key) → IsLive c k → k.index ≡ i → key_at c.live i ≡ k
+  key_is i k live index = ap (key_at c.live) (sym index) ∙ key_at_live c indices k live
 
   -- the key after another one, by their indices
-  first_of : (is : List ℕ) → first_or (keys_at c.live is) None ≡ option_map (key_at c.live) (first_number is None)
+  first_of : (is : List ℕ) → first_or (keys_at c.live is) None ≡ option_map (key_at c.live) (first_or is None)
   first_of [] = refl
   first_of (i ∷ is) = refl
 
@@ -152,9 +148,10 @@ module _ {V : Type 0} (c : Content V) (indices : HaveIndices c) where
       let rest = after_at is (later_indices i is all) k live in
       elim (same_or_other found.0 k) [
         | inl is_k ↦ ap (λ b. cond b (first_or (keys_at c.live is) None) (key_after k (keys_at c.live is))) (ap (λ q. is_key q k) (found.3 ∙ is_k) ∙ is_itself k) ∙ first_of is
-            ∙ sym (ap (λ b. option_map (key_at c.live) (cond b (first_number is None) (number_after k.index is))) (eq-eqb i k.index (sym found.2 ∙ ap (λ (q : Key). q.index) is_k)))
+            ∙ sym (ap (λ b. option_map (key_at c.live) (cond b (first_or is None) (number_after k.index is))) (eq-eqb i k.index (sym found.2 ∙ ap (λ (q : Key). q.index) is_k)))
         | inr other ↦ ap (λ b. cond b (first_or (keys_at c.live is) None) (key_after k (keys_at c.live is))) (ap (λ q. is_key q k) found.3 ∙ is_other found.0 k other) ∙ rest
-            ∙ sym (ap (λ b. option_map (key_at c.live) (cond b (first_number is None) (number_after k.index is))) (other_number i k.index (λ e. other (indices.apart found.0 k found.1 live (found.2 ∙ e)))))
+            ∙ sym (ap (λ b. option_map (key_at c.live) (cond b (first_or is None) (number_after k.index is)))
+            (other_number i k.index (λ e. other (indices.apart found.0 k found.1 live (found.2 ∙ e)))))
       ]
 
   -- the last of several indices, and those before it

@@ -27,7 +27,8 @@ module _ (seen : Pairs (Unit {0})) (found : List Key) (listed : AreSeen seen fou
   ] refl
 
 -- a mark keeps those that were marked
-pub marked_keeps : (mid new : Pairs (Unit {0})) (k : Key) → contains_key new k ≡ true → ((q : Key) → q ≢ k → get new q ≡ get mid q) → (q : Key) → contains_key mid q ≡ true → contains_key new q ≡ true
+pub marked_keeps : (mid new : Pairs (Unit {0})) (k : Key) → contains_key new k ≡ true → ((q : Key) → q ≢ k → get new q ≡ get mid q) → (q : Key)
+    → contains_key mid q ≡ true → contains_key new q ≡ true
 marked_keeps mid new k marked others q had = elim (same_or_other q k) [
   | inl is ↦ rw is marked
   | inr other ↦ ap is_some (others q other) ∙ had

@@ -3,7 +3,8 @@ use Rattle.std.proofs.Common.{◌≡◌, ◌≢◌, ◌⊎◌, ◌<◌, ◌∷�
 use Rattle.slotmap_graph.proofs.Common.{ℕ, true, false, cond, Option, Some, None, List, [], list_map, length, is_some, option_map, unwrap_or, refl, sym, ap, subst}
 use Rattle.slotmap_graph.proofs.Common.{inl, inr, arith, Key, key_cmp, Content, IsLive, keys, keys_total, exact_keys, tied, same_or_other, get-insert_here}
 use Rattle.slotmap_graph.proofs.Common.{get-insert_other, live-insert_still, is_key, same, times, without, is_itself, is_other, one_itself, one_other}
-use Rattle.slotmap_graph.proofs.Common.{map-append, often, often_first, often_gone, often_without, number_itself, without_number, list_now, list_other, owners_stay, list_without, pushed_here, pushed_still}
+use Rattle.slotmap_graph.proofs.Common.{map-append, often, often_first, often_gone, often_without, number_itself, without_number, list_now, list_other, owners_stay}
+use Rattle.slotmap_graph.proofs.Common.{list_without, pushed_here, pushed_still}
 use Rattle.slotmap_graph.proofs.Common.{pushed_was, with_list, list_of, Lists, IsIn, IsFree, AreDisjoint, SeenEdge, Edges, edges_at, ends_at, ListsEdges}
 use Rattle.slotmap_graph.proofs.Common.{key_after, key_at, number_after, option_and_then}
 use Rattle.slotmap_graph.proofs.Common.{PutsBehind, SameEdges, AreIndices, HaveIndices, IsThreaded, keys_at, eq-zero-or-pos}
@@ -29,10 +30,12 @@ module _ {V W : Type 0} (f : Key → W) where
 
   find-changed : (k : Key) (es : List (Key × V)) → find key_cmp k (list_map changed es) ≡ option_map (λ _. f k) (find key_cmp k es)
   find-changed k [] = refl
-  find-changed k (e ∷ es) = elim (eq_by_cmp key_cmp k e.0) as (λ b. eq_by_cmp key_cmp k e.0 ≡ b → cond b (Some (f e.0)) (find key_cmp k (list_map changed es)) ≡ option_map (λ _. f k) (cond b (Some e.1) (find key_cmp k es))) [
-    | true ↦ λ tie. ap (λ q. Some (f q)) (sym (tied keys_total exact_keys k e.0 tie))
-    | false ↦ λ _. find-changed k es
-  ] refl
+  find-changed k (e ∷ es) =
+      elim (eq_by_cmp key_cmp k e.0) as (λ b. eq_by_cmp key_cmp k e.0 ≡ b → cond b (Some (f e.0)) (find key_cmp k (list_map changed es)) ≡ option_map (λ _. f k)
+      (cond b (Some e.1) (find key_cmp k es))) [
+        | true ↦ λ tie. ap (λ q. Some (f q)) (sym (tied keys_total exact_keys k e.0 tie))
+        | false ↦ λ _. find-changed k es
+      ] refl
 
   get-changed : (m : map.FinMap key_cmp V) (k : Key) → map.get (map.from_sorted {R = key_cmp} (list_map changed (map.entries m))) k ≡ option_map (λ _. f k) (map.get m k)
   get-changed m k = map.get-from_sorted key_cmp (list_map changed (map.entries m)) k (subst T (sym (sorted-changed (map.entries m))) (map.entries_sorted m))
@@ -143,12 +146,14 @@ module _ {N E : Type 0} (end : SeenEdge E → Key) (nodes : Content N) (edges : 
 
     after_one : (e : SeenEdge E) → map.get edges.live x ≡ Some e → option_map (key_at edges.live) number ≡ key_after x (edges_at (by_node nodes.live edges.live links) (end e))
     after_one e there = ap (option_map (key_at edges.live)) (number_is e there)
-        ∙ sym (ap (key_after x) (at_node nodes.live edges.live links (end e) (t.ends x e there)) ∙ after_at edges t.edge_indices (list_of links (end e).index) (indices_at (end e).index) x (ap is_some there))
+        ∙ sym (ap (key_after x) (at_node nodes.live edges.live links (end e) (t.ends x e there)) ∙ after_at edges t.edge_indices (list_of links (end e).index)
+        (indices_at (end e).index) x (ap is_some there))
 
     pub after_is : IsLive edges x → option_map (key_at edges.live) number ≡ option_and_then (λ e. key_after x (edges_at (by_node nodes.live edges.live links) (end e))) (map.get edges.live x)
     after_is live = by (map.get edges.live x) refl live
       where
-        by : (o : Option (SeenEdge E)) → map.get edges.live x ≡ o → is_some o ≡ true → option_map (key_at edges.live) number ≡ option_and_then (λ e. key_after x (edges_at (by_node nodes.live edges.live links) (end e))) o
+        by : (o : Option (SeenEdge E)) → map.get edges.live x ≡ o → is_some o ≡ true → option_map (key_at edges.live) number ≡ option_and_then
+            (λ e. key_after x (edges_at (by_node nodes.live edges.live links) (end e))) o
         by None is some = absurd (cc)
         by (Some e) is some = after_one e is
 
@@ -164,7 +169,8 @@ module _ {N E : Type 0} (end : SeenEdge E → Key) (nodes : Content N) (edges : 
       → (k : Key) → 0 < times x (edges_at (by_node nodes.live edges.live links) k) → found ≡ key_after x (edges_at (by_node nodes.live edges.live links) k)
   after_along x found is k inside =
       let there = listed_edge end edges.live k (edges_at (by_node nodes.live edges.live links) k) (lists k) x inside in
-      is ∙ ap (option_and_then (λ e. key_after x (edges_at (by_node nodes.live edges.live links) (end e)))) there.1 ∙ ap (λ q. key_after x (edges_at (by_node nodes.live edges.live links) q)) there.2
+      is ∙ ap (option_and_then (λ e. key_after x (edges_at (by_node nodes.live edges.live links) (end e)))) there.1
+      ∙ ap (λ q. key_after x (edges_at (by_node nodes.live edges.live links) q)) there.2
 
   -- an edge has a link
   pub member_below : (x : Key) → IsLive edges x → x.index < links.members
@@ -219,7 +225,8 @@ module _ {N E : Type 0} (end : SeenEdge E → Key) (nodes : Content N) (edges : 
           (l.0, c.0, c.1, l.3, ap (λ (q : Key). q.index) (sym c.2) ∙ l.4));
     }
 
-    pub same_seen : HaveIndices edges' → ((k : Key) → map.contains_key nodes'.live k ≡ map.contains_key nodes.live k) → by_node nodes'.live edges'.live links' ≡ by_node nodes.live edges.live links
+    pub same_seen : HaveIndices edges' → ((k : Key) → map.contains_key nodes'.live k ≡ map.contains_key nodes.live k)
+        → by_node nodes'.live edges'.live links' ≡ by_node nodes.live edges.live links
     same_seen indices same_nodes = map.same_map keys_total exact_keys _ _ (λ q.
         get-by_node nodes'.live edges'.live links' q
         ∙ ap (λ l. option_map (λ _. l) (map.get nodes'.live q)) (same_keys_at indices q.index)
@@ -266,7 +273,8 @@ module _ {N E : Type 0} (end : SeenEdge E → Key) (nodes : Content N) (edges : 
         members = (let m = t.members in let s = ap (λ (l : Lists). l.members) now_is in omega arith);
         disjoint = disjoint;
         ends = λ x d there. (elim (same_or_other x k) [
-          | inl at ↦ (let one : e ≡ d = (let f = sym there_now ∙ ap (map.get new.live) (sym at) ∙ there in cc) in ap (λ (d : SeenEdge E). map.contains_key nodes.live (end d)) (sym one) ∙ live)
+          | inl at ↦ (let one : e ≡ d = (let f = sym there_now ∙ ap (map.get new.live) (sym at) ∙ there in cc) in
+              ap (λ (d : SeenEdge E). map.contains_key nodes.live (end d)) (sym one) ∙ live)
           | inr other ↦ t.ends x d (sym (others x other) ∙ there)
         ]);
         listed = λ x d there. (elim (same_or_other x k) [
@@ -300,7 +308,8 @@ module _ {N E : Type 0} (end : SeenEdge E → Key) (nodes : Content N) (edges : 
         | inl at ↦ (let of_nodes = ap (map.contains_key nodes.live) at ∙ live in
             at_node nodes.live new.live now q of_nodes ∙ ap (λ (q : Key). keys_at new.live (list_of now q.index)) at ∙ put_at
             ∙ ap (λ (q : Key). keys_at edges.live (list_of links q.index) ++ k ∷ []) (sym at) ∙ ap (λ l. l ++ k ∷ []) (sym (at_node nodes.live edges.live links q of_nodes))
-            ∙ ap (λ b. cond b (edges_at (by_node nodes.live edges.live links) q ++ k ∷ []) (edges_at (by_node nodes.live edges.live links) q)) (sym (ap (λ x. is_key x (end e)) at ∙ is_itself (end e))))
+            ∙ ap (λ b. cond b (edges_at (by_node nodes.live edges.live links) q ++ k ∷ []) (edges_at (by_node nodes.live edges.live links) q))
+            (sym (ap (λ x. is_key x (end e)) at ∙ is_itself (end e))))
         | inr other ↦ by_live nodes.live q _
             (λ of_nodes. at_node nodes.live new.live now q of_nodes ∙ put_beside q of_nodes other ∙ sym (at_node nodes.live edges.live links q of_nodes))
             (λ gone. at_none nodes.live new.live now q gone ∙ sym (at_none nodes.live edges.live links q gone))
@@ -315,7 +324,8 @@ module _ {N E : Type 0} (end : SeenEdge E → Key) (nodes : Content N) (edges : 
 
     left : (x : Key) (d : SeenEdge E) → map.get new.live x ≡ Some d → (x ≢ k) × (map.get edges.live x ≡ Some d)
     left x d found =
-        let apart : x ≢ k = λ at. (let f = ap (λ m. map.get m x) is in let gone : map.get (map.remove edges.live k) k ≡ None = grind (arith, keys) in let g = ap (map.get (map.remove edges.live k)) at in cc) in
+        let apart : x ≢ k = λ at. (let f = ap (λ m. map.get m x) is in let gone : map.get (map.remove edges.live k) k ≡ None = grind (arith, keys) in let g =
+        ap (map.get (map.remove edges.live k)) at in cc) in
         (apart, sym (left_others x apart) ∙ found)
 
     left_indices : HaveIndices new
@@ -344,7 +354,8 @@ module _ {N E : Type 0} (end : SeenEdge E → Key) (nodes : Content N) (edges : 
       ends = λ x d found. t.ends x d (left x d found).1;
       listed = λ x d found. (let l = left x d found in
           let was = t.listed x d l.1 in
-          let same = ap (often x.index) (lists_left (end d).index) ∙ often_without k.index x.index (list_of links (end d).index) (λ at. l.0 (t.edge_indices.apart x k (ap is_some l.1) (ap is_some there) at)) in
+          let same = ap (often x.index) (lists_left (end d).index) ∙ often_without k.index x.index (list_of links (end d).index)
+          (λ at. l.0 (t.edge_indices.apart x k (ap is_some l.1) (ap is_some there) at)) in
           omega arith);
       live = λ p i inside. (
           let now_in = ap (often i) (lists_left p) in
@@ -362,7 +373,8 @@ module _ {N E : Type 0} (end : SeenEdge E → Key) (nodes : Content N) (edges : 
         (λ gone. at_none nodes.live new.live now q gone ∙ ap (without k) (sym (at_none nodes.live edges.live links q gone)))
 
   -- nodes come or go at which no edge is
-  pub other_nodes : (new : Content N) → ((q : Key) → (map.contains_key new.live q ≡ map.contains_key nodes.live q) ⊎ (list_of links q.index ≡ [])) → SameEdges (by_node nodes.live edges.live links) (by_node new.live edges.live links)
+  pub other_nodes : (new : Content N) → ((q : Key) → (map.contains_key new.live q ≡ map.contains_key nodes.live q) ⊎ (list_of links q.index ≡ []))
+      → SameEdges (by_node nodes.live edges.live links) (by_node new.live edges.live links)
   other_nodes new at q = elim (at q) [
     | inl same ↦ seen_at new.live edges.live links q ∙ ap (λ b. cond b (keys_at edges.live (list_of links q.index)) []) same ∙ sym (seen_at nodes.live edges.live links q)
     | inr empty ↦ nothing new.live q empty ∙ sym (nothing nodes.live q empty)

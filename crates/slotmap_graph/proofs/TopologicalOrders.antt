@@ -78,7 +78,8 @@ module _ {N E : Type 0} (s : Seen N E) (joined : IsJoined s) where
     can_pass : (n : ℕ) × (get counts e.to ≡ Some n) × (0 < n)
     can_pass = let entry = sorting.table e.to live in (entry.0, entry.1, some_left entry.0 entry.1)
 
-    module _ (counts' : Pairs ℕ) (found' : List Key) (counted : (n : ℕ) → get counts e.to ≡ Some n → get counts' e.to ≡ Some (n - 1)) (others : (q : Key) → q ≢ e.to → get counts' q ≡ get counts q)
+    module _ (counts' : Pairs ℕ) (found' : List Key) (counted : (n : ℕ) → get counts e.to ≡ Some n → get counts' e.to ≡ Some (n - 1))
+        (others : (q : Key) → q ≢ e.to → get counts' q ≡ get counts q)
         (found_is : (n : ℕ) → get counts e.to ≡ Some n → found' ≡ (if nat_eq n 1 then found ++ e.to ∷ [] else found)) where
       abbrev count : ℕ
       count = (sorting.table e.to live).0
@@ -91,10 +92,11 @@ module _ {N E : Type 0} (s : Seen N E) (joined : IsJoined s) where
 
       -- the end of the edge comes into the list, or the list stays
       either : ((found' ≡ found ++ e.to ∷ []) × (count ≡ 1)) ⊎ ((found' ≡ found) × (nat_eq (count - 1) 0 ≡ false))
-      either = elim (nat_eq count 1) as (λ b. nat_eq count 1 ≡ b → found' ≡ (if b then found ++ e.to ∷ [] else found) → ((found' ≡ found ++ e.to ∷ []) × (count ≡ 1)) ⊎ ((found' ≡ found) × (nat_eq (count - 1) 0 ≡ false))) [
-        | true ↦ λ one is. inl (is, test_one count one)
-        | false ↦ λ more is. inr (is, test_more count more_left more)
-      ] refl (found_is count (sorting.table e.to live).1)
+      either = elim (nat_eq count 1) as (λ b. nat_eq count 1 ≡ b → found' ≡ (if b then found ++ e.to ∷ [] else found)
+          → ((found' ≡ found ++ e.to ∷ []) × (count ≡ 1)) ⊎ ((found' ≡ found) × (nat_eq (count - 1) 0 ≡ false))) [
+            | true ↦ λ one is. inl (is, test_one count one)
+            | false ↦ λ more is. inr (is, test_more count more_left more)
+          ] refl (found_is count (sorting.table e.to live).1)
 
       others_found : (q : Key) → q ≢ e.to → times q found' ≡ times q found
       others_found q other = ⊎_elim
@@ -154,7 +156,8 @@ module _ {N E : Type 0} (s : Seen N E) (joined : IsJoined s) where
               omega arith
           at_end one (q ∷ m) is last = absurd (cons_not_nil m d.to after (cc))
 
-      table_now : (y : Key) → IsLive s.nodes y → (n : ℕ) × (get counts' y ≡ Some n) × (n + passed_of (passed ++ x ∷ []) (edges_at s.into y) ≡ length (edges_at s.into y)) × (times y found' ≡ (if nat_eq n 0 then 1 else 0))
+      table_now : (y : Key) → IsLive s.nodes y
+          → (n : ℕ) × (get counts' y ≡ Some n) × (n + passed_of (passed ++ x ∷ []) (edges_at s.into y) ≡ length (edges_at s.into y)) × (times y found' ≡ (if nat_eq n 0 then 1 else 0))
       table_now y y_live = elim (same_or_other y e.to) [
         | inl is ↦ rw is here
         | inr other ↦ (
@@ -164,7 +167,8 @@ module _ {N E : Type 0} (s : Seen N E) (joined : IsJoined s) where
             (entry.0, others y other ∙ entry.1, omega (arith, entry.2, none, sum), others_found y other ∙ entry.3))
       ]
         where
-          here : (n : ℕ) × (get counts' e.to ≡ Some n) × (n + passed_of (passed ++ x ∷ []) (edges_at s.into e.to) ≡ length (edges_at s.into e.to)) × (times e.to found' ≡ (if nat_eq n 0 then 1 else 0))
+          here : (n : ℕ) × (get counts' e.to ≡ Some n) × (n + passed_of (passed ++ x ∷ []) (edges_at s.into e.to) ≡ length (edges_at s.into e.to))
+              × (times e.to found' ≡ (if nat_eq n 0 then 1 else 0))
           here =
               let entry = sorting.table e.to live in
               let sum = passed_more passed x (edges_at s.into e.to) in
@@ -350,7 +354,8 @@ module _ {N E : Type 0} (s : Seen N E) (joined : IsJoined s) (old : List Key) (a
   pub next_can_pass : (n : ℕ) × (get counts b ≡ Some n) × (0 < n)
   next_can_pass = can_pass s joined counts found _ sorting x _ this.1 new start live
 
-  pub next_passed : (counts' : Pairs ℕ) (found' : List Key) → ((n : ℕ) → get counts b ≡ Some n → get counts' b ≡ Some (n - 1)) → ((q : Key) → q ≢ b → get counts' q ≡ get counts q)
+  pub next_passed : (counts' : Pairs ℕ) (found' : List Key) → ((n : ℕ) → get counts b ≡ Some n → get counts' b ≡ Some (n - 1))
+      → ((q : Key) → q ≢ b → get counts' q ≡ get counts q)
       → ((n : ℕ) → get counts b ≡ Some n → found' ≡ (if nat_eq n 1 then found ++ b ∷ [] else found))
       → GoesOn old found' × Sorting s counts' found' (edges_out s.out (take at old) ++ (yielded ++ x ∷ []))
   next_passed counts' found' counted others found_is =
@@ -360,7 +365,8 @@ module _ {N E : Type 0} (s : Seen N E) (joined : IsJoined s) (old : List Key) (a
       )
 
 -- all edges of the node were passed
-pub pass_end : {N E : Type 0} (s : Seen N E) (old : List Key) (at : ℕ) (a : Key) → at < length old → a ≡ get_or old at a → (counts : Pairs ℕ) (found yielded : List Key) → GoesOn old found → yielded ≡ edges_at s.out a
+pub pass_end : {N E : Type 0} (s : Seen N E) (old : List Key) (at : ℕ) (a : Key) → at < length old → a ≡ get_or old at a
+    → (counts : Pairs ℕ) (found yielded : List Key) → GoesOn old found → yielded ≡ edges_at s.out a
     → Sorting s counts found (edges_out s.out (take at old) ++ yielded) → Sorting s counts found (edges_out s.out (take (at + 1) found))
 pass_end s old at a within is counts found yielded goes all sorting =
     let front : take (at + 1) found ≡ take at old ++ a ∷ [] = ap (take (at + 1)) goes.1 ∙ take-append-le (at + 1) old goes.0 (omega (arith, within)) ∙ taken old at a within is in
@@ -375,13 +381,16 @@ pub record IsOrder {N E : Type 0} (s : Seen N E) (found : List Key) : Type 0 whe
   pub acyclic : HasCycle s.edges.live → ⊥
 
 -- the end of the list was reached: all edges of its nodes were passed
-pub ended : {N E : Type 0} (s : Seen N E) (counts : Pairs ℕ) (found : List Key) (at : ℕ) → length found ≤ at → Sorting s counts found (edges_out s.out (take at found)) → Sorting s counts found (edges_out s.out found)
+pub ended : {N E : Type 0} (s : Seen N E) (counts : Pairs ℕ) (found : List Key) (at : ℕ) → length found ≤ at → Sorting s counts found
+    (edges_out s.out (take at found)) → Sorting s counts found (edges_out s.out found)
 ended s counts found at past sorting = subst (λ l. Sorting s counts found (edges_out s.out l)) (take_all at found past) sorting
 
 -- where no node is left, the list is an order
-pub ordered : {N E : Type 0} (s : Seen N E) (joined : IsJoined s) (counts : Pairs ℕ) (found : List Key) → Sorting s counts found (edges_out s.out found) → ((y : Key) → IsLive s.nodes y → get counts y ≡ Some 0) → IsOrder s found
+pub ordered : {N E : Type 0} (s : Seen N E) (joined : IsJoined s) (counts : Pairs ℕ) (found : List Key) → Sorting s counts found (edges_out s.out found)
+    → ((y : Key) → IsLive s.nodes y → get counts y ≡ Some 0) → IsOrder s found
 ordered s joined counts found sorting none =
     let once = each_once s counts found sorting none in
     let few = found_once s counts found (edges_out s.out found) sorting in
-    let there : (k : Key) (e : SeenEdge _) → map.get s.edges.live k ≡ Some e → 0 < times e.to found = λ k e found_there. (let is = once e.to ∙ ap (λ b. if b then 1 else 0) (joined.ends k e found_there).1 in omega arith) in
+    let there : (k : Key) (e : SeenEdge _) → map.get s.edges.live k ≡ Some e → 0 < times e.to found =
+    λ k e found_there. (let is = once e.to ∙ ap (λ b. if b then 1 else 0) (joined.ends k e found_there).1 in omega arith) in
     record { once = once; forward = sorting.forward; acyclic = no_cycle s.edges.live found sorting.forward few there }

@@ -43,7 +43,8 @@ passed_of passed (j ∷ js) = times j passed + passed_of passed js
 -- For each node the number of its incoming edges that were not passed yet: those with none of them are in the list. Each edge that was passed
 -- begins at a node of it
 pub record Sorting {N E : Type 0} (s : Seen N E) (counts : Pairs ℕ) (found passed : List Key) : Type 0 where
-  pub table : (y : Key) → IsLive s.nodes y → (n : ℕ) × (get counts y ≡ Some n) × (n + passed_of passed (edges_at s.into y) ≡ length (edges_at s.into y)) × (times y found ≡ (if nat_eq n 0 then 1 else 0))
+  pub table : (y : Key) → IsLive s.nodes y → (n : ℕ) × (get counts y ≡ Some n) × (n + passed_of passed (edges_at s.into y) ≡ length (edges_at s.into y))
+      × (times y found ≡ (if nat_eq n 0 then 1 else 0))
   pub live : (y : Key) → 0 < times y found → IsLive s.nodes y
   pub forward : GoesForward s.edges.live found
   pub began : (x : Key) (e : SeenEdge E) → map.get s.edges.live x ≡ Some e → 0 < times x passed → 0 < times e.from found

@@ -52,7 +52,7 @@ impl<'a, E: Drop> Iterator for EdgesAt<'a, E> {
 
     fn next(&mut self) -> Option<EdgeKey> {
         let index = self.members.next()?;
-        self.edges.key_at(index)
+        Some(self.edges.live_key(index))
     }
 
     fn size_hint(&self) -> (usize, Option<usize>)
@@ -70,7 +70,7 @@ impl<'a, E: Drop> DoubleEndedIterator for EdgesAt<'a, E> {
 
     fn next_back(&mut self) -> Option<EdgeKey> {
         let index = self.members.next_back()?;
-        self.edges.key_at(index)
+        Some(self.edges.live_key(index))
     }
 }
 

@@ -90,7 +90,7 @@ impl<K: Key, N: Drop, E: Drop> Graph<K, N, E> {
     }
 
     /// Returns the nodes where an edge begins and ends, or `None` if the edge doesn't exist, in
-    /// constant time. Both nodes exist.
+    /// constant time. Both nodes exist, so a look-up of one of them right after this call tests nothing.
     ///
     /// ```
     /// let mut graph: Graph<NodeKey, &str, u64> = Graph::new(alloc)?;
@@ -104,7 +104,11 @@ impl<K: Key, N: Drop, E: Drop> Graph<K, N, E> {
         ensures live { IfSome result (λ ends. IsLive self.now.nodes (K.data_of ends.0) × IsLive self.now.nodes (K.data_of ends.1)) }
     {
         let (from, to) = self.edges.get(edge)?.ends();
-        Some((outer(from), outer(to)))
+        let from = outer(from);
+        let to = outer(to);
+        self.nodes.note_live(from);
+        self.nodes.note_live(to);
+        Some((from, to))
     }
 
     /// Returns an iterator over the keys of a node's outgoing edges, each once, in the order in which

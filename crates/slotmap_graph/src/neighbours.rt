@@ -53,7 +53,7 @@ impl<'a, K: Key, E: Drop> Iterator for Neighbours<'a, K, E> {
 
     fn next(&mut self) -> Option<K> {
         let index = self.members.next()?;
-        let key = self.edges.key_at(index)?;
+        let key = self.edges.live_key(index);
         Some(outer(self.edges.value(key).far_end(self.direction)))
     }
 

@@ -5,7 +5,7 @@ ghost use Rattle.std.specs.Option.{option_and_then};
 ghost use Rattle.std.specs.FinMap as map;
 ghost use Rattle.slotmap.specs.Words.{Key as KeyOf};
 ghost use Rattle.slotmap_keylist.specs.KeyLists.{times};
-ghost use Rattle.slotmap_keylist.specs.Linked.{first_or};
+ghost use Rattle.slotmap_links.specs.Lists.{first_or};
 ghost use Rattle.slotmap_graph.specs.Parts.{ListsEdges, edges_at, from, key_after, to};
 
 use crate::{EdgeKey, Graph};
@@ -75,7 +75,7 @@ impl<K: Key, N: Drop, E: Drop> Graph<K, N, E> {
             return None;
         }
         let next = self.out.next(edge.data().idx())?;
-        self.edges.key_at(next)
+        Some(self.edges.live_key(next))
     }
 
     /// Returns the edge after this one among the incoming edges of the node where it ends. It returns
@@ -100,6 +100,6 @@ impl<K: Key, N: Drop, E: Drop> Graph<K, N, E> {
             return None;
         }
         let next = self.into.next(edge.data().idx())?;
-        self.edges.key_at(next)
+        Some(self.edges.live_key(next))
     }
 }

@@ -108,7 +108,7 @@ impl<'a, K: Key, E: Drop> Iterator for EdgeReferencesAt<'a, K, E> {
 
     fn next(&mut self) -> Option<(EdgeKey, K, K, &'a E)> {
         let index = self.members.next()?;
-        let key = self.edges.key_at(index)?;
+        let key = self.edges.live_key(index);
         let edge = self.edges.value(key);
         let (from, to) = edge.ends();
         let value = edge.value();

@@ -125,7 +125,8 @@ impl<K: Key, N: Drop, E: Drop> Graph<K, N, E> {
         requires valid { IsContent true self.now.nodes }
         requires listed { AreSeen seen.old.pairs (list_map K.data_of found.old.items) }
         requires live { IsBeside self.now.nodes seen.old.pairs }
-        ensures finds { OnOk result (Finds self.now.nodes self.now.edges.live (K.data_of node) seen.old.pairs (list_map K.data_of found.old.items) seen.new.pairs (list_map K.data_of found.new.items)) }
+        ensures finds { OnOk result (Finds self.now.nodes self.now.edges.live (K.data_of node)
+            seen.old.pairs (list_map K.data_of found.old.items) seen.new.pairs (list_map K.data_of found.new.items)) }
         ensures next { OnOk result (HasNext self.now.edges.live (K.data_of node) seen.new.pairs) }
         ensures order { OnOk result (list_map K.data_of found.new.items
             ≡ fold marked (list_map K.data_of found.old.items) (ends_along to self.now.edges.live (edges_at self.now.out (K.data_of node)))) }

@@ -3,11 +3,11 @@ use Rattle.std.proofs.Common.{◌≡◌, ℕ, ◌<◌, cond, List, [], ◌∷◌
 use Rattle.std.proofs.lemmas.List.{get_or_default}
 use Rattle.slotmap_links.specs.Lists.{Lists, times, list_of, IsIn, numbers_from}
 use Rattle.slotmap_links.specs.Linked.{Bounds, follow}
-use Rattle.slotmap_links.specs.Segment.{IsSegment, IsTail}
+use Rattle.slotmap_links.specs.Segment.{AreBelow, IsSegment, IsTail}
 use Rattle.slotmap_links.specs.Kept.{link_at, listed, lists_by, bounds, unless_nobody, no_ends, AreKept}
 use Rattle.slotmap_links.specs.declared.Ends.{Ends}
 use Rattle.slotmap_links.specs.declared.Link.{Link}
-use Rattle.slotmap_links.proofs.Counts.{is_itself}
+use Rattle.slotmap_links.proofs.Counts.{is_itself, times_joined}
 use Rattle.slotmap_links.proofs.KeptLists.{list_fits}
 use Rattle.slotmap_links.proofs.Segments.{segment_start, tail_is}
 use Rattle.slotmap_links.proofs.SeenLists.{list_here, member_stands, not_first, not_later, owner_here, somebody_is}
@@ -15,12 +15,15 @@ use Rattle.slotmap_links.proofs.SeenLists.{list_here, member_stands, not_first, 
 -- the numbers from a number on
 from_there : (k : ℕ) (before after : List ℕ) → times k before ≡ 0 → numbers_from k (before ++ k ∷ after) ≡ k ∷ after
 from_there k [] after none = ap (λ b. cond b (k ∷ after) (numbers_from k after)) (is_itself k)
-from_there k (q ∷ before) after none = ap (λ b. cond b (q ∷ (before ++ k ∷ after)) (numbers_from k (before ++ k ∷ after))) (not_first k after q before none) ∙ from_there k before after (not_later k after q before none)
+from_there k (q ∷ before) after none = ap (λ b. cond b (q ∷ (before ++ k ∷ after)) (numbers_from k (before ++ k ∷ after))) (not_first k after q before none)
+    ∙ from_there k before after (not_later k after q before none)
 
 module _ (ends : List Ends) (links : List Link) (kept : AreKept ends links) (s : Lists) (seen : lists_by ends links ≡ s) (p : ℕ) where
-  pub segment_begins : (x : Ends) → x ≡ get_or ends p x → p < length s.lists → IsSegment (link_at links) x.len (unless_nobody x.first) (unless_nobody x.last)
+  pub segment_begins : (x : Ends) → x ≡ get_or ends p x → p < length s.lists
+      → IsSegment (link_at links) x.len (unless_nobody x.first) (unless_nobody x.last) × AreBelow (length links) (follow (link_at links) x.len (unless_nobody x.first))
   segment_begins x is there =
-      subst (λ (b : Bounds). IsSegment (link_at links) b.len b.first b.last) (sym (ap bounds (is ∙ get_or_default ends p x no_ends (owner_here ends links kept s seen p there)))) (segment_start kept.linked p)
+      subst (λ (b : Bounds). IsSegment (link_at links) b.len b.first b.last × AreBelow (length links) (follow (link_at links) b.len b.first))
+      (sym (ap bounds (is ∙ get_or_default ends p x no_ends (owner_here ends links kept s seen p there)))) (segment_start kept.linked p, kept.within p)
 
   pub tail_begins : (k : ℕ) → IsIn s p k → IsTail (link_at links) (length links) (unless_nobody k)
   tail_begins k inside =
@@ -39,3 +42,11 @@ module _ (ends : List Ends) (links : List Link) (kept : AreKept ends links) (s :
   tail_value k inside =
       let st = member_stands ends links kept s seen p k inside in
       tail_is (link_at links) (length links) (unless_nobody k) (tail_begins k inside) ∙ sym (ap (numbers_from k) st.is ∙ from_there k st.before st.after st.not_before)
+
+  pub tail_below : (k : ℕ) → IsIn s p k → AreBelow (length links) (follow (link_at links) (length links) (unless_nobody k))
+  unfolding tail_begins
+  tail_below k inside x more =
+      let st = member_stands ends links kept s seen p k inside in
+      let is : listed ends links p ≡ st.before ++ k ∷ st.after = list_here ends links s seen p ∙ st.is in
+      let rest = ap (times x) (tail_is (link_at links) (length links) (unless_nobody k) (tail_begins k inside)) in
+      kept.within p x (let whole = ap (times x) is ∙ times_joined x st.before (k ∷ st.after) in omega arith)

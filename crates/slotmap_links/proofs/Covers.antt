@@ -1,5 +1,6 @@
 -- More owners, or more numbers that may be members: the lists stay, and new ones are empty.
-use Rattle.std.proofs.Common.{◌≡◌, ℕ, ◌-◌, ◌<◌, ◌≤◌, ◌⊎◌, Result, Ok, Err, OnOk, is_ok, if◌then◌else◌, max, map as list_map, List, [], ◌∷◌, ◌++◌, length, get_or, take, replicate, zero, suc, refl, sym, ap, subst, ◌∙◌, inl, inr, arith, length-append}
+use Rattle.std.proofs.Common.{◌≡◌, ℕ, ◌-◌, ◌<◌, ◌≤◌, ◌⊎◌, Result, Ok, Err, OnOk, is_ok, if◌then◌else◌, max, map as list_map, List, []}
+use Rattle.std.proofs.Common.{◌∷◌, ◌++◌, length, get_or, take, replicate, zero, suc, refl, sym, ap, subst, ◌∙◌, inl, inr, arith, length-append}
 use Rattle.std.proofs.Math.ListN.{get_or-append, get_or-eq_default}
 use Rattle.std.proofs.Math.Seq.{get_or-append_right}
 use Rattle.std.proofs.lemmas.List.{map-append, length-replicate, take_all, get_or-replicate}
@@ -70,7 +71,8 @@ module _ (ends : List Ends) (links : List Link) (kept : AreKept ends links) (n :
     long = let a = length-append links (replicate (n - length links) no_link) in let b = length-replicate (n - length links) no_link in omega arith
 
     kept_members : AreKept ends more_links
-    kept_members = kept_along ends ends links more_links (λ q. refl) (λ q. ap neighbours (read_padded links (n - length links) q no_link)) kept (let l = long in omega arith) (let l = long in let f = kept.few in omega arith)
+    kept_members = kept_along ends ends links more_links (λ q. refl) (λ q. ap neighbours (read_padded links (n - length links) q no_link)) kept
+        (let l = long in omega arith) (let l = long in let f = kept.few in omega arith)
 
     seen_members_more : lists_by ends more_links ≡ with_members (lists_by ends links) n
     seen_members_more = λ i. record {
@@ -88,7 +90,8 @@ module _ (ends : List Ends) (links : List Link) (kept : AreKept ends links) (n l
     resized_owners (Ok x) now is = subst (λ l. AreKept l links) (sym (is ∙ grown_ends)) (kept_owners ends links kept n)
     resized_owners (Err e) now is = subst (λ l. AreKept l links) (sym is) kept
 
-    pub seen_resized_owners : {A B : Type 0} (s : Lists) → lists_by ends links ≡ s → (r : Result A B) (now : List Ends) → now ≡ (if is_ok r then take n ends ++ replicate (n - len) no_ends else ends)
+    pub seen_resized_owners : {A B : Type 0} (s : Lists) → lists_by ends links ≡ s → (r : Result A B) (now : List Ends)
+        → now ≡ (if is_ok r then take n ends ++ replicate (n - len) no_ends else ends)
         → OnOk r (lists_by now links ≡ with_owners s n)
     seen_resized_owners s seen (Ok x) now is = ap (λ l. lists_by l links) (is ∙ grown_ends) ∙ seen_owners_more ends links kept n ∙ ap (λ s. with_owners s n) seen
     seen_resized_owners s seen (Err e) now is = tt
@@ -101,7 +104,8 @@ module _ (ends : List Ends) (links : List Link) (kept : AreKept ends links) (n l
     resized_members (Ok x) now is = subst (λ l. AreKept ends l) (sym (is ∙ grown_links)) (kept_members ends links kept n few)
     resized_members (Err e) now is = subst (λ l. AreKept ends l) (sym is) kept
 
-    pub seen_resized_members : {A B : Type 0} (s : Lists) → lists_by ends links ≡ s → (r : Result A B) (now : List Link) → now ≡ (if is_ok r then take n links ++ replicate (n - len) no_link else links)
+    pub seen_resized_members : {A B : Type 0} (s : Lists) → lists_by ends links ≡ s → (r : Result A B) (now : List Link)
+        → now ≡ (if is_ok r then take n links ++ replicate (n - len) no_link else links)
         → OnOk r (lists_by ends now ≡ with_members s n)
     seen_resized_members s seen (Ok x) now is = ap (λ l. lists_by ends l) (is ∙ grown_links) ∙ seen_members_more ends links kept n few ∙ ap (λ s. with_members s n) seen
     seen_resized_members s seen (Err e) now is = tt

@@ -1,5 +1,6 @@
 -- Lists that are kept as links: a walk along them, and what a number that is put in or taken out does to them. For the structures.
-use Rattle.std.proofs.Common.{ℕ, nat_eq, ◌≡◌, ◌≢◌, ◌⊎◌, ◌+◌, ◌<◌, ◌≤◌, Option, Some, None, List, [], ◌∷◌, ◌++◌, length, cond, not, refl, sym, ap, ◌∙◌, inl, inr, arith, append_assoc, append-nil}
+use Rattle.std.proofs.Common.{ℕ, nat_eq, ◌≡◌, ◌≢◌, ◌⊎◌, ◌+◌, ◌<◌, ◌≤◌, Option, Some, None, List, [], ◌∷◌, ◌++◌, length, cond}
+use Rattle.std.proofs.Common.{not, refl, sym, ap, ◌∙◌, inl, inr, arith, append_assoc, append-nil}
 use Rattle.std.proofs.Math.Nat.{eq-zero-or-pos}
 use Rattle.std.proofs.lemmas.List.Elements.{filter-append}
 use Rattle.std.proofs.lemmas.Option.{same_Some}
@@ -36,7 +37,7 @@ none_last (k ∷ ks) is = by k ks is
     by k [] is = absurd (cc)
     by k (q ∷ ks) is = by q ks is
 
-pub cons_not_nil : (b : List ℕ) (x : ℕ) (a : List ℕ) → [] ≡ b ++ x ∷ a → ⊥
+pub cons_not_nil : {A : Type 0} (b : List A) (x : A) (a : List A) → [] ≡ b ++ x ∷ a → ⊥
 cons_not_nil [] x a at = absurd (cc)
 cons_not_nil (q ∷ b) x a at = absurd (cc)
 
@@ -44,9 +45,9 @@ cons_not_nil (q ∷ b) x a at = absurd (cc)
 pub in_midst : (before : List ℕ) (k : ℕ) (after : List ℕ) → times k (before ++ k ∷ after) ≡ 1 + (times k before + times k after)
 in_midst before k after = let sum = times_joined k before (k ∷ after) in let first = times_first k k after in let one = one_itself k in omega arith
 
--- where a list is cut, a number of it is before the cut or after it
-pub cut_at : (before after b : List ℕ) (x : ℕ) (a : List ℕ) → before ++ after ≡ b ++ x ∷ a
-    → ((m : List ℕ) × (before ≡ b ++ x ∷ m) × (a ≡ m ++ after)) ⊎ ((m : List ℕ) × (b ≡ before ++ m) × (after ≡ m ++ x ∷ a))
+-- where a list is cut, what stands in it is before the cut or after it
+pub cut_at : {A : Type 0} (before after b : List A) (x : A) (a : List A) → before ++ after ≡ b ++ x ∷ a
+    → ((m : List A) × (before ≡ b ++ x ∷ m) × (a ≡ m ++ after)) ⊎ ((m : List A) × (b ≡ before ++ m) × (after ≡ m ++ x ∷ a))
 cut_at [] after b x a is = inr (b, refl, is)
 cut_at (k ∷ before) after [] x a is = inl (before, (cc), (cc))
 cut_at (k ∷ before) after (y ∷ b) x a is = elim (cut_at before after b x a (cc)) [
@@ -130,7 +131,8 @@ module _ {ends : ℕ → Bounds} {link : ℕ → Neighbours} {lists : ℕ → Li
       link_before : (b : List ℕ) (x : ℕ) (m : List ℕ) → before ≡ b ++ x ∷ m → link' x ≡ link_between b (m ++ (now ++ after))
       link_before b x [] at =
           relinks.prev x (ap (λ l. last_or l None) at ∙ last_or-append b (x ∷ []) None)
-          ∙ ap (λ (l : Neighbours). record l { next = first_or now (first_or after None) }) (linked.links_are p b x (mid ++ after) (is ∙ ap (λ l. l ++ (mid ++ after)) at ∙ append_assoc b (x ∷ []) (mid ++ after)))
+          ∙ ap (λ (l : Neighbours). record l { next = first_or now (first_or after None) })
+          (linked.links_are p b x (mid ++ after) (is ∙ ap (λ l. l ++ (mid ++ after)) at ∙ append_assoc b (x ∷ []) (mid ++ after)))
           ∙ ap (λ n. record { prev = last_or b None; next = n }) (sym (first_or-append now after None))
       link_before b x (y ∷ m) at =
           let sum = is_counted x in
@@ -145,7 +147,8 @@ module _ {ends : ℕ → Bounds} {link : ℕ → Neighbours} {lists : ℕ → Li
       link_after : (m : List ℕ) (x : ℕ) (a : List ℕ) → after ≡ m ++ x ∷ a → link' x ≡ link_between (before ++ (now ++ m)) a
       link_after [] x a at =
           relinks.next x (ap (λ l. first_or l None) at)
-          ∙ ap (λ (l : Neighbours). record l { prev = last_or now (last_or before None) }) (linked.links_are p (before ++ mid) x a (is ∙ ap (λ l. before ++ (mid ++ l)) at ∙ sym (append_assoc before mid (x ∷ a))))
+          ∙ ap (λ (l : Neighbours). record l { prev = last_or now (last_or before None) })
+          (linked.links_are p (before ++ mid) x a (is ∙ ap (λ l. before ++ (mid ++ l)) at ∙ sym (append_assoc before mid (x ∷ a))))
           ∙ ap (λ l. record { prev = l; next = first_or a None }) (sym (last_or-append before (now ++ []) None ∙ last_or-append now [] (last_or before None)))
       link_after (y ∷ m) x a at =
           let sum = is_counted x in
@@ -155,7 +158,8 @@ module _ {ends : ℕ → Bounds} {link : ℕ → Neighbours} {lists : ℕ → Li
           let no_first : first_or after None ≢ Some x = λ first.
           (let again = same_Some y x (sym (ap (λ l. first_or l None) at) ∙ first) in let one = ap (λ q. same q x) again ∙ one_itself x in let head = times_first x y m in omega arith) in
           let whole = is ∙ ap (λ l. before ++ (mid ++ l)) at ∙ ap (λ l. before ++ l) (sym (append_assoc mid (y ∷ m) (x ∷ a))) ∙ sym (append_assoc before (mid ++ y ∷ m) (x ∷ a)) in
-          let last : (ks : List ℕ) → last_or (before ++ (ks ++ y ∷ m)) None ≡ last_or m (Some y) = λ ks. last_or-append before (ks ++ y ∷ m) None ∙ last_or-append ks (y ∷ m) (last_or before None) in
+          let last : (ks : List ℕ) → last_or (before ++ (ks ++ y ∷ m)) None ≡ last_or m (Some y) = λ ks. last_or-append before (ks ++ y ∷ m) None
+          ∙ last_or-append ks (y ∷ m) (last_or before None) in
           relinks.others x no_k (not_last x (omega arith)) no_first
           ∙ linked.links_are p (before ++ (mid ++ y ∷ m)) x a whole
           ∙ ap (λ l. record { prev = l; next = first_or a None }) (last mid ∙ sym (last now))
@@ -211,5 +215,6 @@ module _ {ends : ℕ → Bounds} {link : ℕ → Neighbours} {lists : ℕ → Li
   linked_taken apart p k before after is {link'} relinks listed =
       let sum = sym (ap (times k) is ∙ in_midst before k after) in
       let once = apart.once p k in
-      linked_now apart p k before (k ∷ []) after is (omega arith) (omega arith) (λ q other. elim (eq-zero-or-pos (times k (lists q))) [ inl none ↦ none | inr there ↦ absurd (other (apart.alone q p k there (omega arith))) ])
+      linked_now apart p k before (k ∷ []) after is (omega arith) (omega arith)
+      (λ q other. elim (eq-zero-or-pos (times k (lists q))) [ inl none ↦ none | inr there ↦ absurd (other (apart.alone q p k there (omega arith))) ])
       [] link' relinks (λ b x a at. absurd (cons_not_nil b x a at)) listed

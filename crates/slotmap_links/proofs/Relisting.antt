@@ -1,5 +1,6 @@
 -- One list is another one now: what holds of all of them then.
-use Rattle.std.proofs.Common.{◌≡◌, ◌≢◌, ℕ, ◌+◌, ◌-◌, ◌<◌, ◌≤◌, Some, None, cond, nat_eq, List, [], ◌∷◌, ◌++◌, length, refl, sym, ap, ◌∙◌, inl, inr, arith}
+use Rattle.std.proofs.Common.{◌≡◌, ◌≢◌, ℕ, ◌+◌, ◌-◌, ◌<◌, ◌≤◌, Some, None, cond, nat_eq, List, [], ◌∷◌, ◌++◌, length, refl, sym}
+use Rattle.std.proofs.Common.{ap, ◌∙◌, inl, inr, arith}
 use Rattle.std.proofs.Math.Nat.{eq-zero-or-pos}
 use Rattle.slotmap_links.specs.Lists.{times, first_or, last_or}
 use Rattle.slotmap_links.specs.Linked.{Neighbours, ends_of, link_between, AreLinked, AreApart, IsListed}
@@ -72,7 +73,8 @@ module _ (ends : List Ends) (links : List Link) (kept : AreKept ends links) (p k
     is_listed : IsListed (listed ends links) lists_now (bounds_at ends) (bounds_at ends') p ks
     is_listed = record { list = now_here; ends = here; others = now_there; other_ends = there }
 
-    relists_by : AreLinked (bounds_at ends') (link_at links') lists_now → (fewer : (x : ℕ) → x ≢ k → times x ks ≤ times x list) (one : times k ks ≤ 1) (elsewhere : (q : ℕ) → q ≢ p → times k (listed ends links q) ≡ 0)
+    relists_by : AreLinked (bounds_at ends') (link_at links') lists_now → (fewer : (x : ℕ) → x ≢ k → times x ks ≤ times x list) (one : times k ks ≤ 1)
+        (elsewhere : (q : ℕ) → q ≢ p → times k (listed ends links q) ≡ 0)
         → Relists ends links p ks ends' links'
     relists_by linked fewer one elsewhere =
         let is : (q : ℕ) → listed ends' links' q ≡ lists_now q = followed_is linked in
@@ -80,7 +82,8 @@ module _ (ends : List Ends) (links : List Link) (kept : AreKept ends links) (p k
           kept = record {
             linked = linked_self linked;
             apart = apart_now (listed ends links) kept.apart p k ks fewer one elsewhere (listed ends' links') (is p ∙ now_here) (λ q other. is q ∙ now_there q other);
-            within = λ q x more. (let h = within_now (listed ends links) kept.apart p k ks fewer one elsewhere (listed ends' links') (is p ∙ now_here) (λ q other. is q ∙ now_there q other) (length links) below kept.within q x more in omega arith);
+            within = λ q x more. (let h = within_now (listed ends links) kept.apart p k ks fewer one elsewhere (listed ends' links') (is p ∙ now_here)
+                (λ q other. is q ∙ now_there q other) (length links) below kept.within q x more in omega arith);
             few = (let h = kept.few in omega arith);
           };
           list = is p ∙ now_here;
@@ -90,7 +93,8 @@ module _ (ends : List Ends) (links : List Link) (kept : AreKept ends links) (p k
         }
 
   -- k, which is in no list, comes to a place in that of p
-  module _ (nowhere : (q : ℕ) → times k (listed ends links q) ≡ 0) (before after : List ℕ) (is : list ≡ before ++ after) (ends' : List Ends) (links' : List Link) (owners : length ends' ≡ length ends) (members : length links' ≡ length links)
+  module _ (nowhere : (q : ℕ) → times k (listed ends links q) ≡ 0) (before after : List ℕ) (is : list ≡ before ++ after) (ends' : List Ends)
+      (links' : List Link) (owners : length ends' ≡ length ends) (members : length links' ≡ length links)
       (mid : ℕ → Neighbours) (at : mid k ≡ link_between before after) (but : (q : ℕ) → q ≢ k → mid q ≡ link_at links q)
       (written : (q : ℕ) → link_at links' q ≡ with_prev (first_or after None) (Some k) (with_next (last_or before None) (Some k) mid) q) where
     none_there : times k before + times k after ≡ 0
@@ -105,7 +109,8 @@ module _ (ends : List Ends) (links : List Link) (kept : AreKept ends links) (p k
     apart_at : (x : ℕ) → last_or before None ≡ Some x → first_or after None ≢ Some x
     apart_at = two_neighbours before [] after (λ x. (let h = kept.apart.once p x in let e = ap (times x) is ∙ times_joined x before after in omega arith))
 
-    pub relists_put : bounds_at ends' p ≡ record { first = own (last_or before None) (bounds_at ends p).first (Some k); last = own (first_or after None) (bounds_at ends p).last (Some k); len = (bounds_at ends p).len + 1 }
+    pub relists_put : bounds_at ends' p
+        ≡ record { first = own (last_or before None) (bounds_at ends p).first (Some k); last = own (first_or after None) (bounds_at ends p).last (Some k); len = (bounds_at ends p).len + 1 }
         → ((q : ℕ) → q ≢ p → bounds_at ends' q ≡ bounds_at ends q) → Relists ends links p (before ++ k ∷ after) ends' links'
     relists_put here there =
         let new = here ∙ ends_put before k after (bounds_at ends p) (kept.linked.ends_are p ∙ ap ends_of is) in
@@ -114,12 +119,14 @@ module _ (ends : List Ends) (links : List Link) (kept : AreKept ends links) (p k
         (spliced_own before after k not_before not_after (link_at links) mid (link_at links') (Some k) (Some k) but written ∙ at)
         (spliced before after k not_before not_after (link_at links) mid (link_at links') (Some k) (Some k) but written apart_at)
         (is_listed (before ++ k ∷ after) ends' links' owners members new there))
-        (λ x other. (let a = times_joined x before (k ∷ after) in let b = times_first x k after in let c = one_other k x (λ e. other (sym e)) in let d = ap (times x) is ∙ times_joined x before after in omega arith))
+        (λ x other. (let a = times_joined x before (k ∷ after) in let b = times_first x k after in let c = one_other k x (λ e. other (sym e)) in let d =
+        ap (times x) is ∙ times_joined x before after in omega arith))
         (let a = in_midst before k after in let n = none_there in omega arith)
         (λ q _. nowhere q)
 
   -- k is taken out of the list of p
-  module _ (there : 0 < times k list) (before after : List ℕ) (is : list ≡ before ++ k ∷ after) (ends' : List Ends) (links' : List Link) (owners : length ends' ≡ length ends) (members : length links' ≡ length links)
+  module _ (there : 0 < times k list) (before after : List ℕ) (is : list ≡ before ++ k ∷ after) (ends' : List Ends) (links' : List Link)
+      (owners : length ends' ≡ length ends) (members : length links' ≡ length links)
       (written : (q : ℕ) → link_at links' q ≡ with_prev (first_or after None) (last_or before None) (with_next (last_or before None) (first_or after None) (link_at links)) q) where
     once_there : (x : ℕ) → times x before + (same k x + times x after) ≤ 1
     once_there x = let h = kept.apart.once p x in let e = ap (times x) is ∙ times_joined x before (k ∷ after) in let f = times_first x k after in omega arith
@@ -133,7 +140,13 @@ module _ (ends : List Ends) (links : List Link) (kept : AreKept ends links) (p k
     gone_after : times k after ≡ 0
     gone_after = let h = once_there k in let o = one_itself k in omega arith
 
-    pub relists_taken : bounds_at ends' p ≡ record { first = own (last_or before None) (bounds_at ends p).first (first_or after None); last = own (first_or after None) (bounds_at ends p).last (last_or before None); len = (bounds_at ends p).len - 1 }
+    pub relists_taken : bounds_at ends' p
+        ≡ record {
+          first = own (last_or before None) (bounds_at ends p).first (first_or after None);
+          last = own (first_or after None) (bounds_at ends p).last (last_or
+              before None);
+          len = (bounds_at ends p).len - 1;
+        }
         → ((q : ℕ) → q ≢ p → bounds_at ends' q ≡ bounds_at ends q) → Relists ends links p (before ++ after) ends' links'
     relists_taken here rest =
         let new = here ∙ ends_taken before k after (bounds_at ends p) (kept.linked.ends_are p ∙ ap ends_of is) in

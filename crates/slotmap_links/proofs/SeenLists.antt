@@ -1,5 +1,6 @@
 -- What the two vectors say of the lists that the user sees.
-use Rattle.std.proofs.Common.{◌≡◌, ℕ, ◌<◌, false, Option, Some, None, cond, nat_eq, List, [], ◌∷◌, ◌++◌, length, get_or, refl, sym, ap, subst, ◌∙◌, arith, append_assoc, append-nil}
+use Rattle.std.proofs.Common.{◌≡◌, ℕ, ◌<◌, false, Option, Some, None, cond, nat_eq, List, [], ◌∷◌, ◌++◌, length, get_or, refl, sym, ap, subst}
+use Rattle.std.proofs.Common.{◌∙◌, arith, append_assoc, append-nil}
 use Rattle.std.specs.Vec.{with_items}
 use Rattle.std.specs.declared.vec.Vec.{Vec}
 use Rattle.std.proofs.lemmas.List.{get_or_default, with_items_is}
@@ -23,7 +24,8 @@ module _ (at : ℕ) (after : List ℕ) where
 
   pub after_there : (before : List ℕ) → times at before ≡ 0 → number_after at (before ++ at ∷ after) ≡ first_or after None
   after_there [] none = ap (λ b. cond b (first_or after None) (number_after at after)) (is_itself at)
-  after_there (q ∷ before) none = ap (λ b. cond b (first_or (before ++ at ∷ after) None) (number_after at (before ++ at ∷ after))) (not_first q before none) ∙ after_there before (not_later q before none)
+  after_there (q ∷ before) none = ap (λ b. cond b (first_or (before ++ at ∷ after) None) (number_after at (before ++ at ∷ after))) (not_first q before none)
+      ∙ after_there before (not_later q before none)
 
   pub before_there : (before : List ℕ) (o : Option ℕ) → times at before ≡ 0 → number_before o at (before ++ at ∷ after) ≡ last_or before o
   before_there [] o none = ap (λ b. cond b o (number_before (Some at) at after)) (is_itself at)
@@ -74,10 +76,12 @@ module _ (ends : List Ends) (links : List Link) (kept : AreKept ends links) wher
 
   -- the first member and the last one of an owner's list
   first_here : (p : ℕ) (x : Ends) → x ≡ get_or ends p x → p < length here.lists → unless_nobody x.first ≡ first_or (list_of here p) None
-  first_here p x is there = ap (λ (b : Bounds). b.first) (ap bounds (is ∙ get_or_default ends p x no_ends (let n = seen_owners ends links in omega arith)) ∙ kept.linked.ends_are p) ∙ ap (λ l. first_or l None) (sym (seen_list ends links p))
+  first_here p x is there = ap (λ (b : Bounds). b.first) (ap bounds (is ∙ get_or_default ends p x no_ends (let n = seen_owners ends links in omega arith))
+      ∙ kept.linked.ends_are p) ∙ ap (λ l. first_or l None) (sym (seen_list ends links p))
 
   last_here : (p : ℕ) (x : Ends) → x ≡ get_or ends p x → p < length here.lists → unless_nobody x.last ≡ last_or (list_of here p) None
-  last_here p x is there = ap (λ (b : Bounds). b.last) (ap bounds (is ∙ get_or_default ends p x no_ends (let n = seen_owners ends links in omega arith)) ∙ kept.linked.ends_are p) ∙ ap (λ l. last_or l None) (sym (seen_list ends links p))
+  last_here p x is there = ap (λ (b : Bounds). b.last) (ap bounds (is ∙ get_or_default ends p x no_ends (let n = seen_owners ends links in omega arith))
+      ∙ kept.linked.ends_are p) ∙ ap (λ l. last_or l None) (sym (seen_list ends links p))
 
   -- where a member stands
   stands_here : (p k : ℕ) → IsIn here p k → Stands here p k
@@ -95,10 +99,12 @@ module _ (ends : List Ends) (links : List Link) (kept : AreKept ends links) wher
 
   -- the two beside it
   next_here : (p k : ℕ) (x : Link) → x ≡ get_or links k x → (inside : IsIn here p k) (stands : Stands here p k) → unless_nobody x.next ≡ first_or stands.after None
-  next_here p k x is inside stands = ap (λ (n : Neighbours). n.next) (ap neighbours (is ∙ get_or_default links k x no_link (below_here p k inside)) ∙ kept.linked.links_are p stands.before k stands.after (sym (seen_list ends links p) ∙ stands.is))
+  next_here p k x is inside stands = ap (λ (n : Neighbours). n.next) (ap neighbours (is ∙ get_or_default links k x no_link (below_here p k inside))
+      ∙ kept.linked.links_are p stands.before k stands.after (sym (seen_list ends links p) ∙ stands.is))
 
   prev_here : (p k : ℕ) (x : Link) → x ≡ get_or links k x → (inside : IsIn here p k) (stands : Stands here p k) → unless_nobody x.prev ≡ last_or stands.before None
-  prev_here p k x is inside stands = ap (λ (n : Neighbours). n.prev) (ap neighbours (is ∙ get_or_default links k x no_link (below_here p k inside)) ∙ kept.linked.links_are p stands.before k stands.after (sym (seen_list ends links p) ∙ stands.is))
+  prev_here p k x is inside stands = ap (λ (n : Neighbours). n.prev) (ap neighbours (is ∙ get_or_default links k x no_link (below_here p k inside))
+      ∙ kept.linked.links_are p stands.before k stands.after (sym (seen_list ends links p) ∙ stands.is))
 
   somebody_here : (p k : ℕ) → IsIn here p k → unless_nobody k ≡ Some k
   somebody_here p k inside = somebody k (let b = below_here p k inside in let f = kept.few in omega arith)
@@ -154,7 +160,8 @@ module _ (ends : List Ends) (links : List Link) (s : Lists) (seen : lists_by end
     pub put_relists : {prev next : Option ℕ} → ((place : IsGap (listed ends' links' p) prev next) → Relists ends' links' p (place.before ++ k ∷ place.after) new_ends new_links)
         → (place : IsGap (list_of s p) prev next) → Relists ends links p (place.before ++ k ∷ place.after) new_ends new_links
     put_relists {prev} {next} put place =
-        subst (λ (x : List Ends × List Link). (place : IsGap (listed x.0 x.1 p) prev next) → Relists x.0 x.1 p (place.before ++ k ∷ place.after) new_ends new_links) (λ i. (same_ends i, same_links i)) put (place_at place)
+        subst (λ (x : List Ends × List Link). (place : IsGap (listed x.0 x.1 p) prev next) → Relists x.0 x.1 p (place.before ++ k ∷ place.after) new_ends new_links)
+        (λ i. (same_ends i, same_links i)) put (place_at place)
 
     pub take_relists : Relists ends' links' p (without k (listed ends' links' p)) new_ends new_links → Relists ends links p (without k (list_of s p)) new_ends new_links
     take_relists taken =
@@ -174,4 +181,5 @@ module _ {Z Z' : Type 0} (V : Vec Ends Z) (W : Vec Link Z') (p : ℕ) (ks : List
 
   pub seen_written : (s : Lists) → lists_by V.items W.items ≡ s → p < length s.lists → lists_by (with_items V ends).items (with_items W links).items ≡ with_list s p ks
   seen_written s seen there =
-      (λ i. lists_by (ends_hold i) (links_hold i)) ∙ seen_relisted V.items W.items p ks ends links (let n = ap (λ (s : Lists). length s.lists) seen in let m = seen_owners V.items W.items in omega arith) relists ∙ ap (λ s. with_list s p ks) seen
+      (λ i. lists_by (ends_hold i) (links_hold i)) ∙ seen_relisted V.items W.items p ks ends links (let n = ap (λ (s : Lists). length s.lists) seen in let m =
+      seen_owners V.items W.items in omega arith) relists ∙ ap (λ s. with_list s p ks) seen

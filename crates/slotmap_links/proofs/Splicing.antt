@@ -1,5 +1,6 @@
 -- A number that is put into a list that is kept as links, or taken out of it: what is written makes the links of the new list.
-use Rattle.std.proofs.Common.{ℕ, ◌≡◌, ◌≢◌, ◌+◌, ◌-◌, ◌≤◌, Option, Some, None, List, [], ◌∷◌, ◌++◌, length, cond, refl, sym, ap, subst, ◌∙◌, arith, append-nil, length-append}
+use Rattle.std.proofs.Common.{ℕ, ◌≡◌, ◌≢◌, ◌+◌, ◌-◌, ◌≤◌, Option, Some, None, List, [], ◌∷◌, ◌++◌, length, cond, refl, sym, ap}
+use Rattle.std.proofs.Common.{subst, ◌∙◌, arith, append-nil, length-append}
 use Rattle.slotmap_links.specs.Lists.{times, first_or, last_or}
 use Rattle.slotmap_links.specs.Linked.{Bounds, Neighbours, ends_of, followed, AreLinked, Relinks}
 use Rattle.slotmap_links.specs.Splice.{with_next, with_prev, own}
@@ -41,11 +42,13 @@ module _ (before after : List ℕ) (k : ℕ) (not_before : times k before ≡ 0)
           ∙ ap (λ (n : Neighbours). record n { next = on }) (but l (λ e. not_last (last ∙ ap Some e)));
       next = λ f first. is f ∙ ap (λ o. with_prev o back (with_next (last_or before None) on mid) f) first ∙ prev_here back (with_next (last_or before None) on mid) f
           ∙ ap (λ (n : Neighbours). record n { prev = back }) (next_elsewhere on mid f (last_or before None) (λ last. apart f last first) ∙ but f (λ e. not_first (first ∙ ap Some e)));
-      others = λ x other not_prev not_next. is x ∙ prev_elsewhere back (with_next (last_or before None) on mid) x (first_or after None) not_next ∙ next_elsewhere on mid x (last_or before None) not_prev ∙ but x other;
+      others = λ x other not_prev not_next. is x ∙ prev_elsewhere back (with_next (last_or before None) on mid) x (first_or after None) not_next
+          ∙ next_elsewhere on mid x (last_or before None) not_prev ∙ but x other;
     }
 
 -- where a number is in a list once, the two neighbours of a place are two numbers
-pub two_neighbours : (before mid after : List ℕ) → ((x : ℕ) → times x before + (times x mid + times x after) ≤ 1) → (x : ℕ) → last_or before None ≡ Some x → first_or after None ≢ Some x
+pub two_neighbours : (before mid after : List ℕ) → ((x : ℕ) → times x before + (times x mid + times x after) ≤ 1) → (x : ℕ)
+    → last_or before None ≡ Some x → first_or after None ≢ Some x
 two_neighbours before mid after once x last first = absurd (let a = last_in before x last in let b = first_in after x first in let c = once x in omega arith)
 
 last_some : (x : ℕ) (xs : List ℕ) (a b : Option ℕ) → own (last_or xs (Some x)) a b ≡ a

@@ -1,5 +1,6 @@
 -- What the two functions that change links write: it makes the new list.
-use Rattle.std.proofs.Common.{◌≡◌, ◌≢◌, ℕ, ◌+◌, ◌-◌, ◌<◌, ◌≤◌, Option, Some, None, IfSome, cond, nat_eq, List, [], ◌∷◌, ◌++◌, length, get_or, set, refl, sym, ap, ◌∙◌, inl, inr, arith, append_assoc, length-append}
+use Rattle.std.proofs.Common.{◌≡◌, ◌≢◌, ℕ, ◌+◌, ◌-◌, ◌<◌, ◌≤◌, Option, Some, None, IfSome, cond, nat_eq, List, [], ◌∷◌, ◌++◌}
+use Rattle.std.proofs.Common.{length, get_or, set, refl, sym, ap, ◌∙◌, inl, inr, arith, append_assoc, length-append}
 use Rattle.std.proofs.lemmas.List.{length-set, get_or-set_same, get_or-set_other, get_or_default}
 use Rattle.slotmap_links.specs.Lists.{times, first_or, last_or, without}
 use Rattle.slotmap_links.specs.Linked.{Bounds, Neighbours, link_between}
@@ -57,10 +58,14 @@ module _ (ends : List Ends) (links : List Link) (kept : AreKept ends links) (p :
   -- the two beside a place are members
   module _ (prev next : Option ℕ) (place : IsGap list prev next) where
     pub prev_below : IfSome prev (λ k. k < length links)
-    prev_below = if_some prev _ (λ l is. kept.within p l (let h = last_in place.before l (sym place.prev_is ∙ is) in let e = ap (times l) place.is ∙ times_joined l place.before place.after in omega arith))
+    prev_below =
+        if_some prev _ (λ l is. kept.within p l (let h = last_in place.before l (sym place.prev_is ∙ is) in let e = ap (times l) place.is
+        ∙ times_joined l place.before place.after in omega arith))
 
     pub next_below : IfSome next (λ k. k < length links)
-    next_below = if_some next _ (λ f is. kept.within p f (let h = first_in place.after f (sym place.next_is ∙ is) in let e = ap (times f) place.is ∙ times_joined f place.before place.after in omega arith))
+    next_below =
+        if_some next _ (λ f is. kept.within p f (let h = first_in place.after f (sym place.next_is ∙ is) in let e = ap (times f) place.is
+        ∙ times_joined f place.before place.after in omega arith))
 
   len_of : (bounds_at ends p).len ≡ length list
   len_of = ap (λ (e : Bounds). e.len) (kept.linked.ends_are p)
@@ -74,12 +79,20 @@ module _ (ends : List Ends) (links : List Link) (kept : AreKept ends links) (p :
         (members : length new_links ≡ length links) (owners : length new_ends ≡ length ends)
         (links_one : (q : ℕ) → link_at mid_links q ≡ with_next (unless_nobody link.prev) (unless_nobody k) (link_at (set links k link)) q)
         (links_two : (q : ℕ) → link_at new_links q ≡ with_prev (unless_nobody link.next) (unless_nobody k) (link_at mid_links) q)
-        (ends_one : (q : ℕ) → bounds_at mid_ends q ≡ cond (nat_eq q p) (record (bounds_at ends q) { first = own (unless_nobody link.prev) (bounds_at ends q).first (unless_nobody k) }) (bounds_at ends q))
-        (ends_two : (q : ℕ) → bounds_at new_ends q ≡ cond (nat_eq q p) (record (bounds_at mid_ends q) { last = own (unless_nobody link.next) (bounds_at mid_ends q).last (unless_nobody k) }) (bounds_at mid_ends q)) (d : Ends) where
+        (ends_one : (q : ℕ) → bounds_at mid_ends q ≡ cond (nat_eq q p)
+        (record (bounds_at ends q) { first = own (unless_nobody link.prev) (bounds_at ends q).first (unless_nobody k) }) (bounds_at ends q))
+        (ends_two : (q : ℕ) → bounds_at new_ends q ≡ cond (nat_eq q p)
+        (record (bounds_at mid_ends q) { last = own (unless_nobody link.next) (bounds_at mid_ends q).last (unless_nobody k) }) (bounds_at mid_ends q)) (d : Ends) where
       there : p < length new_ends
       there = omega arith
 
-      both_ends : bounds_at new_ends p ≡ record { first = own (unless_nobody link.prev) (bounds_at ends p).first (unless_nobody k); last = own (unless_nobody link.next) (bounds_at ends p).last (unless_nobody k); len = (bounds_at ends p).len }
+      both_ends : bounds_at new_ends p
+          ≡ record {
+            first = own (unless_nobody link.prev) (bounds_at ends p).first (unless_nobody k);
+            last = own (unless_nobody link.next) (bounds_at ends
+                p).last (unless_nobody k);
+            len = (bounds_at ends p).len;
+          }
       both_ends = end_here (bounds_at ends) (bounds_at mid_ends) (bounds_at new_ends) p (unless_nobody link.prev) (unless_nobody link.next) (unless_nobody k) (unless_nobody k) ends_one ends_two
 
       long : (get_or new_ends p d).len ≡ length list
@@ -115,7 +128,13 @@ module _ (ends : List Ends) (links : List Link) (kept : AreKept ends links) (p :
         abbrev bumped : List Ends
         bumped = set new_ends p (record { first = (get_or new_ends p d).first; last = (get_or new_ends p d).last; len = (get_or new_ends p d).len + 1 })
 
-        ends_put_here : bounds_at bumped p ≡ record { first = own (last_or place.before None) (bounds_at ends p).first (Some k); last = own (first_or place.after None) (bounds_at ends p).last (Some k); len = (bounds_at ends p).len + 1 }
+        ends_put_here : bounds_at bumped p
+            ≡ record {
+              first = own (last_or place.before None) (bounds_at ends p).first (Some k);
+              last = own (first_or place.after None) (bounds_at ends p).last (Some
+                  k);
+              len = (bounds_at ends p).len + 1;
+            }
         ends_put_here = counted_here new_ends p there d ((get_or new_ends p d).len + 1)
             ∙ (λ i. record { first = (both_ends i).first; last = (both_ends i).last; len = (long ∙ sym len_of) i + 1 })
             ∙ (λ i. record { first = own (place.prev_is i) (bounds_at ends p).first (k_is i); last = own (place.next_is i) (bounds_at ends p).last (k_is i); len = (bounds_at ends p).len + 1 })
@@ -125,7 +144,8 @@ module _ (ends : List Ends) (links : List Link) (kept : AreKept ends links) (p :
             ∙ end_there (bounds_at ends) (bounds_at mid_ends) (bounds_at new_ends) p (unless_nobody link.prev) (unless_nobody link.next) (unless_nobody k) (unless_nobody k) ends_one ends_two q other
 
         pub put_written : Relists ends links p (place.before ++ k ∷ place.after) bumped new_links
-        put_written = relists_put ends links kept p k below nowhere place.before place.after place.is bumped new_links (length-set new_ends p _ ∙ owners) members mid own_here own_there written ends_put_here ends_put_there
+        put_written = relists_put ends links kept p k below nowhere place.before place.after place.is bumped new_links (length-set new_ends p _ ∙ owners) members mid
+            own_here own_there written ends_put_here ends_put_there
 
   -- k is taken out from between its two neighbours
   module _ (k : ℕ) (inside : 0 < times k list) (d : Link) where
@@ -169,13 +189,22 @@ module _ (ends : List Ends) (links : List Link) (kept : AreKept ends links) (p :
         (members : length new_links ≡ length links) (owners : length new_ends ≡ length ends)
         (links_one : (q : ℕ) → link_at mid_links q ≡ with_next (unless_nobody link.prev) (unless_nobody link.next) (link_at links) q)
         (links_two : (q : ℕ) → link_at new_links q ≡ with_prev (unless_nobody link.next) (unless_nobody link.prev) (link_at mid_links) q)
-        (ends_one : (q : ℕ) → bounds_at mid_ends q ≡ cond (nat_eq q p) (record (bounds_at ends q) { first = own (unless_nobody link.prev) (bounds_at ends q).first (unless_nobody link.next) }) (bounds_at ends q))
-        (ends_two : (q : ℕ) → bounds_at new_ends q ≡ cond (nat_eq q p) (record (bounds_at mid_ends q) { last = own (unless_nobody link.next) (bounds_at mid_ends q).last (unless_nobody link.prev) }) (bounds_at mid_ends q)) (d' : Ends) where
+        (ends_one : (q : ℕ) → bounds_at mid_ends q ≡ cond (nat_eq q p)
+        (record (bounds_at ends q) { first = own (unless_nobody link.prev) (bounds_at ends q).first (unless_nobody link.next) }) (bounds_at ends q))
+        (ends_two : (q : ℕ) → bounds_at new_ends q ≡ cond (nat_eq q p)
+        (record (bounds_at mid_ends q) { last = own (unless_nobody link.next) (bounds_at mid_ends q).last (unless_nobody link.prev) }) (bounds_at mid_ends q)) (d' : Ends) where
       still_there : p < length new_ends
       still_there = omega arith
 
-      both_ends_now : bounds_at new_ends p ≡ record { first = own (unless_nobody link.prev) (bounds_at ends p).first (unless_nobody link.next); last = own (unless_nobody link.next) (bounds_at ends p).last (unless_nobody link.prev); len = (bounds_at ends p).len }
-      both_ends_now = end_here (bounds_at ends) (bounds_at mid_ends) (bounds_at new_ends) p (unless_nobody link.prev) (unless_nobody link.next) (unless_nobody link.next) (unless_nobody link.prev) ends_one ends_two
+      both_ends_now : bounds_at new_ends p
+          ≡ record {
+            first = own (unless_nobody link.prev) (bounds_at ends p).first (unless_nobody link.next);
+            last = own (unless_nobody link.next) (bounds_at ends
+                p).last (unless_nobody link.prev);
+            len = (bounds_at ends p).len;
+          }
+      both_ends_now = end_here (bounds_at ends) (bounds_at mid_ends) (bounds_at new_ends) p (unless_nobody link.prev) (unless_nobody link.next) (unless_nobody link.next)
+          (unless_nobody link.prev) ends_one ends_two
 
       long_still : (get_or new_ends p d').len ≡ (bounds_at ends p).len
       long_still = len_is new_ends p still_there d' 0 ∙ ap (λ (e : Bounds). e.len) both_ends_now
@@ -190,14 +219,26 @@ module _ (ends : List Ends) (links : List Link) (kept : AreKept ends links) (p :
       abbrev lowered : List Ends
       lowered = set new_ends p (record { first = (get_or new_ends p d').first; last = (get_or new_ends p d').last; len = (get_or new_ends p d').len - 1 })
 
-      ends_taken_here : bounds_at lowered p ≡ record { first = own (last_or before None) (bounds_at ends p).first (first_or after None); last = own (first_or after None) (bounds_at ends p).last (last_or before None); len = (bounds_at ends p).len - 1 }
+      ends_taken_here : bounds_at lowered p
+          ≡ record {
+            first = own (last_or before None) (bounds_at ends p).first (first_or after None);
+            last = own (first_or after None) (bounds_at ends p).last (last_or
+                before None);
+            len = (bounds_at ends p).len - 1;
+          }
       ends_taken_here = counted_here new_ends p still_there d' ((get_or new_ends p d').len - 1)
           ∙ (λ i. record { first = (both_ends_now i).first; last = (both_ends_now i).last; len = long_still i - 1 })
-          ∙ (λ i. record { first = own ((between i).prev) (bounds_at ends p).first ((between i).next); last = own ((between i).next) (bounds_at ends p).last ((between i).prev); len = (bounds_at ends p).len - 1 })
+          ∙ (λ i. record {
+            first = own ((between i).prev) (bounds_at ends p).first ((between i).next);
+            last = own ((between i).next) (bounds_at ends
+                p).last ((between i).prev);
+            len = (bounds_at ends p).len - 1;
+          })
 
       ends_taken_there : (q : ℕ) → q ≢ p → bounds_at lowered q ≡ bounds_at ends q
       ends_taken_there q other = counted_there new_ends p still_there d' ((get_or new_ends p d').len - 1) q other
-          ∙ end_there (bounds_at ends) (bounds_at mid_ends) (bounds_at new_ends) p (unless_nobody link.prev) (unless_nobody link.next) (unless_nobody link.next) (unless_nobody link.prev) ends_one ends_two q other
+          ∙ end_there (bounds_at ends) (bounds_at mid_ends) (bounds_at new_ends) p (unless_nobody link.prev) (unless_nobody link.next) (unless_nobody link.next)
+          (unless_nobody link.prev) ends_one ends_two q other
 
       pub take_written : Relists ends links p (without k list) lowered new_links
       take_written = rw (ap (without k) list_is, without_split k before after (let o = kept.apart.once p k in let e = ap (times k) list_is in omega arith))

@@ -1,5 +1,6 @@
 -- Lists of numbers, one for each owner, as their user sees them.
-use Rattle.std.specs.Prelude.{◌≡◌, ℕ, ◌<◌, ◌≤◌, ◌-◌, Option, Some, None, cond, nat_eq, not, max, refl, List, [], ◌∷◌, ◌++◌, length, slice_index_or, slice_set, replicate}
+use Rattle.std.specs.Prelude.{◌≡◌, ℕ, ◌<◌, ◌≤◌, ◌-◌, Option, Some, None, cond, nat_eq, not, max, refl, List, [], ◌∷◌, ◌++◌, length}
+use Rattle.std.specs.Prelude.{slice_index_or, slice_set, replicate}
 use Rattle.std.specs.List.{count_by, filter}
 use Rattle.std.specs.Coded.{Coded, code_by, coded×, coded_list, coded_ℕ}
 
@@ -17,8 +18,8 @@ lists_code = code_by (List (List ℕ) × ℕ) (coded× (coded_list (coded_list c
 abbrev pub times : ℕ → List ℕ → ℕ
 times k ks = count_by (λ q. nat_eq q k) ks
 
--- the first number of a list, or another where there is none
-abbrev pub first_or : List ℕ → Option ℕ → Option ℕ
+-- the first of a list, or another where there is none
+abbrev pub first_or : {A : Type 0} → List A → Option A → Option A
 first_or [] other = other
 first_or (k ∷ ks) other = Some k
 

@@ -38,7 +38,8 @@ fn set_next(ends: &mut [Ends], links: &mut [Link], owner: u32, at: u32, to: u32)
     requires owner { owner < length ends.old }
     requires at { IfSome (unless_nobody at) (λ k. k < length links.old) }
     ensures links { (q : ℕ) → link_at links.new q ≡ with_next (unless_nobody at) (unless_nobody to) (link_at links.old) q }
-    ensures ends { (q : ℕ) → bounds_at ends.new q ≡ cond (nat_eq q owner) (record (bounds_at ends.old q) { first = own (unless_nobody at) (bounds_at ends.old q).first (unless_nobody to) }) (bounds_at ends.old q) }
+    ensures ends { (q : ℕ) → bounds_at ends.new q
+        ≡ cond (nat_eq q owner) (record (bounds_at ends.old q) { first = own (unless_nobody at) (bounds_at ends.old q).first (unless_nobody to) }) (bounds_at ends.old q) }
 {
     if at == NOBODY {
         ends[owner as usize].first = to;
@@ -52,7 +53,8 @@ fn set_prev(ends: &mut [Ends], links: &mut [Link], owner: u32, at: u32, to: u32)
     requires owner { owner < length ends.old }
     requires at { IfSome (unless_nobody at) (λ k. k < length links.old) }
     ensures links { (q : ℕ) → link_at links.new q ≡ with_prev (unless_nobody at) (unless_nobody to) (link_at links.old) q }
-    ensures ends { (q : ℕ) → bounds_at ends.new q ≡ cond (nat_eq q owner) (record (bounds_at ends.old q) { last = own (unless_nobody at) (bounds_at ends.old q).last (unless_nobody to) }) (bounds_at ends.old q) }
+    ensures ends { (q : ℕ) → bounds_at ends.new q
+        ≡ cond (nat_eq q owner) (record (bounds_at ends.old q) { last = own (unless_nobody at) (bounds_at ends.old q).last (unless_nobody to) }) (bounds_at ends.old q) }
 {
     if at == NOBODY {
         ends[owner as usize].last = to;
@@ -75,7 +77,8 @@ pub(crate) fn put_between(
     requires member { member < length links.old }
     requires free { (p : ℕ) → times member (listed ends.old links.old p) ≡ 0 }
     requires place { IsGap (listed ends.old links.old owner) (unless_nobody prev) (unless_nobody next) }
-    ensures { (place : IsGap (listed ends.old links.old owner) (unless_nobody prev) (unless_nobody next)) → Relists ends.old links.old owner (place.before ++ member ∷ place.after) ends.new links.new }
+    ensures { (place : IsGap (listed ends.old links.old owner) (unless_nobody prev) (unless_nobody next))
+        → Relists ends.old links.old owner (place.before ++ member ∷ place.after) ends.new links.new }
 {
     links[member as usize] = Link { prev, next };
     set_next(ends, links, owner, prev, member);

@@ -1,23 +1,22 @@
 //! The iterators over the members of a list.
 
-ghost use Rattle.std.specs.Prelude.{◌≡◌, ◌≤◌, length, Some, IfSome, slice_index_or, ⊤};
+ghost use Rattle.std.specs.Prelude.{◌≡◌, ◌<◌, ◌≤◌, length, Some, IfSome, slice_index_or, ⊤};
 ghost use Rattle.std.specs.Iterator.{YieldsFirstBy, YieldsLastBy, item_count, at_most, UpTo};
 ghost use Rattle.slotmap_links.specs.Kept.{no_link};
 
 use crate::Link;
-use crate::between::{NO_LINK, NOBODY, option_of};
+use crate::between::option_of;
 use std::alloc::AllocError;
 use std::iter::FusedIterator;
 use std::marker::Model;
 
 // The link of a member.
+#[inline(always)]
 fn link_of(links: &[Link], member: u32) -> Link
+    requires { member < length links.now }
     ensures { result ≡ slice_index_or links.now member no_link }
 {
-    match links.get(member as usize) {
-        Some(link) => *link,
-        None => NO_LINK,
-    }
+    links[member as usize]
 }
 
 /// An iterator over the members of an owner's list, from both ends: see [`Links::iter`].
@@ -35,17 +34,18 @@ pub struct Members<'a> {
 }
 
 impl<'a> Model for Members<'a> {
-    ghost use Rattle.std.specs.Prelude.{List, ℕ};
+    ghost use Rattle.std.specs.Prelude.{List, ℕ, length};
 
     ghost Value = { List ℕ };
 
     ghost use Rattle.slotmap_links.specs.Linked.{follow};
     ghost use Rattle.slotmap_links.specs.Kept.{link_at, unless_nobody};
-    ghost use Rattle.slotmap_links.specs.Segment.{IsSegment};
+    ghost use Rattle.slotmap_links.specs.Segment.{AreBelow, IsSegment};
 
     ghost view = { λ it. follow (link_at it.links.now) it.left (unless_nobody it.first) };
 
-    ghost invariant = { λ it. IsSegment (link_at it.links.now) it.left (unless_nobody it.first) (unless_nobody it.last) };
+    ghost invariant = { λ it. IsSegment (link_at it.links.now) it.left (unless_nobody it.first) (unless_nobody it.last)
+        × AreBelow (length it.links.now) (follow (link_at it.links.now) it.left (unless_nobody it.first)) };
 }
 
 impl<'a> Iterator for Members<'a> {
@@ -59,7 +59,7 @@ impl<'a> Iterator for Members<'a> {
         if self.left == 0 {
             return None;
         }
-        let member = option_of(self.first)?;
+        let member = self.first;
         self.left -= 1;
         self.first = link_of(self.links, member).next;
         Some(member)
@@ -81,7 +81,7 @@ impl<'a> DoubleEndedIterator for Members<'a> {
         if self.left == 0 {
             return None;
         }
-        let member = option_of(self.last)?;
+        let member = self.last;
         self.left -= 1;
         self.last = link_of(self.links, member).prev;
         Some(member)
@@ -130,11 +130,12 @@ impl<'a> Model for MembersFrom<'a> {
 
     ghost use Rattle.slotmap_links.specs.Linked.{follow};
     ghost use Rattle.slotmap_links.specs.Kept.{link_at, unless_nobody};
-    ghost use Rattle.slotmap_links.specs.Segment.{IsTail};
+    ghost use Rattle.slotmap_links.specs.Segment.{AreBelow, IsTail};
 
     ghost view = { λ it. follow (link_at it.links.now) (length it.links.now) (unless_nobody it.at) };
 
-    ghost invariant = { λ it. IsTail (link_at it.links.now) (length it.links.now) (unless_nobody it.at) };
+    ghost invariant = { λ it. IsTail (link_at it.links.now) (length it.links.now) (unless_nobody it.at)
+        × AreBelow (length it.links.now) (follow (link_at it.links.now) (length it.links.now) (unless_nobody it.at)) };
 }
 
 impl<'a> Iterator for MembersFrom<'a> {

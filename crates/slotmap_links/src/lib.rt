@@ -35,9 +35,11 @@
 //! ```
 #![tactic(auto)]
 
-ghost use Rattle.std.specs.Prelude.{◌≡◌, ℕ, ◌+◌, ◌-◌, ◌<◌, ◌≤◌, ◌≢◌, ◌^◌, ◌++◌, ◌∷◌, [], IfOk, OnOk, OnErr, IsOk, IsTrue, ◌↔◌, None, length, replicate};
+ghost use Rattle.std.specs.Prelude.{◌≡◌, ℕ, ◌+◌, ◌-◌, ◌<◌, ◌≤◌, ◌≢◌, ◌^◌, ◌++◌, ◌∷◌, [], IfOk, OnOk, OnErr, IsOk, IsTrue};
+ghost use Rattle.std.specs.Prelude.{◌↔◌, None, length, replicate};
 ghost use Rattle.slotmap_links.specs.Kept.{IsGap, unless_nobody};
-ghost use Rattle.slotmap_links.specs.Lists.{AreDisjoint, IsFree, IsIn, first_or, last_or, list_of, number_after, number_before, numbers_from, put_before, put_behind, with_list, with_members, with_owners, without};
+ghost use Rattle.slotmap_links.specs.Lists.{AreDisjoint, IsFree, IsIn, first_or, last_or, list_of, number_after, number_before, numbers_from, put_before, put_behind};
+ghost use Rattle.slotmap_links.specs.Lists.{with_list, with_members, with_owners, without};
 
 use std::alloc::{AllocError, Global};
 use std::marker::Model;

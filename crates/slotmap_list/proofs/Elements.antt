@@ -11,7 +11,11 @@ same q k = eq_by_cmp key_cmp q k
 
 -- by whether two keys are one
 by_key : (P : Bool → Type 0) (q k : Key) → (q ≡ k → P true) → (q ≢ k → same q k ≡ false → P false) → P (same q k)
-by_key P q k here there = elim (same q k) as (λ b. same q k ≡ b → P b) [ true ↦ λ t. here (tied keys_total exact_keys q k t) | false ↦ λ t. there (untied keys_total exact_keys q k t) t ] refl
+by_key P q k here there = elim (same q k) as (λ b. same q k ≡ b → P b) [
+  | true ↦ λ t. here (tied keys_total exact_keys q k t)
+  | false ↦ λ t. there
+      (untied keys_total exact_keys q k t) t
+] refl
 
 pub other_key : (q k : Key) → q ≢ k → same q k ≡ false
 other_key q k other = by_key (λ b. b ≡ false) q k (λ e. absurd (other e)) (λ _ _. refl)
@@ -185,7 +189,8 @@ module _ {T : Type 0} where
   -- a value that is written changes no key
   times-written : (q k : Key) (v : T) (xs : List (Key × T)) → times q (with_value_at k v xs) ≡ times q xs
   times-written q k v [] = refl
-  times-written q k v (x ∷ xs) = by_key (λ b. times q (cond b ((x.0, v) ∷ xs) (x ∷ with_value_at k v xs)) ≡ times q (x ∷ xs)) k x.0 (λ _. refl) (λ _ _. ap (λ n. one q x.0 + n) (times-written q k v xs))
+  times-written q k v (x ∷ xs) = by_key (λ b. times q (cond b ((x.0, v) ∷ xs) (x ∷ with_value_at k v xs)) ≡ times q (x ∷ xs)) k x.0 (λ _. refl)
+      (λ _ _. ap (λ n. one q x.0 + n) (times-written q k v xs))
 
   pub once-written : (k : Key) (v : T) (xs : List (Key × T)) → IsOnce xs → IsOnce (with_value_at k v xs)
   once-written k v xs once = once_if (with_value_at k v xs) (λ q. (let few = at_most_once xs once q in let same = times-written q k v xs in omega arith))

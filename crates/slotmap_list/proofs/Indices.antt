@@ -1,5 +1,6 @@
 -- The live key with an index, and elements by the indices of their keys.
-use Rattle.std.proofs.Common.{◌≡◌, ◌≢◌, ℕ, ◌<◌, ◌≤◌, Bool, true, nat_eq, List, [], ◌∷◌, ◌++◌, length, Option, Some, None, IfSome, IfNone, is_some, inl, inr, refl, sym, ap, subst, ◌∙◌, arith}
+use Rattle.std.proofs.Common.{◌≡◌, ◌≢◌, ℕ, ◌<◌, ◌≤◌, Bool, true, nat_eq, List, [], ◌∷◌, ◌++◌, length, Option, Some, None, IfSome}
+use Rattle.std.proofs.Common.{IfNone, is_some, inl, inr, refl, sym, ap, subst, ◌∙◌, arith}
 use Rattle.std.specs.List.{find, cons_option, list_any}
 use Rattle.std.specs.Option.{option_map}
 use Rattle.std.specs.Ordering.{eq_by_cmp}
@@ -110,7 +111,8 @@ module _ {T : Type 0} (m : map.FinMap key_cmp T) where
   as_often k (i ∷ is) = often_by k i is (at_index m i) refl (as_often k is)
 
 -- an index is that of a live key in two maps, where the keys with this index are the same
-module _ {T : Type 0} (m n : map.FinMap key_cmp T) (apart_m : AreApart m) (apart_n : AreApart n) (i : ℕ) (same_keys : (k : Key) → k.index ≡ i → map.contains_key n k ≡ map.contains_key m k) where
+module _ {T : Type 0} (m n : map.FinMap key_cmp T) (apart_m : AreApart m) (apart_n : AreApart n) (i : ℕ) (same_keys : (k : Key) → k.index ≡ i
+    → map.contains_key n k ≡ map.contains_key m k) where
   pub some_alike : is_some (at_index n i) ≡ is_some (at_index m i)
   some_alike = by (at_index m i) (at_index n i) refl refl
     where
@@ -186,8 +188,8 @@ module _ {T : Type 0} {m : map.FinMap key_cmp T} where
 module _ {T : Type 0} {m : map.FinMap key_cmp T} {is : List ℕ} (all : AreLiveIndices m is) (i : ℕ) (rest : List ℕ) where
   -- an index of the list is that of a live key
   module _ (there : 0 < times i is) where
-    pub live_there : ((k : Key) → map.contains_key m k ≡ true → k.index ≢ i) → ⊥
-    live_there none = let gone = none_at m i none in let e = element_of all i there in cc
+    pub key_of_index : (k : Key) × (map.contains_key m k ≡ true) × (k.index ≡ i)
+    key_of_index = let e = element_of all i there in let at = at_is m i e.0 e.1 in (e.0.0, ap is_some at.1, at.0)
 
   module _ (k : Key) (v : T) (index : k.index ≡ i) (found : map.get m k ≡ Some v) where
     here : at_index m i ≡ Some (k, v)

@@ -1,5 +1,6 @@
 -- What each change of the map and of the links leaves of a list.
-use Rattle.std.proofs.Common.{◌≡◌, ◌≢◌, ℕ, zero, suc, ◌+◌, ◌<◌, ◌≤◌, true, cond, List, [], ◌∷◌, ◌++◌, length, Option, Some, None, is_some, inl, inr, refl, sym, ap, subst, ◌∙◌, arith}
+use Rattle.std.proofs.Common.{◌≡◌, ◌≢◌, ℕ, zero, suc, ◌+◌, ◌<◌, ◌≤◌, true, cond, List, [], ◌∷◌, ◌++◌, length, Option, Some, None}
+use Rattle.std.proofs.Common.{is_some, inl, inr, refl, sym, ap, subst, ◌∙◌, arith}
 use Rattle.std.specs.FinMap as map
 use Rattle.std.proofs.Math.ListN.{get_or-eq_default}
 use Rattle.slotmap.specs.Words.{Key, key_cmp, Content, IsContent, IsLive, Inserts, Removes, Keeps, IsCloneBy, IsCloneOf, AreClones, ClonesEqual, IsNew, without_values, with_value}
@@ -135,12 +136,14 @@ module _ {T : Type 0} {c : Content T} {s : Lists} (kept : IsKept c s) where
 
       pub kept_taken : new.capacity ≡ c.capacity → IsKept new (with_list s 0 rest)
       kept_taken = now_kept new rest apart_left (λ i. elim (same_or_not k.index i) [
-        | inl at ↦ rw (sym at) (times_gone k.index is ∙ ap (λ (o : Option (Key × T)). cond (is_some o) 1 0) (sym (none_at new.live k.index (λ q of_q index. left q of_q (kept.apart q k (was q of_q) (ap is_some found) index)))))
+        | inl at ↦ rw (sym at) (times_gone k.index is ∙ ap (λ (o : Option (Key × T)). cond (is_some o) 1 0)
+            (sym (none_at new.live k.index (λ q of_q index. left q of_q (kept.apart q k (was q of_q) (ap is_some found) index)))))
         | inr other ↦ (
             let all = taken i in
             let none = one_other k.index i other in
             let as_often : times i rest ≡ times i is = omega arith in
-            as_often ∙ kept.each i ∙ ap (λ b. cond b 1 0) (sym (some_alike c.live new.live kept.apart apart_left i (λ q index. ap is_some (others q (λ e. other (sym (ap (λ (q : Key). q.index) e) ∙ index))))))
+            as_often ∙ kept.each i
+            ∙ ap (λ b. cond b 1 0) (sym (some_alike c.live new.live kept.apart apart_left i (λ q index. ap is_some (others q (λ e. other (sym (ap (λ (q : Key). q.index) e) ∙ index))))))
             )
       ]) (λ i more. kept.within i (let all = taken i in omega arith))
 
@@ -183,7 +186,8 @@ module _ {T : Type 0} {c : Content T} {s : Lists} (kept : IsKept c s) where
           ∙ sym (spot.element (k, v)) ∙ ap (put_by_place place (k, v)) rest_elements
 
   -- a new key is put into a place
-  module _ (new : Content T) (k : Key) (v : T) (inserts : Inserts c k v new) (fresh : map.get c.live k ≡ None) (well : IsContent true new) (place : Place) (can : is_place place (elements_at c.live is) ≡ true) where
+  module _ (new : Content T) (k : Key) (v : T) (inserts : Inserts c k v new) (fresh : map.get c.live k ≡ None) (well : IsContent true new) (place : Place)
+      (can : is_place place (elements_at c.live is) ≡ true) where
     abbrev more_is : List ℕ
     more_is = put_number place k.index is
 
@@ -220,7 +224,9 @@ module _ {T : Type 0} {c : Content T} {s : Lists} (kept : IsKept c s) where
           | inr other ↦ (
               let none = one_other k.index i other in
               let as_often : times i more_is ≡ times i is = omega arith in
-              as_often ∙ kept.each i ∙ ap (λ b. cond b 1 0) (sym (some_alike c.live new.live kept.apart (content_apart new well) i (λ q index. ap is_some (still q (λ e. other (sym (ap (λ (q : Key). q.index) e) ∙ index))))))
+              as_often ∙ kept.each i
+              ∙ ap (λ b. cond b 1 0)
+              (sym (some_alike c.live new.live kept.apart (content_apart new well) i (λ q index. ap is_some (still q (λ e. other (sym (ap (λ (q : Key). q.index) e) ∙ index))))))
               )
         ]) (λ i more. elim (same_or_not k.index i) [
           | inl same_index ↦ omega arith
@@ -230,7 +236,8 @@ module _ {T : Type 0} {c : Content T} {s : Lists} (kept : IsKept c s) where
     pub elements_put : elements_at new.live (list_of (with_list s 0 more_is) 0) ≡ put_by_place place (k, v) (elements_at c.live is)
     elements_put =
         ap (elements_at new.live) (list_now s 0 more_is there ∙ spot_new.number k.index)
-        ∙ put_between c.live new.live k v (content_apart new well) here (λ q u other is. still q (λ e. other (ap (λ (q : Key). q.index) e)) ∙ is) is (indices kept) none_yet spot_new.before spot_new.after spot_new.list
+        ∙ put_between c.live new.live k v (content_apart new well) here (λ q u other is. still q (λ e. other (ap (λ (q : Key). q.index) e)) ∙ is) is
+        (indices kept) none_yet spot_new.before spot_new.after spot_new.list
         ∙ sym (spot_new.element (k, v))
 
 -- a copy of a list has the same keys
@@ -262,7 +269,8 @@ module _ {T : Type 0} (is_clone : T → T → Type 0) {c copy : Content T} {s : 
       by e at index None found is_one others = absurd is_one
       by e at index (Some w) found is_one others =
           let there : at_index copy.live i ≡ Some (e.0, w) = ap (at_index copy.live) (sym index) ∙ at_live copy.live apart_copied e.0 w found in
-          subst (λ (x : List (Key × T) × List (Key × T)). AreClones is_clone x.0 x.1) (λ j. (sym (elements_first c.live i is e at) j, sym (elements_first copy.live i is (e.0, w) there) j)) ((refl, is_one), others)
+          subst (λ (x : List (Key × T) × List (Key × T)). AreClones is_clone x.0 x.1)
+          (λ j. (sym (elements_first c.live i is e at) j, sym (elements_first copy.live i is (e.0, w) there) j)) ((refl, is_one), others)
 
   pub elements_cloned : AreClones is_clone (elements_at c.live (list_of s 0)) (elements_at copy.live (list_of s 0))
   elements_cloned = clones_by (list_of s 0) (indices kept)

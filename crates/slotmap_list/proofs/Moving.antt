@@ -48,7 +48,8 @@ module _ {T : Type 0} where
   place_left Back k xs can = refl
   place_left (Beside side other) k xs can = let they = two k other xs can in ap is_some (without_other k xs other they.0) ∙ they.2
 
-  pub put_there : (place : Place) (k : Key) (v : T) (xs : List (Key × T)) → is_move k place xs ≡ true → value_of k xs ≡ Some v → put_by_place place (k, v) (without k xs) ≡ moved_to place k xs
+  pub put_there : (place : Place) (k : Key) (v : T) (xs : List (Key × T)) → is_move k place xs ≡ true → value_of k xs ≡ Some v
+      → put_by_place place (k, v) (without k xs) ≡ moved_to place k xs
   put_there Front k v xs can is = ap (λ o. put_again (λ x rest. x ∷ rest) k o xs) (sym is)
   put_there Back k v xs can is = ap (λ o. put_again (λ x rest. rest ++ x ∷ []) k o xs) (sym is)
   put_there (Beside side other) k v xs can is =

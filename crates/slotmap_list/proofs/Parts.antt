@@ -1,5 +1,6 @@
 -- Where a key stands in a list: the indices before it and behind it, and the elements there.
-use Rattle.std.proofs.Common.{◌≡◌, ◌≢◌, ℕ, ◌+◌, ◌<◌, ◌≤◌, true, cond, List, [], ◌∷◌, ◌++◌, Option, Some, None, is_some, refl, sym, ap, ◌∙◌, arith, append_assoc, append-nil}
+use Rattle.std.proofs.Common.{◌≡◌, ◌≢◌, ℕ, ◌+◌, ◌<◌, ◌≤◌, true, cond, List, [], ◌∷◌, ◌++◌, Option, Some, None, is_some, refl, sym}
+use Rattle.std.proofs.Common.{ap, ◌∙◌, arith, append_assoc, append-nil}
 use Rattle.std.specs.List.{cons_option}
 use Rattle.std.specs.FinMap as map
 use Rattle.slotmap.specs.Words.{Key, key_cmp}
@@ -74,8 +75,14 @@ module _ {T : Type 0} (m : map.FinMap key_cmp T) where
           not_before = none;
           not_after = omega arith;
           before_indices = record { apart = all.apart; live = λ i more. all.live i (let h = ap (times i) split.2 ∙ times_joined i split.0 (k.index ∷ split.1) in omega arith) };
-          after_indices = record { apart = all.apart; live = λ i more. all.live i (let h = ap (times i) split.2 ∙ times_joined i split.0 (k.index ∷ split.1) in let f = times_first i k.index split.1 in omega arith) };
-          elements = ap (elements_at m) split.2 ∙ elements-append m split.0 (k.index ∷ split.1) ∙ ap (λ l. elements_at m split.0 ++ l) (elements_first m k.index split.1 (k, v) (at_live m all.apart k v found));
+          after_indices =
+              record {
+                apart = all.apart;
+                live = λ i more. all.live i (let h = ap (times i) split.2 ∙ times_joined i split.0 (k.index ∷ split.1) in let f =
+                    times_first i k.index split.1 in omega arith);
+              };
+          elements = ap (elements_at m) split.2 ∙ elements-append m split.0 (k.index ∷ split.1)
+              ∙ ap (λ l. elements_at m split.0 ++ l) (elements_first m k.index split.1 (k, v) (at_live m all.apart k v found));
           no_element = (let often = as_often m k split.0 in omega arith);
         }
 

@@ -1,5 +1,6 @@
 -- What the parts of a list say of its elements.
-use Rattle.std.proofs.Common.{◌≡◌, ◌<◌, Bool, ℕ, ◌≤◌, true, false, cond, nat_eq, List, [], ◌∷◌, length, Option, Some, None, IsSome, is_some, option_map, option_copied, Bor, refl, sym, ap, subst, ◌∙◌, arith}
+use Rattle.std.proofs.Common.{◌≡◌, ◌<◌, Bool, ℕ, ◌≤◌, true, false, cond, nat_eq, List, [], ◌∷◌, length, Option, Some, None, IsSome, is_some}
+use Rattle.std.proofs.Common.{option_map, option_copied, Bor, refl, sym, ap, subst, ◌∙◌, arith}
 use Rattle.std.specs.FinMap as map
 use Rattle.slotmap.specs.Words.{Key, Content}
 use Rattle.slotmap_links.specs.Lists as numbers
@@ -128,7 +129,8 @@ module _ {T : Type 0} {c : Content T} {s : Lists} (kept : IsKept c s) where
       before_is at = finds ∙ ap (key_there c.live) (at 0 inside ∙ ap (λ j. numbers.number_before None j is) same) ∙ before_live k live
 
   -- an iterator from a key on has what stands from there
-  module _ (k : Key) (live : map.contains_key c.live k ≡ true) (i : ℕ) (same : i ≡ k.index) (from : List ℕ) (at : (p : ℕ) → IsIn s p i → from ≡ numbers.numbers_from i (list_of s p)) where
+  module _ (k : Key) (live : map.contains_key c.live k ≡ true) (i : ℕ) (same : i ≡ k.index) (from : List ℕ) (at : (p : ℕ) → IsIn s p i
+      → from ≡ numbers.numbers_from i (list_of s p)) where
     from_is : from ≡ numbers.numbers_from k.index is
     from_is = at 0 (rw same (inside_if k live)) ∙ ap (λ j. numbers.numbers_from j is) same
 

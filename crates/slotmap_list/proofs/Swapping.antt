@@ -1,5 +1,6 @@
 -- Two elements that change places by two moves.
-use Rattle.std.proofs.Common.{◌≡◌, ◌≢◌, ◌<◌, true, not, ◌&&◌, List, [], ◌∷◌, ◌++◌, None, is_some, if◌then◌else◌, inl, inr, refl, sym, ap, subst, ◌∙◌, arith, append_assoc, append-nil}
+use Rattle.std.proofs.Common.{◌≡◌, ◌≢◌, ◌<◌, true, not, ◌&&◌, List, [], ◌∷◌, ◌++◌, None, is_some, if◌then◌else◌, inl, inr, refl, sym}
+use Rattle.std.proofs.Common.{ap, subst, ◌∙◌, arith, append_assoc, append-nil}
 use Rattle.std.proofs.Math.Nat.{eq-zero-or-pos}
 use Rattle.slotmap.specs.Words.{Key}
 use Rattle.slotmap_list.specs.declared.place.Side.{Side}
@@ -61,7 +62,8 @@ module _ {T : Type 0} where
 
   -- k stands before the other one, and the two moves make this of the list
   forward : (k other : Key) (v w : T) (xs ys zs : List (Key × T)) → IsOnce (xs ++ (k, v) ∷ (ys ++ (other, w) ∷ zs))
-      → moved_to (before_or_back (first_or (ys ++ (other, w) ∷ zs) None)) other (moved_to (Beside After other) k (xs ++ (k, v) ∷ (ys ++ (other, w) ∷ zs))) ≡ xs ++ (other, w) ∷ (ys ++ (k, v) ∷ zs)
+      → moved_to (before_or_back (first_or (ys ++ (other, w) ∷ zs) None)) other (moved_to (Beside After other) k (xs ++ (k, v) ∷ (ys ++ (other, w) ∷ zs))) ≡ xs
+      ++ (other, w) ∷ (ys ++ (k, v) ∷ zs)
   forward k other v w xs [] zs once = stays_beside Before other _ ∙ after_to k v xs ((other, w) ∷ zs) other w xs zs refl once
   forward k other v w xs (y ∷ ys) zs once =
       let list = sym (append_assoc xs (y ∷ ys) ((other, w) ∷ zs)) in
@@ -87,7 +89,8 @@ module _ {T : Type 0} where
   elements_are : {a b : Sequence T} → a ≡ b → a.elements ≡ b.elements
   elements_are is = ap (λ (s : Sequence T). s.elements) is
 
-  pub swapped : {old mid new : Sequence T} {k other : Key} → are_two k other old.elements ≡ true → IsOnce old.elements → mid ≡ record old { elements = moved_to (Beside After other) k old.elements }
+  pub swapped : {old mid new : Sequence T} {k other : Key} → are_two k other old.elements ≡ true → IsOnce old.elements
+      → mid ≡ record old { elements = moved_to (Beside After other) k old.elements }
       → new ≡ record mid { elements = moved_to (before_or_back (key_after k old.elements)) other mid.elements } → Swaps old.elements k other new.elements
   swapped {old} {mid} {new} {k} {other} both once moved again =
       let es = old.elements in

@@ -1,5 +1,6 @@
 -- A loop that visits the elements from front to back, and keeps or removes each.
-use Rattle.std.proofs.Common.{◌≡◌, ◌<◌, ◌+◌, ℕ, length, arith, Bool, true, false, cond, List, [], ◌∷◌, ◌++◌, Option, Some, None, IsSome, is_some, inl, inr, refl, sym, ap, subst, ◌∙◌, append_assoc, append-nil}
+use Rattle.std.proofs.Common.{◌≡◌, ◌<◌, ◌+◌, ℕ, length, arith, Bool, true, false, cond, List, [], ◌∷◌, ◌++◌, Option, Some, None, IsSome}
+use Rattle.std.proofs.Common.{is_some, inl, inr, refl, sym, ap, subst, ◌∙◌, append_assoc, append-nil}
 use denote.Param.Always.{always_mut, mut_next}
 use Rattle.std.specs.Fn.{Mut, Called, Takes}
 use Rattle.std.specs.Borrow.{MutBor}
@@ -117,7 +118,8 @@ module _ {F K T : Type 0} {g : Mut F (K × (MutBor T × Unit {0})) (Bool × (Mut
       written_stands = ap is_some (ap (value_of k) written ∙ value_of-split k after.now here.1 r.left apart)
 
       ahead_here : ahead (Some k) now.elements ≡ length here.1 + 1
-      ahead_here = let e : ahead (Some k) now.elements ≡ length ((k, here.0) ∷ here.1) = ap (ahead (Some k)) now_here ∙ ahead-first r.left ((k, here.0) ∷ here.1) (subst IsOnce now_here once) in omega arith
+      ahead_here = let e : ahead (Some k) now.elements ≡ length ((k, here.0) ∷ here.1) = ap (ahead (Some k)) now_here ∙ ahead-first r.left ((k, here.0) ∷ here.1)
+          (subst IsOnce now_here once) in omega arith
 
       -- these elements are left before those ahead, which are one less
       ahead_less : (new left : List (Key × T)) → new ≡ left ++ here.1 → IsOnce new → ahead next new < ahead (Some k) now.elements
@@ -169,7 +171,8 @@ module _ {F K T : Type 0} {g : Mut F (K × (MutBor T × Unit {0})) (Bool × (Mut
       retaining_kept keep = step ((k, after.now) ∷ []) (subst (λ b. RetainsOne g data_of f' (k, here.0) (cond b ((k, after.now) ∷ []) []) f'') keep one) kept_is
           (λ none. absurd (let some = written_stands in let h = sym (ap is_some none) ∙ some in cc)) (λ u spent. spent) (leaves_none now.cursors) refl
 
-      pub retaining_dropped : {new : Sequence T} → stays ≡ false → new.elements ≡ without k (with_value_at k after.now now.elements) → IsSpent new.cursors k → KeepsSpent now.cursors new.cursors
+      pub retaining_dropped : {new : Sequence T} → stays ≡ false → new.elements ≡ without k (with_value_at k after.now now.elements) → IsSpent new.cursors k
+          → KeepsSpent now.cursors new.cursors
           → Leaves now.cursors new.cursors → new.cursors.capacity ≡ now.cursors.capacity → Retaining g data_of old f new next f''
       retaining_dropped drop removed spent keeps leaves capacity = step [] (subst (λ b. RetainsOne g data_of f' (k, here.0) (cond b ((k, after.now) ∷ []) []) f'') drop one)
           (dropped_is removed ∙ ap (λ l. l ++ here.1) (sym (append-nil r.left))) (λ _. spent) keeps leaves capacity

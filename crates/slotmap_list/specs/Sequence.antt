@@ -14,7 +14,8 @@ pub record Sequence (T : Type 0) : Type 0 where
 -- by which a proof tells two lists apart
 abbrev pub sequence_code : {T : Type 0} → Coded T → Coded (Sequence T)
 sequence_code {T} code =
-    code_by (List (Key × T) × Content (Unit {0})) (coded× (coded_list (coded× coded_key code)) keys_code) (λ s. (s.elements, s.cursors)) (λ p. record { elements = p.0; cursors = p.1 }) (λ _. refl)
+    code_by (List (Key × T) × Content (Unit {0})) (coded× (coded_list (coded× coded_key code)) keys_code) (λ s. (s.elements, s.cursors))
+    (λ p. record { elements = p.0; cursors = p.1 }) (λ _. refl)
 
 -- whether two keys are one
 abbrev pub is_same : Key → Key → Bool

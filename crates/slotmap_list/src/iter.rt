@@ -43,7 +43,7 @@ impl<'a, K: Key, T: Drop> Iterator for Iter<'a, K, T> {
 
     fn next(&mut self) -> Option<(K, &'a T)> {
         let index = self.indices.next()?;
-        let cursor = self.values.key_at(index)?;
+        let cursor = self.values.live_key(index);
         Some((cursor, self.values.value(cursor)))
     }
 
@@ -62,7 +62,7 @@ impl<'a, K: Key, T: Drop> DoubleEndedIterator for Iter<'a, K, T> {
 
     fn next_back(&mut self) -> Option<(K, &'a T)> {
         let index = self.indices.next_back()?;
-        let cursor = self.values.key_at(index)?;
+        let cursor = self.values.live_key(index);
         Some((cursor, self.values.value(cursor)))
     }
 }

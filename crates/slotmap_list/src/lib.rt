@@ -36,7 +36,8 @@
 //! ```
 #![tactic(auto, using(slotmap::proofs::Callers::keys))]
 
-ghost use Rattle.std.specs.Prelude.{◌≡◌, ◌+◌, ◌<◌, ◌≤◌, ◌^◌, ◌∷◌, [], Some, None, true, IsOk, IfOk, OnOk, IfErr, IfSome, IsTrue, ◌↔◌, is_some, length, option_copied, option_map, map as list_map};
+ghost use Rattle.std.specs.Prelude.{◌≡◌, ◌+◌, ◌<◌, ◌≤◌, ◌^◌, ◌∷◌, [], Some, None, true, IsOk, IfOk, OnOk, IfErr, IfSome, IsTrue, ◌↔◌};
+ghost use Rattle.std.specs.Prelude.{is_some, length, option_copied, option_map, map as list_map};
 ghost use Rattle.std.specs.FinMap as map;
 ghost use Rattle.slotmap.specs.Words.{IsNew, IsSpent, Keeps, KeepsSpent, MakesRoom, RefusesCapacity, used};
 ghost use Rattle.slotmap_list.specs.Kept.{key_there};

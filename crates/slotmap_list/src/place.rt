@@ -32,6 +32,7 @@ pub(crate) fn cursor_of<K: Key>(key: KeyData) -> K
 }
 
 // Puts an index that isn't in the list into a place of it.
+#[inline(always)]
 pub(crate) fn put_index(links: &mut Links, place: Place, index: u32)
     requires owner { 0 < length links.old.lists }
     requires free { IsFree links.old index }

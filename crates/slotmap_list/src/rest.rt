@@ -48,7 +48,7 @@ impl<'a, K: Key, T: Drop> Iterator for IterFrom<'a, K, T> {
             return None;
         };
         let index = indices.next()?;
-        let cursor = self.values.key_at(index)?;
+        let cursor = self.values.live_key(index);
         Some((cursor, self.values.value(cursor)))
     }
 

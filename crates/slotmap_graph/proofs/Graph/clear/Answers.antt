@@ -7,11 +7,15 @@ use Rattle.slotmap_graph.proofs.Graph.clear.Goals as goal
 
 pub invariant_of-self : goal.invariant_of-self
 invariant_of-self g c = record {
-  out = bare_threaded from c.clear.new.self c.clear-2.new.self c.clear-3.new.self c.clear.ensures.empty c.clear-2.ensures.empty (λ p. ap (λ l. list_of l p) c.clear-3.ensures ∙ list_cleared (length c.self.inside.out.lists) c.self.inside.out.members p)
-      (let same = c.clear.ensures.valid.capacity in let now = ap (λ (l : Lists). length l.lists) c.clear-3.ensures ∙ length-replicate (length c.self.inside.out.lists) [] in let was = c.self.invariant.out.owners in omega arith)
+  out = bare_threaded from c.clear.new.self c.clear-2.new.self c.clear-3.new.self c.clear.ensures.empty c.clear-2.ensures.empty
+      (λ p. ap (λ l. list_of l p) c.clear-3.ensures ∙ list_cleared (length c.self.inside.out.lists) c.self.inside.out.members p)
+      (let same = c.clear.ensures.valid.capacity in let now = ap (λ (l : Lists). length l.lists) c.clear-3.ensures
+      ∙ length-replicate (length c.self.inside.out.lists) [] in let was = c.self.invariant.out.owners in omega arith)
       (let same = c.clear-2.ensures.valid.capacity in let now = ap (λ (l : Lists). l.members) c.clear-3.ensures in let was = c.self.invariant.out.members in omega arith);
-  into = bare_threaded to c.clear.new.self c.clear-2.new.self c.clear-4.new.self c.clear.ensures.empty c.clear-2.ensures.empty (λ p. ap (λ l. list_of l p) c.clear-4.ensures ∙ list_cleared (length c.self.inside.into.lists) c.self.inside.into.members p)
-      (let same = c.clear.ensures.valid.capacity in let now = ap (λ (l : Lists). length l.lists) c.clear-4.ensures ∙ length-replicate (length c.self.inside.into.lists) [] in let was = c.self.invariant.into.owners in omega arith)
+  into = bare_threaded to c.clear.new.self c.clear-2.new.self c.clear-4.new.self c.clear.ensures.empty c.clear-2.ensures.empty
+      (λ p. ap (λ l. list_of l p) c.clear-4.ensures ∙ list_cleared (length c.self.inside.into.lists) c.self.inside.into.members p)
+      (let same = c.clear.ensures.valid.capacity in let now = ap (λ (l : Lists). length l.lists) c.clear-4.ensures
+      ∙ length-replicate (length c.self.inside.into.lists) [] in let was = c.self.invariant.into.owners in omega arith)
       (let same = c.clear-2.ensures.valid.capacity in let now = ap (λ (l : Lists). l.members) c.clear-4.ensures in let was = c.self.invariant.into.members in omega arith);
 }
 

@@ -34,7 +34,8 @@ loop-edge-preserved g c = record {
   is_finite = tt;
   walked = walked_on c.loop-edge.yielded c.loop-edge.edge-iterator _ _ c.in-Some.edge c.loop-edge.invariant.walked c.in-Some.ensures.steps;
   none = each_pushed (λ k. ComesFromLeft c.args.self.now c.args.counts.now.pairs (g.K.Key.data_of c.args.node) k → ⊥) c.loop-edge.yielded c.in-Some.edge c.loop-edge.invariant.none
-      (comes_found c.args.self.now c.args.counts.now.pairs (g.K.Key.data_of c.args.node) c.in-Some.edge c.source.result c.index.result.now c.source.ensures.begins (rw c.outer.ensures at c.index.ensures) c.if-index-gt0.false);
+      (comes_found c.args.self.now c.args.counts.now.pairs (g.K.Key.data_of c.args.node) c.in-Some.edge c.source.result c.index.result.now c.source.ensures.begins
+      (rw c.outer.ensures at c.index.ensures) c.if-index-gt0.false);
 }
 
 pub returns-clause-none : goal.returns-clause-none
@@ -43,5 +44,6 @@ returns-clause-none g c left =
     let k = some.0 in
     let comes = some.1 in
     let all = walked c.loop-edge.yielded c.loop-edge.edge-iterator _ c.loop-edge.invariant.walked c.in-None.ensures.steps.0 in
-    let one = edge_listed to c.args.self.now.edges.live (g.K.Key.data_of c.args.node) (edges_at c.args.self.now.into (g.K.Key.data_of c.args.node)) (rw c.edges_to-edge-items.ensures.in_order at c.edges_to-edge-items.ensures.listed) k comes.0 comes.1 comes.2 in
+    let one = edge_listed to c.args.self.now.edges.live (g.K.Key.data_of c.args.node) (edges_at c.args.self.now.into (g.K.Key.data_of c.args.node))
+    (rw c.edges_to-edge-items.ensures.in_order at c.edges_to-edge-items.ensures.listed) k comes.0 comes.1 comes.2 in
     c.loop-edge.invariant.none k (rw all (omega (arith, one))) comes

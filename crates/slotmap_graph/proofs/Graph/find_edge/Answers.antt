@@ -30,4 +30,5 @@ loop-edge-preserved g c = record {
 
 pub returns : goal.returns
 returns g c =
-    rw (← c.inner-to.ensures) (sym c.loop-edge.invariant.none ∙ ap (find (goes_to c.args.self.now.edges.live c.inner-to.result)) (walked c.loop-edge.yielded c.loop-edge.edge-iterator _ c.loop-edge.invariant.walked c.in-None.ensures.steps.0))
+    rw (← c.inner-to.ensures) (sym c.loop-edge.invariant.none ∙ ap (find (goes_to c.args.self.now.edges.live c.inner-to.result))
+    (walked c.loop-edge.yielded c.loop-edge.edge-iterator _ c.loop-edge.invariant.walked c.in-None.ensures.steps.0))

@@ -22,11 +22,13 @@ loop-node-preserved g c = record {
   can_next = tt;
   is_finite = tt;
   walked = rw map-append (walked_on (list_map g.K.Key.data_of c.loop-node.yielded) c.loop-node.node-iterator _ _ (g.K.Key.data_of c.in-Some.node) c.loop-node.invariant.walked c.in-Some.ensures.steps);
-  none = rw map-append (each_pushed (λ x. get c.args.counts.now.pairs x ≡ Some 0) (list_map g.K.Key.data_of c.loop-node.yielded) (g.K.Key.data_of c.in-Some.node) c.loop-node.invariant.none (grind arith));
+  none = rw map-append (each_pushed (λ x. get c.args.counts.now.pairs x ≡ Some 0) (list_map g.K.Key.data_of c.loop-node.yielded) (g.K.Key.data_of c.in-Some.node)
+      c.loop-node.invariant.none (grind arith));
 }
 
 pub returns-clause-none : goal.returns-clause-none
-returns-clause-none g c x live = c.loop-node.invariant.none x (rw (walked _ c.loop-node.node-iterator _ c.loop-node.invariant.walked c.in-None.ensures.steps.0) (key_there c.args.self.now.nodes.live x live))
+returns-clause-none g c x live = c.loop-node.invariant.none x (rw (walked _ c.loop-node.node-iterator _ c.loop-node.invariant.walked c.in-None.ensures.steps.0)
+    (key_there c.args.self.now.nodes.live x live))
 
 pub returns-then-index-gt0-clause-some : goal.returns-then-index-gt0-clause-some
 returns-then-index-gt0-clause-some g c = (

@@ -11,7 +11,8 @@ loop-edge-init g c = record {
   is_finite = tt;
   walked = c.into_iter-edge-iterator.ensures.into_iter_gives ∙ c.edges_from-edge-items.ensures.in_order;
   finds = finds_start c.args.self.now.nodes c.args.self.now.edges.live (g.K.Key.data_of c.args.node) c.args.seen.now.pairs _ c.requires.listed c.requires.live;
-  pending = rw c.into_iter-edge-iterator.ensures.into_iter_gives (pending_start c.args.self.now.edges.live (g.K.Key.data_of c.args.node) c.edges_from-edge-items.result c.args.seen.now.pairs c.edges_from-edge-items.ensures.listed);
+  pending = rw c.into_iter-edge-iterator.ensures.into_iter_gives (pending_start c.args.self.now.edges.live (g.K.Key.data_of c.args.node) c.edges_from-edge-items.result
+      c.args.seen.now.pairs c.edges_from-edge-items.ensures.listed);
   order = refl;
 }
 
@@ -59,4 +60,5 @@ returns-clause-next g c = pending_end c.args.self.now.edges.live (g.K.Key.data_o
 pub returns-clause-order : goal.returns-clause-order
 returns-clause-order g c =
     c.loop-edge.invariant.order
-    ∙ ap (λ ks. fold marked (list_map g.K.Key.data_of c.args.found.now.items) (ends_along to c.args.self.now.edges.live ks)) (walked c.loop-edge.yielded c.loop-edge.edge-iterator _ c.loop-edge.invariant.walked c.in-None.ensures.steps.0)
+    ∙ ap (λ ks. fold marked (list_map g.K.Key.data_of c.args.found.now.items) (ends_along to c.args.self.now.edges.live ks))
+    (walked c.loop-edge.yielded c.loop-edge.edge-iterator _ c.loop-edge.invariant.walked c.in-None.ensures.steps.0)

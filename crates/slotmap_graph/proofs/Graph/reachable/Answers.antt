@@ -50,12 +50,14 @@ loop-at-preserved g c =
     let node = g.K.Key.data_of c.index-node.result.now in
     let short : c.loop-at.at < length c.loop-at.found.items = omega (arith, c.loop-at.found.ok.0) in
     let below : c.loop-at.at < length keys = omega (arith, short, long) in
-    let is : node ≡ get_or keys c.loop-at.at node = ap g.K.Key.data_of c.index-node.ensures ∙ sym (get_or-map g.K.Key.data_of c.loop-at.found.items c.loop-at.at c.index-node.result.now node short) in
+    let is : node ≡ get_or keys c.loop-at.at node = ap g.K.Key.data_of c.index-node.ensures
+    ∙ sym (get_or-map g.K.Key.data_of c.loop-at.found.items c.loop-at.at c.index-node.result.now node short) in
     let finds = c.in_ok-mark_neighbours.ensures.finds in
     record {
       searching = searching_step nodes edges from c.loop-at.seen.pairs keys c.loop-at.at c.loop-at.invariant.searching node below is
           c.mark_neighbours.new.seen.pairs _ finds c.in_ok-mark_neighbours.ensures.next;
-      order = order_step (λ k. ends_along to edges (edges_at c.args.self.now.out k)) from keys c.loop-at.at c.loop-at.invariant.order node below is _ finds.behind c.in_ok-mark_neighbours.ensures.order;
+      order = order_step (λ k. ends_along to edges (edges_at c.args.self.now.out k)) from keys c.loop-at.at c.loop-at.invariant.order node below is _ finds.behind
+          c.in_ok-mark_neighbours.ensures.order;
     }
 
 pub returns-clause-once : goal.returns-clause-once

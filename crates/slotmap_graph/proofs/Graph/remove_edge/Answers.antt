@@ -31,7 +31,8 @@ pub returns-clause-for_good : goal.returns-clause-for_good
 returns-clause-for_good g c = removed_spent _ _ true c.remove.ensures.valid.before c.args.edge (ap is_some (sym c.in_ok-removed.ensures.value)) c.in_ok-removed.ensures.removes
 
 pub returns-clause-leaves : goal.returns-clause-leaves
-returns-clause-leaves g c = rw (← c.self.view_is) (leaves_by_removal true _ c.remove.ensures.valid.before c.args.edge (ap is_some (sym c.in_ok-removed.ensures.value)) _ c.in_ok-removed.ensures.removes)
+returns-clause-leaves g c = rw (← c.self.view_is) (leaves_by_removal true _ c.remove.ensures.valid.before c.args.edge (ap is_some (sym c.in_ok-removed.ensures.value)) _
+    c.in_ok-removed.ensures.removes)
 
 pub returns-clause-gone : goal.returns-clause-gone
 returns-clause-gone g c = rw (← c.self.view_is) (spent_removes _ _ true c.remove.ensures.valid.before c.args.edge (ap is_some (sym c.in_ok-removed.ensures.value)) c.in_ok-removed.ensures.removes)

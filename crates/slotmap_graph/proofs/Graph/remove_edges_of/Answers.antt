@@ -6,7 +6,16 @@ use Rattle.slotmap_graph.proofs.GraphSteps.{none_from, none_to}
 use Rattle.slotmap_graph.proofs.Graph.remove_edges_of.Goals as goal
 
 pub loop-edge-init : goal.loop-edge-init
-loop-edge-init g c = record { thinned = thinned_start (g.K.Key.data_of c.args.node) c.args.self.now.edges c.args.self.now.edges refl; leaves = leaves_none c.args.self.now.edges; capacity = refl; nodes = refl; out = λ k. refl; into = λ k. refl }
+loop-edge-init g c =
+    record {
+      thinned = thinned_start (g.K.Key.data_of
+          c.args.node) c.args.self.now.edges c.args.self.now.edges refl;
+      leaves = leaves_none c.args.self.now.edges;
+      capacity = refl;
+      nodes = refl;
+      out = λ k. refl;
+      into = λ k. refl;
+    }
 
 pub loop-edge-smaller : goal.loop-edge-smaller
 loop-edge-smaller g c =

@@ -31,7 +31,8 @@ loop-at-smaller g c =
     omega (arith, c.loop-at.found.ok.0, fits, long)
 
 -- all edges of the nodes in the list were passed
-sorted : (g : _) (c : After-loop-at g) → Sorting c.args.self.now c.loop-at.counts.pairs (list_map g.K.Key.data_of c.loop-at.found.items) (edges_out c.args.self.now.out (list_map g.K.Key.data_of c.loop-at.found.items))
+sorted : (g : _) (c : After-loop-at g) → Sorting c.args.self.now c.loop-at.counts.pairs (list_map g.K.Key.data_of c.loop-at.found.items)
+    (edges_out c.args.self.now.out (list_map g.K.Key.data_of c.loop-at.found.items))
 sorted g c =
     let long = length-map c.loop-at.found.items g.K.Key.data_of in
     ended c.args.self.now c.loop-at.counts.pairs _ c.loop-at.at (omega (arith, c.loop-at.found.ok.0, long)) c.loop-at.invariant
@@ -43,7 +44,8 @@ order : (g : _) (c : In-None g) → IsOrder c.args.self.now (list_map g.K.Key.da
 order g c =
     let joined : IsJoined c.args.self.now = rw (← c.self.view_is) (graph_joined _ _ _ _ c.self.invariant) in
     let long = length-map c.loop-at.found.items g.K.Key.data_of in
-    ordered c.args.self.now joined c.loop-at.counts.pairs _ (ended c.args.self.now c.loop-at.counts.pairs _ c.loop-at.at (omega (arith, c.loop-at.found.ok.0, long)) c.loop-at.invariant) c.in-None.ensures.none
+    ordered c.args.self.now joined c.loop-at.counts.pairs _ (ended c.args.self.now c.loop-at.counts.pairs _ c.loop-at.at (omega (arith, c.loop-at.found.ok.0, long))
+    c.loop-at.invariant) c.in-None.ensures.none
 
 pub returns-in-None-clause-once : goal.returns-in-None-clause-once
 returns-in-None-clause-once g c = (order g (goal.at.returns-in-None-clause-once g c).In-None).once

@@ -8,4 +8,5 @@ returns-clause-here g c n is =
     get-bind_here c.args.counts.now.pairs (g.K.Key.data_of c.args.node) c.index_mut-count.result.now (c.index_mut-count.result.now - 1) c.index_mut-count.ensures.value ∙ ap (λ m. Some (m - 1)) same
 
 pub returns-clause-others : goal.returns-clause-others
-returns-clause-others g c q other = get-bind_other c.args.counts.now.pairs (g.K.Key.data_of c.args.node) c.index_mut-count.result.now (c.index_mut-count.result.now - 1) c.index_mut-count.ensures.value q other
+returns-clause-others g c q other = get-bind_other c.args.counts.now.pairs (g.K.Key.data_of c.args.node) c.index_mut-count.result.now (c.index_mut-count.result.now - 1)
+    c.index_mut-count.ensures.value q other

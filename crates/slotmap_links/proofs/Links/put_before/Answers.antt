@@ -21,4 +21,6 @@ returns c =
     let stands = member_stands c.self.inside.ends.items c.self.inside.links.items c.self.invariant c.args.self.now c.self.view_is c.args.owner c.args.at c.requires.at in
     c.put.ensures (before_place stands
     (somebody_is c.self.inside.ends.items c.self.inside.links.items c.self.invariant c.args.self.now c.self.view_is c.args.owner c.args.at c.requires.at)
-    (prev_is c.self.inside.ends.items c.self.inside.links.items c.self.invariant c.args.self.now c.self.view_is c.args.owner c.args.at c.index.result.now c.index.ensures c.requires.at stands)) ∙ ap (with_list c.args.self.now c.args.owner) (sym (ap (put_before c.args.at c.args.member) stands.is ∙ put_before_there c.args.at stands.after c.args.member stands.before stands.not_before))
+    (prev_is c.self.inside.ends.items c.self.inside.links.items c.self.invariant c.args.self.now c.self.view_is c.args.owner c.args.at c.index.result.now c.index.ensures
+    c.requires.at stands)) ∙ ap (with_list c.args.self.now c.args.owner)
+    (sym (ap (put_before c.args.at c.args.member) stands.is ∙ put_before_there c.args.at stands.after c.args.member stands.before stands.not_before))

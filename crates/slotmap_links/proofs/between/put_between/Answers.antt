@@ -7,7 +7,8 @@ pub set_next-requires-clause-at : goal.set_next-requires-clause-at
 set_next-requires-clause-at c = rw (length-set c.args.links.now c.args.member _) (prev_below c.args.ends.now c.args.links.now c.requires.kept c.args.owner c.requires.owner _ _ c.requires.place)
 
 pub set_prev-requires-clause-at : goal.set_prev-requires-clause-at
-set_prev-requires-clause-at c = rw (c.set_next.auto.links, length-set c.args.links.now c.args.member _) (next_below c.args.ends.now c.args.links.now c.requires.kept c.args.owner c.requires.owner _ _ c.requires.place)
+set_prev-requires-clause-at c = rw (c.set_next.auto.links, length-set c.args.links.now c.args.member _)
+    (next_below c.args.ends.now c.args.links.now c.requires.kept c.args.owner c.requires.owner _ _ c.requires.place)
 
 pub overflow_add-ends : goal.overflow_add-ends
 overflow_add-ends c =

@@ -9,7 +9,8 @@ pub set_next-requires-clause-at : goal.set_next-requires-clause-at
 set_next-requires-clause-at c = taken_prev_below c.args.ends.now c.args.links.now c.requires.kept c.args.owner c.requires.owner c.args.member c.requires.listed (record { prev = 0; next = 0 })
 
 pub set_prev-requires-clause-at : goal.set_prev-requires-clause-at
-set_prev-requires-clause-at c = rw (c.set_next.auto.links) (taken_next_below c.args.ends.now c.args.links.now c.requires.kept c.args.owner c.requires.owner c.args.member c.requires.listed (record { prev = 0; next = 0 }))
+set_prev-requires-clause-at c = rw (c.set_next.auto.links) (taken_next_below c.args.ends.now c.args.links.now c.requires.kept c.args.owner c.requires.owner c.args.member
+    c.requires.listed (record { prev = 0; next = 0 }))
 
 pub overflow_sub-ends : goal.overflow_sub-ends
 overflow_sub-ends c =

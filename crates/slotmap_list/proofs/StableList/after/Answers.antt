@@ -18,4 +18,5 @@ pub returns-clause-once : goal.returns-clause-once
 returns-clause-once g c = rw (← c.self.view_is) (no_key_twice c.self.invariant)
 
 pub next-requires : goal.next-requires
-next-requires g c = below c.self.invariant (g.K.Key.data_of c.args.cursor) (sym c.contains_key.ensures.value ∙ c.if-not-contains_key.false) c.idx.result (c.idx.ensures.value ∙ ap (λ (k : Key). k.index) c.data.ensures.value)
+next-requires g c = below c.self.invariant (g.K.Key.data_of c.args.cursor) (sym c.contains_key.ensures.value ∙ c.if-not-contains_key.false) c.idx.result
+    (c.idx.ensures.value ∙ ap (λ (k : Key). k.index) c.data.ensures.value)

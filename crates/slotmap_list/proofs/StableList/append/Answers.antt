@@ -19,7 +19,8 @@ loop-value-preserved g c =
     let ok = c.push_back.ensures.room room in
     let added = ok_so c.push_back.result (λ key. c.push_back.new.self.elements ≡ c.loop-value.self.elements ++ (g.K.Key.data_of key, c.in-Some.value) ∷ [])
     (λ key. Inserts c.loop-value.self.cursors (g.K.Key.data_of key) tt c.push_back.new.self.cursors) ok c.push_back.ensures.ok c.push_back.ensures.cursors in
-    moving_step _ _ _ _ _ _ _ _ _ m popped.front popped.for_good popped.gone c.pop_front.ensures.leaves c.pop_front.ensures.capacity (c.push_back.ensures.in_place room) added.1 added.2 c.push_back.ensures.gone
+    moving_step _ _ _ _ _ _ _ _ _ m popped.front popped.for_good popped.gone c.pop_front.ensures.leaves c.pop_front.ensures.capacity
+    (c.push_back.ensures.in_place room) added.1 added.2 c.push_back.ensures.gone
 
 pub returns-clause-gone_other : goal.returns-clause-gone_other
 returns-clause-gone_other g c k spent = c.pop_front.ensures.gone k (c.loop-value.invariant.gone_other k spent)

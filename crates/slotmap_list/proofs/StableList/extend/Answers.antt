@@ -10,7 +10,8 @@ use Rattle.slotmap_list.proofs.StableList.extend.Goals as goal
 pub loop-value-preserved : goal.loop-value-preserved
 loop-value-preserved g c =
     let at = c.loop-value in
-    let more = Adds-push c.args.self.now.elements at.self.elements c.push_back.new.self.elements at.yielded (g.K.Key.data_of c.in_default.field-0) c.in-Some.value at.invariant.2.adds c.in_default.ensures.ok in
+    let more = Adds-push c.args.self.now.elements at.self.elements c.push_back.new.self.elements at.yielded (g.K.Key.data_of c.in_default.field-0)
+    c.in-Some.value at.invariant.2.adds c.in_default.ensures.ok in
     let long = ap length c.in_default.ensures.ok ∙ length-append at.self.elements ((g.K.Key.data_of c.in_default.field-0, c.in-Some.value) ∷ []) in
     let slots : used c.push_back.new.self.cursors + length c.args.self.now.elements ≡ used c.args.self.now.cursors + length c.push_back.new.self.elements =
     (let before = at.invariant.2.used in omega (arith, long, c.in_default.ensures.used)) in
@@ -18,7 +19,8 @@ loop-value-preserved g c =
     omega (arith, long, at.invariant.2.room, c.in_default.ensures.cursors.room) in
     let vacant : map.len c.args.self.now.cursors.next + length c.args.self.now.elements ≤ map.len c.push_back.new.self.cursors.next + length c.push_back.new.self.elements =
     omega (arith, long, at.invariant.2.vacant, vacant_less at.self.cursors c.push_back.new.self.cursors (g.K.Key.data_of c.in_default.field-0) tt c.in_default.ensures.cursors) in
-    let in_place : length c.push_back.new.self.elements ≤ c.args.self.now.cursors.room + length c.args.self.now.elements → c.push_back.new.self.cursors.capacity ≡ c.args.self.now.cursors.capacity = λ fits.
+    let in_place : length c.push_back.new.self.elements ≤ c.args.self.now.cursors.room + length c.args.self.now.elements
+    → c.push_back.new.self.cursors.capacity ≡ c.args.self.now.cursors.capacity = λ fits.
     c.push_back.ensures.in_place (omega (arith, long, at.invariant.2.room)) ∙ at.invariant.2.in_place (omega (arith, long)) in
     let gone : KeepsSpent c.args.self.now.cursors c.push_back.new.self.cursors = λ k spent. c.push_back.ensures.gone k (at.invariant.2.gone k spent) in
     search rules

@@ -5,11 +5,13 @@ use Rattle.slotmap_list.proofs.Seen.{from_gone, inside_if, rest_begins, tail_ele
 use Rattle.slotmap_list.proofs.StableList.iter_from.Goals as goal
 
 pub returns-then-not-contains_key-clause-elements : goal.returns-then-not-contains_key-clause-elements
-returns-then-not-contains_key-clause-elements g c = rw (← c.self.view_is) (from_gone c.self.invariant (g.K.Key.data_of c.args.cursor) (sym c.contains_key.ensures.value ∙ c.if-not-contains_key.true))
+returns-then-not-contains_key-clause-elements g c =
+    rw (← c.self.view_is) (from_gone c.self.invariant (g.K.Key.data_of c.args.cursor) (sym c.contains_key.ensures.value ∙ c.if-not-contains_key.true))
 
 pub invariant_of-result-2 : goal.invariant_of-result-2
 invariant_of-result-2 g c =
-    rest_begins c.self.invariant (g.K.Key.data_of c.args.cursor) (sym c.contains_key.ensures.value ∙ c.if-not-contains_key.false) c.idx.result (c.idx.ensures.value ∙ ap (λ (k : Key). k.index) c.data.ensures.value)
+    rest_begins c.self.invariant (g.K.Key.data_of c.args.cursor) (sym c.contains_key.ensures.value ∙ c.if-not-contains_key.false) c.idx.result
+    (c.idx.ensures.value ∙ ap (λ (k : Key). k.index) c.data.ensures.value)
     c.iter_from.result c.iter_from.ensures c.len-most.result (c.len-most.ensures.value ∙ ap (λ (s : Sequence g.row.T.Denot). length s.elements) (sym c.self.view_is))
 
 pub returns-clause-elements : goal.returns-clause-elements

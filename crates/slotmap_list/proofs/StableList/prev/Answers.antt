@@ -12,4 +12,5 @@ returns g c =
     (sym c.contains_key.ensures.value ∙ c.if-not-contains_key.false) c.idx.result (c.idx.ensures.value ∙ ap (λ (k : Key). k.index) c.data.ensures.value) c.prev.ensures)
 
 pub prev-requires : goal.prev-requires
-prev-requires g c = below c.self.invariant (g.K.Key.data_of c.args.cursor) (sym c.contains_key.ensures.value ∙ c.if-not-contains_key.false) c.idx.result (c.idx.ensures.value ∙ ap (λ (k : Key). k.index) c.data.ensures.value)
+prev-requires g c = below c.self.invariant (g.K.Key.data_of c.args.cursor) (sym c.contains_key.ensures.value ∙ c.if-not-contains_key.false) c.idx.result
+    (c.idx.ensures.value ∙ ap (λ (k : Key). k.index) c.data.ensures.value)

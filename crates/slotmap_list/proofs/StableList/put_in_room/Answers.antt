@@ -41,7 +41,8 @@ pub returns-clause-elements : goal.returns-clause-elements
 returns-clause-elements g c =
     let at = (goal.at.returns-clause-elements g c).After-idx in
     let made = c.insert_reserved-key.ensures in
-    rw (c.put_index.ensures, index g at, ← c.self.view_is) (elements_put c.self.invariant c.insert_reserved-key.new.self _ c.args.value made.inserts made.fresh made.valid.after c.args.place (can g at))
+    rw (c.put_index.ensures, index g at, ← c.self.view_is)
+    (elements_put c.self.invariant c.insert_reserved-key.new.self _ c.args.value made.inserts made.fresh made.valid.after c.args.place (can g at))
 
 pub returns-clause-fresh : goal.returns-clause-fresh
 returns-clause-fresh g c = rw (← c.self.view_is) (value_at c.self.invariant (g.K.Key.data_of c.insert_reserved-key.result) ∙ c.insert_reserved-key.ensures.fresh)

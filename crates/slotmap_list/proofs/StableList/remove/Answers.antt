@@ -43,22 +43,26 @@ returns-clause-removed g c =
 
 pub returns-clause-absent : goal.returns-clause-absent
 returns-clause-absent g c =
-    value_none c.remove.new.self.live (g.K.Key.data_of c.args.cursor) _ (ap (λ m. map.get m (g.K.Key.data_of c.args.cursor)) c.in_ok-value.ensures.removes.live ∙ get-remove_here c.self.inside.values.live (g.K.Key.data_of c.args.cursor))
+    value_none c.remove.new.self.live (g.K.Key.data_of c.args.cursor) _ (ap (λ m. map.get m (g.K.Key.data_of c.args.cursor)) c.in_ok-value.ensures.removes.live
+    ∙ get-remove_here c.self.inside.values.live (g.K.Key.data_of c.args.cursor))
 
 pub returns-clause-cursors : goal.returns-clause-cursors
 returns-clause-cursors g c = rw (← c.self.view_is) (alone-removes _ _ (g.K.Key.data_of c.args.cursor) c.in_ok-value.ensures.removes)
 
 pub returns-clause-for_good : goal.returns-clause-for_good
 returns-clause-for_good g c =
-    gone_here _ _ refl (g.K.Key.data_of c.args.cursor) (removed_spent _ _ true c.remove.ensures.valid.before _ (ap is_some (found g (goal.at.returns-clause-for_good g c).After-idx)) c.in_ok-value.ensures.removes)
+    gone_here _ _ refl (g.K.Key.data_of c.args.cursor)
+    (removed_spent _ _ true c.remove.ensures.valid.before _ (ap is_some (found g (goal.at.returns-clause-for_good g c).After-idx)) c.in_ok-value.ensures.removes)
 
 pub returns-clause-gone : goal.returns-clause-gone
 returns-clause-gone g c =
-    rw (← c.self.view_is) (gone_stays _ _ _ refl (spent_removes _ _ true c.remove.ensures.valid.before _ (ap is_some (found g (goal.at.returns-clause-gone g c).After-idx)) c.in_ok-value.ensures.removes))
+    rw (← c.self.view_is)
+    (gone_stays _ _ _ refl (spent_removes _ _ true c.remove.ensures.valid.before _ (ap is_some (found g (goal.at.returns-clause-gone g c).After-idx)) c.in_ok-value.ensures.removes))
 
 pub returns-clause-leaves : goal.returns-clause-leaves
 returns-clause-leaves g c =
-    rw (← c.self.view_is) (alone-leaves _ _ (leaves_by_removal true _ c.remove.ensures.valid.before _ (ap is_some (found g (goal.at.returns-clause-leaves g c).After-idx)) _ c.in_ok-value.ensures.removes))
+    rw (← c.self.view_is)
+    (alone-leaves _ _ (leaves_by_removal true _ c.remove.ensures.valid.before _ (ap is_some (found g (goal.at.returns-clause-leaves g c).After-idx)) _ c.in_ok-value.ensures.removes))
 
 pub returns-in_err-value-clause-leaves : goal.returns-in_err-value-clause-leaves
 returns-in_err-value-clause-leaves g c = rw (← c.self.view_is, c.in_err-value.ensures.unchanged) (leaves_none _)

@@ -4,4 +4,5 @@ use Rattle.slotmap_links.proofs.Segments.{segment_long}
 use Rattle.slotmap_links.proofs.iter.MembersExactSizeIterator.len.Goals as goal
 
 pub returns-clause-value : goal.returns-clause-value
-returns-clause-value c = segment_long (link_at c.self.inside.links.now) c.self.inside.left (unless_nobody c.self.inside.first) (unless_nobody c.self.inside.last) c.self.invariant ∙ ap length c.self.view_is
+returns-clause-value c = segment_long (link_at c.self.inside.links.now) c.self.inside.left (unless_nobody c.self.inside.first) (unless_nobody c.self.inside.last)
+    c.self.invariant.0 ∙ ap length c.self.view_is

@@ -1,19 +1,19 @@
 use Rattle.std.proofs.Common.{[], ◌∷◌, length, length-append, sym, ap, ◌∙◌, arith}
 use Rattle.slotmap_list.specs.Kept.{elements_at}
-use Rattle.slotmap_list.proofs.Indices.{back_is, back_counted, live_there}
+use Rattle.slotmap_list.proofs.Indices.{back_is, back_counted, key_of_index}
 use Rattle.slotmap_list.proofs.iter.IterDoubleEndedIterator.next_back.Goals as goal
 
-pub returns-in_err-cursor-clause-steps : goal.returns-in_err-cursor-clause-steps
-returns-in_err-cursor-clause-steps g c =
-    absurd (live_there c.self.invariant c.in_ok-index.index c.next_back.new.self (back_counted c.self.invariant c.in_ok-index.index c.next_back.new.self c.in_ok-index.ensures.steps) c.in_err-cursor.ensures.none)
+pub live_key-cursor-requires : goal.live_key-cursor-requires
+live_key-cursor-requires g c =
+    key_of_index c.self.invariant c.in_ok-index.index c.next_back.new.self (back_counted c.self.invariant c.in_ok-index.index c.next_back.new.self c.in_ok-index.ensures.steps)
 
 pub returns-clause-steps : goal.returns-clause-steps
 returns-clause-steps g c =
-    sym c.self.view_is ∙ back_is c.self.invariant c.in_ok-index.index c.next_back.new.self (g.K.Key.data_of c.in_ok-cursor.cursor) c.value.result.now
-    c.in_ok-cursor.ensures.index c.value.ensures c.in_ok-index.ensures.steps
+    sym c.self.view_is ∙ back_is c.self.invariant c.in_ok-index.index c.next_back.new.self (g.K.Key.data_of c.live_key-cursor.result) c.value.result.now
+    c.live_key-cursor.ensures.index c.value.ensures c.in_ok-index.ensures.steps
 
 pub returns-clause-goes : goal.returns-clause-goes
 returns-clause-goes g c =
     let rest = elements_at c.self.inside.values.now.live c.next_back.new.self in
-    let long = ap length (returns-clause-steps g c) ∙ length-append rest ((g.K.Key.data_of c.in_ok-cursor.cursor, c.value.result.now) ∷ []) in
+    let long = ap length (returns-clause-steps g c) ∙ length-append rest ((g.K.Key.data_of c.live_key-cursor.result, c.value.result.now) ∷ []) in
     record { on = λ _. (tt, tt, omega (arith, long)); keeps = tt; rests = λ _. tt }
