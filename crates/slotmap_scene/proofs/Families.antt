@@ -11,13 +11,12 @@ use Rattle.std.proofs.lemmas.List.{get_or_default, length-map, length-set, get_o
 use Rattle.std.proofs.lemmas.Option.{same_Some}
 use Rattle.slotmap.specs.Words.{Key, key_cmp, Content, IsLive}
 use Rattle.slotmap.proofs.Callers.{keys_total, exact_keys, tied, same_or_other}
-use Rattle.slotmap_keylist.specs.KeyLists.{times}
-use Rattle.slotmap_keylist.specs.Linked.{first_or, last_or}
+use Rattle.slotmap_keylist.specs.KeyLists.{last_or, times}
 use Rattle.slotmap_keylist.proofs.Counts.{one_itself, times_first}
 use Rattle.slotmap_keylist.proofs.MapKeys.{key_live}
 use Rattle.slotmap_keylist.proofs.Changed.{changed_gives, changed_keeps, changed_other}
 use Rattle.slotmap_keylist.proofs.Mapped.{some-mapped}
-use Rattle.slotmap_links.specs.Lists.{Lists, list_of, times as often, first_or as first_number, last_or as last_number, number_after, number_before}
+use Rattle.slotmap_links.specs.Lists.{Lists, list_of, times as often, first_or, last_or as last_number, number_after, number_before}
 use Rattle.slotmap_links.specs.Lists.{with_list, IsIn, IsFree, AreDisjoint}
 use Rattle.slotmap_links.proofs.Callers.{list_now, list_other, owners_stay}
 use Rattle.slotmap_links.proofs.Counts.{times_first as often_first, one_itself as number_itself, same_or_other as same_or_other_number}
@@ -25,7 +24,7 @@ use Rattle.slotmap_scene.specs.Node.{Node, Nodes, key_and_value}
 use Rattle.slotmap_scene.specs.Above.{roots_in}
 use Rattle.slotmap_scene.specs.Climb.{parent_in, parent_of, with_parent}
 use Rattle.slotmap_scene.specs.Family.{behind, children_in, in_front, children_of, value_of, with_children_in}
-use Rattle.slotmap_scene.specs.Kept.{AreCovered, AreIndices, HasKey, HaveIndices, IsKept, above, found_at, key_at, parent_index, keys_at, node_at, nodes_by}
+use Rattle.slotmap_scene.specs.Kept.{AreCovered, AreIndices, HasKey, HaveIndices, HoldsNodes, parent_at, found_at, key_at, parent_index, keys_at, node_at, nodes_by}
 use Rattle.slotmap_scene.specs.Kept.{owner_of, roots_of}
 use Rattle.slotmap_scene.proofs.Indices.{first_key, found_has, found_is, found_key, key_after, key_ahead, last_key, found_live, found_same, found_zero}
 use Rattle.slotmap_scene.proofs.Indices.{keys_same, no_key, times_key}
@@ -83,17 +82,17 @@ covers_less n m ps ls covered less = record {
 }
 
 -- the parent that is written, by its index
-pub parent_has : {V : Type 0} (c : Content V) (o : Option Key) → IfSome o (IsLive c) → (parent_index o ≡ 0) ⊎ HasKey c (parent_index o)
-parent_has c None is = inl refl
-parent_has c (Some p) is = inr (p, is, refl)
+pub written_has : {V : Type 0} (c : Content V) (o : Option Key) → IfSome o (IsLive c) → (parent_index o ≡ 0) ⊎ HasKey c (parent_index o)
+written_has c None is = inl refl
+written_has c (Some p) is = inr (p, is, refl)
 
-pub parent_found : {V : Type 0} (c : Content V) → HaveIndices c → (o : Option Key) → IfSome o (IsLive c) → found_at c.live (parent_index o) ≡ o
-parent_found c indices None is = found_zero c indices
-parent_found c indices (Some p) is = found_live c indices p is
+pub written_found : {V : Type 0} (c : Content V) → HaveIndices c → (o : Option Key) → IfSome o (IsLive c) → found_at c.live (parent_index o) ≡ o
+written_found c indices None is = found_zero c indices
+written_found c indices (Some p) is = found_live c indices p is
 
 -- what is read of the parents
-pub read_above : (ps : List ℕ) (at i parent : ℕ) → parent ≡ get_or ps at parent → at ≡ i → i < length ps → parent ≡ above ps i
-read_above ps at i parent read is there = read ∙ get_or_default ps at parent 0 (omega arith) ∙ ap (above ps) is
+pub read_above : (ps : List ℕ) (at i parent : ℕ) → parent ≡ get_or ps at parent → at ≡ i → i < length ps → parent ≡ parent_at ps i
+read_above ps at i parent read is there = read ∙ get_or_default ps at parent 0 (omega arith) ∙ ap (parent_at ps) is
 
 -- what is seen of each node
 module _ {V : Type 0} (live : map.FinMap key_cmp V) (parents : List ℕ) (children : Lists) where
@@ -138,17 +137,17 @@ module _ {V : Type 0} (live : map.FinMap key_cmp V) (parents : List ℕ) (childr
   pub seen_value : (k : Key) → value_of seen k ≡ map.get live k
   seen_value k = seen_part (option_map (λ (n : Node V). n.value)) k (λ o. o) refl (λ v. refl)
 
-  pub seen_parent : (k : Key) → parent_of seen k ≡ cond (map.contains_key live k) (found_at live (above parents k.index)) None
-  seen_parent k = seen_part parent_in k (λ o. cond (is_some o) (found_at live (above parents k.index)) None) refl (λ v. refl)
+  pub seen_parent : (k : Key) → parent_of seen k ≡ cond (map.contains_key live k) (found_at live (parent_at parents k.index)) None
+  seen_parent k = seen_part parent_in k (λ o. cond (is_some o) (found_at live (parent_at parents k.index)) None) refl (λ v. refl)
 
   pub seen_children : (k : Key) → children_of seen k ≡ cond (map.contains_key live k) (keys_at live (list_of children k.index)) []
   seen_children k = seen_part children_in k (λ o. cond (is_some o) (keys_at live (list_of children k.index)) []) refl (λ v. refl)
 
-  pub parent_live : (k : Key) → map.contains_key live k ≡ true → parent_of seen k ≡ found_at live (above parents k.index)
-  parent_live k there = seen_parent k ∙ ap (λ b. cond b (found_at live (above parents k.index)) None) there
+  pub parent_live : (k : Key) → map.contains_key live k ≡ true → parent_of seen k ≡ found_at live (parent_at parents k.index)
+  parent_live k there = seen_parent k ∙ ap (λ b. cond b (found_at live (parent_at parents k.index)) None) there
 
   pub parent_gone : (k : Key) → map.contains_key live k ≡ false → parent_of seen k ≡ None
-  parent_gone k gone = seen_parent k ∙ ap (λ b. cond b (found_at live (above parents k.index)) None) gone
+  parent_gone k gone = seen_parent k ∙ ap (λ b. cond b (found_at live (parent_at parents k.index)) None) gone
 
   pub children_live : (k : Key) → map.contains_key live k ≡ true → children_of seen k ≡ keys_at live (list_of children k.index)
   children_live k there = seen_children k ∙ ap (λ b. cond b (keys_at live (list_of children k.index)) []) there
@@ -164,7 +163,7 @@ indices_still c d indices were more = record {
   apart = λ a b of_a of_b. indices.apart a b (were a of_a) (were b of_b);
 }
 
-module _ {V : Type 0} {c : Content V} {parents : List ℕ} {children : Lists} (kept : IsKept c parents children) where
+module _ {V : Type 0} {c : Content V} {parents : List ℕ} {children : Lists} (kept : HoldsNodes c parents children) where
   abbrev nodes : Nodes V
   nodes = nodes_by c.live parents children
 
@@ -230,24 +229,24 @@ module _ {V : Type 0} {c : Content V} {parents : List ℕ} {children : Lists} (k
   is_free k live alone = record { within = (has_place k live).members; nowhere = nowhere k live alone }
 
   -- the index of the parent, and the parent
-  pub above_none : (k : Key) → IsLive c k → above parents k.index ≡ 0 → parent_of nodes k ≡ None
+  pub above_none : (k : Key) → IsLive c k → parent_at parents k.index ≡ 0 → parent_of nodes k ≡ None
   above_none k live none = parent_live c.live parents children k live ∙ ap (found_at c.live) none ∙ found_zero c kept.indices
 
-  pub above_has : (k : Key) → IsLive c k → above parents k.index ≢ 0
-      → (p : Key) × IsLive c p × (p.index ≡ above parents k.index) × (parent_of nodes k ≡ Some p)
+  pub above_has : (k : Key) → IsLive c k → parent_at parents k.index ≢ 0
+      → (p : Key) × IsLive c p × (p.index ≡ parent_at parents k.index) × (parent_of nodes k ≡ Some p)
   above_has k live some = elim (kept.has_parent k live) [
     | inl none ↦ absurd (some none)
-    | inr has ↦ (has.0, has.1, has.2, parent_live c.live parents children k live ∙ found_has c kept.indices (above parents k.index) has)
+    | inr has ↦ (has.0, has.1, has.2, parent_live c.live parents children k live ∙ found_has c kept.indices (parent_at parents k.index) has)
   ]
 
   -- the roots are those with no index of a parent
-  found_above : (k : Key) → IsLive c k → is_some (found_at c.live (above parents k.index)) ≡ not (nat_eq (above parents k.index) 0)
-  found_above k live = elim (nat_eq (above parents k.index) 0) as
-      (λ b. nat_eq (above parents k.index) 0 ≡ b → is_some (found_at c.live (above parents k.index)) ≡ not b) [
-    | true ↦ λ none. ap is_some (ap (found_at c.live) (eqb-true (above parents k.index) 0 none) ∙ found_zero c kept.indices)
+  found_above : (k : Key) → IsLive c k → is_some (found_at c.live (parent_at parents k.index)) ≡ not (nat_eq (parent_at parents k.index) 0)
+  found_above k live = elim (nat_eq (parent_at parents k.index) 0) as
+      (λ b. nat_eq (parent_at parents k.index) 0 ≡ b → is_some (found_at c.live (parent_at parents k.index)) ≡ not b) [
+    | true ↦ λ none. ap is_some (ap (found_at c.live) (eqb-true (parent_at parents k.index) 0 none) ∙ found_zero c kept.indices)
     | false ↦ λ some. (elim (kept.has_parent k live) [
       | inl none ↦ absurd (let h = ap (λ n. nat_eq n 0) none in cc)
-      | inr has ↦ ap is_some (found_has c kept.indices (above parents k.index) has)
+      | inr has ↦ ap is_some (found_has c kept.indices (parent_at parents k.index) has)
     ])
   ] refl
 
@@ -262,7 +261,7 @@ module _ {V : Type 0} {c : Content V} {parents : List ℕ} {children : Lists} (k
       by : (es : List (Key × V)) → ((k : Key) → 0 < times k (list_map (λ (e : Key × V). e.0) es) → IsLive c k)
           → roots_of parents (list_map (λ (e : Key × V). e.0) es) ≡ roots_in (list_map (made (node_at c.live parents children)) es)
       by [] all = refl
-      by (e ∷ es) all = one e.0 (nat_eq (above parents e.0.index) 0) (is_some (found_at c.live (above parents e.0.index)))
+      by (e ∷ es) all = one e.0 (nat_eq (parent_at parents e.0.index) 0) (is_some (found_at c.live (parent_at parents e.0.index)))
           (found_above e.0 (all e.0 (let first = times_first e.0 e.0 (list_map (λ (e : Key × V). e.0) es) in let own = one_itself e.0 in omega arith)))
           _ _ (by es (λ k more. all k (let first = times_first k e.0 (list_map (λ (e : Key × V). e.0) es) in omega arith)))
 
@@ -274,7 +273,7 @@ module _ {V : Type 0} {c : Content V} {parents : List ℕ} {children : Lists} (k
       ∙ sym (ap (option_map (key_at c.live)) was)
 
   -- the two ends of the children of a node
-  pub first_seen : (k : Key) → option_map (key_at c.live) (first_number (list_of children (owner_of nodes k)) None) ≡ first_or (children_of nodes k) None
+  pub first_seen : (k : Key) → option_map (key_at c.live) (first_or (list_of children (owner_of nodes k)) None) ≡ first_or (children_of nodes k) None
   first_seen k = sym (ap (λ ks. first_or ks None) (children_owned k) ∙ first_key c kept.indices (list_of children (owner_of nodes k)))
 
   pub last_seen : (k : Key) → option_map (key_at c.live) (last_number (list_of children (owner_of nodes k)) None) ≡ last_or (children_of nodes k) None
@@ -303,7 +302,7 @@ module _ {V : Type 0} {c : Content V} {parents : List ℕ} {children : Lists} (k
     list_there : (q : ℕ) → q ≢ p.index → list_of new q ≡ list_of children q
     list_there q other = ap (λ l. list_of l q) new_is ∙ list_other children p.index is q other
 
-    pub relisted : AreDisjoint new → IsKept c parents new
+    pub relisted : AreDisjoint new → HoldsNodes c parents new
     relisted disjoint = record {
       indices = kept.indices;
       covered = record {
@@ -342,14 +341,14 @@ module _ {V : Type 0} {c : Content V} {parents : List ℕ} {children : Lists} (k
   -- another index is written as that of the parent of k
   module _ (k : Key) (o : Option Key) (is_parent : IfSome o (IsLive c)) where
     module _ (live : IsLive c k) (new : List ℕ) (new_is : new ≡ set parents k.index (parent_index o)) where
-      above_here : above new k.index ≡ parent_index o
-      above_here = ap (λ l. above l k.index) new_is ∙ get_or-set_same parents k.index (parent_index o) 0 (has_place k live).parents
+      above_here : parent_at new k.index ≡ parent_index o
+      above_here = ap (λ l. parent_at l k.index) new_is ∙ get_or-set_same parents k.index (parent_index o) 0 (has_place k live).parents
 
-      above_there : (q : Key) → IsLive c q → q ≢ k → above new q.index ≡ above parents q.index
-      above_there q of_c other = ap (λ l. above l q.index) new_is
+      above_there : (q : Key) → IsLive c q → q ≢ k → parent_at new q.index ≡ parent_at parents q.index
+      above_there q of_c other = ap (λ l. parent_at l q.index) new_is
           ∙ get_or-set_other parents k.index q.index (parent_index o) 0 (λ at. other (kept.indices.apart q k of_c live at))
 
-      pub hung : IsKept c new children
+      pub hung : HoldsNodes c new children
       hung = record {
         indices = kept.indices;
         covered = record { parents = (let n = ap length new_is ∙ length-set parents k.index (parent_index o) in let covered = kept.covered.parents in
@@ -357,7 +356,7 @@ module _ {V : Type 0} {c : Content V} {parents : List ℕ} {children : Lists} (k
         disjoint = kept.disjoint;
         listed = kept.listed;
         has_parent = λ q of_c. elim (same_or_other q k) [
-          | inl at ↦ subst (λ i. (i ≡ 0) ⊎ HasKey c i) (sym (ap (λ (q : Key). above new q.index) at ∙ above_here)) (parent_has c o is_parent)
+          | inl at ↦ subst (λ i. (i ≡ 0) ⊎ HasKey c i) (sym (ap (λ (q : Key). parent_at new q.index) at ∙ above_here)) (written_has c o is_parent)
           | inr other ↦ subst (λ i. (i ≡ 0) ⊎ HasKey c i) (sym (above_there q of_c other)) (kept.has_parent q of_c)
         ];
       }
@@ -370,7 +369,7 @@ module _ {V : Type 0} {c : Content V} {parents : List ℕ} {children : Lists} (k
           (λ q. seen_value c.live new children q
               ∙ sym (changed_keeps nodes k hang (option_map (λ n. n.value)) (λ n. refl) q ∙ seen_value c.live parents children q))
           (λ q. elim (same_or_other q k) [
-            | inl at ↦ rw at (parent_live c.live new children k live ∙ ap (found_at c.live) above_here ∙ parent_found c kept.indices o is_parent
+            | inl at ↦ rw at (parent_live c.live new children k live ∙ ap (found_at c.live) above_here ∙ written_found c kept.indices o is_parent
                 ∙ sym (changed_gives nodes k hang parent_in (λ _. o) (λ n. refl) (seen_has c.live parents children k ∙ live)))
             | inr other ↦ by_live c.live q _
                 (λ of_c. parent_live c.live new children q of_c ∙ ap (found_at c.live) (above_there q of_c other)
@@ -384,15 +383,15 @@ module _ {V : Type 0} {c : Content V} {parents : List ℕ} {children : Lists} (k
   -- another content
   module _ (d : Content V) (also : HaveIndices d) (parents' : List ℕ) (children' : Lists) where
     -- a node has the same parent and the same children there, if they are there
-    pub node_still : (q : Key) → IsLive c q → above parents' q.index ≡ above parents q.index → list_of children' q.index ≡ list_of children q.index
-        → ((p : Key) → IsLive c p → p.index ≡ above parents q.index → IsLive d p)
+    pub node_still : (q : Key) → IsLive c q → parent_at parents' q.index ≡ parent_at parents q.index → list_of children' q.index ≡ list_of children q.index
+        → ((p : Key) → IsLive c p → p.index ≡ parent_at parents q.index → IsLive d p)
             → ((x : Key) → IsLive c x → IsIn children q.index x.index → IsLive d x)
         → (v : V) → node_at d.live parents' children' q v ≡ node_at c.live parents children q v
     node_still q live same_parent same_list parent_still children_still v =
-        let parent : found_at d.live (above parents' q.index) ≡ found_at c.live (above parents q.index) = ap (found_at d.live) same_parent
+        let parent : found_at d.live (parent_at parents' q.index) ≡ found_at c.live (parent_at parents q.index) = ap (found_at d.live) same_parent
             ∙ elim (kept.has_parent q live) [
           | inl none ↦ ap (found_at d.live) none ∙ found_zero d also ∙ sym (ap (found_at c.live) none ∙ found_zero c kept.indices)
-          | inr has ↦ found_same c kept.indices d also (above parents q.index) has (parent_still has.0 has.1 has.2)
+          | inr has ↦ found_same c kept.indices d also (parent_at parents q.index) has (parent_still has.0 has.1 has.2)
         ] in
         let own : keys_at d.live (list_of children' q.index) ≡ keys_at c.live (list_of children q.index) =
         ap (keys_at d.live) same_list ∙ keys_same c kept.indices d also (list_of children q.index) (indices_at q.index) children_still in
@@ -418,7 +417,7 @@ module _ {V : Type 0} {c : Content V} {parents : List ℕ} {children : Lists} (k
       above_still i j same was = subst (λ n. (n ≡ 0) ⊎ HasKey d n) (sym same) (elim was [ inl none ↦ inl none | inr has ↦ inr (has_still i has) ])
 
       pub kept_still : AreCovered d.capacity parents' children' → AreDisjoint children'
-          → ((q : Key) → IsLive d q → (above parents' q.index ≡ 0) ⊎ HasKey d (above parents' q.index)) → IsKept d parents' children'
+          → ((q : Key) → IsLive d q → (parent_at parents' q.index ≡ 0) ⊎ HasKey d (parent_at parents' q.index)) → HoldsNodes d parents' children'
       kept_still covered disjoint parents_are = record {
         indices = also;
         covered = covered;
@@ -428,10 +427,10 @@ module _ {V : Type 0} {c : Content V} {parents : List ℕ} {children : Lists} (k
       }
 
       -- the same nodes but for their values
-      module _ (same_keys : (q : Key) → IsLive d q → IsLive c q) (same_parents : (i : ℕ) → above parents' i ≡ above parents i) where
-        pub kept_along : AreCovered d.capacity parents' children' → AreDisjoint children' → IsKept d parents' children'
+      module _ (same_keys : (q : Key) → IsLive d q → IsLive c q) (same_parents : (i : ℕ) → parent_at parents' i ≡ parent_at parents i) where
+        pub kept_along : AreCovered d.capacity parents' children' → AreDisjoint children' → HoldsNodes d parents' children'
         kept_along covered disjoint = kept_still covered disjoint
-            (λ q live. above_still (above parents q.index) (above parents' q.index) (same_parents q.index) (kept.has_parent q (same_keys q live)))
+            (λ q live. above_still (parent_at parents q.index) (parent_at parents' q.index) (same_parents q.index) (kept.has_parent q (same_keys q live)))
 
         pub node_along : (q : Key) → IsLive c q → (v : V) → node_at d.live parents' children' q v ≡ node_at c.live parents children q v
         node_along q live = node_still q live (same_parents q.index) (same_lists q.index) (λ p of_c _. still p of_c) (λ x of_c _. still x of_c)

@@ -7,11 +7,10 @@ use Rattle.std.specs.FinMap as map
 use Rattle.std.proofs.lemmas.Option.{same_Some}
 use Rattle.slotmap.specs.Words.{Key, Content, IsLive, null_key}
 use Rattle.slotmap.proofs.Callers.{same_or_other}
-use Rattle.slotmap_keylist.specs.KeyLists.{is_key, same, times, without}
-use Rattle.slotmap_keylist.specs.Linked.{first_or, last_or}
+use Rattle.slotmap_keylist.specs.KeyLists.{is_key, last_or, same, times, without}
 use Rattle.slotmap_keylist.proofs.Counts.{is_itself, is_other, one_itself, one_other, times_first}
 use Rattle.slotmap_keylist.proofs.MapKeys.{key_live, key_there}
-use Rattle.slotmap_links.specs.Lists.{times as often, without as without_number, first_or as first_number, last_or as last_number, number_after}
+use Rattle.slotmap_links.specs.Lists.{times as often, without as without_number, first_or, last_or as last_number, number_after}
 use Rattle.slotmap_links.specs.Lists.{number_before, put_before, put_behind}
 use Rattle.slotmap_links.proofs.Counts.{times_first as often_first, times_joined as often_joined, one_itself as number_itself, is_other as other_number}
 use Rattle.slotmap_links.proofs.Counts.{same as same_number, same_or_other as same_or_other_number}
@@ -19,7 +18,7 @@ use Rattle.slotmap_links.proofs.Linking.{first_in}
 use Rattle.slotmap_scene.specs.declared.tree.Side.{Side}
 use Rattle.slotmap_scene.specs.declared.tree.Side.TheVariants.{Before, After}
 use Rattle.slotmap_scene.specs.Family.{behind, in_front, placed}
-use Rattle.slotmap_scene.specs.Kept.{AreIndices, HasKey, HaveIndices, beside, found_at, key_at, keys_at}
+use Rattle.slotmap_scene.specs.Kept.{AreIndices, HasKey, HaveIndices, put_on, found_at, key_at, keys_at}
 
 -- what is found in a list passes the test and is there
 first_found : (p : Key → Bool) (ks : List Key) (k : Key) → find p ks ≡ Some k → (p k ≡ true) × (0 < times k ks)
@@ -48,7 +47,7 @@ pub after_inside : (k i : ℕ) (ks : List ℕ) → number_after k ks ≡ Some i 
 after_inside k i [] is = absurd (cc)
 after_inside k i (q ∷ ks) is =
     let first = often_first i q ks in
-    elim (nat_eq q k) as (λ b. cond b (first_number ks None) (number_after k ks) ≡ Some i → 0 < often i (q ∷ ks)) [
+    elim (nat_eq q k) as (λ b. cond b (first_or ks None) (number_after k ks) ≡ Some i → 0 < often i (q ∷ ks)) [
       | true ↦ λ is. (let more = first_in ks i is in omega arith)
       | false ↦ λ is. (let more = after_inside k i ks is in omega arith)
     ] is
@@ -186,12 +185,12 @@ module _ {T : Type 0} (c : Content T) (indices : HaveIndices c) where
         ] refl (same_at i (first_index i is all) s sibling)
 
     pub key_beside : (side : Side) (is : List ℕ) → AreIndices c is → 0 < often s.index is
-        → keys_at c.live (beside side s.index k.index is) ≡ placed side s k (keys_at c.live is)
+        → keys_at c.live (put_on side s.index k.index is) ≡ placed side s k (keys_at c.live is)
     key_beside Before is = key_before is
     key_beside After is = key_behind is
 
   -- the two ends, and those beside a key
-  pub first_key : (is : List ℕ) → first_or (keys_at c.live is) None ≡ option_map (key_at c.live) (first_number is None)
+  pub first_key : (is : List ℕ) → first_or (keys_at c.live is) None ≡ option_map (key_at c.live) (first_or is None)
   first_key [] = refl
   first_key (i ∷ is) = refl
 
@@ -207,7 +206,7 @@ module _ {T : Type 0} (c : Content T) (indices : HaveIndices c) where
       ap (λ b. cond b (first_or (keys_at c.live is) None) (behind k (keys_at c.live is))) (same_at i (first_index i is all) k live)
       ∙ elim (nat_eq i k.index) as
           (λ b. cond b (first_or (keys_at c.live is) None) (behind k (keys_at c.live is)) ≡ option_map (key_at c.live)
-          (cond b (first_number is None) (number_after k.index is))) [
+          (cond b (first_or is None) (number_after k.index is))) [
         | true ↦ first_key is
         | false ↦ key_after k live is (later_indices i is all)
       ]

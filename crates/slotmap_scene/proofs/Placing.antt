@@ -13,7 +13,7 @@ use Rattle.slotmap_scene.specs.declared.tree.Side.TheVariants.{Before, After}
 use Rattle.slotmap_scene.specs.Node.{Node}
 use Rattle.slotmap_scene.specs.Climb.{has_node, parent_of, with_parent}
 use Rattle.slotmap_scene.specs.Family.{children_of, placed, with_children_in, without_child}
-use Rattle.slotmap_scene.specs.Kept.{AreIndices, HasKey, IsKept, IsParent, above, beside, family, parent_index, key_at, keys_at}
+use Rattle.slotmap_scene.specs.Kept.{AreIndices, HasKey, HoldsNodes, IsParent, parent_at, put_on, family, parent_index, key_at, keys_at}
 use Rattle.slotmap_scene.proofs.Indices.{key_at_live, key_beside, without_key}
 use Rattle.slotmap_scene.proofs.Families.{above_has, above_none, child_in, has_place, hung, hung_seen, indices_at, is_free, relisted, relisted_seen, seen_has}
 
@@ -33,11 +33,11 @@ module _ (s k i : ℕ) where
     | false ↦ (let first = often_first i q (put_behind s k ks) in let was = often_first i q ks in let rest = behind_few ks in omega arith)
   ]
 
-  beside_few : (side : Side) (ks : List ℕ) → often i (beside side s k ks) ≤ often i ks + same_number k i
+  beside_few : (side : Side) (ks : List ℕ) → often i (put_on side s k ks) ≤ often i ks + same_number k i
   beside_few Before = before_few
   beside_few After = behind_few
 
-module _ {V : Type 0} {c : Content V} {parents : List ℕ} {children : Lists} (kept : IsKept c parents children)
+module _ {V : Type 0} {c : Content V} {parents : List ℕ} {children : Lists} (kept : HoldsNodes c parents children)
     {self : Content (Node V)} (view : family c parents children ≡ self) where
   pub is_live : (k : Key) → has_node self.live k → IsLive c k
   is_live k there = sym (seen_has c.live parents children k) ∙ ap (λ (s : Content (Node V)). map.contains_key s.live k) view ∙ there
@@ -56,7 +56,7 @@ module _ {V : Type 0} {c : Content V} {parents : List ℕ} {children : Lists} (k
 
   -- the children of p are others
   abbrev Relists : Key → Lists → (List Key → List Key) → Type 0
-  Relists p new f = IsKept c parents new × (family c parents new ≡ record self { live = with_children_in self.live p (map.get self.live p) f })
+  Relists p new f = HoldsNodes c parents new × (family c parents new ≡ record self { live = with_children_in self.live p (map.get self.live p) f })
 
   relists : (p : Key) → IsLive c p → (is : List ℕ) → AreIndices c is → (f : List Key → List Key)
       → keys_at c.live is ≡ f (keys_at c.live (list_of children p.index))
@@ -94,25 +94,32 @@ module _ {V : Type 0} {c : Content V} {parents : List ℕ} {children : Lists} (k
         (λ ks. ks ++ k ∷ []) (map-append (key_at c.live) was_list (k.index ∷ []) ∙ ap (λ q. keys_at c.live was_list ++ q ∷ []) at_k) new
 
     pub put_on_side : (side : Side) (s : Key) → 0 < times s (children_of self.live p)
-        → new ≡ with_list children p.index (beside side s.index k.index was_list) → AreDisjoint new → Relists p new (placed side s k)
+        → new ≡ with_list children p.index (put_on side s.index k.index was_list) → AreDisjoint new → Relists p new (placed side s k)
     put_on_side side s sibling =
         let inside = child_in kept p s (let same = ap (λ (s' : Content (Node V)). times s (children_of s'.live p)) view in omega arith) in
-        relists p (is_live p there) (beside side s.index k.index was_list)
+        relists p (is_live p there) (put_on side s.index k.index was_list)
         (λ i more. came i (let few = beside_few s.index k.index i side was_list in omega arith))
         (placed side s k) (key_beside c kept.indices s k inside.1 (is_live k node) side was_list had inside.2) new
 
   -- k leaves the children of its parent, whose index was read, if it has one
-  module _ (k : Key) (node : has_node self.live k) (parent : ℕ) (read : parent ≡ above parents k.index) where
+  module _ (k : Key) (node : has_node self.live k) (parent : ℕ) (read : parent ≡ parent_at parents k.index) where
+    pub up_none : parent ≡ 0 → parent_of self.live k ≡ None
+    up_none none = ap (λ (s : Content (Node V)). parent_of s.live k) (sym view) ∙ above_none kept k (is_live k node) (sym read ∙ none)
+
     pub left_none : parent ≡ 0 → self ≡ record self { live = without_child self.live (parent_of self.live k) k }
-    left_none none =
-        let own = ap (λ (s : Content (Node V)). parent_of s.live k) (sym view) ∙ above_none kept k (is_live k node) (sym read ∙ none) in
-        ap (λ o. record self { live = without_child self.live o k }) (sym own)
+    left_none none = ap (λ o. record self { live = without_child self.live o k }) (sym (up_none none))
 
     module _ (some : parent ≢ 0) where
       up : (p : Key) × IsLive c p × (p.index ≡ parent) × (parent_of self.live k ≡ Some p)
       up =
           let above_k = above_has kept k (is_live k node) (λ none. some (read ∙ none)) in
           (above_k.0, above_k.1, above_k.2 ∙ sym read, ap (λ (s : Content (Node V)). parent_of s.live k) (sym view) ∙ above_k.3)
+
+      pub up_has : HasKey c parent
+      up_has = (up.0, up.1, up.2)
+
+      pub up_is : (p : Key) → IsLive c p → p.index ≡ parent → parent_of self.live k ≡ Some p
+      up_is p live at = up.3 ∙ ap Some (kept.indices.apart up.0 p up.1 live (up.2 ∙ sym at))
 
       pub left_below : parent < length children.lists
       left_below = subst (λ p. p < length children.lists) up.2 (has_place kept up.0 up.1).owners
@@ -121,7 +128,7 @@ module _ {V : Type 0} {c : Content V} {parents : List ℕ} {children : Lists} (k
       left_listed once = subst (λ p. IsIn children p k.index) up.2 (child_there up.0 k (let one = once up.0 up.3 in omega arith))
 
       pub left : (new : Lists) → new ≡ with_list children parent (without_number k.index (list_of children parent)) → AreDisjoint new
-          → IsKept c parents new × (family c parents new ≡ record self { live = without_child self.live (parent_of self.live k) k })
+          → HoldsNodes c parents new × (family c parents new ≡ record self { live = without_child self.live (parent_of self.live k) k })
       left new new_is disjoint =
           let p = up.0 in
           let left_p = relists p up.1 (without_number k.index (list_of children p.index))
@@ -141,7 +148,7 @@ module _ {V : Type 0} {c : Content V} {parents : List ℕ} {children : Lists} (k
 
   pub hangs : (k : Key) → has_node self.live k → (o : Option Key) → IsParent self.live o → (new : List ℕ)
       → new ≡ set parents k.index (parent_index o)
-      → IsKept c new children × (family c new children ≡ record self { live = with_parent self.live k o })
+      → HoldsNodes c new children × (family c new children ≡ record self { live = with_parent self.live k o })
   hangs k node o is_parent new new_is = (
     hung kept k o (parent_alive o is_parent) (is_live k node) new new_is,
     ap (λ n. record (family c parents children) { live = n }) (hung_seen kept k o (parent_alive o is_parent) (is_live k node) new new_is)

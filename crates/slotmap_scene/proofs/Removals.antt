@@ -4,8 +4,7 @@ use Rattle.std.specs.Prelude.{option_map}
 use Rattle.std.specs.FinMap as map
 use Rattle.slotmap.specs.Words.{Key}
 use Rattle.slotmap.proofs.Callers.{keys, same_or_other, keys_total, exact_keys, len_removed}
-use Rattle.slotmap_keylist.specs.KeyLists.{times, without}
-use Rattle.slotmap_keylist.specs.Linked.{last_or}
+use Rattle.slotmap_keylist.specs.KeyLists.{last_or, times, without}
 use Rattle.slotmap_keylist.proofs.Alone.{len_alike}
 use Rattle.slotmap_keylist.proofs.Counts.{times_pushed}
 use Rattle.slotmap_keylist.proofs.Linking.{last_in}

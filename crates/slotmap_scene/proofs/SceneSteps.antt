@@ -20,11 +20,11 @@ use Rattle.slotmap_links.proofs.Changes.{disjoint_still}
 use Rattle.slotmap_scene.specs.Node.{Node, Nodes}
 use Rattle.slotmap_scene.specs.Climb.{parent_of}
 use Rattle.slotmap_scene.specs.Family.{IsNodeClone, child, children_of, with_value}
-use Rattle.slotmap_scene.specs.Kept.{AreCovered, CoversMore, HoldsMore, HasKey, HaveIndices, IsKept, above, family, found_at, parent_index, keys_at, node_at}
+use Rattle.slotmap_scene.specs.Kept.{AreCovered, CoversMore, HoldsMore, HasKey, HaveIndices, HoldsNodes, parent_at, family, found_at, parent_index, keys_at, node_at}
 use Rattle.slotmap_scene.specs.Kept.{nodes_by}
 use Rattle.slotmap_scene.proofs.Indices.{found_live}
 use Rattle.slotmap_scene.proofs.Families.{above_still, children_live, list_none, get_alike, get_along, indices_still, kept_along, node_along, covers_less}
-use Rattle.slotmap_scene.proofs.Families.{parent_found, parent_has, kept_still, node_still, nowhere, parent_live, seen_get, seen_has, seen_len}
+use Rattle.slotmap_scene.proofs.Families.{written_found, written_has, kept_still, node_still, nowhere, parent_live, seen_get, seen_has, seen_len}
 
 -- what is known of the values is known of the nodes
 module _ {V : Type 0} (c : Content V) (parents : List ℕ) (children : Lists) where
@@ -67,7 +67,7 @@ pub covered : (s : Lists) → AreDisjoint s → (n m : ℕ) (mid new : Lists) {A
 covered s disjoint n m mid new (Ok a) is ok err = covers_by s disjoint n (max s.members m) new (omega arith) (ok ∙ ap (λ l. with_members l m) is)
 covered s disjoint n m mid new (Err b) is ok err = covers_by s disjoint n s.members new (omega arith) (err ∙ is)
 
-padded : (ps : List ℕ) (n i : ℕ) → above (ps ++ replicate n 0) i ≡ above ps i
+padded : (ps : List ℕ) (n i : ℕ) → parent_at (ps ++ replicate n 0) i ≡ parent_at ps i
 padded [] zero i = refl
 padded [] (suc n) zero = refl
 padded [] (suc n) (suc i) = padded [] n i
@@ -81,10 +81,10 @@ held ps n len long more (Ok x) now is =
     let now_is : now ≡ ps ++ replicate (n - len) 0 = is ∙ ap (λ l. l ++ replicate (n - len) 0) (take_all n ps more) in
     let now_long : length now ≡ length ps + length (replicate {A = ℕ} (n - len) 0) = ap length now_is ∙ length-append ps (replicate (n - len) 0) in
     let zeros : length (replicate {A = ℕ} (n - len) 0) ≡ n - len = length-replicate (n - len) 0 in (
-      record { same = λ i. ap (λ l. above l i) now_is ∙ padded ps (n - len) i; more = omega arith },
+      record { same = λ i. ap (λ l. parent_at l i) now_is ∙ padded ps (n - len) i; more = omega arith },
       omega arith,
     )
-held ps n len long more (Err e) now is = (record { same = λ i. ap (λ l. above l i) is; more = (let same = ap length is in omega arith) }, tt)
+held ps n len long more (Err e) now is = (record { same = λ i. ap (λ l. parent_at l i) is; more = (let same = ap length is in omega arith) }, tt)
 
 covers_still : (n : ℕ) (ps qs : List ℕ) (old new : Lists) → AreCovered n ps old → HoldsMore ps qs → CoversMore old new → AreCovered n qs new
 covers_still n ps qs old new covered holds covers = record {
@@ -125,7 +125,7 @@ module _ {V : Type 0} (c : Content V) (none : c.live ≡ map.empty) (parents : L
   no_live : (k : Key) → map.get c.live k ≡ None
   no_live k = ap (λ m. map.get m k) none ∙ map.get-empty {X = V} key_cmp k
 
-  pub bare_kept : ((p : ℕ) → list_of children p ≡ []) → AreCovered c.capacity parents children → IsKept c parents children
+  pub bare_kept : ((p : ℕ) → list_of children p ≡ []) → AreCovered c.capacity parents children → HoldsNodes c parents children
   bare_kept empty covered = record {
     indices = record { within = λ k live. absurd (let gone = ap is_some (no_live k) in cc); apart = λ a b live. absurd
         (let gone = ap is_some (no_live a) in cc) };
@@ -144,7 +144,7 @@ module _ {V : Type 0} (c : Content V) (none : c.live ≡ map.empty) (parents : L
       (λ q. seen_get c.live parents children q ∙ ap (option_map (node_at c.live parents children q)) (no_live q)
       ∙ sym (map.get-empty {X = Node V} key_cmp q))
 
-module _ {V : Type 0} {c : Content V} {parents : List ℕ} {children : Lists} (kept : IsKept c parents children) where
+module _ {V : Type 0} {c : Content V} {parents : List ℕ} {children : Lists} (kept : HoldsNodes c parents children) where
   abbrev nodes : Nodes V
   nodes = nodes_by c.live parents children
 
@@ -157,7 +157,7 @@ module _ {V : Type 0} {c : Content V} {parents : List ℕ} {children : Lists} (k
     grown_indices : HaveIndices d
     grown_indices = indices_still c d kept.indices (λ k live. sym (same_live k) ∙ live) more
 
-    pub grown_kept : AreCovered d.capacity parents' children' → IsKept d parents' children'
+    pub grown_kept : AreCovered d.capacity parents' children' → HoldsNodes d parents' children'
     grown_kept covered = kept_along kept d grown_indices parents' children' (λ q live. same_live q ∙ live) grows.lists
         (λ q live. sym (same_live q) ∙ live) holds.same covered grows.disjoint
 
@@ -168,7 +168,7 @@ module _ {V : Type 0} {c : Content V} {parents : List ℕ} {children : Lists} (k
 
   -- places are made, and no room
   module _ (parents' : List ℕ) (children' : Lists) (holds : HoldsMore parents parents') (covers : CoversMore children children') where
-    pub covered_kept : IsKept c parents' children'
+    pub covered_kept : HoldsNodes c parents' children'
     covered_kept = grown_kept c refl (omega arith) parents' children' holds covers
         (covers_still c.capacity parents parents' children children' kept.covered holds covers)
 
@@ -213,17 +213,17 @@ module _ {V : Type 0} {c : Content V} {parents : List ℕ} {children : Lists} (k
     place : k.index < length parents
     place = let covered = kept.covered.parents in omega arith
 
-    came_above : above new k.index ≡ parent_index o
-    came_above = ap (λ l. above l k.index) new_is ∙ get_or-set_same parents k.index (parent_index o) 0 place
+    came_above : parent_at new k.index ≡ parent_index o
+    came_above = ap (λ l. parent_at l k.index) new_is ∙ get_or-set_same parents k.index (parent_index o) 0 place
 
-    above_other : (q : Key) → IsLive c q → above new q.index ≡ above parents q.index
-    above_other q live = ap (λ l. above l q.index) new_is ∙ get_or-set_other parents k.index q.index (parent_index o) 0 (no_other q live)
+    above_other : (q : Key) → IsLive c q → parent_at new q.index ≡ parent_at parents q.index
+    above_other q live = ap (λ l. parent_at l q.index) new_is ∙ get_or-set_other parents k.index q.index (parent_index o) 0 (no_other q live)
 
     parent_stays : (o : Option Key) → IfSome o (IsLive c) → IfSome o (IsLive d)
     parent_stays None is = tt
     parent_stays (Some p) is = stays p is
 
-    pub came_kept : IsKept d new children
+    pub came_kept : HoldsNodes d new children
     came_kept = kept_still kept d came_indices new children stays (λ p. refl)
         (record {
           parents = (let n = ap length new_is ∙ length-set parents k.index (parent_index o) in let covered = kept.covered.parents in omega arith);
@@ -232,10 +232,10 @@ module _ {V : Type 0} {c : Content V} {parents : List ℕ} {children : Lists} (k
         })
         kept.disjoint
         (λ q live. elim (same_or_other q k) [
-          | inl at ↦ subst (λ i. (i ≡ 0) ⊎ HasKey d i) (sym (ap (λ (q : Key). above new q.index) at ∙ came_above))
-              (parent_has d o (parent_stays o is_parent))
+          | inl at ↦ subst (λ i. (i ≡ 0) ⊎ HasKey d i) (sym (ap (λ (q : Key). parent_at new q.index) at ∙ came_above))
+              (written_has d o (parent_stays o is_parent))
           | inr other ↦ (let was = sym (ap is_some (came_other q other)) ∙ live in
-              above_still kept d came_indices new children stays (λ p. refl) (above parents q.index) (above new q.index) (above_other q was)
+              above_still kept d came_indices new children stays (λ p. refl) (parent_at parents q.index) (parent_at new q.index) (above_other q was)
                   (kept.has_parent q was))
         ])
 
@@ -245,7 +245,7 @@ module _ {V : Type 0} {c : Content V} {parents : List ℕ} {children : Lists} (k
           ∙ ap (option_map (node_at d.live new children k)) (ap (λ m. map.get m k) inserts.live ∙ get-insert_here c.live k v)
           ∙ (λ i. Some (record {
             value = v;
-            parent = (ap (found_at d.live) came_above ∙ parent_found d came_indices o (parent_stays o is_parent)) i;
+            parent = (ap (found_at d.live) came_above ∙ written_found d came_indices o (parent_stays o is_parent)) i;
             children = ap (keys_at d.live) (list_none kept k.index (λ x live. no_other x live)) i;
           }))
           ∙ sym (get-insert_here nodes k (child o v)))
@@ -294,12 +294,12 @@ module _ {V : Type 0} {c : Content V} {parents : List ℕ} {children : Lists} (k
     has_left : (i : ℕ) → HasKey c i → i ≢ k.index → HasKey d i
     has_left i has apart = (has.0, ap is_some (left_get has.0 (λ at. apart (sym has.2 ∙ ap (λ (q : Key). q.index) at))) ∙ has.1, has.2)
 
-    not_above : (q : Key) → IsLive c q → above parents q.index ≢ k.index
+    not_above : (q : Key) → IsLive c q → parent_at parents q.index ≢ k.index
     not_above q of_c at =
         let found = parent_live c.live parents children q of_c ∙ ap (found_at c.live) at ∙ found_live c kept.indices k live in
         childless q found
 
-    pub gone_kept : IsKept d parents children
+    pub gone_kept : HoldsNodes d parents children
     gone_kept = record {
       indices = left_indices;
       covered = covers_less c.capacity d.capacity parents children kept.covered (omega arith);
@@ -310,7 +310,7 @@ module _ {V : Type 0} {c : Content V} {parents : List ℕ} {children : Lists} (k
       ));
       has_parent = λ q of_d. (let was = was_live q of_d in elim (kept.has_parent q was) [
         | inl none ↦ inl none
-        | inr has ↦ inr (has_left (above parents q.index) has (not_above q was))
+        | inr has ↦ inr (has_left (parent_at parents q.index) has (not_above q was))
       ]);
     }
 
@@ -339,7 +339,7 @@ module _ {V : Type 0} {c : Content V} {parents : List ℕ} {children : Lists} (k
     written_indices : HaveIndices written
     written_indices = indices_still c written kept.indices (λ q live. sym (written_keys q) ∙ live) (omega arith)
 
-    pub written_kept : IsKept written parents children
+    pub written_kept : HoldsNodes written parents children
     written_kept = kept_along kept written written_indices parents children (λ q live. written_keys q ∙ live) (λ p. refl)
         (λ q live. sym (written_keys q) ∙ live) (λ i. refl) kept.covered kept.disjoint
 
@@ -366,7 +366,7 @@ module _ {V : Type 0} {c : Content V} {parents : List ℕ} {children : Lists} (k
     copied_indices : HaveIndices copy
     copied_indices = indices_still c copy kept.indices (λ q live. sym (copied_keys q) ∙ live) (omega arith)
 
-    pub copied_kept : IsKept copy parents children
+    pub copied_kept : HoldsNodes copy parents children
     copied_kept = kept_along kept copy copied_indices parents children (λ q live. copied_keys q ∙ live) (λ p. refl)
         (λ q live. sym (copied_keys q) ∙ live) (λ i. refl)
         (covers_less c.capacity copy.capacity parents children kept.covered (omega arith)) kept.disjoint

@@ -4,7 +4,7 @@ use Rattle.std.proofs.Common.{◌++◌, length, length-append, refl, sym, ap, su
 use Rattle.std.specs.FinMap as map
 use Rattle.slotmap.specs.Words.{Key, same_keys}
 use Rattle.slotmap_keylist.specs.KeyLists.{is_key, same, times}
-use Rattle.slotmap_keylist.specs.Linked.{first_or}
+use Rattle.slotmap_links.specs.Lists.{first_or}
 use Rattle.slotmap_keylist.proofs.Counts.{is_itself, is_other, one_itself, times_first, times_joined}
 use Rattle.slotmap_scene.specs.Node.{Node, Nodes}
 use Rattle.slotmap_scene.specs.Below.{GoesDown, keys_down, all_below, keys_from, AreAhead, WalkStands, WalksBelow}

@@ -8,7 +8,7 @@ use Rattle.slotmap_scene.specs.declared.tree.Side.{Side}
 use Rattle.slotmap_scene.specs.declared.tree.Side.TheVariants.{Before, After}
 use Rattle.slotmap_keylist.specs.Changed.{changed, changed_in}
 use Rattle.slotmap_keylist.specs.KeyLists.{is_key, same, times, without}
-use Rattle.slotmap_keylist.specs.Linked.{first_or}
+use Rattle.slotmap_links.specs.Lists.{first_or}
 
 -- the key behind k in a list, and the one in front of it, or another where there is none
 abbrev pub behind : Key → List Key → Option Key

@@ -12,21 +12,21 @@ use Rattle.slotmap_scene.specs.declared.tree.Side.{Side}
 use Rattle.slotmap_scene.specs.declared.tree.Side.TheVariants.{Before, After}
 
 -- the index of the parent of the node with an index; 0, the index of no key, where it has none
-abbrev pub above : List ℕ → ℕ → ℕ
-above parents i = slice_index_or parents i 0
+abbrev pub parent_at : List ℕ → ℕ → ℕ
+parent_at parents i = slice_index_or parents i 0
 
 abbrev pub parent_index : Option Key → ℕ
 parent_index None = 0
 parent_index (Some k) = k.index
 
 -- a number on this side of another one in a list
-abbrev pub beside : Side → ℕ → ℕ → List ℕ → List ℕ
-beside Before s k ks = put_before s k ks
-beside After s k ks = put_behind s k ks
+abbrev pub put_on : Side → ℕ → ℕ → List ℕ → List ℕ
+put_on Before s k ks = put_before s k ks
+put_on After s k ks = put_behind s k ks
 
 -- the keys, of some, that have no parent
 abbrev pub roots_of : List ℕ → List Key → List Key
-roots_of parents ks = filter (λ k. nat_eq (above parents k.index) 0) ks
+roots_of parents ks = filter (λ k. nat_eq (parent_at parents k.index) 0) ks
 
 -- there is a place for the parent and for the children of each index up to this one
 pub record AreCovered (index : ℕ) (ps : List ℕ) (ls : Lists) : Type 0 where
@@ -36,7 +36,7 @@ pub record AreCovered (index : ℕ) (ps : List ℕ) (ls : Lists) : Type 0 where
 
 -- the same parents, and the same lists of children, of no fewer indices
 pub record HoldsMore (old new : List ℕ) : Type 0 where
-  pub same : (i : ℕ) → above new i ≡ above old i
+  pub same : (i : ℕ) → parent_at new i ≡ parent_at old i
   pub more : length old ≤ length new
 
 pub record CoversMore (old new : Lists) : Type 0 where
@@ -58,7 +58,7 @@ module _ {T : Type 0} where
 
   -- a node as it is seen
   abbrev pub node_at : map.FinMap key_cmp T → List ℕ → Lists → Key → T → Node T
-  node_at live parents children k v = record { value = v; parent = found_at live (above parents k.index); children = keys_at live (list_of children k.index) }
+  node_at live parents children k v = record { value = v; parent = found_at live (parent_at parents k.index); children = keys_at live (list_of children k.index) }
 
   unfoldable pub nodes_by : map.FinMap key_cmp T → List ℕ → Lists → Nodes T
   nodes_by live parents children = map.from_sorted (list_map (λ e. (e.0, node_at live parents children e.0 e.1)) (map.entries live))
@@ -80,12 +80,12 @@ module _ {T : Type 0} where
     pub apart : (a b : Key) → IsLive c a → IsLive c b → a.index ≡ b.index → a ≡ b
 
   -- parents and children are nodes
-  pub record IsKept (c : Content T) (parents : List ℕ) (children : Lists) : Type 0 where
+  pub record HoldsNodes (c : Content T) (parents : List ℕ) (children : Lists) : Type 0 where
     pub indices : HaveIndices c
     pub covered : AreCovered c.capacity parents children
     pub disjoint : AreDisjoint children
     pub listed : (p i : ℕ) → IsIn children p i → HasKey c p × HasKey c i
-    pub has_parent : (k : Key) → IsLive c k → (above parents k.index ≡ 0) ⊎ HasKey c (above parents k.index)
+    pub has_parent : (k : Key) → IsLive c k → (parent_at parents k.index ≡ 0) ⊎ HasKey c (parent_at parents k.index)
 
 -- a parent, if there is one, is a node
 abbrev pub IsParent : {T : Type 0} → Nodes T → Option Key → Type 0

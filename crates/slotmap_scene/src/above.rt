@@ -5,7 +5,7 @@ ghost use Rattle.std.specs.Iterator.{YieldsFirstBy, item_count};
 ghost use Rattle.std.specs.FinMap as map;
 ghost use Rattle.slotmap_scene.specs.Climb.{parent_of};
 ghost use Rattle.slotmap_scene.specs.Above.{GoesUp, HasRoot, roots_in};
-ghost use Rattle.slotmap_scene.specs.Kept.{above};
+ghost use Rattle.slotmap_scene.specs.Kept.{parent_at};
 
 use crate::Scene;
 use crate::family::Nodes;
@@ -77,7 +77,7 @@ impl<'a, K, T> Model for Roots<'a, K, T> {
 
 // Whether a node has no parent.
 fn is_root(parents: &[u32], node: DefaultKey) -> bool
-    ensures { result ≡ nat_eq (above parents.now node.index) 0 }
+    ensures { result ≡ nat_eq (parent_at parents.now node.index) 0 }
 {
     match parents.get(index_of(node) as usize) {
         Some(parent) => *parent == NOBODY,

@@ -80,7 +80,7 @@ impl<'a, K: Key, T: Drop> Iterator for ChildKeys<'a, K, T> {
 
     fn next(&mut self) -> Option<K> {
         let index = self.members.next()?;
-        Some(outer(self.nodes.key_at(index)?))
+        Some(outer(self.nodes.live_key(index)))
     }
 
     fn size_hint(&self) -> (usize, Option<usize>)
@@ -98,7 +98,7 @@ impl<'a, K: Key, T: Drop> DoubleEndedIterator for ChildKeys<'a, K, T> {
 
     fn next_back(&mut self) -> Option<K> {
         let index = self.members.next_back()?;
-        Some(outer(self.nodes.key_at(index)?))
+        Some(outer(self.nodes.live_key(index)))
     }
 }
 

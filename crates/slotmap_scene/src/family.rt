@@ -5,8 +5,8 @@ ghost use Rattle.std.specs.FinMap as map;
 ghost use Rattle.std.specs.Borrow.{sem};
 ghost use Rattle.std.specs.Option.{option_copied_mut};
 ghost use Rattle.slotmap.specs.Words.{Key as KeyOf, IsContent, IsNew, IsSpent, KeepsSpent, Inserts, Keeps, Leaves, MakesRoom, RefusesCapacity, used};
-ghost use Rattle.slotmap_keylist.specs.KeyLists.{times};
-ghost use Rattle.slotmap_keylist.specs.Linked.{first_or, last_or};
+ghost use Rattle.slotmap_keylist.specs.KeyLists.{last_or, times};
+ghost use Rattle.slotmap_links.specs.Lists.{first_or};
 ghost use Rattle.slotmap_scene.specs.Above.{roots_in};
 ghost use Rattle.slotmap_scene.specs.Climb.{has_node, lacks_node, parent_of, with_parent};
 ghost use Rattle.slotmap_scene.specs.Family.{behind, child, children_of, in_front, value_of};
@@ -41,11 +41,11 @@ impl<T> Model for Nodes<T> {
 
     ghost coded = { content_code (node_code T.code) };
 
-    ghost use Rattle.slotmap_scene.specs.Kept.{IsKept, family};
+    ghost use Rattle.slotmap_scene.specs.Kept.{HoldsNodes, family};
 
     ghost view = { λ nodes. family nodes.values nodes.parents.items nodes.children };
 
-    ghost invariant = { λ nodes. IsKept nodes.values nodes.parents.items nodes.children };
+    ghost invariant = { λ nodes. HoldsNodes nodes.values nodes.parents.items nodes.children };
 }
 
 impl<T: Drop> Nodes<T> {
@@ -127,7 +127,20 @@ impl<T: Drop> Nodes<T> {
         if !self.values.contains_key(node) {
             return None;
         }
-        self.values.key_at(self.parents[index_of(node) as usize])
+        self.up(node)
+    }
+
+    // The same of a node that is there. Nothing is tested but whether it is a root.
+    #[inline(always)]
+    pub fn up(&self, node: DefaultKey) -> Option<DefaultKey>
+        requires { has_node self.now.live node }
+        ensures { result ≡ parent_of self.now.live node }
+    {
+        let parent = self.parents[index_of(node) as usize];
+        if parent == NOBODY {
+            return None;
+        }
+        Some(self.values.live_key(parent))
     }
 
     // The nodes, by ascending index of their keys.
@@ -176,14 +189,16 @@ impl<T: Drop> Nodes<T> {
     pub fn first(&self, node: DefaultKey) -> Option<DefaultKey>
         ensures { result ≡ first_or (children_of self.now.live node) None }
     {
-        self.values.key_at(self.children.first(self.owner(node))?)
+        let index = self.children.first(self.owner(node))?;
+        Some(self.values.live_key(index))
     }
 
     // The last child of a node.
     pub fn last(&self, node: DefaultKey) -> Option<DefaultKey>
         ensures { result ≡ last_or (children_of self.now.live node) None }
     {
-        self.values.key_at(self.children.last(self.owner(node))?)
+        let index = self.children.last(self.owner(node))?;
+        Some(self.values.live_key(index))
     }
 
     // The sibling behind a child.

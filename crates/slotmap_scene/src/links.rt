@@ -4,7 +4,7 @@
 ghost use Rattle.std.specs.Prelude.{◌≡◌, ◌<◌, ◌≤◌, ◌++◌, ◌∷◌, [], IsOk, OnOk, length};
 ghost use Rattle.slotmap.specs.Words.{most};
 ghost use Rattle.slotmap_links.specs.Lists.{AreDisjoint, IsFree, IsIn, list_of, with_list, without};
-ghost use Rattle.slotmap_scene.specs.Kept.{AreCovered, CoversMore, HoldsMore, beside, parent_index};
+ghost use Rattle.slotmap_scene.specs.Kept.{AreCovered, CoversMore, HoldsMore, put_on, parent_index};
 
 use crate::tree::Side;
 use slotmap::{DefaultKey, Key};
@@ -107,7 +107,7 @@ pub(crate) fn put_beside(
     requires parent { parent.index < length children.old.lists }
     requires sibling { IsIn children.old parent.index sibling.index }
     requires free { IsFree children.old node.index }
-    ensures list { children.new ≡ with_list children.old parent.index (beside side sibling.index node.index (list_of children.old parent.index)) }
+    ensures list { children.new ≡ with_list children.old parent.index (put_on side sibling.index node.index (list_of children.old parent.index)) }
     ensures disjoint { AreDisjoint children.new }
 {
     let owner = index_of(parent);

@@ -130,7 +130,7 @@ impl<K: Key, T: Drop> Scene<K, T> {
         let mut total = start;
         for _step in 0..self.nodes.len() {
             total = f(total, &self.nodes[at]);
-            match self.nodes.parent(at) {
+            match self.nodes.up(at) {
                 None => return Some(total),
                 Some(parent) => at = parent,
             }

@@ -15,3 +15,6 @@ pub loop-depth-preserved : goal.loop-depth-preserved
 loop-depth-preserved g c =
     let there = node_there _ _ (climbing_live _ _ _ _ c.loop-depth.invariant) in
     climbing_step _ _ _ _ c.loop-depth.invariant there.0 there.1 _ (there.2 ∙ sym (rw c.self.view_is at c.in-Some.ensures))
+
+pub up-requires : goal.up-requires
+up-requires g c = rw c.self.view_is (climbing_live _ _ _ _ c.loop-depth.invariant)

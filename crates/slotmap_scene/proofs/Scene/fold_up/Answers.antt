@@ -1,5 +1,5 @@
 use Rattle.std.proofs.Common.{refl, sym, ◌∙◌}
-use Rattle.slotmap_scene.proofs.Climbs.{climbing_start, climbing_step, node_is}
+use Rattle.slotmap_scene.proofs.Climbs.{climbing_live, climbing_start, climbing_step, node_is}
 use Rattle.slotmap_scene.proofs.Worlds.{folding_start, folding_takes, folding_step, folding_end}
 use Rattle.slotmap_scene.proofs.Scene.fold_up.Goals as goal
 
@@ -30,3 +30,6 @@ f-total-requires g c =
     let there = node_is _ _ _ (rw c.self.view_is at c.index.ensures) in
     let climbing = c.loop-step.invariant.climbing in
     folding_takes _ _ _ _ _ _ _ _ c.loop-step.invariant.folding _ there c.requires climbing.left climbing.up _ refl
+
+pub up-requires : goal.up-requires
+up-requires g c = rw c.self.view_is (climbing_live _ _ _ _ c.loop-step.invariant.climbing)

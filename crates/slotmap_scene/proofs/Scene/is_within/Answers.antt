@@ -38,3 +38,6 @@ loop-step-preserved g c =
     let up = there.2 ∙ sym (rw c.self.view_is at c.in-Some.ensures) in
     (climbing_step _ _ _ _ c.loop-step.invariant.0 there.0 there.1 _ up,
         within_step _ _ _ _ c.loop-step.invariant.0 there.0 there.1 _ _ other up c.loop-step.invariant.1)
+
+pub up-requires : goal.up-requires
+up-requires g c = rw c.self.view_is (climbing_live _ _ _ _ c.loop-step.invariant.0)

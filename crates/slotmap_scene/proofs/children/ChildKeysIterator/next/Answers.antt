@@ -1,26 +1,16 @@
-use Rattle.std.proofs.Common.{◌≡◌, ◌∷◌, Some, sym, ap, subst, ◌∙◌}
-use Rattle.std.proofs.lemmas.Option.{same_Some}
+use Rattle.std.proofs.Common.{◌∷◌, sym, ap, subst, ◌∙◌}
 use Rattle.slotmap_scene.specs.Kept.{AreIndices, key_at, keys_at}
-use Rattle.slotmap_scene.proofs.Indices.{first_index, found_is, found_key}
+use Rattle.slotmap_scene.proofs.Indices.{first_index, key_at_live}
 use Rattle.slotmap_scene.proofs.children.ChildKeysIterator.next.Goals as goal
 
-pub returns-in_err-key_at-clause-steps : goal.returns-in_err-key_at-clause-steps
-returns-in_err-key_at-clause-steps g c =
+pub live_key-requires : goal.live_key-requires
+live_key-requires g c =
     let nodes = c.self.inside.nodes.now in
-    let i = c.in_ok-index.index in
-    let has = first_index nodes c.self.invariant.0 i c.next.new.self (subst (AreIndices nodes) c.in_ok-index.ensures.steps c.self.invariant.1) in
-    let found : c.key_at.result ≡ Some
-        (key_at nodes.live i) = found_is nodes c.self.invariant.0 i c.key_at.result c.key_at.ensures.live c.key_at.ensures.index c.key_at.ensures.none
-        ∙ found_key nodes c.self.invariant.0 i has in
-    absurd (let none = c.in_err-key_at.was in cc)
+    first_index nodes c.self.invariant.0 c.in_ok-index.index c.next.new.self (subst (AreIndices nodes) c.in_ok-index.ensures.steps c.self.invariant.1)
 
 pub returns-clause-steps : goal.returns-clause-steps
 returns-clause-steps g c =
     let nodes = c.self.inside.nodes.now in
-    let i = c.in_ok-index.index in
-    let has = first_index nodes c.self.invariant.0 i c.next.new.self (subst (AreIndices nodes) c.in_ok-index.ensures.steps c.self.invariant.1) in
-    let found : c.key_at.result ≡ Some
-        (key_at nodes.live i) = found_is nodes c.self.invariant.0 i c.key_at.result c.key_at.ensures.live c.key_at.ensures.index c.key_at.ensures.none
-        ∙ found_key nodes c.self.invariant.0 i has in
     rw c.outer.ensures (sym c.self.view_is ∙ ap (keys_at nodes.live) c.in_ok-index.ensures.steps
-    ∙ ap (λ k. k ∷ keys_at nodes.live c.next.new.self) (same_Some (key_at nodes.live i) c.in_ok-key_at.field-0 (sym found ∙ c.in_ok-key_at.was)))
+    ∙ ap (λ k. k ∷ keys_at nodes.live c.next.new.self)
+    (ap (key_at nodes.live) (sym c.live_key.ensures.index) ∙ key_at_live nodes c.self.invariant.0 c.live_key.result c.live_key.ensures.live))
