@@ -4,10 +4,12 @@ use Rattle.slotmap_scene.proofs.Worlds.{folding_start, folding_takes, folding_st
 use Rattle.slotmap_scene.proofs.Scene.fold_up.Goals as goal
 
 pub loop-step-init : goal.loop-step-init
-loop-step-init g c = record {
-  climbing = rw (← c.self.view_is, ← c.inner-at.ensures) (climbing_start _ c.self.invariant.tree c.inner-at.result (sym c.contains_key.ensures.value ∙ c.if-not-contains_key.false));
-  folding = rw (← c.inner-at.ensures) (folding_start _ _ _ _ _);
-}
+loop-step-init g c =
+    let live = sym c.contains_key.ensures.value ∙ c.if-not-contains_key.false in
+    record {
+      climbing = rw (← c.self.view_is, ← c.inner-at.ensures) (climbing_start _ c.self.invariant.tree c.inner-at.result live);
+      folding = rw (← c.inner-at.ensures) (folding_start _ _ _ _ _);
+    }
 
 pub returns-in-None-clause-some : goal.returns-in-None-clause-some
 returns-in-None-clause-some g c =

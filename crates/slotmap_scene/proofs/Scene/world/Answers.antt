@@ -15,14 +15,17 @@ returns-in-None-clause-joined g c joins =
 pub returns-in-Some-clause-some : goal.returns-in-Some-clause-some
 returns-in-Some-clause-some g c =
     let there = rw (c.self.view_is, c.inner.ensures) at (sym c.in_ok-own.ensures.value) in
-    composed_of_folds _ _ (λ v. v) (λ f f' v p w k. search rules) _ (g.K.Key.data_of c.args.node) c.in-Some.parent _ there c.in-Some.is _ _ (rw c.outer.ensures at c.fold_up.ensures.some)
+    let folds = rw c.outer.ensures at c.fold_up.ensures.some in
+    composed_of_folds _ _ (λ v. v) (λ f f' v p w k. search rules) _ (g.K.Key.data_of c.args.node) c.in-Some.parent _ there c.in-Some.is _ _ folds
 
 pub returns-in-Some-clause-joined : goal.returns-in-Some-clause-joined
 returns-in-Some-clause-joined g c =
     let there = rw (c.self.view_is, c.inner.ensures) at (sym c.in_ok-own.ensures.value) in
-    joined_of_folds _ _ (λ f f' v p w k. search rules) _ (g.K.Key.data_of c.args.node) c.in-Some.parent _ there c.in-Some.is _ _ (rw c.outer.ensures at c.fold_up.ensures.some)
+    let folds = rw c.outer.ensures at c.fold_up.ensures.some in
+    joined_of_folds _ _ (λ f f' v p w k. search rules) _ (g.K.Key.data_of c.args.node) c.in-Some.parent _ there c.in-Some.is _ _ folds
 
 pub returns-in-Some-clause-none : goal.returns-in-Some-clause-none
 returns-in-Some-clause-none g c =
     let there = rw (c.self.view_is, c.inner.ensures) at (sym c.in_ok-own.ensures.value) in
-    parent_found _ (g.K.Key.data_of c.args.node) c.in-Some.parent _ there c.in-Some.is (rw c.self.view_is at c.self.invariant.tree) _ (rw c.outer.ensures at c.fold_up.ensures.none)
+    let tree = rw c.self.view_is at c.self.invariant.tree in
+    parent_found _ (g.K.Key.data_of c.args.node) c.in-Some.parent _ there c.in-Some.is tree _ (rw c.outer.ensures at c.fold_up.ensures.none)
