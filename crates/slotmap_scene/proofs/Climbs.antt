@@ -44,7 +44,8 @@ module _ {T : Type 0} where
   short nodes n k leads = let h = short_in nodes nodes n k leads (λ q i le up j steps sum. leads_live nodes i q up) in omega arith
 
   -- where a way goes on, and where it ends
-  next_up : (nodes : Nodes T) (n : ℕ) (k p : Key) → ClimbsTo nodes n k → parent_of nodes k ≡ Some p → (m : ℕ) × ((n ≡ suc m) × ClimbsTo nodes m p)
+  next_up : (nodes : Nodes T) (n : ℕ) (k p : Key) → ClimbsTo nodes n k → parent_of nodes k ≡ Some p
+      → (m : ℕ) × ((n ≡ suc m) × ClimbsTo nodes m p)
   next_up nodes zero k p leads is = absurd (let h = sym leads.1 ∙ is in cc)
   next_up nodes (suc n) k p leads is = let h = sym leads.1.1 ∙ is in let same : leads.0 ≡ p = cc in (n, (refl, subst (ClimbsTo nodes n) same leads.1.2))
 
@@ -116,23 +117,29 @@ module _ {T : Type 0} where
           subst (λ n. ClimbsTo nodes n from) sum climbing.all
 
       -- whether it is within another node, which isn't here, is up to the parent
-      pub within_step : (p other : Key) → at ≢ other → node.parent ≡ Some p → (IsWithin nodes from other ↔ IsWithin nodes at other) → IsWithin nodes from other ↔ IsWithin nodes p other
-      within_step p other apart is same = let up = within_up nodes at p other (ap parent_in there ∙ is) apart in (λ w. up.0 (same.0 w), λ w. same.1 (up.1 w))
+      pub within_step : (p other : Key) → at ≢ other → node.parent ≡ Some p → (IsWithin nodes from other ↔ IsWithin nodes at other)
+          → IsWithin nodes from other ↔ IsWithin nodes p other
+      within_step p other apart is same =
+          let up = within_up nodes at p other (ap parent_in there ∙ is) apart in (λ w. up.0 (same.0 w), λ w. same.1 (up.1 w))
 
-      pub within_none : (other : Key) → at ≢ other → node.parent ≡ None → (IsWithin nodes from other ↔ IsWithin nodes at other) → IsWithin nodes from other → ⊥
+      pub within_none : (other : Key) → at ≢ other → node.parent ≡ None → (IsWithin nodes from other ↔ IsWithin nodes at other)
+          → IsWithin nodes from other → ⊥
       within_none other apart is same w = root_within nodes at other (ap parent_in there ∙ is) apart (same.0 w)
 
   -- nodes that stay, with the same parents, lead up as before
-  leads_kept : (old new : Nodes T) → ((q : Key) → has_node old q → has_node new q × (parent_of new q ≡ parent_of old q)) → (n : ℕ) (k : Key) → ClimbsTo old n k → ClimbsTo new n k
+  leads_kept : (old new : Nodes T) → ((q : Key) → has_node old q → has_node new q × (parent_of new q ≡ parent_of old q))
+      → (n : ℕ) (k : Key) → ClimbsTo old n k → ClimbsTo new n k
   leads_kept old new kept zero k leads = let h = kept k leads.0 in (h.0, h.1 ∙ leads.1)
   leads_kept old new kept (suc n) k leads = let h = kept k leads.1.0 in (leads.0, (h.0, h.1 ∙ leads.1.1, leads_kept old new kept n leads.0 leads.1.2))
 
-  pub tree_same : (old new : Nodes T) → ((q : Key) → map.contains_key new q ≡ map.contains_key old q) → ((q : Key) → parent_of new q ≡ parent_of old q) → IsTree old → IsTree new
+  pub tree_same : (old new : Nodes T) → ((q : Key) → map.contains_key new q ≡ map.contains_key old q)
+      → ((q : Key) → parent_of new q ≡ parent_of old q) → IsTree old → IsTree new
   tree_same old new keys parents tree q there =
       let up = tree q (sym (keys q) ∙ there) in (up.0, leads_kept old new (λ k live. (keys k ∙ live, parents k)) up.0 q up.1)
 
   -- a node was moved, or came: all others are there as before, and have the same parents
-  module _ (old new : Nodes T) (k : Key) (keys : (q : Key) → q ≢ k → map.contains_key new q ≡ map.contains_key old q) (parents : (q : Key) → q ≢ k → parent_of new q ≡ parent_of old q) where
+  module _ (old new : Nodes T) (k : Key) (keys : (q : Key) → q ≢ k → map.contains_key new q ≡ map.contains_key old q)
+      (parents : (q : Key) → q ≢ k → parent_of new q ≡ parent_of old q) where
     -- outside of what is below k the way up is the same
     outside : (n : ℕ) (q : Key) → (IsWithin old q k → ⊥) → ClimbsTo old n q → ClimbsTo new n q
     outside zero q out leads = let apart : q ≢ k = λ same. out (zero, same) in (keys q apart ∙ leads.0, parents q apart ∙ leads.1)
@@ -141,7 +148,8 @@ module _ {T : Type 0} where
         (leads.0, (keys q apart ∙ leads.1.0, parents q apart ∙ leads.1.1, outside n leads.0 (λ w. out (suc w.0, (leads.0, (leads.1.1, w.1)))) leads.1.2))
 
     -- k is a root, or its parent isn't below it
-    leads_k : (parent : Option Key) → has_node new k → parent_of new k ≡ parent → ((p : Key) → parent ≡ Some p → has_node old p × (IsWithin old p k → ⊥)) → IsTree old → (n : ℕ) × ClimbsTo new n k
+    leads_k : (parent : Option Key) → has_node new k → parent_of new k ≡ parent
+        → ((p : Key) → parent ≡ Some p → has_node old p × (IsWithin old p k → ⊥)) → IsTree old → (n : ℕ) × ClimbsTo new n k
     leads_k None live is above tree = (zero, (live, is))
     leads_k (Some p) live is above tree = let own = above p refl in let up = tree p own.0 in (suc up.0, (p, (live, is, outside up.0 p own.1 up.1)))
 
@@ -153,10 +161,13 @@ module _ {T : Type 0} where
       ]
       still (suc i) q leads = elim (same_or_other q k) [
         | inl same ↦ (n, subst (ClimbsTo new n) (sym same) up)
-        | inr other ↦ (let above = still i leads.0 leads.1.2 in (suc above.0, (leads.0, (keys q other ∙ leads.1.0, parents q other ∙ leads.1.1, above.1))))
+        | inr other ↦ (
+            let above = still i leads.0 leads.1.2 in
+            (suc above.0, (leads.0, (keys q other ∙ leads.1.0, parents q other ∙ leads.1.1, above.1))))
       ]
 
-    pub tree_moved : (parent : Option Key) → has_node new k → parent_of new k ≡ parent → ((p : Key) → parent ≡ Some p → has_node old p × (IsWithin old p k → ⊥)) → IsTree old → IsTree new
+    pub tree_moved : (parent : Option Key) → has_node new k → parent_of new k ≡ parent
+        → ((p : Key) → parent ≡ Some p → has_node old p × (IsWithin old p k → ⊥)) → IsTree old → IsTree new
     tree_moved parent live is above tree q there =
         let up = leads_k parent live is above tree in
         elim (same_or_other q k) [
@@ -197,7 +208,8 @@ module _ {T : Type 0} where
   no_cycle nodes tree k p is = none_above nodes k p is (tree p (parent_there nodes tree k p is))
 
   -- of two nodes with the same parent, none is below the other
-  pub apart_beside : (nodes : Nodes T) (k s p : Key) → parent_of nodes k ≡ Some p → parent_of nodes s ≡ Some p → HasRoot nodes (Some p) → s ≢ k → IsWithin nodes s k → ⊥
+  pub apart_beside : (nodes : Nodes T) (k s p : Key) → parent_of nodes k ≡ Some p → parent_of nodes s ≡ Some p → HasRoot nodes (Some p)
+      → s ≢ k → IsWithin nodes s k → ⊥
   apart_beside nodes k s p own beside up apart within = none_above nodes k p own up ((within_up nodes s p k beside apart).0 within)
 
 module _ {T : Type 0} (nodes : Nodes T) where
@@ -206,12 +218,16 @@ module _ {T : Type 0} (nodes : Nodes T) where
   none_up (suc n) = refl
 
   -- enough is enough
-  same_up : (n m : ℕ) (o : Option Key) → ((k : Key) → o ≡ Some k → (steps : ℕ) × ClimbsTo nodes steps k × (steps < n) × (steps < m)) → keys_up nodes n o ≡ keys_up nodes m o
+  same_up : (n m : ℕ) (o : Option Key) → ((k : Key) → o ≡ Some k → (steps : ℕ) × ClimbsTo nodes steps k × (steps < n) × (steps < m))
+      → keys_up nodes n o ≡ keys_up nodes m o
   same_up n m None up = none_up n ∙ sym (none_up m)
   same_up zero m (Some k) up = absurd (let short = (up k refl).2 in omega arith)
   same_up (suc n) zero (Some k) up = absurd (let short = (up k refl).3 in omega arith)
   same_up (suc n) (suc m) (Some k) up = ap (λ l. k ∷ l) (same_up n m (parent_of nodes k) (λ p is.
-      let own = up k refl in let next = next_up nodes own.0 k p own.1 is in let one = next.1.0 in (next.0, next.1.1, (let a = own.2 in omega arith), (let b = own.3 in omega arith))))
+      let own = up k refl in
+      let next = next_up nodes own.0 k p own.1 is in
+      let one = next.1.0 in
+      (next.0, next.1.1, (let a = own.2 in omega arith), (let b = own.3 in omega arith))))
 
   -- the parent of a key with a root above it has one too
   pub root_above : (k : Key) → HasRoot nodes (Some k) → HasRoot nodes (parent_of nodes k)
@@ -239,7 +255,8 @@ module _ {T : Type 0} (nodes : Nodes T) where
   goes_up None has = subst (GoesUp nodes None) (sym (none_up (map.len nodes))) tt
   goes_up (Some k) has =
       let below = short nodes has.0 k has.1 in
-      subst (GoesUp nodes (Some k)) (same_up (suc has.0) (map.len nodes) (Some k) (λ q is. (has.0, subst (ClimbsTo nodes has.0) (cc) has.1, omega arith, below))) (goes_up_from has.0 k has.1)
+      let all = same_up (suc has.0) (map.len nodes) (Some k) (λ q is. (has.0, subst (ClimbsTo nodes has.0) (cc) has.1, omega arith, below)) in
+      subst (GoesUp nodes (Some k)) all (goes_up_from has.0 k has.1)
 
   -- a node's parent has a root above it
   pub parent_rooted : IsTree nodes → (k : Key) → HasRoot nodes (parent_of nodes k)

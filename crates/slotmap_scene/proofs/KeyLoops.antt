@@ -1,10 +1,14 @@
--- Loops along a list of keys: what holds of the keys that are ahead, and of those that were passed.
-use Rattle.std.proofs.Common.{◌≡◌, ◌≢◌, ◌<◌, List, [], ◌∷◌, ◌++◌, sym, ap, ◌∙◌, arith, append_assoc}
+-- Loops along keys: what holds of the keys that are ahead, and of those that were passed.
+use Rattle.std.proofs.Common.{◌≡◌, ◌≢◌, false, ◌<◌, List, [], ◌∷◌, ◌++◌, sym, ap, ◌∙◌, arith, append_assoc}
 use Rattle.std.specs.Prelude.{map as list_map}
 use Rattle.std.proofs.lemmas.List.{map_push}
-use Rattle.slotmap.specs.Words.{Key}
-use Rattle.slotmap_keylist.specs.KeyLists.{times}
+use Rattle.slotmap.specs.Words.{Key, same_keys}
+use Rattle.slotmap_keylist.specs.KeyLists.{is_key, times}
 use Rattle.slotmap_keylist.proofs.Counts.{one_itself, one_other, times_first}
+
+-- keys that a test tells apart
+pub unlike : (a b : Key) {x y : Key} → a ≡ x → b ≡ y → false ≡ is_key a b → x ≢ y
+unlike a b at_x at_y test same = let is = (same_keys a b).1 (at_x ∙ same ∙ sym at_y) in cc
 
 module _ (it rest : List Key) (k : Key) (is : it ≡ k ∷ rest) where
   -- what holds of each key that is ahead holds of the first one, and of those behind it

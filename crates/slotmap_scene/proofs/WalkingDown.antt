@@ -1,9 +1,9 @@
 -- A walk through all that is below a node, from sibling to sibling and from the last one up.
-use Rattle.std.proofs.Common.{◌≡◌, ◌≢◌, false, ℕ, zero, suc, ◌+◌, ◌<◌, ◌≤◌, cond, Option, Some, None, List, [], ◌∷◌}
+use Rattle.std.proofs.Common.{◌≡◌, ◌≢◌, ℕ, zero, suc, ◌+◌, ◌<◌, ◌≤◌, cond, Option, Some, None, List, [], ◌∷◌}
 use Rattle.std.proofs.Common.{◌++◌, length, length-append, refl, sym, ap, subst, ◌∙◌, arith, append_assoc, append-nil}
 use Rattle.std.specs.FinMap as map
-use Rattle.slotmap.specs.Words.{Key, same_keys}
-use Rattle.slotmap_keylist.specs.KeyLists.{is_key, same, times}
+use Rattle.slotmap.specs.Words.{Key}
+use Rattle.slotmap_keylist.specs.KeyLists.{same, times}
 use Rattle.slotmap_links.specs.Lists.{first_or}
 use Rattle.slotmap_keylist.proofs.Counts.{is_itself, is_other, one_itself, times_first, times_joined}
 use Rattle.slotmap_scene.specs.Node.{Node, Nodes}
@@ -29,10 +29,6 @@ from_split k (q ∷ done) rest none =
     let other : q ≢ k = λ is. (let one = ap (λ x. same x k) is ∙ one_itself k in omega arith) in
     ap (λ b. cond b (q ∷ (done ++ k ∷ rest)) (keys_from (Some k) (done ++ k ∷ rest))) (is_other q k other)
     ∙ from_split k done rest (omega arith)
-
--- keys that a test tells apart
-pub unlike : (a b : Key) {x y : Key} → a ≡ x → b ≡ y → false ≡ is_key a b → x ≢ y
-unlike a b at_x at_y test same = let is = (same_keys a b).1 (at_x ∙ same ∙ sym at_y) in cc
 
 pub none_first : (xs : List Key) → first_or xs None ≡ None → xs ≡ []
 none_first [] none = refl

@@ -1,5 +1,6 @@
 use Rattle.std.proofs.Common.{◌≡◌, Some, sym, arith}
-use Rattle.slotmap_scene.proofs.WalkingDown.{GoesOn, rise_start, rise_end, rise_beside, rise_below, rise_up, unlike}
+use Rattle.slotmap_scene.proofs.WalkingDown.{GoesOn, rise_start, rise_end, rise_beside, rise_below, rise_up}
+use Rattle.slotmap_scene.proofs.KeyLoops.{unlike}
 use Rattle.slotmap_scene.proofs.Scene.next_above.Given as given
 use Rattle.slotmap_scene.proofs.Scene.next_above.Goals as goal
 use Rattle.slotmap_scene.proofs.Scene.next_above.Goals.{In-Some}
