@@ -61,9 +61,9 @@ module _ {V W : Type 0} (f : Key → V → W) where
   find-made k (e ∷ es) = elim (eq_by_cmp key_cmp k e.0) as
       (λ b. eq_by_cmp key_cmp k e.0 ≡ b → cond b (Some (f e.0 e.1)) (find key_cmp k (list_map made es)) ≡ option_map (f k)
       (cond b (Some e.1) (find key_cmp k es))) [
-    | true ↦ λ tie. ap (λ q. Some (f q e.1)) (sym (tied keys_total exact_keys k e.0 tie))
-    | false ↦ λ _. find-made k es
-  ] refl
+        | true ↦ λ tie. ap (λ q. Some (f q e.1)) (sym (tied keys_total exact_keys k e.0 tie))
+        | false ↦ λ _. find-made k es
+      ] refl
 
   keys-made : (es : List (Key × V)) → list_map (λ (e : Key × W). e.0) (list_map made es) ≡ list_map (λ (e : Key × V). e.0) es
   keys-made [] = refl
@@ -195,19 +195,23 @@ module _ {V : Type 0} {c : Content V} {parents : List ℕ} {children : Lists} (k
   pub children_owned : (k : Key) → children_of nodes k ≡ keys_at c.live (list_of children (owner_of nodes k))
   children_owned k = by_live c.live k _
       (λ live. children_live c.live parents children k live
-          ∙ sym (ap (λ b. keys_at c.live (list_of children (cond b k.index 0))) (seen_has c.live parents children k ∙ live)))
+      ∙ sym (ap (λ b. keys_at c.live (list_of children (cond b k.index 0))) (seen_has c.live parents children k ∙ live)))
       (λ gone. children_gone c.live parents children k gone
       ∙ sym (ap (λ b. keys_at c.live (list_of children (cond b k.index 0))) (seen_has c.live parents children k ∙ gone)
-          ∙ ap (keys_at c.live) list_zero))
+      ∙ ap (keys_at c.live) list_zero))
 
   -- a child is a node, and is in the list of its parent
   pub child_in : (p k : Key) → 0 < times k (children_of nodes p) → IsLive c p × IsLive c k × IsIn children p.index k.index
   child_in p k more = by_live c.live p _
       (λ there. by_live c.live k _
-      (λ live. (there, live, let count = ap (times k) (children_live c.live parents children p there)
-          ∙ times_key c kept.indices (list_of children p.index) (indices_at p.index) k live in omega arith))
+      (λ live. (
+        there,
+        live,
+        let count = ap (times k) (children_live c.live parents children p there)
+            ∙ times_key c kept.indices (list_of children p.index) (indices_at p.index) k live in omega arith,
+      ))
       (λ gone. absurd (let count = ap (times k) (children_live c.live parents children p there)
-          ∙ no_key c kept.indices (list_of children p.index) (indices_at p.index) k gone in omega arith)))
+      ∙ no_key c kept.indices (list_of children p.index) (indices_at p.index) k gone in omega arith)))
       (λ gone. absurd (let none = ap (times k) (children_gone c.live parents children p gone) in omega arith))
 
   in_child : (p k : Key) → IsLive c p → IsLive c k → IsIn children p.index k.index → 0 < times k (children_of nodes p)
@@ -243,12 +247,12 @@ module _ {V : Type 0} {c : Content V} {parents : List ℕ} {children : Lists} (k
   found_above : (k : Key) → IsLive c k → is_some (found_at c.live (parent_at parents k.index)) ≡ not (nat_eq (parent_at parents k.index) 0)
   found_above k live = elim (nat_eq (parent_at parents k.index) 0) as
       (λ b. nat_eq (parent_at parents k.index) 0 ≡ b → is_some (found_at c.live (parent_at parents k.index)) ≡ not b) [
-    | true ↦ λ none. ap is_some (ap (found_at c.live) (eqb-true (parent_at parents k.index) 0 none) ∙ found_zero c kept.indices)
-    | false ↦ λ some. (elim (kept.has_parent k live) [
-      | inl none ↦ absurd (let h = ap (λ n. nat_eq n 0) none in cc)
-      | inr has ↦ ap is_some (found_has c kept.indices (parent_at parents k.index) has)
-    ])
-  ] refl
+        | true ↦ λ none. ap is_some (ap (found_at c.live) (eqb-true (parent_at parents k.index) 0 none) ∙ found_zero c kept.indices)
+        | false ↦ λ some. (elim (kept.has_parent k live) [
+          | inl none ↦ absurd (let h = ap (λ n. nat_eq n 0) none in cc)
+          | inr has ↦ ap is_some (found_has c kept.indices (parent_at parents k.index) has)
+        ])
+      ] refl
 
   pub roots_seen : roots_of parents (map.keys nodes) ≡ roots_in (map.entries nodes)
   roots_seen = ap (roots_of parents) (seen_keys c.live parents children) ∙ by (map.entries c.live) (key_live c.live)
@@ -324,16 +328,16 @@ module _ {V : Type 0} {c : Content V} {parents : List ℕ} {children : Lists} (k
     pub relisted_seen : nodes_by c.live parents new ≡ with_children_in nodes p (map.get nodes p) f
     relisted_seen = same_nodes (nodes_by c.live parents new) (with_children_in nodes p (map.get nodes p) f)
         (λ q. seen_value c.live parents new q
-            ∙ sym (changed_keeps nodes p fill (option_map (λ n. n.value)) (λ n. refl) q ∙ seen_value c.live parents children q))
+        ∙ sym (changed_keeps nodes p fill (option_map (λ n. n.value)) (λ n. refl) q ∙ seen_value c.live parents children q))
         (λ q. seen_parent c.live parents new q ∙ sym (changed_keeps nodes p fill parent_in (λ n. refl) q ∙ seen_parent c.live parents children q))
         (λ q. elim (same_or_other q p) [
           | inl at ↦ rw at (children_live c.live parents new p there ∙ ap (keys_at c.live) list_here ∙ made
               ∙ sym (changed_gives nodes p fill children_in f (λ n. refl) (seen_has c.live parents children p ∙ there)
-                  ∙ ap f (children_live c.live parents children p there)))
+              ∙ ap f (children_live c.live parents children p there)))
           | inr other ↦ by_live c.live q _
               (λ live. children_live c.live parents new q live
-                  ∙ ap (keys_at c.live) (list_there q.index (λ at. other (kept.indices.apart q p live there at)))
-                  ∙ sym (children_live c.live parents children q live))
+              ∙ ap (keys_at c.live) (list_there q.index (λ at. other (kept.indices.apart q p live there at)))
+              ∙ sym (children_live c.live parents children q live))
               (λ gone. children_gone c.live parents new q gone ∙ sym (children_gone c.live parents children q gone))
               ∙ sym (ap children_in (changed_other nodes p fill q other))
         ])
@@ -351,8 +355,12 @@ module _ {V : Type 0} {c : Content V} {parents : List ℕ} {children : Lists} (k
       pub hung : HoldsNodes c new children
       hung = record {
         indices = kept.indices;
-        covered = record { parents = (let n = ap length new_is ∙ length-set parents k.index (parent_index o) in let covered = kept.covered.parents in
-            omega arith); owners = kept.covered.owners; members = kept.covered.members };
+        covered = record {
+          parents = (let n = ap length new_is ∙ length-set parents k.index (parent_index o) in let covered = kept.covered.parents in
+              omega arith);
+          owners = kept.covered.owners;
+          members = kept.covered.members;
+        };
         disjoint = kept.disjoint;
         listed = kept.listed;
         has_parent = λ q of_c. elim (same_or_other q k) [
@@ -367,29 +375,29 @@ module _ {V : Type 0} {c : Content V} {parents : List ℕ} {children : Lists} (k
       pub hung_seen : nodes_by c.live new children ≡ with_parent nodes k o
       hung_seen = same_nodes (nodes_by c.live new children) (with_parent nodes k o)
           (λ q. seen_value c.live new children q
-              ∙ sym (changed_keeps nodes k hang (option_map (λ n. n.value)) (λ n. refl) q ∙ seen_value c.live parents children q))
+          ∙ sym (changed_keeps nodes k hang (option_map (λ n. n.value)) (λ n. refl) q ∙ seen_value c.live parents children q))
           (λ q. elim (same_or_other q k) [
             | inl at ↦ rw at (parent_live c.live new children k live ∙ ap (found_at c.live) above_here ∙ written_found c kept.indices o is_parent
                 ∙ sym (changed_gives nodes k hang parent_in (λ _. o) (λ n. refl) (seen_has c.live parents children k ∙ live)))
             | inr other ↦ by_live c.live q _
                 (λ of_c. parent_live c.live new children q of_c ∙ ap (found_at c.live) (above_there q of_c other)
-                    ∙ sym (parent_live c.live parents children q of_c))
+                ∙ sym (parent_live c.live parents children q of_c))
                 (λ gone. parent_gone c.live new children q gone ∙ sym (parent_gone c.live parents children q gone))
                 ∙ sym (ap parent_in (changed_other nodes k hang q other))
           ])
           (λ q. seen_children c.live new children q
-              ∙ sym (changed_keeps nodes k hang children_in (λ n. refl) q ∙ seen_children c.live parents children q))
+          ∙ sym (changed_keeps nodes k hang children_in (λ n. refl) q ∙ seen_children c.live parents children q))
 
   -- another content
   module _ (d : Content V) (also : HaveIndices d) (parents' : List ℕ) (children' : Lists) where
     -- a node has the same parent and the same children there, if they are there
     pub node_still : (q : Key) → IsLive c q → parent_at parents' q.index ≡ parent_at parents q.index → list_of children' q.index ≡ list_of children q.index
         → ((p : Key) → IsLive c p → p.index ≡ parent_at parents q.index → IsLive d p)
-            → ((x : Key) → IsLive c x → IsIn children q.index x.index → IsLive d x)
+        → ((x : Key) → IsLive c x → IsIn children q.index x.index → IsLive d x)
         → (v : V) → node_at d.live parents' children' q v ≡ node_at c.live parents children q v
     node_still q live same_parent same_list parent_still children_still v =
         let parent : found_at d.live (parent_at parents' q.index) ≡ found_at c.live (parent_at parents q.index) = ap (found_at d.live) same_parent
-            ∙ elim (kept.has_parent q live) [
+        ∙ elim (kept.has_parent q live) [
           | inl none ↦ ap (found_at d.live) none ∙ found_zero d also ∙ sym (ap (found_at c.live) none ∙ found_zero c kept.indices)
           | inr has ↦ found_same c kept.indices d also (parent_at parents q.index) has (parent_still has.0 has.1 has.2)
         ] in

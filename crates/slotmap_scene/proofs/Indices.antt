@@ -135,7 +135,7 @@ module _ {T : Type 0} (c : Content T) (indices : HaveIndices c) where
       let has = first_index i is all in
       let first = times_first k (key_at c.live i) (keys_at c.live is) in
       let none = ap (λ q. same q k) (key_has c indices i has)
-          ∙ one_other has.0 k (λ e. (let live = ap (map.contains_key c.live) (sym e) ∙ has.1 in absurd (let f = gone in cc))) in
+      ∙ one_other has.0 k (λ e. (let live = ap (map.contains_key c.live) (sym e) ∙ has.1 in absurd (let f = gone in cc))) in
       let rest = no_key is (later_indices i is all) k gone in
       omega arith
 
@@ -147,8 +147,8 @@ module _ {T : Type 0} (c : Content T) (indices : HaveIndices c) where
       let rest = without_key k live is (later_indices i is all) in
       let goes = λ (b : Bool). cond (not b) (key_at c.live i ∷ without k (keys_at c.live is)) (without k (keys_at c.live is)) in
       elim (nat_eq i k.index) as
-          (λ b. is_key (key_at c.live i) k ≡ b
-          → keys_at c.live (cond (not b) (i ∷ without_number k.index is) (without_number k.index is)) ≡ without k (keys_at c.live (i ∷ is))) [
+      (λ b. is_key (key_at c.live i) k ≡ b
+      → keys_at c.live (cond (not b) (i ∷ without_number k.index is) (without_number k.index is)) ≡ without k (keys_at c.live (i ∷ is))) [
         | true ↦ λ at. rest ∙ sym (ap goes at)
         | false ↦ λ at. ap (λ l. key_at c.live i ∷ l) rest ∙ sym (ap goes at)
       ] (same_at i (first_index i is all) k live)
@@ -164,8 +164,8 @@ module _ {T : Type 0} (c : Content T) (indices : HaveIndices c) where
     key_before (i ∷ is) all there =
         let now = λ (b : Bool). cond b (k ∷ key_at c.live i ∷ keys_at c.live is) (key_at c.live i ∷ placed Before s k (keys_at c.live is)) in
         elim (nat_eq i s.index) as
-            (λ b. nat_eq i s.index ≡ b → is_key (key_at c.live i) s ≡ b
-            → keys_at c.live (cond b (k.index ∷ i ∷ is) (i ∷ put_before s.index k.index is)) ≡ placed Before s k (keys_at c.live (i ∷ is))) [
+        (λ b. nat_eq i s.index ≡ b → is_key (key_at c.live i) s ≡ b
+        → keys_at c.live (cond b (k.index ∷ i ∷ is) (i ∷ put_before s.index k.index is)) ≡ placed Before s k (keys_at c.live (i ∷ is))) [
           | true ↦ λ _ at. (λ n. key_at_live c indices k live n ∷ key_at c.live i ∷ keys_at c.live is) ∙ sym (ap now at)
           | false ↦ λ apart at. ap (λ l. key_at c.live i ∷ l) (key_before is (later_indices i is all) (later_there i is apart there))
               ∙ sym (ap now at)
@@ -177,8 +177,8 @@ module _ {T : Type 0} (c : Content T) (indices : HaveIndices c) where
     key_behind (i ∷ is) all there =
         let now = λ (b : Bool). cond b (key_at c.live i ∷ k ∷ keys_at c.live is) (key_at c.live i ∷ placed After s k (keys_at c.live is)) in
         elim (nat_eq i s.index) as
-            (λ b. nat_eq i s.index ≡ b → is_key (key_at c.live i) s ≡ b
-            → keys_at c.live (cond b (i ∷ k.index ∷ is) (i ∷ put_behind s.index k.index is)) ≡ placed After s k (keys_at c.live (i ∷ is))) [
+        (λ b. nat_eq i s.index ≡ b → is_key (key_at c.live i) s ≡ b
+        → keys_at c.live (cond b (i ∷ k.index ∷ is) (i ∷ put_behind s.index k.index is)) ≡ placed After s k (keys_at c.live (i ∷ is))) [
           | true ↦ λ _ at. (λ n. key_at c.live i ∷ key_at_live c indices k live n ∷ keys_at c.live is) ∙ sym (ap now at)
           | false ↦ λ apart at. ap (λ l. key_at c.live i ∷ l) (key_behind is (later_indices i is all) (later_there i is apart there))
               ∙ sym (ap now at)
@@ -205,8 +205,8 @@ module _ {T : Type 0} (c : Content T) (indices : HaveIndices c) where
   key_after k live (i ∷ is) all =
       ap (λ b. cond b (first_or (keys_at c.live is) None) (behind k (keys_at c.live is))) (same_at i (first_index i is all) k live)
       ∙ elim (nat_eq i k.index) as
-          (λ b. cond b (first_or (keys_at c.live is) None) (behind k (keys_at c.live is)) ≡ option_map (key_at c.live)
-          (cond b (first_or is None) (number_after k.index is))) [
+      (λ b. cond b (first_or (keys_at c.live is) None) (behind k (keys_at c.live is)) ≡ option_map (key_at c.live)
+      (cond b (first_or is None) (number_after k.index is))) [
         | true ↦ first_key is
         | false ↦ key_after k live is (later_indices i is all)
       ]
@@ -217,8 +217,8 @@ module _ {T : Type 0} (c : Content T) (indices : HaveIndices c) where
   key_ahead k live (i ∷ is) all o =
       ap (λ b. cond b (option_map (key_at c.live) o) (in_front (Some (key_at c.live i)) k (keys_at c.live is))) (same_at i (first_index i is all) k live)
       ∙ elim (nat_eq i k.index) as
-          (λ b. cond b (option_map (key_at c.live) o) (in_front (Some (key_at c.live i)) k (keys_at c.live is)) ≡ option_map (key_at c.live)
-          (cond b o (number_before (Some i) k.index is))) [
+      (λ b. cond b (option_map (key_at c.live) o) (in_front (Some (key_at c.live i)) k (keys_at c.live is)) ≡ option_map (key_at c.live)
+      (cond b o (number_before (Some i) k.index is))) [
         | true ↦ refl
         | false ↦ key_ahead k live is (later_indices i is all) (Some i)
       ]
@@ -234,7 +234,7 @@ module _ {T : Type 0} (c : Content T) (indices : HaveIndices c) where
     keys_same (i ∷ is) all still =
         let has = first_index i is all in
         let live = still has.0 has.1 (let first = often_first has.0.index i is in let one = ap (λ n. same_number i n) has.2 ∙ number_itself i in
-            omega arith) in
+        omega arith) in
         let one = ap (λ o. unwrap_or o null_key) (found_same i has live) in
         let rest = keys_same is (later_indices i is all) (λ k of_c more. still k of_c (let first = often_first k.index i is in omega arith)) in
         λ n. one n ∷ rest n

@@ -116,9 +116,9 @@ module _ {V : Type 0} (c : Content V) (valid : IsContent true c) (n : ℕ) where
   pub fits_most : (capacity : ℕ) → capacity ≡ capacity_with c n → capacity ≤ most → used c + n ≤ most
   fits_most capacity is few = elim (nat_lt c.room n) as
       (λ b. nat_lt c.room n ≡ b → capacity ≡ cond b (used c + grown (used c) n) c.capacity → used c + n ≤ most) [
-    | true ↦ λ _ is. (omega arith)
-    | false ↦ λ more is. (let fits = valid.room_fits in grind (arith, nat_tests))
-  ] refl is
+        | true ↦ λ _ is. (omega arith)
+        | false ↦ λ more is. (let fits = valid.room_fits in grind (arith, nat_tests))
+      ] refl is
 
 -- no node at all
 module _ {V : Type 0} (c : Content V) (none : c.live ≡ map.empty) (parents : List ℕ) (children : Lists) where
@@ -127,8 +127,11 @@ module _ {V : Type 0} (c : Content V) (none : c.live ≡ map.empty) (parents : L
 
   pub bare_kept : ((p : ℕ) → list_of children p ≡ []) → AreCovered c.capacity parents children → HoldsNodes c parents children
   bare_kept empty covered = record {
-    indices = record { within = λ k live. absurd (let gone = ap is_some (no_live k) in cc); apart = λ a b live. absurd
-        (let gone = ap is_some (no_live a) in cc) };
+    indices = record {
+      within = λ k live. absurd (let gone = ap is_some (no_live k) in cc);
+      apart = λ a b live. absurd
+          (let gone = ap is_some (no_live a) in cc);
+    };
     covered = covered;
     disjoint = record {
       once = λ p k. (let e = ap (often k) (empty p) in omega arith);
@@ -164,7 +167,7 @@ module _ {V : Type 0} {c : Content V} {parents : List ℕ} {children : Lists} (k
     pub grown_seen : nodes_by d.live parents' children' ≡ nodes
     grown_seen = map.same_map keys_total exact_keys _ _ (λ q. get_alike kept d grown_indices parents' children' q (ap (λ m. map.get m q) same)
         (λ live. node_along kept d grown_indices parents' children' (λ q live. same_live q ∙ live) grows.lists
-            (λ q live. sym (same_live q) ∙ live) holds.same q live))
+        (λ q live. sym (same_live q) ∙ live) holds.same q live))
 
   -- places are made, and no room
   module _ (parents' : List ℕ) (children' : Lists) (holds : HoldsMore parents parents') (covers : CoversMore children children') where
@@ -236,7 +239,7 @@ module _ {V : Type 0} {c : Content V} {parents : List ℕ} {children : Lists} (k
               (written_has d o (parent_stays o is_parent))
           | inr other ↦ (let was = sym (ap is_some (came_other q other)) ∙ live in
               above_still kept d came_indices new children stays (λ p. refl) (parent_at parents q.index) (parent_at new q.index) (above_other q was)
-                  (kept.has_parent q was))
+              (kept.has_parent q was))
         ])
 
     came_seen : nodes_by d.live new children ≡ map.insert nodes k (child o v)
@@ -348,8 +351,8 @@ module _ {V : Type 0} {c : Content V} {parents : List ℕ} {children : Lists} (k
       | inl at ↦ rw at (seen_get written.live parents children k
           ∙ ap (option_map (node_at written.live parents children k)) (get-insert_here c.live k v) ∙ ap Some (along k (ap is_some there) v)
           ∙ sym (changed_here nodes k (λ n. record n { value = v })
-              ∙ ap (option_map (λ (n : Node V). record n { value = v }))
-              (seen_get c.live parents children k ∙ ap (option_map (node_at c.live parents children k)) there)))
+          ∙ ap (option_map (λ (n : Node V). record n { value = v }))
+          (seen_get c.live parents children k ∙ ap (option_map (node_at c.live parents children k)) there)))
       | inr other ↦ get_alike kept written written_indices parents children q (get-insert_other c.live k v q other) (along q)
           ∙ sym (changed_other nodes k (λ n. record n { value = v }) q other)
     ])
@@ -392,5 +395,5 @@ module _ {V : Type 0} {c : Content V} {parents : List ℕ} {children : Lists} (k
         by q None there is = seen_get copy.live parents children q ∙ ap (option_map (node_at copy.live parents children q)) is
         by q (Some v) there is = subst (IsCloneOf (IsNodeClone is_clone) (Some (node_at c.live parents children q v)))
             (sym (get_along kept copy copied_indices parents children (λ q live. copied_keys q ∙ live) (λ p. refl)
-                (λ q live. sym (copied_keys q) ∙ live) (λ i. refl) q (ap is_some there)))
+            (λ q live. sym (copied_keys q) ∙ live) (λ i. refl) q (ap is_some there)))
             (at q v (map.get copy.live q) is)

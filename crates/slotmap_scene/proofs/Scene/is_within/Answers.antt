@@ -7,7 +7,7 @@ use Rattle.slotmap_scene.proofs.Scene.is_within.Goals as goal
 pub returns-then-not-contains_key : goal.returns-then-not-contains_key
 returns-then-not-contains_key g c =
     let dead : lacks_node c.args.self.now.live (g.K.Key.data_of c.args.node) = rw (← c.self.view_is, ← c.inner-at.ensures)
-        (sym c.contains_key.ensures.value ∙ c.if-not-contains_key.true) in
+    (sym c.contains_key.ensures.value ∙ c.if-not-contains_key.true) in
     (λ t. absurd (cc), λ w. absurd (let live = w.0 in cc))
 
 pub loop-step-init : goal.loop-step-init
@@ -17,27 +17,35 @@ loop-step-init g c = rw (← c.self.view_is, ← c.inner-at.ensures)
 pub returns-then-eq : goal.returns-then-eq
 returns-then-eq g c =
     let live : has_node c.args.self.now.live (g.K.Key.data_of c.args.node) = rw (← c.self.view_is, ← c.inner-at.ensures)
-        (sym c.contains_key.ensures.value ∙ c.if-not-contains_key.false) in
-    (λ _. (live, rw (← c.inner-other.ensures)
-        (c.loop-step.invariant.1.1 (zero, (same_keys c.loop-step.at c.inner-other.result).0 (sym c.if-eq.ensures)))), λ _. refl)
+    (sym c.contains_key.ensures.value ∙ c.if-not-contains_key.false) in (
+      λ _. (
+        live,
+        rw (← c.inner-other.ensures)
+            (c.loop-step.invariant.1.1 (zero, (same_keys c.loop-step.at c.inner-other.result).0 (sym c.if-eq.ensures))),
+      ),
+      λ _. refl,
+    )
 
 pub returns-in-None : goal.returns-in-None
 returns-in-None g c =
     let other : c.loop-step.at ≢ c.inner-other.result = λ same. (let t = (same_keys c.loop-step.at c.inner-other.result).1 same in
-        let f = c.if-eq.ensures in cc) in
-    let there = node_there _ _ (climbing_live _ _ _ _ c.loop-step.invariant.0) in
-    (λ t. absurd (cc), λ w. absurd
-        (within_none _ _ _ _ c.loop-step.invariant.0 there.0 there.1 _ other
-        (there.2 ∙ sym (rw c.self.view_is at c.in-None.ensures)) c.loop-step.invariant.1 (rw c.inner-other.ensures w.1)))
+    let f = c.if-eq.ensures in cc) in
+    let there = node_there _ _ (climbing_live _ _ _ _ c.loop-step.invariant.0) in (
+      λ t. absurd (cc),
+      λ w. absurd
+          (within_none _ _ _ _ c.loop-step.invariant.0 there.0 there.1 _ other
+          (there.2 ∙ sym (rw c.self.view_is at c.in-None.ensures)) c.loop-step.invariant.1 (rw c.inner-other.ensures w.1)),
+    )
 
 pub loop-step-preserved : goal.loop-step-preserved
 loop-step-preserved g c =
     let other : c.loop-step.at ≢ c.inner-other.result = λ same. (let t = (same_keys c.loop-step.at c.inner-other.result).1 same in
-        let f = c.if-eq.ensures in cc) in
+    let f = c.if-eq.ensures in cc) in
     let there = node_there _ _ (climbing_live _ _ _ _ c.loop-step.invariant.0) in
-    let up = there.2 ∙ sym (rw c.self.view_is at c.in-Some.ensures) in
-    (climbing_step _ _ _ _ c.loop-step.invariant.0 there.0 there.1 _ up,
-        within_step _ _ _ _ c.loop-step.invariant.0 there.0 there.1 _ _ other up c.loop-step.invariant.1)
+    let up = there.2 ∙ sym (rw c.self.view_is at c.in-Some.ensures) in (
+      climbing_step _ _ _ _ c.loop-step.invariant.0 there.0 there.1 _ up,
+      within_step _ _ _ _ c.loop-step.invariant.0 there.0 there.1 _ _ other up c.loop-step.invariant.1,
+    )
 
 pub up-requires : goal.up-requires
 up-requires g c = rw c.self.view_is (climbing_live _ _ _ _ c.loop-step.invariant.0)

@@ -8,7 +8,7 @@ returns-in_err-prev g c =
     let own = sym c.parent_key.ensures.value ∙ c.in_ok-parent_key.was in
     let once = listed_once c.args.self.now.live (rw c.self.view_is at c.self.invariant.listed) c.in_ok-parent_key.field-0 c.inner-node.result own in
     rw (c.from_residual-in_err-prev.ensures, ← c.inner-node.ensures)
-        (sym c.in_err-prev.was ∙ (rw c.self.view_is at c.prev.ensures) c.in_ok-parent_key.field-0 (omega arith)
+    (sym c.in_err-prev.was ∙ (rw c.self.view_is at c.prev.ensures) c.in_ok-parent_key.field-0 (omega arith)
     ∙ sym (ap (λ o. in_front None c.inner-node.result (children_under c.args.self.now.live o)) own))
 
 pub returns : goal.returns

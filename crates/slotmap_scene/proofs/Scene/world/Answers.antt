@@ -17,16 +17,16 @@ pub returns-in-Some-clause-some : goal.returns-in-Some-clause-some
 returns-in-Some-clause-some g c =
     let there = node_is _ _ _ (rw (c.self.view_is, c.inner.ensures) at (sym c.in_ok-local.ensures)) in
     composed_of_folds _ _ (λ v. v) (λ f f' v p w k. search rules) _ (g.K.Key.data_of c.args.node) c.in-Some.parent _ there
-        (sym (rw (c.self.view_is, c.inner-2.ensures) at c.in-Some.ensures)) _ _ (rw c.outer.ensures at c.fold_up.ensures.some)
+    (sym (rw (c.self.view_is, c.inner-2.ensures) at c.in-Some.ensures)) _ _ (rw c.outer.ensures at c.fold_up.ensures.some)
 
 pub returns-in-Some-clause-joined : goal.returns-in-Some-clause-joined
 returns-in-Some-clause-joined g c =
     let there = node_is _ _ _ (rw (c.self.view_is, c.inner.ensures) at (sym c.in_ok-local.ensures)) in
     joined_of_folds _ _ (λ f f' v p w k. search rules) _ (g.K.Key.data_of c.args.node) c.in-Some.parent _ there
-        (sym (rw (c.self.view_is, c.inner-2.ensures) at c.in-Some.ensures)) _ _ (rw c.outer.ensures at c.fold_up.ensures.some)
+    (sym (rw (c.self.view_is, c.inner-2.ensures) at c.in-Some.ensures)) _ _ (rw c.outer.ensures at c.fold_up.ensures.some)
 
 pub returns-in-Some-clause-none : goal.returns-in-Some-clause-none
 returns-in-Some-clause-none g c =
     let there = node_is _ _ _ (rw (c.self.view_is, c.inner.ensures) at (sym c.in_ok-local.ensures)) in
     parent_found _ (g.K.Key.data_of c.args.node) c.in-Some.parent _ there (sym (rw (c.self.view_is, c.inner-2.ensures) at c.in-Some.ensures))
-        (rw c.self.view_is at c.self.invariant.tree) _ (rw c.outer.ensures at c.fold_up.ensures.none)
+    (rw c.self.view_is at c.self.invariant.tree) _ (rw c.outer.ensures at c.fold_up.ensures.none)

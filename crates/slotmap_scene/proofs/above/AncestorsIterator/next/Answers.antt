@@ -13,7 +13,7 @@ pub returns-clause-steps : goal.returns-clause-steps
 returns-clause-steps g c =
     let nodes = c.self.inside.nodes.now.live in
     rw c.outer.ensures (sym c.self.view_is ∙ ap (keys_up nodes (map.len nodes)) c.in_ok-key.was
-        ∙ step_up nodes c.in_ok-key.key (rw c.in_ok-key.was at c.self.invariant)
+    ∙ step_up nodes c.in_ok-key.key (rw c.in_ok-key.was at c.self.invariant)
     ∙ ap (λ o. c.in_ok-key.key ∷ keys_up nodes (map.len nodes) o) (sym c.parent-self-inside.ensures))
 
 pub returns-clause-goes : goal.returns-clause-goes

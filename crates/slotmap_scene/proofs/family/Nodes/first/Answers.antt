@@ -22,8 +22,11 @@ live_key-requires g c = indices_at c.self.invariant c.owner.result c.in_ok-index
     (first_in (list_of c.self.inside.children c.owner.result) c.in_ok-index.index (sym c.first.ensures ∙ c.in_ok-index.was))
 
 pub returns : goal.returns
-returns g c = rw (← c.self.view_is) (
-    key_found c.self.invariant c.first.result c.in_ok-index.index c.in_ok-index.was (live_key-requires g c) (Some c.live_key.result)
+returns g c =
+    let has = indices_at c.self.invariant c.owner.result c.in_ok-index.index
+    (first_in (list_of c.self.inside.children c.owner.result) c.in_ok-index.index (sym c.first.ensures ∙ c.in_ok-index.was)) in
+    rw (← c.self.view_is) (
+    key_found c.self.invariant c.first.result c.in_ok-index.index c.in_ok-index.was has (Some c.live_key.result)
     c.live_key.ensures.live c.live_key.ensures.index tt
     ∙ ap (option_map (key_at c.self.inside.values.live)) (c.first.ensures ∙ ap (λ p. first_or (list_of c.self.inside.children p) None)
     (c.owner.ensures ∙ ap (λ (s : Content (Node g.row.T.Denot)). owner_of s.live c.args.node) (sym c.self.view_is)))

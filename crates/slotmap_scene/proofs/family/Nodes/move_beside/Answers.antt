@@ -12,7 +12,7 @@ attach_beside-requires-clause-alone g c = rw (c.set_parent.ensures, c.leave.ensu
 pub attach_beside-requires-clause-sibling : goal.attach_beside-requires-clause-sibling
 attach_beside-requires-clause-sibling g c =
     rw (c.set_parent.ensures, c.leave.ensures)
-        (hung_sibling c.args.self.now.live c.requires.scene c.args.node c.args.parent c.args.sibling c.requires.apart c.requires.sibling)
+    (hung_sibling c.args.self.now.live c.requires.scene c.args.node c.args.parent c.args.sibling c.requires.apart c.requires.sibling)
 
 pub attach_beside-requires-clause-parent : goal.attach_beside-requires-clause-parent
 attach_beside-requires-clause-parent g c =
@@ -34,18 +34,18 @@ returns-clause-values g c = rw (c.attach_beside.ensures, c.set_parent.ensures, c
 pub returns-clause-scene : goal.returns-clause-scene
 returns-clause-scene g c =
     rw (c.attach_beside.ensures, c.set_parent.ensures, c.leave.ensures)
-        (scene_among c.args.self.now.live c.requires.scene c.args.node c.args.parent c.requires.node
-        (parent_there c.args.self.now.live c.requires.scene.tree c.args.sibling c.args.parent c.requires.sibling)
-        (placed c.args.side c.args.sibling c.args.node)
+    (scene_among c.args.self.now.live c.requires.scene c.args.node c.args.parent c.requires.node
+    (parent_there c.args.self.now.live c.requires.scene.tree c.args.sibling c.args.parent c.requires.sibling)
+    (placed c.args.side c.args.sibling c.args.node)
     (times_placed c.args.side c.args.sibling c.args.node) c.requires.no_cycle)
 
 pub returns-clause-stale : goal.returns-clause-stale
 returns-clause-stale g c =
     rw (c.attach_beside.ensures, c.set_parent.ensures, c.leave.ensures)
-        (spent_alike c.args.self.now _
-        (keys_among c.args.self.now.live c.requires.scene c.args.node c.args.parent c.requires.node
-        (parent_there c.args.self.now.live c.requires.scene.tree c.args.sibling c.args.parent c.requires.sibling)
-        (placed c.args.side c.args.sibling c.args.node)))
+    (spent_alike c.args.self.now _
+    (keys_among c.args.self.now.live c.requires.scene c.args.node c.args.parent c.requires.node
+    (parent_there c.args.self.now.live c.requires.scene.tree c.args.sibling c.args.parent c.requires.sibling)
+    (placed c.args.side c.args.sibling c.args.node)))
 
 pub set_parent-requires-clause-parent : goal.set_parent-requires-clause-parent
 set_parent-requires-clause-parent g c = rw c.leave.ensures

@@ -21,7 +21,7 @@ pub remove-requires-clause-alone : goal.remove-requires-clause-alone
 remove-requires-clause-alone g c q =
     let k = c.args.node in
     rw (c.leave.ensures) (ap (times k) (left_of c.args.self.now.live c.requires.scene k children_in (without k) refl (λ n. refl) q)
-        ∙ times_gone k (children_of c.args.self.now.live q))
+    ∙ times_gone k (children_of c.args.self.now.live q))
 
 pub remove-requires-clause-childless : goal.remove-requires-clause-childless
 remove-requires-clause-childless g c q is =

@@ -9,7 +9,7 @@ invariant_of-self g c = came_kept c.self.invariant c.insert_reserved-key.result 
     c.insert_reserved-key.ensures.valid.after c.insert_reserved-key.ensures.valid.capacity c.insert_reserved-key.ensures.within c.args.parent
     (parent_alive c.self.invariant c.self.view_is c.args.parent c.requires.parent)
     (set c.self.inside.parents.items c.index_of.result c.parent_index.result)
-        (λ n. set c.self.inside.parents.items (c.index_of.ensures n) (c.parent_index.ensures n))
+    (λ n. set c.self.inside.parents.items (c.index_of.ensures n) (c.parent_index.ensures n))
 
 pub returns-clause-adds : goal.returns-clause-adds
 returns-clause-adds g c = rw (← c.self.view_is)
@@ -18,7 +18,7 @@ returns-clause-adds g c = rw (← c.self.view_is)
     c.insert_reserved-key.ensures.valid.after c.insert_reserved-key.ensures.valid.capacity c.insert_reserved-key.ensures.within c.args.parent
     (parent_alive c.self.invariant c.self.view_is c.args.parent c.requires.parent)
     (set c.self.inside.parents.items c.index_of.result c.parent_index.result)
-        (λ n. set c.self.inside.parents.items (c.index_of.ensures n) (c.parent_index.ensures n)))
+    (λ n. set c.self.inside.parents.items (c.index_of.ensures n) (c.parent_index.ensures n)))
 
 pub returns-clause-valid : goal.returns-clause-valid
 returns-clause-valid g c = rw (← c.self.view_is)

@@ -14,7 +14,7 @@ unreachable-requires g c =
 pub invariant_of-self : goal.invariant_of-self
 invariant_of-self g c = gone_kept c.self.invariant c.args.node (is_live c.self.invariant c.self.view_is c.args.node c.requires.there)
     (rw (← c.self.view_is) at c.requires.leaf) (rw (← c.self.view_is) at c.requires.alone)
-        (rw (← c.self.view_is) at c.requires.childless) c.remove.new.self c.remove.ensures.live c.remove.ensures.valid.capacity
+    (rw (← c.self.view_is) at c.requires.childless) c.remove.new.self c.remove.ensures.live c.remove.ensures.valid.capacity
 
 pub returns-clause-value : goal.returns-clause-value
 returns-clause-value g c = rw (← c.self.view_is)
@@ -24,11 +24,11 @@ pub returns-clause-live : goal.returns-clause-live
 returns-clause-live g c = rw (← c.self.view_is)
     (gone_seen c.self.invariant c.args.node (is_live c.self.invariant c.self.view_is c.args.node c.requires.there)
     (rw (← c.self.view_is) at c.requires.leaf) (rw (← c.self.view_is) at c.requires.alone)
-        (rw (← c.self.view_is) at c.requires.childless) c.remove.new.self c.remove.ensures.live c.remove.ensures.valid.capacity)
+    (rw (← c.self.view_is) at c.requires.childless) c.remove.new.self c.remove.ensures.live c.remove.ensures.valid.capacity)
 
 pub returns-clause-leaves : goal.returns-clause-leaves
 returns-clause-leaves g c = rw (← c.self.view_is)
     (family_leaves c.self.inside.values c.self.inside.parents.items c.self.inside.children c.remove.new.self c.self.inside.parents.items
     c.self.inside.children
     (leaves_by_removal true c.self.inside.values c.remove.ensures.valid.before c.args.node
-        (ap is_some (sym c.in-Some.ensures.value)) c.remove.new.self c.in-Some.ensures.removes))
+    (ap is_some (sym c.in-Some.ensures.value)) c.remove.new.self c.in-Some.ensures.removes))

@@ -8,16 +8,24 @@ use Rattle.slotmap_scene.proofs.family.Nodes.remove_tree.Goals as goal
 
 pub loop-child-init : goal.loop-child-init
 loop-child-init g c =
-    record { removing = removing_start c.args.self.now.live c.args.root c.requires.scene c.requires.there; leaves = leaves_none c.args.self.now; capacity =
-    refl }
+    record {
+      removing = removing_start c.args.self.now.live c.args.root c.requires.scene c.requires.there;
+      leaves = leaves_none c.args.self.now;
+      capacity =
+          refl;
+    }
 
 pub loop-child-smaller-in-Some : goal.loop-child-smaller-in-Some
 loop-child-smaller-in-Some g c = down_smaller _ _ _ _ c.loop-child.invariant.removing c.in-Some.child (sym c.in-Some.ensures) c.requires.scene.tree
 
 pub loop-child-preserved-in-Some : goal.loop-child-preserved-in-Some
 loop-child-preserved-in-Some g c =
-    record { removing = goes_down _ _ _ _ c.loop-child.invariant.removing c.in-Some.child
-    (sym c.in-Some.ensures); leaves = c.loop-child.invariant.leaves; capacity = c.loop-child.invariant.capacity }
+    record {
+      removing = goes_down _ _ _ _ c.loop-child.invariant.removing c.in-Some.child
+          (sym c.in-Some.ensures);
+      leaves = c.loop-child.invariant.leaves;
+      capacity = c.loop-child.invariant.capacity;
+    }
 
 pub prune-value-requires-clause-leaf : goal.prune-value-requires-clause-leaf
 prune-value-requires-clause-leaf g c = none_last (children_of c.loop-child.self.live c.loop-child.at) (sym c.in-None.ensures)

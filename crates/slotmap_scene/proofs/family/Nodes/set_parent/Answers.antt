@@ -9,9 +9,9 @@ index_mut-requires g c = let place = place_there c.self.invariant c.self.view_is
 pub invariant_of-self : goal.invariant_of-self
 invariant_of-self g c = (hangs c.self.invariant c.self.view_is c.args.node c.requires.node c.args.parent c.requires.parent
     (set c.self.inside.parents.items c.index_of.result c.parent_index.result)
-        (λ n. set c.self.inside.parents.items (c.index_of.ensures n) (c.parent_index.ensures n))).0
+    (λ n. set c.self.inside.parents.items (c.index_of.ensures n) (c.parent_index.ensures n))).0
 
 pub returns : goal.returns
 returns g c = (hangs c.self.invariant c.self.view_is c.args.node c.requires.node c.args.parent c.requires.parent
     (set c.self.inside.parents.items c.index_of.result c.parent_index.result)
-        (λ n. set c.self.inside.parents.items (c.index_of.ensures n) (c.parent_index.ensures n))).1
+    (λ n. set c.self.inside.parents.items (c.index_of.ensures n) (c.parent_index.ensures n))).1

@@ -17,13 +17,19 @@ returns-in-Some g c =
       same_lent _ _ _ (λ w. ap (λ x. record (family c.self.inside.values c.self.inside.parents.items c.self.inside.children) { live = x })
           (written_seen c.self.invariant k c.in-Some.value.now w (sym c.in-Some.ensures.value))
           ∙ ap (λ (s : Content (Node g.row.T.Denot)). record s { live = with_value s.live k w }) c.self.view_is),
-      record { writes_back = tt; value = rw (← c.self.view_is)
-          (c.in-Some.ensures.value ∙ sym (seen_value c.self.inside.values.live c.self.inside.parents.items c.self.inside.children k)) },
+      record {
+        writes_back = tt;
+        value = rw (← c.self.view_is)
+            (c.in-Some.ensures.value ∙ sym (seen_value c.self.inside.values.live c.self.inside.parents.items c.self.inside.children k));
+      },
     )
 
 pub returns-in-None : goal.returns-in-None
 returns-in-None g c = (
   same_unlent _ _ c.self.view_is,
-  record { writes_back = tt; value = rw (← c.self.view_is)
-      (c.in-None.ensures.value ∙ sym (seen_value c.self.inside.values.live c.self.inside.parents.items c.self.inside.children c.args.node)) },
+  record {
+    writes_back = tt;
+    value = rw (← c.self.view_is)
+        (c.in-None.ensures.value ∙ sym (seen_value c.self.inside.values.live c.self.inside.parents.items c.self.inside.children c.args.node));
+  },
 )

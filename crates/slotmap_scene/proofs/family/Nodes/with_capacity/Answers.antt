@@ -12,5 +12,10 @@ invariant_of-result g c = bare_kept c.in_ok-values.values c.in_ok-values.ensures
 pub returns-clause-empty : goal.returns-clause-empty
 returns-clause-empty g c =
     let new = c.in_ok-values.ensures.starts in
-    record { live = bare_seen c.in_ok-values.values new.live c.cover.new.parents.items c.cover.new.children; detached = new.detached; retired =
-        new.retired; next = new.next }
+    record {
+      live = bare_seen c.in_ok-values.values new.live c.cover.new.parents.items c.cover.new.children;
+      detached = new.detached;
+      retired =
+          new.retired;
+      next = new.next;
+    }
