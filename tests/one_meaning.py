@@ -29,7 +29,7 @@ SOURCES = {
 LEMMAS = {
     'Callers': 'what callers cite: of the core, of a structure, and by the facade',
     'CloneLemmas': 'clones of values',
-    'Counts Linking Segments Splicing': 'the same of lists of keys and of lists of numbers',
+    'Counts Linking': 'the same of lists of keys and of lists of numbers',
     'Indices': 'the keys of a map by their indices',
     'Moved Seen': 'what is moved, and what a user sees: of one structure and of another',
     'Common': 'what the proofs of a crate cite, passed on by one file',
@@ -77,6 +77,7 @@ WORDS = {
     'CanReplace AreValuesOf with_values dropped CallsAt': 'several keys or calls of a closure, of each kind of map',
     'Given Step DetachStep StepInsert StepRemove StepDetach StepReattach after_insert after_remove after_detach after_reattach': 'the same of each machine',
     'key_after': 'the key after another one, in a list of keys or of elements',
+    'AreIndices HaveIndices CoversMore key_at keys_at': 'the keys of a map by their indices, and what is kept beside it: of a graph and of a scene',
     'IsOnce without is_key same times': 'lists of indices or keys: none twice; all but one; how often a key is in one',
     'AreApart AreLinked IsListed IsSegment followed link_between listed no_ends no_link own put_before': 'the same of lists of keys or edges, and of numbers',
     'Nodes IsChain Unlinks Relinks IsWalk follow with_link with_next with_prev link_in ends_in ends_of first_or last_or': 'what is linked both ways: nodes, slots, or the keys of a list',
@@ -93,6 +94,7 @@ LEMMA_NAMES = {
 PROVED_TWICE = {
     'as_many linked_along next_here not_first not_last prev_here segment_is segment_long': 'the same of lists of keys, and of numbers',
     'dropped_push slots_equal': 'of words that each map has for itself',
+    'after_inside find_only key_at_live by_live covered': 'of the keys of a graph, and of a scene, by their indices',
     'keeps_lent yields_in_order': 'the same of the drain of each structure',
     'first second some_is last_some own': 'a line of logic that a structure proves for itself',
     'below-changed sorted-changed': 'of entries whose values are changed by the value, or by the key',

@@ -288,12 +288,15 @@ def wide_part(size):
     tell("moved", [value[node] for node in reversed(order)])
     roots = {random.pick(nodes) for _ in range(turns)}
     tell("roots", [0] + sorted(value[node] for node in roots))
-    tell("wide", [value[node] for node in order if node not in roots])
+    wide = [value[node] for node in order if node not in roots]
+    tell("wide", wide)
+    tell("by links", wide)
 
 
 def deep_part(size):
     down = range(1, size + 1)
     tell("deep", down)
+    tell("by links", down)
     total = 0
     for number in range(size, -1, -1):
         total = (total * 31 + number) & MASK
@@ -314,6 +317,7 @@ def chance_part(size):
         scene.add(number, random.pick(nodes), number)
         nodes.append(number)
     tell("by chance", scene.below(0))
+    tell("by links", scene.below(0))
     moves = []
     for _ in range(size):
         node, parent = random.pick(nodes), random.pick(nodes)
@@ -341,6 +345,10 @@ def scene_part(size):
     deep_part(size)
     chance_part(size)
     print(f"  world: {1 + 3 * size}, {2 - 4 * size}")
+    places = []
+    for depth in range(size + 1):
+        places += [1 + 3 * depth, abs(2 - 4 * depth)]
+    tell("places", places)
 
 
 class Jobs:

@@ -4,7 +4,4 @@ pub mod Counts
 pub mod Linking
 pub mod MapKeys
 pub mod Mapped
-pub mod NotNull
-pub mod Segments
 pub mod Shown
-pub mod Splicing

@@ -1,29 +1,12 @@
--- Lists that are kept as links: a walk along them, and what a key that is put in or taken out does to them. For the structures.
-use Rattle.std.proofs.Common.{◌≡◌, ◌≢◌, ◌⊎◌, ◌+◌, ◌<◌, ◌≤◌, Option, Some, None, List, [], ◌∷◌, ◌++◌, length, cond, not, refl, sym, ap, ◌∙◌, inl, inr, arith, append_assoc, append-nil}
-use Rattle.std.proofs.Math.Nat.{eq-zero-or-pos}
-use Rattle.std.proofs.lemmas.List.Elements.{filter-append}
+-- The last key of a list, and the parts that a key cuts a list in.
+use Rattle.std.proofs.Common.{◌≡◌, ◌+◌, ◌<◌, Option, Some, None, List, [], ◌∷◌, ◌++◌, refl, ap, ◌∙◌, inl, inr, arith}
 use Rattle.std.proofs.lemmas.Option.{same_Some}
 use Rattle.slotmap.specs.Words.{Key}
 use Rattle.slotmap.proofs.Callers.{same_or_other}
-use Rattle.slotmap_keylist.specs.KeyLists.{is_key, same, times, without}
-use Rattle.slotmap_keylist.specs.Linked.{first_or, last_or, ends_of, link_between, follow, followed, AreLinked, AreApart, Relinks, IsListed}
-use Rattle.slotmap_keylist.specs.declared.Ends.{Ends}
-use Rattle.slotmap_keylist.specs.declared.Link.{Link}
-use Rattle.slotmap_keylist.proofs.Counts.{is_itself, one_itself, one_other, times_first, times_joined, without_none}
+use Rattle.slotmap_keylist.specs.KeyLists.{last_or, same, times}
+use Rattle.slotmap_keylist.proofs.Counts.{one_itself, one_other, times_first, times_joined}
 
-pub first_or-append : (xs ys : List Key) (o : Option Key) → first_or (xs ++ ys) o ≡ first_or xs (first_or ys o)
-first_or-append [] ys o = refl
-first_or-append (x ∷ xs) ys o = refl
-
-pub last_or-append : (xs ys : List Key) (o : Option Key) → last_or (xs ++ ys) o ≡ last_or ys (last_or xs o)
-last_or-append [] ys o = refl
-last_or-append (x ∷ xs) ys o = last_or-append xs ys (Some x)
-
--- the first key of a list is in it, and the last one too
-pub first_in : (ks : List Key) (f : Key) → first_or ks None ≡ Some f → 0 < times f ks
-first_in [] f is = absurd (cc)
-first_in (k ∷ ks) f is = let here = same_Some k f is in let first = times_first f k ks in let one = ap (λ q. same q f) here ∙ one_itself f in omega arith
-
+-- the last key is in the list, and where there is none, nothing is
 last_of : (k : Key) (ks : List Key) (l : Key) → last_or ks (Some k) ≡ Some l → 0 < times l (k ∷ ks)
 last_of k [] l is = let e = same_Some k l is in let first = times_first l k [] in let one = ap (λ q. same q l) e ∙ one_itself l in omega arith
 last_of k (q ∷ ks) l is = let rest = last_of q ks l is in let first = times_first l k (q ∷ ks) in omega arith
@@ -40,23 +23,9 @@ none_last (k ∷ ks) is = by k ks is
     by k [] is = absurd (cc)
     by k (q ∷ ks) is = by q ks is
 
-pub cons_not_nil : (b : List Key) (x : Key) (a : List Key) → [] ≡ b ++ x ∷ a → ⊥
-cons_not_nil [] x a at = absurd (cc)
-cons_not_nil (q ∷ b) x a at = absurd (cc)
-
 -- a key in the midst of a list is in it
 pub in_midst : (before : List Key) (k : Key) (after : List Key) → times k (before ++ k ∷ after) ≡ 1 + (times k before + times k after)
 in_midst before k after = let sum = times_joined k before (k ∷ after) in let first = times_first k k after in let one = one_itself k in omega arith
-
--- where a list is cut, a key of it is before the cut or after it
-pub cut_at : (before after b : List Key) (x : Key) (a : List Key) → before ++ after ≡ b ++ x ∷ a
-    → ((m : List Key) × (before ≡ b ++ x ∷ m) × (a ≡ m ++ after)) ⊎ ((m : List Key) × (b ≡ before ++ m) × (after ≡ m ++ x ∷ a))
-cut_at [] after b x a is = inr (b, refl, is)
-cut_at (k ∷ before) after [] x a is = inl (before, (cc), (cc))
-cut_at (k ∷ before) after (y ∷ b) x a is = elim (cut_at before after b x a (cc)) [
-  | inl there ↦ inl (there.0, (let h = there.1 in cc), there.2)
-  | inr there ↦ inr (there.0, (let h = there.1 in cc), there.2)
-]
 
 -- a key that is in a list stands between two parts of it
 pub split_at : (k : Key) (ks : List Key) → 0 < times k ks → (before : List Key) × (after : List Key) × (ks ≡ before ++ k ∷ after)
@@ -70,150 +39,3 @@ split_at k (q ∷ ks) more = elim (same_or_other q k) [
       (q ∷ later.0, later.1, ap (λ l. q ∷ l) later.2)
       )
 ]
-
--- without a key that is in it once, a list is these two parts
-pub without_split : (k : Key) (before after : List Key) → times k (before ++ k ∷ after) ≤ 1 → without k (before ++ k ∷ after) ≡ before ++ after
-without_split k before after once =
-    let sum = in_midst before k after in
-    let gone : without k (k ∷ after) ≡ without k after = ap (λ b. cond (not b) (k ∷ without k after) (without k after)) (is_itself k) in
-    filter-append (λ q. not (is_key q k)) before (k ∷ after) ∙ ap (λ l. without k before ++ l) gone
-    ∙ ap (λ l. l ++ without k after) (without_none k before (omega arith)) ∙ ap (λ l. before ++ l) (without_none k after (omega arith))
-
--- lists that are kept as links
-module _ {ends : Key → Ends Key} {link : Key → Link Key} {lists : Key → List Key} (linked : AreLinked ends link lists) where
-  -- from a place in a list, the links lead to what is behind it
-  pub follow_is : (p : Key) (before after : List Key) → lists p ≡ before ++ after → follow link (length after) (first_or after None) ≡ after
-  follow_is p before [] is = refl
-  follow_is p before (k ∷ after) is =
-      ap (λ (l : Link Key). k ∷ follow link (length after) l.next) (linked.links_are p before k after is)
-      ∙ ap (λ l. k ∷ l) (follow_is p (before ++ k ∷ []) after (is ∙ sym (append_assoc before (k ∷ []) after)))
-
-  -- and from the ends of a list, to all of it
-  pub followed_is : (p : Key) → followed link (ends p) ≡ lists p
-  followed_is p = ap (followed link) (linked.ends_are p) ∙ follow_is p [] (lists p) refl
-
-  -- the neighbours of a key
-  pub prev_in : (p : Key) (k l : Key) → 0 < times k (lists p) → (link k).prev ≡ Some l → 0 < times l (lists p)
-  prev_in p k l more is =
-      let split = split_at k (lists p) more in
-      let at = linked.links_are p split.0 k split.1 split.2 in
-      let there = last_in split.0 l (sym (ap (λ (n : Link Key). n.prev) at) ∙ is) in
-      let sum = ap (times l) split.2 ∙ times_joined l split.0 (k ∷ split.1) in
-      omega arith
-
-  pub next_in : (p : Key) (k f : Key) → 0 < times k (lists p) → (link k).next ≡ Some f → 0 < times f (lists p)
-  next_in p k f more is =
-      let split = split_at k (lists p) more in
-      let at = linked.links_are p split.0 k split.1 split.2 in
-      let there = first_in split.1 f (sym (ap (λ (n : Link Key). n.next) at) ∙ is) in
-      let sum = ap (times f) split.2 ∙ times_joined f split.0 (k ∷ split.1) in
-      let first = times_first f k split.1 in
-      omega arith
-
-  -- In the list of p the keys between `before` and `after` change. The key k is the only one of them whose link may change
-  module _ (apart : AreApart lists) (p k : Key) (before mid after : List Key) (is : lists p ≡ before ++ (mid ++ after))
-      (not_before : times k before ≡ 0) (not_after : times k after ≡ 0) (nowhere : (q : Key) → q ≢ p → times k (lists q) ≡ 0) where
-    -- a key of the list is in no other one, and at one place
-    in_no_other : (q x : Key) → q ≢ p → 0 < times x (lists q) → times x (lists p) ≡ 0
-    in_no_other q x other more = elim (eq-zero-or-pos (times x (lists p))) [
-      | inl none ↦ none
-      | inr there ↦ absurd (other (apart.alone q p x more there))
-    ]
-
-    is_counted : (x : Key) → times x (lists p) ≡ times x before + (times x mid + times x after)
-    is_counted x = ap (times x) is ∙ times_joined x before (mid ++ after) ∙ ap (λ n. times x before + n) (times_joined x mid after)
-
-    not_last : (x : Key) → times x before ≡ 0 → last_or before None ≢ Some x
-    not_last x none last = absurd (let there = last_in before x last in omega arith)
-
-    not_first : (x : Key) → times x after ≡ 0 → first_or after None ≢ Some x
-    not_first x none first = absurd (let there = first_in after x first in omega arith)
-
-    -- the links that keys before the place, and behind it, have now
-    module _ (now : List Key) (link' : Key → Link Key) (relinks : Relinks link link' k before after (first_or now (first_or after None)) (last_or now (last_or before None))) where
-      link_before : (b : List Key) (x : Key) (m : List Key) → before ≡ b ++ x ∷ m → link' x ≡ link_between b (m ++ (now ++ after))
-      link_before b x [] at =
-          relinks.prev x (ap (λ l. last_or l None) at ∙ last_or-append b (x ∷ []) None)
-          ∙ ap (λ (l : Link Key). record l { next = first_or now (first_or after None) }) (linked.links_are p b x (mid ++ after) (is ∙ ap (λ l. l ++ (mid ++ after)) at ∙ append_assoc b (x ∷ []) (mid ++ after)))
-          ∙ ap (λ n. record { prev = last_or b None; next = n }) (sym (first_or-append now after None))
-      link_before b x (y ∷ m) at =
-          let sum = is_counted x in
-          let once = apart.once p x in
-          let there = ap (times x) at ∙ in_midst b x (y ∷ m) in
-          let no_k : x ≢ k = λ e. (let h = rw (← e) at not_before in omega arith) in
-          let no_last : last_or before None ≢ Some x = λ last.
-          (let again = last_of y m x (sym (last_or-append b (x ∷ y ∷ m) None) ∙ sym (ap (λ l. last_or l None) at) ∙ last) in omega arith) in
-          relinks.others x no_k no_last (not_first x (omega arith))
-          ∙ linked.links_are p b x ((y ∷ m) ++ (mid ++ after)) (is ∙ ap (λ l. l ++ (mid ++ after)) at ∙ append_assoc b (x ∷ y ∷ m) (mid ++ after))
-
-      link_after : (m : List Key) (x : Key) (a : List Key) → after ≡ m ++ x ∷ a → link' x ≡ link_between (before ++ (now ++ m)) a
-      link_after [] x a at =
-          relinks.next x (ap (λ l. first_or l None) at)
-          ∙ ap (λ (l : Link Key). record l { prev = last_or now (last_or before None) }) (linked.links_are p (before ++ mid) x a (is ∙ ap (λ l. before ++ (mid ++ l)) at ∙ sym (append_assoc before mid (x ∷ a))))
-          ∙ ap (λ l. record { prev = l; next = first_or a None }) (sym (last_or-append before (now ++ []) None ∙ last_or-append now [] (last_or before None)))
-      link_after (y ∷ m) x a at =
-          let sum = is_counted x in
-          let once = apart.once p x in
-          let there = ap (times x) at ∙ in_midst (y ∷ m) x a in
-          let no_k : x ≢ k = λ e. (let h = rw (← e) at not_after in omega arith) in
-          let no_first : first_or after None ≢ Some x = λ first.
-          (let again = same_Some y x (sym (ap (λ l. first_or l None) at) ∙ first) in let one = ap (λ q. same q x) again ∙ one_itself x in let head = times_first x y m in omega arith) in
-          let whole = is ∙ ap (λ l. before ++ (mid ++ l)) at ∙ ap (λ l. before ++ l) (sym (append_assoc mid (y ∷ m) (x ∷ a))) ∙ sym (append_assoc before (mid ++ y ∷ m) (x ∷ a)) in
-          let last : (ks : List Key) → last_or (before ++ (ks ++ y ∷ m)) None ≡ last_or m (Some y) = λ ks. last_or-append before (ks ++ y ∷ m) None ∙ last_or-append ks (y ∷ m) (last_or before None) in
-          relinks.others x no_k (not_last x (omega arith)) no_first
-          ∙ linked.links_are p (before ++ (mid ++ y ∷ m)) x a whole
-          ∙ ap (λ l. record { prev = l; next = first_or a None }) (last mid ∙ sym (last now))
-
-      module _ (own : (b : List Key) (x : Key) (a : List Key) → now ≡ b ++ x ∷ a → link' x ≡ link_between (before ++ b) (a ++ after)) where
-        link_here : (b : List Key) (x : Key) (a : List Key) → before ++ (now ++ after) ≡ b ++ x ∷ a → link' x ≡ link_between b a
-        link_here b x a at = elim (cut_at before (now ++ after) b x a at) [
-          | inl there ↦ link_before b x there.0 there.1 ∙ ap (link_between b) (sym there.2)
-          | inr there ↦ elim (cut_at now after there.0 x a there.2) [
-            | inl inner ↦ own there.0 x inner.0 inner.1 ∙ ap (λ l. link_between l (inner.0 ++ after)) (sym there.1) ∙ ap (link_between b) (sym inner.2)
-            | inr inner ↦ link_after inner.0 x a inner.2 ∙ ap (λ l. link_between l a) (ap (λ l. before ++ l) (sym inner.1) ∙ sym there.1)
-          ]
-        ]
-
-        link_elsewhere : (q : Key) → q ≢ p → (b : List Key) (x : Key) (a : List Key) → lists q ≡ b ++ x ∷ a → link' x ≡ link_between b a
-        link_elsewhere q other b x a at =
-            let there = ap (times x) at ∙ in_midst b x a in
-            let none = in_no_other q x other (omega arith) in
-            let sum = is_counted x in
-            let no_k : x ≢ k = λ e. (let h = rw (← e) at (nowhere q other) in omega arith) in
-            relinks.others x no_k (not_last x (omega arith)) (not_first x (omega arith)) ∙ linked.links_are q b x a at
-
-        pub linked_now : {ends' : Key → Ends Key} {lists' : Key → List Key} → IsListed lists lists' ends ends' p (before ++ (now ++ after)) → AreLinked ends' link' lists'
-        linked_now {ends'} {lists'} listed = record {
-          ends_are = λ q. (elim (same_or_other q p) [
-            | inl same ↦ rw same (listed.ends ∙ ap ends_of (sym listed.list))
-            | inr other ↦ listed.other_ends q other ∙ linked.ends_are q ∙ ap ends_of (sym (listed.others q other))
-          ]);
-          links_are = λ q b x a at. (elim (same_or_other q p) [
-            | inl same ↦ link_here b x a (sym listed.list ∙ ap lists' (sym same) ∙ at)
-            | inr other ↦ link_elsewhere q other b x a (sym (listed.others q other) ∙ at)
-          ]);
-        }
-
-  -- a key that is in no list is put between two parts of one
-  pub linked_put : AreApart lists → (p k : Key) (before after : List Key) → lists p ≡ before ++ after → ((q : Key) → times k (lists q) ≡ 0) → {link' : Key → Link Key}
-      → link' k ≡ link_between before after → Relinks link link' k before after (Some k) (Some k)
-      → {ends' : Key → Ends Key} {lists' : Key → List Key} → IsListed lists lists' ends ends' p (before ++ k ∷ after) → AreLinked ends' link' lists'
-  linked_put apart p k before after is none {link'} own relinks listed =
-      let sum = sym (ap (times k) is ∙ times_joined k before after) ∙ none p in
-      linked_now apart p k before [] after is (omega arith) (omega arith) (λ q _. none q) (k ∷ []) link' relinks (alone_between own) listed where
-        alone_between : link' k ≡ link_between before after → (b : List Key) (x : Key) (a : List Key) → k ∷ [] ≡ b ++ x ∷ a → link' x ≡ link_between (before ++ b) (a ++ after)
-        alone_between own [] x a at =
-            let key : x ≡ k = (cc) in
-            let rest : a ≡ [] = (cc) in
-            ap link' key ∙ own ∙ ap (λ b. link_between b after) (sym (append-nil before)) ∙ ap (λ l. link_between (before ++ []) (l ++ after)) (sym rest)
-        alone_between own (q ∷ b) x a at = absurd (cons_not_nil b x a (cc))
-
-  -- a key is taken out of a list
-  pub linked_taken : AreApart lists → (p k : Key) (before after : List Key) → lists p ≡ before ++ k ∷ after → {link' : Key → Link Key}
-      → Relinks link link' k before after (first_or after None) (last_or before None)
-      → {ends' : Key → Ends Key} {lists' : Key → List Key} → IsListed lists lists' ends ends' p (before ++ after) → AreLinked ends' link' lists'
-  linked_taken apart p k before after is {link'} relinks listed =
-      let sum = sym (ap (times k) is ∙ in_midst before k after) in
-      let once = apart.once p k in
-      linked_now apart p k before (k ∷ []) after is (omega arith) (omega arith) (λ q other. elim (eq-zero-or-pos (times k (lists q))) [ inl none ↦ none | inr there ↦ absurd (other (apart.alone q p k there (omega arith))) ])
-      [] link' relinks (λ b x a at. absurd (cons_not_nil b x a at)) listed

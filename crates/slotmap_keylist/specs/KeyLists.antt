@@ -1,5 +1,5 @@
 -- Lists of keys.
-use Rattle.std.specs.Prelude.{ℕ, Bool, not, ◌&&◌, nat_eq, if◌then◌else◌, List}
+use Rattle.std.specs.Prelude.{ℕ, Bool, not, ◌&&◌, nat_eq, if◌then◌else◌, Option, Some, List, [], ◌∷◌}
 use Rattle.std.specs.List.{count_by, filter}
 use Rattle.slotmap.specs.Words.{Key}
 
@@ -17,3 +17,8 @@ times k ks = count_by (λ q. is_key q k) ks
 -- a list without a key
 abbrev pub without : Key → List Key → List Key
 without k ks = filter (λ q. not (is_key q k)) ks
+
+-- the last key of a list, or another where there is none
+abbrev pub last_or : List Key → Option Key → Option Key
+last_or [] other = other
+last_or (k ∷ ks) other = last_or ks (Some k)

@@ -1,11 +1,14 @@
 -- The way up from each node: where it ends, what a change of the nodes does to it, and the keys that an iterator yields on it.
-use Rattle.std.proofs.Common.{◌≡◌, ◌≢◌, ℕ, zero, suc, ◌+◌, ◌≤◌, ◌<◌, ◌↔◌, true, Option, Some, None, is_some, refl, sym, ap, subst, ◌∙◌, inl, inr, arith, false, cond, List, [], ◌∷◌}
+use Rattle.std.proofs.Common.{◌≡◌, ◌≢◌, ℕ, zero, suc, ◌+◌, ◌≤◌, ◌<◌, ◌↔◌, true, Option, Some, None, is_some, refl, sym, ap, subst, ◌∙◌, inl, inr, arith, [], ◌∷◌}
+use Rattle.std.specs.Option.{option_map}
 use Rattle.std.specs.FinMap as map
+use Rattle.std.proofs.lemmas.Option.{same_Some}
 use Rattle.slotmap.specs.Words.{Key}
 use Rattle.slotmap.proofs.Callers.{same_or_other, keys_total, exact_keys, left_in, len_removed, some_entry}
 use Rattle.slotmap_scene.specs.Node.{Node, Nodes}
 use Rattle.slotmap_scene.specs.Climb.{has_node, parent_in, parent_of, ClimbsTo, IsTree, StepsTo, IsWithin}
-use Rattle.slotmap_scene.specs.Above.{GoesUp, keys_up, HasRoot, roots_by}
+use Rattle.slotmap_scene.specs.Above.{GoesUp, keys_up, HasRoot}
+use Rattle.slotmap_scene.specs.Family.{children_in, children_of, value_of}
 
 module _ {T : Type 0} where
   leads_live : (nodes : Nodes T) (n : ℕ) (k : Key) → ClimbsTo nodes n k → has_node nodes k
@@ -41,7 +44,8 @@ module _ {T : Type 0} where
   short nodes n k leads = let h = short_in nodes nodes n k leads (λ q i le up j steps sum. leads_live nodes i q up) in omega arith
 
   -- where a way goes on, and where it ends
-  next_up : (nodes : Nodes T) (n : ℕ) (k p : Key) → ClimbsTo nodes n k → parent_of nodes k ≡ Some p → (m : ℕ) × ((n ≡ suc m) × ClimbsTo nodes m p)
+  next_up : (nodes : Nodes T) (n : ℕ) (k p : Key) → ClimbsTo nodes n k → parent_of nodes k ≡ Some p
+      → (m : ℕ) × ((n ≡ suc m) × ClimbsTo nodes m p)
   next_up nodes zero k p leads is = absurd (let h = sym leads.1 ∙ is in cc)
   next_up nodes (suc n) k p leads is = let h = sym leads.1.1 ∙ is in let same : leads.0 ≡ p = cc in (n, (refl, subst (ClimbsTo nodes n) same leads.1.2))
 
@@ -63,6 +67,21 @@ module _ {T : Type 0} where
       by : (n : ℕ) → StepsTo nodes n k other → ⊥
       by zero same = apart same
       by (suc n) steps = let h = sym steps.1.0 ∙ is in cc
+
+  -- a node by what is known of it
+  pub node_is : (nodes : Nodes T) (k : Key) (v : T) → value_of nodes k ≡ Some v → map.get nodes k ≡ Some (record { value = v; parent = parent_of nodes k; children = children_of nodes k })
+  node_is nodes k v own = by (map.get nodes k) own
+    where
+      by : (o : Option (Node T)) → option_map (λ (n : Node T). n.value) o ≡ Some v → o ≡ Some (record { value = v; parent = parent_in o; children = children_in o })
+      by None is = absurd (cc)
+      by (Some n) is = let same = same_Some n.value v is in λ i. Some (record { value = same i; parent = n.parent; children = n.children })
+
+  pub node_there : (nodes : Nodes T) (k : Key) → has_node nodes k → (n : Node T) × (map.get nodes k ≡ Some n) × (n.parent ≡ parent_of nodes k)
+  node_there nodes k live = by (map.get nodes k) live
+    where
+      by : (o : Option (Node T)) → is_some o ≡ true → (n : Node T) × (o ≡ Some n) × (n.parent ≡ parent_in o)
+      by None is = absurd (cc)
+      by (Some n) is = (n, refl, refl)
 
   -- what a loop up from a node knows at another one, so many steps up
   pub record Climbing (nodes : Nodes T) (from at : Key) (steps : ℕ) : Type 0 where
@@ -98,23 +117,29 @@ module _ {T : Type 0} where
           subst (λ n. ClimbsTo nodes n from) sum climbing.all
 
       -- whether it is within another node, which isn't here, is up to the parent
-      pub within_step : (p other : Key) → at ≢ other → node.parent ≡ Some p → (IsWithin nodes from other ↔ IsWithin nodes at other) → IsWithin nodes from other ↔ IsWithin nodes p other
-      within_step p other apart is same = let up = within_up nodes at p other (ap parent_in there ∙ is) apart in (λ w. up.0 (same.0 w), λ w. same.1 (up.1 w))
+      pub within_step : (p other : Key) → at ≢ other → node.parent ≡ Some p → (IsWithin nodes from other ↔ IsWithin nodes at other)
+          → IsWithin nodes from other ↔ IsWithin nodes p other
+      within_step p other apart is same =
+          let up = within_up nodes at p other (ap parent_in there ∙ is) apart in (λ w. up.0 (same.0 w), λ w. same.1 (up.1 w))
 
-      pub within_none : (other : Key) → at ≢ other → node.parent ≡ None → (IsWithin nodes from other ↔ IsWithin nodes at other) → IsWithin nodes from other → ⊥
+      pub within_none : (other : Key) → at ≢ other → node.parent ≡ None → (IsWithin nodes from other ↔ IsWithin nodes at other)
+          → IsWithin nodes from other → ⊥
       within_none other apart is same w = root_within nodes at other (ap parent_in there ∙ is) apart (same.0 w)
 
   -- nodes that stay, with the same parents, lead up as before
-  leads_kept : (old new : Nodes T) → ((q : Key) → has_node old q → has_node new q × (parent_of new q ≡ parent_of old q)) → (n : ℕ) (k : Key) → ClimbsTo old n k → ClimbsTo new n k
+  leads_kept : (old new : Nodes T) → ((q : Key) → has_node old q → has_node new q × (parent_of new q ≡ parent_of old q))
+      → (n : ℕ) (k : Key) → ClimbsTo old n k → ClimbsTo new n k
   leads_kept old new kept zero k leads = let h = kept k leads.0 in (h.0, h.1 ∙ leads.1)
   leads_kept old new kept (suc n) k leads = let h = kept k leads.1.0 in (leads.0, (h.0, h.1 ∙ leads.1.1, leads_kept old new kept n leads.0 leads.1.2))
 
-  pub tree_same : (old new : Nodes T) → ((q : Key) → map.contains_key new q ≡ map.contains_key old q) → ((q : Key) → parent_of new q ≡ parent_of old q) → IsTree old → IsTree new
+  pub tree_same : (old new : Nodes T) → ((q : Key) → map.contains_key new q ≡ map.contains_key old q)
+      → ((q : Key) → parent_of new q ≡ parent_of old q) → IsTree old → IsTree new
   tree_same old new keys parents tree q there =
       let up = tree q (sym (keys q) ∙ there) in (up.0, leads_kept old new (λ k live. (keys k ∙ live, parents k)) up.0 q up.1)
 
   -- a node was moved, or came: all others are there as before, and have the same parents
-  module _ (old new : Nodes T) (k : Key) (keys : (q : Key) → q ≢ k → map.contains_key new q ≡ map.contains_key old q) (parents : (q : Key) → q ≢ k → parent_of new q ≡ parent_of old q) where
+  module _ (old new : Nodes T) (k : Key) (keys : (q : Key) → q ≢ k → map.contains_key new q ≡ map.contains_key old q)
+      (parents : (q : Key) → q ≢ k → parent_of new q ≡ parent_of old q) where
     -- outside of what is below k the way up is the same
     outside : (n : ℕ) (q : Key) → (IsWithin old q k → ⊥) → ClimbsTo old n q → ClimbsTo new n q
     outside zero q out leads = let apart : q ≢ k = λ same. out (zero, same) in (keys q apart ∙ leads.0, parents q apart ∙ leads.1)
@@ -123,7 +148,8 @@ module _ {T : Type 0} where
         (leads.0, (keys q apart ∙ leads.1.0, parents q apart ∙ leads.1.1, outside n leads.0 (λ w. out (suc w.0, (leads.0, (leads.1.1, w.1)))) leads.1.2))
 
     -- k is a root, or its parent isn't below it
-    leads_k : (parent : Option Key) → has_node new k → parent_of new k ≡ parent → ((p : Key) → parent ≡ Some p → has_node old p × (IsWithin old p k → ⊥)) → IsTree old → (n : ℕ) × ClimbsTo new n k
+    leads_k : (parent : Option Key) → has_node new k → parent_of new k ≡ parent
+        → ((p : Key) → parent ≡ Some p → has_node old p × (IsWithin old p k → ⊥)) → IsTree old → (n : ℕ) × ClimbsTo new n k
     leads_k None live is above tree = (zero, (live, is))
     leads_k (Some p) live is above tree = let own = above p refl in let up = tree p own.0 in (suc up.0, (p, (live, is, outside up.0 p own.1 up.1)))
 
@@ -135,10 +161,13 @@ module _ {T : Type 0} where
       ]
       still (suc i) q leads = elim (same_or_other q k) [
         | inl same ↦ (n, subst (ClimbsTo new n) (sym same) up)
-        | inr other ↦ (let above = still i leads.0 leads.1.2 in (suc above.0, (leads.0, (keys q other ∙ leads.1.0, parents q other ∙ leads.1.1, above.1))))
+        | inr other ↦ (
+            let above = still i leads.0 leads.1.2 in
+            (suc above.0, (leads.0, (keys q other ∙ leads.1.0, parents q other ∙ leads.1.1, above.1))))
       ]
 
-    pub tree_moved : (parent : Option Key) → has_node new k → parent_of new k ≡ parent → ((p : Key) → parent ≡ Some p → has_node old p × (IsWithin old p k → ⊥)) → IsTree old → IsTree new
+    pub tree_moved : (parent : Option Key) → has_node new k → parent_of new k ≡ parent
+        → ((p : Key) → parent ≡ Some p → has_node old p × (IsWithin old p k → ⊥)) → IsTree old → IsTree new
     tree_moved parent live is above tree q there =
         let up = leads_k parent live is above tree in
         elim (same_or_other q k) [
@@ -179,7 +208,8 @@ module _ {T : Type 0} where
   no_cycle nodes tree k p is = none_above nodes k p is (tree p (parent_there nodes tree k p is))
 
   -- of two nodes with the same parent, none is below the other
-  pub apart_beside : (nodes : Nodes T) (k s p : Key) → parent_of nodes k ≡ Some p → parent_of nodes s ≡ Some p → HasRoot nodes (Some p) → s ≢ k → IsWithin nodes s k → ⊥
+  pub apart_beside : (nodes : Nodes T) (k s p : Key) → parent_of nodes k ≡ Some p → parent_of nodes s ≡ Some p → HasRoot nodes (Some p)
+      → s ≢ k → IsWithin nodes s k → ⊥
   apart_beside nodes k s p own beside up apart within = none_above nodes k p own up ((within_up nodes s p k beside apart).0 within)
 
 module _ {T : Type 0} (nodes : Nodes T) where
@@ -188,12 +218,16 @@ module _ {T : Type 0} (nodes : Nodes T) where
   none_up (suc n) = refl
 
   -- enough is enough
-  same_up : (n m : ℕ) (o : Option Key) → ((k : Key) → o ≡ Some k → (steps : ℕ) × ClimbsTo nodes steps k × (steps < n) × (steps < m)) → keys_up nodes n o ≡ keys_up nodes m o
+  same_up : (n m : ℕ) (o : Option Key) → ((k : Key) → o ≡ Some k → (steps : ℕ) × ClimbsTo nodes steps k × (steps < n) × (steps < m))
+      → keys_up nodes n o ≡ keys_up nodes m o
   same_up n m None up = none_up n ∙ sym (none_up m)
   same_up zero m (Some k) up = absurd (let short = (up k refl).2 in omega arith)
   same_up (suc n) zero (Some k) up = absurd (let short = (up k refl).3 in omega arith)
   same_up (suc n) (suc m) (Some k) up = ap (λ l. k ∷ l) (same_up n m (parent_of nodes k) (λ p is.
-      let own = up k refl in let next = next_up nodes own.0 k p own.1 is in let one = next.1.0 in (next.0, next.1.1, (let a = own.2 in omega arith), (let b = own.3 in omega arith))))
+      let own = up k refl in
+      let next = next_up nodes own.0 k p own.1 is in
+      let one = next.1.0 in
+      (next.0, next.1.1, (let a = own.2 in omega arith), (let b = own.3 in omega arith))))
 
   -- the parent of a key with a root above it has one too
   pub root_above : (k : Key) → HasRoot nodes (Some k) → HasRoot nodes (parent_of nodes k)
@@ -202,6 +236,9 @@ module _ {T : Type 0} (nodes : Nodes T) where
       by : (n : ℕ) → ClimbsTo nodes n k → HasRoot nodes (parent_of nodes k)
       by zero climbs = subst (HasRoot nodes) (sym climbs.1) tt
       by (suc n) climbs = subst (HasRoot nodes) (sym climbs.1.1) (n, climbs.1.2)
+
+  pub rooted_there : (k : Key) → HasRoot nodes (Some k) → has_node nodes k
+  rooted_there k has = leads_live nodes has.0 k has.1
 
   -- a key with what is above its parent
   pub step_up : (k : Key) → HasRoot nodes (Some k) → keys_up nodes (map.len nodes) (Some k) ≡ k ∷ keys_up nodes (map.len nodes) (parent_of nodes k)
@@ -218,7 +255,8 @@ module _ {T : Type 0} (nodes : Nodes T) where
   goes_up None has = subst (GoesUp nodes None) (sym (none_up (map.len nodes))) tt
   goes_up (Some k) has =
       let below = short nodes has.0 k has.1 in
-      subst (GoesUp nodes (Some k)) (same_up (suc has.0) (map.len nodes) (Some k) (λ q is. (has.0, subst (ClimbsTo nodes has.0) (cc) has.1, omega arith, below))) (goes_up_from has.0 k has.1)
+      let all = same_up (suc has.0) (map.len nodes) (Some k) (λ q is. (has.0, subst (ClimbsTo nodes has.0) (cc) has.1, omega arith, below)) in
+      subst (GoesUp nodes (Some k)) all (goes_up_from has.0 k has.1)
 
   -- a node's parent has a root above it
   pub parent_rooted : IsTree nodes → (k : Key) → HasRoot nodes (parent_of nodes k)
@@ -227,11 +265,3 @@ module _ {T : Type 0} (nodes : Nodes T) where
       by : (o : Option Key) → parent_of nodes k ≡ o → HasRoot nodes o
       by None is = tt
       by (Some p) is = tree p (parent_there nodes tree k p is)
-
-module _ {N : Type 0} (parent : N → Option Key) where
-  -- the next root among these nodes
-  pub root_first : (nodes rest : List (Key × N)) (k : Key) (node : N) → nodes ≡ (k, node) ∷ rest → is_some (parent node) ≡ false → roots_by parent nodes ≡ k ∷ roots_by parent rest
-  root_first nodes rest k node is root = ap (roots_by parent) is ∙ ap (λ b. cond b (roots_by parent rest) (k ∷ roots_by parent rest)) root
-
-  pub root_passed : (nodes rest : List (Key × N)) (k : Key) (node : N) → nodes ≡ (k, node) ∷ rest → is_some (parent node) ≡ true → roots_by parent nodes ≡ roots_by parent rest
-  root_passed nodes rest k node is below = ap (roots_by parent) is ∙ ap (λ b. cond b (roots_by parent rest) (k ∷ roots_by parent rest)) below

@@ -1,8 +1,7 @@
 -- A walk down from a node: the keys that were listed, and those that are ahead.
-use Rattle.std.proofs.Common.{◌≡◌, ◌≢◌, ◌⊎◌, ℕ, zero, suc, ◌+◌, ◌<◌, ◌≤◌, Some, List, [], ◌∷◌, ◌++◌, length, length-append, refl, sym, ap, subst, ◌∙◌, inl, inr, arith, append_assoc, append-nil}
-use Rattle.std.specs.Prelude.{Option, None, option_to_list, reverse, map as list_map}
-use Rattle.std.proofs.lemmas.List.{reverse-append}
-use Rattle.slotmap_keylist.specs.Linked.{first_or}
+use Rattle.std.proofs.Common.{◌≡◌, ◌≢◌, ◌⊎◌, ℕ, zero, suc, ◌+◌, ◌<◌, ◌≤◌, Some, List, [], ◌∷◌, ◌++◌, length}
+use Rattle.std.proofs.Common.{length-append, refl, sym, ap, subst, ◌∙◌, inl, inr, arith, append_assoc}
+use Rattle.std.specs.Prelude.{map as list_map}
 use Rattle.std.specs.List.{All}
 use Rattle.std.proofs.lemmas.List.Elements.{All-nil, All-cons}
 use Rattle.std.specs.FinMap as map
@@ -17,53 +16,26 @@ use Rattle.slotmap_scene.specs.Family.{children_of, IsScene}
 use Rattle.slotmap_scene.proofs.Climbs.{has_parent, no_cycle}
 use Rattle.slotmap_scene.proofs.Moved.{listed_once, listed_few, listed_parent}
 
--- one key more at the back, or none
-reverse_pushed : (xs : List Key) (o : Option Key) → reverse (xs ++ option_to_list o) ≡ option_to_list o ++ reverse xs
-reverse_pushed xs None = ap reverse (append-nil xs)
-reverse_pushed xs (Some k) = reverse-append xs (k ∷ [])
-
 -- what holds of each key that is listed
-pub each_listed : {K : Type 0} (data_of : K → Key) (P : Key → Type 0) (xs : List K) → ((k : Key) → 0 < times k (list_map data_of xs) → P k) → All (λ x. P (data_of x)) xs
+pub each_listed : {K : Type 0} (data_of : K → Key) (P : Key → Type 0) (xs : List K) → ((k : Key) → 0 < times k (list_map data_of xs) → P k)
+    → All (λ x. P (data_of x)) xs
 each_listed data_of P [] only = All-nil _
 each_listed data_of P (x ∷ xs) only = All-cons (λ y. P (data_of y)) x xs
     (only (data_of x) (let first = times_first (data_of x) (data_of x) (list_map data_of xs) in let one = one_itself (data_of x) in omega arith))
     (each_listed data_of P xs (λ k more. only k (let first = times_first k (data_of x) (list_map data_of xs) in omega arith)))
 
 module _ {T : Type 0} where
-  -- what is ahead, by the keys on a stack, the next one first: each stands for itself and the siblings behind it
-  abbrev Stacked : Nodes T → List Key → List Key → Type 0
-  Stacked nodes [] ahead = ahead ≡ []
-  Stacked nodes (q ∷ qs) ahead =
-      (p : Key) × (before : List Key) × (after : List Key) × (others : List Key) × (children_of nodes p ≡ before ++ q ∷ after) × (ahead ≡ q ∷ (after ++ others)) × Stacked nodes qs others
-
-  -- a list of siblings is put on the stack by its first key
-  stacked_list : (nodes : Nodes T) (p : Key) (before ks : List Key) → children_of nodes p ≡ before ++ ks → (stack others : List Key) → Stacked nodes stack others
-      → Stacked nodes (option_to_list (first_or ks None) ++ stack) (ks ++ others)
-  stacked_list nodes p before [] is stack others stacked = stacked
-  stacked_list nodes p before (k ∷ ks) is stack others stacked = (p, before, ks, others, is, refl, stacked)
-
-  -- the next key is taken from the stack, and those behind it and below it are put there
-  stacked_step : (nodes : Nodes T) (q : Key) (qs ahead : List Key) → Stacked nodes (q ∷ qs) ahead → (next first : Option Key)
-      → ((p : Key) (before after : List Key) → children_of nodes p ≡ before ++ q ∷ after → next ≡ first_or after None) → first ≡ first_or (children_of nodes q) None
-      → (others : List Key) × (ahead ≡ q ∷ others) × Stacked nodes (option_to_list first ++ (option_to_list next ++ qs)) (children_of nodes q ++ others)
-  stacked_step nodes q qs ahead s next first next_is first_is =
-      let later = subst (λ o. Stacked nodes (option_to_list o ++ qs) (s.2 ++ s.3)) (sym (next_is s.0 s.1 s.2 s.4)) (stacked_list nodes s.0 (s.1 ++ q ∷ []) s.2 (s.4 ∙ sym (append_assoc s.1 (q ∷ []) s.2)) qs s.3 s.6) in (
-        s.2 ++ s.3,
-        s.5,
-        subst (λ o. Stacked nodes (option_to_list o ++ (option_to_list next ++ qs)) (children_of nodes q ++ (s.2 ++ s.3))) (sym first_is)
-            (stacked_list nodes q [] (children_of nodes q) refl (option_to_list next ++ qs) (s.2 ++ s.3) later),
-      )
-
   module _ (nodes : Nodes T) (node : Key) where
     -- each key that was listed, or is ahead, is so once, and its parent is the node or was listed; and so is each child of these
     pub record Descending (listed ahead : List Key) : Type 0 where
       pub order : (rest : List Key) → GoesDown nodes ahead rest → GoesDown nodes (children_of nodes node) (listed ++ rest)
       pub once : (k : Key) → times k listed + times k ahead ≤ 1
-      named : (k : Key) → 0 < times k listed + times k ahead → (p : Key) × (parent_of nodes k ≡ Some p) × ((p ≡ node) ⊎ (0 < times p listed)) × IsWithin nodes p node
+      named : (k : Key) → 0 < times k listed + times k ahead
+          → (p : Key) × (parent_of nodes k ≡ Some p) × ((p ≡ node) ⊎ (0 < times p listed)) × IsWithin nodes p node
       closed : (k p : Key) → parent_of nodes k ≡ Some p → (p ≡ node) ⊎ (0 < times p listed) → 0 < times k listed + times k ahead
 
   module _ (nodes : Nodes T) (scene : IsScene nodes) (node : Key) where
-    descending_start : Descending nodes node [] (children_of nodes node)
+    pub descending_start : Descending nodes node [] (children_of nodes node)
     descending_start = record {
       order = λ rest goes. goes;
       once = λ k. (let few = listed_few nodes scene.listed node k in omega arith);
@@ -75,7 +47,7 @@ module _ {T : Type 0} where
     }
 
     module _ (listed ahead : List Key) (d : Descending nodes node listed ahead) where
-      below_node : (k : Key) → 0 < times k listed + times k ahead → has_node nodes k × IsWithin nodes k node × (k ≢ node)
+      pub below_node : (k : Key) → 0 < times k listed + times k ahead → has_node nodes k × IsWithin nodes k node × (k ≢ node)
       below_node k more =
           let from = d.named k more in (
             has_parent nodes k from.0 from.1,
@@ -88,7 +60,8 @@ module _ {T : Type 0} where
         counted : (k : Key) → times k ahead ≡ same q k + times k others
         counted k = ap (times k) is ∙ times_first k q others
 
-        after : (k : Key) → times k (listed ++ q ∷ []) + times k (children_of nodes q ++ others) ≡ times k listed + times k ahead + times k (children_of nodes q)
+        after : (k : Key) → times k (listed ++ q ∷ []) + times k (children_of nodes q ++ others)
+            ≡ times k listed + times k ahead + times k (children_of nodes q)
         after k = let a = times_pushed k listed q in let b = times_joined k (children_of nodes q) others in let c = counted k in omega arith
 
         next_ahead : 0 < times q listed + times q ahead
@@ -112,9 +85,10 @@ module _ {T : Type 0} where
                   | inr was ↦ absurd (let w = rw p_is at was in let none = not_listed in omega arith)
                 ]
 
-        descending_step : Descending nodes node (listed ++ q ∷ []) (children_of nodes q ++ others)
+        pub descending_step : Descending nodes node (listed ++ q ∷ []) (children_of nodes q ++ others)
         descending_step = record {
-          order = λ rest goes. subst (GoesDown nodes (children_of nodes node)) (sym (append_assoc listed (q ∷ []) rest)) (d.order (q ∷ rest) (others, (is, goes)));
+          order = λ rest goes. subst (GoesDown nodes (children_of nodes node)) (sym (append_assoc listed (q ∷ []) rest))
+              (d.order (q ∷ rest) (others, (is, goes)));
           once = λ k. once_after k;
           named = λ k more. named_after k more;
           closed = λ k p own from. closed_after k p own from;
@@ -131,7 +105,8 @@ module _ {T : Type 0} where
                 → (p : Key) × (parent_of nodes k ≡ Some p) × ((p ≡ node) ⊎ (0 < times p (listed ++ q ∷ []))) × IsWithin nodes p node
             named_after k more = by (times k (children_of nodes q)) refl
               where
-                by : (n : ℕ) → times k (children_of nodes q) ≡ n → (p : Key) × (parent_of nodes k ≡ Some p) × ((p ≡ node) ⊎ (0 < times p (listed ++ q ∷ []))) × IsWithin nodes p node
+                by : (n : ℕ) → times k (children_of nodes q) ≡ n
+                    → (p : Key) × (parent_of nodes k ≡ Some p) × ((p ≡ node) ⊎ (0 < times p (listed ++ q ∷ []))) × IsWithin nodes p node
                 by zero none =
                     let from = d.named k (let a = after k in omega arith) in
                     (from.0, from.1, elim from.2 [ inl at ↦ inl at | inr was ↦ inr (let a = times_pushed from.0 listed q in omega arith) ], from.3)
@@ -142,14 +117,19 @@ module _ {T : Type 0} where
                   (below_node q next_ahead).1,
                 )
 
-            closed_after : (k p : Key) → parent_of nodes k ≡ Some p → (p ≡ node) ⊎ (0 < times p (listed ++ q ∷ [])) → 0 < times k (listed ++ q ∷ []) + times k (children_of nodes q ++ others)
+            closed_after : (k p : Key) → parent_of nodes k ≡ Some p → (p ≡ node) ⊎ (0 < times p (listed ++ q ∷ []))
+                → 0 < times k (listed ++ q ∷ []) + times k (children_of nodes q ++ others)
             closed_after k p own from =
                 let a = after k in
                 elim from [
                   | inl at ↦ (let more = d.closed k p own (inl at) in omega arith)
                   | inr some ↦ elim (same_or_other p q) [
                     | inl here ↦ (let one = listed_once nodes scene.listed q k (own ∙ ap Some here) in omega arith)
-                    | inr other ↦ (let b = times_pushed p listed q in let none = one_other q p (λ e. other (sym e)) in let more = d.closed k p own (inr (omega arith)) in omega arith)
+                    | inr other ↦ (
+                        let b = times_pushed p listed q in
+                        let none = one_other q p (λ e. other (sym e)) in
+                        let more = d.closed k p own (inr (omega arith)) in
+                        omega arith)
                   ]
                 ]
 
@@ -169,7 +149,7 @@ module _ {T : Type 0} where
       steps_listed zero k is = inl is
       steps_listed (suc n) k steps = inr (let more = done.closed k steps.0 steps.1.0 (steps_listed n steps.0 steps.1.1) in omega arith)
 
-      all_listed : (k : Key) → IsWithin nodes k node → k ≢ node → 0 < times k listed
+      pub all_listed : (k : Key) → IsWithin nodes k node → k ≢ node → 0 < times k listed
       all_listed k w apart = elim (steps_listed w.0 k w.1) [ inl is ↦ absurd (apart is) | inr more ↦ more ]
 
   -- these are the keys of all that is below a node
@@ -177,38 +157,4 @@ module _ {T : Type 0} where
     pub order : GoesDown nodes (children_of nodes node) listed
     pub all : (k : Key) → IsWithin nodes k node → k ≢ node → 0 < times k listed
     pub only : (k : Key) → 0 < times k listed → has_node nodes k × IsWithin nodes k node × (k ≢ node)
-
--- a walk whose keys ahead are kept on a stack, the next one last
-abbrev pub Walks : {T : Type 0} → Nodes T → Key → List Key → List Key → Type 0
-Walks nodes node listed stack = (ahead : List Key) × Stacked nodes (reverse stack) ahead × Descending nodes node listed ahead
-
-module _ {T : Type 0} (nodes : Nodes T) (scene : IsScene nodes) (node : Key) where
-  pub walk_start : (stack : List Key) (first : Option Key) → stack ≡ option_to_list first → first ≡ first_or (children_of nodes node) None → Walks nodes node [] stack
-  walk_start stack first is first_is = (
-    children_of nodes node ++ [],
-    subst (λ ks. Stacked nodes ks (children_of nodes node ++ [])) (sym (ap reverse is ∙ reverse_pushed [] first ∙ ap (λ o. option_to_list o ++ []) first_is)) (stacked_list nodes node [] (children_of nodes node) refl [] [] refl),
-    subst (Descending nodes node []) (sym (append-nil (children_of nodes node))) (descending_start nodes scene node),
-  )
-
-  module _ (listed stack rest : List Key) (q : Key) (w : Walks nodes node listed stack) (is : stack ≡ rest ++ q ∷ []) where
-    stacked : Stacked nodes (q ∷ reverse rest) w.0
-    stacked = subst (λ ks. Stacked nodes ks w.0) (ap reverse is ∙ reverse-append rest (q ∷ [])) w.1
-
-    pub walk_longer : length listed < map.len nodes
-    walk_longer = longer nodes scene node listed w.0 w.2 q (stacked.2 ++ stacked.3) stacked.5
-
-    pub walk_step : (next first : Option Key) → ((p : Key) (before after : List Key) → children_of nodes p ≡ before ++ q ∷ after → next ≡ first_or after None) → first ≡ first_or (children_of nodes q) None
-        → (new : List Key) → new ≡ (rest ++ option_to_list next) ++ option_to_list first → Walks nodes node (listed ++ q ∷ []) new
-    walk_step next first next_is first_is new new_is =
-        let step = stacked_step nodes q (reverse rest) w.0 stacked next first next_is first_is in
-        let turned = ap reverse new_is ∙ reverse_pushed (rest ++ option_to_list next) first ∙ ap (λ ks. option_to_list first ++ ks) (reverse_pushed rest next) in
-        (children_of nodes q ++ step.0, subst (λ ks. Stacked nodes ks (children_of nodes q ++ step.0)) (sym turned) step.2, descending_step nodes scene node listed w.0 w.2 q step.0 step.1)
-
-  pub descended : (listed stack : List Key) → Walks nodes node listed stack → stack ≡ [] → Descended nodes node listed
-  descended listed stack w none =
-      let done = subst (Descending nodes node listed) (subst (λ ks. Stacked nodes (reverse ks) w.0) none w.1) w.2 in
-      record {
-        order = subst (GoesDown nodes (children_of nodes node)) (append-nil listed) (done.order [] refl);
-        all = all_listed nodes scene node listed done;
-        only = λ k more. below_node nodes scene node listed [] done k (omega arith);
-      }
+    pub once : (k : Key) → times k listed ≤ 1

@@ -1,10 +1,15 @@
+mod ByLevel
 pub mod Callers
 mod Climbs
 mod Descending
+mod Families
+mod Indices
+pub mod KeyLoops
+pub mod ListedWorlds
 mod Moved
-mod Neighbours
 pub mod Offsets
+mod Placing
 mod Removals
-mod Showing
-mod Weaving
+mod SceneSteps
+mod WalkingDown
 pub mod Worlds

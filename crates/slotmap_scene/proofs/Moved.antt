@@ -1,25 +1,21 @@
 -- The parent and the children of each node, and what a scene is once a node became a root, was moved below another one, or came.
-use Rattle.std.proofs.Common.{◌≡◌, ◌≢◌, ℕ, zero, suc, ◌+◌, ◌≤◌, ◌<◌, Option, Some, None, List, is_some, refl, sym, ap, subst, ◌∙◌, inl, inr, arith, Result, Ok, Err, IfOk, OnErr, [], ◌∷◌, ◌++◌, true, false, cond, append_assoc, append-nil}
+use Rattle.std.proofs.Common.{◌≡◌, ◌≢◌, ℕ, zero, suc, ◌+◌, ◌≤◌, ◌<◌, Option, Some, None, List, is_some, refl, sym, ap, subst, ◌∙◌, inl, inr, arith, Result, Ok, Err, IfOk, OnErr, [], ◌∷◌, ◌++◌, true, false, cond}
 use Rattle.std.specs.Prelude.{option_map}
 use Rattle.std.specs.FinMap as map
 use Rattle.slotmap.specs.Words.{Key, Content, ClonesEqual, IsCloneOf, IsCloneBy, key_cmp, KeepsSpent, Leaves, Inserts, Keeps}
 use Rattle.slotmap.proofs.Callers.{same_or_other, clone_live, leaves_none, leaves_by_write, get-insert_here, get-insert_other, keys_total, exact_keys, none_of}
 use Rattle.slotmap_keylist.specs.KeyLists.{same, times, without, is_key}
 use Rattle.slotmap_keylist.proofs.Changed.{changed_keeps, changed_gives, changed_here, changed_other}
-use Rattle.slotmap_keylist.proofs.Counts.{one_itself, one_other, times_gone, times_without, times_pushed, without_none, is_itself, is_other, times_first}
+use Rattle.slotmap_keylist.proofs.Counts.{one_itself, one_other, times_gone, times_without, times_pushed, without_none, times_first}
 use Rattle.slotmap_keylist.proofs.Alone.{len_alike}
 use Rattle.slotmap_keylist.proofs.Shown.{shown_spent}
 use Rattle.slotmap_keylist.specs.Changed.{changed}
-use Rattle.slotmap_keylist.specs.declared.Link.{Link}
-use Rattle.slotmap_keylist.specs.Linked.{first_or, last_or, link_between}
-use Rattle.slotmap_keylist.proofs.Linking.{in_midst}
 use Rattle.slotmap_scene.specs.Node.{Node, Nodes}
 use Rattle.slotmap_scene.specs.Climb.{has_node, parent_in, parent_of, IsWithin, lacks_node, StepsTo, with_parent}
-use Rattle.slotmap_scene.specs.Family.{is_parent, children_in, children_of, AreListed, IsMoved, IsScene, IsNodeClone, with_value, with_children_in, with_children_of, IsNewChild, as_child, as_root, child, forgets, value_of, without_child, around, beside_first, placed}
+use Rattle.slotmap_scene.specs.Family.{is_parent, children_in, children_of, AreListed, IsMoved, IsScene, IsNodeClone, with_value, with_children_in, with_children_of, IsNewChild, as_child, as_root, child, forgets, value_of, without_child, beside_first, placed}
 use Rattle.slotmap_scene.proofs.Climbs.{tree_moved, tree_same, parent_there}
 use Rattle.slotmap_scene.specs.declared.tree.Side.{Side}
 use Rattle.slotmap_scene.specs.declared.tree.Side.TheVariants.{Before, After}
-use Rattle.slotmap_scene.specs.LinkedNodes.{IsPlace}
 
 -- who is a parent of whom
 is_its_parent : (o : Option Key) (p : Key) → o ≡ Some p → is_parent o p ≡ 1
@@ -364,36 +360,3 @@ module _ (side : Side) (s k : Key) where
       at_once : (side : Side) → times x (beside_first side k q qs) ≡ times x (q ∷ qs) + same k x
       at_once Before = let first = times_first x k (q ∷ qs) in omega arith
       at_once After = let first = times_first x q (k ∷ qs) in let next = times_first x k qs in let was = times_first x q qs in omega arith
-
-  placed_at : (b a : List Key) → times s b ≡ 0 → placed side s k (b ++ s ∷ a) ≡ b ++ beside_first side k s a
-  placed_at [] a none = ap (λ t. cond t (beside_first side k s a) (s ∷ placed side s k a)) (is_itself s)
-  placed_at (q ∷ b) a none =
-      let first = times_first s q b in
-      let other = is_other q s (λ is. absurd (let one = ap (λ x. same x s) is ∙ one_itself s in omega arith)) in
-      ap (λ t. cond t (beside_first side k q (b ++ s ∷ a)) (q ∷ placed side s k (b ++ s ∷ a))) other ∙ ap (λ l. q ∷ l) (placed_at b a (omega arith))
-
-placed_is : (side : Side) (s k : Key) (b a : List Key) → times s b ≡ 0 → (around side b s a).0 ++ k ∷ (around side b s a).1 ≡ placed side s k (b ++ s ∷ a)
-placed_is Before s k b a none = sym (placed_at Before s k b a none)
-placed_is After s k b a none = append_assoc b (s ∷ []) (k ∷ a) ∙ sym (placed_at After s k b a none)
-
-beside_list : (side : Side) (b : List Key) (s : Key) (a : List Key) → b ++ s ∷ a ≡ (around side b s a).0 ++ (around side b s a).1
-beside_list Before b s a = refl
-beside_list After b s a = sym (append_assoc b (s ∷ []) a)
-
-module _ {T : Type 0} (nodes : Nodes T) (p : Key) where
-  -- the place behind all children
-  pub last_place : (l : Option Key) → l ≡ last_or (children_of nodes p) None → IsPlace nodes p (record { prev = l; next = None }) (children_of nodes p) []
-  last_place l is = record { list = sym (append-nil (children_of nodes p)); link = ap (λ o. record { prev = o; next = None }) is }
-
-  -- the place in front of all children
-  pub first_place : (f : Option Key) → f ≡ first_or (children_of nodes p) None → IsPlace nodes p (record { prev = None; next = f }) [] (children_of nodes p)
-  first_place f is = record { list = refl; link = ap (λ o. record { prev = None; next = o }) is }
-
-  -- and the one beside a child
-  pub side_place : (side : Side) (s : Key) (b a : List Key) (l : Link Key) → children_of nodes p ≡ b ++ s ∷ a → l ≡ link_between (around side b s a).0 (around side b s a).1 → IsPlace nodes p l (around side b s a).0 (around side b s a).1
-  side_place side s b a l is link = record { list = is ∙ beside_list side b s a; link = link }
-
-  pub side_put : (side : Side) (s k : Key) (b a : List Key) → children_of nodes p ≡ b ++ s ∷ a → times s (children_of nodes p) ≡ 1 → (around side b s a).0 ++ k ∷ (around side b s a).1 ≡ placed side s k (children_of nodes p)
-  side_put side s k b a is once =
-      let sum = sym once ∙ ap (times s) is ∙ in_midst b s a in
-      placed_is side s k b a (omega arith) ∙ ap (placed side s k) (sym is)

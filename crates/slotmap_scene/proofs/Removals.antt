@@ -4,8 +4,7 @@ use Rattle.std.specs.Prelude.{option_map}
 use Rattle.std.specs.FinMap as map
 use Rattle.slotmap.specs.Words.{Key}
 use Rattle.slotmap.proofs.Callers.{keys, same_or_other, keys_total, exact_keys, len_removed}
-use Rattle.slotmap_keylist.specs.KeyLists.{times, without}
-use Rattle.slotmap_keylist.specs.Linked.{last_or}
+use Rattle.slotmap_keylist.specs.KeyLists.{last_or, times, without}
 use Rattle.slotmap_keylist.proofs.Alone.{len_alike}
 use Rattle.slotmap_keylist.proofs.Counts.{times_pushed}
 use Rattle.slotmap_keylist.proofs.Linking.{last_in}
@@ -59,7 +58,7 @@ module _ {T : Type 0} (nodes : Nodes T) (scene : IsScene nodes) (k : Key) (live 
   pruned_of P f none some q other = (let kept : map.get pruned q ≡ map.get left q = grind (arith, keys) in ap P kept) ∙ left_of nodes scene k P f none some q
 
   -- no node has it as its parent
-  childless : (q : Key) → parent_of nodes q ≡ Some k → ⊥
+  pub childless : (q : Key) → parent_of nodes q ≡ Some k → ⊥
   childless q is = let one = listed_once nodes scene.listed k q is in let none = ap (times q) leaf in absurd (omega arith)
 
   leads_past : (n : ℕ) (q : Key) → q ≢ k → ClimbsTo nodes n q → ClimbsTo pruned n q

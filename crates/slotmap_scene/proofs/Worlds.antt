@@ -15,7 +15,8 @@ use Rattle.slotmap_scene.specs.WorldValue.{IsPathFrom, IsPathUp, world_along, Is
 
 module _ {T : Type 0} (nodes : Nodes T) where
   -- the node at k, in front of a path from its parent
-  path_step : (k : Key) (node : Node T) → map.get nodes k ≡ Some node → (above : List T) → IsPathFrom nodes node.parent above → IsPathUp nodes k (node.value ∷ above)
+  path_step : (k : Key) (node : Node T) → map.get nodes k ≡ Some node → (above : List T) → IsPathFrom nodes node.parent above
+      → IsPathUp nodes k (node.value ∷ above)
   path_step k node there above path =
       (ap (option_map (λ n. n.value)) there, subst (λ p. IsPathFrom nodes p above) (sym (ap parent_in there)) path)
 
@@ -24,11 +25,12 @@ module _ {T : Type 0} (nodes : Nodes T) where
   root_path k node there top = path_step k node there [] (subst (λ p. IsPathFrom nodes p []) (sym top) tt)
 
   -- any other node is in front of a path from its parent
-  child_path : (k p : Key) (node : Node T) → map.get nodes k ≡ Some node → node.parent ≡ Some p → (above : List T) → IsPathUp nodes p above → IsPathUp nodes k (node.value ∷ above)
+  child_path : (k p : Key) (node : Node T) → map.get nodes k ≡ Some node → node.parent ≡ Some p → (above : List T)
+      → IsPathUp nodes p above → IsPathUp nodes k (node.value ∷ above)
   child_path k p node there up above path = path_step k node there above (subst (λ q. IsPathFrom nodes q above) (sym up) path)
 
   -- a path goes up from a node that is there
-  path_live : (k : Key) (values : List T) → IsPathUp nodes k values → has_node nodes k
+  pub path_live : (k : Key) (values : List T) → IsPathUp nodes k values → has_node nodes k
   path_live k [] path = absurd path
   path_live k (v ∷ above) path = found (map.get nodes k) path.0
     where
@@ -56,8 +58,17 @@ module _ {T : Type 0} (nodes : Nodes T) where
       let above : a.above ≡ b.above = cc in
       a.made ∙ (λ i. world_along under (own i) (above i)) ∙ sym b.made
 
+  pub one_world_of : {W : Type 0} (under : W → W → W) (of : T → W) (k : Key) (v w : W) → IsWorldOf under of nodes k v
+      → IsWorldOf under of nodes k w → v ≡ w
+  one_world_of under of k v w a b =
+      let same = one_path (Some k) (a.own ∷ a.above) (b.own ∷ b.above) a.path b.path in
+      let own : a.own ≡ b.own = cc in
+      let above : a.above ≡ b.above = cc in
+      a.made ∙ (λ i. world_along under (of (own i)) (list_map of (above i))) ∙ sym b.made
+
   -- a root is where its own value says
-  pub world_root : (under : T → T → T) (k : Key) (node : Node T) → map.get nodes k ≡ Some node → node.parent ≡ None → IsWorld under nodes k node.value
+  pub world_root : (under : T → T → T) (k : Key) (node : Node T) → map.get nodes k ≡ Some node → node.parent ≡ None
+      → IsWorld under nodes k node.value
   world_root under k node there top = record { own = node.value; above = []; path = root_path k node there top; made = refl }
 
   -- any other node is where its own value says, under its parent
@@ -112,8 +123,10 @@ module _ {F A T : Type 0} (g : Mut F (A × (Bor T × Unit {0})) A) (nodes : Node
   pub folding_start : (k : Key) (f : F) (start : A) → Folding k f start k f start
   folding_start k f start = record { below = []; calls = refl; path = λ above up. up }
 
-  module _ (from : Key) (f₀ : F) (start : A) (at : Key) (f : F) (total : A) (folding : Folding from f₀ start at f total) (node : Node T) (there : map.get nodes at ≡ Some node) where
-    pub folding_takes : CallableUp g nodes from f₀ start → (n : ℕ) → ClimbsTo nodes n at → (shown : Bor T) → shown.now ≡ node.value → Takes g f (total, (shown, tt))
+  module _ (from : Key) (f₀ : F) (start : A) (at : Key) (f : F) (total : A) (folding : Folding from f₀ start at f total)
+      (node : Node T) (there : map.get nodes at ≡ Some node) where
+    pub folding_takes : CallableUp g nodes from f₀ start → (n : ℕ) → ClimbsTo nodes n at → (shown : Bor T) → shown.now ≡ node.value
+        → Takes g f (total, (shown, tt))
     folding_takes callable n leads shown same =
         let up = path_of nodes n at leads in
         let path : IsPathUp nodes at (shown.now ∷ up.1) = (ap (option_map (λ n. n.value)) there ∙ ap Some (sym same), up.2.1) in
@@ -127,11 +140,16 @@ module _ {F A T : Type 0} (g : Mut F (A × (Bor T × Unit {0})) A) (nodes : Node
       folding_step p is = record {
         below = folding.below ++ node.value ∷ [];
         calls = folded_here;
-        path = λ above up. subst (IsPathUp nodes from) (sym (append_assoc folding.below (node.value ∷ []) above)) (folding.path (node.value ∷ above) (child_path nodes at p node there is above up));
+        path = λ above up. rw append_assoc (folding.path (node.value ∷ above) (child_path nodes at p node there is above up));
       }
 
       pub folding_end : node.parent ≡ None → FoldsUp g nodes from f₀ start next
-      folding_end is = record { values = folding.below ++ node.value ∷ []; path = folding.path (node.value ∷ []) (root_path nodes at node there is); last = f'; calls = folded_here }
+      folding_end is = record {
+        values = folding.below ++ node.value ∷ [];
+        path = folding.path (node.value ∷ []) (root_path nodes at node there is);
+        last = f';
+        calls = folded_here;
+      }
 
 -- a fold by the closure that puts what there is so far under the transform of the next value
 module _ {F T W : Type 0} (g : Mut F (W × (Bor T × Unit {0})) W) (under : W → W → W) (of : T → W)
@@ -152,11 +170,13 @@ module _ {F T W : Type 0} (g : Mut F (W × (Bor T × Unit {0})) W) (under : W �
     }
 
 -- a root is where its own transform says
-pub composed_root : {T W : Type 0} (nodes : Nodes T) (under : W → W → W) (of : T → W) (k : Key) (node : Node T) → map.get nodes k ≡ Some node → node.parent ≡ None → IsComposed under of nodes k (of node.value)
+pub composed_root : {T W : Type 0} (nodes : Nodes T) (under : W → W → W) (of : T → W) (k : Key) (node : Node T)
+    → map.get nodes k ≡ Some node → node.parent ≡ None → IsComposed under of nodes k (of node.value)
 composed_root nodes under of k node there top = record { own = node.value; above = []; path = root_path nodes k node there top; made = refl }
 
 -- where transforms join, it doesn't matter in which order they are put together
-pub joined_world : {T : Type 0} (nodes : Nodes T) (under : T → T → T) (k : Key) (result : Option T) → IfSome result (IsComposed under (λ v. v) nodes k) → Joins under → IfSome result (IsWorld under nodes k)
+pub joined_world : {T : Type 0} (nodes : Nodes T) (under : T → T → T) (k : Key) (result : Option T)
+    → IfSome result (IsComposed under (λ v. v) nodes k) → Joins under → IfSome result (IsWorld under nodes k)
 joined_world nodes under k None composed joins = tt
 joined_world nodes under k (Some w) composed joins = record {
   own = composed.own;
@@ -165,24 +185,39 @@ joined_world nodes under k (Some w) composed joins = record {
   made = composed.made ∙ fold_world under joins composed.own composed.above;
 }
 
-pub joined_of_folds : {F T : Type 0} (g : Mut F (T × (Bor T × Unit {0})) T) (under : T → T → T) → ((f f' : F) (v p w : T) → CallsAt g (f, v) p (f', w) → w ≡ under v p)
-    → (nodes : Nodes T) (k p : Key) (node : Node T) → map.get nodes k ≡ Some node → node.parent ≡ Some p → (f : F) (result : Option T) → IfSome result (FoldsUp g nodes p f node.value)
+pub joined_of_folds : {F T : Type 0} (g : Mut F (T × (Bor T × Unit {0})) T) (under : T → T → T)
+    → ((f f' : F) (v p w : T) → CallsAt g (f, v) p (f', w) → w ≡ under v p)
+    → (nodes : Nodes T) (k p : Key) (node : Node T) → map.get nodes k ≡ Some node → node.parent ≡ Some p → (f : F) (result : Option T)
+    → IfSome result (FoldsUp g nodes p f node.value)
     → Joins under → IfSome result (IsWorld under nodes k)
-joined_of_folds g under puts nodes k p node there up f result folds = joined_world nodes under k result (composed_of_folds g under (λ v. v) puts nodes k p node there up f result folds)
+joined_of_folds g under puts nodes k p node there up f result folds =
+    joined_world nodes under k result (composed_of_folds g under (λ v. v) puts nodes k p node there up f result folds)
 
 -- a fold of the transforms that the values have
-fold_of : {T W : Type 0} (under : W → W → W) (of : T → W) (v : W) (above : List T) → fold (λ so_far p. under so_far (of p)) v above ≡ fold under v (list_map of above)
+fold_of : {T W : Type 0} (under : W → W → W) (of : T → W) (v : W) (above : List T)
+    → fold (λ so_far p. under so_far (of p)) v above ≡ fold under v (list_map of above)
 fold_of under of v [] = refl
 fold_of under of v (p ∷ above) = fold_of under of (under v (of p)) above
 
 -- the same of the transforms that the values have
-pub joined_transform : {T W : Type 0} (nodes : Nodes T) (under : W → W → W) (of : T → W) (k : Key) (result : Option W) → IfSome result (IsComposed under of nodes k) → Joins under → IfSome result (IsWorldOf under of nodes k)
+pub joined_transform : {T W : Type 0} (nodes : Nodes T) (under : W → W → W) (of : T → W) (k : Key) (result : Option W)
+    → IfSome result (IsComposed under of nodes k) → Joins under → IfSome result (IsWorldOf under of nodes k)
 joined_transform nodes under of k None composed joins = tt
 joined_transform nodes under of k (Some w) composed joins = record {
   own = composed.own;
   above = composed.above;
   path = composed.path;
   made = composed.made ∙ fold_of under of (of composed.own) composed.above ∙ fold_world under joins (of composed.own) (list_map of composed.above);
+}
+
+pub world_composed : {T W : Type 0} (nodes : Nodes T) (under : W → W → W) (of : T → W) (k : Key) (w : W) → Joins under
+    → IsWorldOf under of nodes k w → IsComposed under of nodes k w
+world_composed nodes under of k w joins world = record {
+  own = world.own;
+  above = world.above;
+  path = world.path;
+  made = world.made
+      ∙ sym (fold_of under of (of world.own) world.above ∙ fold_world under joins (of world.own) (list_map of world.above));
 }
 
 -- where there is no parent, there is no node
@@ -195,20 +230,21 @@ module _ {T : Type 0} (nodes : Nodes T) (k p : Key) (node : Node T) (there : map
 module _ {T : Type 0} (old new : Nodes T) (k : Key) (values : (q : Key) → has_node old q → q ≢ k → value_of new q ≡ value_of old q)
     (parents : (q : Key) → has_node old q → q ≢ k → parent_of new q ≡ parent_of old q) where
   -- a path stays that doesn't come by k
-  path_kept : (Past : Key → Type 0) → ((q : Key) → Past q → has_node old q → q ≢ k) → ((q r : Key) → Past q → parent_of old q ≡ Some r → Past r)
+  path_kept : (Past : Key → Type 0) → ((q : Key) → Past q → has_node old q → q ≢ k)
+      → ((q r : Key) → Past q → parent_of old q ≡ Some r → Past r)
       → (q : Option Key) (vs : List T) → ((r : Key) → q ≡ Some r → Past r) → IsPathFrom old q vs → IsPathFrom new q vs
   path_kept Past apart up None [] past path = tt
   path_kept Past apart up None (v ∷ above) past path = absurd path
   path_kept Past apart up (Some q) [] past path = absurd path
   path_kept Past apart up (Some q) (v ∷ above) past path =
       let live = path_live old q (v ∷ above) path in
-      let other = apart q (past q refl) live in (
-        values q live other ∙ path.0,
-        subst (λ r. IsPathFrom new r above) (sym (parents q live other)) (path_kept Past apart up (parent_of old q) above (λ r is. up q r (past q refl) is) path.1),
-      )
+      let other = apart q (past q refl) live in
+      let later = path_kept Past apart up (parent_of old q) above (λ r is. up q r (past q refl) is) path.1 in
+      (values q live other ∙ path.0, subst (λ r. IsPathFrom new r above) (sym (parents q live other)) later)
 
   -- k is where its own value says, under its new parent
-  module _ (under : T → T → T) (v : T) (p : Key) (w : T) (here : value_of new k ≡ Some v) (up : parent_of new k ≡ Some p) (world : IsWorld under old p w) where
+  module _ (under : T → T → T) (v : T) (p : Key) (w : T) (here : value_of new k ≡ Some v) (up : parent_of new k ≡ Some p)
+      (world : IsWorld under old p w) where
     under_parent : IsPathFrom new (Some p) (world.own ∷ world.above) → IsWorld under new k (under v w)
     under_parent path = record {
       own = v;
@@ -218,16 +254,22 @@ module _ {T : Type 0} (old new : Nodes T) (k : Key) (values : (q : Key) → has_
     }
 
     world_below : (IsWithin old p k → ⊥) → IsWorld under new k (under v w)
-    world_below out = under_parent (path_kept (λ q. IsWithin old q k → ⊥) (λ q outside live same. outside (zero, same)) (λ q r outside is w. outside (suc w.0, (r, (is, w.1))))
+    world_below out = under_parent (path_kept (λ q. IsWithin old q k → ⊥) (λ q outside live same. outside (zero, same))
+        (λ q r outside is w. outside (suc w.0, (r, (is, w.1))))
         (Some p) (world.own ∷ world.above) (λ r is within. out (let same : r ≡ p = cc in subst (λ x. IsWithin old x k) same within)) world.path)
 
     world_new : lacks_node old k → IsWorld under new k (under v w)
-    world_new fresh = under_parent (path_kept (λ q. Unit {0}) (λ q _ live same. (let h = sym (subst (has_node old) same live) ∙ fresh in cc)) (λ q r _ is. tt) (Some p) (world.own ∷ world.above) (λ r is. tt) world.path)
+    world_new fresh = under_parent (path_kept (λ q. Unit {0}) (λ q _ live same. (let h = sym (subst (has_node old) same live) ∙ fresh in cc))
+        (λ q r _ is. tt) (Some p) (world.own ∷ world.above) (λ r is. tt) world.path)
 
 -- after `reparent` a node is where its own value says, under its new parent, which is where it was
-module _ {T : Type 0} (old new : Nodes T) (k p : Key) {put : List Key → List Key} (trees : IsMoved old new k (Some p) put) (values : (q : Key) → value_of new q ≡ value_of old q) where
-  pub world_moved : (IsWithin old p k → ⊥) → (under : T → T → T) (v w : T) → value_of old k ≡ Some v → IsWorld under old p w → IsWorld under new k (under v w)
-  world_moved out under v w own world = world_below old new k (λ q there other. values q) (λ q there other. trees.parents q other) under v p w (values k ∙ own) trees.parent_is world out
+module _ {T : Type 0} (old new : Nodes T) (k p : Key) {put : List Key → List Key} (trees : IsMoved old new k (Some p) put)
+    (values : (q : Key) → value_of new q ≡ value_of old q) where
+  pub world_moved : (IsWithin old p k → ⊥) → (under : T → T → T) (v w : T) → value_of old k ≡ Some v → IsWorld under old p w
+      → IsWorld under new k (under v w)
+  world_moved out under v w own world =
+      world_below old new k (λ q there other. values q) (λ q there other. trees.parents q other)
+      under v p w (values k ∙ own) trees.parent_is world out
 
 -- where a node is that is added
 pub world_added_root : {T : Type 0} (nodes : Nodes T) (k : Key) (v : T) (under : T → T → T) → IsWorld under (map.insert nodes k (child None v)) k v
@@ -236,6 +278,9 @@ world_added_root nodes k v under = world_root (map.insert nodes k (child None v)
 pub world_added_child : {T : Type 0} (old new : Nodes T) (k p : Key) {v : T} {children : List Key} → IsNewChild old new k p v children → lacks_node old k
     → (under : T → T → T) (w : T) → IsWorld under old p w → IsWorld under new k (under v w)
 world_added_child old new k p {v} gains fresh under w world = world_new old new k
-    (λ q there other. elim (same_or_other q p) [ inl at ↦ rw at gains.value | inr elsewhere ↦ ap (option_map (λ n. n.value)) (gains.others q other elsewhere) ])
+    (λ q there other. elim (same_or_other q p) [
+      | inl at ↦ rw at gains.value
+      | inr elsewhere ↦ ap (option_map (λ n. n.value)) (gains.others q other elsewhere)
+    ])
     (λ q there other. elim (same_or_other q p) [ inl at ↦ rw at gains.parent | inr elsewhere ↦ ap parent_in (gains.others q other elsewhere) ])
     under v p w (ap (option_map (λ n. n.value)) gains.node) (ap parent_in gains.node) world fresh

@@ -8,7 +8,7 @@ use Rattle.slotmap_scene.specs.declared.tree.Side.{Side}
 use Rattle.slotmap_scene.specs.declared.tree.Side.TheVariants.{Before, After}
 use Rattle.slotmap_keylist.specs.Changed.{changed, changed_in}
 use Rattle.slotmap_keylist.specs.KeyLists.{is_key, same, times, without}
-use Rattle.slotmap_keylist.specs.Linked.{first_or}
+use Rattle.slotmap_links.specs.Lists.{first_or}
 
 -- the key behind k in a list, and the one in front of it, or another where there is none
 abbrev pub behind : Key → List Key → Option Key
@@ -43,11 +43,6 @@ beside_first After k q qs = q ∷ k ∷ qs
 abbrev pub placed : Side → Key → Key → List Key → List Key
 placed side s k [] = k ∷ []
 placed side s k (q ∷ qs) = cond (is_key q s) (beside_first side k q qs) (q ∷ placed side s k qs)
-
--- the two parts of a list that a place on this side of s is between, where these keys are before s and behind it
-abbrev pub around : Side → List Key → Key → List Key → List Key × List Key
-around Before before s after = (before, s ∷ after)
-around After before s after = (before ++ s ∷ [], after)
 
 module _ {T : Type 0} where
   -- the children of a node, if there is one

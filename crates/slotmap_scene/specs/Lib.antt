@@ -2,8 +2,9 @@ pub mod Above
 pub mod Below
 pub mod Climb
 pub mod Family
+pub mod Kept
 pub mod Lends
-pub mod LinkedNodes
+pub mod Levels
 pub mod Node
 pub mod Offset
 pub mod Refusals

@@ -5,7 +5,7 @@ use Rattle.slotmap.specs.declared.InsertError.{InsertError}
 use Rattle.slotmap.specs.declared.InsertError.TheVariants as insert
 use Rattle.slotmap_scene.specs.Node.{Node, Nodes}
 use Rattle.slotmap_scene.specs.declared.AddError.{AddError}
-use Rattle.slotmap_scene.specs.declared.AddError.TheVariants.{Gone, Full, Memory}
+use Rattle.slotmap_scene.specs.declared.AddError.TheVariants.{Gone, GoneSibling, Full, Memory}
 use Rattle.slotmap_scene.specs.declared.ReparentError.{ReparentError}
 use Rattle.slotmap_scene.specs.declared.ReparentError.TheVariants as move
 use Rattle.slotmap_scene.specs.declared.MoveError.{MoveError}
@@ -25,12 +25,14 @@ module _ {T : Type 0} where
   -- the same, and `Gone` if and only if there is no such parent
   abbrev pub RefusesChild : Content (Node T) → Key → T → AddError T → Type 0
   RefusesChild c parent v (Gone back) = lacks_node c.live parent × (back ≡ v)
+  RefusesChild c parent v (GoneSibling back) = ⊥
   RefusesChild c parent v (Full back) = has_node c.live parent × (used c ≡ most) × (back ≡ v)
   RefusesChild c parent v (Memory back) = has_node c.live parent × LacksRoom c × (back ≡ v)
 
-  -- the same of a sibling: `Gone` if and only if it has no parent
+  -- the same of a sibling: `GoneSibling` if and only if it has no parent
   abbrev pub RefusesSibling : Content (Node T) → Key → T → AddError T → Type 0
-  RefusesSibling c s v (Gone back) = (parent_of c.live s ≡ None) × (back ≡ v)
+  RefusesSibling c s v (Gone back) = ⊥
+  RefusesSibling c s v (GoneSibling back) = (parent_of c.live s ≡ None) × (back ≡ v)
   RefusesSibling c s v (Full back) = IsSome (parent_of c.live s) × (used c ≡ most) × (back ≡ v)
   RefusesSibling c s v (Memory back) = IsSome (parent_of c.live s) × LacksRoom c × (back ≡ v)
 

@@ -1,14 +1,15 @@
 //! Iterators over the nodes above a node, and over the roots.
 
-ghost use Rattle.std.specs.Prelude.{◌≡◌, is_some, not};
+ghost use Rattle.std.specs.Prelude.{◌≡◌, nat_eq};
 ghost use Rattle.std.specs.Iterator.{YieldsFirstBy, item_count};
 ghost use Rattle.std.specs.FinMap as map;
 ghost use Rattle.slotmap_scene.specs.Climb.{parent_of};
 ghost use Rattle.slotmap_scene.specs.Above.{GoesUp, HasRoot, roots_in};
+ghost use Rattle.slotmap_scene.specs.Kept.{parent_at};
 
 use crate::Scene;
 use crate::family::Nodes;
-use crate::links::LinkedNode;
+use crate::links::{NOBODY, index_of};
 use slotmap::{DefaultKey, Key, basic};
 use slotmap_keylist::{inner, outer};
 use std::iter::FusedIterator;
@@ -47,8 +48,7 @@ impl<'a, K: Key, T: Drop> Iterator for Ancestors<'a, K, T> {
 
     fn next(&mut self) -> Option<K> {
         let key = self.at?;
-        let node = self.nodes.get(key)?;
-        self.at = node.parent;
+        self.at = self.nodes.parent(key);
         Some(outer(key))
     }
 }
@@ -60,25 +60,29 @@ impl<'a, K: Key, T: Drop> FusedIterator for Ancestors<'a, K, T> {}
 /// A contract sees it as the list of the keys that it will still yield.
 #[derive(Drop)]
 pub struct Roots<'a, K, T> {
-    nodes: basic::Iter<'a, DefaultKey, LinkedNode<T>>,
+    nodes: basic::Keys<'a, DefaultKey, T>,
+    parents: &'a [u32],
     key_type: PhantomData<K>,
 }
 
 impl<'a, K, T> Model for Roots<'a, K, T> {
     ghost use Rattle.std.specs.Prelude.{List};
     ghost use Rattle.slotmap.specs.Words.{Key};
-    ghost use Rattle.slotmap_scene.specs.LinkedNodes.{linked_roots};
+    ghost use Rattle.slotmap_scene.specs.Kept.{roots_of};
 
     ghost Value = { List Key };
 
-    ghost view = { λ it. linked_roots it.nodes };
+    ghost view = { λ it. roots_of it.parents.now it.nodes };
 }
 
 // Whether a node has no parent.
-fn is_root<T>(node: &LinkedNode<T>) -> bool
-    ensures { is_some node.now.parent ≡ not result }
+fn is_root(parents: &[u32], node: DefaultKey) -> bool
+    ensures { result ≡ nat_eq (parent_at parents.now node.index) 0 }
 {
-    node.parent.is_none()
+    match parents.get(index_of(node) as usize) {
+        Some(parent) => *parent == NOBODY,
+        None => true,
+    }
 }
 
 impl<'a, K: Key, T: Drop> Iterator for Roots<'a, K, T> {
@@ -89,9 +93,9 @@ impl<'a, K: Key, T: Drop> Iterator for Roots<'a, K, T> {
     ghost remaining = { item_count (λ rest. rest) };
 
     fn next(&mut self) -> Option<K> {
-        while let Some(entry) = self.nodes.next() {
-            if is_root(entry.1) {
-                return Some(outer(entry.0));
+        while let Some(node) = self.nodes.next() {
+            if is_root(self.parents, node) {
+                return Some(outer(node));
             }
         }
         None
@@ -106,7 +110,7 @@ impl<K: Key, T: Drop> Scene<K, T> {
         ensures value { result ≡ parent_of self.now.live node }
         ensures rooted { HasRoot self.now.live result }
     {
-        self.nodes.get(node)?.parent
+        self.nodes.parent(node)
     }
 
     /// Returns an iterator over the keys of the nodes above a node: its parent first, and its root
@@ -149,7 +153,8 @@ impl<K: Key, T: Drop> Scene<K, T> {
         ensures { result ≡ roots_in (map.entries self.now.live) }
     {
         Roots {
-            nodes: self.nodes.iter(),
+            nodes: self.nodes.keys(),
+            parents: self.nodes.parents(),
             key_type: PhantomData,
         }
     }

@@ -2,13 +2,11 @@
 
 ghost use Rattle.std.specs.Prelude.{◌≡◌, ◌≤◌, length, Some, IfSome, ⊤};
 ghost use Rattle.std.specs.Iterator.{YieldsFirstBy, YieldsLastBy, item_count, at_most, UpTo};
-ghost use Rattle.slotmap_keylist.specs.Linked.{followed};
-ghost use Rattle.slotmap_keylist.specs.Segment.{IsSegment};
-ghost use Rattle.slotmap_scene.specs.LinkedNodes.{link_of};
 
-use crate::links::{LinkedNodes, link_of};
 use slotmap::{DefaultKey, Key};
-use slotmap_keylist::{Ends, outer};
+use slotmap_bounded::BoundedMap;
+use slotmap_keylist::outer;
+use slotmap_links::Members;
 use std::alloc::AllocError;
 use std::fmt;
 use std::iter::FusedIterator;
@@ -22,42 +20,25 @@ use std::marker::{Model, PhantomData};
 /// [`Scene::children`]: crate::Scene::children
 #[derive(Drop)]
 pub struct ChildKeys<'a, K, T> {
-    nodes: &'a LinkedNodes<T>,
-    first: Option<DefaultKey>,
-    last: Option<DefaultKey>,
-    left: usize,
-    key_type: PhantomData<K>,
+    pub(crate) nodes: &'a BoundedMap<DefaultKey, T>,
+    pub(crate) members: Members<'a>,
+    pub(crate) key_type: PhantomData<K>,
 }
 
 impl<'a, K, T> Model for ChildKeys<'a, K, T> {
     ghost use Rattle.std.specs.Prelude.{List};
     ghost use Rattle.slotmap.specs.Words.{Key};
-    ghost use Rattle.slotmap_keylist.specs.Linked.{follow};
-    ghost use Rattle.slotmap_keylist.specs.Segment.{IsSegment};
-    ghost use Rattle.slotmap_scene.specs.LinkedNodes.{link_of};
 
     ghost Value = { List Key };
 
-    ghost view = { λ it. follow (link_of it.nodes.now.live) it.left it.first };
+    ghost use Rattle.slotmap_scene.specs.Kept.{AreIndices, HaveIndices, keys_at};
 
-    ghost invariant = { λ it. IsSegment (link_of it.nodes.now.live) it.left it.first it.last };
+    ghost view = { λ it. keys_at it.nodes.now.live it.members };
+
+    ghost invariant = { λ it. HaveIndices it.nodes.now × AreIndices it.nodes.now it.members };
 }
 
 impl<'a, K, T> ChildKeys<'a, K, T> {
-    // The keys of a list with these ends.
-    pub(crate) fn between(nodes: &'a LinkedNodes<T>, ends: Ends<DefaultKey>) -> ChildKeys<'a, K, T>
-        requires { IsSegment (link_of nodes.now.live) ends.len ends.first ends.last }
-        ensures { result ≡ followed (link_of nodes.now.live) ends }
-    {
-        ChildKeys {
-            nodes,
-            first: ends.first.get(),
-            last: ends.last.get(),
-            left: ends.len,
-            key_type: PhantomData,
-        }
-    }
-
     /// Returns how many keys are left, in constant time.
     ///
     /// ```
@@ -72,7 +53,7 @@ impl<'a, K, T> ChildKeys<'a, K, T> {
     pub fn len(&self) -> usize
         ensures { result ≡ length self.now }
     {
-        self.left
+        self.members.len()
     }
 }
 
@@ -84,9 +65,7 @@ impl<'a, K, T> Clone for ChildKeys<'a, K, T> {
     fn clone(&self) -> Result<Self, AllocError> {
         Ok(ChildKeys {
             nodes: self.nodes,
-            first: self.first,
-            last: self.last,
-            left: self.left,
+            members: self.members.clone()?,
             key_type: PhantomData,
         })
     }
@@ -100,13 +79,8 @@ impl<'a, K: Key, T: Drop> Iterator for ChildKeys<'a, K, T> {
     ghost remaining = { item_count (λ rest. rest) };
 
     fn next(&mut self) -> Option<K> {
-        if self.left == 0 {
-            return None;
-        }
-        let key = self.first?;
-        self.left -= 1;
-        self.first = link_of(self.nodes, key).next.get();
-        Some(outer(key))
+        let index = self.members.next()?;
+        Some(outer(self.nodes.live_key(index)))
     }
 
     fn size_hint(&self) -> (usize, Option<usize>)
@@ -123,13 +97,8 @@ impl<'a, K: Key, T: Drop> DoubleEndedIterator for ChildKeys<'a, K, T> {
     ghost next_back_gives = { YieldsLastBy K.data_of (λ rest. rest) };
 
     fn next_back(&mut self) -> Option<K> {
-        if self.left == 0 {
-            return None;
-        }
-        let key = self.last?;
-        self.left -= 1;
-        self.last = link_of(self.nodes, key).prev.get();
-        Some(outer(key))
+        let index = self.members.next_back()?;
+        Some(outer(self.nodes.live_key(index)))
     }
 }
 

@@ -28,7 +28,7 @@ impl<K: Key, T: Drop> Scene<K, T> {
             return None;
         }
         for depth in 0..self.nodes.len() {
-            match self.nodes[at].parent {
+            match self.nodes.up(at) {
                 None => return Some(depth),
                 Some(parent) => at = parent,
             }
@@ -57,7 +57,7 @@ impl<K: Key, T: Drop> Scene<K, T> {
             if at == other {
                 return true;
             }
-            match self.nodes[at].parent {
+            match self.nodes.up(at) {
                 None => return false,
                 Some(parent) => at = parent,
             }

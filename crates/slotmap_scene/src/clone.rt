@@ -3,34 +3,21 @@
 ghost use Rattle.std.specs.Prelude.{◌≡◌, IfOk};
 ghost use Rattle.slotmap.specs.Words.{ClonesEqual, IsCloneBy, IsCopy};
 ghost use Rattle.slotmap_scene.specs.Family.{IsNodeClone};
-ghost use Rattle.slotmap_scene.specs.LinkedNodes.{IsLinkedClone};
 
 use crate::Scene;
 use crate::family::Nodes;
-use crate::links::LinkedNode;
 use slotmap::Key;
 use std::alloc::AllocError;
 use std::marker::PhantomData;
-
-impl<T: Clone> Clone for LinkedNode<T> {
-    ghost is_clone = { IsLinkedClone T.is_clone };
-
-    fn clone(&self) -> Result<Self, AllocError> {
-        Ok(LinkedNode {
-            value: self.value.clone()?,
-            parent: self.parent,
-            children: self.children.copied(),
-            siblings: self.siblings.copied(),
-        })
-    }
-}
 
 impl<T: Clone> Clone for Nodes<T> {
     ghost is_clone = { IsCloneBy (IsNodeClone T.is_clone) };
 
     fn clone(&self) -> Result<Self, AllocError> {
         Ok(Nodes {
-            map: self.map.clone()?,
+            values: self.values.clone()?,
+            parents: self.parents.clone()?,
+            children: self.children.clone()?,
         })
     }
 }

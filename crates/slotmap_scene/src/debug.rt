@@ -56,7 +56,7 @@ impl<K: Key, T: fmt::Debug + Drop> Scene<K, T> {
         let key: K = outer(node);
         write!(f, "{key:?}: ")?;
         match self.nodes.get(node) {
-            Some(node) => node.value.fmt(f),
+            Some(value) => value.fmt(f),
             None => Ok(()),
         }
     }
@@ -80,7 +80,7 @@ impl<K: Key, T: fmt::Debug + Drop> Scene<K, T> {
 
     // Goes on from a node that is done: to the next one beside it, or else back to the one above.
     fn go_on<W: fmt::Write>(&self, f: &mut fmt::Formatter<W>, walk: &mut Walk) -> fmt::Result {
-        if let Some(next) = self.nodes.link(walk.at).next.get() {
+        if let Some(next) = self.nodes.next(walk.at) {
             write_between(f, walk.depth)?;
             walk.at = next;
             walk.is_done = false;

@@ -1,30 +1,36 @@
-//! The nodes under their keys. A clause sees each with the list of its children in place of its links.
+//! The nodes under their keys. A clause sees each with the keys of its parent and of its children.
 
-ghost use Rattle.std.specs.Prelude.{◌≡◌, ◌≢◌, ◌<◌, ◌≤◌, ◌+◌, ◌++◌, ◌∷◌, [], Some, None, IfOk, IfErr, IsOk, OnErr, List, true, map as list_map, option_copied, option_map};
+ghost use Rattle.std.specs.Prelude.{◌≡◌, ◌≢◌, ◌<◌, ◌≤◌, ◌+◌, ◌++◌, ◌∷◌, ◌↔◌, [], Some, None, IfOk, IfErr, IsOk, IsTrue, OnErr, List, true, map as list_map, option_copied, option_map};
 ghost use Rattle.std.specs.FinMap as map;
 ghost use Rattle.std.specs.Borrow.{sem};
 ghost use Rattle.std.specs.Option.{option_copied_mut};
-ghost use Rattle.slotmap.specs.Words.{Key as KeyOf, IsContent, IsNew, IsSpent, KeepsSpent, Inserts, Keeps, Leaves, MakesRoom, RefusesCapacity, null_key, used};
-ghost use Rattle.slotmap_keylist.specs.KeyLists.{times, without};
-ghost use Rattle.slotmap_keylist.specs.Linked.{ends_of, first_or, last_or, link_between};
+ghost use Rattle.slotmap.specs.Words.{Key as KeyOf, IsContent, IsNew, IsSpent, KeepsSpent, Inserts, Keeps, Leaves, MakesRoom, RefusesCapacity, used};
+ghost use Rattle.slotmap_keylist.specs.KeyLists.{last_or, times};
+ghost use Rattle.slotmap_links.specs.Lists.{first_or};
 ghost use Rattle.slotmap_scene.specs.Above.{roots_in};
 ghost use Rattle.slotmap_scene.specs.Climb.{has_node, lacks_node, parent_of, with_parent};
-ghost use Rattle.slotmap_scene.specs.Family.{child, children_of, value_of, with_children_in};
-ghost use Rattle.slotmap_scene.specs.LinkedNodes.{IsPlace, linked_roots, linked_value, shown_under};
+ghost use Rattle.slotmap_scene.specs.Family.{behind, child, children_of, in_front, value_of};
+ghost use Rattle.slotmap_scene.specs.Kept.{IsParent, owner_of, roots_of};
 ghost use Rattle.slotmap_scene.specs.Node.{key_and_value};
 ghost use Rattle.slotmap_scene.specs.Refusals.{RefusesNode};
 
 use crate::children::ChildKeys;
-use crate::links::{LinkedNode, LinkedNodes, add, link_of, put_between, take_between};
-use slotmap::{DefaultKey, InsertError, Key, ReserveError, SlotMap, basic};
-use slotmap_keylist::{Ends, Link};
+use crate::links::{NOBODY, cover, index_of, parent_index};
+use slotmap::{DefaultKey, InsertError, Key, ReserveError, basic};
+use slotmap_bounded::BoundedMap;
+use slotmap_links::Links;
 use std::alloc::Global;
-use std::marker::Model;
+use std::marker::{Model, PhantomData};
 use std::ops::Index;
 
 #[derive(Drop)]
 pub(crate) struct Nodes<T> {
-    pub(crate) map: LinkedNodes<T>,
+    // The values, each under the key of its node.
+    pub(crate) values: BoundedMap<DefaultKey, T>,
+    // By the index of a key the index of its parent, or that of no key.
+    pub(crate) parents: Vec<u32>,
+    // By the index of a key the indices of its children, in order.
+    pub(crate) children: Links,
 }
 
 impl<T> Model for Nodes<T> {
@@ -35,11 +41,11 @@ impl<T> Model for Nodes<T> {
 
     ghost coded = { content_code (node_code T.code) };
 
-    ghost use Rattle.slotmap_scene.specs.LinkedNodes.{IsWoven, shown_scene};
+    ghost use Rattle.slotmap_scene.specs.Kept.{HoldsNodes, family};
 
-    ghost view = { λ nodes. shown_scene nodes.map };
+    ghost view = { λ nodes. family nodes.values nodes.parents.items nodes.children };
 
-    ghost invariant = { λ nodes. IsWoven nodes.map.live };
+    ghost invariant = { λ nodes. HoldsNodes nodes.values nodes.parents.items nodes.children };
 }
 
 impl<T: Drop> Nodes<T> {
@@ -51,32 +57,41 @@ impl<T: Drop> Nodes<T> {
         ensures room { IfOk result (λ nodes. capacity ≤ nodes.room) }
         ensures err { IfErr result (RefusesCapacity capacity) }
     {
+        let values = BoundedMap::with_capacity(alloc, capacity)?;
+        let mut parents = Vec::new(alloc);
+        let mut children = Links::new(alloc);
+        cover(&mut parents, &mut children, values.capacity())?;
         Ok(Nodes {
-            map: SlotMap::with_capacity(alloc, capacity)?,
+            values,
+            parents,
+            children,
         })
     }
 
     // Reserves room for more nodes.
+    #[inline(never)]
     pub fn reserve(&mut self, additional: usize) -> Result<(), ReserveError>
         ensures makes_room { MakesRoom true self.old additional (IsOk result) self.new }
         ensures err { IfErr result (RefusesCapacity (used self.old + additional)) }
         ensures reuses { additional ≤ map.len self.old.next → IsOk result }
     {
-        self.map.reserve(additional)
+        let capacity = self.values.capacity_for(additional)?;
+        cover(&mut self.parents, &mut self.children, capacity)?;
+        self.values.reserve(additional)
     }
 
     // How many nodes there are.
     pub fn len(&self) -> usize
         ensures { result ≡ map.len self.now.live }
     {
-        self.map.len()
+        self.values.len()
     }
 
     // For how many nodes memory is allocated.
     pub fn capacity(&self) -> usize
         ensures { result ≡ self.now.capacity }
     {
-        self.map.capacity()
+        self.values.capacity()
     }
 
     // Whether there is such a node.
@@ -84,14 +99,14 @@ impl<T: Drop> Nodes<T> {
         ensures value { result ≡ map.contains_key self.now.live node }
         ensures valid { IsContent true self.now }
     {
-        self.map.contains_key(node)
+        self.values.contains_key(node)
     }
 
-    // A node, if there is one.
-    pub fn get(&self, node: DefaultKey) -> Option<&LinkedNode<T>>
-        ensures value { option_map (shown_under self.now.live node) (option_copied result) ≡ map.get self.now.live node }
+    // The value of a node, if there is one.
+    pub fn get(&self, node: DefaultKey) -> Option<&T>
+        ensures { option_copied result ≡ value_of self.now.live node }
     {
-        self.map.get(node)
+        self.values.get(node)
     }
 
     // The value of a node, if there is one.
@@ -99,65 +114,121 @@ impl<T: Drop> Nodes<T> {
         ensures* writes_back { sem 𝓛 (lends_node_value T.row self.entry node result) }
         ensures value { option_copied_mut result ≡ value_of self.old.live node }
     {
-        match self.map.get_mut(node) {
-            Some(node) => Some(&mut node.value),
+        match self.values.get_mut(node) {
+            Some(value) => Some(value),
             None => None,
         }
     }
 
-    // The nodes, by ascending index of their keys.
-    pub fn iter(&self) -> basic::Iter<'_, DefaultKey, LinkedNode<T>>
-        ensures roots { linked_roots result ≡ roots_in (map.entries self.now.live) }
-        ensures values { list_map linked_value result ≡ list_map key_and_value (map.entries self.now.live) }
+    // The parent of a node, if it has one.
+    pub fn parent(&self, node: DefaultKey) -> Option<DefaultKey>
+        ensures { result ≡ parent_of self.now.live node }
     {
-        self.map.iter()
-    }
-
-    // The ends of the list of a node's children.
-    pub fn ends(&self, node: DefaultKey) -> Ends<DefaultKey>
-        ensures { result ≡ ends_of (children_of self.now.live node) }
-    {
-        match self.map.get(node) {
-            Some(node) => node.children.copied(),
-            None => Ends::none(),
+        if !self.values.contains_key(node) {
+            return None;
         }
+        self.up(node)
     }
 
-    // The neighbours of a child.
-    pub fn link(&self, node: DefaultKey) -> Link<DefaultKey>
-        ensures value { (p : KeyOf) (before after : List KeyOf) → children_of self.now.live p ≡ before ++ node ∷ after → result ≡ link_between before after }
-        ensures not_null { (p : KeyOf) → 0 < times node (children_of self.now.live p) → node ≢ null_key }
+    // The same of a node that is there. Nothing is tested but whether it is a root.
+    #[inline(always)]
+    pub fn up(&self, node: DefaultKey) -> Option<DefaultKey>
+        requires { has_node self.now.live node }
+        ensures { result ≡ parent_of self.now.live node }
     {
-        link_of(&self.map, node)
+        let parent = self.parents[index_of(node) as usize];
+        if parent == NOBODY {
+            return None;
+        }
+        Some(self.values.live_key(parent))
+    }
+
+    // The nodes, by ascending index of their keys.
+    pub fn iter(&self) -> basic::Iter<'_, DefaultKey, T>
+        ensures { result ≡ list_map key_and_value (map.entries self.now.live) }
+    {
+        self.values.iter()
+    }
+
+    // Their keys.
+    pub fn keys(&self) -> basic::Keys<'_, DefaultKey, T>
+        ensures value { result ≡ map.keys self.now.live }
+    {
+        self.values.keys()
+    }
+
+    // The indices of the parents, by which the roots are found.
+    pub fn parents(&self) -> &[u32]
+        ensures { roots_of result.now (map.keys self.now.live) ≡ roots_in (map.entries self.now.live) }
+    {
+        &self.parents
+    }
+
+    // The index of a node, or that of none.
+    fn owner(&self, node: DefaultKey) -> u32
+        ensures { result ≡ owner_of self.now.live node }
+    {
+        if self.values.contains_key(node) {
+            return index_of(node);
+        }
+        NOBODY
     }
 
     // The keys of the children of a node.
     pub fn children<K: Key>(&self, node: DefaultKey) -> ChildKeys<'_, K, T>
         ensures { result ≡ children_of self.now.live node }
     {
-        ChildKeys::between(&self.map, self.ends(node))
+        ChildKeys {
+            nodes: &self.values,
+            members: self.children.iter(self.owner(node)),
+            key_type: PhantomData,
+        }
     }
 
     // The first child of a node.
     pub fn first(&self, node: DefaultKey) -> Option<DefaultKey>
         ensures { result ≡ first_or (children_of self.now.live node) None }
     {
-        self.ends(node).first.get()
+        let index = self.children.first(self.owner(node))?;
+        Some(self.values.live_key(index))
     }
 
     // The last child of a node.
     pub fn last(&self, node: DefaultKey) -> Option<DefaultKey>
         ensures { result ≡ last_or (children_of self.now.live node) None }
     {
-        self.ends(node).last.get()
+        let index = self.children.last(self.owner(node))?;
+        Some(self.values.live_key(index))
+    }
+
+    // The sibling behind a child.
+    pub fn next(&self, node: DefaultKey) -> Option<DefaultKey>
+        ensures { (p : KeyOf) → 0 < times node (children_of self.now.live p) → result ≡ behind node (children_of self.now.live p) }
+    {
+        if !self.values.contains_key(node) {
+            return None;
+        }
+        self.values.key_at(self.children.next(index_of(node))?)
+    }
+
+    // The sibling in front of a child.
+    pub fn prev(&self, node: DefaultKey) -> Option<DefaultKey>
+        ensures { (p : KeyOf) → 0 < times node (children_of self.now.live p) → result ≡ in_front None node (children_of self.now.live p) }
+    {
+        if !self.values.contains_key(node) {
+            return None;
+        }
+        self.values.key_at(self.children.prev(index_of(node))?)
     }
 
     // Adds a node with this parent and no children. It is in no list.
+    #[inline(always)]
     pub fn insert(
         &mut self,
         value: T,
         parent: Option<DefaultKey>,
     ) -> Result<DefaultKey, InsertError<T>>
+        requires { IsParent self.old.live parent }
         ensures adds { IfOk result (λ key. Inserts self.old key (child parent value) self.new) }
         ensures fresh { IfOk result (λ key. lacks_node self.old.live key) }
         ensures unspent { IfOk result (λ key. IsSpent self.old key → ⊥) }
@@ -169,53 +240,68 @@ impl<T: Drop> Nodes<T> {
         ensures in_place { 0 < self.old.room → self.new.capacity ≡ self.old.capacity }
         ensures unchanged { OnErr result (Keeps self.old self.new) }
     {
-        add(&mut self.map, value, parent)
+        if self.values.has_room() {
+            return Ok(self.put(value, parent));
+        }
+        match self.reserve(1) {
+            Ok(()) => Ok(self.put_apart(value, parent)),
+            Err(ReserveError::TooGreat) => Err(InsertError::Full(value)),
+            Err(ReserveError::Memory) => Err(InsertError::Memory(value)),
+        }
     }
 
-    // Puts a node that is in no list between two children of a parent.
-    pub fn put_between(&mut self, parent: DefaultKey, node: DefaultKey, siblings: Link<DefaultKey>)
-        requires parent { has_node self.old.live parent }
-        requires node { has_node self.old.live node }
-        requires alone { (p : KeyOf) → times node (children_of self.old.live p) ≡ 0 }
-        requires place { (before : List KeyOf) × (after : List KeyOf) × IsPlace self.old.live parent siblings before after }
-        ensures { (before after : List KeyOf) (f : List KeyOf → List KeyOf) → IsPlace self.old.live parent siblings before after → before ++ node ∷ after ≡ f (children_of self.old.live parent)
-            → self.new ≡ record self.old { live = with_children_in self.old.live parent (map.get self.old.live parent) f } }
+    // The same, where there is room.
+    #[inline(always)]
+    fn put(&mut self, value: T, parent: Option<DefaultKey>) -> DefaultKey
+        requires room { 0 < self.old.room }
+        requires parent { IsParent self.old.live parent }
+        ensures adds { Inserts self.old result (child parent value) self.new }
+        ensures capacity { self.new.capacity ≡ self.old.capacity }
+        ensures valid { IsContent true self.old }
     {
-        put_between(&mut self.map, parent, node, siblings);
+        let _ = self.values.capacity();
+        let key = self.values.insert_reserved(value);
+        self.parents[index_of(key) as usize] = parent_index(parent);
+        key
     }
 
-    // Takes a node out of the children of its parent.
-    pub fn take_out(&mut self, parent: DefaultKey, node: DefaultKey)
-        requires parent { has_node self.old.live parent }
-        requires child { 0 < times node (children_of self.old.live parent) }
-        ensures { self.new ≡ record self.old { live = with_children_in self.old.live parent (map.get self.old.live parent) (without node) } }
+    // The same after the vectors have grown. Not inlined, so that `insert` has no way back from there.
+    #[cold]
+    #[inline(never)]
+    fn put_apart(&mut self, value: T, parent: Option<DefaultKey>) -> DefaultKey
+        requires room { 0 < self.old.room }
+        requires parent { IsParent self.old.live parent }
+        ensures adds { Inserts self.old result (child parent value) self.new }
+        ensures capacity { self.new.capacity ≡ self.old.capacity }
+        ensures valid { IsContent true self.old }
     {
-        let siblings = self.link(node);
-        take_between(&mut self.map, parent, siblings);
+        self.put(value, parent)
     }
 
     // Lets a node have this parent, or none. The lists of children are the same.
     pub fn set_parent(&mut self, node: DefaultKey, parent: Option<DefaultKey>)
-        requires { has_node self.old.live node }
+        requires node { has_node self.old.live node }
+        requires parent { IsParent self.old.live parent }
         ensures { self.new ≡ record self.old { live = with_parent self.old.live node parent } }
     {
-        self.map[node].parent = parent;
+        self.parents[index_of(node) as usize] = parent_index(parent);
     }
 
-    // Removes a node that has no children and is in no list, and returns it.
-    pub fn remove(&mut self, node: DefaultKey) -> LinkedNode<T>
+    // Removes a node that has no children, is in no list and is no parent, and returns its value.
+    pub fn remove(&mut self, node: DefaultKey) -> T
         requires there { has_node self.old.live node }
         requires leaf { children_of self.old.live node ≡ [] }
         requires alone { (p : KeyOf) → times node (children_of self.old.live p) ≡ 0 }
-        ensures value { map.get self.old.live node ≡ Some (child result.parent result.value) }
+        requires childless { (k : KeyOf) → parent_of self.old.live k ≢ Some node }
+        ensures value { value_of self.old.live node ≡ Some result }
         ensures live { self.new.live ≡ map.remove self.old.live node }
         ensures leaves { Leaves self.old self.new }
         ensures capacity { self.new.capacity ≡ self.old.capacity }
     {
-        let Some(leaf) = self.map.remove(node) else {
+        let Some(value) = self.values.remove(node) else {
             unreachable!()
         };
-        leaf
+        value
     }
 
     // Removes all nodes.
@@ -225,18 +311,19 @@ impl<T: Drop> Nodes<T> {
         ensures capacity { self.new.capacity ≡ self.old.capacity }
         ensures valid { IsContent true self.old }
     {
-        self.map.clear();
+        self.values.clear();
+        self.children.clear();
     }
 }
 
 impl<T: Drop> Index<DefaultKey> for Nodes<T> {
-    type Output = LinkedNode<T>;
+    type Output = T;
 
     ghost can_index = { λ nodes node. has_node nodes.live node };
 
-    ghost index_gives = { λ nodes key node. map.get nodes.live key ≡ Some (shown_under nodes.live key node) };
+    ghost index_gives = { λ nodes key value. value_of nodes.live key ≡ Some value };
 
-    fn index(&self, node: DefaultKey) -> &LinkedNode<T> {
-        &self.map[node]
+    fn index(&self, node: DefaultKey) -> &T {
+        self.values.value(node)
     }
 }

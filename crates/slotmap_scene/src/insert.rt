@@ -36,7 +36,7 @@ impl<K: Key, T: Drop> Scene<K, T> {
         ensures unchanged { OnErr result (Keeps self.old self.new) }
     {
         let Some(parent) = self.parent_key(sibling) else {
-            return Err(AddError::Gone(value));
+            return Err(AddError::GoneSibling(value));
         };
         let key = self.nodes.insert(value, Some(parent))?;
         self.nodes.attach_beside(key, side, sibling, parent);
@@ -47,7 +47,7 @@ impl<K: Key, T: Drop> Scene<K, T> {
     /// returns its key, which no node had before. It takes constant time, unless the map of the nodes
     /// grows.
     ///
-    /// It fails with `Gone` exactly if the sibling is a root or doesn't exist. If a slot is vacant
+    /// It fails with `GoneSibling` exactly if the sibling is a root or doesn't exist. If a slot is vacant
     /// or room was reserved, it fails for no other reason, and the capacity stays. If the call fails,
     /// the error holds the value, and the scene is unchanged.
     ///
@@ -84,7 +84,7 @@ impl<K: Key, T: Drop> Scene<K, T> {
     /// returns its key, which no node had before. It takes constant time, unless the map of the nodes
     /// grows.
     ///
-    /// It fails with `Gone` exactly if the sibling is a root or doesn't exist. If a slot is vacant
+    /// It fails with `GoneSibling` exactly if the sibling is a root or doesn't exist. If a slot is vacant
     /// or room was reserved, it fails for no other reason, and the capacity stays. If the call fails,
     /// the error holds the value, and the scene is unchanged.
     ///

@@ -6,7 +6,6 @@ ghost use Rattle.std.specs.FinMap as map;
 ghost use Rattle.slotmap_scene.specs.Node.{key_and_value};
 
 use crate::Scene;
-use crate::links::LinkedNode;
 use slotmap::{DefaultKey, Key, basic};
 use slotmap_keylist::outer;
 use std::iter::FusedIterator;
@@ -17,18 +16,17 @@ use std::marker::{Model, PhantomData};
 /// A contract sees it as the list of what it will still yield. After its end it yields nothing.
 #[derive(Drop)]
 pub struct Iter<'a, K, T> {
-    nodes: basic::Iter<'a, DefaultKey, LinkedNode<T>>,
+    nodes: basic::Iter<'a, DefaultKey, T>,
     key_type: PhantomData<K>,
 }
 
 impl<'a, K, T> Model for Iter<'a, K, T> {
-    ghost use Rattle.std.specs.Prelude.{List, map as list_map};
+    ghost use Rattle.std.specs.Prelude.{List};
     ghost use Rattle.slotmap.specs.Words.{Key};
-    ghost use Rattle.slotmap_scene.specs.LinkedNodes.{linked_value};
 
     ghost Value = { List (Key × T) };
 
-    ghost view = { λ it. list_map linked_value it.nodes };
+    ghost view = { λ it. it.nodes };
 }
 
 impl<'a, K, T> Iter<'a, K, T> {
@@ -55,7 +53,7 @@ impl<'a, K: Key, T: Drop> Iterator for Iter<'a, K, T> {
 
     fn next(&mut self) -> Option<(K, &'a T)> {
         match self.nodes.next() {
-            Some((key, node)) => Some((outer(key), &node.value)),
+            Some((key, value)) => Some((outer(key), value)),
             None => None,
         }
     }

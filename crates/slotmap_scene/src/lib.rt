@@ -6,7 +6,7 @@
 //! - The nodes form trees: each has a root above it, [`Scene::depth`] steps away.
 //! - Each node appears exactly once in its parent's list of children, and in no other.
 //! - [`Scene::descendants`] lists the nodes below a node, each once: depth-first, in the order of the
-//!   children.
+//!   children. [`Scene::keys_below`] yields them one by one, and needs no memory.
 //! - [`Scene::reparent`] moves a node with its subtree, as the last child of its new parent, and
 //!   [`Scene::move_before`] and [`Scene::move_after`] to a place beside a sibling. A move is refused
 //!   exactly if a node doesn't exist or the move would make a cycle.
@@ -14,7 +14,8 @@
 //!   again.
 //! - A call that fails changes nothing, and returns what it was given. It uses up no key.
 //!
-//! The children of a node are kept as links between siblings. So only a new node may need memory, and
+//! The children of a node are kept as links between siblings, beside the map of the values, by the
+//! indices of their keys. So only a new node may need memory, and
 //! none if a node was removed or room was reserved; the capacity stays then. No move and no removal
 //! changes the capacity, and no removal loses room.
 //!
@@ -25,9 +26,11 @@
 //!   parent. [`Scene::move_before`] and [`Scene::move_after`] take time linear in the number of those above
 //!   the sibling, unless both nodes have the same parent.
 //! - [`Scene::remove`] takes time linear in the number of nodes that it removes, and
-//!   [`Scene::descendants`] in the number of those that it lists.
-//! - [`Scene::clear`] and [`Scene::clone`] take time linear in the number of slots. So do all steps of
-//!   [`Scene::iter`], [`Scene::keys`] or [`Scene::values`] together.
+//!   [`Scene::descendants`] in the number of those that it lists. So do all steps of
+//!   [`Scene::keys_below`] together, and one of them at most in the depth of the trees.
+//! - [`Scene::clear`] takes time linear in the capacity, and [`Scene::clone`] and
+//!   [`Scene::world_transforms`] in the number of slots. So do all steps of [`Scene::iter`],
+//!   [`Scene::keys`] or [`Scene::values`] together.
 //!
 //! ```
 //! let mut scene: Scene<DefaultKey, &str> = Scene::new(alloc)?;
@@ -55,6 +58,7 @@ ghost use Rattle.slotmap_scene.specs.Family.{children_of, is_parent, value_of};
 
 use crate::family::Nodes;
 pub use above::{Ancestors, Roots};
+pub use below::KeysBelow;
 pub use children::ChildKeys;
 pub use iter::{Iter, Keys, Values};
 use slotmap::{DefaultKey, InsertError, Key, ReserveError};
@@ -73,6 +77,7 @@ mod debug;
 mod family;
 mod insert;
 mod iter;
+mod levels;
 mod links;
 mod nodes;
 mod siblings;
@@ -108,9 +113,12 @@ impl<K, T> Model for Scene<K, T> {
 /// A node was not added. The error holds its value.
 #[derive(Debug, Drop, Error)]
 pub enum AddError<T> {
-    /// The parent doesn't exist, or the sibling has none.
+    /// The parent doesn't exist.
     #[error("the parent is gone")]
     Gone(T),
+    /// The sibling doesn't exist, or is a root.
+    #[error("the sibling is gone, or a root")]
+    GoneSibling(T),
     /// There are as many nodes as a map can hold.
     #[error("the scene is full")]
     Full(T),
@@ -326,7 +334,7 @@ impl<K: Key, T: Drop> Scene<K, T> {
     pub fn get(&self, node: K) -> Option<&T>
         ensures { option_copied result ≡ value_of self.now.live (K.data_of node) }
     {
-        Some(&self.nodes.get(inner(node))?.value)
+        self.nodes.get(inner(node))
     }
 
     /// Returns a mutable reference to the value of a node, or `None` if it doesn't exist, in constant
@@ -383,7 +391,7 @@ impl<K: Key, T: Drop> Scene<K, T> {
         ensures value { option_map K.data_of result ≡ parent_of self.now.live (K.data_of node) }
         ensures live { IfSome result (λ parent. has_node self.now.live (K.data_of parent)) }
     {
-        Some(outer(self.nodes.get(inner(node))?.parent?))
+        Some(outer(self.parent_key(inner(node))?))
     }
 }
 
@@ -396,6 +404,6 @@ impl<K: Key, T: Drop> Index<K> for Scene<K, T> {
     ghost index_gives = { λ scene node value. value_of scene.live (K.data_of node) ≡ Some value };
 
     fn index(&self, node: K) -> &T {
-        &self.nodes[inner(node)].value
+        &self.nodes[inner(node)]
     }
 }

@@ -2,7 +2,8 @@
 
 ghost use Rattle.std.specs.Prelude.{◌≡◌, ◌≢◌, ◌↔◌, ◌++◌, ◌∷◌, [], Some, None, IfErr, OnOk, OnErr, IsSome, IsTrue, false, option_map};
 ghost use Rattle.slotmap.specs.Words.{Key as KeyOf, KeepsSpent};
-ghost use Rattle.slotmap_keylist.specs.Linked.{first_or, last_or};
+ghost use Rattle.slotmap_keylist.specs.KeyLists.{last_or};
+ghost use Rattle.slotmap_links.specs.Lists.{first_or};
 ghost use Rattle.slotmap_scene.specs.Climb.{IsWithin, has_node, parent_of};
 ghost use Rattle.slotmap_scene.specs.Family.{IsMoved, as_child, as_last_child, behind, children_of, in_front, placed, right_before, right_behind, siblings_of, value_of};
 ghost use Rattle.slotmap_scene.specs.Refusals.{RefusesBeside};
@@ -62,7 +63,7 @@ impl<K: Key, T: Drop> Scene<K, T> {
     {
         let node = inner(node);
         self.parent_key(node)?;
-        Some(outer(self.nodes.link(node).next.get()?))
+        Some(outer(self.nodes.next(node)?))
     }
 
     /// Returns the key of the sibling in front of a node, or `None` if the node is the first child, a
@@ -81,7 +82,7 @@ impl<K: Key, T: Drop> Scene<K, T> {
     {
         let node = inner(node);
         self.parent_key(node)?;
-        Some(outer(self.nodes.link(node).prev.get()?))
+        Some(outer(self.nodes.prev(node)?))
     }
 
     // Whether a sibling, which has this parent, is below another node. It takes constant time if that one

@@ -4,14 +4,12 @@ ghost use Rattle.std.specs.Prelude.{◌≡◌, ◌<◌, ◌≢◌, ◌++◌, ◌
 ghost use Rattle.std.specs.FinMap as map;
 ghost use Rattle.slotmap.specs.Words.{Key as KeyOf, KeepsSpent, Leaves};
 ghost use Rattle.slotmap_keylist.specs.KeyLists.{times};
-ghost use Rattle.slotmap_keylist.specs.Linked.{link_between};
 ghost use Rattle.slotmap_scene.specs.Climb.{IsWithin, has_node, lacks_node, parent_of};
-ghost use Rattle.slotmap_scene.specs.Family.{IsMoved, IsScene, around, as_child, as_last_child, as_root, children_of, forgets, placed, value_of, with_child, with_children_in, without_child};
+ghost use Rattle.slotmap_scene.specs.Family.{IsMoved, IsScene, as_child, as_last_child, as_root, children_of, forgets, placed, value_of, with_child, with_children_in, without_child};
 
 use crate::family::Nodes;
-use crate::links::LinkedNode;
+use crate::links::{NOBODY, index_of, put_beside, put_first, put_last, take_out};
 use slotmap::DefaultKey;
-use slotmap_keylist::{KeyOrNull, Link};
 
 // On which side of a sibling a node is put.
 #[derive(Clone, Copy, Debug, Drop)]
@@ -28,41 +26,18 @@ impl<T: Drop> Nodes<T> {
         requires alone { (p : KeyOf) → times node (children_of self.old.live p) ≡ 0 }
         ensures { self.new ≡ record self.old { live = with_children_in self.old.live parent (map.get self.old.live parent) (λ ks. node ∷ ks) } }
     {
-        let next = self.ends(parent).first;
-        let prev = KeyOrNull::none();
-        self.put_between(parent, node, Link { prev, next });
+        put_first(&mut self.children, parent, node);
     }
 
     // Puts a node that is in no list behind the children of another one.
+    #[inline(always)]
     pub fn attach(&mut self, node: DefaultKey, parent: DefaultKey)
         requires node { has_node self.old.live node }
         requires parent { has_node self.old.live parent }
         requires alone { (p : KeyOf) → times node (children_of self.old.live p) ≡ 0 }
         ensures { self.new ≡ record self.old { live = with_child self.old.live parent node } }
     {
-        let prev = self.ends(parent).last;
-        let next = KeyOrNull::none();
-        self.put_between(parent, node, Link { prev, next });
-    }
-
-    // The neighbours of a place beside a node, among its siblings.
-    fn place_beside(&self, side: Side, sibling: DefaultKey) -> Link<DefaultKey>
-        requires { (p : KeyOf) × 0 < times sibling (children_of self.now.live p) }
-        ensures { (p : KeyOf) (before after : List KeyOf) → children_of self.now.live p ≡ before ++ sibling ∷ after
-            → result ≡ link_between (around side before sibling after).0 (around side before sibling after).1 }
-    {
-        let link = self.link(sibling);
-        let beside = KeyOrNull::some(sibling);
-        match side {
-            Side::Before => Link {
-                prev: link.prev,
-                next: beside,
-            },
-            Side::After => Link {
-                prev: beside,
-                next: link.next,
-            },
-        }
+        put_last(&mut self.children, parent, node);
     }
 
     // Puts a node that is in no list among the children of a parent, right before a sibling, or right
@@ -80,8 +55,7 @@ impl<T: Drop> Nodes<T> {
         requires alone { (p : KeyOf) → times node (children_of self.old.live p) ≡ 0 }
         ensures { self.new ≡ record self.old { live = with_children_in self.old.live parent (map.get self.old.live parent) (placed side sibling node) } }
     {
-        let siblings = self.place_beside(side, sibling);
-        self.put_between(parent, node, siblings);
+        put_beside(&mut self.children, parent, side, sibling, node);
     }
 
     // Takes a node out of the list of its parent, if it has one.
@@ -90,8 +64,9 @@ impl<T: Drop> Nodes<T> {
         requires scene { IsScene self.old.live }
         ensures { self.new ≡ record self.old { live = without_child self.old.live (parent_of self.old.live node) node } }
     {
-        if let Some(parent) = self[node].parent {
-            self.take_out(parent, node);
+        let parent = self.parents[index_of(node) as usize];
+        if parent != NOBODY {
+            take_out(&mut self.children, parent, node);
         }
     }
 
@@ -169,12 +144,11 @@ impl<T: Drop> Nodes<T> {
     }
 
     // Removes a node that has no children, and takes it out of the list of its parent.
-    fn prune(&mut self, node: DefaultKey) -> LinkedNode<T>
+    fn prune(&mut self, node: DefaultKey) -> T
         requires there { has_node self.old.live node }
         requires leaf { children_of self.old.live node ≡ [] }
         requires scene { IsScene self.old.live }
-        ensures parent { parent_of self.old.live node ≡ result.parent }
-        ensures value { value_of self.old.live node ≡ Some result.value }
+        ensures value { value_of self.old.live node ≡ Some result }
         ensures live { self.new.live ≡ map.remove (without_child self.old.live (parent_of self.old.live node) node) node }
         ensures leaves { Leaves self.old self.new }
         ensures capacity { self.new.capacity ≡ self.old.capacity }
@@ -202,13 +176,12 @@ impl<T: Drop> Nodes<T> {
             match self.last(at) {
                 Some(child) => at = child,
                 None => {
-                    let leaf = self.prune(at);
+                    let parent = self.parent(at);
+                    let value = self.prune(at);
                     if at == root {
-                        return leaf.value;
+                        return value;
                     }
-                    let Some(parent) = leaf.parent else {
-                        unreachable!()
-                    };
+                    let Some(parent) = parent else { unreachable!() };
                     at = parent;
                 }
             }

@@ -2,8 +2,8 @@
 //!
 //! [`Scene::fold_up`] folds a closure along the values from a node up to its root. [`Scene::world`]
 //! returns a node's value in the coordinates of its root, where the values are [`Transform`]s. Where a
-//! value has a transform among other things, [`Scene::world_transform`] returns that one. What is
-//! proved of them:
+//! value has a transform among other things, [`Scene::world_transform`] returns that one, and
+//! [`Scene::world_transforms`] those of all nodes. What is proved of the first three:
 //!
 //! - The closure is called once for each value from the node's own to the root's, in that order.
 //! - The result of `world` and `world_transform` is the node's own transform composed with its
@@ -129,9 +129,8 @@ impl<K: Key, T: Drop> Scene<K, T> {
         }
         let mut total = start;
         for _step in 0..self.nodes.len() {
-            let node = &self.nodes[at];
-            total = f(total, &node.value);
-            match node.parent {
+            total = f(total, &self.nodes[at]);
+            match self.nodes.up(at) {
                 None => return Some(total),
                 Some(parent) => at = parent,
             }
@@ -157,9 +156,8 @@ impl<K: Key, T: Transform> Scene<K, T> {
         ensures joined { Joins T.under → IfSome result (IsWorld T.under self.now.live (K.data_of node)) }
         ensures none { IfNone result (lacks_node self.now.live (K.data_of node)) }
     {
-        let own = self.nodes.get(inner(node))?;
-        let local = own.value;
-        match own.parent {
+        let local = *self.nodes.get(inner(node))?;
+        match self.nodes.parent(inner(node)) {
             None => Some(local),
             Some(parent) => self.fold_up(
                 outer::<K>(parent),
@@ -187,9 +185,8 @@ impl<K: Key, T: HasTransform + Drop> Scene<K, T> {
         ensures joined { Joins T.Transform.under → IfSome result (IsWorldOf T.Transform.under T.transform_of self.now.live (K.data_of node)) }
         ensures none { IfNone result (lacks_node self.now.live (K.data_of node)) }
     {
-        let own = self.nodes.get(inner(node))?;
-        let start = own.value.transform();
-        match own.parent {
+        let start = self.nodes.get(inner(node))?.transform();
+        match self.nodes.parent(inner(node)) {
             None => Some(start),
             Some(parent) => self.fold_up(
                 outer::<K>(parent),

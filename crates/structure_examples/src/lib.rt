@@ -15,6 +15,7 @@ pub mod outward;
 pub mod reaper;
 pub mod reorder;
 pub mod room;
+pub mod searches;
 pub mod stores;
 pub mod timer;
 pub mod twins;

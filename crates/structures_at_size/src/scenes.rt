@@ -90,6 +90,15 @@ fn tell_below(rt: &HostRuntime, what: &str, scene: &Numbers, node: DefaultKey) -
     tell(rt, what, sum_of_nodes(scene, below.as_slice()))
 }
 
+// The numbers of the nodes below a node, by links.
+fn sum_below(scene: &Numbers, node: DefaultKey) -> Sum {
+    let mut sum = Sum::new();
+    for below in scene.keys_below(node) {
+        sum.add_found(scene.get(below));
+    }
+    sum
+}
+
 // The numbers of a node's children, from the last to the first.
 fn sum_of_children(scene: &Numbers, node: DefaultKey) -> Sum {
     let mut sum = Sum::new();
@@ -202,6 +211,7 @@ fn run_wide(rt: &HostRuntime, scene: &mut Numbers, nodes: &mut Vec<DefaultKey>, 
         && tell(rt, "children", sum_of_children(scene, root))
         && move_wide(rt, scene, nodes.as_slice(), &mut random, root)
         && tell_below(rt, "wide", scene, root)
+        && tell(rt, "by links", sum_below(scene, root))
 }
 
 // Moves children of a root to the end, and makes roots of some.
@@ -226,6 +236,7 @@ fn run_deep(rt: &HostRuntime, scene: &mut Numbers, nodes: &mut Vec<DefaultKey>, 
     }
     let (root, last) = (first_of(nodes.as_slice()), last_of(nodes.as_slice()));
     tell_below(rt, "deep", scene, root)
+        && tell(rt, "by links", sum_below(scene, root))
         && tell(rt, "above", sum_above(scene, last))
         && scene.reparent(root, last).is_err()
         && scene.is_within(last, root)
@@ -262,6 +273,11 @@ fn run_chance(
         && tell_below(rt, "by chance", scene, first_of(nodes.as_slice()))
         && tell(
             rt,
+            "by links",
+            sum_below(scene, first_of(nodes.as_slice())),
+        )
+        && tell(
+            rt,
             "moves",
             move_by_chance(scene, nodes.as_slice(), &mut random, size),
         )
@@ -294,13 +310,31 @@ fn add_offsets(scene: &mut Scene<DefaultKey, Offset>, size: u64) -> DefaultKey {
     node
 }
 
+// Where each of some offsets lies: both coordinates without their signs, from the roots down.
+fn sum_of_places(places: &[(DefaultKey, Offset)]) -> Sum {
+    let mut sum = Sum::new();
+    for (_, place) in places {
+        sum.add(u64::from(place.x.unsigned_abs()));
+        sum.add(u64::from(place.y.unsigned_abs()));
+    }
+    sum
+}
+
+// Prints where all offsets lie.
+fn tell_places(rt: &HostRuntime, scene: &Scene<DefaultKey, Offset>) -> bool {
+    let Ok(places) = scene.world_transforms() else {
+        return false;
+    };
+    tell(rt, "places", sum_of_places(places.as_slice()))
+}
+
 // Prints where the last of some offsets lies, each below the one before it. There is no such place where a call failed.
 fn run_offsets(rt: &HostRuntime, scene: &mut Scene<DefaultKey, Offset>, size: u64) -> bool {
     let last = add_offsets(scene, size);
     let Some(place) = scene.world(last) else {
         return false;
     };
-    println!(rt; "  world: {}, {}", place.x, place.y).is_ok()
+    println!(rt; "  world: {}, {}", place.x, place.y).is_ok() && tell_places(rt, scene)
 }
 
 // The same in a scene of its own.

@@ -78,3 +78,21 @@ fn places_parts(rt: HostRuntime) -> Result<(), Fail> {
     assert!(rt; places_parts_well(rt.alloc())?);
     Ok(())
 }
+
+// Where the parts are, from the root down.
+fn all_places_well(alloc: Global) -> Result<bool, Fail> {
+    let (scene, hand) = arm(alloc)?;
+    let all = scene.world_transforms()?;
+    Ok(match all.as_slice() {
+        [(_, elbow), (key, place)] => {
+            (*key, elbow.x, elbow.y, place.x, place.y) == (hand, 0.5, 2.0, 0.75, 1.0)
+        }
+        _ => false,
+    })
+}
+
+#[test]
+fn all_places(rt: HostRuntime) -> Result<(), Fail> {
+    assert!(rt; all_places_well(rt.alloc())?);
+    Ok(())
+}

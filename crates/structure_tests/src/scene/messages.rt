@@ -16,7 +16,9 @@ fn reads<E: Error>(alloc: Global, error: &E, message: &str, shown: &str) -> Resu
 #[test]
 fn errors_of_new_nodes(rt: HostRuntime) -> Result<(), Fail> {
     let alloc = rt.alloc();
+    let sibling = "the sibling is gone, or a root";
     assert!(rt; reads(alloc, &AddError::Gone(5), "the parent is gone", "Gone(5)")?);
+    assert!(rt; reads(alloc, &AddError::GoneSibling(5), sibling, "GoneSibling(5)")?);
     assert!(rt; reads(alloc, &AddError::Full(5), "the scene is full", "Full(5)")?);
     assert!(rt; reads(alloc, &AddError::Memory(5), "out of memory", "Memory(5)")?);
     Ok(())

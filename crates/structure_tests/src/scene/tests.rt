@@ -195,6 +195,33 @@ fn siblings(rt: HostRuntime) -> Result<(), Fail> {
     Ok(())
 }
 
+// The first four steps of a walk below a node.
+fn four_below(scene: &Family, node: NodeKey) -> [Option<NodeKey>; 4] {
+    let mut below = scene.keys_below(node);
+    [below.next(), below.next(), below.next(), below.next()]
+}
+
+// What is below the root, and below its first child, which has a child.
+fn both_below(scene: &Family, top: NodeKey, first: NodeKey) -> [[Option<NodeKey>; 4]; 2] {
+    [four_below(scene, top), four_below(scene, first)]
+}
+
+fn walks_below_well(alloc: Global) -> Result<bool, Fail> {
+    let (mut scene, top, first, second) = family(alloc)?;
+    let lowest = scene.add_child(first, 4)?;
+    let whole = [Some(first), Some(lowest), Some(second), None];
+    let is_whole = both_below(&scene, top, first) == [whole, [Some(lowest), None, None, None]];
+    scene.remove(first);
+    let left = [[Some(second), None, None, None], [None; 4]];
+    Ok(is_whole && both_below(&scene, top, first) == left)
+}
+
+#[test]
+fn walks_below(rt: HostRuntime) -> Result<(), Fail> {
+    assert!(rt; walks_below_well(rt.alloc())?);
+    Ok(())
+}
+
 fn from_both_ends(scene: &Family, node: NodeKey) -> [Option<NodeKey>; 3] {
     let mut children = scene.children(node);
     [children.next_back(), children.next(), children.next_back()]

@@ -1,30 +1,35 @@
 use Rattle.std.proofs.Common.{refl, sym, ◌∙◌}
-use Rattle.slotmap_scene.proofs.Climbs.{climbing_start, climbing_step}
+use Rattle.slotmap_scene.proofs.Climbs.{climbing_live, climbing_start, climbing_step, node_is}
 use Rattle.slotmap_scene.proofs.Worlds.{folding_start, folding_takes, folding_step, folding_end}
 use Rattle.slotmap_scene.proofs.Scene.fold_up.Goals as goal
 
 pub loop-step-init : goal.loop-step-init
 loop-step-init g c = record {
-  climbing = rw (← c.self.view_is, ← c.inner-at.ensures) (climbing_start _ c.self.invariant.tree c.inner-at.result (sym c.contains_key.ensures.value ∙ c.if-not-contains_key.false));
+  climbing = rw (← c.self.view_is, ← c.inner-at.ensures)
+      (climbing_start _ c.self.invariant.tree c.inner-at.result (sym c.contains_key.ensures.value ∙ c.if-not-contains_key.false));
   folding = rw (← c.inner-at.ensures) (folding_start _ _ _ _ _);
 }
 
 pub returns-in-None-clause-some : goal.returns-in-None-clause-some
 returns-in-None-clause-some g c =
-    folding_end _ _ _ _ _ _ _ _ c.loop-step.invariant.folding _ (rw c.self.view_is at c.index-node.ensures) c.f-total.new.self c.f-total.result
-    (record { shown = _; shows = refl; called = c.f-total.ensures }) c.in-None.is
+    folding_end _ _ _ _ _ _ _ _ c.loop-step.invariant.folding _ (node_is _ _ _ (rw c.self.view_is at c.index.ensures)) c.f-total.new.self c.f-total.result
+    (record { shown = _; shows = refl; called = c.f-total.ensures }) (sym (rw c.self.view_is at c.in-None.ensures))
 
 pub loop-step-preserved : goal.loop-step-preserved
 loop-step-preserved g c =
-    let there = rw c.self.view_is at c.index-node.ensures in
+    let there = node_is _ _ _ (rw c.self.view_is at c.index.ensures) in
+    let up = sym (rw c.self.view_is at c.in-Some.ensures) in
     record {
-      climbing = climbing_step _ _ _ _ c.loop-step.invariant.climbing _ there _ c.in-Some.is;
+      climbing = climbing_step _ _ _ _ c.loop-step.invariant.climbing _ there _ up;
       folding = folding_step _ _ _ _ _ _ _ _ c.loop-step.invariant.folding _ there c.f-total.new.self c.f-total.result
-          (record { shown = _; shows = refl; called = c.f-total.ensures }) _ c.in-Some.is;
+          (record { shown = _; shows = refl; called = c.f-total.ensures }) _ up;
     }
 
 pub f-total-requires : goal.f-total-requires
 f-total-requires g c =
-    let there = rw c.self.view_is at c.index-node.ensures in
+    let there = node_is _ _ _ (rw c.self.view_is at c.index.ensures) in
     let climbing = c.loop-step.invariant.climbing in
     folding_takes _ _ _ _ _ _ _ _ c.loop-step.invariant.folding _ there c.requires climbing.left climbing.up _ refl
+
+pub up-requires : goal.up-requires
+up-requires g c = rw c.self.view_is (climbing_live _ _ _ _ c.loop-step.invariant.climbing)

@@ -1,15 +1,19 @@
-use Rattle.std.proofs.Common.{sym, ◌∙◌}
-use Rattle.slotmap_scene.proofs.Neighbours.{next_is}
+use Rattle.std.proofs.Common.{sym, ap, ◌∙◌, arith}
+use Rattle.slotmap_scene.specs.Family.{behind, children_under}
+use Rattle.slotmap_scene.proofs.Moved.{listed_once}
 use Rattle.slotmap_scene.proofs.Scene.next_sibling.Goals as goal
 
-pub returns-in_err-get : goal.returns-in_err-get
-returns-in_err-get g c =
+pub returns-in_err-next : goal.returns-in_err-next
+returns-in_err-next g c =
     let own = sym c.parent_key.ensures.value ∙ c.in_ok-parent_key.was in
-    rw (c.from_residual-in_err-get.ensures, ← c.inner-node.ensures) (sym c.in_err-get.was ∙ c.get.ensures.value ∙ next_is c.args.self.now.live c.inner-node.result (rw c.self.view_is at c.self.invariant)
-    c.in_ok-parent_key.field-0 own c.link.result (rw c.self.view_is at c.link.ensures.value))
+    let once = listed_once c.args.self.now.live (rw c.self.view_is at c.self.invariant.listed) c.in_ok-parent_key.field-0 c.inner-node.result own in
+    rw (c.from_residual-in_err-next.ensures, ← c.inner-node.ensures)
+    (sym c.in_err-next.was ∙ (rw c.self.view_is at c.next.ensures) c.in_ok-parent_key.field-0 (omega arith)
+    ∙ sym (ap (λ o. behind c.inner-node.result (children_under c.args.self.now.live o)) own))
 
 pub returns : goal.returns
 returns g c =
     let own = sym c.parent_key.ensures.value ∙ c.in_ok-parent_key.was in
-    rw (c.outer.ensures, ← c.inner-node.ensures) (sym c.in_ok-get.was ∙ c.get.ensures.value ∙ next_is c.args.self.now.live c.inner-node.result (rw c.self.view_is at c.self.invariant)
-    c.in_ok-parent_key.field-0 own c.link.result (rw c.self.view_is at c.link.ensures.value))
+    let once = listed_once c.args.self.now.live (rw c.self.view_is at c.self.invariant.listed) c.in_ok-parent_key.field-0 c.inner-node.result own in
+    rw (c.outer.ensures, ← c.inner-node.ensures) (sym c.in_ok-next.was ∙ (rw c.self.view_is at c.next.ensures) c.in_ok-parent_key.field-0 (omega arith)
+    ∙ sym (ap (λ o. behind c.inner-node.result (children_under c.args.self.now.live o)) own))

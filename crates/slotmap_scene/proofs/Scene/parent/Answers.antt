@@ -1,8 +1,8 @@
-use Rattle.std.proofs.Common.{sym, ap, ◌∙◌}
-use Rattle.slotmap_scene.specs.Climb.{parent_in}
-use Rattle.slotmap_scene.proofs.Climbs.{parent_there}
+use Rattle.std.proofs.Common.{subst}
+use Rattle.slotmap_scene.specs.Above.{HasRoot}
+use Rattle.slotmap_scene.proofs.Climbs.{rooted_there}
 use Rattle.slotmap_scene.proofs.Scene.parent.Goals as goal
 
 pub returns-clause-live : goal.returns-clause-live
-returns-clause-live g c =
-    rw (← c.self.view_is, c.outer.ensures) (parent_there c.self.inside.nodes.live c.self.invariant.tree c.inner.result c.in_ok-branch.field-0 (sym (ap parent_in c.in_ok-get.ensures.value) ∙ c.in_ok-branch.was))
+returns-clause-live g c = rw c.outer.ensures
+    (rooted_there c.args.self.now.live c.in_ok-parent_key.field-0 (subst (HasRoot c.args.self.now.live) c.in_ok-parent_key.was c.parent_key.ensures.rooted))

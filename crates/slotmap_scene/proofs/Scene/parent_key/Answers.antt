@@ -1,10 +1,8 @@
-use Rattle.std.proofs.Common.{sym, ap, subst}
-use Rattle.slotmap_scene.specs.Climb.{parent_in}
+use Rattle.std.proofs.Common.{sym, subst}
 use Rattle.slotmap_scene.specs.Above.{HasRoot}
 use Rattle.slotmap_scene.proofs.Climbs.{parent_rooted}
 use Rattle.slotmap_scene.proofs.Scene.parent_key.Goals as goal
 
 pub returns-clause-rooted : goal.returns-clause-rooted
-returns-clause-rooted g c =
-    let found = sym (rw c.in_ok-get.was at c.get.ensures.value) in
-    rw (← c.self.view_is) (subst (HasRoot c.self.inside.nodes.live) (ap parent_in found) (parent_rooted c.self.inside.nodes.live c.self.invariant.tree c.args.node))
+returns-clause-rooted g c = rw (← c.self.view_is)
+    (subst (HasRoot c.self.inside.nodes.live) (sym c.parent.ensures) (parent_rooted c.self.inside.nodes.live c.self.invariant.tree c.args.node))

@@ -1,9 +1,9 @@
 use Rattle.std.proofs.Common.{◌≡◌, length}
-use Rattle.slotmap_scene.specs.LinkedNodes.{linked_roots}
+use Rattle.slotmap_scene.specs.Kept.{roots_of}
 use Rattle.slotmap_scene.proofs.above.RootsIterator.next.Given as goal
 
-abbrev pub invariant-loop-entry : goal.invariant-loop-entry
-invariant-loop-entry g l = l.fn.self ≡ linked_roots l.self-inside.nodes
+abbrev pub invariant-loop-node : goal.invariant-loop-node
+invariant-loop-node g l = l.fn.self ≡ roots_of l.self-inside.parents.now l.self-inside.nodes
 
-abbrev pub decreases-loop-entry : goal.decreases-loop-entry
-decreases-loop-entry g l = length l.self-inside.nodes
+abbrev pub decreases-loop-node : goal.decreases-loop-node
+decreases-loop-node g l = length l.self-inside.nodes

@@ -1,7 +1,7 @@
-use Rattle.std.proofs.Common.{length, ap, ◌∙◌}
-use Rattle.slotmap_keylist.proofs.Segments.{segment_long}
-use Rattle.slotmap_scene.specs.LinkedNodes.{link_of}
+use Rattle.std.proofs.Common.{length, sym, ap, ◌∙◌}
+use Rattle.std.proofs.lemmas.List.{length-map}
+use Rattle.slotmap_scene.specs.Kept.{key_at}
 use Rattle.slotmap_scene.proofs.children.ChildKeys.len.Goals as goal
 
 pub returns : goal.returns
-returns g c = segment_long (link_of c.self.inside.nodes.now.live) _ _ _ c.self.invariant ∙ ap length c.self.view_is
+returns g c = c.len.ensures.value ∙ sym (length-map c.self.inside.members (key_at c.self.inside.nodes.now.live)) ∙ ap length c.self.view_is

@@ -1,26 +1,16 @@
-use Rattle.std.proofs.Common.{length, sym, ap, ◌≡◌, ◌∙◌, arith}
-use Rattle.slotmap_keylist.proofs.Segments.{segment_front}
-use Rattle.slotmap_scene.specs.LinkedNodes.{link_of}
+use Rattle.std.proofs.Common.{◌∷◌, sym, ap, subst, ◌∙◌}
+use Rattle.slotmap_scene.specs.Kept.{AreIndices, key_at, keys_at}
+use Rattle.slotmap_scene.proofs.Indices.{first_index, key_at_live}
 use Rattle.slotmap_scene.proofs.children.ChildKeysIterator.next.Goals as goal
 
-pub returns-in_err-key-clause-steps : goal.returns-in_err-key-clause-steps
-returns-in_err-key-clause-steps g c =
-    let step = segment_front (link_of c.self.inside.nodes.now.live) _ _ _ c.self.invariant (omega (arith, c.if-self-eq0.false)) in
-    absurd (let h = sym step.1 ∙ c.in_err-key.was in cc)
-
-pub invariant_of-self : goal.invariant_of-self
-invariant_of-self g c =
-    let step = segment_front (link_of c.self.inside.nodes.now.live) _ _ _ c.self.invariant (omega (arith, c.if-self-eq0.false)) in
-    let same : step.0 ≡ c.in_ok-key.key = (let h = sym step.1 ∙ c.in_ok-key.was in cc) in
-    rw (c.get-self-inside.ensures.value, c.link_of.ensures.value, ← same) step.2
+pub live_key-requires : goal.live_key-requires
+live_key-requires g c =
+    let nodes = c.self.inside.nodes.now in
+    first_index nodes c.self.invariant.0 c.in_ok-index.index c.next.new.self (subst (AreIndices nodes) c.in_ok-index.ensures.steps c.self.invariant.1)
 
 pub returns-clause-steps : goal.returns-clause-steps
 returns-clause-steps g c =
-    let step = segment_front (link_of c.self.inside.nodes.now.live) _ _ _ c.self.invariant (omega (arith, c.if-self-eq0.false)) in
-    let same : step.0 ≡ c.in_ok-key.key = (let h = sym step.1 ∙ c.in_ok-key.was in cc) in
-    rw (← c.self.view_is, c.get-self-inside.ensures.value, c.link_of.ensures.value, c.outer.ensures, ← same) step.3
-
-pub returns-clause-goes : goal.returns-clause-goes
-returns-clause-goes g c =
-    let long = ap length (returns-clause-steps g c) in
-    record { on = λ _. (tt, tt, omega (arith, long)); keeps = tt; rests = λ _. tt }
+    let nodes = c.self.inside.nodes.now in
+    rw c.outer.ensures (sym c.self.view_is ∙ ap (keys_at nodes.live) c.in_ok-index.ensures.steps
+    ∙ ap (λ k. k ∷ keys_at nodes.live c.next.new.self)
+    (ap (key_at nodes.live) (sym c.live_key.ensures.index) ∙ key_at_live nodes c.self.invariant.0 c.live_key.result c.live_key.ensures.live))

@@ -1,8 +1,15 @@
-use Rattle.slotmap_scene.proofs.Showing.{copied_woven, copied_shown}
+use Rattle.std.specs.List.{each_same}
+use Rattle.slotmap_scene.proofs.SceneSteps.{copied_kept, copied_seen}
 use Rattle.slotmap_scene.proofs.clone.NodesClone.clone.Goals as goal
 
 pub invariant_of-result : goal.invariant_of-result
-invariant_of-result g c = copied_woven g.T.Clone.is_clone c.self.inside.map _ c.in_ok-clone.ensures.clones c.self.invariant
+invariant_of-result g c = rw (each_same c.self.inside.parents.items c.in_ok-clone-2.field-0.items c.in_ok-clone-2.ensures.cases.0, c.in_ok-clone-3.ensures)
+    (copied_kept c.self.invariant g.T.Clone.is_clone c.in_ok-clone.field-0 c.in_ok-clone.ensures.clones c.in_ok-clone.ensures.capacity)
 
 pub returns : goal.returns
-returns g c = rw (← c.self.view_is) (record { cases = copied_shown g.T.Clone.is_clone c.self.inside.map _ c.in_ok-clone.ensures.clones })
+returns g c = rw (
+  each_same c.self.inside.parents.items c.in_ok-clone-2.field-0.items c.in_ok-clone-2.ensures.cases.0,
+  c.in_ok-clone-3.ensures,
+  ← c.self.view_is,
+)
+    (record { cases = copied_seen c.self.invariant g.T.Clone.is_clone c.in_ok-clone.field-0 c.in_ok-clone.ensures.clones c.in_ok-clone.ensures.capacity })

@@ -1,12 +1,17 @@
-use Rattle.std.proofs.Common.{◌∷◌, [], refl, ap}
-use Rattle.slotmap.specs.Words.{Key}
-use Rattle.slotmap_keylist.specs.declared.Ends.{Ends}
-use Rattle.slotmap_scene.specs.Family.{children_of}
-use Rattle.slotmap_scene.proofs.Moved.{first_place}
+use Rattle.slotmap_scene.proofs.Placing.{free_there, owner_there, put_in_front}
 use Rattle.slotmap_scene.proofs.family.Nodes.attach_first.Goals as goal
 
-pub put_between-requires-clause-place : goal.put_between-requires-clause-place
-put_between-requires-clause-place g c = ([], children_of c.args.self.now.live c.args.parent, rw c.none-prev.ensures (first_place c.args.self.now.live c.args.parent c.ends-next.result.first (ap (λ (e : Ends Key). e.first) c.ends-next.ensures)))
+pub put_first-requires-clause-parent : goal.put_first-requires-clause-parent
+put_first-requires-clause-parent g c = owner_there c.self.invariant c.self.view_is c.args.parent c.requires.parent
+
+pub put_first-requires-clause-free : goal.put_first-requires-clause-free
+put_first-requires-clause-free g c = free_there c.self.invariant c.self.view_is c.args.node c.requires.node c.requires.alone
+
+pub invariant_of-self : goal.invariant_of-self
+invariant_of-self g c =
+    (put_in_front c.self.invariant c.self.view_is c.args.parent c.args.node c.requires.parent c.requires.node c.put_first.new.children
+    c.put_first.ensures.list c.put_first.ensures.disjoint).0
 
 pub returns : goal.returns
-returns g c = c.put_between.ensures [] (children_of c.args.self.now.live c.args.parent) (λ ks. c.args.node ∷ ks) (rw c.none-prev.ensures (first_place c.args.self.now.live c.args.parent c.ends-next.result.first (ap (λ (e : Ends Key). e.first) c.ends-next.ensures))) refl
+returns g c = (put_in_front c.self.invariant c.self.view_is c.args.parent c.args.node c.requires.parent c.requires.node c.put_first.new.children
+    c.put_first.ensures.list c.put_first.ensures.disjoint).1

@@ -1,19 +1,21 @@
 use Rattle.std.proofs.Common.{sym, ap, subst, ◌∙◌}
-use Rattle.slotmap.specs.Words.{Key}
-use Rattle.slotmap_keylist.specs.declared.Ends.{Ends}
-use Rattle.slotmap_keylist.specs.Linked.{followed}
-use Rattle.slotmap_keylist.specs.Segment.{IsSegment}
-use Rattle.slotmap_keylist.proofs.Segments.{segment_start}
-use Rattle.slotmap_scene.specs.LinkedNodes.{link_of}
-use Rattle.slotmap_scene.proofs.Showing.{shown_children, ends_shown}
+use Rattle.slotmap.specs.Words.{Content}
+use Rattle.slotmap_links.specs.Lists.{list_of}
+use Rattle.slotmap_scene.specs.Node.{Node}
+use Rattle.slotmap_scene.specs.Kept.{AreIndices, keys_at, owner_of}
+use Rattle.slotmap_scene.proofs.Families.{children_owned, indices_at, owner_below}
 use Rattle.slotmap_scene.proofs.family.Nodes.children.Goals as goal
 
-pub between-requires : goal.between-requires
-between-requires g c =
-    let own = ends_shown c.self.inside.map c.self.invariant c.args.self.now c.self.view_is c.args.node ∙ sym c.ends.ensures in
-    subst (λ (e : Ends Key). IsSegment (link_of c.self.inside.map.live) e.len e.first e.last) own (segment_start c.self.invariant.linked c.args.node)
+pub iter-requires : goal.iter-requires
+iter-requires g c = rw (c.owner.ensures, ← c.self.view_is) (owner_below c.self.invariant c.args.node)
+
+pub invariant_of-result : goal.invariant_of-result
+invariant_of-result g c =
+    (c.self.invariant.indices, subst (AreIndices c.self.inside.values) (sym c.iter.ensures) (indices_at c.self.invariant c.owner.result))
 
 pub returns : goal.returns
-returns g c =
-    let own = c.ends.ensures ∙ sym (ends_shown c.self.inside.map c.self.invariant c.args.self.now c.self.view_is c.args.node) in
-    c.between.ensures ∙ ap (followed (link_of c.self.inside.map.live)) own ∙ rw (← c.self.view_is) (sym (shown_children c.self.inside.map.live c.args.node))
+returns g c = rw (← c.self.view_is)
+    (ap (keys_at c.self.inside.values.live)
+    (c.iter.ensures ∙ ap (list_of c.self.inside.children)
+    (c.owner.ensures ∙ ap (λ (s : Content (Node g.row.T.Denot)). owner_of s.live c.args.node) (sym c.self.view_is)))
+    ∙ sym (children_owned c.self.invariant c.args.node))

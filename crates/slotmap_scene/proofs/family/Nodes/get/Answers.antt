@@ -1,8 +1,7 @@
-use Rattle.std.proofs.Common.{◌∙◌, ap}
-use Rattle.std.specs.Option.{option_map}
-use Rattle.slotmap_scene.specs.LinkedNodes.{shown_under, shown_nodes}
-use Rattle.slotmap_scene.proofs.Showing.{shown_seen}
+use Rattle.std.proofs.Common.{sym, ◌∙◌}
+use Rattle.slotmap_scene.proofs.Families.{seen_value}
 use Rattle.slotmap_scene.proofs.family.Nodes.get.Goals as goal
 
 pub returns : goal.returns
-returns g c = rw (← c.self.view_is) (record { value = ap (option_map (shown_under (shown_nodes c.self.inside.map.live) c.args.node)) c.get.ensures.value ∙ shown_seen c.self.inside.map.live c.args.node })
+returns g c = rw (← c.self.view_is)
+    (c.get.ensures ∙ sym (seen_value c.self.inside.values.live c.self.inside.parents.items c.self.inside.children c.args.node))

@@ -1,6 +1,6 @@
-use Rattle.std.proofs.Common.{◌∙◌, sym}
-use Rattle.slotmap_scene.proofs.Showing.{shown_len}
+use Rattle.std.proofs.Common.{sym, ◌∙◌}
+use Rattle.slotmap_scene.proofs.Families.{seen_len}
 use Rattle.slotmap_scene.proofs.family.Nodes.len.Goals as goal
 
 pub returns : goal.returns
-returns g c = rw (← c.self.view_is) (c.len.ensures.value ∙ sym (shown_len c.self.inside.map.live))
+returns g c = rw (← c.self.view_is) (c.len.ensures.value ∙ sym (seen_len c.self.inside.values.live c.self.inside.parents.items c.self.inside.children))

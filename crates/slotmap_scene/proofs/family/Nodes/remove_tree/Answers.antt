@@ -7,40 +7,61 @@ use Rattle.slotmap_scene.proofs.Removals.{removing_start, goes_down, down_smalle
 use Rattle.slotmap_scene.proofs.family.Nodes.remove_tree.Goals as goal
 
 pub loop-child-init : goal.loop-child-init
-loop-child-init g c = record { removing = removing_start c.args.self.now.live c.args.root c.requires.scene c.requires.there; leaves = leaves_none c.args.self.now; capacity = refl }
+loop-child-init g c =
+    record {
+      removing = removing_start c.args.self.now.live c.args.root c.requires.scene c.requires.there;
+      leaves = leaves_none c.args.self.now;
+      capacity =
+          refl;
+    }
 
 pub loop-child-smaller-in-Some : goal.loop-child-smaller-in-Some
 loop-child-smaller-in-Some g c = down_smaller _ _ _ _ c.loop-child.invariant.removing c.in-Some.child (sym c.in-Some.ensures) c.requires.scene.tree
 
 pub loop-child-preserved-in-Some : goal.loop-child-preserved-in-Some
-loop-child-preserved-in-Some g c = record { removing = goes_down _ _ _ _ c.loop-child.invariant.removing c.in-Some.child (sym c.in-Some.ensures); leaves = c.loop-child.invariant.leaves; capacity = c.loop-child.invariant.capacity }
+loop-child-preserved-in-Some g c =
+    record {
+      removing = goes_down _ _ _ _ c.loop-child.invariant.removing c.in-Some.child
+          (sym c.in-Some.ensures);
+      leaves = c.loop-child.invariant.leaves;
+      capacity = c.loop-child.invariant.capacity;
+    }
 
-pub prune-leaf-requires-clause-leaf : goal.prune-leaf-requires-clause-leaf
-prune-leaf-requires-clause-leaf g c = none_last (children_of c.loop-child.self.live c.loop-child.at) (sym c.in-None.ensures)
+pub prune-value-requires-clause-leaf : goal.prune-value-requires-clause-leaf
+prune-value-requires-clause-leaf g c = none_last (children_of c.loop-child.self.live c.loop-child.at) (sym c.in-None.ensures)
 
 pub returns-then-eq-clause-removed : goal.returns-then-eq-clause-removed
-returns-then-eq-clause-removed g c = rw (c.prune-leaf.ensures.live) (all_removed _ _ _ _ c.loop-child.invariant.removing (none_last _ (sym c.in-None.ensures)) ((same_keys c.loop-child.at c.args.root).0 (sym c.if-eq.ensures)))
+returns-then-eq-clause-removed g c = rw (c.prune-value.ensures.live)
+    (all_removed _ _ _ _ c.loop-child.invariant.removing (none_last _ (sym c.in-None.ensures))
+    ((same_keys c.loop-child.at c.args.root).0 (sym c.if-eq.ensures)))
 
 pub returns-then-eq-clause-others : goal.returns-then-eq-clause-others
-returns-then-eq-clause-others g c = rw (c.prune-leaf.ensures.live) (others_left _ _ _ _ c.loop-child.invariant.removing (none_last _ (sym c.in-None.ensures)) ((same_keys c.loop-child.at c.args.root).0 (sym c.if-eq.ensures)))
+returns-then-eq-clause-others g c = rw (c.prune-value.ensures.live)
+    (others_left _ _ _ _ c.loop-child.invariant.removing (none_last _ (sym c.in-None.ensures))
+    ((same_keys c.loop-child.at c.args.root).0 (sym c.if-eq.ensures)))
 
 pub returns-then-eq-clause-scene : goal.returns-then-eq-clause-scene
-returns-then-eq-clause-scene g c = rw (c.prune-leaf.ensures.live) (pruned_scene _ c.loop-child.invariant.removing.scene c.loop-child.at c.loop-child.invariant.removing.here (none_last _ (sym c.in-None.ensures)))
+returns-then-eq-clause-scene g c = rw (c.prune-value.ensures.live)
+    (pruned_scene _ c.loop-child.invariant.removing.scene c.loop-child.at c.loop-child.invariant.removing.here (none_last _ (sym c.in-None.ensures)))
 
 pub returns-then-eq-clause-leaves : goal.returns-then-eq-clause-leaves
-returns-then-eq-clause-leaves g c = leaves_in_turn _ _ _ c.loop-child.invariant.leaves c.prune-leaf.ensures.leaves
+returns-then-eq-clause-leaves g c = leaves_in_turn _ _ _ c.loop-child.invariant.leaves c.prune-value.ensures.leaves
 
 pub loop-child-smaller : goal.loop-child-smaller
-loop-child-smaller g c = rw (c.prune-leaf.ensures.live) (up_smaller _ _ _ _ c.loop-child.invariant.removing (none_last _ (sym c.in-None.ensures)) c.in-Some-parent.parent (c.prune-leaf.ensures.parent ∙ c.in-Some-parent.is) c.requires.scene.tree)
+loop-child-smaller g c = rw (c.prune-value.ensures.live)
+    (up_smaller _ _ _ _ c.loop-child.invariant.removing (none_last _ (sym c.in-None.ensures)) c.in-Some-parent.parent
+    (sym c.parent-parent.ensures ∙ c.in-Some-parent.is) c.requires.scene.tree)
 
 pub loop-child-preserved : goal.loop-child-preserved
 loop-child-preserved g c =
     let below : c.loop-child.at ≢ c.args.root = λ same. (let t = (same_keys c.loop-child.at c.args.root).1 same in let f = c.if-eq.ensures in cc) in
     record {
-      removing = rw (c.prune-leaf.ensures.live) (goes_up _ _ _ _ c.loop-child.invariant.removing (none_last _ (sym c.in-None.ensures)) c.in-Some-parent.parent (c.prune-leaf.ensures.parent ∙ c.in-Some-parent.is) below);
-      leaves = leaves_in_turn _ _ _ c.loop-child.invariant.leaves c.prune-leaf.ensures.leaves;
-      capacity = c.prune-leaf.ensures.capacity ∙ c.loop-child.invariant.capacity;
+      removing = rw (c.prune-value.ensures.live)
+          (goes_up _ _ _ _ c.loop-child.invariant.removing (none_last _ (sym c.in-None.ensures)) c.in-Some-parent.parent
+          (sym c.parent-parent.ensures ∙ c.in-Some-parent.is) below);
+      leaves = leaves_in_turn _ _ _ c.loop-child.invariant.leaves c.prune-value.ensures.leaves;
+      capacity = c.prune-value.ensures.capacity ∙ c.loop-child.invariant.capacity;
     }
 
 pub returns-then-eq-clause-capacity : goal.returns-then-eq-clause-capacity
-returns-then-eq-clause-capacity g c = c.prune-leaf.ensures.capacity ∙ c.loop-child.invariant.capacity
+returns-then-eq-clause-capacity g c = c.prune-value.ensures.capacity ∙ c.loop-child.invariant.capacity

@@ -1,11 +1,17 @@
-use Rattle.slotmap_scene.proofs.Showing.{live_is, parent_now}
+use Rattle.std.proofs.Common.{set, arith}
+use Rattle.slotmap_scene.proofs.Placing.{hangs, place_there}
 use Rattle.slotmap_scene.proofs.family.Nodes.set_parent.Goals as goal
 
 pub index_mut-requires : goal.index_mut-requires
-index_mut-requires g c = live_is c.self.inside.map c.self.invariant c.args.self.now c.self.view_is c.args.node c.requires
+index_mut-requires g c = let place = place_there c.self.invariant c.self.view_is c.args.node c.requires.node in let same = c.self.inside.parents.ok.0 in
+    let at = c.index_of.ensures in omega arith
 
 pub invariant_of-self : goal.invariant_of-self
-invariant_of-self g c = (parent_now c.self.inside.map c.self.invariant c.args.self.now c.self.view_is c.args.node c.index_mut.result.now c.index_mut.ensures.value c.args.parent).0
+invariant_of-self g c = (hangs c.self.invariant c.self.view_is c.args.node c.requires.node c.args.parent c.requires.parent
+    (set c.self.inside.parents.items c.index_of.result c.parent_index.result)
+    (λ n. set c.self.inside.parents.items (c.index_of.ensures n) (c.parent_index.ensures n))).0
 
 pub returns : goal.returns
-returns g c = (parent_now c.self.inside.map c.self.invariant c.args.self.now c.self.view_is c.args.node c.index_mut.result.now c.index_mut.ensures.value c.args.parent).1
+returns g c = (hangs c.self.invariant c.self.view_is c.args.node c.requires.node c.args.parent c.requires.parent
+    (set c.self.inside.parents.items c.index_of.result c.parent_index.result)
+    (λ n. set c.self.inside.parents.items (c.index_of.ensures n) (c.parent_index.ensures n))).1

@@ -1,26 +1,35 @@
-use Rattle.std.proofs.Common.{refl, ◌∙◌, sym, ap}
+use Rattle.std.proofs.Common.{sym, ap, ◌∙◌}
 use Rattle.slotmap.specs.Words.{Content}
 use Rattle.slotmap.proofs.Callers.{same_lent, same_unlent}
 use Rattle.slotmap_scene.specs.Node.{Node}
 use Rattle.slotmap_scene.specs.Family.{with_value}
-use Rattle.slotmap_scene.specs.LinkedNodes.{shown_scene, own_value}
-use Rattle.slotmap_scene.proofs.Showing.{shown_value, own_woven, own_shown}
+use Rattle.slotmap_scene.specs.Kept.{family}
+use Rattle.slotmap_scene.proofs.Families.{seen_value}
+use Rattle.slotmap_scene.proofs.SceneSteps.{written_kept, written_seen}
 use Rattle.slotmap_scene.proofs.family.Nodes.value_mut.Goals as goal
 
 pub invariant_of-self-lent : goal.invariant_of-self-lent
-invariant_of-self-lent g c = λ w. own_woven c.self.inside.map.live c.self.invariant c.args.node c.in-Some.node.now (sym c.in-Some.ensures.value) (λ x. record x { value = w }) (λ x. record x { value = w }) (λ x. refl) (λ x. refl) (λ x. refl)
+invariant_of-self-lent g c = λ w. written_kept c.self.invariant c.args.node c.in-Some.value.now w (sym c.in-Some.ensures.value)
 
 pub returns-in-Some : goal.returns-in-Some
 returns-in-Some g c =
-    let old = c.self.inside.map in
     let k = c.args.node in (
-      same_lent _ _ _ (λ w. ap (λ x. record (shown_scene old) { live = x }) (own_shown old.live c.self.invariant k c.in-Some.node.now (sym c.in-Some.ensures.value) (λ x. record x { value = w }) (λ x. record x { value = w }) (λ x. refl) (λ x. refl) (λ x. refl))
+      same_lent _ _ _ (λ w. ap (λ x. record (family c.self.inside.values c.self.inside.parents.items c.self.inside.children) { live = x })
+          (written_seen c.self.invariant k c.in-Some.value.now w (sym c.in-Some.ensures.value))
           ∙ ap (λ (s : Content (Node g.row.T.Denot)). record s { live = with_value s.live k w }) c.self.view_is),
-      record { writes_back = tt; value = rw (← c.self.view_is) (ap own_value c.in-Some.ensures.value ∙ sym (shown_value old.live k)) },
+      record {
+        writes_back = tt;
+        value = rw (← c.self.view_is)
+            (c.in-Some.ensures.value ∙ sym (seen_value c.self.inside.values.live c.self.inside.parents.items c.self.inside.children k));
+      },
     )
 
 pub returns-in-None : goal.returns-in-None
 returns-in-None g c = (
   same_unlent _ _ c.self.view_is,
-  record { writes_back = tt; value = rw (← c.self.view_is) (ap own_value c.in-None.ensures.value ∙ sym (shown_value c.self.inside.map.live c.args.node)) },
+  record {
+    writes_back = tt;
+    value = rw (← c.self.view_is)
+        (c.in-None.ensures.value ∙ sym (seen_value c.self.inside.values.live c.self.inside.parents.items c.self.inside.children c.args.node));
+  },
 )

@@ -1,8 +1,11 @@
-use Rattle.slotmap_scene.proofs.Showing.{seen_there, live_is}
+use Rattle.std.proofs.Common.{◌∙◌}
+use Rattle.slotmap_scene.proofs.Families.{seen_value}
+use Rattle.slotmap_scene.proofs.Placing.{is_live}
 use Rattle.slotmap_scene.proofs.family.NodesIndexDefaultKey.index.Goals as goal
 
-pub index-requires : goal.index-requires
-index-requires g c = live_is c.self.inside.map c.self.invariant c.args.self.now c.self.view_is c.args.node c.requires
+pub value-requires : goal.value-requires
+value-requires g c = is_live c.self.invariant c.self.view_is c.args.node c.requires
 
 pub returns : goal.returns
-returns g c = rw (← c.self.view_is) (seen_there c.self.inside.map.live c.args.node c.index.result.now c.index.ensures)
+returns g c = rw (← c.self.view_is)
+    (seen_value c.self.inside.values.live c.self.inside.parents.items c.self.inside.children c.args.node ∙ c.value.ensures)

@@ -1,0 +1,36 @@
+use Rattle.std.proofs.Common.{◌++◌, refl, ap, ◌∙◌, arith}
+use Rattle.slotmap_keylist.specs.KeyLists.{times}
+use Rattle.slotmap_scene.specs.Levels.{keys_of_pairs}
+use Rattle.slotmap_scene.proofs.ByLevel.{parent_known}
+use Rattle.slotmap_scene.proofs.ListedWorlds.{world_of_child, worlds_pushed}
+use Rattle.slotmap_scene.proofs.KeyLoops.{first_ahead, passed}
+use Rattle.slotmap_scene.proofs.Climbs.{has_parent}
+use Rattle.slotmap_scene.proofs.Scene.push_children.Goals as goal
+
+pub loop-child-init : goal.loop-child-init
+loop-child-init g c =
+    let gives = c.into_iter-child-iterator.ensures.into_iter_gives in
+    record {
+      can_next = tt;
+      is_finite = tt;
+      walked = ap (λ l. keys_of_pairs g.K.Key.data_of c.args.all.now.items ++ l) (gives ∙ c.children-child-items.ensures.value);
+      ahead = λ k more. parent_known _ _ (let listed = c.children-child-items.ensures.listed k in let same = ap (times k) gives in omega arith);
+      each = c.requires.each;
+    }
+
+pub index-requires : goal.index-requires
+index-requires g c = has_parent _ _ _ (first_ahead _ _ _ c.in-Some.ensures.steps _ c.loop-child.invariant.ahead).0
+
+pub loop-child-preserved : goal.loop-child-preserved
+loop-child-preserved g c =
+    let i = c.loop-child.invariant in
+    let of = g.T.HasTransform.transform_of in
+    let ahead = first_ahead _ _ _ c.in-Some.ensures.steps _ i.ahead in
+    let own = world_of_child _ g.T.Transform.Transform.under of _ _ c.index.ensures _ _ ahead.0 c.requires.world in
+    record {
+      can_next = tt;
+      is_finite = tt;
+      walked = passed _ _ _ c.in-Some.ensures.steps (λ e. g.K.Key.data_of e.0) _ _ _ refl c.in_ok-push.ensures.items ∙ i.walked;
+      ahead = ahead.1;
+      each = worlds_pushed g.K.Key.data_of _ of _ _ _ _ _ c.in_ok-push.ensures.items i.each (rw (c.under.ensures, c.transform-own.ensures) own);
+    }

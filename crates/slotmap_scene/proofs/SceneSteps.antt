@@ -1,0 +1,399 @@
+-- What a call makes of the nodes of a scene, as a whole: nodes come or go, more places are made, a value is written, or all is copied.
+use Rattle.std.proofs.Common.{◌≡◌, ◌≢◌, ◌-◌, ◌+◌, ◌⊎◌, ◌<◌, ◌≤◌, ℕ, zero, suc, true, false, cond, nat_lt, Option, Some}
+use Rattle.std.proofs.Common.{None, IfSome, Result, Ok, Err, IsOk, IsErr, OnOk, OnErr, is_some, is_ok, if◌then◌else◌, max, List, [], ◌∷◌}
+use Rattle.std.proofs.Common.{◌++◌, length, length-append, replicate, set, take, refl, sym, ap, subst, ◌∙◌, inl, inr, arith}
+use Rattle.std.specs.Option.{option_map}
+use Rattle.std.specs.FinMap as map
+use Rattle.std.proofs.lemmas.List.{length-replicate, length-set, get_or-set_same, get_or-set_other, take_all}
+use Rattle.slotmap.specs.Words.{Key, key_cmp, Content, IsContent, IsLive, KeepsSpent, Inserts, Keeps, Leaves, MakesRoom, IsCloneBy, IsCloneOf, most, used}
+use Rattle.slotmap_bounded.specs.Bounded.{capacity_with, grown}
+use Rattle.std.proofs.lemmas.Bool.Decides.{nat_tests}
+use Rattle.slotmap.specs.Words as words
+use Rattle.slotmap.proofs.Callers.{keys_total, exact_keys, keys, same_or_other, get-insert_here, get-insert_other, live-insert_still, inserted_fresh}
+use Rattle.slotmap.proofs.Callers.{clone_live}
+use Rattle.slotmap_keylist.specs.KeyLists.{times}
+use Rattle.slotmap_keylist.proofs.Changed.{changed_here, changed_other}
+use Rattle.slotmap_keylist.proofs.Shown.{shown_content, shown_inserts, shown_keeps, shown_keeps_spent, shown_leaves, shown_makes_room}
+use Rattle.slotmap_links.specs.Lists.{Lists, list_of, times as often, with_members, with_owners, AreDisjoint, IsIn}
+use Rattle.slotmap_links.proofs.Callers.{list_covered}
+use Rattle.slotmap_links.proofs.Changes.{disjoint_still}
+use Rattle.slotmap_scene.specs.Node.{Node, Nodes}
+use Rattle.slotmap_scene.specs.Climb.{parent_of}
+use Rattle.slotmap_scene.specs.Family.{IsNodeClone, child, children_of, with_value}
+use Rattle.slotmap_scene.specs.Kept.{AreCovered, CoversMore, HoldsMore, HasKey, HaveIndices, HoldsNodes, parent_at, family, found_at, parent_index, keys_at, node_at}
+use Rattle.slotmap_scene.specs.Kept.{nodes_by}
+use Rattle.slotmap_scene.proofs.Indices.{found_live}
+use Rattle.slotmap_scene.proofs.Families.{above_still, children_live, list_none, get_alike, get_along, indices_still, kept_along, node_along, covers_less}
+use Rattle.slotmap_scene.proofs.Families.{written_found, written_has, kept_still, node_still, nowhere, parent_live, seen_get, seen_has, seen_len}
+
+-- what is known of the values is known of the nodes
+module _ {V : Type 0} (c : Content V) (parents : List ℕ) (children : Lists) where
+  pub family_valid : IsContent true c → IsContent true (family c parents children)
+  family_valid = shown_content c (nodes_by c.live parents children) (seen_has c.live parents children) (seen_len c.live parents children) true
+
+  module _ (d : Content V) (parents' : List ℕ) (children' : Lists) where
+    abbrev seen_was : Nodes V
+    seen_was = nodes_by c.live parents children
+
+    abbrev seen_now : Nodes V
+    seen_now = nodes_by d.live parents' children'
+
+    pub family_leaves : Leaves c d → Leaves (family c parents children) (family d parents' children')
+    family_leaves = shown_leaves c d seen_was seen_now (seen_has c.live parents children) (seen_len c.live parents children)
+        (seen_has d.live parents' children') (seen_len d.live parents' children')
+
+    pub family_room : seen_now ≡ seen_was → (n : ℕ) (ok : Type 0) → MakesRoom true c n ok d
+        → MakesRoom true (family c parents children) n ok (family d parents' children')
+    family_room same = shown_makes_room c d seen_was seen_now (seen_has c.live parents children) (seen_len c.live parents children)
+        (seen_has d.live parents' children') (seen_len d.live parents' children') same true
+
+    family_inserts : (k : Key) (v : V) (o : Option Key) → seen_now ≡ map.insert seen_was k (child o v) → Inserts c k v d
+        → Inserts (family c parents children) k (child o v) (family d parents' children')
+    family_inserts k v o live = shown_inserts c d seen_was seen_now (seen_has c.live parents children) (seen_len c.live parents children)
+        (seen_has d.live parents' children') (seen_len d.live parents' children') k v (child o v) live
+
+-- places are made, for lists and for parents
+covers_by : (s : Lists) → AreDisjoint s → (n m : ℕ) (new : Lists) → s.members ≤ m → new ≡ record (with_owners s n) { members = m }
+    → CoversMore s new
+covers_by s disjoint n m new more is = subst (CoversMore s) (sym is) (record {
+  lists = list_covered s n;
+  owners = (let long = length-append s.lists (replicate {A = List ℕ} (n - length s.lists) []) in omega arith);
+  members = more;
+  disjoint = disjoint_still s (record (with_owners s n) { members = m }) disjoint (list_covered s n) more;
+})
+
+pub covered : (s : Lists) → AreDisjoint s → (n m : ℕ) (mid new : Lists) {A B : Type 0} (r : Result A B) → mid ≡ with_owners s n
+    → OnOk r (new ≡ with_members mid m) → OnErr r (new ≡ mid) → CoversMore s new
+covered s disjoint n m mid new (Ok a) is ok err = covers_by s disjoint n (max s.members m) new (omega arith) (ok ∙ ap (λ l. with_members l m) is)
+covered s disjoint n m mid new (Err b) is ok err = covers_by s disjoint n s.members new (omega arith) (err ∙ is)
+
+padded : (ps : List ℕ) (n i : ℕ) → parent_at (ps ++ replicate n 0) i ≡ parent_at ps i
+padded [] zero i = refl
+padded [] (suc n) zero = refl
+padded [] (suc n) (suc i) = padded [] n i
+padded (p ∷ ps) n zero = refl
+padded (p ∷ ps) n (suc i) = padded ps n i
+
+pub held : (ps : List ℕ) (n len : ℕ) → len ≡ length ps → length ps ≤ n → {A B : Type 0} (r : Result A B) (now : List ℕ)
+    → now ≡ (if is_ok r then take n ps ++ replicate (n - len) 0 else ps)
+    → HoldsMore ps now × OnOk r (n ≤ length now)
+held ps n len long more (Ok x) now is =
+    let now_is : now ≡ ps ++ replicate (n - len) 0 = is ∙ ap (λ l. l ++ replicate (n - len) 0) (take_all n ps more) in
+    let now_long : length now ≡ length ps + length (replicate {A = ℕ} (n - len) 0) = ap length now_is ∙ length-append ps (replicate (n - len) 0) in
+    let zeros : length (replicate {A = ℕ} (n - len) 0) ≡ n - len = length-replicate (n - len) 0 in (
+      record { same = λ i. ap (λ l. parent_at l i) now_is ∙ padded ps (n - len) i; more = omega arith },
+      omega arith,
+    )
+held ps n len long more (Err e) now is = (record { same = λ i. ap (λ l. parent_at l i) is; more = (let same = ap length is in omega arith) }, tt)
+
+covers_still : (n : ℕ) (ps qs : List ℕ) (old new : Lists) → AreCovered n ps old → HoldsMore ps qs → CoversMore old new → AreCovered n qs new
+covers_still n ps qs old new covered holds covers = record {
+  parents = (let was = covered.parents in let more = holds.more in omega arith);
+  owners = (let was = covered.owners in let more = covers.owners in omega arith);
+  members = (let was = covered.members in let more = covers.members in omega arith);
+}
+
+-- a call that fails
+pub err_fails : {A E : Type 0} (r : Result A E) → IsErr r → IsOk r → ⊥
+err_fails (Ok a) fails done = (cc)
+err_fails (Err e) fails done = (cc)
+
+-- no room is made where there is none
+module _ {V : Type 0} (c : Content V) (valid : IsContent true c) (n : ℕ) where
+  no_room : (ok : Type 0) → (ok → ⊥) → (n ≤ c.room → ⊥) → MakesRoom true c n ok c
+  no_room ok fails full = record {
+    before = valid;
+    after = valid;
+    fits = λ done. absurd (fails done);
+    room = λ done. absurd (fails done);
+    live_and_more = λ done. absurd (fails done);
+    succeeds = λ more. absurd (full more);
+    had_room = λ more. absurd (full more);
+    keeps = record { live = refl; detached = refl; retired = refl; next = refl; offer = refl; stack = refl; room = omega arith };
+    capacity = omega arith;
+  }
+
+  pub fits_most : (capacity : ℕ) → capacity ≡ capacity_with c n → capacity ≤ most → used c + n ≤ most
+  fits_most capacity is few = elim (nat_lt c.room n) as
+      (λ b. nat_lt c.room n ≡ b → capacity ≡ cond b (used c + grown (used c) n) c.capacity → used c + n ≤ most) [
+        | true ↦ λ _ is. (omega arith)
+        | false ↦ λ more is. (let fits = valid.room_fits in grind (arith, nat_tests))
+      ] refl is
+
+-- no node at all
+module _ {V : Type 0} (c : Content V) (none : c.live ≡ map.empty) (parents : List ℕ) (children : Lists) where
+  no_live : (k : Key) → map.get c.live k ≡ None
+  no_live k = ap (λ m. map.get m k) none ∙ map.get-empty {X = V} key_cmp k
+
+  pub bare_kept : ((p : ℕ) → list_of children p ≡ []) → AreCovered c.capacity parents children → HoldsNodes c parents children
+  bare_kept empty covered = record {
+    indices = record {
+      within = λ k live. absurd (let gone = ap is_some (no_live k) in cc);
+      apart = λ a b live. absurd
+          (let gone = ap is_some (no_live a) in cc);
+    };
+    covered = covered;
+    disjoint = record {
+      once = λ p k. (let e = ap (often k) (empty p) in omega arith);
+      alone = λ p q k inside. absurd (let e = ap (often k) (empty p) in omega arith);
+      within = λ p k inside. absurd (let e = ap (often k) (empty p) in omega arith);
+    };
+    listed = λ p i inside. absurd (let e = ap (often i) (empty p) in omega arith);
+    has_parent = λ k live. absurd (let gone = ap is_some (no_live k) in cc);
+  }
+
+  pub bare_seen : nodes_by c.live parents children ≡ map.empty
+  bare_seen = map.same_map keys_total exact_keys _ _
+      (λ q. seen_get c.live parents children q ∙ ap (option_map (node_at c.live parents children q)) (no_live q)
+      ∙ sym (map.get-empty {X = Node V} key_cmp q))
+
+module _ {V : Type 0} {c : Content V} {parents : List ℕ} {children : Lists} (kept : HoldsNodes c parents children) where
+  abbrev nodes : Nodes V
+  nodes = nodes_by c.live parents children
+
+  -- the same values, in more places
+  module _ (d : Content V) (same : d.live ≡ c.live) (more : c.capacity ≤ d.capacity) (parents' : List ℕ) (children' : Lists)
+      (holds : HoldsMore parents parents') (grows : CoversMore children children') where
+    same_live : (q : Key) → map.contains_key d.live q ≡ map.contains_key c.live q
+    same_live q = ap (λ m. map.contains_key m q) same
+
+    grown_indices : HaveIndices d
+    grown_indices = indices_still c d kept.indices (λ k live. sym (same_live k) ∙ live) more
+
+    pub grown_kept : AreCovered d.capacity parents' children' → HoldsNodes d parents' children'
+    grown_kept covered = kept_along kept d grown_indices parents' children' (λ q live. same_live q ∙ live) grows.lists
+        (λ q live. sym (same_live q) ∙ live) holds.same covered grows.disjoint
+
+    pub grown_seen : nodes_by d.live parents' children' ≡ nodes
+    grown_seen = map.same_map keys_total exact_keys _ _ (λ q. get_alike kept d grown_indices parents' children' q (ap (λ m. map.get m q) same)
+        (λ live. node_along kept d grown_indices parents' children' (λ q live. same_live q ∙ live) grows.lists
+        (λ q live. sym (same_live q) ∙ live) holds.same q live))
+
+  -- places are made, and no room
+  module _ (parents' : List ℕ) (children' : Lists) (holds : HoldsMore parents parents') (covers : CoversMore children children') where
+    pub covered_kept : HoldsNodes c parents' children'
+    covered_kept = grown_kept c refl (omega arith) parents' children' holds covers
+        (covers_still c.capacity parents parents' children children' kept.covered holds covers)
+
+    pub covered_seen : IsContent true c → (n : ℕ) (ok : Type 0) → (ok → ⊥) → (n ≤ c.room → ⊥)
+        → MakesRoom true (family c parents children) n ok (family c parents' children')
+    covered_seen valid n ok fails full = family_room c parents children c parents' children'
+        (grown_seen c refl (omega arith) parents' children' holds covers) n ok (no_room c valid n ok fails full)
+
+  pub unroomed : IsContent true c → (n : ℕ) (ok : Type 0) → (ok → ⊥) → (n ≤ c.room → ⊥)
+      → MakesRoom true (family c parents children) n ok (family c parents children)
+  unroomed valid n ok fails full = family_room c parents children c parents children refl n ok (no_room c valid n ok fails full)
+
+  -- a node comes
+  module _ (k : Key) (v : V) (d : Content V) (inserts : Inserts c k v d) (valid : IsContent true c) (after : IsContent true d)
+      (capacity : d.capacity ≡ c.capacity) (within : k.index ≤ d.capacity)
+      (o : Option Key) (is_parent : IfSome o (IsLive c)) (new : List ℕ) (new_is : new ≡ set parents k.index (parent_index o)) where
+    stays : (q : Key) → IsLive c q → IsLive d q
+    stays q live = ap (λ m. map.contains_key m q) inserts.live ∙ live-insert_still c.live k v q live
+
+    here : IsLive d k
+    here = ap (λ m. map.contains_key m k) inserts.live ∙ ap is_some (get-insert_here c.live k v)
+
+    fresh : map.contains_key c.live k ≡ false
+    fresh = inserted_fresh true c k v d valid inserts
+
+    came_other : (q : Key) → q ≢ k → map.get d.live q ≡ map.get c.live q
+    came_other q other = ap (λ m. map.get m q) inserts.live ∙ get-insert_other c.live k v q other
+
+    no_other : (q : Key) → IsLive c q → q.index ≢ k.index
+    no_other q live at = let one : q ≡ k = after.apart q k (inl (inl (stays q live))) (inl (inl here)) at in
+        let f = ap (map.contains_key c.live) (sym one) ∙ live in let gone = fresh in cc
+
+    came_indices : HaveIndices d
+    came_indices = record {
+      within = λ q live. (elim (same_or_other q k) [
+        | inl is ↦ ((after.within q (inl (inl live))).0, (let at = ap (λ (q : Key). q.index) is in omega arith))
+        | inr other ↦ (let was = kept.indices.within q (sym (ap is_some (came_other q other)) ∙ live) in (was.0, omega (arith, was.1, capacity)))
+      ]);
+      apart = λ a b of_a of_b. after.apart a b (inl (inl of_a)) (inl (inl of_b));
+    }
+
+    place : k.index < length parents
+    place = let covered = kept.covered.parents in omega arith
+
+    came_above : parent_at new k.index ≡ parent_index o
+    came_above = ap (λ l. parent_at l k.index) new_is ∙ get_or-set_same parents k.index (parent_index o) 0 place
+
+    above_other : (q : Key) → IsLive c q → parent_at new q.index ≡ parent_at parents q.index
+    above_other q live = ap (λ l. parent_at l q.index) new_is ∙ get_or-set_other parents k.index q.index (parent_index o) 0 (no_other q live)
+
+    parent_stays : (o : Option Key) → IfSome o (IsLive c) → IfSome o (IsLive d)
+    parent_stays None is = tt
+    parent_stays (Some p) is = stays p is
+
+    pub came_kept : HoldsNodes d new children
+    came_kept = kept_still kept d came_indices new children stays (λ p. refl)
+        (record {
+          parents = (let n = ap length new_is ∙ length-set parents k.index (parent_index o) in let covered = kept.covered.parents in omega arith);
+          owners = (let covered = kept.covered.owners in omega arith);
+          members = (let covered = kept.covered.members in omega arith);
+        })
+        kept.disjoint
+        (λ q live. elim (same_or_other q k) [
+          | inl at ↦ subst (λ i. (i ≡ 0) ⊎ HasKey d i) (sym (ap (λ (q : Key). parent_at new q.index) at ∙ came_above))
+              (written_has d o (parent_stays o is_parent))
+          | inr other ↦ (let was = sym (ap is_some (came_other q other)) ∙ live in
+              above_still kept d came_indices new children stays (λ p. refl) (parent_at parents q.index) (parent_at new q.index) (above_other q was)
+              (kept.has_parent q was))
+        ])
+
+    came_seen : nodes_by d.live new children ≡ map.insert nodes k (child o v)
+    came_seen = map.same_map keys_total exact_keys _ _ (λ q. elim (same_or_other q k) [
+      | inl at ↦ rw at (seen_get d.live new children k
+          ∙ ap (option_map (node_at d.live new children k)) (ap (λ m. map.get m k) inserts.live ∙ get-insert_here c.live k v)
+          ∙ (λ i. Some (record {
+            value = v;
+            parent = (ap (found_at d.live) came_above ∙ written_found d came_indices o (parent_stays o is_parent)) i;
+            children = ap (keys_at d.live) (list_none kept k.index (λ x live. no_other x live)) i;
+          }))
+          ∙ sym (get-insert_here nodes k (child o v)))
+      | inr other ↦ get_alike kept d came_indices new children q (came_other q other)
+          (λ live. node_still kept d came_indices new children q live (above_other q live) refl (λ p of_c _. stays p of_c) (λ x of_c _. stays x of_c))
+          ∙ sym (get-insert_other nodes k (child o v) q other)
+    ])
+
+    pub came_inserts : Inserts (family c parents children) k (child o v) (family d new children)
+    came_inserts = family_inserts c parents children d new children k v o came_seen inserts
+
+  -- a node goes that has no children, is no child and is no parent
+  module _ (k : Key) (live : IsLive c k) (leaf : children_of nodes k ≡ []) (alone : (p : Key) → times k (children_of nodes p) ≡ 0)
+      (childless : (q : Key) → parent_of nodes q ≢ Some k)
+      (d : Content V) (is : d.live ≡ map.remove c.live k) (capacity : d.capacity ≡ c.capacity) where
+    left_get : (q : Key) → q ≢ k → map.get d.live q ≡ map.get c.live q
+    left_get q other = ap (λ m. map.get m q) is ∙ grind (arith, keys)
+
+    gone_here : {W : Type 0} (m : map.FinMap key_cmp W) → map.get (map.remove m k) k ≡ None
+    gone_here m = grind (arith, keys)
+
+    gone_other : {W : Type 0} (m : map.FinMap key_cmp W) (q : Key) → q ≢ k → map.get (map.remove m k) q ≡ map.get m q
+    gone_other m q other = grind (arith, keys)
+
+    not_k : (q : Key) → IsLive d q → q ≢ k
+    not_k q of_d at = let none = ap (λ m. map.get m k) is ∙ gone_here c.live in let f = ap (λ q. is_some (map.get d.live q)) (sym at) ∙ of_d in
+        let g = ap is_some none in cc
+
+    was_live : (q : Key) → IsLive d q → IsLive c q
+    was_live q of_d = sym (ap is_some (left_get q (not_k q of_d))) ∙ of_d
+
+    left_indices : HaveIndices d
+    left_indices = indices_still c d kept.indices was_live (omega arith)
+
+    -- no list has it, and it has none
+    unlisted : (p i : ℕ) → IsIn children p i → i ≢ k.index
+    unlisted p i inside at = let none = nowhere kept k live alone p in let here = ap (λ i. often i (list_of children p)) at in omega arith
+
+    ownerless : list_of children k.index ≡ []
+    ownerless = by (list_of children k.index) (sym (children_live c.live parents children k live) ∙ leaf)
+      where
+        by : (is : List ℕ) → keys_at c.live is ≡ [] → is ≡ []
+        by [] none = refl
+        by (i ∷ is) none = absurd (cc)
+
+    has_left : (i : ℕ) → HasKey c i → i ≢ k.index → HasKey d i
+    has_left i has apart = (has.0, ap is_some (left_get has.0 (λ at. apart (sym has.2 ∙ ap (λ (q : Key). q.index) at))) ∙ has.1, has.2)
+
+    not_above : (q : Key) → IsLive c q → parent_at parents q.index ≢ k.index
+    not_above q of_c at =
+        let found = parent_live c.live parents children q of_c ∙ ap (found_at c.live) at ∙ found_live c kept.indices k live in
+        childless q found
+
+    pub gone_kept : HoldsNodes d parents children
+    gone_kept = record {
+      indices = left_indices;
+      covered = covers_less c.capacity d.capacity parents children kept.covered (omega arith);
+      disjoint = kept.disjoint;
+      listed = λ p i inside. (let was = kept.listed p i inside in (
+        has_left p was.0 (λ at. (let none = ap (λ p. often i (list_of children p)) at ∙ ap (often i) ownerless in omega arith)),
+        has_left i was.1 (unlisted p i inside),
+      ));
+      has_parent = λ q of_d. (let was = was_live q of_d in elim (kept.has_parent q was) [
+        | inl none ↦ inl none
+        | inr has ↦ inr (has_left (parent_at parents q.index) has (not_above q was))
+      ]);
+    }
+
+    pub gone_seen : nodes_by d.live parents children ≡ map.remove nodes k
+    gone_seen = map.same_map keys_total exact_keys _ _ (λ q. elim (same_or_other q k) [
+      | inl at ↦ rw at (seen_get d.live parents children k
+          ∙ ap (option_map (node_at d.live parents children k)) (ap (λ m. map.get m k) is ∙ gone_here c.live) ∙ sym (gone_here nodes))
+      | inr other ↦ get_alike kept d left_indices parents children q (left_get q other)
+          (λ of_q. node_still kept d left_indices parents children q of_q refl refl
+          (λ p of_c at. ap is_some (left_get p (λ e. not_above q of_q (sym at ∙ ap (λ (q : Key). q.index) e))) ∙ of_c)
+          (λ x of_c inside. ap is_some (left_get x (λ e. unlisted q.index x.index inside (ap (λ (q : Key). q.index) e))) ∙ of_c))
+          ∙ sym (gone_other nodes q other)
+    ])
+
+  -- a value is written
+  module _ (k : Key) (was v : V) (there : map.get c.live k ≡ Some was) where
+    abbrev written : Content V
+    written = words.with_value c k v
+
+    written_keys : (q : Key) → map.contains_key written.live q ≡ map.contains_key c.live q
+    written_keys q = elim (same_or_other q k) [
+      | inl is ↦ rw is (ap is_some (get-insert_here c.live k v) ∙ sym (ap is_some there))
+      | inr other ↦ ap is_some (get-insert_other c.live k v q other)
+    ]
+
+    written_indices : HaveIndices written
+    written_indices = indices_still c written kept.indices (λ q live. sym (written_keys q) ∙ live) (omega arith)
+
+    pub written_kept : HoldsNodes written parents children
+    written_kept = kept_along kept written written_indices parents children (λ q live. written_keys q ∙ live) (λ p. refl)
+        (λ q live. sym (written_keys q) ∙ live) (λ i. refl) kept.covered kept.disjoint
+
+    pub written_seen : nodes_by written.live parents children ≡ with_value nodes k v
+    written_seen = map.same_map keys_total exact_keys _ _ (λ q. elim (same_or_other q k) [
+      | inl at ↦ rw at (seen_get written.live parents children k
+          ∙ ap (option_map (node_at written.live parents children k)) (get-insert_here c.live k v) ∙ ap Some (along k (ap is_some there) v)
+          ∙ sym (changed_here nodes k (λ n. record n { value = v })
+          ∙ ap (option_map (λ (n : Node V). record n { value = v }))
+          (seen_get c.live parents children k ∙ ap (option_map (node_at c.live parents children k)) there)))
+      | inr other ↦ get_alike kept written written_indices parents children q (get-insert_other c.live k v q other) (along q)
+          ∙ sym (changed_other nodes k (λ n. record n { value = v }) q other)
+    ])
+      where
+        along : (q : Key) → IsLive c q → (x : V) → node_at written.live parents children q x ≡ node_at c.live parents children q x
+        along = node_along kept written written_indices parents children (λ q live. written_keys q ∙ live) (λ p. refl)
+            (λ q live. sym (written_keys q) ∙ live) (λ i. refl)
+
+  -- a copy has the same parents and children
+  module _ (is_clone : V → V → Type 0) (copy : Content V) (clones : IsCloneBy is_clone c copy) (capacity : copy.capacity ≡ c.capacity) where
+    copied_keys : (q : Key) → map.contains_key copy.live q ≡ map.contains_key c.live q
+    copied_keys = clone_live is_clone c copy clones
+
+    copied_indices : HaveIndices copy
+    copied_indices = indices_still c copy kept.indices (λ q live. sym (copied_keys q) ∙ live) (omega arith)
+
+    pub copied_kept : HoldsNodes copy parents children
+    copied_kept = kept_along kept copy copied_indices parents children (λ q live. copied_keys q ∙ live) (λ p. refl)
+        (λ q live. sym (copied_keys q) ∙ live) (λ i. refl)
+        (covers_less c.capacity copy.capacity parents children kept.covered (omega arith)) kept.disjoint
+
+    pub copied_seen : IsCloneBy (IsNodeClone is_clone) (family c parents children) (family copy parents children)
+    copied_seen = record {
+      live = λ q. subst (λ o. IsCloneOf (IsNodeClone is_clone) o (map.get (nodes_by copy.live parents children) q))
+          (sym (seen_get c.live parents children q)) (by q (map.get c.live q) refl (clones.live q));
+      detached = clones.detached;
+      retired = clones.retired;
+      next = clones.next;
+      offer = clones.offer;
+      stack = clones.stack;
+    }
+      where
+        at : (q : Key) (v : V) (p : Option V) → IsCloneOf is_clone (Some v) p
+            → IsCloneOf (IsNodeClone is_clone) (Some (node_at c.live parents children q v)) (option_map (node_at c.live parents children q) p)
+        at q v None is = is
+        at q v (Some w) is = (is, refl, refl)
+
+        by : (q : Key) (o : Option V) → map.get c.live q ≡ o → IsCloneOf is_clone o (map.get copy.live q)
+            → IsCloneOf (IsNodeClone is_clone) (option_map (node_at c.live parents children q) o) (map.get (nodes_by copy.live parents children) q)
+        by q None there is = seen_get copy.live parents children q ∙ ap (option_map (node_at copy.live parents children q)) is
+        by q (Some v) there is = subst (IsCloneOf (IsNodeClone is_clone) (Some (node_at c.live parents children q v)))
+            (sym (get_along kept copy copied_indices parents children (λ q live. copied_keys q ∙ live) (λ p. refl)
+            (λ q live. sym (copied_keys q) ∙ live) (λ i. refl) q (ap is_some there)))
+            (at q v (map.get copy.live q) is)

@@ -1,0 +1,6 @@
+use Rattle.slotmap_scene.proofs.SceneSteps.{covered}
+use Rattle.slotmap_scene.proofs.links.cover_children.Goals as goal
+
+pub returns-clause-grows : goal.returns-clause-grows
+returns-clause-grows c = covered c.args.children.now c.members.ensures.disjoint _ _ _ c.cover_members.new.self c.cover_members.result
+    c.in_ok-cover_owners.ensures.ok c.cover_members.ensures.ok c.cover_members.ensures.err
