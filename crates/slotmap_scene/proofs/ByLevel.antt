@@ -81,7 +81,8 @@ module _ {N : Type 0} (parent : N → Option Key) (k : Key) where
             let one = ap (λ q. same q k) (sym is) ∙ one_itself k in
             let few = roots_few es in
             let root =
-            by_first (λ ks. 0 < times k ks → parent e.1 ≡ None) e es (λ child some. absurd (omega arith)) (λ top some. not_some (parent e.1) top) more in
+            by_first (λ ks. 0 < times k ks → parent e.1 ≡ None) e es (λ child some. absurd (omega arith))
+            (λ top some. not_some (parent e.1) top) more in
             (e.1, found_first e es is, root)
         | inr other ↦
             let none = one_other e.0 k (λ is. other (sym is)) in
