@@ -24,7 +24,8 @@ use Rattle.slotmap_scene.specs.Node.{Node, Nodes, key_and_value}
 use Rattle.slotmap_scene.specs.Above.{roots_in}
 use Rattle.slotmap_scene.specs.Climb.{parent_in, parent_of, with_parent}
 use Rattle.slotmap_scene.specs.Family.{behind, children_in, in_front, children_of, value_of, with_children_in}
-use Rattle.slotmap_scene.specs.Kept.{AreCovered, AreIndices, HasKey, HaveIndices, HoldsNodes, parent_at, found_at, key_at, parent_index, keys_at, node_at, nodes_by}
+use Rattle.slotmap_scene.specs.Kept.{AreCovered, AreIndices, HasKey, HaveIndices, HoldsNodes, parent_at, found_at, key_at, parent_index, keys_at, node_at}
+use Rattle.slotmap_scene.specs.Kept.{nodes_by}
 use Rattle.slotmap_scene.specs.Kept.{owner_of, roots_of}
 use Rattle.slotmap_scene.proofs.Indices.{first_key, found_has, found_is, found_key, key_after, key_ahead, last_key, found_live, found_same, found_zero}
 use Rattle.slotmap_scene.proofs.Indices.{keys_same, no_key, times_key}
@@ -391,7 +392,8 @@ module _ {V : Type 0} {c : Content V} {parents : List ℕ} {children : Lists} (k
   -- another content
   module _ (d : Content V) (also : HaveIndices d) (parents' : List ℕ) (children' : Lists) where
     -- a node has the same parent and the same children there, if they are there
-    pub node_still : (q : Key) → IsLive c q → parent_at parents' q.index ≡ parent_at parents q.index → list_of children' q.index ≡ list_of children q.index
+    pub node_still : (q : Key) → IsLive c q → parent_at parents' q.index ≡ parent_at parents q.index
+        → list_of children' q.index ≡ list_of children q.index
         → ((p : Key) → IsLive c p → p.index ≡ parent_at parents q.index → IsLive d p)
         → ((x : Key) → IsLive c x → IsIn children q.index x.index → IsLive d x)
         → (v : V) → node_at d.live parents' children' q v ≡ node_at c.live parents children q v

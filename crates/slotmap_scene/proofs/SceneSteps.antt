@@ -20,7 +20,8 @@ use Rattle.slotmap_links.proofs.Changes.{disjoint_still}
 use Rattle.slotmap_scene.specs.Node.{Node, Nodes}
 use Rattle.slotmap_scene.specs.Climb.{parent_of}
 use Rattle.slotmap_scene.specs.Family.{IsNodeClone, child, children_of, with_value}
-use Rattle.slotmap_scene.specs.Kept.{AreCovered, CoversMore, HoldsMore, HasKey, HaveIndices, HoldsNodes, parent_at, family, found_at, parent_index, keys_at, node_at}
+use Rattle.slotmap_scene.specs.Kept.{AreCovered, CoversMore, HoldsMore, HasKey, HaveIndices, HoldsNodes, parent_at, family, found_at, parent_index, keys_at}
+use Rattle.slotmap_scene.specs.Kept.{node_at}
 use Rattle.slotmap_scene.specs.Kept.{nodes_by}
 use Rattle.slotmap_scene.proofs.Indices.{found_live}
 use Rattle.slotmap_scene.proofs.Families.{above_still, children_live, list_none, get_alike, get_along, indices_still, kept_along, node_along, covers_less}

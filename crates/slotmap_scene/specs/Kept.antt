@@ -58,7 +58,8 @@ module _ {T : Type 0} where
 
   -- a node as it is seen
   abbrev pub node_at : map.FinMap key_cmp T → List ℕ → Lists → Key → T → Node T
-  node_at live parents children k v = record { value = v; parent = found_at live (parent_at parents k.index); children = keys_at live (list_of children k.index) }
+  node_at live parents children k v =
+      record { value = v; parent = found_at live (parent_at parents k.index); children = keys_at live (list_of children k.index) }
 
   unfoldable pub nodes_by : map.FinMap key_cmp T → List ℕ → Lists → Nodes T
   nodes_by live parents children = map.from_sorted (list_map (λ e. (e.0, node_at live parents children e.0 e.1)) (map.entries live))
