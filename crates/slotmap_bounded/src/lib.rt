@@ -12,9 +12,9 @@
 //! ```
 //! let mut map: BoundedMap<DefaultKey, &str> = BoundedMap::with_capacity(alloc, 1)?;
 //! let a = map.insert_reserved("a");
-//! assert_eq!(rt; map.capacity_for(2)?, 3);
-//! map.reserve(2)?;
-//! assert_eq!(rt; map.capacity(), 3);
+//! assert_eq!(rt; map.capacity_for(6)?, 7);
+//! map.reserve(6)?;
+//! assert_eq!(rt; map.capacity(), 7);
 //! assert_eq!(rt; map.get(a), Some(&"a"));
 //! ```
 #![tactic(auto, using(slotmap::proofs::Callers::keys))]
@@ -103,6 +103,11 @@ impl<K: Key, V: Drop> BoundedMap<K, V> {
     /// Makes a map with no key and room for so many.
     ///
     /// It fails with `TooGreat` if they are over 4294967294, and else with `Memory` if memory runs out.
+    ///
+    /// ```
+    /// let map: BoundedMap<DefaultKey, &str> = BoundedMap::with_capacity(alloc, 2)?;
+    /// assert_eq!(rt; (map.len(), map.capacity()), (0, 2));
+    /// ```
     pub fn with_capacity(alloc: Global, capacity: usize) -> Result<Self, ReserveError>
         ensures starts { IfOk result IsNew }
         ensures room { IfOk result (λ made. made.room ≡ capacity) }
@@ -119,6 +124,12 @@ impl<K: Key, V: Drop> BoundedMap<K, V> {
     }
 
     /// Returns the number of live keys, in constant time.
+    ///
+    /// ```
+    /// let mut map: BoundedMap<DefaultKey, &str> = BoundedMap::with_capacity(alloc, 1)?;
+    /// map.insert_reserved("a");
+    /// assert_eq!(rt; map.len(), 1);
+    /// ```
     pub fn len(&self) -> usize
         ensures value { result ≡ map.len self.now.live }
         ensures valid { IsContent true self.now }
@@ -127,6 +138,12 @@ impl<K: Key, V: Drop> BoundedMap<K, V> {
     }
 
     /// Returns the greatest index that a key can have before more room is reserved, in constant time.
+    ///
+    /// ```
+    /// let mut map: BoundedMap<DefaultKey, &str> = BoundedMap::with_capacity(alloc, 1)?;
+    /// let a = map.insert_reserved("a");
+    /// assert_eq!(rt; (a.data().idx(), map.capacity()), (1, 1));
+    /// ```
     pub fn capacity(&self) -> usize
         ensures value { result ≡ self.now.capacity }
         ensures exact { result ≡ used self.now + self.now.room }
@@ -188,6 +205,12 @@ impl<K: Key, V: Drop> BoundedMap<K, V> {
     /// The capacity is that of [`BoundedMap::capacity_for`] then. It fails with `TooGreat` if more than
     /// 4294967294 keys would be there, counting those that are retired, and with `Memory` if memory runs
     /// out. It has changed nothing then.
+    ///
+    /// ```
+    /// let mut map: BoundedMap<DefaultKey, &str> = BoundedMap::with_capacity(alloc, 0)?;
+    /// map.reserve(3)?;
+    /// assert!(rt; map.has_room());
+    /// ```
     pub fn reserve(&mut self, additional: usize) -> Result<(), ReserveError>
         ensures makes_room { MakesRoom true self.old additional (IsOk result) self.new }
         ensures err { IfErr result (RefusesCapacity (used self.old + additional)) }
@@ -215,6 +238,12 @@ impl<K: Key, V: Drop> BoundedMap<K, V> {
 
     /// Inserts a value, and returns its new key. The caller proves that there is room. The capacity
     /// stays. Constant time.
+    ///
+    /// ```
+    /// let mut map: BoundedMap<DefaultKey, &str> = BoundedMap::with_capacity(alloc, 1)?;
+    /// let a = map.insert_reserved("a");
+    /// assert_eq!(rt; map.get(a), Some(&"a"));
+    /// ```
     #[inline(always)]
     pub fn insert_reserved(&mut self, value: V) -> K
         requires room { 0 < self.old.room }
@@ -290,6 +319,14 @@ impl<K: Key, V: Drop> BoundedMap<K, V> {
     }
 
     /// Returns whether a key is live, in constant time.
+    ///
+    /// ```
+    /// let mut map: BoundedMap<DefaultKey, &str> = BoundedMap::with_capacity(alloc, 1)?;
+    /// let a = map.insert_reserved("a");
+    /// assert!(rt; map.contains_key(a));
+    /// map.remove(a);
+    /// assert!(rt; !map.contains_key(a));
+    /// ```
     pub fn contains_key(&self, key: K) -> bool
         ensures value { result ≡ map.contains_key self.now.live (K.data_of key) }
         ensures valid { IsContent true self.now }
@@ -351,6 +388,13 @@ impl<K: Key, V: Drop> BoundedMap<K, V> {
     }
 
     /// Returns the value of a key, or `None` if the key isn't live. Constant time.
+    ///
+    /// ```
+    /// let mut map: BoundedMap<DefaultKey, &str> = BoundedMap::with_capacity(alloc, 1)?;
+    /// let a = map.insert_reserved("a");
+    /// assert_eq!(rt; map.get(a), Some(&"a"));
+    /// assert_eq!(rt; map.get(DefaultKey::null()), None);
+    /// ```
     pub fn get(&self, key: K) -> Option<&V>
         ensures { option_copied result ≡ map.get self.now.live (K.data_of key) }
     {
@@ -358,6 +402,12 @@ impl<K: Key, V: Drop> BoundedMap<K, V> {
     }
 
     /// Returns the value of a key. The caller proves that the key is live. Constant time.
+    ///
+    /// ```
+    /// let mut map: BoundedMap<DefaultKey, &str> = BoundedMap::with_capacity(alloc, 1)?;
+    /// let a = map.insert_reserved("a");
+    /// assert_eq!(rt; map.value(a), &"a");
+    /// ```
     pub fn value(&self, key: K) -> &V
         requires { IsLive self.now (K.data_of key) }
         ensures { map.get self.now.live (K.data_of key) ≡ Some result.now }
@@ -366,6 +416,15 @@ impl<K: Key, V: Drop> BoundedMap<K, V> {
     }
 
     /// Returns a mutable reference to the value of a key, or `None` if the key isn't live. Constant time.
+    ///
+    /// ```
+    /// let mut map: BoundedMap<DefaultKey, &str> = BoundedMap::with_capacity(alloc, 1)?;
+    /// let a = map.insert_reserved("a");
+    /// if let Some(value) = map.get_mut(a) {
+    ///     *value = "b";
+    /// }
+    /// assert_eq!(rt; map.get(a), Some(&"b"));
+    /// ```
     pub fn get_mut(&mut self, key: K) -> Option<&mut V>
         ensures* writes_back { sem 𝓛 (lends_get K.row V.row self.entry (K.data_of key) result) }
         ensures value { option_copied_mut result ≡ map.get self.old.live (K.data_of key) }
@@ -378,6 +437,12 @@ impl<K: Key, V: Drop> BoundedMap<K, V> {
 
     /// Returns an iterator over the live keys, by ascending index. All its steps together read each slot
     /// once.
+    ///
+    /// ```
+    /// let mut map: BoundedMap<DefaultKey, &str> = BoundedMap::with_capacity(alloc, 1)?;
+    /// let a = map.insert_reserved("a");
+    /// assert_eq!(rt; map.keys().next(), Some(a));
+    /// ```
     pub fn keys(&self) -> Keys<'_, K, V>
         ensures { result ≡ map.keys self.now.live }
     {
@@ -386,6 +451,12 @@ impl<K: Key, V: Drop> BoundedMap<K, V> {
 
     /// Returns an iterator over the live keys with their values, by ascending index. All its steps
     /// together read each slot once.
+    ///
+    /// ```
+    /// let mut map: BoundedMap<DefaultKey, &str> = BoundedMap::with_capacity(alloc, 1)?;
+    /// let a = map.insert_reserved("a");
+    /// assert_eq!(rt; map.iter().next(), Some((a, &"a")));
+    /// ```
     pub fn iter(&self) -> Iter<'_, K, V>
         ensures { result ≡ map.entries self.now.live }
     {
@@ -397,6 +468,13 @@ impl<K: Key, V: Clone> BoundedMap<K, V> {
     /// Returns a copy with clones of the values under the same keys, and with as much room.
     ///
     /// It fails if memory runs out, or the clone of a value fails. Linear in the number of slots.
+    ///
+    /// ```
+    /// let mut map: BoundedMap<DefaultKey, &str> = BoundedMap::with_capacity(alloc, 1)?;
+    /// let a = map.insert_reserved("a");
+    /// let copy = map.clone()?;
+    /// assert_eq!(rt; copy.get(a), Some(&"a"));
+    /// ```
     pub fn clone(&self) -> Result<Self, AllocError>
         ensures clones { IfOk result (IsCloneBy V.is_clone self.now) }
         ensures capacity { IfOk result (λ copy. copy.capacity ≡ self.now.capacity) }

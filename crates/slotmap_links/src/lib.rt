@@ -90,6 +90,11 @@ impl Model for Links {
 
 impl Links {
     /// Makes lists with no owner and no members. It asks for no memory.
+    ///
+    /// ```
+    /// let links = Links::new(alloc);
+    /// assert_eq!(rt; (links.owners(), links.members()), (0, 0));
+    /// ```
     pub fn new(alloc: Global) -> Links
         ensures { result ≡ record { lists = []; members = 0 } }
     {
@@ -180,6 +185,13 @@ impl Links {
     }
 
     /// Returns the number of owners: they are the numbers below it.
+    ///
+    /// ```
+    /// let mut links = Links::new(alloc);
+    /// links.cover_owners(1)?;
+    /// links.cover_members(8)?;
+    /// assert_eq!(rt; links.owners(), 1);
+    /// ```
     pub fn owners(&self) -> usize
         ensures value { result ≡ length self.now.lists }
         ensures disjoint { AreDisjoint self.now }
@@ -188,6 +200,13 @@ impl Links {
     }
 
     /// Returns the number below which all members are.
+    ///
+    /// ```
+    /// let mut links = Links::new(alloc);
+    /// links.cover_owners(1)?;
+    /// links.cover_members(8)?;
+    /// assert_eq!(rt; links.members(), 8);
+    /// ```
     pub fn members(&self) -> usize
         ensures value { result ≡ self.now.members }
         ensures limit { result < 2 ^ 32 }
@@ -213,6 +232,15 @@ impl Links {
     }
 
     /// Returns whether an owner's list has no members.
+    ///
+    /// ```
+    /// let mut links = Links::new(alloc);
+    /// links.cover_owners(1)?;
+    /// links.cover_members(8)?;
+    /// assert!(rt; links.is_empty(0));
+    /// links.put_last(0, 5);
+    /// assert!(rt; !links.is_empty(0));
+    /// ```
     pub fn is_empty(&self, owner: u32) -> bool
         requires { owner < length self.now.lists }
         ensures { IsTrue result ↔ (length (list_of self.now owner) ≡ 0) }
@@ -221,6 +249,15 @@ impl Links {
     }
 
     /// Returns the first member of an owner's list, or `None` if it has none.
+    ///
+    /// ```
+    /// let mut links = Links::new(alloc);
+    /// links.cover_owners(1)?;
+    /// links.cover_members(8)?;
+    /// links.put_last(0, 5);
+    /// links.put_last(0, 2);
+    /// assert_eq!(rt; links.first(0), Some(5));
+    /// ```
     pub fn first(&self, owner: u32) -> Option<u32>
         requires { owner < length self.now.lists }
         ensures { result ≡ first_or (list_of self.now owner) None }
@@ -229,6 +266,15 @@ impl Links {
     }
 
     /// Returns the last member of an owner's list, or `None` if it has none.
+    ///
+    /// ```
+    /// let mut links = Links::new(alloc);
+    /// links.cover_owners(1)?;
+    /// links.cover_members(8)?;
+    /// links.put_last(0, 5);
+    /// links.put_last(0, 2);
+    /// assert_eq!(rt; links.last(0), Some(2));
+    /// ```
     pub fn last(&self, owner: u32) -> Option<u32>
         requires { owner < length self.now.lists }
         ensures { result ≡ last_or (list_of self.now owner) None }
@@ -257,6 +303,16 @@ impl Links {
 
     /// Returns the member before this one in its list, or `None` if it is the first. Of a number that
     /// is in no list it may return any.
+    ///
+    /// ```
+    /// let mut links = Links::new(alloc);
+    /// links.cover_owners(1)?;
+    /// links.cover_members(8)?;
+    /// links.put_last(0, 5);
+    /// links.put_last(0, 2);
+    /// assert_eq!(rt; links.prev(2), Some(5));
+    /// assert_eq!(rt; links.prev(5), None);
+    /// ```
     pub fn prev(&self, member: u32) -> Option<u32>
         requires { member < self.now.members }
         ensures { (p : ℕ) → IsIn self.now p member → result ≡ number_before None member (list_of self.now p) }
