@@ -271,11 +271,7 @@ fn run_chance(
         && scene.reserve(size as usize).is_ok()
         && add_by_chance(scene, nodes, &mut random, size)
         && tell_below(rt, "by chance", scene, first_of(nodes.as_slice()))
-        && tell(
-            rt,
-            "by links",
-            sum_below(scene, first_of(nodes.as_slice())),
-        )
+        && tell(rt, "by links", sum_below(scene, first_of(nodes.as_slice())))
         && tell(
             rt,
             "moves",

@@ -14,6 +14,6 @@ returns-clause-steps g c =
     let nodes = c.self.inside.nodes.now in
     let rest = c.next_back.new.self in
     rw c.outer.ensures (sym c.self.view_is ∙ ap (keys_at nodes.live) c.in_ok-index.ensures.steps
-        ∙ map-append (key_at nodes.live) rest (c.in_ok-index.index ∷ [])
+    ∙ map-append (key_at nodes.live) rest (c.in_ok-index.index ∷ [])
     ∙ ap (λ k. keys_at nodes.live rest ++ k ∷ [])
     (ap (key_at nodes.live) (sym c.live_key.ensures.index) ∙ key_at_live nodes c.self.invariant.0 c.live_key.result c.live_key.ensures.live))

@@ -14,7 +14,7 @@ first-requires g c = rw (c.owner.ensures, ← c.self.view_is) (owner_below c.sel
 pub returns-in_err-index : goal.returns-in_err-index
 returns-in_err-index g c = rw (c.from_residual.ensures, ← c.self.view_is) (
     ap (option_map (key_at c.self.inside.values.live))
-        (sym c.in_err-index.was ∙ c.first.ensures ∙ ap (λ p. first_or (list_of c.self.inside.children p) None)
+    (sym c.in_err-index.was ∙ c.first.ensures ∙ ap (λ p. first_or (list_of c.self.inside.children p) None)
     (c.owner.ensures ∙ ap (λ (s : Content (Node g.row.T.Denot)). owner_of s.live c.args.node) (sym c.self.view_is)))
     ∙ first_seen c.self.invariant c.args.node)
 

@@ -17,10 +17,10 @@ pub live_key-requires : goal.live_key-requires
 live_key-requires g c = up_has c.self.invariant c.self.view_is c.args.node c.requires c.index-parent.result.now
     (read_above c.self.inside.parents.items c.index_of.result c.args.node.index c.index-parent.result.now c.index-parent.ensures
     c.index_of.ensures (place_there c.self.invariant c.self.view_is c.args.node c.requires))
-        (λ none. (let test = c.if-parent-eq-NOBODY.false in absurd (omega arith)))
+    (λ none. (let test = c.if-parent-eq-NOBODY.false in absurd (omega arith)))
 
 pub returns : goal.returns
 returns g c = sym (up_is c.self.invariant c.self.view_is c.args.node c.requires c.index-parent.result.now
     (read_above c.self.inside.parents.items c.index_of.result c.args.node.index c.index-parent.result.now c.index-parent.ensures
     c.index_of.ensures (place_there c.self.invariant c.self.view_is c.args.node c.requires))
-        (λ none. (let test = c.if-parent-eq-NOBODY.false in absurd (omega arith))) c.live_key.result c.live_key.ensures.live c.live_key.ensures.index)
+    (λ none. (let test = c.if-parent-eq-NOBODY.false in absurd (omega arith))) c.live_key.result c.live_key.ensures.live c.live_key.ensures.index)
