@@ -1,6 +1,6 @@
 //! The calls that add and remove nodes and edges.
 
-ghost use Rattle.std.specs.Prelude.{◌≡◌, ◌<◌, ◌++◌, ◌∷◌, [], Some, None, IfOk, OnOk, IfErr, OnErr, IsOk, IsErr, IsTrue, ◌↔◌, OnSome, IfSome};
+ghost use Rattle.std.specs.Prelude.{◌≡◌, ◌<◌, ◌≤◌, ◌++◌, ◌∷◌, [], Some, None, IfOk, OnOk, IfErr, OnErr, IsOk, IsErr, IsTrue, ◌↔◌, OnSome, IfSome};
 ghost use Rattle.std.specs.Prelude.{IfNone, option_map, true, false, cond};
 ghost use Rattle.std.specs.Option.{option_and_then};
 ghost use Rattle.std.specs.List.{filter};
@@ -90,6 +90,7 @@ impl<K: Key, N: Drop, E: Drop> Graph<K, N, E> {
         ensures err { IfErr result (Refuses self.old.nodes node) }
         ensures reuses { 0 < map.len self.old.nodes.next → IsOk result }
         ensures room { 0 < self.old.nodes.room → IsOk result }
+        ensures capacity { self.old.nodes.capacity ≤ self.new.nodes.capacity }
         ensures in_place { 0 < self.old.nodes.room → self.new.nodes.capacity ≡ self.old.nodes.capacity }
         ensures unchanged { OnErr result (Keeps self.old.nodes self.new.nodes) }
     {
@@ -131,6 +132,7 @@ impl<K: Key, N: Drop, E: Drop> Graph<K, N, E> {
         ensures err { IfErr result (RefusesEdge self.old.nodes self.old.edges (K.data_of from) (K.data_of to) edge) }
         ensures reuses { IsLive self.old.nodes (K.data_of from) → IsLive self.old.nodes (K.data_of to) → 0 < map.len self.old.edges.next → IsOk result }
         ensures room { IsLive self.old.nodes (K.data_of from) → IsLive self.old.nodes (K.data_of to) → 0 < self.old.edges.room → IsOk result }
+        ensures capacity { self.old.edges.capacity ≤ self.new.edges.capacity }
         ensures in_place { 0 < self.old.edges.room → self.new.edges.capacity ≡ self.old.edges.capacity }
         ensures unchanged { OnErr result (Keeps self.old.edges self.new.edges × SameEdges self.old.out self.new.out × SameEdges self.old.into self.new.into) }
 

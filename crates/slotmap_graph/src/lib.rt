@@ -42,7 +42,7 @@
 
 ghost use Rattle.std.specs.Prelude.{◌≡◌, ◌+◌, ◌≤◌, IfOk, IfErr, IsOk, IsTrue, ◌↔◌, true};
 ghost use Rattle.std.specs.FinMap as map;
-ghost use Rattle.slotmap.specs.Words.{IsNew, MakesRoom, RefusesCapacity, used};
+ghost use Rattle.slotmap.specs.Words.{IsContent, IsNew, MakesRoom, RefusesCapacity, used};
 ghost use Rattle.slotmap_graph.specs.Parts.{RefusesEither, SameEdges};
 
 mod change;
@@ -253,7 +253,8 @@ impl<K: Key, N: Drop, E: Drop> Graph<K, N, E> {
     /// assert!(rt; graph.node_capacity() >= 2);
     /// ```
     pub fn node_capacity(&self) -> usize
-        ensures { result ≡ self.now.nodes.capacity }
+        ensures value { result ≡ self.now.nodes.capacity }
+        ensures valid { IsContent true self.now.nodes }
     {
         self.nodes.capacity()
     }
@@ -265,7 +266,8 @@ impl<K: Key, N: Drop, E: Drop> Graph<K, N, E> {
     /// assert!(rt; graph.edge_capacity() >= 4);
     /// ```
     pub fn edge_capacity(&self) -> usize
-        ensures { result ≡ self.now.edges.capacity }
+        ensures value { result ≡ self.now.edges.capacity }
+        ensures valid { IsContent true self.now.edges }
     {
         self.edges.capacity()
     }

@@ -1,6 +1,6 @@
 //! The calls that add an element.
 
-ghost use Rattle.std.specs.Prelude.{◌≡◌, ◌+◌, ◌<◌, ◌++◌, ◌∷◌, [], IsOk, IfOk, OnOk, IfErr, OnErr, IsSome, IsTrue, ◌↔◌, None, true};
+ghost use Rattle.std.specs.Prelude.{◌≡◌, ◌+◌, ◌<◌, ◌≤◌, ◌++◌, ◌∷◌, [], IsOk, IfOk, OnOk, IfErr, OnErr, IsSome, IsTrue, ◌↔◌, None, true};
 ghost use Rattle.std.specs.FinMap as map;
 ghost use Rattle.slotmap.specs.Words.{Inserts, IsSpent, Keeps, KeepsSpent, used};
 ghost use Rattle.slotmap_list.specs.Sequence.{value_of, put_after, put_before};
@@ -24,6 +24,7 @@ impl<K: Key, T: Drop> StableList<K, T> {
         ensures err { IfErr result (RefusesPush self.old.cursors value) }
         ensures reuses { 0 < map.len self.old.cursors.next → IsOk result }
         ensures room { 0 < self.old.cursors.room → IsOk result }
+        ensures capacity { self.old.cursors.capacity ≤ self.new.cursors.capacity }
         ensures in_place { 0 < self.old.cursors.room → self.new.cursors.capacity ≡ self.old.cursors.capacity }
         ensures unchanged { OnErr result (self.new.elements ≡ self.old.elements) }
         ensures keeps { OnErr result (Keeps self.old.cursors self.new.cursors) }
@@ -86,6 +87,7 @@ impl<K: Key, T: Drop> StableList<K, T> {
         ensures err { IfErr result (RefusesPush self.old.cursors value) }
         ensures reuses { 0 < map.len self.old.cursors.next → IsOk result }
         ensures room { 0 < self.old.cursors.room → IsOk result }
+        ensures capacity { self.old.cursors.capacity ≤ self.new.cursors.capacity }
         ensures in_place { 0 < self.old.cursors.room → self.new.cursors.capacity ≡ self.old.cursors.capacity }
         ensures unchanged { OnErr result (self.new.elements ≡ self.old.elements) }
         ensures keeps { OnErr result (Keeps self.old.cursors self.new.cursors) }
@@ -111,9 +113,11 @@ impl<K: Key, T: Drop> StableList<K, T> {
         ensures fresh { IfOk result (λ key. value_of (K.data_of key) self.old.elements ≡ None) }
         ensures unspent { IfOk result (λ key. IsSpent self.old.cursors (K.data_of key) → ⊥) }
         ensures cursors { IfOk result (λ key. Inserts self.old.cursors (K.data_of key) tt self.new.cursors) }
+        ensures used { OnOk result (used self.new.cursors ≡ used self.old.cursors + 1) }
         ensures err { IfErr result (RefusesPush self.old.cursors value) }
         ensures reuses { 0 < map.len self.old.cursors.next → IsOk result }
         ensures room { 0 < self.old.cursors.room → IsOk result }
+        ensures capacity { self.old.cursors.capacity ≤ self.new.cursors.capacity }
         ensures in_place { 0 < self.old.cursors.room → self.new.cursors.capacity ≡ self.old.cursors.capacity }
         ensures unchanged { OnErr result (self.new.elements ≡ self.old.elements) }
         ensures keeps { OnErr result (Keeps self.old.cursors self.new.cursors) }
@@ -128,10 +132,12 @@ impl<K: Key, T: Drop> StableList<K, T> {
         ensures fresh { IfOk result (λ key. value_of (K.data_of key) self.old.elements ≡ None) }
         ensures unspent { IfOk result (λ key. IsSpent self.old.cursors (K.data_of key) → ⊥) }
         ensures cursors { IfOk result (λ key. Inserts self.old.cursors (K.data_of key) tt self.new.cursors) }
+        ensures used { OnOk result (used self.new.cursors ≡ used self.old.cursors + 1) }
         ensures stands { OnOk result (IsSome (value_of (K.data_of cursor) self.old.elements)) }
         ensures err { IfErr result (RefusesPlace self.old (K.data_of cursor) value) }
         ensures reuses { IsSome (value_of (K.data_of cursor) self.old.elements) → 0 < map.len self.old.cursors.next → IsOk result }
         ensures room { IsSome (value_of (K.data_of cursor) self.old.elements) → 0 < self.old.cursors.room → IsOk result }
+        ensures capacity { self.old.cursors.capacity ≤ self.new.cursors.capacity }
         ensures in_place { 0 < self.old.cursors.room → self.new.cursors.capacity ≡ self.old.cursors.capacity }
         ensures unchanged { OnErr result (self.new.elements ≡ self.old.elements) }
         ensures keeps { OnErr result (Keeps self.old.cursors self.new.cursors) }
@@ -166,10 +172,12 @@ impl<K: Key, T: Drop> StableList<K, T> {
         ensures fresh { IfOk result (λ key. value_of (K.data_of key) self.old.elements ≡ None) }
         ensures unspent { IfOk result (λ key. IsSpent self.old.cursors (K.data_of key) → ⊥) }
         ensures cursors { IfOk result (λ key. Inserts self.old.cursors (K.data_of key) tt self.new.cursors) }
+        ensures used { OnOk result (used self.new.cursors ≡ used self.old.cursors + 1) }
         ensures stands { OnOk result (IsSome (value_of (K.data_of cursor) self.old.elements)) }
         ensures err { IfErr result (RefusesPlace self.old (K.data_of cursor) value) }
         ensures reuses { IsSome (value_of (K.data_of cursor) self.old.elements) → 0 < map.len self.old.cursors.next → IsOk result }
         ensures room { IsSome (value_of (K.data_of cursor) self.old.elements) → 0 < self.old.cursors.room → IsOk result }
+        ensures capacity { self.old.cursors.capacity ≤ self.new.cursors.capacity }
         ensures in_place { 0 < self.old.cursors.room → self.new.cursors.capacity ≡ self.old.cursors.capacity }
         ensures unchanged { OnErr result (self.new.elements ≡ self.old.elements) }
         ensures keeps { OnErr result (Keeps self.old.cursors self.new.cursors) }
@@ -197,10 +205,12 @@ impl<K: Key, T: Drop> StableList<K, T> {
         ensures fresh { IfOk result (λ key. value_of (K.data_of key) self.old.elements ≡ None) }
         ensures unspent { IfOk result (λ key. IsSpent self.old.cursors (K.data_of key) → ⊥) }
         ensures cursors { IfOk result (λ key. Inserts self.old.cursors (K.data_of key) tt self.new.cursors) }
+        ensures used { OnOk result (used self.new.cursors ≡ used self.old.cursors + 1) }
         ensures stands { OnOk result (IsSome (value_of (K.data_of cursor) self.old.elements)) }
         ensures err { IfErr result (RefusesPlace self.old (K.data_of cursor) value) }
         ensures reuses { IsSome (value_of (K.data_of cursor) self.old.elements) → 0 < map.len self.old.cursors.next → IsOk result }
         ensures room { IsSome (value_of (K.data_of cursor) self.old.elements) → 0 < self.old.cursors.room → IsOk result }
+        ensures capacity { self.old.cursors.capacity ≤ self.new.cursors.capacity }
         ensures in_place { 0 < self.old.cursors.room → self.new.cursors.capacity ≡ self.old.cursors.capacity }
         ensures unchanged { OnErr result (self.new.elements ≡ self.old.elements) }
         ensures keeps { OnErr result (Keeps self.old.cursors self.new.cursors) }

@@ -39,7 +39,7 @@
 ghost use Rattle.std.specs.Prelude.{◌≡◌, ◌+◌, ◌<◌, ◌≤◌, ◌^◌, ◌∷◌, [], Some, None, true, IsOk, IfOk, OnOk, IfErr, IfSome, IsTrue, ◌↔◌};
 ghost use Rattle.std.specs.Prelude.{is_some, length, option_copied, option_map, map as list_map};
 ghost use Rattle.std.specs.FinMap as map;
-ghost use Rattle.slotmap.specs.Words.{IsNew, IsSpent, Keeps, KeepsSpent, MakesRoom, RefusesCapacity, used};
+ghost use Rattle.slotmap.specs.Words.{IsContent, IsNew, IsSpent, Keeps, KeepsSpent, MakesRoom, RefusesCapacity, used};
 ghost use Rattle.slotmap_list.specs.Kept.{key_there};
 ghost use Rattle.slotmap_list.specs.Sequence.{value_of, first_or, last_or, key_after, key_before, IsOnce};
 
@@ -289,7 +289,8 @@ impl<K: Key, T: Drop> StableList<K, T> {
     /// assert_eq!(rt; list.capacity(), capacity);
     /// ```
     pub fn capacity(&self) -> usize
-        ensures { result ≡ self.now.cursors.capacity }
+        ensures value { result ≡ self.now.cursors.capacity }
+        ensures valid { IsContent true self.now.cursors }
     {
         self.values.capacity()
     }
