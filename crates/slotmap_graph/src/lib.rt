@@ -139,6 +139,26 @@ impl<N: Drop, E: Drop> Graph<NodeKey, N, E> {
     {
         Graph::with_key(alloc)
     }
+
+    /// Makes a graph with no node and with room for so many nodes and edges, whose nodes have keys of
+    /// type `NodeKey`.
+    ///
+    /// It fails with `TooGreat` if one of the two is over 4294967294, and else with `Memory` if memory
+    /// runs out.
+    ///
+    /// ```
+    /// let mut graph: Graph<NodeKey, &str, u64> = Graph::with_capacity(alloc, 2, 4)?;
+    /// assert!(rt; graph.add_node("a").is_ok());
+    /// ```
+    pub fn with_capacity(alloc: Global, nodes: usize, edges: usize) -> Result<Self, ReserveError>
+        ensures nodes { IfOk result (λ graph. IsNew graph.nodes) }
+        ensures edges { IfOk result (λ graph. IsNew graph.edges) }
+        ensures node_room { IfOk result (λ graph. nodes ≤ graph.nodes.room) }
+        ensures edge_room { IfOk result (λ graph. edges ≤ graph.edges.room) }
+        ensures err { IfErr result (RefusesEither nodes edges) }
+    {
+        Graph::with_capacity_and_key(alloc, nodes, edges)
+    }
 }
 
 impl<K: Key, N: Drop, E: Drop> Graph<K, N, E> {

@@ -9,7 +9,7 @@ type Small = Graph<NodeKey, u64, u64>;
 
 // A graph of two nodes of the values 1 and 2, with an edge of value 5 from the first to the second.
 fn pair(alloc: Global) -> Result<(Small, NodeKey, NodeKey, EdgeKey), Fail> {
-    let mut graph = Graph::with_capacity_and_key(alloc, 2, 1)?;
+    let mut graph = Graph::with_capacity(alloc, 2, 1)?;
     let a = graph.add_node(1)?;
     let b = graph.add_node(2)?;
     let edge = graph.add_edge(a, b, 5)?;
