@@ -1,19 +1,45 @@
 -- What a map is once all its slots were made vacant at once: the same as if its live keys had been removed one after the other.
 use Rattle.std.specs.FinMap as map
 use Rattle.std.proofs.Common.{◌≡◌, ◌≢◌, ◌+◌, ◌-◌, ◌<◌, ◌≤◌, ◌∷◌, Option, Some, None, ℕ, zero, suc, true, List, length, slice_get, inl, inr}
-use Rattle.std.proofs.Common.{map as list_map, refl, sym, ap, subst, ◌∙◌, arith, is_some}
+use Rattle.std.proofs.Common.{map as list_map, set, ne_eqb, refl, sym, ap, subst, ◌∙◌, arith, is_some}
 use Rattle.std.proofs.lemmas.Option.{slice_get_within}
-use Rattle.slotmap_core.proofs.Common.{Key, key, last_version, Place, Live, Vacant, Detached, Retired, live, IsLive, NoneBelow, NoneBelow-end, Swept, Swept-start, Swept-on}
+use Rattle.slotmap_core.proofs.Common.{Key, key, last_version, Place, Live, Vacant, Detached, Retired, left_by, nat_tests, live, IsLive, NoneBelow, NoneBelow-end, Swept, Swept-start, Swept-on}
 use Rattle.slotmap_core.proofs.Common.{Swept-removed, first_entry, above_next, live_at, map-set_same, at_set, get_or_from_slice_get, get-live_at, IsStacked, key_cmp}
-use Rattle.slotmap_hop.specs.Slots.{Slot, all_links, places_of, hop_content, IsSound, CanEmpty, EmptiesAll, emptied}
-use Rattle.slotmap_hop.specs.Links.{vacant_at}
+use Rattle.slotmap_hop.specs.Slots.{Slot, all_links, places_of, hop_content, IsSound, Frees, CanEmpty, EmptiesAll, emptied}
+use Rattle.slotmap_hop.specs.Links.{vacant_at, blocks_of}
+use Rattle.slotmap_hop.specs.Blocks.{vacated}
 use Rattle.slotmap_hop.specs.HopContent.{RemovesAt, Clears, blocks_without_all}
 use Rattle.slotmap_hop.proofs.SlotReads.{slot_cases, length-all_links, length-places}
-use Rattle.slotmap_hop.proofs.SlotLemmas.{valid, taken_slots, place_vacant}
+use Rattle.slotmap_hop.proofs.SlotLemmas.{valid, same_length, same_counts, taken_slots, place_vacant}
 use Rattle.slotmap_hop.proofs.BlocksLeft.{blocks_taken, keys_first, keys_none}
-use Rattle.slotmap_hop.proofs.FreedRuns.{run_removes}
+use Rattle.slotmap_hop.proofs.Growth.{removes-slots}
+use Rattle.slotmap_hop.proofs.LiveSlots.{elems_positive, sound-freed}
 use Rattle.slotmap_hop.proofs.Relinking.{frees_one}
 use Rattle.slotmap_hop.proofs.OneBlock.{Whole, whole, version_below, emptied_place, emptied_at, places_emptied, none_live_left}
+
+-- what freeing one slot does to the content
+module _ {V : Type 0} (old new : List (Slot V)) (i vacant elems c : ℕ) (sound : IsSound old vacant elems) (frees : Frees old new i) where
+  had_elems : 0 < elems
+  had_elems = elems_positive old vacant elems sound i frees.version _ frees.there
+
+  size_freed : length new ≡ length old
+  size_freed = same_length old new i _ frees.places
+
+  sound_freed : IsSound new (vacant + 1) (elems - 1)
+  sound_freed = sound-freed old vacant elems sound i frees.version _ frees.there new frees.blocks.list frees.places frees.other
+
+  content_freed : length old ≤ c + 1 → RemovesAt (hop_content old c) i (hop_content new c)
+  content_freed holds =
+      let left : Vacant (frees.version + 1 + 1) ≡ left_by (key i frees.version) = grind (arith, nat_tests, frees.other) in
+      record {
+        key = key i frees.version;
+        value = frees.value;
+        at = refl;
+        had = get-live_at (places_of old) (key i frees.version) i frees.value refl frees.there;
+        removes = removes-slots old vacant elems sound new c holds (key i frees.version) frees.value frees.there (frees.places ∙ ap (set (places_of old) i) left);
+        blocks = frees.blocks.are ∙ rw (ne_eqb frees.version last_version frees.other) (ap (λ f. vacated f (blocks_of (all_links old)) i) (sym (same_counts old vacant elems sound c)));
+        valid = record { before = valid old vacant elems sound c holds; after = valid new _ _ sound_freed c (omega (arith, size_freed, holds)); capacity = refl };
+      }
 
 module _ {V : Type 0} (old : List (Slot V)) (c : ℕ) where
   -- the live slots before an index were freed, one after the other
@@ -52,8 +78,7 @@ module _ {V : Type 0} (old : List (Slot V)) (c : ℕ) where
     taken v x there =
         let frees = frees_one now vacant elems freed.sound i v x there (freed.others i v x there) in
         let new = frees.0 in
-        let ran = run_removes 1 i now new vacant elems c freed.sound (omega (arith, holds, freed.size)) (new, frees.1, refl) in
-        let step : RemovesAt (hop_content now c) i (hop_content new c) = subst (λ m. RemovesAt (hop_content now c) i m) (sym ran.removes.2) ran.removes.1 in
+        let step = content_freed now new i vacant elems c freed.sound frees.1 (omega (arith, holds, freed.size)) in
         let same_place = sym (ap emptied_place (get_or_from_slice_get (places_of now) i (Live frees.1.version frees.1.value) (Live v x) frees.1.there)) in
         let k = step.key in
         let well = freed.swept.well in
@@ -64,10 +89,10 @@ module _ {V : Type 0} (old : List (Slot V)) (c : ℕ) where
           now = new;
           vacant = vacant + 1;
           elems = elems - 1;
-          count = omega (arith, ran.few);
+          count = omega (arith, had_elems now new i vacant elems c freed.sound frees.1);
           freed = record {
-            sound = ran.sound;
-            size = ran.size ∙ freed.size;
+            sound = sound_freed now new i vacant elems c freed.sound frees.1;
+            size = size_freed now new i vacant elems c freed.sound frees.1 ∙ freed.size;
             places = ap (list_map emptied_place) frees.1.places ∙ map-set_same emptied_place (places_of now) i (Vacant (frees.1.version + 1 + 1)) (Live v x) same_place ∙ freed.places;
             others = λ j u y found.
                 elim (at_set (places_of now) i (Vacant (frees.1.version + 1 + 1)) (Live v x) there j (Live u y) (ap (λ ps. slice_get ps j) (sym frees.1.places) ∙ found)) [

@@ -16,7 +16,6 @@ mod Growth
 mod LiveSlots
 mod WellFormed
 mod SettledLemmas
-mod FreedRuns
 mod RoomLemmas
 mod HoppingLemmas
 mod Iterators

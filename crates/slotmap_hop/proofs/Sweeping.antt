@@ -6,7 +6,7 @@ use Rattle.slotmap_core.proofs.Common.{Key, Content, IsLive, NoneBelow, Removes,
 use Rattle.slotmap_core.proofs.Common.{keys_total, exact_keys, first_entry, above_next, Swept, Swept-start, Swept-to, Swept-on, Swept-next}
 use Rattle.slotmap_core.proofs.Common.{Swept-removed, key, get-live_at, same_live, remove-insert}
 use Rattle.slotmap_hop.specs.Slots.{Slot, places_of, hop_content, IsSound}
-use Rattle.slotmap_hop.specs.HopContent.{HopContent, IsHopContent, IsNextLive, IsNextPlace, HasKeyAt, MayStand, RemovesRun, StaysHop, hop_with_value, blocks_without, blocks_without_all}
+use Rattle.slotmap_hop.specs.HopContent.{HopContent, IsHopContent, IsNextLive, IsNextPlace, MayStand, StaysHop, hop_with_value, blocks_without, blocks_without_all}
 use Rattle.slotmap_hop.specs.Iter.{CanGoOn, FindsPlace, FindsNone}
 use Rattle.slotmap_hop.proofs.SlotLemmas.{same_counts}
 use Rattle.slotmap_hop.proofs.BlocksLeft.{blocks_taken, keys_first, keys_none}
@@ -122,53 +122,3 @@ module _ {K V : Type 0} (data_of : K → Key) where
 
   pub clearing_blocks : (old now : HopContent V) → Clearing old now None → now.blocks ≡ blocks_without_all old (map.keys old.content.live)
   clearing_blocks old now clearing = sym (clearing.blocks ∙ ap (blocks_without_all now) (keys_none now.content.live (clearing_ends old now clearing)))
-
--- the same where the index of the next key is known
-module _ {V : Type 0} (old : HopContent V) where
-  abbrev pub ClearingAt : HopContent V → Option ℕ → Type 0
-  ClearingAt now None = Clearing (λ (k : Key). k) old now None
-  ClearingAt now (Some index) = HasKeyAt now.content index × ((k : Key) → IsLive now.content k → k.index ≡ index → Clearing (λ (k : Key). k) old now (Some k))
-
-  pub clearing_starts_at : (next : Option ℕ) → IsHopContent old → IsNextPlace old.content 0 next → ClearingAt old next
-  clearing_starts_at None well comes = clearing_starts (λ (k : Key). k) old None well comes
-  clearing_starts_at (Some index) well comes =
-      (comes.0, λ k there at. clearing_starts (λ (k : Key). k) old (Some k) well (there, omega arith, λ q lives low. omega (arith, comes.2 q lives low, at)))
-
-  -- a key of another index is still live
-  stays_live : (now new : HopContent V) (k : Key) → new.content.live ≡ map.remove now.content.live k → (q : Key) → IsLive now.content q → q.index ≢ k.index → IsLive new.content q
-  stays_live now new k gone q there differs =
-      ap is_some (ap (λ m. map.get m q) gone ∙ get-remove_other now.content.live k q (λ same. absurd (differs (ap (λ p. p.index) same)))) ∙ there
-
-  was_live : (now new : HopContent V) (k : Key) → new.content.live ≡ map.remove now.content.live k → (q : Key) → IsLive new.content q → IsLive now.content q
-  was_live now new k gone q there = (in_after_remove keys_total exact_keys now.content.live k q (sym (ap (λ m. map.contains_key m q) gone) ∙ there)).1
-
-  -- the next key is removed, and the one after it is known
-  pub clearing_removed_at : (now new : HopContent V) (k : Key) (x : V) (next : Option ℕ) → Clearing (λ (k : Key). k) old now (Some k)
-      → IsNextPlace now.content (k.index + 1) next → map.get now.content.live k ≡ Some x → Removes now.content k new.content
-      → new.blocks ≡ blocks_without now k → StaysHop now new → ClearingAt new next
-  clearing_removed_at now new k x None clearing comes value removes blocks stays =
-      (clearing_removed (λ (k : Key). k) old now new k x None clearing comes value removes blocks stays).0
-  clearing_removed_at now new k x (Some index) clearing comes value removes blocks stays =
-      let there = comes.0 in (
-        (there.0, stays_live now new k removes.live there.0 there.1 (λ same. omega (arith, same, comes.1, there.2)), there.2),
-        λ q lives at. (clearing_removed (λ (k : Key). k) old now new k x (Some q) clearing
-            (was_live now new k removes.live q lives, omega (arith, at, comes.1), λ p is from. omega (arith, at, comes.2 p is from)) value removes blocks stays).0,
-      )
-
-  first_there : (n i : ℕ) (mid new : HopContent V) → RemovesRun mid i n new → HasKeyAt new.content (i + n) → HasKeyAt mid.content i
-  first_there zero i mid new same there = subst (λ m. HasKeyAt m.content i) same (subst (λ j. HasKeyAt new.content j) (omega arith) there)
-  first_there (suc n) i mid new run there = (run.1.key, ap is_some run.1.had, run.1.at)
-
-  -- keys of adjacent indices are removed
-  pub clearing_run : (n i : ℕ) (now new : HopContent V) → ClearingAt now (Some i) → RemovesRun now i n new → HasKeyAt new.content (i + n) → ClearingAt new (Some (i + n))
-  clearing_run zero i now new at same there = subst (λ j. ClearingAt new (Some j)) (omega arith) (subst (λ m. ClearingAt m (Some i)) (sym same) at)
-  clearing_run (suc n) i now new at run there =
-      let step = run.1 in
-      let up : i + 1 + n ≡ i + suc n = omega arith in
-      let there' = subst (λ j. HasKeyAt new.content j) (sym up) there in
-      let next = first_there n (i + 1) run.0 new run.2 there' in
-      let comes : IsNextPlace now.content (step.key.index + 1) (Some (i + 1)) =
-      ((next.0, was_live now run.0 step.key step.removes.live next.0 next.1, next.2), omega (arith, step.at), λ q lives low. omega (arith, low, step.at)) in
-      let clearing = at.1 step.key (ap is_some step.had) step.at in
-      let on = clearing_removed_at now run.0 step.key step.value (Some (i + 1)) clearing comes step.had step.removes step.blocks step.valid in
-      subst (λ j. ClearingAt new (Some j)) up (clearing_run n (i + 1) run.0 new on run.2 there')

@@ -113,8 +113,3 @@ module _ {V : Type 0} where
     pub blocks : new.blocks ≡ old.blocks
     pub before : IsHopContent old
     pub after : IsHopContent new
-
-  -- the live keys of so many adjacent indices from this one on were removed, one after the other
-  abbrev pub RemovesRun : HopContent V → ℕ → ℕ → HopContent V → Type 0
-  RemovesRun old index zero new = new ≡ old
-  RemovesRun old index (suc n) new = (mid : HopContent V) × RemovesAt old index mid × RemovesRun mid (index + 1) n new

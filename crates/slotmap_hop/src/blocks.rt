@@ -7,11 +7,11 @@ ghost use Rattle.slotmap_core.specs.Words.{Live as LivePlace, Vacant as VacantPl
 ghost use Rattle.slotmap_hop.specs.Blocks.{vacated, vacated_alone, vacated_before, vacated_after, vacated_between, shorter};
 ghost use Rattle.slotmap_hop.specs.Links.{vacant_at, has_next, links_at, next_at, prev_at, held_at, end_at, CanVacate, HasBlockList, HasBlocks, IsHead, blocks_of};
 ghost use Rattle.slotmap_hop.specs.Links.{Redirects, KeepsEnds};
-ghost use Rattle.slotmap_hop.specs.Slots.{all_links, places_of, value_at, CanFree, Frees, FreesUpTo};
+ghost use Rattle.slotmap_hop.specs.Slots.{all_links, places_of, value_at, CanFree};
 
 use crate::links::{
-    Links, Slot, State, back_of, front_of, is_live_after, is_vacant, is_vacant_after, name_back,
-    name_front, next_of, prev_of, retired_slot, set_links, set_next, set_prev,
+    Links, Slot, State, back_of, front_of, is_vacant, is_vacant_after, name_back, name_front,
+    next_of, prev_of, retired_slot, set_links, set_next, set_prev,
 };
 use slotmap_core::sure::rule_out;
 use std::mem;
@@ -192,52 +192,6 @@ pub(crate) fn retire<V>(slots: &mut [Slot<V>], index: u32) -> V
             unreachable!()
         }
     }
-}
-
-// Frees a live slot, whose value is dropped. Its left neighbour is the back of a block with this front,
-// and holds this link to the block before.
-#[inline(always)]
-fn free_after<V: Drop>(slots: &mut [Slot<V>], index: u32, version: u32, front: u32, prev: u32)
-    requires can { CanFree slots.old index }
-    requires version { (x : V) × (slice_get (places_of slots.old) index ≡ Some (LivePlace version x)) }
-    requires other { version + 1 < 2 ^ 32 }
-    requires left { vacant_at (all_links slots.old) (index - 1) ≡ true }
-    requires right { vacant_at (all_links slots.old) (index + 1) ≡ false }
-    requires front { front ≡ end_at (all_links slots.old) (index - 1) }
-    requires prev { prev ≡ held_at (all_links slots.old) (index - 1) }
-    ensures frees { Frees slots.old slots.new index }
-    ensures back { links_at (all_links slots.new) index ≡ Some (Links.Back front prev) }
-{
-    name_back(slots, front, index);
-    slots[index as usize] = Slot::Empty(State::Back, version + 1, front, prev);
-}
-
-// Frees adjacent live slots from this one on, and drops their values, up to the last one of them, whose
-// index is returned. If the slot before them is vacant, each goes to its block, and no link is read
-// twice. If it isn't, none is freed, nor is one from the last key of a slot on.
-#[inline(always)]
-pub(crate) fn free_run<V: Drop>(slots: &mut [Slot<V>], start: u32) -> u32
-    requires { CanFree slots.old start }
-    ensures { FreesUpTo slots.old start result slots.new }
-{
-    if !is_live_after(slots, start as usize) {
-        return start;
-    }
-    if !is_vacant(slots, start as usize - 1) {
-        return start;
-    }
-    let front = front_of(slots, start - 1);
-    let prev = prev_of(slots, start - 1);
-    let mut index = start;
-    while is_live_after(slots, index as usize) {
-        let version = slots[index as usize].version();
-        if version == u32::MAX {
-            return index;
-        }
-        free_after(slots, index, version, front, prev);
-        index += 1;
-    }
-    index
 }
 
 // Puts a value into a slot, under this version.

@@ -3,10 +3,9 @@
 ghost use Rattle.std.specs.FinMap as map;
 ghost use Rattle.std.specs.Prelude.{◌≡◌, ◌+◌, ◌-◌, ◌<◌, ◌≤◌, ◌++◌, true, false, Some, OnOk, OnErr, List, map as list_map};
 ghost use Rattle.slotmap_core.specs.Words.{Leaves, FreesByIndex};
-ghost use Rattle.slotmap_hop.specs.HopContent.{IsHopContent, HasKeyAt, RemovesRun, Clears, StaysHop, blocks_without_all};
+ghost use Rattle.slotmap_hop.specs.HopContent.{IsHopContent, Clears, StaysHop, blocks_without_all};
 
 use crate::HopSlotMap;
-use crate::blocks::free_run;
 use crate::one_block::{all_go_on, make_one_block};
 use slotmap_core::errors::OutOfMemory;
 use slotmap_core::keys::Key;
@@ -33,7 +32,7 @@ impl<K: Key, V: Drop> HopSlotMap<K, V> {
         if self.clear_at_once() {
             return;
         }
-        self.clear_runs();
+        self.clear_each();
     }
 
     // Removes every live key, if no fewer are live than slots are vacant, and each slot may have
@@ -55,36 +54,17 @@ impl<K: Key, V: Drop> HopSlotMap<K, V> {
         true
     }
 
-    // Removes every live key: those of adjacent indices one after the other.
-    fn clear_runs(&mut self)
+    // Removes every live key, one after the other.
+    fn clear_each(&mut self)
         ensures { Clears self.old self.new }
     {
-        let mut next = self.first_place(0);
-        while let Some(start) = next {
-            let index = self.clear_run(start);
-            let key = self.key_at(index);
-            // The slot after this one is looked for first, because the removal may join blocks.
-            next = self.first_place(index + 1);
+        let mut next = self.first_live(0);
+        while let Some(key) = next {
+            let index = key.data().idx();
+            // The next key is looked for first, because the removal may join blocks.
+            next = self.first_live(index + 1);
             self.take_live(key);
         }
-    }
-
-    // Removes the live keys of adjacent indices from this one on, up to the last one of them, whose
-    // index is returned.
-    #[inline(always)]
-    fn clear_run(&mut self, start: u32) -> u32
-        requires { HasKeyAt self.old.content start }
-        ensures on { start ≤ result }
-        ensures run { RemovesRun self.old start (result - start) self.new }
-        ensures there { HasKeyAt self.new.content result }
-        ensures valid { IsHopContent self.new }
-    {
-        let index = free_run(self.slots.as_mut_slice(), start);
-        let count = index - start;
-        self.live_count -= count;
-        self.vacant_count += count;
-        self.note_valid();
-        index
     }
 
     /// Appends every live key to `out`, by ascending index.
