@@ -50,7 +50,7 @@ HEIGHT = 56
 LIBRARIES = {
     "slotmap_rows_primary": "primary_rows", "slotmap_rows_secondary": "secondary_rows", "json_tests": "slotmap_json",
     "slotmap_script": "slotrun", "script_tests": "slotrun",
-    "structure_tests": TESTS, "structures_at_size": TESTS,
+    "structure_tests": TESTS, "scene_and_world_tests": TESTS, "structures_at_size": TESTS,
 }
 
 
