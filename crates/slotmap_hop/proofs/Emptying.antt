@@ -30,6 +30,7 @@ module _ {V : Type 0} (old new : List (Slot V)) (i vacant elems c : ℕ) (sound 
 
   content_freed : length old ≤ c + 1 → RemovesAt (hop_content old c) i (hop_content new c)
   content_freed holds =
+      let fits : length new ≤ c + 1 = omega (arith, size_freed, holds) in
       let left : Vacant (frees.version + 1 + 1) ≡ left_by (key i frees.version) = grind (arith, nat_tests, frees.other) in
       record {
         key = key i frees.version;
@@ -38,7 +39,7 @@ module _ {V : Type 0} (old new : List (Slot V)) (i vacant elems c : ℕ) (sound 
         had = get-live_at (places_of old) (key i frees.version) i frees.value refl frees.there;
         removes = removes-slots old vacant elems sound new c holds (key i frees.version) frees.value frees.there (frees.places ∙ ap (set (places_of old) i) left);
         blocks = frees.blocks.are ∙ rw (ne_eqb frees.version last_version frees.other) (ap (λ f. vacated f (blocks_of (all_links old)) i) (sym (same_counts old vacant elems sound c)));
-        valid = record { before = valid old vacant elems sound c holds; after = valid new _ _ sound_freed c (omega (arith, size_freed, holds)); capacity = refl };
+        valid = record { before = valid old vacant elems sound c holds; after = valid new _ _ sound_freed c fits; capacity = refl };
       }
 
 module _ {V : Type 0} (old : List (Slot V)) (c : ℕ) where
