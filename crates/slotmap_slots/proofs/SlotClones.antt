@@ -50,8 +50,7 @@ module _ {P : Type 0} (is_clone : P → P → Type 0) (ss ts : List (Slot P)) (a
     free_indices-clones = free_indices-stack IsSound-clones ∙ sym (free_indices-stack sound)
 
     content_of-clones : (c d : ℕ) → IsCloneBy is_clone (content_of_places (map_of ss head free c)) (content_of_places (map_of ts head free d))
-    content_of-clones c d =
-        rw free_indices-clones (content-clones is_clone (places_of ss) (places_of ts) (places-clones is_clone ss ts all) (free_indices ss free head) (stacked_free sound) c d)
+    content_of-clones c d = rw free_indices-clones (content-clones is_clone (places_of ss) (places_of ts) (places-clones is_clone ss ts all) (free_indices ss free head) (stacked_free sound) c d)
 
   module _ (fits head aside used_count : ℕ) (settled : IsSettled ss fits head aside used_count) where
     same_vacancies : vacancies ts used_count ≡ vacancies ss used_count

@@ -146,9 +146,8 @@ module _ {P : Type 0} {slots : List (Slot P)} {head free count : ℕ} (sound : I
       grind (arith, contains-detached (places_of slots) k, place_at slots k.index (slot_at slots k.index u found).0 (slot_at slots k.index u found).1, slot_at slots k.index u found)
 
   pub detached-stale : (u : ℕ) → version_at slots k.index ≡ Some u → version_before u ≢ k.version → set.contains (detached (places_of slots)) k ≡ false
-  detached-stale u found other = false_of _ (λ holds.
-      let there = present_detached holds in
-      other (ap version_before (same_Some _ _ (sym found ∙ ap (option_map (λ s. s.version)) there.there)) ∙ there.before))
+  detached-stale u found other =
+      false_of _ (λ holds. let there = present_detached holds in other (ap version_before (same_Some _ _ (sym found ∙ ap (option_map (λ s. s.version)) there.there)) ∙ there.before))
 
   pub detached-at : (u : ℕ) → version_at slots k.index ≡ Some u → version_before u ≡ k.version
       → (r : Bool) → IsTrue r ↔ usage_at slots k.index ≡ Some Detached → r ≡ set.contains (detached (places_of slots)) k

@@ -250,8 +250,7 @@ module _ {P : Type 0} {slots : List (Slot P)} {head free count : ℕ} (sound : I
         (λ n e. absurd (cc)) (subst IsVersion (sym before_after) version_is) (λ n is. omega arith)
 
     pub detaches-slots : (c : ℕ) → Detaches (content_of_places (map_of slots head free c)) (key i v) (content_of_places (map_of (set slots i (empty ((v + 1) % 2 ^ 32) Detached)) head free c))
-    detaches-slots c =
-        grind (arith, key i v, detached.map_is c, detaches (map_of slots head free c) stacked_free (key i v) x found_live, before_after, stacked_free, found_live)
+    detaches-slots c = grind (arith, key i v, detached.map_is c, detaches (map_of slots head free c) stacked_free (key i v) x found_live, before_after, stacked_free, found_live)
 
   -- a detached key is bound to a payload again
   module _ (i u v : ℕ) (at : slice_get slots i ≡ Some (empty u Detached)) (of : version_before u ≡ v) where

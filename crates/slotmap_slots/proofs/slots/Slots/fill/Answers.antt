@@ -25,17 +25,13 @@ pub version-version-requires : goal.version-version-requires
 version-version-requires g c = slice_get_within _ _ _ (top c.self.invariant.sound c.if-self-eq0.false).there
 
 pub overflow_add-version : goal.overflow_add-version
-overflow_add-version g c =
-    let t = top c.self.invariant.sound c.if-self-eq0.false in
-    omega (arith, (top_version t).0, top_read t c.version-version.ensures)
+overflow_add-version g c = let t = top c.self.invariant.sound c.if-self-eq0.false in omega (arith, (top_version t).0, top_read t c.version-version.ensures)
 
 pub next_free-self-inside-requires : goal.next_free-self-inside-requires
 next_free-self-inside-requires g c = ap is_some (top_next (top c.self.invariant.sound c.if-self-eq0.false))
 
 pub put-requires-clause-odd : goal.put-requires-clause-odd
-put-requires-clause-odd g c =
-    let t = top c.self.invariant.sound c.if-self-eq0.false in
-    omega (arith, (top_version t).1, top_read t c.version-version.ensures)
+put-requires-clause-odd g c = let t = top c.self.invariant.sound c.if-self-eq0.false in omega (arith, (top_version t).1, top_read t c.version-version.ensures)
 
 pub put-requires-clause-within : goal.put-requires-clause-within
 put-requires-clause-within g c = slice_get_within _ _ _ (top c.self.invariant.sound c.if-self-eq0.false).there

@@ -11,15 +11,12 @@ put-requires-clause-within g c = rw c.idx.ensures.value (slice_get_within _ _ _ 
 
 pub invariant_of-self : goal.invariant_of-self
 invariant_of-self g c =
-    rw (c.put.ensures.put, c.put.ensures.same_room, c.idx.ensures.value, c.version.ensures.value)
-    (reattached_now c.self.invariant c.self.view_is c.args.key c.requires c.args.payload).settled
+    rw (c.put.ensures.put, c.put.ensures.same_room, c.idx.ensures.value, c.version.ensures.value) (reattached_now c.self.invariant c.self.view_is c.args.key c.requires c.args.payload).settled
 
 pub returns-clause-reattaches : goal.returns-clause-reattaches
 returns-clause-reattaches g c =
-    rw (c.put.ensures.put, c.put.ensures.same_room, c.idx.ensures.value, c.version.ensures.value)
-    (reattached_now c.self.invariant c.self.view_is c.args.key c.requires c.args.payload).becomes
+    rw (c.put.ensures.put, c.put.ensures.same_room, c.idx.ensures.value, c.version.ensures.value) (reattached_now c.self.invariant c.self.view_is c.args.key c.requires c.args.payload).becomes
 
 pub returns-clause-valid : goal.returns-clause-valid
 returns-clause-valid g c =
-    rw (c.put.ensures.put, c.put.ensures.same_room, c.idx.ensures.value, c.version.ensures.value)
-    (reattached_now c.self.invariant c.self.view_is c.args.key c.requires c.args.payload).valid
+    rw (c.put.ensures.put, c.put.ensures.same_room, c.idx.ensures.value, c.version.ensures.value) (reattached_now c.self.invariant c.self.view_is c.args.key c.requires c.args.payload).valid

@@ -20,8 +20,7 @@ pub overflow_sub-self : goal.overflow_sub-self
 overflow_sub-self g c = omega (arith, settled_positive c.self.invariant c.self.view_is c.args.key c.requires)
 
 pub take-requires-clause-there : goal.take-requires-clause-there
-take-requires-clause-there g c =
-    rw c.idx-index.ensures.value (ap is_some (settled_present c.self.invariant c.self.view_is c.args.key c.requires).read)
+take-requires-clause-there g c = rw c.idx-index.ensures.value (ap is_some (settled_present c.self.invariant c.self.view_is c.args.key c.requires).read)
 
 pub invariant_of-self : goal.invariant_of-self
 invariant_of-self g c =
@@ -42,8 +41,7 @@ returns-then-after-eq0-clause-valid g c =
     (removed_last c.self.invariant c.self.view_is c.args.key c.requires (last g (goal.at.returns-then-after-eq0-clause-valid g c).Then-after-eq0)).valid
 
 pub take-payload-requires-clause-there : goal.take-payload-requires-clause-there
-take-payload-requires-clause-there g c =
-    rw c.idx-index.ensures.value (ap is_some (settled_present c.self.invariant c.self.view_is c.args.key c.requires).read)
+take-payload-requires-clause-there g c = rw c.idx-index.ensures.value (ap is_some (settled_present c.self.invariant c.self.view_is c.args.key c.requires).read)
 
 pub take-payload-requires-clause-out : goal.take-payload-requires-clause-out
 take-payload-requires-clause-out g c =

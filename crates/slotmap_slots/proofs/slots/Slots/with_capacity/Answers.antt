@@ -15,9 +15,7 @@ pub returns-clause-room : goal.returns-clause-room
 returns-clause-room g c = grind (arith, used_places-sentinel)
 
 pub returns-clause-valid : goal.returns-clause-valid
-returns-clause-valid g c =
-    rw (c.push_empty.ensures.pushed, c.push_empty.ensures.same_room, c.in_ok-layout.ensures.none)
-    (valid IsSound-sentinel _ (omega (arith, c.in_ok-layout.ensures.room)))
+returns-clause-valid g c = rw (c.push_empty.ensures.pushed, c.push_empty.ensures.same_room, c.in_ok-layout.ensures.none) (valid IsSound-sentinel _ (omega (arith, c.in_ok-layout.ensures.room)))
 
 pub push_empty-requires-clause-room : goal.push_empty-requires-clause-room
 push_empty-requires-clause-room g c = grind (arith, common_steps)
