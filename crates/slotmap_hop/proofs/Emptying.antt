@@ -1,19 +1,14 @@
 -- What a map is once all its slots were made vacant at once: the same as if its live keys had been removed one after the other.
 use Rattle.std.specs.FinMap as map
-use Rattle.std.proofs.Common.{◌≡◌, ◌≢◌, ◌+◌, ◌-◌, ◌<◌, ◌≤◌, ◌∷◌, Option, Some, None, ℕ, zero, suc, true, List, length, slice_get, inl, inr}
-use Rattle.std.proofs.Common.{map as list_map, refl, sym, ap, subst, ◌∙◌, arith, is_some}
-use Rattle.std.proofs.lemmas.Option.{slice_get_within}
-use Rattle.slotmap_core.proofs.Common.{Key, key, last_version, Place, Live, Vacant, Detached, Retired, live, IsLive, NoneBelow, NoneBelow-end, Swept, Swept-start, Swept-on}
-use Rattle.slotmap_core.proofs.Common.{Swept-removed, first_entry, above_next, live_at, map-set_same, at_set, get_or_from_slice_get, get-live_at, IsStacked, key_cmp}
+use Rattle.std.proofs.{Common.◌≡◌, Common.◌≢◌, Common.◌≤◌, Common.◌∷◌, Common.map as list_map, Common.slice_get, Common.subst, Common.◌∙◌, lemmas.Option.slice_get_within}
+use Rattle.std.proofs.{Common.◌+◌, Common.◌-◌, Common.◌<◌, Common.List, Common.length, Common.inl, Common.inr, Common.refl, Common.sym, Common.ap, Common.arith, Common.is_some}
+use Rattle.slotmap_core.proofs.Common.{last_version, Vacant, NoneBelow, NoneBelow-end, Swept-start, Swept-removed, first_entry, above_next, map-set_same, get_or_from_slice_get, get-live_at, IsStacked}
+use Rattle.slotmap_core.proofs.Common.{Key, key, Place, Live, Detached, Retired, live, IsLive, Swept, Swept-on, live_at, at_set, key_cmp, Option, Some, None, ℕ, zero, suc, true}
 use Rattle.slotmap_hop.specs.Slots.{Slot, all_links, places_of, hop_content, IsSound, CanEmpty, EmptiesAll, emptied}
-use Rattle.slotmap_hop.specs.Links.{vacant_at}
-use Rattle.slotmap_hop.specs.HopContent.{RemovesAt, Clears, blocks_without_all}
-use Rattle.slotmap_hop.proofs.SlotReads.{slot_cases, length-all_links, length-places}
-use Rattle.slotmap_hop.proofs.SlotLemmas.{valid, taken_slots, place_vacant}
-use Rattle.slotmap_hop.proofs.BlocksLeft.{blocks_taken, keys_first, keys_none}
-use Rattle.slotmap_hop.proofs.FreedRuns.{run_removes}
-use Rattle.slotmap_hop.proofs.Relinking.{frees_one}
+use Rattle.slotmap_hop.specs.{Links.vacant_at, HopContent.RemovesAt, HopContent.Clears, HopContent.blocks_without_all}
 use Rattle.slotmap_hop.proofs.OneBlock.{Whole, whole, version_below, emptied_place, emptied_at, places_emptied, none_live_left}
+use Rattle.slotmap_hop.proofs.{SlotReads.length-all_links, SlotReads.length-places, SlotLemmas.valid, SlotLemmas.taken_slots, SlotLemmas.place_vacant, BlocksLeft.blocks_taken, BlocksLeft.keys_first}
+use Rattle.slotmap_hop.proofs.{SlotReads.slot_cases, BlocksLeft.keys_none, FreedRuns.run_removes, Relinking.frees_one}
 
 module _ {V : Type 0} (old : List (Slot V)) (c : ℕ) where
   -- the live slots before an index were freed, one after the other
@@ -98,8 +93,7 @@ module _ {V : Type 0} (old : List (Slot V)) (c : ℕ) where
   -- the loop over all slots, as far as n more
   all_freed : length old ≤ c + 1 → (n i total : ℕ) → i + n ≡ length old → AnyFreed i total → AnyFreed (length old) total
   all_freed holds zero i total at some = subst (λ j. AnyFreed j total) (omega (arith, at)) some
-  all_freed holds (suc n) i total at some =
-      all_freed holds n (i + 1) total (omega (arith, at)) (subst (λ t. AnyFreed (i + 1) t) some.count (next holds some.now i some.vacant some.elems some.freed))
+  all_freed holds (suc n) i total at some = all_freed holds n (i + 1) total (omega (arith, at)) (subst (λ t. AnyFreed (i + 1) t) some.count (next holds some.now i some.vacant some.elems some.freed))
 
   freed_start : (vacant elems : ℕ) → IsSound old vacant elems → length old ≤ c + 1 → ((j v : ℕ) (x : V) → slice_get (places_of old) j ≡ Some (Live v x) → v ≢ last_version)
       → AnyFreed 0 (vacant + elems)
@@ -136,8 +130,7 @@ module _ {V : Type 0} (old new : List (Slot V)) (c : ℕ) (can : CanEmpty old) (
       (λ q there. omega (arith, size_end, slice_get_within (places_of end.now) q.index _ (live_at (places_of end.now) q there).1)) end.freed.above
 
   none_there : (i v : ℕ) (x : V) → slice_get (places_of end.now) i ≡ Some (Live v x) → ⊥
-  none_there i v x there =
-      omega (arith, size_end, slice_get_within (places_of end.now) i _ there, end.freed.above (key i v) (ap is_some (get-live_at (places_of end.now) (key i v) i x refl there)))
+  none_there i v x there = omega (arith, size_end, slice_get_within (places_of end.now) i _ there, end.freed.above (key i v) (ap is_some (get-live_at (places_of end.now) (key i v) i x refl there)))
 
   vacant_end : places_of (list_map emptied old) ≡ places_of end.now
   vacant_end = places_emptied old can ∙ sym end.freed.places ∙ none_live_left (places_of end.now) none_there
@@ -151,9 +144,7 @@ module _ {V : Type 0} (old new : List (Slot V)) (c : ℕ) (can : CanEmpty old) (
   -- slots that are all vacant
   module _ (slots : List (Slot V)) (places : places_of (list_map emptied old) ≡ places_of slots) (size : length slots ≡ length old) where
     flags : (x : ℕ) → x < length (all_links slots) → vacant_at (all_links slots) x ≡ true
-    flags x inside =
-        let at = emptied_at old x (omega (arith, inside, size, length-all_links slots)) in
-        place_vacant slots x at.0 (ap (λ ps. slice_get ps x) (sym places) ∙ at.1)
+    flags x inside = let at = emptied_at old x (omega (arith, inside, size, length-all_links slots)) in place_vacant slots x at.0 (ap (λ ps. slice_get ps x) (sym places) ∙ at.1)
 
     some : 0 < length (all_links slots)
     some = omega (arith, size, length-all_links slots, taken_slots old can.vacant can.elems can.sound)

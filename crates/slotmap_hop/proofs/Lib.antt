@@ -28,3 +28,4 @@ mod BlocksLeft
 mod Relinking
 mod OneBlock
 mod Emptying
+mod Common

@@ -1,16 +1,11 @@
 -- A loop over the live keys of a map, which skips vacant places.
 use Rattle.std.specs.FinMap as map
-use Rattle.std.proofs.Common.{◌∷◌, ◌≡◌, ◌↔◌, ◌+◌, ◌-◌, ◌<◌, ◌^◌, ◌≢◌, ℕ, zero, suc, true, Option, Some, None, IfSome, IfNone, is_some}
-use Rattle.std.proofs.Common.{List, refl, sym, ap, subst, ◌∙◌, arith}
-use Rattle.slotmap_core.proofs.Common.{Key, Content, IsLive, NoneBelow, Removes, with_value, NoneBelow-end, get-remove_other, in_after_remove}
-use Rattle.slotmap_core.proofs.Common.{keys_total, exact_keys, first_entry, above_next, Swept, Swept-start, Swept-to, Swept-on, Swept-next}
-use Rattle.slotmap_core.proofs.Common.{Swept-removed, key, get-live_at, same_live, remove-insert}
-use Rattle.slotmap_hop.specs.Slots.{Slot, places_of, hop_content, IsSound}
+use Rattle.std.proofs.Common.{◌∷◌, ◌≡◌, ◌↔◌, ◌+◌, ◌-◌, ◌<◌, ◌^◌, ◌≢◌, Option, Some, None, IfSome, IfNone, is_some, List, refl, sym, ap, subst, ◌∙◌, arith}
+use Rattle.slotmap_core.proofs.Common.{Key, with_value, NoneBelow-end, get-remove_other, in_after_remove, common_steps, keys_total, first_entry, Swept-start, Swept-removed, get-live_at, remove-insert}
+use Rattle.slotmap_core.proofs.Common.{Content, IsLive, NoneBelow, Removes, exact_keys, above_next, Swept, Swept-to, Swept-on, Swept-next, key, same_live, ℕ, zero, suc, true}
 use Rattle.slotmap_hop.specs.HopContent.{HopContent, IsHopContent, IsNextLive, IsNextPlace, HasKeyAt, MayStand, RemovesRun, StaysHop, hop_with_value, blocks_without, blocks_without_all}
-use Rattle.slotmap_hop.specs.Iter.{CanGoOn, FindsPlace, FindsNone}
-use Rattle.slotmap_hop.proofs.SlotLemmas.{same_counts}
-use Rattle.slotmap_hop.proofs.BlocksLeft.{blocks_taken, keys_first, keys_none}
-use Rattle.slotmap_hop.proofs.WellFormed.{IsHopContent-with_value}
+use Rattle.slotmap_hop.specs.{Slots.Slot, Slots.places_of, Slots.hop_content, Slots.IsSound, Iter.CanGoOn, Iter.FindsPlace, Iter.FindsNone}
+use Rattle.slotmap_hop.proofs.{SlotLemmas.same_counts, BlocksLeft.blocks_taken, BlocksLeft.keys_first, BlocksLeft.keys_none, WellFormed.IsHopContent-with_value}
 
 -- a search may begin where an iterator may be
 pub look_begins : {V : Type 0} (slots : List (Slot V)) (vacant elems : ℕ) → IsSound slots vacant elems → (start c : ℕ)
@@ -24,8 +19,7 @@ pub place_comes : {V : Type 0} (slots : List (Slot V)) (c start : ℕ) (next : O
     → IsNextPlace (hop_content slots c).content start next
 place_comes slots c start None found none = none.below
 place_comes slots c start (Some index) found none =
-    let finds = found.3 in
-    ((key index found.1, ap is_some (get-live_at (places_of slots) (key index found.1) index _ refl finds.there), refl), found.0, finds.least)
+    let finds = found.3 in ((key index found.1, ap is_some (get-live_at (places_of slots) (key index found.1) index _ refl finds.there), refl), found.0, finds.least)
 
 -- the measure by which a loop over the live keys ends
 abbrev pub indices_left : {K : Type 0} → (K → Key) → Option K → ℕ
@@ -131,13 +125,11 @@ module _ {V : Type 0} (old : HopContent V) where
 
   pub clearing_starts_at : (next : Option ℕ) → IsHopContent old → IsNextPlace old.content 0 next → ClearingAt old next
   clearing_starts_at None well comes = clearing_starts (λ (k : Key). k) old None well comes
-  clearing_starts_at (Some index) well comes =
-      (comes.0, λ k there at. clearing_starts (λ (k : Key). k) old (Some k) well (there, omega arith, λ q lives low. omega (arith, comes.2 q lives low, at)))
+  clearing_starts_at (Some index) well comes = grind (arith, common_steps, comes.0, clearing_starts, comes)
 
   -- a key of another index is still live
   stays_live : (now new : HopContent V) (k : Key) → new.content.live ≡ map.remove now.content.live k → (q : Key) → IsLive now.content q → q.index ≢ k.index → IsLive new.content q
-  stays_live now new k gone q there differs =
-      ap is_some (ap (λ m. map.get m q) gone ∙ get-remove_other now.content.live k q (λ same. absurd (differs (ap (λ p. p.index) same)))) ∙ there
+  stays_live now new k gone q there differs = ap is_some (ap (λ m. map.get m q) gone ∙ get-remove_other now.content.live k q (λ same. absurd (differs (ap (λ p. p.index) same)))) ∙ there
 
   was_live : (now new : HopContent V) (k : Key) → new.content.live ≡ map.remove now.content.live k → (q : Key) → IsLive new.content q → IsLive now.content q
   was_live now new k gone q there = (in_after_remove keys_total exact_keys now.content.live k q (sym (ap (λ m. map.contains_key m q) gone) ∙ there)).1
@@ -146,8 +138,7 @@ module _ {V : Type 0} (old : HopContent V) where
   pub clearing_removed_at : (now new : HopContent V) (k : Key) (x : V) (next : Option ℕ) → Clearing (λ (k : Key). k) old now (Some k)
       → IsNextPlace now.content (k.index + 1) next → map.get now.content.live k ≡ Some x → Removes now.content k new.content
       → new.blocks ≡ blocks_without now k → StaysHop now new → ClearingAt new next
-  clearing_removed_at now new k x None clearing comes value removes blocks stays =
-      (clearing_removed (λ (k : Key). k) old now new k x None clearing comes value removes blocks stays).0
+  clearing_removed_at now new k x None clearing comes value removes blocks stays = (clearing_removed (λ (k : Key). k) old now new k x None clearing comes value removes blocks stays).0
   clearing_removed_at now new k x (Some index) clearing comes value removes blocks stays =
       let there = comes.0 in (
         (there.0, stays_live now new k removes.live there.0 there.1 (λ same. omega (arith, same, comes.1, there.2)), there.2),

@@ -1,7 +1,5 @@
-use Rattle.std.proofs.Common.{◌≡◌, ◌+◌, ◌-◌, Some, sym, subst, arith}
-use Rattle.slotmap_core.proofs.Common.{Key, None, common_steps}
-use Rattle.slotmap_hop.specs.HopContent.{HasKeyAt}
-use Rattle.slotmap_hop.proofs.Sweeping.{Clearing, ClearingAt, clearing_starts_at, clearing_run, clearing_removed_at, clearing_ends, clearing_blocks}
+use Rattle.slotmap_hop.proofs.Common.{◌≡◌, ◌+◌, ◌-◌, common_steps, HasKeyAt, Clearing, ClearingAt, clearing_starts_at, clearing_run, clearing_removed_at, clearing_ends, clearing_blocks}
+use Rattle.slotmap_hop.proofs.Common.{Key, None, Some, sym, subst, arith}
 use Rattle.slotmap_hop.proofs.HopSlotMap.clear_runs.Goals.{In-Some, In_default, After-clear_run-index, After-key_at-key}
 use Rattle.slotmap_hop.proofs.HopSlotMap.clear_runs.Goals as goal
 
@@ -39,16 +37,7 @@ ended : (g : _) (c : In_default g) → Clearing (λ (k : Key). k) c.args.self.no
 ended g c = rw c.in_default.is at c.loop-next.invariant
 
 pub returns : goal.returns
-returns g c =
-    let ended = ended g (goal.at.returns g c).In_default in
-    let swept = ended.sweep.swept in
-    record {
-      empty = clearing_ends (λ (k : Key). k) _ _ ended;
-      leaves = swept.leaves;
-      order = swept.order;
-      blocks = clearing_blocks (λ (k : Key). k) _ _ ended;
-      valid = record { before = c.first_place-next.ensures.valid; after = ended.sweep.valid; capacity = swept.capacity };
-    }
+returns g c = grind (arith, common_steps, ended, clearing_ends, clearing_blocks)
 
 pub overflow_add-index : goal.overflow_add-index
 overflow_add-index g c = grind (arith, common_steps)

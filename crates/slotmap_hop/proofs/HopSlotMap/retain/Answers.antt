@@ -48,9 +48,7 @@ pub returns-clause-leaves : goal.returns-clause-leaves
 returns-clause-leaves g c = (ended g (goal.at.returns-clause-leaves g c).In_default).sweep.swept.leaves
 
 pub returns-clause-valid : goal.returns-clause-valid
-returns-clause-valid g c =
-    let sweep = (ended g (goal.at.returns-clause-valid g c).In_default).sweep in
-    record { before = c.first_place-next.ensures.valid; after = sweep.valid; capacity = sweep.swept.capacity }
+returns-clause-valid g c = grind (arith, common_steps, ended)
 
 pub first_place-next-requires-then-stays : goal.first_place-next-requires-then-stays
 first_place-next-requires-then-stays g c = grind (arith, common_steps)

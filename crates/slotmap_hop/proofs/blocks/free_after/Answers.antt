@@ -1,9 +1,5 @@
-use Rattle.std.proofs.Common.{◌+◌, ◌<◌, length, set, refl, ap, ◌∙◌, arith}
-use Rattle.slotmap_core.proofs.Common.{Vacant}
-use Rattle.slotmap_hop.specs.Slots.{BackState, Empty, all_links}
-use Rattle.slotmap_hop.proofs.Writes.{links_here}
-use Rattle.slotmap_hop.proofs.SlotReads.{all_links_written, places_written, length-all_links}
-use Rattle.slotmap_hop.proofs.Joining.{front_leads, joins_after}
+use Rattle.slotmap_hop.proofs.Common.{◌+◌, Vacant, common_steps, set, ◌∙◌, arith, BackState, Empty, links_here, all_links_written, places_written, length-all_links, front_leads, joins_after}
+use Rattle.slotmap_hop.proofs.Common.{refl, ap}
 use Rattle.slotmap_hop.proofs.blocks.free_after.Goals as goal
 
 pub name_back-requires : goal.name_back-requires
@@ -27,7 +23,4 @@ returns-clause-frees g c =
     }
 
 pub returns-clause-back : goal.returns-clause-back
-returns-clause-back g c =
-    let freed = Empty BackState (c.args.version + 1) c.args.front c.args.prev in
-    let inside : c.args.index < length (all_links c.name_back.new.slots) = omega (arith, c.requires.can.inside, c.name_back.auto.slots, length-all_links c.name_back.new.slots) in
-    rw (all_links_written c.name_back.new.slots c.args.index freed) (links_here (all_links c.name_back.new.slots) c.args.index _ inside)
+returns-clause-back g c = grind (arith, common_steps, length-all_links, all_links_written, links_here)

@@ -1,7 +1,5 @@
-use Rattle.std.proofs.Common.{sym, ◌∙◌, arith}
-use Rattle.slotmap_hop.proofs.Joining.{left_tails}
-use Rattle.slotmap_hop.proofs.FreedRuns.{none_freed, runs_on, live_there, live_flag}
-use Rattle.slotmap_hop.proofs.blocks.free_run.Goals.{After-free_after}
+use Rattle.slotmap_hop.proofs.Common.{left_tails, sym, ◌∙◌, arith}
+use Rattle.slotmap_hop.proofs.{FreedRuns.none_freed, FreedRuns.runs_on, FreedRuns.live_there, FreedRuns.live_flag, blocks.free_run.Goals.After-free_after}
 use Rattle.slotmap_hop.proofs.blocks.free_run.Goals as goal
 
 pub is_vacant-requires : goal.is_vacant-requires
@@ -50,5 +48,4 @@ free_after-requires g c =
 
 pub loop-slots-preserved : goal.loop-slots-preserved
 loop-slots-preserved g c =
-    let next = sym c.is_live_after-in-loop-slots.ensures ∙ c.loop-slots-test.true in
-    runs_on c.free_after.new.slots c.loop-slots.invariant c.free_after.ensures.frees c.free_after.ensures.back next
+    runs_on c.free_after.new.slots c.loop-slots.invariant c.free_after.ensures.frees c.free_after.ensures.back (sym c.is_live_after-in-loop-slots.ensures ∙ c.loop-slots-test.true)
