@@ -1,10 +1,10 @@
 -- Adjacent live slots that are freed one after the other.
-use Rattle.std.proofs.Common.{◌≡◌, ◌+◌, ◌-◌, ◌<◌, ◌≤◌, ℕ, zero, suc, true, false, List, length, slice_get, get_or, Some, refl, sym, ap, subst, ◌∙◌, arith, ne_eqb}
-use Rattle.slotmap_core.proofs.Common.{is_some, Live, Vacant, get-live_at, slice_get-set_other, common_steps}
+use Rattle.std.proofs.Common.{◌≡◌, ◌+◌, ◌-◌, ◌<◌, ◌≤◌, ℕ, zero, suc, true, false, List, length, set, slice_get, get_or, Some, refl, sym, ap, subst, ◌∙◌, arith, ne_eqb}
+use Rattle.slotmap_core.proofs.Common.{is_some, nat_tests, key, last_version, left_by, Live, Vacant, get-live_at, slice_get-set_other}
 use Rattle.slotmap_hop.specs.Slots.{Back, Slot, version_in, all_links, places_of, value_at, CanFree, Frees, FreesRun, FreesUpTo, hop_content, IsSound}
-use Rattle.slotmap_hop.specs.{Links.prev_in, Links.end_in, Links.vacant_at, Links.links_at, Links.end_at, Links.held_at, HopContent.RemovesRun}
+use Rattle.slotmap_hop.specs.{Links.prev_in, Links.end_in, Links.vacant_at, Links.links_at, Links.end_at, Links.held_at, Links.blocks_of, Blocks.vacated, HopContent.RemovesRun}
 use Rattle.slotmap_hop.proofs.SlotReads.{slot_cases, length-all_links, occupied_read, place_read}
-use Rattle.slotmap_hop.proofs.{SlotLemmas.same_counts, Growth.removes-slots, LiveSlots.elems_positive, LiveSlots.sound-freed}
+use Rattle.slotmap_hop.proofs.{SlotLemmas.valid, SlotLemmas.same_length, SlotLemmas.same_counts, Growth.removes-slots, LiveSlots.elems_positive, LiveSlots.sound-freed}
 
 module _ {V : Type 0} where
   pub live_flag : (slots : List (Slot V)) (i : ℕ) → is_some (value_at slots i) ≡ true → vacant_at (all_links slots) i ≡ false
@@ -76,4 +76,31 @@ module _ {V : Type 0} where
       let none : vacant ≡ vacant + 0 = omega arith in
       rw same (record { few = omega arith; sound = subst (λ e. IsSound old (vacant + 0) e) all (subst (λ v. IsSound old v elems) none sound); size = refl; removes = refl })
   run_removes (suc n) i old new vacant elems c sound holds run =
-      grind (arith, common_steps, frees, sound-freed, sound, elems_positive, few, removes, get-live_at, removes-slots, left, ne_eqb, same_counts)
+      let mid = run.0 in
+      let frees = run.1 in
+      let v = frees.version in
+      let size = same_length old mid i _ frees.places in
+      let after = sound-freed old vacant elems sound i v _ frees.there mid frees.blocks.list frees.places frees.other in
+      let some = elems_positive old vacant elems sound i v _ frees.there in
+      let left : Vacant (v + 1 + 1) ≡ left_by (key i v) = grind (arith, nat_tests, frees.other) in
+      let more : vacant + 1 + n ≡ vacant + suc n = omega arith in
+      let fewer : elems - 1 - n ≡ elems - suc n = omega arith in
+      let rest = run_removes n (i + 1) mid new (vacant + 1) (elems - 1) c after (omega (arith, size, holds)) run.2 in
+      record {
+        few = omega (arith, rest.few, some);
+        sound = subst (λ e. IsSound new (vacant + suc n) e) fewer (subst (λ v. IsSound new v (elems - 1 - n)) more rest.sound);
+        size = rest.size ∙ size;
+        removes = (
+          hop_content mid c,
+          record {
+            key = key i v;
+            value = frees.value;
+            at = refl;
+            had = get-live_at (places_of old) (key i v) i frees.value refl frees.there;
+            removes = removes-slots old vacant elems sound mid c holds (key i v) frees.value frees.there (frees.places ∙ ap (set (places_of old) i) left);
+            blocks = frees.blocks.are ∙ rw (ne_eqb v last_version frees.other) (ap (λ f. vacated f (blocks_of (all_links old)) i) (sym (same_counts old vacant elems sound c)));
+            valid = record { before = valid old vacant elems sound c holds; after = valid mid _ _ after c (omega (arith, size, holds)); capacity = refl };
+          },
+          rest.removes,
+        );
+      }

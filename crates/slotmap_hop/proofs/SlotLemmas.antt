@@ -8,7 +8,7 @@ use Rattle.slotmap_hop.specs.Slots.{Links, Slot, version_in, all_links, places_o
 use Rattle.slotmap_hop.specs.Links.{list_without, is_front, ListsOnce, vacant_at, next_at, end_at, fronts_of, blocks_of, IsLinked}
 use Rattle.slotmap_hop.specs.{Blocks.HasMaximalBlocks, HopContent.IsHopContent, HopContent.counts_vacant}
 use Rattle.slotmap_hop.proofs.{FrontsLemmas.listed_positive, SlotReads.length-all_links, SlotReads.length-places, SlotReads.slot_cases, StackOrder.IsStacked-first, StackOrder.IsContent-untold}
-use Rattle.slotmap_hop.proofs.{Chain.occurs-head, Circle.shown, Taking.first_block, Taking.offer_is_end, Taking.offer_is_back, Maximal.maximal, StackOrder.untold}
+use Rattle.slotmap_hop.proofs.{StackOrder.untold, Chain.occurs-head, Circle.shown, Taking.first_block, Taking.offer_is_end, Taking.offer_is_back, Maximal.maximal}
 use Rattle.std.specs.FinMap as map
 use Rattle.std.specs.FinSet as set
 

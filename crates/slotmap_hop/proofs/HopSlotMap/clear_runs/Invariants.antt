@@ -1,4 +1,4 @@
-use Rattle.slotmap_hop.proofs.Sweeping.{ClearingAt, places_left}
+use Rattle.slotmap_hop.proofs.Common.{ClearingAt, places_left}
 use Rattle.slotmap_hop.proofs.HopSlotMap.clear_runs.Given as goal
 
 abbrev pub invariant-loop-next : goal.invariant-loop-next

@@ -21,8 +21,5 @@ made g c =
     let is_key = (well_formed c.self.inside c.self.view_is c.self.invariant).valid.keys _ (inl (inl c.requires.1)) in
     ap g.K.Key.data_of (g.met.K.Key.from_gives_key _ _ c.from.ensures) ∙ g.met.K.Key.from_data _ (subst IsKey (sym exact) is_key) ∙ exact
 
-pub returns-clause-live : goal.returns-clause-live
-returns-clause-live g c = subst (IsLive c.args.self.now.content) (sym (made g c)) c.requires.1
-
-pub returns-clause-index : goal.returns-clause-index
-returns-clause-index g c = ap (λ k. k.index) (made g c) ∙ c.requires.2
+pub returns : goal.returns
+returns g c = record { live = subst (IsLive c.args.self.now.content) (sym (made g c)) c.requires.1; index = ap (λ k. k.index) (made g c) ∙ c.requires.2 }

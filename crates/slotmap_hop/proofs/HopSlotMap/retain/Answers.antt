@@ -1,5 +1,5 @@
-use Rattle.slotmap_core.proofs.Common.{Some, None, same_live, CallsAt-called, common_steps, arith}
-use Rattle.slotmap_hop.proofs.Retaining.{Retaining, RetainingAt, retaining_starts_at, retaining_may_come, retaining_kept_at, retaining_dropped_at, retaining_ends}
+use Rattle.slotmap_hop.proofs.Common.{same_live, CallsAt-called, common_steps, Retaining, RetainingAt, retaining_starts_at, retaining_may_come, retaining_kept_at, retaining_dropped_at, retaining_ends}
+use Rattle.slotmap_hop.proofs.Common.{Some, None, arith}
 use Rattle.slotmap_hop.proofs.HopSlotMap.retain.Goals.{In-Some, In_default, After-key_at-key}
 use Rattle.slotmap_hop.proofs.HopSlotMap.retain.Goals as goal
 

@@ -1,4 +1,4 @@
-use Rattle.std.proofs.Common.{◌-◌, length}
+use Rattle.slotmap_hop.proofs.Common.{◌-◌, length}
 use Rattle.slotmap_hop.proofs.FreedRuns.{Running}
 use Rattle.slotmap_hop.proofs.blocks.free_run.Given as goal
 

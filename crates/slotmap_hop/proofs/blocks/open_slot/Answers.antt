@@ -1,4 +1,4 @@
-use Rattle.slotmap_hop.proofs.SlotReads.{all_links_vacant, place_linked}
+use Rattle.slotmap_hop.proofs.Common.{all_links_vacant, place_linked}
 use Rattle.slotmap_hop.proofs.blocks.open_slot.Goals as goal
 
 pub returns-clause-blocks : goal.returns-clause-blocks
