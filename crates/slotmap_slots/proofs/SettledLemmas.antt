@@ -2,9 +2,9 @@
 -- For this crate and for the layouts of the maps.
 use Rattle.std.specs.FinMap as map
 use Rattle.std.specs.FinSet as set
-use Rattle.std.proofs.Common.{◌≡◌, ◌≢◌, ◌+◌, ◌-◌, ◌<◌, ◌≤◌, ◌^◌, ◌∷◌, ◌++◌, ℕ, zero, suc, true, List, [], length, set, slice_get, Some, refl, sym}
-use Rattle.slotmap_core.proofs.Common.{Key, Content, IsContent, IsLive, IsDetached, places, used, most, MakesRoom, StaysValid, content_of_places, used_places}
-use Rattle.slotmap_core.proofs.Common.{ap, subst, ◌∙◌, arith, length-set, length_push, keeps}
+use Rattle.std.proofs.Common.{◌≡◌, ◌≢◌, ◌+◌, ◌-◌, ◌<◌, ◌≤◌, ◌^◌, ◌∷◌, ◌++◌, subst, ◌∙◌, arith, ℕ, zero, true, List, length, slice_get, Some, refl}
+use Rattle.std.proofs.Common.{ap, suc, [], set, sym}
+use Rattle.slotmap_core.proofs.Common.{Content, IsContent, IsLive, IsDetached, places, MakesRoom, StaysValid, content_of_places, used_places, length-set, length_push, keeps, Key, used, most}
 use Rattle.slotmap_slots.specs.Slot.{Slot, full, payload_at, with_payload, places_of, IsSound, vacancies, IsSettled, map_of}
 use Rattle.slotmap_slots.proofs.SlotLemmas.{Present, present, count_positive, rewritten, reattached, with_payload-is, valid, slots_fit, used_places-slots, free_below}
 use Rattle.slotmap_slots.proofs.SlotGrowth.{PresentDetached, present_detached, some_free}

@@ -1,5 +1,4 @@
-use Rattle.slotmap_core.proofs.Common.{is_some, ap, sym}
-use Rattle.slotmap_slots.proofs.SettledLemmas.{settled_present, settled_value}
+use Rattle.slotmap_slots.proofs.Common.{is_some, ap, sym, settled_present, settled_value}
 use Rattle.slotmap_slots.proofs.slots.Slots.get.Goals as goal
 
 pub payload-requires : goal.payload-requires
