@@ -1,17 +1,12 @@
 -- Slots with clones of the values of others: the same places and blocks, and clones of the values.
 use Rattle.std.specs.FinMap as map
 use Rattle.std.proofs.Common.{◌≡◌, ◌+◌, ◌∷◌, ℕ, true, List, [], drop, slice_get, Some, refl, sym, ap, subst, ◌∙◌, arith}
-use Rattle.slotmap_core.proofs.Common.{AreClones, IsCloneBy, IsPlaceClone, ArePlaceClones, Place, Live, Detached, Vacant}
-use Rattle.slotmap_core.proofs.Common.{Retired as RetiredPlace, live, keys_total, exact_keys, zip_length, zip_drop, same_len, clone_is_some, detached-clones}
-use Rattle.slotmap_core.proofs.Common.{retired-clones, next-clones, live-clones, length-clones, cloned_at, vacant_there, IsStacked-clones}
-use Rattle.slotmap_hop.specs.Slots.{Slot}
-use Rattle.slotmap_hop.specs.Slots.{SingleState, FrontState, BackState, Retired, Occupied, Empty}
-use Rattle.slotmap_hop.specs.Blocks.{Begins}
-use Rattle.slotmap_hop.specs.Links.{vacant_at, HasBlockList}
-use Rattle.slotmap_hop.specs.Iter.{pairs_left, IsIter}
-use Rattle.slotmap_hop.specs.Slots.{retired_place, links_in, place_in, all_links, places_of, IsSlotClone, AreSlotClones, next_place, offer_at, hop_content, IsSound}
-use Rattle.slotmap_hop.proofs.SlotLemmas.{vacant_slot, back_vacant}
-use Rattle.slotmap_hop.proofs.HoppingLemmas.{pairs_from}
+use Rattle.slotmap_core.proofs.Common.{IsPlaceClone, ArePlaceClones, Retired as RetiredPlace, keys_total, clone_is_some, detached-clones, retired-clones, length-clones, vacant_there, IsStacked-clones}
+use Rattle.slotmap_core.proofs.Common.{AreClones, IsCloneBy, Place, Live, Detached, Vacant, live, exact_keys, zip_length, zip_drop, same_len, next-clones, live-clones, cloned_at}
+use Rattle.slotmap_hop.specs.Slots.{SingleState, FrontState, BackState, Retired, Occupied, retired_place, links_in, place_in, all_links, places_of, IsSlotClone, AreSlotClones, next_place, hop_content}
+use Rattle.slotmap_hop.specs.Slots.{Slot, Empty, offer_at, IsSound}
+use Rattle.slotmap_hop.specs.{Blocks.Begins, Links.vacant_at, Links.HasBlockList, Iter.pairs_left, Iter.IsIter}
+use Rattle.slotmap_hop.proofs.{SlotLemmas.vacant_slot, SlotLemmas.back_vacant, HoppingLemmas.pairs_from}
 
 module _ {V : Type 0} (is_clone : V → V → Type 0) where
   links_cloned : (s copy : Slot V) → IsSlotClone is_clone s copy → links_in copy ≡ links_in s

@@ -1,20 +1,16 @@
 -- The slots while a list of slots is read into them.
 use Rattle.std.proofs.lemmas.List.{length-append}
-use Rattle.std.specs.FinMap as map
 use Rattle.std.proofs.Common.{◌≡◌, ◌+◌, ◌%◌, ◌^◌, ◌<◌, ◌≤◌, ◌∷◌, ◌++◌, ℕ, Bool, true, false, cond, List, [], length, set, take, append-nil, append_assoc, None}
-use Rattle.slotmap_core.proofs.Common.{add-one, slice_get, Some, refl, sym, ap, subst, ◌∙◌, arith, eqb, map as list_map, set-append_seam, nat_tests}
-use Rattle.slotmap_core.proofs.Common.{nil_from_length, length_push, length-map, map_push, take_all, slice_get-map, is_vacant_version, vacant_slot}
-use Rattle.slotmap_core.proofs.Common.{place_of_record, start_places, start_stack, StartsFrom, Vacant, live, IsConsistent, Accepts, AllFitBelow}
-use Rattle.slotmap_core.proofs.Common.{IsStacked, Writes, record_of, records_of, vacant_split, vacant_is, slot_vacant, slice_get_push, len-live-push, odd_of}
-use Rattle.slotmap_core.proofs.Common.{even_where, vacant_place, length-start_places, start_places-push, start_place_at, start_stack-push}
-use Rattle.slotmap_core.proofs.Common.{IsStacked-start_places, writes-places, starts-stack, next_consistent}
+use Rattle.slotmap_core.proofs.Common.{map as list_map, set-append_seam, nil_from_length, map_push, is_vacant_version, length-start_places, start_places-push, start_stack-push, IsStacked-start_places}
+use Rattle.slotmap_core.proofs.Common.{add-one, slice_get-map, place_of_record, start_places, IsConsistent, vacant_split, slice_get_push, len-live-push, start_place_at, writes-places, next_consistent}
+use Rattle.slotmap_core.proofs.Common.{slice_get, length_push, length-map, take_all, vacant_slot, start_stack, StartsFrom, AllFitBelow, records_of, slot_vacant, even_where, vacant_place, starts-stack}
+use Rattle.slotmap_core.proofs.Common.{Some, refl, sym, ap, subst, ◌∙◌, arith, eqb, nat_tests, Vacant, live, Accepts, IsStacked, Writes, record_of, vacant_is, odd_of}
 use Rattle.slotmap_core.specs.declared.serial.SlotRecord.{SlotRecord}
 use Rattle.slotmap_hop.specs.Slots.{Slot, version_in, links_in, value_in, read_slot, place_in, all_links, places_of, hop_content, IsSound}
-use Rattle.slotmap_hop.specs.Blocks.{Blocks, Ascend, vacated}
-use Rattle.slotmap_hop.specs.Links.{vacant_at, blocks_of, HasBlockList, CanVacate}
-use Rattle.slotmap_hop.proofs.Taking.{HasBlockList-pushed, blocks_pushed}
+use Rattle.slotmap_hop.specs.{Blocks.Blocks, Blocks.Ascend, Blocks.vacated, Links.vacant_at, Links.blocks_of, Links.HasBlockList, Links.CanVacate}
 use Rattle.slotmap_hop.proofs.SlotReads.{length-all_links, length-places, slot_cases, place_at}
-use Rattle.slotmap_hop.proofs.Empty.{sentinel_alone, IsSound-new}
+use Rattle.slotmap_hop.proofs.{Taking.HasBlockList-pushed, Taking.blocks_pushed, Empty.sentinel_alone, Empty.IsSound-new}
+use Rattle.std.specs.FinMap as map
 
 -- blocks by ascending index
 

@@ -35,8 +35,7 @@ module _ {v v' : ℕ → Bool} {i : ℕ} (fs : List ℕ) (change : Turns v v' i 
   -- neither neighbour is vacant
   pub listed_alone : v (i - 1) ≡ false → v (i + 1) ≡ false → ListsOnce (is_front v) fs → ListsOnce (is_front v') (fs ++ i ∷ [])
   listed_alone left right listed =
-      once_appended fs i listed (grind (arith, change.was)) (grind (arith, change.now, change.others (i - 1)))
-      (λ x differs. grind (arith, change.others x, change.others (x - 1)))
+      once_appended fs i listed (grind (arith, change.was)) (grind (arith, change.now, change.others (i - 1))) (λ x differs. grind (arith, change.others x, change.others (x - 1)))
 
   -- only the right neighbour is vacant
   pub listed_right : v (i - 1) ≡ false → v (i + 1) ≡ true → ListsOnce (is_front v) fs → ListsOnce (is_front v') (replaced fs (i + 1) i)

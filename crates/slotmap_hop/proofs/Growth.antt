@@ -1,17 +1,13 @@
 -- What an insert makes of sound slots, and what stays when one place changes.
 use Rattle.std.specs.FinMap as map
-use Rattle.std.proofs.Common.{◌≡◌, ◌≢◌, ◌+◌, ◌-◌, ◌^◌, ◌<◌, ◌≤◌, ◌∷◌, ◌++◌, ⊎_elim, ℕ, List, [], length, set}
-use Rattle.std.proofs.Common.{slice_get, Some, sym, ap, subst, ◌∙◌, arith}
-use Rattle.slotmap_core.proofs.Common.{map-append, Key, most, Removes, Inserts, Place, Live, Detached, Vacant, live, left_by, content_of_places, used_places}
-use Rattle.slotmap_core.proofs.Common.{filled, IsVersion, IsStacked, key, len-live-set, len-live-push, IsStacked-filled, IsStacked-pushed, removes, inserts}
-use Rattle.slotmap_core.proofs.Common.{at_set, at_push}
+use Rattle.std.proofs.Common.{◌≡◌, ◌≢◌, ◌+◌, ◌-◌, ◌^◌, ◌<◌, ◌≤◌, ◌∷◌, ◌++◌, ℕ, List, [], length, set, slice_get, Some, sym, ap, subst, ◌∙◌, arith}
+use Rattle.slotmap_core.proofs.Common.{map-append, Removes, Detached, content_of_places, used_places, IsVersion, IsStacked, len-live-set, len-live-push, IsStacked-filled, IsStacked-pushed, ⊎_elim}
+use Rattle.slotmap_core.proofs.Common.{Key, most, Inserts, Place, Live, Vacant, live, left_by, filled, key, removes, inserts, at_set, at_push}
 use Rattle.slotmap_hop.specs.Slots.{Slot, SingleState, Occupied, version_in, place_in, all_links, places_of, next_place, offer_at, holding, hop_content, IsSound}
-use Rattle.slotmap_hop.specs.Blocks.{shorter}
-use Rattle.slotmap_hop.specs.Links.{list_without, blocks_of, HasBlockList}
-use Rattle.slotmap_hop.proofs.SlotReads.{length-all_links, length-places}
-use Rattle.slotmap_hop.proofs.Taking.{HasBlockList-pushed, blocks_pushed, shorter_none}
+use Rattle.slotmap_hop.specs.{Blocks.shorter, Links.list_without, Links.blocks_of, Links.HasBlockList}
 use Rattle.slotmap_hop.proofs.StackOrder.{IsStacked-first, length_removed, untold, Inserts-untold, Removes-untold}
 use Rattle.slotmap_hop.proofs.SlotLemmas.{vacant_slot, back_vacant, empty_stack, in_order, ordered_map, content_is}
+use Rattle.slotmap_hop.proofs.{SlotReads.length-all_links, SlotReads.length-places, Taking.HasBlockList-pushed, Taking.blocks_pushed, Taking.shorter_none}
 
 module _ {V : Type 0} (slots : List (Slot V)) (vacant elems : ℕ) (sound : IsSound slots vacant elems) (new : List (Slot V)) where
   -- one place changes; the new stack and both counts are given
@@ -36,8 +32,7 @@ module _ {V : Type 0} (slots : List (Slot V)) (vacant elems : ℕ) (sound : IsSo
   pub removes-slots : (c : ℕ) → length slots ≤ c + 1 → (k : Key) (x : V) → slice_get (places_of slots) k.index ≡ Some (Live k.version x)
       → places_of new ≡ set (places_of slots) k.index (left_by k) → Removes (hop_content slots c).content k (hop_content new c).content
   removes-slots c holds k x was after =
-      let ordered = (in_order slots vacant elems sound).ordered in
-      rw after (Removes-untold _ _ k _ _ (removes (ordered_map slots vacant elems sound c) ordered k x was (omega (arith, length-places slots, holds))))
+      rw after (Removes-untold _ _ k _ _ (removes (ordered_map slots vacant elems sound c) (in_order slots vacant elems sound).ordered k x was (omega (arith, length-places slots, holds))))
 
 module _ {V : Type 0} (slots : List (Slot V)) (vacant elems : ℕ) (sound : IsSound slots vacant elems) where
   pub none_left : next_place slots ≡ 0 → vacant ≡ 0

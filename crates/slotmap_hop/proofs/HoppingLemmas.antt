@@ -1,20 +1,14 @@
 -- A search for the next live place skips a block of vacant places in one step.
 use Rattle.std.proofs.lemmas.List.{append_assoc, length-append}
-use Rattle.std.specs.FinMap as map
-use Rattle.std.proofs.Common.{◌≡◌, ◌≢◌, ◌+◌, ◌-◌, ◌*◌, ◌<◌, ◌≤◌, ◌^◌, ◌∷◌, ◌++◌, ℕ, zero, suc, true, false, List}
-use Rattle.std.proofs.Common.{[], length, drop, slice_get, Some, None}
-use Rattle.slotmap_core.proofs.Common.{is_some, refl, sym, ap, ◌∙◌, arith, slice_get_within, get_or_from_slice_get, drop_more, drop_all, All-nil, All-cons}
-use Rattle.slotmap_core.proofs.Common.{All-push, All-weaker, All, Key, last_version, Place, Live, Detached, Vacant, Retired as RetiredPlace, live, live_entry}
-use Rattle.slotmap_core.proofs.Common.{retired_entry, gather, HasVersion, live_at, key, get-live_at}
-use Rattle.slotmap_hop.specs.Slots.{Slot, value_in, links_in, hop_in, back_in, place_in, all_links, places_of}
-use Rattle.slotmap_hop.specs.Slots.{State, SingleState, FrontState, BackState, Retired, Occupied, Empty}
-use Rattle.slotmap_hop.specs.Blocks.{Begins, IsBlock}
-use Rattle.slotmap_hop.specs.Links.{is_vacant, end_in, NamesApart, vacant_at, links_at, end_at}
+use Rattle.std.proofs.Common.{◌≡◌, ◌≢◌, ◌+◌, ◌-◌, ◌*◌, ◌<◌, ◌≤◌, ◌^◌, ◌∷◌, ◌++◌, zero, suc, true, false, List, [], length, drop, slice_get, Some, None}
+use Rattle.slotmap_core.proofs.Common.{is_some, ◌∙◌, slice_get_within, get_or_from_slice_get, drop_more, All-weaker, last_version, Retired as RetiredPlace, live_entry, retired_entry, HasVersion}
+use Rattle.slotmap_core.proofs.Common.{refl, sym, ap, arith, drop_all, All-nil, All-cons, All-push, All, Key, Place, Live, Detached, live, gather, live_at, key, ℕ}
+use Rattle.slotmap_hop.specs.Slots.{Slot, value_in, links_in, hop_in, back_in, place_in, all_links, places_of, State, SingleState, FrontState, BackState, Retired, Occupied, Empty}
 use Rattle.slotmap_hop.specs.Iter.{pairs_left, retired_left, StandsAt, CanGoOn, FindsNone, FindsSlot, ReadsOnTheWay, Counted, IsRead, GoesTo}
-use Rattle.slotmap_hop.proofs.BlockLemmas.{clash, begins_after, front_here}
-use Rattle.slotmap_hop.proofs.Circle.{shown}
+use Rattle.slotmap_hop.specs.{Blocks.Begins, Blocks.IsBlock, Links.is_vacant, Links.end_in, Links.NamesApart, Links.vacant_at, Links.links_at, Links.end_at}
 use Rattle.slotmap_hop.proofs.SlotReads.{length-places, slot_within, place_at, slot_cases, occupied}
-use Rattle.slotmap_hop.proofs.SlotLemmas.{place_not_vacant, slots_fit, vacant_slot}
+use Rattle.slotmap_hop.proofs.{BlockLemmas.clash, BlockLemmas.begins_after, BlockLemmas.front_here, Circle.shown, SlotLemmas.place_not_vacant, SlotLemmas.slots_fit, SlotLemmas.vacant_slot}
+use Rattle.std.specs.FinMap as map
 
 module _ {V : Type 0} where
   -- what is yielded at these places, and the keys of the retired ones, where the first place has this index
@@ -29,16 +23,11 @@ module _ {V : Type 0} where
   above i j [] low = All-nil (λ k. i < k.index)
   above i j (p ∷ ps) low = let rest = above i (j + 1) ps (omega arith) in grind (arith, All-cons (λ k. i < k.index) (key j last_version) (retired_from (j + 1) ps) low rest)
 
-place_there : {V : Type 0} (slots : List (Slot V)) (i : ℕ) → i < length slots → (p : Place V) × (slice_get (places_of slots) i ≡ Some p)
-place_there slots i inside = grind (arith, slot_cases slots i)
-
 module _ {V : Type 0} (slots : List (Slot V)) where
   -- a step over a place, where a list is made of the places from it on
   left-on : {X : Type 0} (from : ℕ → List (Place V) → X) (i : ℕ) (p : Place V) → slice_get (places_of slots) i ≡ Some p
       → from i (drop i (places_of slots)) ≡ from i (p ∷ drop (i + 1) (places_of slots))
-  left-on from i p found =
-      let ps = places_of slots in
-      ap (from i) (drop_more ps i p (slice_get_within ps i p found) ∙ ap (λ y. y ∷ drop (i + 1) ps) (get_or_from_slice_get ps i p p found))
+  left-on from i p found = let ps = places_of slots in ap (from i) (drop_more ps i p (slice_get_within ps i p found) ∙ ap (λ y. y ∷ drop (i + 1) ps) (get_or_from_slice_get ps i p p found))
 
   -- a sequence of vacant places holds nothing
   skip : (k i j : ℕ) → i + k ≡ j → ((x : ℕ) → i ≤ x → x < j → vacant_at (all_links slots) x ≡ true)
@@ -55,24 +44,7 @@ module _ {V : Type 0} (slots : List (Slot V)) where
 
   -- the block that begins where the iterator is
   block_here : (i : ℕ) → StandsAt slots i → vacant_at (all_links slots) i ≡ true → IsBlock (vacant_at (all_links slots)) i (end_at (all_links slots) i)
-  block_here i stands vacant =
-      ((shown stands.sound.linked.linked).ends i (front_here (vacant_at (all_links slots)) i vacant (stands.at_front vacant))).0
-
-  -- a place that isn't live holds nothing
-  not_live_on : (i : ℕ) (p : Place V) → slice_get (places_of slots) i ≡ Some p → ((v : ℕ) (x : V) → p ≢ Live v x) → pairs_left slots i ≡ pairs_left slots (i + 1)
-  not_live_on i (Live v x) found other = absurd (other v x refl)
-  not_live_on i (Detached v) found other = left-on pairs_from i (Detached v) found
-  not_live_on i (Vacant v) found other = left-on pairs_from i (Vacant v) found
-  not_live_on i RetiredPlace found other = left-on pairs_from i RetiredPlace found
-
-  -- nor do places before the first live one
-  skip_to : (n i j : ℕ) → i + n ≡ j → j < length slots
-      → ((q : Key) → map.contains_key (live (places_of slots)) q ≡ true → i ≤ q.index → j ≤ q.index) → pairs_left slots i ≡ pairs_left slots j
-  skip_to zero i j on inside none = let same : i ≡ j = omega arith in rw same refl
-  skip_to (suc n) i j on inside none =
-      let here = place_there slots i (omega arith) in
-      not_live_on i here.0 here.1 (λ v x is. absurd (omega (arith, none (key i v) (ap is_some (get-live_at (places_of slots) (key i v) i x refl (here.1 ∙ ap Some is))) (omega arith))))
-      ∙ skip_to n (i + 1) j (omega arith) inside (λ q there low. none q there (omega arith))
+  block_here i stands vacant = ((shown stands.sound.linked.linked).ends i (front_here (vacant_at (all_links slots)) i vacant (stands.at_front vacant))).0
 
   pub stands_on : (i j : ℕ) → StandsAt slots i → (vacant_at (all_links slots) j ≡ true → Begins (vacant_at (all_links slots)) j) → StandsAt slots j
   stands_on i j stands front = record { vacant = stands.vacant; elems = stands.elems; sound = stands.sound; at_front = front }
@@ -235,9 +207,7 @@ module _ {V : Type 0} (slots : List (Slot V)) (reads0 start : ℕ) where
     module _ {new : Counted V} {s : Slot V} (read : IsRead now s new) where
       pub finds_here : is_some (value_in s) ≡ true
           → FindsSlot slots start new.index × (new.slots ≡ slots) × ReadsOnTheWay slots reads0 start new.reads new.index
-      finds_here live =
-          let finds = way_finds at.way (rw at.kept at read.value) live in
-          rw (read.index, read.reads) (finds.0, read.slots ∙ at.kept, finds.1)
+      finds_here live = let finds = way_finds at.way (rw at.kept at read.value) live in rw (read.index, read.reads) (finds.0, read.slots ∙ at.kept, finds.1)
 
       leaves : value_in s ≡ None → Hops new.reads now.index (hop_in now.index s)
       leaves none = rw read.reads (way_on at.way (rw at.kept at read.value) none)

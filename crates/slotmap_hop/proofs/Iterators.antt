@@ -2,20 +2,12 @@
 use Rattle.std.specs.FinMap as map
 use Rattle.std.specs.FinSet as set
 use Rattle.std.proofs.Common.{◌≡◌, ◌+◌, ◌-◌, ◌≤◌, ◌∷◌, ℕ, true, List, [], length, drop, set, ◌∙◌, refl, sym, ap, subst, arith}
-use Rattle.slotmap_core.proofs.Common.{nil_from_length, drop-set-lt, key_cmp, Place, Retired, live, retired_entry, gather}
-use Rattle.slotmap_core.proofs.Common.{retired_fits, detached_laws, len-add, entries-live}
+use Rattle.slotmap_core.proofs.Common.{nil_from_length, drop-set-lt, key_cmp, Place, Retired, live, retired_entry, gather, retired_fits, detached_laws, len-add, entries-live}
 use Rattle.slotmap_core.specs.Places.{retired}
-use Rattle.slotmap_hop.specs.Slots.{Slot, all_links, places_of, hop_content, IsSound}
-use Rattle.slotmap_hop.specs.Blocks.{Begins, IsBlock}
-use Rattle.slotmap_hop.specs.Links.{vacant_at, end_at, fronts_of}
 use Rattle.slotmap_hop.specs.Iter.{pairs_left, retired_left, IsIter, CanGoOn, FindsLive, ReadsOnTheWay, ListsRetired}
-use Rattle.slotmap_hop.proofs.BlockLemmas.{clash, begins_after}
-use Rattle.slotmap_hop.proofs.Circle.{block_at}
-use Rattle.slotmap_hop.proofs.Vacating.{zero_in_circle}
-use Rattle.slotmap_hop.proofs.SlotReads.{slot_within}
-use Rattle.slotmap_hop.proofs.SlotLemmas.{place_not_vacant}
-use Rattle.slotmap_hop.proofs.LiveSlots.{sound-retired}
+use Rattle.slotmap_hop.specs.{Slots.Slot, Slots.all_links, Slots.places_of, Slots.hop_content, Slots.IsSound, Blocks.Begins, Blocks.IsBlock, Links.vacant_at, Links.end_at, Links.fronts_of}
 use Rattle.slotmap_hop.proofs.HoppingLemmas.{pairs_from, retired_from, past_block, stands_on}
+use Rattle.slotmap_hop.proofs.{BlockLemmas.clash, BlockLemmas.begins_after, Circle.block_at, Vacating.zero_in_circle, SlotReads.slot_within, SlotLemmas.place_not_vacant, LiveSlots.sound-retired}
 
 module _ {V : Type 0} where
   set-retired_from : (j : ℕ) (ps : List (Place V)) → set.from_list (retired_from j ps) ≡ gather (set.empty {R = key_cmp}) (λ s e. set.insert s e.0) retired_entry j ps
@@ -72,8 +64,7 @@ module _ {V : Type 0} (slots : List (Slot V)) (vacant elems : ℕ) (sound : IsSo
 
   pub retired-start : (c : ℕ) → ListsRetired (hop_content slots c) (retired_left slots (end_at (all_links slots) 0 + 1))
   retired-start c =
-      let listed = retired-listed (places_of slots) in
-      subst (ListsRetired (hop_content slots c)) (past_block slots 0 (end_at (all_links slots) 0) first_place).1 (record { all = listed.0; once = listed.1 })
+      grind (arith, retired-listed (places_of slots), past_block slots 0 (end_at (all_links slots) 0) first_place, (retired-listed (places_of slots)).0, (retired-listed (places_of slots)).1)
 
   pub iter_starts : IsIter slots 0 (end_at (all_links slots) 0 + 1) elems
   iter_starts = grind (arith, clash, first_place, map.len-entries, live, pairs-start)

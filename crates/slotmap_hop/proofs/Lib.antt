@@ -27,3 +27,4 @@ mod BlocksLeft
 mod Relinking
 mod OneBlock
 mod Emptying
+mod Common

@@ -1,17 +1,13 @@
 -- The slot of a live key: what a look-up, a removal or a write knows of it, and makes of it.
 use Rattle.std.specs.FinMap as map
-use Rattle.std.proofs.Common.{◌≡◌, ◌≢◌, ◌+◌, ◌-◌, ◌^◌, ◌<◌, ◌≤◌, ◌==◌, ◌∷◌, option_and_then, ℕ, true, false, List}
-use Rattle.std.proofs.Common.{length, set, slice_get, get_or, Some, None}
-use Rattle.slotmap_core.proofs.Common.{is_some, sym, ap, subst, ◌∙◌, arith, nat_tests, slice_get_past, get_or_from_slice_get, map-set_same, length-set, Key}
-use Rattle.slotmap_core.proofs.Common.{IsKey, key_cmp, last_version, Live, Vacant, Retired, live, live_value, slice_get-set_other, key, get-live, get-live_at}
-use Rattle.slotmap_core.proofs.Common.{len-live-set, total, live_at, not_first, IsStacked-kept, IsStacked-freed, content-written, same_read}
-use Rattle.slotmap_hop.specs.Slots.{Slot, State, Occupied}
-use Rattle.slotmap_hop.specs.Links.{blocks_of, HasBlockList}
-use Rattle.slotmap_hop.specs.HopContent.{hop_with_value}
-use Rattle.slotmap_hop.specs.Slots.{version_in, links_in, place_in, all_links, places_of, value_in, value_at, CanFree, next_place, offer_at, hop_content, IsSound}
-use Rattle.slotmap_hop.proofs.SlotReads.{length-all_links, length-places, slot_cases, places_written}
-use Rattle.slotmap_hop.proofs.Growth.{IsSound-set}
+use Rattle.std.proofs.Common.{◌≡◌, ◌≢◌, ◌+◌, ◌-◌, ◌^◌, ◌<◌, ◌≤◌, ◌==◌, ◌∷◌, is_some, subst, ◌∙◌, arith, option_and_then, length, slice_get, get_or}
+use Rattle.std.proofs.Common.{sym, ap, ℕ, true, false, List, set, Some, None}
+use Rattle.slotmap_core.proofs.Common.{slice_get_past, get_or_from_slice_get, map-set_same, last_version, slice_get-set_other, get-live, len-live-set, IsStacked-kept, IsStacked-freed, content-written}
+use Rattle.slotmap_core.proofs.Common.{nat_tests, length-set, Key, IsKey, key_cmp, Live, Vacant, Retired, live, live_value, key, get-live_at, total, live_at, not_first, same_read}
+use Rattle.slotmap_hop.specs.Slots.{Slot, State, Occupied, version_in, links_in, place_in, all_links, places_of, value_in, value_at, CanFree, next_place, offer_at, hop_content, IsSound}
+use Rattle.slotmap_hop.specs.{Links.blocks_of, Links.HasBlockList, HopContent.hop_with_value}
 use Rattle.slotmap_hop.proofs.SlotLemmas.{key_is, vacant_slot, place_not_vacant, slots_fit, back_vacant, in_order, ordered_map}
+use Rattle.slotmap_hop.proofs.{SlotReads.length-all_links, SlotReads.length-places, SlotReads.slot_cases, SlotReads.places_written, Growth.IsSound-set}
 
 -- the slot of a live place
 live_slot : {V : Type 0} (slots : List (Slot V)) (i v : ℕ) (x : V) → slice_get (places_of slots) i ≡ Some (Live v x)

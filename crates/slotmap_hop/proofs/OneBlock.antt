@@ -1,19 +1,13 @@
 -- All slots are made vacant at once: then the sentinel's block is the only one.
-use Rattle.std.proofs.Common.{◌≡◌, ◌+◌, ◌-◌, ◌%◌, ◌<◌, ◌≤◌, ◌^◌, ◌∷◌, ◌++◌, take, drop, get_or, max, Option, Some, ℕ, zero, suc, true, false, List, [], length, map, set, slice_get}
-use Rattle.std.proofs.Common.{refl, sym, ap, ◌∙◌, inl, inr, arith}
-use Rattle.std.proofs.lemmas.List.{take_more, take_more_set, drop-set-lt, get_or-drop}
-use Rattle.std.proofs.lemmas.Grind.{drop_more_same}
-use Rattle.std.proofs.lemmas.Option.{slice_get_within}
-use Rattle.slotmap_core.proofs.Common.{map-append, nat_tests, cases_Bool, length-map, length-set, last_version, Place, Live, Vacant, Detached, Retired}
+use Rattle.std.proofs.Common.{◌≡◌, ◌+◌, ◌-◌, ◌%◌, ◌<◌, ◌≤◌, ◌^◌, ◌∷◌, ◌++◌, take, drop, get_or, max, Option, Some, false, length, slice_get, ◌∙◌, arith}
+use Rattle.std.proofs.Common.{ℕ, zero, suc, true, List, [], map, set, refl, sym, ap, inl, inr}
+use Rattle.std.proofs.{lemmas.List.take_more, lemmas.List.take_more_set, lemmas.List.drop-set-lt, lemmas.List.get_or-drop, lemmas.Grind.drop_more_same, lemmas.Option.slice_get_within}
+use Rattle.slotmap_core.proofs.Common.{map-append, nat_tests, cases_Bool, length-map, length-set, last_version, Place, Live, Vacant, Detached, Retired, common_steps}
 use Rattle.slotmap_hop.specs.Blocks.{IsBlock}
-use Rattle.slotmap_hop.specs.Links.{is_front, vacant_at, links_at, next_at, prev_at, end_at, next_in, end_in, fronts_of, blocks_of}
-use Rattle.slotmap_hop.specs.Links.{NamesApart, ListsOnce, HasBlockList}
+use Rattle.slotmap_hop.specs.Links.{is_front, vacant_at, links_at, next_at, prev_at, end_at, next_in, end_in, fronts_of, blocks_of, NamesApart, ListsOnce, HasBlockList}
 use Rattle.slotmap_hop.specs.Slots.{Links, Single, Front, Back, Slot, SingleState, Empty, version_in, place_in, all_links, places_of, AllGoOn, CanEmpty, emptied}
-use Rattle.slotmap_hop.proofs.Chain.{occurs-head}
-use Rattle.slotmap_hop.proofs.BlockLemmas.{IsBlock-unique}
 use Rattle.slotmap_hop.proofs.Writes.{within, flag_read, links_here, links_other, vacancy_kept, apart_set}
-use Rattle.slotmap_hop.proofs.Circle.{shown, block_at, is_linked}
-use Rattle.slotmap_hop.proofs.SlotReads.{slot_cases, length-all_links}
+use Rattle.slotmap_hop.proofs.{Chain.occurs-head, BlockLemmas.IsBlock-unique, Circle.shown, Circle.block_at, Circle.is_linked, SlotReads.slot_cases, SlotReads.length-all_links}
 
 -- the version before, where 0 is after the last one
 abbrev pub before : ℕ → ℕ
@@ -141,8 +135,7 @@ module _ {V : Type 0} where
   named_is slots new some is = rw (is, links_emptied slots 0 some, length-map slots emptied) refl
 
   pub back_vacant_still : (slots new : List (Slot V)) (l : Links) → 0 < length slots → new ≡ map emptied slots → vacant_at (set (all_links new) 0 (Some l)) (length new - 1) ≡ true
-  back_vacant_still slots new l some is =
-      rw (is, length-map slots emptied, vacancy_kept (all_links (map emptied slots)) 0 l (flags_emptied slots 0 some)) (flags_emptied slots (length slots - 1) (omega (arith, some)))
+  back_vacant_still slots new l some is = grind (arith, common_steps, length-map, vacancy_kept, flags_emptied)
 
   -- the slots before an index are vacant, the others as they were
   pub record VacantBefore (old now : List (Slot V)) (i : ℕ) : Type 0 where
@@ -178,8 +171,7 @@ module _ {V : Type 0} where
   emptied_place Retired = Retired
 
   place_emptied : (slots : List (Slot V)) → CanEmpty slots → (i : ℕ) (s : Slot V) → slice_get slots i ≡ Some s → place_in (emptied s) ≡ emptied_place (place_in s)
-  place_emptied slots can i s found =
-      grind (arith, slot_cases slots i, can.sound.stacked.versions i (place_in s), can.sound.none_detached i (version_in s), can.sound.stacked.sentinel, can.go_on i s)
+  place_emptied slots can i s found = grind (arith, slot_cases slots i, can.sound.stacked.versions i (place_in s), can.sound.none_detached i (version_in s), can.sound.stacked.sentinel, can.go_on i s)
 
   places_by : (slots : List (Slot V)) → ((i : ℕ) (s : Slot V) → slice_get slots i ≡ Some s → place_in (emptied s) ≡ emptied_place (place_in s))
       → places_of (map emptied slots) ≡ map emptied_place (places_of slots)
@@ -215,6 +207,4 @@ module _ {V : Type 0} where
   at_most_on slots end greatest t so_far there fits i s positive inside found = grind (arith, so_far i s positive)
 
   pub all_go : (slots : List (Slot V)) (end greatest : ℕ) → AtMost slots end greatest → length slots ≤ end → greatest < 4294967294 → AllGoOn slots
-  all_go slots end greatest so_far past below i s positive found =
-      let at = so_far i s positive (omega (arith, past, slice_get_within slots i s found)) found in
-      goes_on (version_in s) greatest at.0 at.1 below
+  all_go slots end greatest so_far past below i s positive found = grind (arith, common_steps, past, slice_get_within, goes_on)

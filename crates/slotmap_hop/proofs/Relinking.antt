@@ -1,16 +1,13 @@
 -- A live slot can be freed: there are slots that are right after it.
 use Rattle.std.proofs.Common.{◌≡◌, ◌≢◌, ◌+◌, ◌-◌, ◌∷◌, Option, Some, None, ℕ, true, false, List, [], map, set, slice_get, refl, sym, ap, subst, ◌∙◌, inl, inr, arith}
-use Rattle.slotmap_core.proofs.Common.{cases_Bool, map-set, last_version, Live}
+use Rattle.slotmap_core.proofs.Common.{cases_Bool, map-set, last_version, Live, common_steps}
 use Rattle.slotmap_hop.specs.Blocks.{vacated}
-use Rattle.slotmap_hop.specs.Links.{is_vacant, has_next, has_prev, next_in, prev_in, without_links, vacant_at, links_at, next_at, held_at, prev_at, end_at}
-use Rattle.slotmap_hop.specs.Links.{blocks_of, Redirects, KeepsEnds, SetsNext, SetsPrev, HasBlocks, CanVacate, IsHead}
-use Rattle.slotmap_hop.specs.Slots.{Links, Single, Front, Back, Slot, SingleState, FrontState, BackState, Empty}
-use Rattle.slotmap_hop.specs.Slots.{links_in, place_in, all_links, places_of, Frees, IsSound}
-use Rattle.slotmap_hop.proofs.Writes.{flag_read, leads_vacant, within, vacancy_kept, flags_kept, ends_kept, leads_kept, SetsNext-write, SetsPrev-write}
-use Rattle.slotmap_hop.proofs.Writes.{keeps_both, nexts_both, prev_both, prevs_both}
+use Rattle.slotmap_hop.specs.Links.{is_vacant, has_next, has_prev, next_in, prev_in, without_links, vacant_at, links_at, blocks_of, Redirects, KeepsEnds, SetsNext, SetsPrev, HasBlocks, CanVacate}
+use Rattle.slotmap_hop.specs.Links.{next_at, held_at, prev_at, end_at, IsHead}
+use Rattle.slotmap_hop.specs.Slots.{Links, Single, Front, Back, Slot, SingleState, FrontState, BackState, Empty, links_in, place_in, all_links, places_of, Frees, IsSound}
+use Rattle.slotmap_hop.proofs.Writes.{flag_read, leads_vacant, within, vacancy_kept, flags_kept, ends_kept, leads_kept, SetsNext-write, SetsPrev-write, keeps_both, nexts_both, prev_both, prevs_both}
 use Rattle.slotmap_hop.proofs.Joining.{zero_head, last_is, last_leads, front_ready, back_ready, prev_is, before_leads, after_head, joins_alone, joins_after, joins_before, joins_between}
-use Rattle.slotmap_hop.proofs.SlotReads.{all_links_vacant, place_linked}
-use Rattle.slotmap_hop.proofs.LiveSlots.{can_free}
+use Rattle.slotmap_hop.proofs.{SlotReads.all_links_vacant, SlotReads.place_linked, LiveSlots.can_free}
 
 -- the same slot with another link to the block before, or to the next one
 with_prev : (s : Option Links) (to : ℕ) → has_prev s ≡ true → (t : Option Links) × (without_links t ≡ without_links s) × (next_in t ≡ next_in s) × (prev_in t ≡ to)
@@ -121,11 +118,7 @@ module _ {es : List (Option Links)} {i : ℕ} (can : CanVacate es i) where
         }
 
   can_join : CanJoin es i
-  can_join =
-      elim (cases_Bool (vacant_at es (i - 1))) [
-        | inl left ↦ elim (cases_Bool (vacant_at es (i + 1))) [ inl right ↦ joined_between right left | inr right ↦ joined_after left right ]
-        | inr left ↦ elim (cases_Bool (vacant_at es (i + 1))) [ inl right ↦ joined_before right left | inr right ↦ joined_alone left right ]
-      ]
+  can_join = grind (arith, common_steps, cases_Bool, inl, joined_between, inr, joined_after, joined_before, joined_alone)
 
 module _ {V : Type 0} where
   -- a slot with other links, if it is vacant

@@ -1,14 +1,13 @@
 -- A loop that calls a closure for each live key, by ascending index, and removes the keys that it rejects.
 use Rattle.std.specs.FinMap as map
-use Rattle.std.proofs.Common.{◌≡◌, ◌+◌, ◌∷◌, ◌++◌, ℕ, Bool, cond, true, false, List, [], append-nil, Option, Some, None, is_some, refl, sym, ap, ◌∙◌, inl}
+use Rattle.std.proofs.Common.{◌≡◌, ◌+◌, ◌∷◌, ◌++◌, arith, ℕ, Bool, cond, true, false, List, [], append-nil, Option, Some, None, is_some, refl, sym, ap, ◌∙◌, inl}
 use Rattle.slotmap_core.specs.Words.{MutBor}
-use Rattle.slotmap_core.proofs.Common.{arith, Mut, FoldsTo, FoldsTo-push, Key, key_cmp, IsLive, Removes, Visit, CallsAt, MayCome, seen, from_index}
-use Rattle.slotmap_core.proofs.Common.{from_index-start, none_live, in_from, get-remove_other, keys_total, exact_keys, in_after_remove, entries_none}
-use Rattle.slotmap_core.proofs.Common.{remove-insert, Swept-start, Visits, Visits-listed, Visits-stay, Keyed-from_start, Keyed-next, Keyed-same, Keyed-may_come}
+use Rattle.slotmap_core.proofs.Common.{FoldsTo-push, from_index-start, get-remove_other, in_after_remove, entries_none, remove-insert, Swept-start, Visits-listed, Keyed-from_start, Keyed-may_come}
+use Rattle.slotmap_core.proofs.Common.{FoldsTo, key_cmp, IsLive, Removes, Visit, CallsAt, MayCome, from_index, none_live, in_from, keys_total, exact_keys, Visits, Visits-stay, Keyed-next, Keyed-same}
+use Rattle.slotmap_core.proofs.Common.{Mut, Key, seen}
 use Rattle.slotmap_hop.specs.HopContent.{HopContent, IsHopContent, IsNextLive, IsNextPlace, HasKeyAt, StaysHop, hop_with_value, blocks_without, blocks_without_all}
 use Rattle.slotmap_hop.specs.Retain.{RetainsByIndex, dropped}
-use Rattle.slotmap_hop.proofs.BlocksLeft.{InOrder, InOrder-kept, InOrder-dropped}
-use Rattle.slotmap_hop.proofs.Sweeping.{Sweeping, same_comes, sweep_written, sweep_dropped}
+use Rattle.slotmap_hop.proofs.{BlocksLeft.InOrder, BlocksLeft.InOrder-kept, BlocksLeft.InOrder-dropped, Sweeping.Sweeping, Sweeping.same_comes, Sweeping.sweep_written, Sweeping.sweep_dropped}
 
 module _ {F K V : Type 0} (g : Mut F (K × (MutBor V × Unit {0})) (Bool × (MutBor V × Unit {0}))) (data_of : K → Key) (old : HopContent V) (f : F) where
   -- the calls so far, and the key for which the closure is called next

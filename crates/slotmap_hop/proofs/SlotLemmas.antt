@@ -1,23 +1,16 @@
 -- What sound slots hold: their blocks, their places, and the content of the map.
 use mathlib.Core.Path.{fun_ext}
+use Rattle.std.proofs.Common.{◌≡◌, ◌≢◌, ◌+◌, ◌^◌, ◌<◌, ◌≤◌, ◌==◌, ◌||◌, ◌∷◌, ◌++◌, Option, Some, refl, ap, subst, arith, cond, false, length, slice_get}
+use Rattle.std.proofs.Common.{sym, inl, ℕ, zero, suc, Bool, true, eqb, List, [], set}
+use Rattle.slotmap_core.proofs.Common.{nat_tests, length-set, IsKey, content_of_places, used_places, contains-detached, get-next_at, vacant_at as next_found, IsContent-stacked, keys_total, exact_keys}
+use Rattle.slotmap_core.proofs.Common.{key_cmp, IsContent, places, Place, Vacant, detached, next, StackMap, offer, filled, IsVersion, IsStacked, key, total}
+use Rattle.slotmap_hop.specs.Slots.{Links, Slot, version_in, all_links, places_of, next_place, offer_at, holding, hop_content, IsSound}
+use Rattle.slotmap_hop.specs.Links.{list_without, is_front, ListsOnce, vacant_at, next_at, end_at, fronts_of, blocks_of, IsLinked}
+use Rattle.slotmap_hop.specs.{Blocks.HasMaximalBlocks, HopContent.IsHopContent, HopContent.counts_vacant}
+use Rattle.slotmap_hop.proofs.{FrontsLemmas.listed_positive, SlotReads.length-all_links, SlotReads.length-places, SlotReads.slot_cases, StackOrder.IsStacked-first, StackOrder.IsContent-untold}
+use Rattle.slotmap_hop.proofs.{StackOrder.untold, Chain.occurs-head, Circle.shown, Taking.first_block, Taking.offer_is_end, Taking.offer_is_back, Maximal.maximal}
 use Rattle.std.specs.FinMap as map
 use Rattle.std.specs.FinSet as set
-use Rattle.std.proofs.Common.{◌≡◌, ◌≢◌, ◌+◌, ◌^◌, ◌<◌, ◌≤◌, ◌==◌, ◌||◌, ◌∷◌, ◌++◌, inl, ℕ, zero, suc, Bool, true}
-use Rattle.std.proofs.Common.{false, eqb, List, [], length, set, slice_get}
-use Rattle.slotmap_core.proofs.Common.{Option, Some, refl, sym, ap, subst, arith, cond, nat_tests, length-set, IsKey, key_cmp, IsContent, places, Place, Vacant}
-use Rattle.slotmap_core.proofs.Common.{detached, next, StackMap, content_of_places, offer, used_places, filled, IsVersion, IsStacked, key, contains-detached}
-use Rattle.slotmap_core.proofs.Common.{get-next_at, vacant_at as next_found, total, IsContent-stacked, keys_total, exact_keys}
-use Rattle.slotmap_hop.specs.Slots.{Links, Slot, version_in, all_links, places_of, next_place, offer_at, holding, hop_content, IsSound}
-use Rattle.slotmap_hop.specs.Blocks.{HasMaximalBlocks}
-use Rattle.slotmap_hop.specs.Links.{list_without, is_front, ListsOnce, vacant_at, next_at, end_at, fronts_of, blocks_of, IsLinked}
-use Rattle.slotmap_hop.specs.HopContent.{IsHopContent, counts_vacant}
-use Rattle.slotmap_hop.proofs.Chain.{occurs-head}
-use Rattle.slotmap_hop.proofs.FrontsLemmas.{listed_positive}
-use Rattle.slotmap_hop.proofs.Circle.{shown}
-use Rattle.slotmap_hop.proofs.SlotReads.{length-all_links, length-places, slot_cases}
-use Rattle.slotmap_hop.proofs.Taking.{first_block, offer_is_end, offer_is_back}
-use Rattle.slotmap_hop.proofs.Maximal.{maximal}
-use Rattle.slotmap_hop.proofs.StackOrder.{IsStacked-first, untold, IsContent-untold}
 
 -- setting a place doesn't change the number of slots
 pub same_length : {V : Type 0} (slots new : List (Slot V)) (i : ℕ) (p : Place V) → places_of new ≡ set (places_of slots) i p → length new ≡ length slots
@@ -37,8 +30,7 @@ only_zero v next listed (suc i) here = grind (arith, listed (suc i), only_zero v
 none_vacant : (es : List (Option Links)) (fs : List ℕ) → IsLinked es fs → end_at es (next_at es 0) ≡ 0 → (i : ℕ) → vacant_at es i ≡ true → i ≡ 0
 none_vacant es (x ∷ fs) linked none i here =
     absurd (omega (arith, (first_block es (x ∷ fs) linked).ordered, (shown linked).chain.0, listed_positive (shown linked) x (omega (arith, occurs-head x fs))))
-none_vacant es [] linked none i here =
-    only_zero (vacant_at es) (subst (λ b. vacant_at es (b + 1) ≡ false) none (first_block es [] linked).ends) (shown linked).listed i here
+none_vacant es [] linked none i here = only_zero (vacant_at es) (subst (λ b. vacant_at es (b + 1) ≡ false) none (first_block es [] linked).ends) (shown linked).listed i here
 
 -- slots as links and as places
 

@@ -1,7 +1,7 @@
 -- What a call that changes one slot leaves. It allocates nothing.
-use Rattle.std.proofs.Common.{◌≡◌, ◌≢◌, ◌+◌, ◌-◌, ◌<◌, ◌≤◌, ◌^◌, ◌%◌, ◌∷◌, ◌++◌, ℕ, true, false, List, [], length, set, Some, refl, arith}
-use Rattle.slotmap_core.proofs.Common.{Key, Content, IsLive, IsDetached, last_version, Inserts, Removes, Detaches, Reattaches, StaysValid, content_of_places}
-use Rattle.slotmap_core.proofs.Common.{nat_eq, length-set, length_push, same_Some, sym, ◌∙◌}
+use Rattle.std.proofs.Common.{◌≡◌, ◌≢◌, ◌+◌, ◌-◌, ◌<◌, ◌≤◌, ◌^◌, ◌%◌, ◌∷◌, ◌++◌, ◌∙◌, nat_eq, sym, true, false, List, length, Some, refl, arith}
+use Rattle.std.proofs.Common.{ℕ, [], set}
+use Rattle.slotmap_core.proofs.Common.{Content, IsLive, IsDetached, last_version, Inserts, Removes, Detaches, Reattaches, StaysValid, content_of_places, length-set, length_push, same_Some, Key}
 use Rattle.slotmap_slots.specs.Slot.{Slot, full, empty, Free, Detached, Retired, version_at, next_at, IsSound, vacancies, IsSettled, map_of}
 use Rattle.slotmap_slots.proofs.SlotLemmas.{Present, used_places-slots, freed, removes-freed, retired, removes-retired, detached, detaches-slots, reattached, reattaches-slots}
 use Rattle.slotmap_slots.proofs.SlotGrowth.{IsSound-pushed, inserts-pushed, none_free, some_free, top, top_read, top_next, filled_top, inserts-filled}

@@ -1,10 +1,9 @@
 -- The slots that a list is read into, and the list that they are written as.
 use Rattle.std.specs.FinMap as map
 use Rattle.std.proofs.Common.{◌≡◌, ◌≢◌, ◌+◌, ◌^◌, ◌<◌, ◌≤◌, ◌∷◌, ◌++◌, ℕ, cond, List, [], length, take, slice_get, None, Some, option_map, is_some, refl, sym}
-use Rattle.slotmap_core.proofs.Common.{IsCloneOf, vacant_slot, place_of_record, start_places, start_stack, live, live_entry, IsConsistent, Accepts, AllFitBelow}
-use Rattle.slotmap_core.proofs.Common.{IsStacked, IsRecordClone, AreRecordClones, record_of, records_of, ap, subst, ◌∙◌, arith, nat_tests, common_steps}
-use Rattle.slotmap_core.proofs.Common.{length_push, length-map, map_push, take_all, slice_get-map, slot_vacant, slice_get_push, zip_next, len-live-push, odd_of}
-use Rattle.slotmap_core.proofs.Common.{even_where, vacant_place, start_places-push, start_stack-push, IsStacked-start_places}
+use Rattle.slotmap_core.proofs.Common.{place_of_record, live, IsRecordClone, AreRecordClones, slice_get-map, slice_get_push, len-live-push, start_places-push, start_stack-push, IsStacked-start_places}
+use Rattle.slotmap_core.proofs.Common.{vacant_slot, start_places, start_stack, live_entry, IsConsistent, AllFitBelow, records_of, ap, common_steps, length_push, length-map, slot_vacant, vacant_place}
+use Rattle.slotmap_core.proofs.Common.{IsCloneOf, Accepts, IsStacked, record_of, subst, ◌∙◌, arith, nat_tests, map_push, take_all, zip_next, odd_of, even_where}
 use Rattle.slotmap_core.specs.declared.serial.SlotRecord.{SlotRecord}
 use Rattle.slotmap_slots.specs.Slot.{Slot, full, empty, version_at, payload_at, place_of, places_of, free_indices, IsFreeList, IsSlot, IsSound, Free, Retired}
 use Rattle.slotmap_slots.proofs.SlotLemmas.{slot_at, IsSlot-full, IsSlot-empty, IsFreeList-push, free_indices-stack}

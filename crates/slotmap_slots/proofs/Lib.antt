@@ -4,3 +4,4 @@ mod SlotClones
 pub mod SettledLemmas
 mod FromListLemmas
 mod ChangeLemmas
+mod Common

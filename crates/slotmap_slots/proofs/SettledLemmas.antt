@@ -2,9 +2,9 @@
 -- For this crate and for the layouts of the maps.
 use Rattle.std.specs.FinMap as map
 use Rattle.std.specs.FinSet as set
-use Rattle.std.proofs.Common.{◌≡◌, ◌≢◌, ◌+◌, ◌-◌, ◌<◌, ◌≤◌, ◌^◌, ◌∷◌, ◌++◌, ℕ, zero, suc, true, List, [], length, set, slice_get, Some, refl, sym}
-use Rattle.slotmap_core.proofs.Common.{Key, Content, IsContent, IsLive, IsDetached, places, used, most, MakesRoom, StaysValid, content_of_places, used_places}
-use Rattle.slotmap_core.proofs.Common.{ap, subst, ◌∙◌, arith, length-set, length_push, keeps}
+use Rattle.std.proofs.Common.{◌≡◌, ◌≢◌, ◌+◌, ◌-◌, ◌<◌, ◌≤◌, ◌^◌, ◌∷◌, ◌++◌, subst, ◌∙◌, arith, ℕ, zero, true, List, length, slice_get, Some, refl}
+use Rattle.std.proofs.Common.{ap, suc, [], set, sym}
+use Rattle.slotmap_core.proofs.Common.{Content, IsContent, IsLive, IsDetached, places, MakesRoom, StaysValid, content_of_places, used_places, length-set, length_push, keeps, Key, used, most}
 use Rattle.slotmap_slots.specs.Slot.{Slot, full, payload_at, with_payload, places_of, IsSound, vacancies, IsSettled, map_of}
 use Rattle.slotmap_slots.proofs.SlotLemmas.{Present, present, count_positive, rewritten, reattached, with_payload-is, valid, slots_fit, used_places-slots, free_below}
 use Rattle.slotmap_slots.proofs.SlotGrowth.{PresentDetached, present_detached, some_free}
@@ -51,8 +51,7 @@ module _ {P : Type 0} {slots : List (Slot P)} {fits head aside used_count : ℕ}
 
   -- if a place is vacant, or one more slot fits, there is room
   pub settled_reuses : head ≢ 0 → 0 < now.room
-  settled_reuses other =
-      grind (arith, some_free settled.sound other, used_places-slots settled.sound, settled_fits)
+  settled_reuses other = grind (arith, some_free settled.sound other, used_places-slots settled.sound, settled_fits)
 
   pub settled_spare : fits < 2 ^ 32 → length slots < fits → 0 < now.room
   settled_spare limit spare = omega (arith, ap (λ c. c.room) (sym view), used_places-slots settled.sound)
@@ -62,8 +61,7 @@ pub settled_stays : {P : Type 0} (slots : List (Slot P)) (fits head aside used_c
     → content_of_places (map_of slots head (vacancies slots used_count) (fits - 1)) ≡ now
     → (slots2 : List (Slot P)) (fits2 head2 aside2 used_count2 : ℕ) → IsSettled slots2 fits2 head2 aside2 used_count2 → fits2 ≡ fits
     → StaysValid true now (content_of_places (map_of slots2 head2 (vacancies slots2 used_count2) (fits2 - 1)))
-settled_stays slots fits head aside used_count settled view slots2 fits2 head2 aside2 used_count2 after same =
-    grind (arith, settled_valid settled view, settled_valid after refl)
+settled_stays slots fits head aside used_count settled view slots2 fits2 head2 aside2 used_count2 after same = grind (arith, settled_valid settled view, settled_valid after refl)
 
 -- how many slots are free once one is added
 pub vacancies-push : {P : Type 0} (slots : List (Slot P)) (s : Slot P) (free used_count : ℕ) → used_count + free ≡ length slots → vacancies (slots ++ s ∷ []) used_count ≡ free

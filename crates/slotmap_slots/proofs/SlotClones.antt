@@ -1,9 +1,8 @@
 -- Slots with clones of the payloads of others: they are as sound, and hold clones of what those hold.
 use Rattle.std.specs.FinMap as map
 use Rattle.std.proofs.Common.{◌≡◌, ◌+◌, ◌-◌, ◌≤◌, ◌∷◌, ℕ, List, [], length, Some, refl, sym, ap, ◌∙◌, arith}
-use Rattle.slotmap_core.proofs.Common.{Content, IsCloneBy, IsPlaceClone, ArePlaceClones, live, content_of_places, keys_total, exact_keys}
-use Rattle.slotmap_core.proofs.Common.{mapped, zip_length, zip_left, zip_right, same_len, clone_is_some, live-clones, IsStacked-clones}
-use Rattle.slotmap_core.proofs.Common.{content-clones}
+use Rattle.slotmap_core.proofs.Common.{IsCloneBy, IsPlaceClone, ArePlaceClones, content_of_places, keys_total, exact_keys, zip_length, clone_is_some, live-clones, IsStacked-clones, content-clones}
+use Rattle.slotmap_core.proofs.Common.{Content, live, mapped, zip_left, zip_right, same_len}
 use Rattle.slotmap_slots.specs.Slot.{Slot, Use, usage_at, place_of, places_of, free_indices, IsFreeList, IsSlot, IsSound, IsSlotClone, AreSlotClones, IsSettled, vacancies, map_of}
 use Rattle.slotmap_slots.proofs.SlotLemmas.{free_indices-stack, stacked_free}
 
@@ -50,8 +49,7 @@ module _ {P : Type 0} (is_clone : P → P → Type 0) (ss ts : List (Slot P)) (a
     free_indices-clones = free_indices-stack IsSound-clones ∙ sym (free_indices-stack sound)
 
     content_of-clones : (c d : ℕ) → IsCloneBy is_clone (content_of_places (map_of ss head free c)) (content_of_places (map_of ts head free d))
-    content_of-clones c d =
-        rw free_indices-clones (content-clones is_clone (places_of ss) (places_of ts) (places-clones is_clone ss ts all) (free_indices ss free head) (stacked_free sound) c d)
+    content_of-clones c d = rw free_indices-clones (content-clones is_clone (places_of ss) (places_of ts) (places-clones is_clone ss ts all) (free_indices ss free head) (stacked_free sound) c d)
 
   module _ (fits head aside used_count : ℕ) (settled : IsSettled ss fits head aside used_count) where
     same_vacancies : vacancies ts used_count ≡ vacancies ss used_count

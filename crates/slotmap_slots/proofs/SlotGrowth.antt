@@ -1,14 +1,12 @@
 -- How an insert fills a slot or adds one, and what a look-up of a detached key reads.
 use Rattle.std.specs.FinMap as map
 use Rattle.std.specs.FinSet as set
-use Rattle.std.proofs.Common.{◌==◌, ◌≡◌, ◌≢◌, ◌+◌, ◌-◌, ◌^◌, ◌<◌, ◌∷◌, ◌++◌, ◌↔◌}
-use Rattle.std.proofs.Common.{⊎_elim, Bool, IsTrue, true, false, ℕ, List, [], length, set, slice_get, Some, None, refl}
-use Rattle.slotmap_core.proofs.Common.{Key, most, Inserts, Live, Detached as DetachedPlace, Vacant, live, detached, content_of_places, offer, vacant_version}
-use Rattle.slotmap_core.proofs.Common.{used_places, inserted, IsOn, IsVersion, IsStacked, option_map, option_and_then, sym, ap, subst, ◌∙◌, inl, arith, inserts}
-use Rattle.slotmap_core.proofs.Common.{eq-zero-or-pos, length-map, map_push, slice_get_within, same_Some, found_within, mapped, false_of, at_push, key}
-use Rattle.slotmap_core.proofs.Common.{contains-detached, len-live-push, eq-eqb, kept_at, IsStacked-filled, IsStacked-pushed, IsStacked-sentinel, live-sentinel}
-use Rattle.slotmap_slots.specs.Slot.{Slot, full, empty, version_at, usage_at, next_at, next_of, version_before, place_of, places_of, free_indices, IsFreeList, IsSlot, IsSound, map_of}
-use Rattle.slotmap_slots.specs.Slot.{Free, Detached}
+use Rattle.std.proofs.Common.{◌==◌, ◌≡◌, ◌≢◌, ◌+◌, ◌-◌, ◌^◌, ◌<◌, ◌∷◌, ◌++◌, ◌↔◌, IsTrue, option_and_then, option_map, ◌∙◌, ⊎_elim, slice_get}
+use Rattle.std.proofs.Common.{sym, ap, subst, inl, arith, eq-eqb, Bool, true, false, List, length, Some, ℕ, [], set, None, refl}
+use Rattle.slotmap_core.proofs.Common.{Detached as DetachedPlace, content_of_places, slice_get_within, contains-detached, IsStacked-filled, IsStacked-pushed, IsStacked-sentinel, vacant_version, offer}
+use Rattle.slotmap_core.proofs.Common.{used_places, IsVersion, IsStacked, eq-zero-or-pos, length-map, same_Some, found_within, len-live-push, live-sentinel, detached, inserted, map_push, false_of}
+use Rattle.slotmap_core.proofs.Common.{most, Key, Inserts, Live, Vacant, live, IsOn, inserts, mapped, at_push, key, kept_at}
+use Rattle.slotmap_slots.specs.Slot.{Slot, full, empty, version_at, usage_at, next_at, next_of, version_before, place_of, places_of, free_indices, IsFreeList, IsSlot, IsSound, map_of, Free, Detached}
 use Rattle.slotmap_slots.proofs.SlotLemmas.{Written, slot_at, is_empty, IsSlot-full, place_at, IsFreeList-push, IsFreeList-set, free_indices-stack, stacked_free, written}
 
 module _ {P : Type 0} where
@@ -146,9 +144,8 @@ module _ {P : Type 0} {slots : List (Slot P)} {head free count : ℕ} (sound : I
       grind (arith, contains-detached (places_of slots) k, place_at slots k.index (slot_at slots k.index u found).0 (slot_at slots k.index u found).1, slot_at slots k.index u found)
 
   pub detached-stale : (u : ℕ) → version_at slots k.index ≡ Some u → version_before u ≢ k.version → set.contains (detached (places_of slots)) k ≡ false
-  detached-stale u found other = false_of _ (λ holds.
-      let there = present_detached holds in
-      other (ap version_before (same_Some _ _ (sym found ∙ ap (option_map (λ s. s.version)) there.there)) ∙ there.before))
+  detached-stale u found other =
+      false_of _ (λ holds. let there = present_detached holds in other (ap version_before (same_Some _ _ (sym found ∙ ap (option_map (λ s. s.version)) there.there)) ∙ there.before))
 
   pub detached-at : (u : ℕ) → version_at slots k.index ≡ Some u → version_before u ≡ k.version
       → (r : Bool) → IsTrue r ↔ usage_at slots k.index ≡ Some Detached → r ≡ set.contains (detached (places_of slots)) k

@@ -1,17 +1,15 @@
 -- How each change of one slot keeps the slots sound, and what the places become.
 -- For this crate and for the layouts of the maps.
 use Rattle.std.specs.FinMap as map
-use Rattle.std.proofs.Common.{◌==◌, ◌≡◌, ◌≢◌, ◌+◌, ◌-◌, ◌^◌, ◌<◌, ◌≤◌, ◌%◌, ◌∷◌, ◌++◌}
-use Rattle.std.proofs.Common.{⊎_elim, true, false, cond, is_some, eqb-true, eq-eqb, ℕ, zero, suc, List}
+use Rattle.std.proofs.Common.{◌==◌, ◌≡◌, ◌≢◌, ◌+◌, ◌-◌, ◌^◌, ◌<◌, ◌≤◌, ◌%◌, ◌∷◌, ◌++◌, slice_get, option_map, ◌∙◌, length, ⊎_elim, eqb-true}
+use Rattle.std.proofs.Common.{Option, subst, arith, nat_eq, [], set, Some, None, refl, sym, ap, inr, true, false, cond, is_some, eq-eqb, zero, ℕ, suc, List}
 use Rattle.slotmap_core.specs.Words.{removed}
-use Rattle.slotmap_core.proofs.Common.{Key, IsKey, last_version, IsContent, with_value, Removes, Detaches, Reattaches, Live, Detached as DetachedPlace, Vacant}
-use Rattle.slotmap_core.proofs.Common.{Retired as RetiredPlace, live, live_entry, content_of_places, used_places, IsOn, IsVersion, HasVersion, IsStacked, []}
-use Rattle.slotmap_core.proofs.Common.{length, set, slice_get, Option, Some, None, option_map, refl, sym, ap, subst, ◌∙◌, inr, arith, nat_eq, slice_get_within}
-use Rattle.slotmap_core.proofs.Common.{slice_get-map, same_Some, length-map, map-set, found_within, mapped, none_from, same_bool, false_of, at_set}
-use Rattle.slotmap_core.proofs.Common.{slice_get-set_same, slice_get-set_other, slice_get_push_other, key, get-live_at, len-live-set, total, some_is, live_at}
-use Rattle.slotmap_core.proofs.Common.{IsContent-stacked, not_on, IsStacked-kept, IsStacked-freed, content-written, removes, detaches, reattaches}
-use Rattle.slotmap_slots.specs.Slot.{Slot, FitsEmpty, full, empty, version_at, usage_at, payload_at, with_payload, version_before, place_of, places_of, Use}
-use Rattle.slotmap_slots.specs.Slot.{next_named, free_indices, IsFreeList, IsSlot, IsSound, map_of, InUse, Free, Detached, Retired}
+use Rattle.slotmap_core.proofs.Common.{Removes, Detached as DetachedPlace, Retired as RetiredPlace, content_of_places, slice_get-set_same, slice_get-set_other, slice_get_push_other, IsContent-stacked}
+use Rattle.slotmap_core.proofs.Common.{last_version, Detaches, common_steps, used_places, slice_get_within, slice_get-map, found_within, len-live-set, IsStacked-kept, IsStacked-freed, content-written}
+use Rattle.slotmap_core.proofs.Common.{IsContent, with_value, Reattaches, live_entry, IsVersion, HasVersion, IsStacked, length-map, false_of, get-live_at, reattaches, same_Some, none_from, same_bool}
+use Rattle.slotmap_core.proofs.Common.{IsKey, Live, Vacant, map-set, mapped, at_set, some_is, live_at, not_on, removes, detaches, Key, live, IsOn, key, total}
+use Rattle.slotmap_slots.specs.Slot.{Slot, FitsEmpty, version_at, usage_at, payload_at, with_payload, version_before, place_of, places_of, free_indices, IsFreeList, IsSlot, IsSound, Detached, Retired}
+use Rattle.slotmap_slots.specs.Slot.{full, empty, Use, map_of, InUse, Free}
 
 -- what an empty slot can have
 pub FitsEmpty-free : (v next : ℕ) → v % 2 ≡ 0 → next < 2 ^ 32 - 1 → (v ≡ 0 → next ≡ 0) → FitsEmpty v (Free next)
@@ -70,8 +68,7 @@ module _ {P : Type 0} where
   -- iterating over a free list yields its indices
   free_indices-is : (slots : List (Slot P)) (is : List ℕ) (head : ℕ) → IsFreeList slots is head → free_indices slots (length is) head ≡ is
   free_indices-is slots [] head linked = refl
-  free_indices-is slots (j ∷ js) head linked =
-      rw linked.0 (ap (λ ks. j ∷ ks) (ap (λ l. free_indices slots (length js) (next_named l)) linked.1.1 ∙ free_indices-is slots js linked.1.0 linked.1.2))
+  free_indices-is slots (j ∷ js) head linked = grind (arith, common_steps, free_indices-is slots js linked.1.0 linked.1.2)
 
 -- the slots are sound once another one is written at an index, and the map has another place and this stack
 pub record Written {P : Type 0} (slots : List (Slot P)) (i : ℕ) (t : Slot P) (vacant : List ℕ) (head free count : ℕ) : Type 0 where
@@ -235,9 +232,7 @@ module _ {P : Type 0} {slots : List (Slot P)} {head free count : ℕ} (sound : I
     rewritten w = kept i (full v x) at (λ n e. absurd (cc)) (full v w) count (IsSlot-full v w version_is.1) (λ n e. absurd (cc)) version_is (λ n is. omega arith)
 
     pub content-rewritten : (w : P) (c : ℕ) → content_of_places (map_of (with_payload slots i w) head free c) ≡ with_value (content_of_places (map_of slots head free c)) (key i v) w
-    content-rewritten w c =
-        ap (λ ss. content_of_places (map_of ss head free c)) (with_payload-is w) ∙ ap content_of_places ((rewritten w).map_is c)
-        ∙ content-written (map_of slots head free c) stacked_free (key i v) x found_live w
+    content-rewritten w c = grind (arith, common_steps, with_payload-is w, (rewritten w).map_is c, content-written (map_of slots head free c) stacked_free (key i v) x found_live w)
 
     -- the payload is taken out, and the place is kept
     before_after : version_before ((v + 1) % 2 ^ 32) ≡ v
@@ -250,8 +245,7 @@ module _ {P : Type 0} {slots : List (Slot P)} {head free count : ℕ} (sound : I
         (λ n e. absurd (cc)) (subst IsVersion (sym before_after) version_is) (λ n is. omega arith)
 
     pub detaches-slots : (c : ℕ) → Detaches (content_of_places (map_of slots head free c)) (key i v) (content_of_places (map_of (set slots i (empty ((v + 1) % 2 ^ 32) Detached)) head free c))
-    detaches-slots c =
-        grind (arith, key i v, detached.map_is c, detaches (map_of slots head free c) stacked_free (key i v) x found_live, before_after, stacked_free, found_live)
+    detaches-slots c = grind (arith, key i v, detached.map_is c, detaches (map_of slots head free c) stacked_free (key i v) x found_live, before_after, stacked_free, found_live)
 
   -- a detached key is bound to a payload again
   module _ (i u v : ℕ) (at : slice_get slots i ≡ Some (empty u Detached)) (of : version_before u ≡ v) where

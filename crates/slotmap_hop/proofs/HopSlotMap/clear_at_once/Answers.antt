@@ -1,9 +1,6 @@
-use Rattle.std.proofs.Common.{◌≡◌, ◌-◌, ◌≤◌, ◌+◌, length, vec_capacity, sym, subst, ◌∙◌, arith}
-use Rattle.slotmap_core.proofs.Common.{with_items, with_items_is}
-use Rattle.slotmap_hop.specs.Slots.{AllGoOn, CanEmpty, EmptiesAll}
-use Rattle.slotmap_hop.proofs.SlotLemmas.{taken_slots, slots_fit}
-use Rattle.slotmap_hop.proofs.Emptying.{sound_emptied, size_emptied, clears}
-use Rattle.slotmap_hop.proofs.HopSlotMap.clear_at_once.Goals.{After-make_one_block}
+use Rattle.slotmap_hop.proofs.Common.{◌≡◌, ◌-◌, ◌≤◌, ◌+◌, with_items, with_items_is, length, vec_capacity, subst, ◌∙◌, AllGoOn, CanEmpty, EmptiesAll, taken_slots, slots_fit}
+use Rattle.slotmap_hop.proofs.Common.{sym, arith}
+use Rattle.slotmap_hop.proofs.{Emptying.sound_emptied, Emptying.size_emptied, Emptying.clears, HopSlotMap.clear_at_once.Goals.After-make_one_block}
 use Rattle.slotmap_hop.proofs.HopSlotMap.clear_at_once.Goals as goal
 
 -- the slots could be made vacant, and were
@@ -28,9 +25,7 @@ pub overflow_add-self : goal.overflow_add-self
 overflow_add-self g c = omega (arith, taken_slots _ _ _ c.self.invariant, slots_fit _ _ _ c.self.invariant, c.self.invariant.elems_live)
 
 pub invariant_of-self : goal.invariant_of-self
-invariant_of-self g c =
-    let at = (goal.at.invariant_of-self g c).After-make_one_block in
-    rw (same g at) (sound_emptied _ _ (vec_capacity c.self.inside.slots - 1) (can g at) (holds g at) (did g at))
+invariant_of-self g c = let at = (goal.at.invariant_of-self g c).After-make_one_block in rw (same g at) (sound_emptied _ _ (vec_capacity c.self.inside.slots - 1) (can g at) (holds g at) (did g at))
 
 pub returns-clause-clears : goal.returns-clause-clears
 returns-clause-clears g c =

@@ -1,7 +1,4 @@
-use Rattle.slotmap_core.proofs.Common.{ap, arith, clone_copies}
-use Rattle.slotmap_hop.specs.Links.{blocks_of}
-use Rattle.slotmap_hop.proofs.CloneLemmas.{all_links-cloned, IsSound-cloned, has_clones}
-use Rattle.slotmap_hop.proofs.SlotLemmas.{valid}
+use Rattle.slotmap_hop.proofs.Common.{ap, arith, clone_copies, blocks_of, all_links-cloned, IsSound-cloned, has_clones, valid}
 use Rattle.slotmap_hop.proofs.HopSlotMap.clone.Goals as goal
 
 pub invariant_of-result : goal.invariant_of-result

@@ -1,4 +1,4 @@
-use Rattle.slotmap_core.proofs.Common.{loan_along, lists_along, in_order_along}
+use Rattle.slotmap_hop.proofs.Common.{loan_along, lists_along, in_order_along}
 use Rattle.slotmap_hop.specs.Drain.{hop_drain_loan, hop_drain_live, EmptiesMap, HopDrainSteps}
 use Rattle.slotmap_hop.proofs.HopSlotMap.drain.Goals as goal
 

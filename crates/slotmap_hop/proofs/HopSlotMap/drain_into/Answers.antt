@@ -1,7 +1,6 @@
 use Rattle.std.specs.FinMap as map
-use Rattle.std.proofs.Common.{◌∷◌, ◌++◌, [], map as list_map, refl, sym, ap, ◌∙◌, append_assoc, append-nil, arith}
-use Rattle.slotmap_core.proofs.Common.{map-append, keys_total, exact_keys, some_entry, len_removed, entries_none, common_steps}
-use Rattle.slotmap_hop.proofs.Sweeping.{clearing_starts, clearing_removed, clearing_ends, clearing_blocks}
+use Rattle.slotmap_hop.proofs.Common.{map-append, keys_total, exact_keys, len_removed, entries_none, common_steps, sym, append_assoc, clearing_starts, clearing_removed, clearing_ends, clearing_blocks}
+use Rattle.slotmap_hop.proofs.Common.{some_entry, [], refl, ap, ◌∙◌, append-nil, arith, ◌∷◌, ◌++◌, list_map}
 use Rattle.slotmap_hop.proofs.HopSlotMap.drain_into.Goals as goal
 
 pub loop-next-init : goal.loop-next-init

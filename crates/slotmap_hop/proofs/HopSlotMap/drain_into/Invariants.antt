@@ -1,6 +1,5 @@
 use Rattle.std.specs.FinMap as map
-use Rattle.std.proofs.Common.{◌≡◌, ◌+◌, ◌≤◌, ◌++◌, List, map as list_map, vec_len, vec_capacity}
-use Rattle.slotmap_hop.proofs.Sweeping.{Clearing, indices_left}
+use Rattle.slotmap_hop.proofs.Common.{◌≡◌, ◌+◌, ◌≤◌, ◌++◌, list_map, Clearing, indices_left, List, vec_len, vec_capacity}
 use Rattle.slotmap_hop.proofs.HopSlotMap.drain_into.Given as goal
 
 abbrev pub invariant-loop-next : goal.invariant-loop-next

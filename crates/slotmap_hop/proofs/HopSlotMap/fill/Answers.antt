@@ -1,10 +1,6 @@
-use Rattle.std.proofs.Common.{◌≡◌, ◌+◌, ap, sym, ◌∙◌, arith}
-use Rattle.slotmap_core.proofs.Common.{key, common_steps}
-use Rattle.slotmap_hop.specs.Slots.{all_links, next_place}
-use Rattle.slotmap_hop.proofs.SlotLemmas.{valid}
+use Rattle.slotmap_hop.proofs.Common.{◌≡◌, ◌+◌, common_steps, ◌∙◌, all_links, next_place, zero_leads, first_leads, read_back, at_end, well_formed, back_within, back_key, offered_back}
+use Rattle.slotmap_hop.proofs.Common.{key, ap, sym, arith, AtEnd, Filled, filled, valid}
 use Rattle.slotmap_hop.proofs.Growth.{some_offered, sound-pushed, blocks-pushed, inserts-pushed}
-use Rattle.slotmap_hop.proofs.Taking.{zero_leads, first_leads, read_back}
-use Rattle.slotmap_hop.proofs.SettledLemmas.{AtEnd, at_end, Filled, well_formed, back_within, back_key, offered_back, filled}
 use Rattle.slotmap_hop.proofs.HopSlotMap.fill.Goals.{Then-self-eq0, After-back_of-back, After-fill_back}
 use Rattle.slotmap_hop.proofs.HopSlotMap.fill.Goals as goal
 
@@ -19,9 +15,7 @@ pub exact-key-requires : goal.exact-key-requires
 exact-key-requires g c = rw (c.len.ensures, c.self.inside.slots.ok.0) (end g (goal.at.exact-key-requires g c).Then-self-eq0).is_key
 
 pub invariant_of-self : goal.invariant_of-self
-invariant_of-self g c =
-    let end = end g (goal.at.invariant_of-self g c).Then-self-eq0 in
-    rw c.push_reserved.ensures.items (sound-pushed _ _ _ c.self.invariant c.args.value end.fits end.none)
+invariant_of-self g c = let end = end g (goal.at.invariant_of-self g c).Then-self-eq0 in rw c.push_reserved.ensures.items (sound-pushed _ _ _ c.self.invariant c.args.value end.fits end.none)
 
 pub returns-then-self-eq0 : goal.returns-then-self-eq0
 returns-then-self-eq0 g c =
@@ -53,9 +47,7 @@ pub index-requires : goal.index-requires
 index-requires g c = grind (arith, common_steps, back_within)
 
 pub exact-requires : goal.exact-requires
-exact-requires g c =
-    rw c.version-version.ensures
-    (back_key c.self.inside c.self.view_is c.self.invariant c.if-self-eq0.false (back g (goal.at.exact-requires g c).After-back_of-back) c.index.ensures)
+exact-requires g c = rw c.version-version.ensures (back_key c.self.inside c.self.view_is c.self.invariant c.if-self-eq0.false (back g (goal.at.exact-requires g c).After-back_of-back) c.index.ensures)
 
 pub overflow_add-version : goal.overflow_add-version
 overflow_add-version g c =
@@ -63,8 +55,7 @@ overflow_add-version g c =
     omega (arith, is_key.version_fits, c.version-version.ensures)
 
 pub fill_back-requires-clause-positive : goal.fill_back-requires-clause-positive
-fill_back-requires-clause-positive g c =
-    omega (arith, back g (goal.at.fill_back-requires-clause-positive g c).After-back_of-back, some_offered _ _ _ c.self.invariant c.if-self-eq0.false)
+fill_back-requires-clause-positive g c = omega (arith, back g (goal.at.fill_back-requires-clause-positive g c).After-back_of-back, some_offered _ _ _ c.self.invariant c.if-self-eq0.false)
 
 filled_back : (g : _) (c : After-fill_back g) (is : c.back_of-back.result ≡ next_place c.self.inside.slots.items)
     → Filled c.self.inside c.self.view_is c.self.invariant c.if-self-eq0.false is c.index.ensures c.args.value c.fill_back.new.slots

@@ -1,10 +1,8 @@
-use Rattle.std.proofs.Common.{◌≡◌, ◌∷◌, ◌++◌, [], length, true, refl, sym, ap, subst, ◌∙◌, arith}
-use Rattle.slotmap_core.proofs.Common.{list_limit, into_iter_items, with_items_is, Accepts, AllFitBelow, reads_as, first_taken}
-use Rattle.slotmap_hop.proofs.SlotLemmas.{valid, same_length}
-use Rattle.slotmap_hop.proofs.FromListLemmas.{AreRead, AreRead-first, AreRead-vacant, AreRead-in_use, read_count, with_slot, can_open, IsSound-read, starts-read}
-use Rattle.slotmap_hop.proofs.FromListLemmas.{reading_counted, reading_all, reading_on}
-use Rattle.slotmap_hop.proofs.HopSlotMap.from_slots.Goals.{In_ok-check_slots, In-None, After-push_reserved-in-loop-slot}
+use Rattle.slotmap_hop.proofs.Common.{into_iter_items, with_items_is, AllFitBelow, first_taken, same_length, AreRead-first, AreRead-vacant, AreRead-in_use, IsSound-read, starts-read, reading_counted}
+use Rattle.slotmap_hop.proofs.Common.{list_limit, Accepts, reads_as, length, subst, ◌∙◌, arith, AreRead, read_count, with_slot, can_open, reading_all, reading_on, ◌≡◌, ◌∷◌, ◌++◌}
+use Rattle.slotmap_hop.proofs.Common.{[], true, refl, sym, ap, valid}
 use Rattle.std.proofs.lemmas.Grind.{common_steps}
+use Rattle.slotmap_hop.proofs.HopSlotMap.from_slots.Goals.{In_ok-check_slots, In-None, After-push_reserved-in-loop-slot}
 use Rattle.slotmap_hop.proofs.HopSlotMap.from_slots.Goals as goal
 
 accepted : (g : _) (c : In_ok-check_slots g) → Accepts c.args.list.items list_limit

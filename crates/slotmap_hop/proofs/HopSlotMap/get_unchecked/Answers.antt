@@ -1,6 +1,4 @@
-use Rattle.slotmap_core.proofs.Common.{refl, ap, ◌∙◌, arith}
-use Rattle.slotmap_hop.proofs.SettledLemmas.{held}
-use Rattle.slotmap_hop.proofs.LiveSlots.{Present, slot_read, read_gives}
+use Rattle.slotmap_hop.proofs.Common.{refl, ap, ◌∙◌, arith, held, Present, slot_read, read_gives}
 use Rattle.slotmap_hop.proofs.HopSlotMap.get_unchecked.Goals.{After-self}
 use Rattle.slotmap_hop.proofs.HopSlotMap.get_unchecked.Goals as goal
 

@@ -1,6 +1,4 @@
-use Rattle.slotmap_core.proofs.Common.{refl, ap, ◌∙◌, arith}
-use Rattle.slotmap_hop.proofs.SettledLemmas.{well_formed, held}
-use Rattle.slotmap_hop.proofs.LiveSlots.{Present, version_read, slot_read, read_gives, sound-rewritten, content-rewritten}
+use Rattle.slotmap_hop.proofs.Common.{refl, ap, ◌∙◌, arith, well_formed, held, Present, version_read, slot_read, read_gives, sound-rewritten, content-rewritten}
 use Rattle.slotmap_hop.proofs.HopSlotMap.get_unchecked_mut.Goals.{After-self}
 use Rattle.slotmap_hop.proofs.HopSlotMap.get_unchecked_mut.Goals as goal
 

@@ -1,5 +1,4 @@
-use Rattle.slotmap_core.proofs.Common.{arith, ltb-true, common_steps}
-use Rattle.slotmap_hop.proofs.RoomLemmas.{vacant_room, spare_room}
+use Rattle.slotmap_hop.proofs.Common.{arith, ltb-true, common_steps, vacant_room, spare_room}
 use Rattle.slotmap_hop.proofs.HopSlotMap.has_room.Goals as goal
 
 pub returns-then-self-gt0-clause-room : goal.returns-then-self-gt0-clause-room

@@ -1,8 +1,4 @@
-use Rattle.std.proofs.Common.{◌≡◌, refl, sym, ap, subst, ◌∙◌, inl, arith}
-use Rattle.slotmap_core.proofs.Common.{IsKey, IsLive, key}
-use Rattle.slotmap_hop.specs.Slots.{version_in}
-use Rattle.slotmap_hop.proofs.SettledLemmas.{held, well_formed}
-use Rattle.slotmap_hop.proofs.LiveSlots.{Present, slot_read}
+use Rattle.slotmap_hop.proofs.Common.{◌≡◌, IsKey, IsLive, key, refl, sym, ap, subst, ◌∙◌, inl, arith, version_in, held, well_formed, Present, slot_read}
 use Rattle.slotmap_hop.proofs.HopSlotMap.key_at.Goals.{After-self, After-version, After-from}
 use Rattle.slotmap_hop.proofs.HopSlotMap.key_at.Goals as goal
 
@@ -14,9 +10,7 @@ index-requires g c = omega (arith, (found g (goal.at.index-requires g c).After-s
 
 -- the parts that are read are those of the live key
 same : (g : _) (c : After-version g) → key c.args.index c.version.result ≡ c.requires.0
-same g c =
-    let found = found g (goal.at.After-version g c).After-self in
-    ap (key c.args.index) (c.version.ensures ∙ ap version_in (slot_read found _ c.index.ensures)) ∙ sym found.key_is_at
+same g c = let found = found g (goal.at.After-version g c).After-self in ap (key c.args.index) (c.version.ensures ∙ ap version_in (slot_read found _ c.index.ensures)) ∙ sym found.key_is_at
 
 pub exact-requires : goal.exact-requires
 exact-requires g c = subst IsKey (sym (same g (goal.at.exact-requires g c).After-version)) ((well_formed c.self.inside c.self.view_is c.self.invariant).valid.keys _ (inl (inl c.requires.1)))
@@ -27,8 +21,5 @@ made g c =
     let is_key = (well_formed c.self.inside c.self.view_is c.self.invariant).valid.keys _ (inl (inl c.requires.1)) in
     ap g.K.Key.data_of (g.met.K.Key.from_gives_key _ _ c.from.ensures) ∙ g.met.K.Key.from_data _ (subst IsKey (sym exact) is_key) ∙ exact
 
-pub returns-clause-live : goal.returns-clause-live
-returns-clause-live g c = subst (IsLive c.args.self.now.content) (sym (made g c)) c.requires.1
-
-pub returns-clause-index : goal.returns-clause-index
-returns-clause-index g c = ap (λ k. k.index) (made g c) ∙ c.requires.2
+pub returns : goal.returns
+returns g c = record { live = subst (IsLive c.args.self.now.content) (sym (made g c)) c.requires.1; index = ap (λ k. k.index) (made g c) ∙ c.requires.2 }

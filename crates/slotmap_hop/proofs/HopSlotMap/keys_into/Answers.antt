@@ -1,6 +1,5 @@
 use Rattle.std.specs.FinMap as map
-use Rattle.std.proofs.Common.{append_assoc, append-nil, arith}
-use Rattle.slotmap_core.proofs.Common.{map-append, length-map, common_steps}
+use Rattle.slotmap_hop.proofs.Common.{map-append, length-map, common_steps, append_assoc, append-nil, arith}
 use Rattle.slotmap_hop.proofs.HopSlotMap.keys_into.Goals as goal
 
 pub loop-key-init : goal.loop-key-init

@@ -1,5 +1,5 @@
 use Rattle.std.specs.FinMap as map
-use Rattle.std.proofs.Common.{◌≡◌, ◌+◌, ◌≤◌, ◌++◌, length, map as list_map, vec_len, vec_capacity}
+use Rattle.slotmap_hop.proofs.Common.{◌≡◌, ◌+◌, ◌≤◌, ◌++◌, list_map, length, vec_len, vec_capacity}
 use Rattle.slotmap_hop.proofs.HopSlotMap.keys_into.Given as goal
 
 abbrev pub invariant-loop-key : goal.invariant-loop-key

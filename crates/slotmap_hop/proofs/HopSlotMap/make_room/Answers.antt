@@ -1,5 +1,4 @@
-use Rattle.slotmap_core.proofs.Common.{refl}
-use Rattle.slotmap_hop.proofs.RoomLemmas.{hop_room_had}
+use Rattle.slotmap_hop.proofs.Common.{refl, hop_room_had}
 use Rattle.slotmap_hop.proofs.HopSlotMap.make_room.Goals as goal
 
 pub returns-then-has_room-clause-makes_room : goal.returns-then-has_room-clause-makes_room

@@ -1,4 +1,4 @@
-use Rattle.slotmap_hop.proofs.SettledLemmas.{well_formed}
+use Rattle.slotmap_hop.proofs.Common.{well_formed}
 use Rattle.slotmap_hop.proofs.HopSlotMap.note_valid.Goals as goal
 
 pub returns : goal.returns

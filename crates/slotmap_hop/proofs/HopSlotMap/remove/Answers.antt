@@ -1,4 +1,4 @@
-use Rattle.slotmap_core.proofs.Common.{sym, keys_total, exact_keys, none_of, remove_absent}
+use Rattle.slotmap_hop.proofs.Common.{sym, keys_total, exact_keys, none_of, remove_absent}
 use Rattle.slotmap_hop.proofs.HopSlotMap.remove.Goals as goal
 
 pub returns-in_err-live_index-clause-live : goal.returns-in_err-live_index-clause-live

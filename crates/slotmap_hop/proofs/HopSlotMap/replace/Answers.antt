@@ -1,5 +1,4 @@
-use Rattle.slotmap_core.proofs.Common.{is_some, refl, ap, sym, ◌∙◌, option_copied_mut}
-use Rattle.slotmap_hop.proofs.WellFormed.{StaysHop-with_value}
+use Rattle.slotmap_hop.proofs.Common.{is_some, refl, ap, sym, ◌∙◌, option_copied_mut, StaysHop-with_value}
 use Rattle.slotmap_hop.proofs.HopSlotMap.replace.Goals as goal
 
 pub returns-in-Some-clause-valid : goal.returns-in-Some-clause-valid

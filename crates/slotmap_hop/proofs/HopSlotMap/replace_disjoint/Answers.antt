@@ -1,5 +1,4 @@
-use Rattle.slotmap_core.proofs.Common.{is_some, ap, arith, content_written, key_there, key_exchanged}
-use Rattle.slotmap_hop.proofs.WellFormed.{StaysHop-with_value}
+use Rattle.slotmap_hop.proofs.Common.{is_some, ap, arith, content_written, key_there, key_exchanged, StaysHop-with_value}
 use Rattle.slotmap_hop.proofs.HopSlotMap.replace_disjoint.Goals as goal
 
 pub swap_value-requires : goal.swap_value-requires

@@ -1,7 +1,4 @@
-use Rattle.std.proofs.Common.{◌≡◌, map as map_list}
-use Rattle.slotmap_core.specs.Words.{value_of}
-use Rattle.slotmap_core.proofs.Common.{with_value, Exchanged}
-use Rattle.slotmap_hop.specs.HopContent.{StaysHop}
+use Rattle.slotmap_hop.proofs.Common.{◌≡◌, map_list, value_of, with_value, Exchanged, StaysHop}
 use Rattle.slotmap_hop.proofs.HopSlotMap.replace_disjoint.Given as goal
 
 abbrev pub invariant-loop-i : goal.invariant-loop-i

@@ -1,16 +1,10 @@
-use Rattle.std.proofs.Common.{◌≡◌, ◌<◌, ◌≤◌, length, vec_capacity, refl, ap, sym, arith}
-use Rattle.slotmap_core.proofs.Common.{used, used_places, err_not_ok}
-use Rattle.slotmap_hop.specs.Slots.{places_of}
-use Rattle.slotmap_hop.proofs.RoomLemmas.{room_is, hop_room_had, hop_room_lacked, grown_granted, grown_refused}
-use Rattle.slotmap_hop.proofs.SlotLemmas.{taken_slots}
+use Rattle.slotmap_hop.proofs.Common.{◌≡◌, ◌<◌, ◌≤◌, used_places, err_not_ok, length, vec_capacity, places_of, hop_room_had, hop_room_lacked, grown_granted, grown_refused, taken_slots}
+use Rattle.slotmap_hop.proofs.Common.{used, rules, refl, ap, sym, arith, room_is}
 use Rattle.slotmap_hop.proofs.HopSlotMap.reserve.Goals as goal
 
 pub returns-then-additional-capacity-clause-makes_room : goal.returns-then-additional-capacity-clause-makes_room
 returns-then-additional-capacity-clause-makes_room g c =
-    let slots = c.self.inside.slots in
-    let room = room_is _ _ _ c.self.invariant _ (omega (arith, slots.ok.0, slots.ok.1)) c.self.view_is in
-    let used = c.used-used.ensures in
-    hop_room_had _ _ _ used.valid refl (omega (arith, used.value, used.below, used.fits, c.capacity.ensures.value, c.if-additional-used.false, c.if-additional-capacity.true))
+    grind (arith, room_is, c.self.inside.slots.ok.0, c.self.inside.slots.ok.1, hop_room_had, c.used-used.ensures.value, c.used-used.ensures.below, c.used-used.ensures.fits)
 
 pub returns-clause-makes_room : goal.returns-clause-makes_room
 returns-clause-makes_room g c =
@@ -27,19 +21,8 @@ returns-clause-makes_room g c =
     (omega (arith, slots.ok.0, c.reserve.ensures.len, c.in_ok-reserve.ensures.ok)))
 
 pub returns-then-additional-used-clause-makes_room : goal.returns-then-additional-used-clause-makes_room
-returns-then-additional-used-clause-makes_room g c =
-    let slots = c.self.inside.slots in
-    let room = room_is _ _ _ c.self.invariant _ (omega (arith, slots.ok.0, slots.ok.1)) c.self.view_is in
-    let used = c.used-used.ensures in
-    hop_room_lacked _ _ _ used.valid (λ is. cc) (omega (arith, room, used.value, used.below, c.if-additional-used.true))
+returns-then-additional-used-clause-makes_room g c = search (rules, arith, room_is, hop_room_lacked)
 
 pub returns-in_err-reserve-clause-makes_room : goal.returns-in_err-reserve-clause-makes_room
 returns-in_err-reserve-clause-makes_room g c =
-    let slots = c.self.inside.slots in
-    let holds : length slots.items ≤ vec_capacity slots = omega (arith, slots.ok.0, slots.ok.1) in
-    let room = room_is _ _ _ c.self.invariant _ holds c.self.view_is in
-    let told = c.used-used.ensures in
-    let none : c.args.self.now.content.room < c.args.additional =
-    omega (arith, room, told.value, told.below, told.fits, c.capacity.ensures.value, c.if-additional-used.false, c.if-additional-capacity.false) in
-    rw c.reserve.ensures.items (grown_refused _ _ _ c.self.invariant _ holds c.self.view_is (vec_capacity c.reserve.new.self) (omega (arith, c.reserve.ensures.capacity)) _ _ none
-    (λ is. err_not_ok _ c.from_residual.ensures.0 is))
+    grind (arith, c.self.inside.slots.ok.0, c.self.inside.slots.ok.1, room_is, c.used-used.ensures.value, c.used-used.ensures.below, c.used-used.ensures.fits, grown_refused, err_not_ok)

@@ -1,5 +1,5 @@
-use Rattle.slotmap_core.proofs.Common.{Some, None, same_live, CallsAt-called, common_steps, arith}
-use Rattle.slotmap_hop.proofs.Retaining.{Retaining, RetainingAt, retaining_starts_at, retaining_may_come, retaining_kept_at, retaining_dropped_at, retaining_ends}
+use Rattle.slotmap_hop.proofs.Common.{same_live, CallsAt-called, common_steps, Retaining, RetainingAt, retaining_starts_at, retaining_may_come, retaining_kept_at, retaining_dropped_at, retaining_ends}
+use Rattle.slotmap_hop.proofs.Common.{Some, None, arith}
 use Rattle.slotmap_hop.proofs.HopSlotMap.retain.Goals.{In-Some, In_default, After-key_at-key}
 use Rattle.slotmap_hop.proofs.HopSlotMap.retain.Goals as goal
 
@@ -48,9 +48,7 @@ pub returns-clause-leaves : goal.returns-clause-leaves
 returns-clause-leaves g c = (ended g (goal.at.returns-clause-leaves g c).In_default).sweep.swept.leaves
 
 pub returns-clause-valid : goal.returns-clause-valid
-returns-clause-valid g c =
-    let sweep = (ended g (goal.at.returns-clause-valid g c).In_default).sweep in
-    record { before = c.first_place-next.ensures.valid; after = sweep.valid; capacity = sweep.swept.capacity }
+returns-clause-valid g c = grind (arith, common_steps, ended)
 
 pub first_place-next-requires-then-stays : goal.first_place-next-requires-then-stays
 first_place-next-requires-then-stays g c = grind (arith, common_steps)

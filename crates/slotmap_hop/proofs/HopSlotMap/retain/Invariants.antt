@@ -1,5 +1,4 @@
-use Rattle.slotmap_hop.proofs.Sweeping.{places_left}
-use Rattle.slotmap_hop.proofs.Retaining.{RetainingAt}
+use Rattle.slotmap_hop.proofs.Common.{places_left, RetainingAt}
 use Rattle.slotmap_hop.proofs.HopSlotMap.retain.Given as goal
 
 abbrev pub invariant-loop-next : goal.invariant-loop-next

@@ -1,8 +1,4 @@
-use Rattle.std.proofs.Common.{◌≡◌, ◌+◌, ap, ◌∙◌, arith}
-use Rattle.slotmap_core.proofs.Common.{last_version}
-use Rattle.slotmap_hop.specs.Slots.{CanFree}
-use Rattle.slotmap_hop.proofs.SettledLemmas.{Took, held, took_last, took_other}
-use Rattle.slotmap_hop.proofs.LiveSlots.{Present, elems_positive, vacant_below, can_free}
+use Rattle.slotmap_hop.proofs.Common.{◌≡◌, ◌+◌, last_version, ap, ◌∙◌, arith, CanFree, Took, held, took_last, took_other, Present, elems_positive, vacant_below, can_free}
 use Rattle.slotmap_hop.proofs.HopSlotMap.take_live.Goals.{After-self, After-retire, After-free}
 use Rattle.slotmap_hop.proofs.HopSlotMap.take_live.Goals as goal
 
@@ -18,9 +14,7 @@ can : (g : _) (c : After-self g) → CanFree c.self.inside.slots.items c.idx-ind
 can g c = can_free _ _ _ c.self.invariant _ _ _ (found g c).index
 
 pub retire-requires : goal.retire-requires
-retire-requires g c =
-    let can = can g (goal.at.retire-requires g c).After-self in
-    rw c.as_mut_slice-slots.ensures.value (record { inside = can.inside; live = can.live })
+retire-requires g c = let can = can g (goal.at.retire-requires g c).After-self in rw c.as_mut_slice-slots.ensures.value (record { inside = can.inside; live = can.live })
 
 last : (g : _) (c : After-retire g) → Present c.self.inside.slots.items c.args.self.now.content.live (g.K.Key.data_of c.args.key) c.idx-index.result c.version-version.result
     → c.version-version.result ≡ last_version
@@ -32,9 +26,7 @@ last g c found is_last =
     (rw seen at did.value) is_last (rw seen at did.all_links) (rw seen at did.places)
 
 pub invariant_of-self : goal.invariant_of-self
-invariant_of-self g c =
-    let at = goal.at.invariant_of-self g c in
-    (last g at.After-retire (found g at.After-self) c.if-version.true).sound_after
+invariant_of-self g c = let at = goal.at.invariant_of-self g c in (last g at.After-retire (found g at.After-self) c.if-version.true).sound_after
 
 pub returns-then-version : goal.returns-then-version
 returns-then-version g c =
@@ -57,12 +49,8 @@ other g c found =
     (rw seen at did.value) c.if-version.false did.blocks.list (rw seen at did.blocks.are) (rw seen at did.places)
 
 pub invariant_of-self-2 : goal.invariant_of-self-2
-invariant_of-self-2 g c =
-    let at = goal.at.invariant_of-self-2 g c in
-    (other g at.After-free (found g at.After-self)).sound_after
+invariant_of-self-2 g c = let at = goal.at.invariant_of-self-2 g c in (other g at.After-free (found g at.After-self)).sound_after
 
 pub returns : goal.returns
 returns g c =
-    let at = goal.at.returns g c in
-    let took = other g at.After-free (found g at.After-self) in
-    record { value = took.value; removes = took.removes; blocks = took.blocks; valid = took.valid }
+    let at = goal.at.returns g c in let took = other g at.After-free (found g at.After-self) in record { value = took.value; removes = took.removes; blocks = took.blocks; valid = took.valid }

@@ -1,5 +1,4 @@
-use Rattle.slotmap_core.proofs.Common.{arith}
-use Rattle.slotmap_hop.proofs.SlotLemmas.{taken_slots}
+use Rattle.slotmap_hop.proofs.Common.{arith, taken_slots}
 use Rattle.slotmap_hop.proofs.HopSlotMap.used.Goals as goal
 
 pub overflow_sub-result-2 : goal.overflow_sub-result-2

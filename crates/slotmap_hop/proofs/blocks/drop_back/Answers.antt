@@ -1,9 +1,4 @@
-use Rattle.slotmap_core.proofs.Common.{common_steps}
-use Rattle.std.proofs.Common.{◌-◌, arith}
-use Rattle.slotmap_hop.specs.Slots.{all_links}
-use Rattle.slotmap_hop.proofs.Writes.{vacancy_kept}
-use Rattle.slotmap_hop.proofs.Joining.{ready}
-use Rattle.slotmap_hop.proofs.Taking.{first, second_head, front_vacant, taken_block, lost_front, shorter_to_one, shorter_longer}
+use Rattle.slotmap_hop.proofs.Common.{common_steps, arith, ◌-◌, all_links, vacancy_kept, ready, first, second_head, front_vacant, taken_block, lost_front, shorter_to_one, shorter_longer}
 use Rattle.slotmap_hop.proofs.blocks.drop_back.Goals as goal
 
 pub relink-requires-clause-after : goal.relink-requires-clause-after
@@ -20,8 +15,7 @@ pub returns-then-front-back-clause-blocks : goal.returns-then-front-back-clause-
 returns-then-front-back-clause-blocks g c = grind (arith, common_steps, lost_front)
 
 pub returns-then-front-back-2-clause-blocks : goal.returns-then-front-back-2-clause-blocks
-returns-then-front-back-2-clause-blocks g c =
-    rw c.set_links.ensures.links (shorter_to_one c.requires.sound c.requires.first c.requires.read c.requires.positive c.if-front-back-2.true c.next_of-next-then-front-back-2.ensures)
+returns-then-front-back-2-clause-blocks g c = grind (arith, common_steps, shorter_to_one)
 
 pub returns-else-front-back-2-clause-blocks : goal.returns-else-front-back-2-clause-blocks
 returns-else-front-back-2-clause-blocks g c = grind (arith, common_steps, shorter_longer)

@@ -1,11 +1,6 @@
-use Rattle.std.proofs.Common.{◌≡◌, ◌+◌, arith}
-use Rattle.slotmap_hop.specs.Links.{prev_at}
-use Rattle.slotmap_hop.specs.Slots.{all_links}
-use Rattle.slotmap_hop.proofs.Writes.{flags_kept}
-use Rattle.slotmap_hop.proofs.Joining.{ready, back_ready, prev_is, after_head, joins_before}
-use Rattle.slotmap_hop.proofs.Taking.{first}
-use Rattle.slotmap_hop.proofs.blocks.grow_left.Goals as goal
+use Rattle.slotmap_hop.proofs.Common.{common_steps, arith, ◌≡◌, ◌+◌, prev_at, all_links, flags_kept, ready, back_ready, prev_is, after_head, joins_before, first}
 use Rattle.slotmap_hop.proofs.blocks.grow_left.Goals.{After-prev_of-prev}
+use Rattle.slotmap_hop.proofs.blocks.grow_left.Goals as goal
 
 prev : (g : _) (c : After-prev_of-prev g) → c.prev_of-prev.result ≡ prev_at (all_links c.args.slots.now) (c.args.index + 1)
 prev g c = prev_is c.requires.can c.requires.right c.back_of-back.ensures c.prev_of-prev.ensures
@@ -17,10 +12,7 @@ pub name_front-requires : goal.name_front-requires
 name_front-requires g c = rw (flags_kept c.relink.ensures.ends) (back_ready c.requires.can c.requires.right c.back_of-back.ensures)
 
 pub returns-clause-blocks : goal.returns-clause-blocks
-returns-clause-blocks g c =
-    rw c.name_front.ensures.links
-    (joins_before c.requires.can c.requires.right (all_links c.relink.new.slots) c.requires.left c.next_of-next.ensures c.back_of-back.ensures
-    (prev g (goal.at.returns-clause-blocks g c).After-prev_of-prev) c.relink.ensures.links c.relink.ensures.ends)
+returns-clause-blocks g c = grind (arith, common_steps, joins_before, prev)
 
 pub back_of-back-requires : goal.back_of-back-requires
 back_of-back-requires g c = grind (arith, ready, first)

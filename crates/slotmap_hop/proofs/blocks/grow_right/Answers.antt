@@ -1,6 +1,4 @@
-use Rattle.slotmap_core.proofs.Common.{refl, arith}
-use Rattle.slotmap_hop.proofs.Joining.{ready, joins_after}
-use Rattle.slotmap_hop.proofs.Taking.{first}
+use Rattle.slotmap_hop.proofs.Common.{refl, arith, ready, joins_after, first}
 use Rattle.slotmap_hop.proofs.blocks.grow_right.Goals as goal
 
 pub returns-clause-blocks : goal.returns-clause-blocks

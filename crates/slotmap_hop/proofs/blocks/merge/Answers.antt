@@ -1,11 +1,7 @@
-use Rattle.std.proofs.Common.{◌≡◌, ◌+◌, ◌-◌, true, refl, ◌∙◌, arith}
-use Rattle.slotmap_hop.specs.Links.{vacant_at, prev_at, end_at}
-use Rattle.slotmap_hop.specs.Slots.{all_links}
-use Rattle.slotmap_hop.proofs.Writes.{ends_kept, flags_kept, leads_kept, tails_kept, vacancy_kept}
-use Rattle.slotmap_hop.proofs.Joining.{ready, left_tails, front_leads, front_ready, back_ready, prev_is, after_head, joins_between}
-use Rattle.slotmap_hop.proofs.Taking.{first}
-use Rattle.slotmap_hop.proofs.blocks.merge.Goals as goal
+use Rattle.slotmap_hop.proofs.Common.{common_steps, ◌∙◌, ◌≡◌, flags_kept, leads_kept, tails_kept, vacancy_kept, left_tails, front_leads, front_ready, back_ready, after_head, joins_between}
+use Rattle.slotmap_hop.proofs.Common.{rules, true, arith, ◌+◌, ◌-◌, ends_kept, ready, prev_is, vacant_at, prev_at, end_at, all_links, first}
 use Rattle.slotmap_hop.proofs.blocks.merge.Goals.{After-prev_of-before, After-front_of-front}
+use Rattle.slotmap_hop.proofs.blocks.merge.Goals as goal
 
 before : (g : _) (c : After-prev_of-before g) → c.prev_of-before.result ≡ prev_at (all_links c.args.slots.now) (c.args.index + 1)
 before g c = prev_is c.requires.can c.requires.right c.back_of-back.ensures c.prev_of-before.ensures
@@ -26,20 +22,13 @@ pub prev_of-prev-requires : goal.prev_of-prev-requires
 prev_of-prev-requires g c = rw (tails_kept c.relink.ensures.ends (c.args.index - 1)) (left_tails c.requires.can c.requires.left)
 
 pub name_back-requires : goal.name_back-requires
-name_back-requires g c =
-    leads_kept c.relink.ensures.ends c.front_of-front.result ∙ rw (front g (goal.at.name_back-requires g c).After-front_of-front) (front_leads c.requires.can c.requires.left)
+name_back-requires g c = leads_kept c.relink.ensures.ends c.front_of-front.result ∙ rw (front g (goal.at.name_back-requires g c).After-front_of-front) (front_leads c.requires.can c.requires.left)
 
 pub name_front-requires : goal.name_front-requires
-name_front-requires g c =
-    let there = front_there g (goal.at.name_front-requires g c).After-front_of-front in
-    rw (c.name_back.ensures.links, vacancy_kept _ c.front_of-front.result _ there, flags_kept c.relink.ensures.ends) (back_ready c.requires.can c.requires.right c.back_of-back.ensures)
+name_front-requires g c = search (rules, arith, front_there, vacancy_kept, flags_kept, back_ready)
 
 pub returns-clause-blocks : goal.returns-clause-blocks
-returns-clause-blocks g c =
-    rw (c.name_front.ensures.links, c.name_back.ensures.links)
-    (joins_between c.requires.can c.requires.right (all_links c.relink.new.slots) c.requires.left c.next_of-after.ensures c.back_of-back.ensures
-    (before g (goal.at.returns-clause-blocks g c).After-prev_of-before) c.relink.ensures.links c.relink.ensures.ends
-    c.front_of-front.ensures c.prev_of-prev.ensures refl)
+returns-clause-blocks g c = grind (arith, common_steps, joins_between, before)
 
 pub back_of-back-requires : goal.back_of-back-requires
 back_of-back-requires g c = grind (arith, ready, first)

@@ -1,6 +1,4 @@
-use Rattle.slotmap_core.proofs.Common.{common_steps, arith}
-use Rattle.slotmap_hop.proofs.Joining.{ready, zero_head, last_is, joins_alone}
-use Rattle.slotmap_hop.proofs.Taking.{first}
+use Rattle.slotmap_hop.proofs.Common.{common_steps, arith, ready, zero_head, last_is, joins_alone, first}
 use Rattle.slotmap_hop.proofs.blocks.start_block.Goals as goal
 
 pub relink-requires-clause-after : goal.relink-requires-clause-after

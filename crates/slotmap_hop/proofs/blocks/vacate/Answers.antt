@@ -1,17 +1,12 @@
-use Rattle.slotmap_core.proofs.Common.{arith, sym, ◌∙◌, refl}
-use Rattle.slotmap_hop.specs.Slots.{Single}
-use Rattle.slotmap_hop.proofs.SlotReads.{occupied_read, value_read, all_links_vacant, place_linked}
+use Rattle.slotmap_hop.proofs.Common.{arith, sym, ◌∙◌, refl, Single, occupied_read, value_read, all_links_vacant, place_linked}
 use Rattle.slotmap_hop.proofs.blocks.vacate.Goals as goal
 
 pub rule_out-requires : goal.rule_out-requires
-rule_out-requires g c =
-    grind (arith, occupied_read c.args.slots.now c.args.index c.index-slots-index.result c.requires.inside c.requires.live, c.in_default.not-Occupied)
+rule_out-requires g c = grind (arith, occupied_read c.args.slots.now c.args.index c.index-slots-index.result c.requires.inside c.requires.live, c.in_default.not-Occupied)
 
-pub returns-clause-value : goal.returns-clause-value
-returns-clause-value g c = value_read c.args.slots.now c.args.index c.index-slots-index.result _ _ _ c.requires.inside (sym c.replace.ensures.value ∙ c.in-Occupied.is)
-
-pub returns-clause-links : goal.returns-clause-links
-returns-clause-links g c = rw c.replace.ensures.after (all_links_vacant c.args.slots.now c.args.index _ (Single 0 0) refl)
-
-pub returns-clause-places : goal.returns-clause-places
-returns-clause-places g c = rw c.replace.ensures.after (place_linked c.args.slots.now c.args.index _ c.args.version 0 0 (Single 0 0) refl)
+pub returns : goal.returns
+returns g c = record {
+  value = value_read c.args.slots.now c.args.index c.index-slots-index.result _ _ _ c.requires.inside (sym c.replace.ensures.value ∙ c.in-Occupied.is);
+  links = rw c.replace.ensures.after (all_links_vacant c.args.slots.now c.args.index _ (Single 0 0) refl);
+  places = rw c.replace.ensures.after (place_linked c.args.slots.now c.args.index _ c.args.version 0 0 (Single 0 0) refl);
+}

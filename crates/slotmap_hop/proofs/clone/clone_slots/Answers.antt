@@ -1,5 +1,4 @@
-use Rattle.std.proofs.Common.{arith}
-use Rattle.slotmap_core.proofs.Common.{slice_get_read, zip_next, common_steps}
+use Rattle.slotmap_hop.proofs.Common.{slice_get_read, zip_next, common_steps, arith}
 use Rattle.slotmap_hop.proofs.clone.clone_slots.Goals as goal
 
 pub loop-index-preserved : goal.loop-index-preserved

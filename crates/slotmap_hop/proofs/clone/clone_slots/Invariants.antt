@@ -1,5 +1,4 @@
-use Rattle.std.proofs.Common.{◌+◌, ◌≤◌, take, vec_len, vec_capacity}
-use Rattle.slotmap_hop.specs.Slots.{AreSlotClones}
+use Rattle.slotmap_hop.proofs.Common.{◌+◌, ◌≤◌, AreSlotClones, take, vec_len, vec_capacity}
 use Rattle.slotmap_hop.proofs.clone.clone_slots.Given as goal
 
 abbrev pub invariant-loop-index : goal.invariant-loop-index

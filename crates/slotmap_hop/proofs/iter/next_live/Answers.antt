@@ -1,8 +1,5 @@
-use Rattle.std.proofs.Common.{◌≡◌, ℕ, List, slice_get, Some}
-use Rattle.slotmap_core.proofs.Common.{refl, sym, ◌∙◌, common_steps, arith, rules}
-use Rattle.slotmap_hop.specs.Slots.{Slot}
-use Rattle.slotmap_hop.specs.Iter.{Counted, IsRead}
-use Rattle.slotmap_hop.proofs.HoppingLemmas.{IsAt, way_begins, may_read, finds_here, may_leave, goes_onward, left_here, none_here}
+use Rattle.slotmap_hop.proofs.Common.{◌≡◌, sym, ◌∙◌, common_steps, arith, rules, slice_get, Counted, IsRead, way_begins, may_read, finds_here, may_leave, goes_onward, left_here, none_here}
+use Rattle.slotmap_hop.proofs.Common.{refl, ℕ, List, Some, IsAt, Slot}
 use Rattle.slotmap_hop.proofs.iter.next_live.Goals.{Start}
 use Rattle.slotmap_hop.proofs.iter.next_live.Goals as goal
 
@@ -28,9 +25,7 @@ hop-requires-clause-inside g c =
     grind (arith, may_leave _ _ _ at c.read-first.ensures (none_here _ (sym c.is_live.ensures ∙ c.if-is_live.false)), may_read _ _ _ at c.requires.some)
 
 pub loop-slot-init : goal.loop-slot-init
-loop-slot-init g c =
-    let at = first g (goal.at.loop-slot-init g c).Start in
-    search (rules, left_here, none_here, at)
+loop-slot-init g c = search (rules, left_here, none_here, (first g (goal.at.loop-slot-init g c).Start))
 
 pub read-slot-requires : goal.read-slot-requires
 read-slot-requires g c = grind (arith, common_steps, may_read)

@@ -1,5 +1,4 @@
-use Rattle.slotmap_core.proofs.Common.{arith, common_steps}
-use Rattle.slotmap_hop.proofs.SlotReads.{leads_within}
+use Rattle.slotmap_hop.proofs.Common.{arith, common_steps, leads_within}
 use Rattle.slotmap_hop.proofs.links.back_of.Goals as goal
 
 pub bounds-slots-front : goal.bounds-slots-front

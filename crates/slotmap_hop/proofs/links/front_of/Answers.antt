@@ -1,5 +1,4 @@
-use Rattle.slotmap_core.proofs.Common.{arith, common_steps}
-use Rattle.slotmap_hop.proofs.SlotReads.{tails_within}
+use Rattle.slotmap_hop.proofs.Common.{arith, common_steps, tails_within}
 use Rattle.slotmap_hop.proofs.links.front_of.Goals as goal
 
 pub bounds-slots-back : goal.bounds-slots-back

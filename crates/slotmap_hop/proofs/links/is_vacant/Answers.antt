@@ -1,5 +1,4 @@
-use Rattle.slotmap_core.proofs.Common.{sym, ◌∙◌}
-use Rattle.slotmap_hop.proofs.SlotReads.{flag_at}
+use Rattle.slotmap_hop.proofs.Common.{sym, ◌∙◌, flag_at}
 use Rattle.slotmap_hop.proofs.links.is_vacant.Goals as goal
 
 pub returns : goal.returns

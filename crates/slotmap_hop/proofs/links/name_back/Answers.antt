@@ -1,14 +1,11 @@
-use Rattle.slotmap_core.proofs.Common.{arith, common_steps}
-use Rattle.slotmap_hop.proofs.SlotReads.{leads_within, back_named}
+use Rattle.slotmap_hop.proofs.Common.{arith, common_steps, leads_within, back_named}
 use Rattle.slotmap_hop.proofs.links.name_back.Goals as goal
 
 pub returns-clause-links : goal.returns-clause-links
-returns-clause-links g c =
-    (back_named c.args.slots.now c.args.front c.index-slots-front.result _ _ _ _ c.args.back c.requires c.in-Empty.is).0
+returns-clause-links g c = (back_named c.args.slots.now c.args.front c.index-slots-front.result _ _ _ _ c.args.back c.requires c.in-Empty.is).0
 
 pub returns-clause-places : goal.returns-clause-places
-returns-clause-places g c =
-    (back_named c.args.slots.now c.args.front c.index-slots-front.result _ _ _ _ c.args.back c.requires c.in-Empty.is).1
+returns-clause-places g c = (back_named c.args.slots.now c.args.front c.index-slots-front.result _ _ _ _ c.args.back c.requires c.in-Empty.is).1
 
 pub bounds-slots-front : goal.bounds-slots-front
 bounds-slots-front g c = leads_within c.args.slots.now c.args.front c.requires

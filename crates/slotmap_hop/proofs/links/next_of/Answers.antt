@@ -1,5 +1,4 @@
-use Rattle.slotmap_core.proofs.Common.{sym, ◌∙◌, arith, common_steps}
-use Rattle.slotmap_hop.proofs.SlotReads.{leads_within, next_read}
+use Rattle.slotmap_hop.proofs.Common.{sym, ◌∙◌, arith, common_steps, leads_within, next_read}
 use Rattle.slotmap_hop.proofs.links.next_of.Goals as goal
 
 pub bounds-slots-front : goal.bounds-slots-front

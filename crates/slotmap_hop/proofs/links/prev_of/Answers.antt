@@ -1,5 +1,4 @@
-use Rattle.slotmap_core.proofs.Common.{sym, ◌∙◌, arith, common_steps}
-use Rattle.slotmap_hop.proofs.SlotReads.{tails_within, prev_read}
+use Rattle.slotmap_hop.proofs.Common.{sym, ◌∙◌, arith, common_steps, tails_within, prev_read}
 use Rattle.slotmap_hop.proofs.links.prev_of.Goals as goal
 
 pub bounds-slots-back : goal.bounds-slots-back

@@ -1,7 +1,5 @@
-use Rattle.std.proofs.Common.{ap, ◌∙◌, arith}
+use Rattle.slotmap_hop.proofs.Common.{common_steps, ap, ◌∙◌, arith, version_in, version_below, read_old, vacates_on}
 use Rattle.std.proofs.lemmas.Option.{slice_get-get_or}
-use Rattle.slotmap_hop.specs.Slots.{version_in}
-use Rattle.slotmap_hop.proofs.OneBlock.{version_below, read_old, vacates_on}
 use Rattle.slotmap_hop.proofs.one_block.vacate_all.Goals as goal
 
 pub overflow_add-version : goal.overflow_add-version
@@ -14,6 +12,4 @@ overflow_add-version g c =
     omega (arith, below, same)
 
 pub loop-index-preserved : goal.loop-index-preserved
-loop-index-preserved g c =
-    let size = c.loop-index.auto.slots in
-    vacates_on c.loop-index.invariant size (omega (arith, c.loop-index-test.true, size)) c.index-slots-index.result c.version-version.result c.version-version.ensures
+loop-index-preserved g c = grind (arith, common_steps, vacates_on)

@@ -1,4 +1,4 @@
-use Rattle.slotmap_hop.proofs.OneBlock.{VacantBefore}
+use Rattle.slotmap_hop.proofs.Common.{VacantBefore}
 use Rattle.slotmap_hop.proofs.one_block.vacate_all.Given as goal
 
 abbrev pub invariant-loop-index : goal.invariant-loop-index

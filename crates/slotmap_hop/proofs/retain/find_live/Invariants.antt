@@ -1,5 +1,4 @@
-use Rattle.std.proofs.Common.{◌-◌, ℕ, length}
-use Rattle.slotmap_hop.proofs.HoppingLemmas.{OnTheWay}
+use Rattle.slotmap_hop.proofs.Common.{◌-◌, OnTheWay, ℕ, length}
 use Rattle.slotmap_hop.proofs.retain.find_live.Given as goal
 
 -- no live slot was passed, whatever the number of reads

@@ -1,7 +1,4 @@
-use Rattle.std.proofs.Common.{◌+◌, ◌<◌, length}
-use Rattle.std.proofs.lemmas.List.{drop-drop, take_rest}
-use Rattle.slotmap_core.proofs.Common.{arith, common_steps, ap, sym, ◌∙◌, drop}
-use Rattle.slotmap_hop.proofs.HoppingLemmas.{hop_none}
+use Rattle.slotmap_hop.proofs.Common.{◌+◌, ◌<◌, drop-drop, take_rest, arith, common_steps, ap, sym, ◌∙◌, drop, length, hop_none}
 use Rattle.slotmap_hop.proofs.counted.CountedSlots.hop.Goals as goal
 
 pub overflow_add-self : goal.overflow_add-self

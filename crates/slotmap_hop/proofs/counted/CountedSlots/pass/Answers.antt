@@ -1,12 +1,8 @@
-use Rattle.std.proofs.Common.{◌+◌, ◌<◌, length}
-use Rattle.std.proofs.lemmas.List.{drop-drop, take_rest}
-use Rattle.slotmap_core.proofs.Common.{arith, common_steps, ap, ◌∙◌, drop}
+use Rattle.slotmap_hop.proofs.Common.{drop-drop, take_rest, arith, common_steps}
 use Rattle.slotmap_hop.proofs.counted.CountedSlots.pass.Goals as goal
 
 pub invariant_of-self : goal.invariant_of-self
-invariant_of-self g c =
-    let inside : c.self.inside.last + 1 < length c.self.inside.slots.now = rw (← c.self.view_is) at c.requires in
-    (inside, take_rest c.self.inside.rest.now 1 ∙ ap (drop 1) c.self.invariant.1 ∙ drop-drop 1 c.self.inside.last c.self.inside.slots.now)
+invariant_of-self g c = grind (arith, common_steps, take_rest c.self.inside.rest.now 1, drop-drop 1 c.self.inside.last c.self.inside.slots.now, c.self.invariant.1)
 
 pub overflow_add-self : goal.overflow_add-self
 overflow_add-self g c = grind (arith, common_steps)

@@ -1,4 +1,4 @@
-use Rattle.slotmap_core.proofs.Common.{arith, common_steps}
+use Rattle.slotmap_hop.proofs.Common.{arith, common_steps}
 use Rattle.slotmap_hop.proofs.counted.CountedSlots.read.Goals as goal
 
 pub overflow_add-self : goal.overflow_add-self

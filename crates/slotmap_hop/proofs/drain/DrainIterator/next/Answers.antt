@@ -1,7 +1,6 @@
 use Rattle.std.specs.FinMap as map
-use Rattle.slotmap_core.proofs.Common.{refl, ap, arith, keys_total, exact_keys, len_removed, Empties-first, common_steps}
-use Rattle.slotmap_hop.specs.HopContent.{IsHopContent, IsNextLive}
-use Rattle.slotmap_hop.proofs.Sweeping.{clearing_starts, clearing_removed, after_above, next_is_least, clearing_ends}
+use Rattle.slotmap_hop.proofs.Common.{ap, keys_total, exact_keys, len_removed, Empties-first, common_steps, IsHopContent, clearing_starts, clearing_removed, after_above, next_is_least, clearing_ends}
+use Rattle.slotmap_hop.proofs.Common.{refl, arith, IsNextLive}
 use Rattle.slotmap_hop.proofs.drain.DrainIterator.next.Goals as goal
 
 pub returns-in_default-clause-steps : goal.returns-in_default-clause-steps

@@ -1,6 +1,4 @@
-use Rattle.slotmap_core.proofs.Common.{refl, listing-entries}
-use Rattle.slotmap_hop.proofs.Taking.{zero_leads}
-use Rattle.slotmap_hop.proofs.Iterators.{iter_starts, pairs-start}
+use Rattle.slotmap_hop.proofs.Common.{refl, listing-entries, zero_leads, iter_starts, pairs-start}
 use Rattle.slotmap_hop.proofs.into_iter.HopSlotMapIntoIterator.into_iter.Goals as goal
 
 pub back_of-back-requires : goal.back_of-back-requires
@@ -11,5 +9,4 @@ invariant_of-result g c = rw (c.back_of-back.ensures, c.as_slice.ensures.value) 
 
 pub returns : goal.returns
 returns g c =
-    rw (c.back_of-back.ensures, c.as_slice.ensures.value, pairs-start _ _ _ c.self.invariant, ← c.self.view_is)
-    (record { into_iter_gives = record { listing = listing-entries _; in_order = refl } })
+    rw (c.back_of-back.ensures, c.as_slice.ensures.value, pairs-start _ _ _ c.self.invariant, ← c.self.view_is) (record { into_iter_gives = record { listing = listing-entries _; in_order = refl } })

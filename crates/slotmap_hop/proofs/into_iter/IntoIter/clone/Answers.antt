@@ -1,5 +1,4 @@
-use Rattle.slotmap_core.proofs.Common.{pairs_equal}
-use Rattle.slotmap_hop.proofs.CloneLemmas.{left_cloned, IsIter-cloned}
+use Rattle.slotmap_hop.proofs.Common.{pairs_equal, left_cloned, IsIter-cloned}
 use Rattle.slotmap_hop.proofs.into_iter.IntoIter.clone.Goals as goal
 
 pub invariant_of-result : goal.invariant_of-result

@@ -1,10 +1,5 @@
-use Rattle.std.proofs.Common.{◌≡◌, ◌+◌, ◌-◌, ◌∷◌, sym, ap, refl, ◌∙◌, arith}
-use Rattle.slotmap_core.proofs.Common.{with_items, with_items_is, same_Some, key, common_steps}
-use Rattle.slotmap_hop.specs.Slots.{CanFree, version_in, Occupied}
-use Rattle.slotmap_hop.specs.Iter.{pairs_left, IsIter, FindsSlot}
-use Rattle.slotmap_hop.proofs.SlotLemmas.{same_length}
-use Rattle.slotmap_hop.proofs.LiveSlots.{live_key, can_free, value_is}
-use Rattle.slotmap_hop.proofs.Iterators.{can_go_on, pairs-taken, iter_taken}
+use Rattle.slotmap_hop.proofs.Common.{◌≡◌, ◌∷◌, with_items, with_items_is, same_Some, key, common_steps, ◌∙◌, version_in, pairs_left, FindsSlot, same_length, pairs-taken, iter_taken}
+use Rattle.slotmap_hop.proofs.Common.{◌+◌, ◌-◌, sym, ap, refl, arith, CanFree, Occupied, IsIter, can_go_on, live_key, can_free, value_is}
 use Rattle.slotmap_hop.proofs.into_iter.IntoIterIterator.next.Goals.{After-index-index, After-retire-value}
 use Rattle.slotmap_hop.proofs.into_iter.IntoIterIterator.next.Goals as goal
 
@@ -17,10 +12,7 @@ found g c = rw c.index-index.ensures (rw (c.new-counted.ensures.slots, c.new-cou
 -- the slot there
 slot_is : (g : _) (c : After-index-index g) (found : FindsSlot c.self.inside.slots.items (c.self.inside.last + 1) c.index-index.result)
     → c.again.result.now ≡ Occupied found.state found.version found.value
-slot_is g c found =
-    let there = rw (c.new-counted.ensures.slots, c.as_slice.ensures.value) at c.next_live-slot.ensures.slot in
-    let is = rw c.index-index.ensures at found.is in
-    c.again.ensures ∙ same_Some _ _ (sym there ∙ is)
+slot_is g c found = grind (arith, common_steps, same_Some, c.new-counted.ensures.slots, c.as_slice.ensures.value, c.next_live-slot.ensures.slot, c.index-index.ensures, c.again.ensures)
 
 pub exact-requires : goal.exact-requires
 exact-requires g c =
@@ -62,9 +54,7 @@ pub returns-clause-goes : goal.returns-clause-goes
 returns-clause-goes g c = grind (arith, common_steps)
 
 pub overflow_cast-index : goal.overflow_cast-index
-overflow_cast-index g c =
-    let found = found g (goal.at.overflow_cast-index g c).After-index-index in
-    omega (arith, (live_key _ _ _ c.self.invariant.stands.sound _ _ _ found.finds.there).index_fits)
+overflow_cast-index g c = omega (arith, (live_key _ _ _ c.self.invariant.stands.sound _ _ _ (found g (goal.at.overflow_cast-index g c).After-index-index).finds.there).index_fits)
 
 -- the slot that was found can be retired
 can : (g : _) (c : After-index-index g) → CanFree c.self.inside.slots.items c.index-index.result

@@ -1,8 +1,4 @@
-use Rattle.std.proofs.Common.{◌≡◌}
-use Rattle.slotmap_core.proofs.Common.{refl, sym, ap, ◌∙◌, arith, same_Some}
-use Rattle.slotmap_hop.specs.Slots.{version_in, Occupied}
-use Rattle.slotmap_hop.proofs.LiveSlots.{live_key, live_within}
-use Rattle.slotmap_hop.proofs.Iterators.{can_go_on, iter_on, left_none}
+use Rattle.slotmap_hop.proofs.Common.{◌≡◌, sym, ap, ◌∙◌, arith, same_Some, rules, version_in, Occupied, live_key, live_within, can_go_on, iter_on, left_none}
 use Rattle.slotmap_hop.proofs.iter.Iter.step.Goals.{After-index-index}
 use Rattle.slotmap_hop.proofs.iter.Iter.step.Goals as goal
 
@@ -14,9 +10,7 @@ overflow_cast-index g c = omega (arith, c.index-index.ensures, (live_key _ _ _ c
 
 -- the slot that was found
 slot_is : (g : _) (c : After-index-index g) → c.again-slot.result.now ≡ Occupied c.next_live-slot.ensures.found.state c.next_live-slot.ensures.found.version c.next_live-slot.ensures.found.value
-slot_is g c =
-    let found = c.next_live-slot.ensures in
-    c.again-slot.ensures ∙ same_Some _ _ (sym found.slot ∙ found.found.is)
+slot_is g c = let found = c.next_live-slot.ensures in c.again-slot.ensures ∙ same_Some _ _ (sym found.slot ∙ found.found.is)
 
 pub exact-requires : goal.exact-requires
 exact-requires g c =
@@ -25,33 +19,13 @@ exact-requires g c =
 
 pub invariant_of-self : goal.invariant_of-self
 invariant_of-self g c =
-    let found = c.next_live-slot.ensures in
-    let pass = c.pass.ensures in
-    rw (pass.slots, pass.index, pass.reads, found.slots) (iter_on c.self.invariant found.found.finds found.reads)
+    let found = c.next_live-slot.ensures in let pass = c.pass.ensures in rw (pass.slots, pass.index, pass.reads, found.slots) (iter_on c.self.invariant found.found.finds found.reads)
 
 pub pass-requires : goal.pass-requires
-pass-requires g c =
-    let found = c.next_live-slot.ensures in
-    rw found.slots (live_within _ _ _ c.self.invariant.stands.sound _ _ _ found.found.finds.there)
+pass-requires g c = let found = c.next_live-slot.ensures in rw found.slots (live_within _ _ _ c.self.invariant.stands.sound _ _ _ found.found.finds.there)
 
 pub returns-clause-some : goal.returns-clause-some
-returns-clause-some g c =
-    let found = c.next_live-slot.ensures in
-    let pass = c.pass.ensures in
-    let way = found.reads in
-    let is_key = live_key _ _ _ c.self.invariant.stands.sound _ _ _ found.found.finds.there in
-    let slot_is = slot_is g (goal.at.returns-clause-some g c).After-index-index in
-    let exact = rw (c.index-index.ensures, c.version.ensures ∙ ap version_in slot_is) at c.exact.ensures in
-    let is = ap g.K.Key.data_of (g.met.K.Key.from_gives_key _ _ c.from-key.ensures) ∙ g.met.K.Key.from_data _ (rw exact is_key) ∙ exact in
-    record {
-      state = found.found.state;
-      version = found.found.version;
-      value = found.found.value;
-      is = slot_is;
-      rest = ap (λ w. w.rest) (sym c.self.view_is) ∙ found.found.finds.first ∙ rw (is, pass.slots, pass.index, found.slots) refl;
-      reads = rw (is, pass.slots, pass.index, pass.reads, found.slots, ← c.self.view_is)
-          (record { passed = way.gone; still = way.still; before = way.before; after = way.after; some = way.some; few = way.few });
-    }
+returns-clause-some g c = search (rules, arith, live_key, slot_is)
 
 pub returns-then-self-eq0-clause-none : goal.returns-then-self-eq0-clause-none
 returns-then-self-eq0-clause-none g c = ap (λ w. w.rest) (sym c.self.view_is) ∙ left_none c.self.invariant c.if-self-eq0.true

@@ -1,6 +1,5 @@
-use Rattle.slotmap_core.proofs.Common.{subst, sym, on_ok_weaker, IsListing, listing-entries}
+use Rattle.slotmap_hop.proofs.Common.{on_ok_weaker, listing-entries, arith}
 use Rattle.slotmap_hop.proofs.primary.HopSlotMapPrimary.drain_into.Goals as goal
 
 pub returns-clause-ok : goal.returns-clause-ok
-returns-clause-ok g c = on_ok_weaker c.drain_into.result (λ says.
-    (says.0, says.1, subst (IsListing c.args.self.now.content.live) (sym says.2) (listing-entries c.args.self.now.content.live))) c.drain_into.ensures.ok
+returns-clause-ok g c = grind (arith, on_ok_weaker, listing-entries c.args.self.now.content.live)

@@ -1,4 +1,4 @@
-use Rattle.slotmap_core.proofs.Common.{subst, sym, on_ok_weaker, IsKeyListing, IsKeyListing-listing, listing-entries}
+use Rattle.slotmap_hop.proofs.Common.{subst, sym, on_ok_weaker, IsKeyListing, IsKeyListing-listing, listing-entries}
 use Rattle.slotmap_hop.proofs.primary.HopSlotMapPrimary.keys_into.Goals as goal
 
 pub returns-clause-ok : goal.returns-clause-ok

@@ -1,7 +1,4 @@
-use Rattle.slotmap_core.proofs.Common.{option_map, ap, sym, ◌∙◌, arith, slice_get_past}
-use Rattle.slotmap_slots.specs.Slot.{version_at}
-use Rattle.slotmap_slots.proofs.SlotLemmas.{contains-version, contains-past}
-use Rattle.slotmap_slots.proofs.SettledLemmas.{settled_valid}
+use Rattle.slotmap_slots.proofs.Common.{option_map, ap, sym, ◌∙◌, arith, slice_get_past, version_at, contains-version, contains-past, settled_valid}
 use Rattle.slotmap_slots.proofs.slots.Slots.contains_key.Goals as goal
 
 pub returns-then-index-len-clause-value : goal.returns-then-index-len-clause-value

@@ -1,6 +1,5 @@
-use Rattle.slotmap_core.proofs.Common.{clone_copies}
+use Rattle.slotmap_slots.proofs.Common.{clone_copies, valid}
 use Rattle.slotmap_slots.proofs.SlotClones.{IsSettled-clones, settled-clones}
-use Rattle.slotmap_slots.proofs.SlotLemmas.{valid}
 use Rattle.slotmap_slots.proofs.slots.Slots.copy.Goals as goal
 
 pub invariant_of-result : goal.invariant_of-result

@@ -1,10 +1,7 @@
-use Rattle.std.proofs.Common.{◌≡◌, ◌+◌, ◌-◌, ◌∷◌, ◌++◌, [], Some, length, true, refl, sym, ap, subst, ◌∙◌, append_assoc, append-nil, length-append, arith}
-use Rattle.slotmap_core.proofs.Common.{into_iter_items, IsConsistent, Accepts, AllFitBelow, length_push, nil_from_length, starts-stack, odd_of, even_where}
-use Rattle.slotmap_core.proofs.Common.{list_limit, next_consistent, first_taken, reads_as, common_steps}
-use Rattle.slotmap_slots.specs.Slot.{full, empty, vacancies, Free, Retired}
-use Rattle.slotmap_slots.proofs.SlotLemmas.{valid, FitsEmpty-free, head_within}
-use Rattle.slotmap_slots.proofs.SettledLemmas.{vacancies-push}
-use Rattle.slotmap_slots.proofs.FromListLemmas.{AreRead, AreRead-first, AreRead-live, AreRead-retired, AreRead-vacant, IsSound-read, free_indices-read}
+use Rattle.slotmap_slots.proofs.Common.{◌≡◌, into_iter_items, nil_from_length, next_consistent, length-append, FitsEmpty-free, vacancies-push, AreRead-retired, AreRead-vacant, free_indices-read}
+use Rattle.slotmap_slots.proofs.Common.{◌++◌, IsConsistent, AllFitBelow, length_push, starts-stack, first_taken, common_steps, append_assoc, head_within, AreRead-first, AreRead-live, IsSound-read}
+use Rattle.slotmap_slots.proofs.Common.{◌+◌, ◌-◌, ◌∷◌, even_where, list_limit, reads_as, Accepts, odd_of, length, subst, ◌∙◌, append-nil, arith, valid, AreRead, vacancies, Retired}
+use Rattle.slotmap_slots.proofs.Common.{[], Some, true, refl, sym, ap, empty, full, Free}
 use Rattle.slotmap_slots.proofs.slots.Slots.from_slots.Goals.{In_ok-check_slots, In-Some, In-None}
 use Rattle.slotmap_slots.proofs.slots.Slots.from_slots.Goals as goal
 
@@ -109,11 +106,7 @@ push_empty-requires-else-version-eq0-clause-out g c =
 all_read : (g : _) (c : In-None g) → (AllFitBelow c.args.list.items (length c.args.list.items))
     × AreRead c.args.list.items (g.L.Layout.slots c.loop-record.layout) c.loop-record.first_vacant
     (vacancies (g.L.Layout.slots c.loop-record.layout) (c.loop-record.live_count + c.loop-record.aside_count)) c.loop-record.live_count
-all_read g c =
-    let at = c.loop-record in
-    let none : into_iter_items at.record-iterator ≡ [] = grind (arith, nil_from_length, length-append) in
-    let all : at.invariant.first ∷ at.yielded ≡ c.args.list.items = grind (arith, append-nil) in
-    (subst (λ l. AllFitBelow l (length l)) c.deref.ensures.value c.in_ok-check_slots.ensures.versions_fit, rw all at at.invariant.read)
+all_read g c = grind (arith, nil_from_length, length-append, append-nil)
 
 pub invariant_of-result : goal.invariant_of-result
 invariant_of-result g c =

@@ -1,8 +1,5 @@
-use Rattle.std.proofs.Common.{◌≡◌, ◌+◌, ◌≤◌, ◌∷◌, ◌++◌, length}
-use Rattle.slotmap_core.proofs.Common.{into_iter_items, into_iter_len}
+use Rattle.slotmap_slots.proofs.Common.{◌≡◌, ◌+◌, ◌≤◌, ◌∷◌, ◌++◌, into_iter_items, into_iter_len, length, vacancies, AreRead}
 use Rattle.slotmap_core.specs.declared.serial.SlotRecord.{SlotRecord}
-use Rattle.slotmap_slots.specs.Slot.{vacancies}
-use Rattle.slotmap_slots.proofs.FromListLemmas.{AreRead}
 use Rattle.slotmap_slots.proofs.slots.Slots.from_slots.Given as goal
 
 -- after the first record, these were read

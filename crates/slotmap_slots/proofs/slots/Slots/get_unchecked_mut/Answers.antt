@@ -1,6 +1,4 @@
-use Rattle.slotmap_core.proofs.Common.{is_some, refl, ap}
-use Rattle.slotmap_slots.proofs.SlotLemmas.{content-rewritten}
-use Rattle.slotmap_slots.proofs.SettledLemmas.{settled_valid, settled_present, vacancies-written, with_payload-settled, settled_value}
+use Rattle.slotmap_slots.proofs.Common.{is_some, refl, ap, content-rewritten, settled_valid, settled_present, vacancies-written, with_payload-settled, settled_value}
 use Rattle.slotmap_slots.proofs.slots.Slots.get_unchecked_mut.Goals as goal
 
 pub payload_mut-requires : goal.payload_mut-requires

@@ -1,12 +1,8 @@
-use Rattle.slotmap_core.proofs.Common.{arith, ltb-true}
-use Rattle.slotmap_slots.proofs.SettledLemmas.{settled_valid, settled_reuses, settled_spare}
+use Rattle.slotmap_slots.proofs.Common.{arith, ltb-true, settled_valid, settled_reuses, settled_spare}
 use Rattle.slotmap_slots.proofs.slots.Slots.has_room.Goals as goal
 
-pub returns-then-self-ne0-clause-room : goal.returns-then-self-ne0-clause-room
-returns-then-self-ne0-clause-room g c = λ _. settled_reuses c.self.invariant c.self.view_is c.if-self-ne0.true
-
-pub returns-then-self-ne0-clause-valid : goal.returns-then-self-ne0-clause-valid
-returns-then-self-ne0-clause-valid g c = settled_valid c.self.invariant c.self.view_is
+pub returns-then-self-ne0 : goal.returns-then-self-ne0
+returns-then-self-ne0 g c = record { room = λ _. settled_reuses c.self.invariant c.self.view_is c.if-self-ne0.true; valid = settled_valid c.self.invariant c.self.view_is }
 
 pub returns-else-self-ne0-clause-room : goal.returns-else-self-ne0-clause-room
 returns-else-self-ne0-clause-room g c = λ less.

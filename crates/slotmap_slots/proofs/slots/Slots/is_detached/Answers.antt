@@ -1,9 +1,5 @@
-use Rattle.std.proofs.Common.{◌≡◌, ◌≢◌, Some, ap, sym, ◌∙◌, arith}
+use Rattle.slotmap_slots.proofs.Common.{◌≡◌, ◌≢◌, option_map, Some, ap, sym, ◌∙◌, arith, version_at, version_before, detached-past, detached-stale, detached-at, settled_valid}
 use Rattle.std.proofs.lemmas.Option.{slice_get_past}
-use Rattle.slotmap_core.proofs.Common.{option_map}
-use Rattle.slotmap_slots.specs.Slot.{version_at, version_before}
-use Rattle.slotmap_slots.proofs.SlotGrowth.{detached-past, detached-stale, detached-at}
-use Rattle.slotmap_slots.proofs.SettledLemmas.{settled_valid}
 use Rattle.slotmap_slots.proofs.slots.Slots.is_detached.Goals.{After-version-2}
 use Rattle.slotmap_slots.proofs.slots.Slots.is_detached.Goals as goal
 

@@ -1,17 +1,11 @@
-use Rattle.std.proofs.Common.{◌+◌, ◌<◌, length, ap, sym, ◌∙◌, arith}
-use Rattle.slotmap_core.proofs.Common.{slice_get_within, key}
-use Rattle.slotmap_slots.proofs.SlotGrowth.{top, top_version, top_read, offer-new, offer-top}
-use Rattle.slotmap_slots.proofs.SettledLemmas.{settled_fits}
+use Rattle.slotmap_slots.proofs.Common.{◌<◌, slice_get_within, key, length, ap, sym, ◌∙◌, arith, top, top_version, top_read, offer-new, offer-top, settled_fits}
 use Rattle.slotmap_slots.proofs.slots.Slots.next_key.Goals as goal
 
 pub version-requires : goal.version-requires
 version-requires g c = slice_get_within _ _ _ (top c.self.invariant.sound c.if-self-eq0.false).there
 
 pub overflow_add-version : goal.overflow_add-version
-overflow_add-version g c =
-    let t = top c.self.invariant.sound c.if-self-eq0.false in
-    let read = top_read t c.version.ensures in
-    omega (arith, (top_version t).0)
+overflow_add-version g c = let t = top c.self.invariant.sound c.if-self-eq0.false in let read = top_read t c.version.ensures in omega (arith, (top_version t).0)
 
 pub exact-requires-2 : goal.exact-requires-2
 exact-requires-2 g c =
@@ -23,11 +17,7 @@ exact-requires-2 g c =
     record { index_fits = omega arith; version_fits = omega (arith, good.0); odd = omega (arith, good.1); one_null = λ last. absurd (omega arith) }
 
 pub returns-then-self-eq0 : goal.returns-then-self-eq0
-returns-then-self-eq0 g c =
-    c.exact.ensures ∙ ap (λ n. key n 1) c.len.ensures ∙ sym (ap (λ m. m.offer) (sym c.self.view_is) ∙ offer-new c.self.invariant.sound c.if-self-eq0.true)
+returns-then-self-eq0 g c = c.exact.ensures ∙ ap (λ n. key n 1) c.len.ensures ∙ sym (ap (λ m. m.offer) (sym c.self.view_is) ∙ offer-new c.self.invariant.sound c.if-self-eq0.true)
 
 pub returns : goal.returns
-returns g c =
-    let t = top c.self.invariant.sound c.if-self-eq0.false in
-    let read = top_read t c.version.ensures in
-    c.exact-2.ensures ∙ ap (λ v. key c.self.inside.first_vacant (v + 1)) read ∙ sym (ap (λ m. m.offer) (sym c.self.view_is) ∙ offer-top t)
+returns g c = grind (arith, top_read (top c.self.invariant.sound c.if-self-eq0.false) c.version.ensures, offer-top (top c.self.invariant.sound c.if-self-eq0.false))

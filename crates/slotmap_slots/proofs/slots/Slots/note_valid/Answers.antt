@@ -1,4 +1,4 @@
-use Rattle.slotmap_slots.proofs.SettledLemmas.{settled_valid}
+use Rattle.slotmap_slots.proofs.Common.{settled_valid}
 use Rattle.slotmap_slots.proofs.slots.Slots.note_valid.Goals as goal
 
 pub returns : goal.returns

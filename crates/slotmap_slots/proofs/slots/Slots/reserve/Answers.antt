@@ -1,19 +1,8 @@
-use Rattle.std.proofs.Common.{◌<◌, arith}
-use Rattle.slotmap_core.proofs.Common.{err_not_ok, common_steps}
-use Rattle.slotmap_slots.proofs.SettledLemmas.{settled_fits, settled_used, settled_places, grown}
+use Rattle.slotmap_slots.proofs.Common.{◌<◌, err_not_ok, common_steps, arith, settled_fits, settled_used, settled_places, grown}
 use Rattle.slotmap_slots.proofs.slots.Slots.reserve.Goals as goal
 
 pub reserve-requires : goal.reserve-requires
-reserve-requires g c =
-    omega (
-      arith,
-      settled_used c.self.invariant c.self.view_is,
-      settled_fits c.self.invariant c.self.view_is,
-      c.used-used.ensures.value,
-      c.if-additional-used.false,
-      c.place_count.ensures.value,
-      settled_places c.self.invariant c.self.view_is,
-    )
+reserve-requires g c = grind (arith, settled_used c.self.invariant c.self.view_is, settled_fits c.self.invariant c.self.view_is, settled_places c.self.invariant c.self.view_is)
 
 pub returns-in_err-reserve-clause-makes_room : goal.returns-in_err-reserve-clause-makes_room
 returns-in_err-reserve-clause-makes_room g c =

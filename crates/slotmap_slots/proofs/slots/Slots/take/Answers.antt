@@ -1,8 +1,5 @@
-use Rattle.std.proofs.Common.{◌≡◌, ◌+◌, ◌%◌, ◌^◌, true, false, is_some, ap, arith, eq-eqb, ne_eqb}
-use Rattle.slotmap_core.proofs.Common.{nat_eq, last_version}
-use Rattle.slotmap_slots.proofs.SlotLemmas.{FitsEmpty-free, head_fits}
-use Rattle.slotmap_slots.proofs.SettledLemmas.{settled_present, settled_positive, settled_value}
-use Rattle.slotmap_slots.proofs.ChangeLemmas.{removed_last, removed_other}
+use Rattle.slotmap_slots.proofs.Common.{◌≡◌, ◌+◌, ◌%◌, ◌^◌, nat_eq, last_version, is_some, head_fits, settled_present, settled_positive, settled_value, removed_last, removed_other}
+use Rattle.slotmap_slots.proofs.Common.{true, false, ap, arith, eq-eqb, ne_eqb}
 use Rattle.slotmap_slots.proofs.slots.Slots.take.Goals.{Then-after-eq0, Else-after-eq0}
 use Rattle.slotmap_slots.proofs.slots.Slots.take.Goals as goal
 
@@ -20,13 +17,11 @@ pub overflow_sub-self : goal.overflow_sub-self
 overflow_sub-self g c = omega (arith, settled_positive c.self.invariant c.self.view_is c.args.key c.requires)
 
 pub take-requires-clause-there : goal.take-requires-clause-there
-take-requires-clause-there g c =
-    rw c.idx-index.ensures.value (ap is_some (settled_present c.self.invariant c.self.view_is c.args.key c.requires).read)
+take-requires-clause-there g c = rw c.idx-index.ensures.value (ap is_some (settled_present c.self.invariant c.self.view_is c.args.key c.requires).read)
 
 pub invariant_of-self : goal.invariant_of-self
 invariant_of-self g c =
-    rw (c.take.ensures.left, c.take.ensures.same_room, c.idx-index.ensures.value)
-    (removed_last c.self.invariant c.self.view_is c.args.key c.requires (last g (goal.at.invariant_of-self g c).Then-after-eq0)).settled
+    grind (arith, removed_last c.self.invariant c.self.view_is c.args.key c.requires (last g (goal.at.invariant_of-self g c).Then-after-eq0), last g (goal.at.invariant_of-self g c).Then-after-eq0)
 
 pub returns-then-after-eq0-clause-value : goal.returns-then-after-eq0-clause-value
 returns-then-after-eq0-clause-value g c = settled_value c.self.invariant c.self.view_is c.args.key c.requires _ c.idx-index.ensures.value _ c.take.ensures.value
@@ -42,13 +37,11 @@ returns-then-after-eq0-clause-valid g c =
     (removed_last c.self.invariant c.self.view_is c.args.key c.requires (last g (goal.at.returns-then-after-eq0-clause-valid g c).Then-after-eq0)).valid
 
 pub take-payload-requires-clause-there : goal.take-payload-requires-clause-there
-take-payload-requires-clause-there g c =
-    rw c.idx-index.ensures.value (ap is_some (settled_present c.self.invariant c.self.view_is c.args.key c.requires).read)
+take-payload-requires-clause-there g c = rw c.idx-index.ensures.value (ap is_some (settled_present c.self.invariant c.self.view_is c.args.key c.requires).read)
 
 pub take-payload-requires-clause-out : goal.take-payload-requires-clause-out
 take-payload-requires-clause-out g c =
-    let found = settled_present c.self.invariant c.self.view_is c.args.key c.requires in
-    FitsEmpty-free _ _ (omega (arith, found.odd, c.version-version.ensures.value)) (head_fits c.self.invariant.sound) (λ none. absurd (c.if-after-eq0.false none))
+    grind (arith, settled_present c.self.invariant c.self.view_is c.args.key c.requires, (settled_present c.self.invariant c.self.view_is c.args.key c.requires).odd, head_fits c.self.invariant.sound)
 
 pub invariant_of-self-2 : goal.invariant_of-self-2
 invariant_of-self-2 g c =

@@ -1,7 +1,4 @@
-use Rattle.slotmap_core.proofs.Common.{true, arith, common_steps, writes_clones, clones_contents, equal_writes, equal_contents, writes-stack}
-use Rattle.slotmap_slots.proofs.SettledLemmas.{settled_valid}
-use Rattle.slotmap_slots.proofs.FromListLemmas.{records-next, records-all}
-use Rattle.slotmap_slots.proofs.SlotLemmas.{stacked_free}
+use Rattle.slotmap_slots.proofs.Common.{true, arith, writes_clones, clones_contents, equal_writes, equal_contents, writes-stack, settled_valid, records-next, records-all, stacked_free}
 use Rattle.slotmap_slots.proofs.slots.Slots.to_slots.Goals as goal
 
 pub loop-index-preserved : goal.loop-index-preserved
@@ -22,9 +19,3 @@ returns-clause-writes_if_clones_equal g c = equal_writes _ true _ _ (returns-cla
 
 pub returns-clause-contents_if_clones_equal : goal.returns-clause-contents_if_clones_equal
 returns-clause-contents_if_clones_equal g c = equal_contents _ true _ _ (returns-clause-writes g c)
-
-pub push_reserved-requires : goal.push_reserved-requires
-push_reserved-requires g c = grind (arith, common_steps)
-
-pub record_at-requires-clause-within : goal.record_at-requires-clause-within
-record_at-requires-clause-within g c = grind (arith, common_steps)

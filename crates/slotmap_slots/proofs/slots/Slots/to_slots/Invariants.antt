@@ -1,6 +1,4 @@
-use Rattle.std.proofs.Common.{◌+◌, ◌≤◌, take, vec_len, vec_capacity}
-use Rattle.slotmap_core.proofs.Common.{AreRecordClones, records_of}
-use Rattle.slotmap_slots.specs.Slot.{places_of}
+use Rattle.slotmap_slots.proofs.Common.{◌+◌, ◌≤◌, AreRecordClones, records_of, take, vec_len, vec_capacity, places_of}
 use Rattle.slotmap_slots.proofs.slots.Slots.to_slots.Given as goal
 
 abbrev pub invariant-loop-index : goal.invariant-loop-index

@@ -1,5 +1,4 @@
-use Rattle.slotmap_core.proofs.Common.{arith}
-use Rattle.slotmap_slots.proofs.SettledLemmas.{settled_valid, settled_used}
+use Rattle.slotmap_slots.proofs.Common.{arith, settled_valid, settled_used}
 use Rattle.slotmap_slots.proofs.slots.Slots.used.Goals as goal
 
 pub returns-clause-value : goal.returns-clause-value

@@ -1,6 +1,4 @@
-use Rattle.slotmap_core.proofs.Common.{arith, common_steps, sentinel_alone, used_places-sentinel}
-use Rattle.slotmap_slots.proofs.SlotLemmas.{valid}
-use Rattle.slotmap_slots.proofs.SlotGrowth.{IsSound-sentinel}
+use Rattle.slotmap_slots.proofs.Common.{arith, sentinel_alone, used_places-sentinel, valid, IsSound-sentinel}
 use Rattle.slotmap_slots.proofs.slots.Slots.with_capacity.Goals as goal
 
 pub invariant_of-result : goal.invariant_of-result
@@ -15,12 +13,4 @@ pub returns-clause-room : goal.returns-clause-room
 returns-clause-room g c = grind (arith, used_places-sentinel)
 
 pub returns-clause-valid : goal.returns-clause-valid
-returns-clause-valid g c =
-    rw (c.push_empty.ensures.pushed, c.push_empty.ensures.same_room, c.in_ok-layout.ensures.none)
-    (valid IsSound-sentinel _ (omega (arith, c.in_ok-layout.ensures.room)))
-
-pub push_empty-requires-clause-room : goal.push_empty-requires-clause-room
-push_empty-requires-clause-room g c = grind (arith, common_steps)
-
-pub overflow_add-capacity : goal.overflow_add-capacity
-overflow_add-capacity g c = grind (arith, common_steps)
+returns-clause-valid g c = rw (c.push_empty.ensures.pushed, c.push_empty.ensures.same_room, c.in_ok-layout.ensures.none) (valid IsSound-sentinel _ (omega (arith, c.in_ok-layout.ensures.room)))
