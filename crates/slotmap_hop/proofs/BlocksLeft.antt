@@ -2,7 +2,8 @@
 use Rattle.std.specs.FinMap as map
 use Rattle.std.proofs.Common.{◌≡◌, ◌+◌, ◌≤◌, ◌∷◌, ◌++◌, map as list_map, sym, ap, ◌∙◌, arith, ℕ, true, false, List, [], cond, Some, append_assoc, append-nil, is_some}
 use Rattle.slotmap_core.proofs.Common.{Key, key_cmp, Visit, seen, seen_push, Removes, from_index, Keyed-same, entries_none, next_entry, Visits}
-use Rattle.slotmap_hop.specs.{HopContent.HopContent, HopContent.IsHopContent, HopContent.IsNextLive, HopContent.blocks_without, HopContent.blocks_without_all, Retain.dropped}
+use Rattle.slotmap_hop.specs.HopContent.{HopContent, IsHopContent, IsNextLive, blocks_without, blocks_without_all}
+use Rattle.slotmap_hop.specs.Retain.{dropped}
 
 module _ {V : Type 0} where
   -- after one of these keys is removed, the others remain

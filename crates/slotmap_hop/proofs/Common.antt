@@ -24,8 +24,8 @@ pub use Rattle.slotmap_hop.proofs.SettledLemmas.{held, at_end, well_formed, back
 pub use Rattle.slotmap_hop.proofs.SlotLemmas.{taken_slots, slots_fit, valid, same_length}
 pub use Rattle.slotmap_hop.proofs.SlotReads.{length-all_links, all_links_written, places_written, all_links_vacant, place_linked, occupied_read, all_links_retired, leads_within, tails_within, flag_at}
 pub use Rattle.slotmap_hop.proofs.SlotReads.{slot_within, values_same, value_read, back_named, next_read, prev_read, links_set, next_set, places_kept, prev_set}
-pub use Rattle.slotmap_hop.proofs.Sweeping.{clearing_starts_at, clearing_run, clearing_removed_at, clearing_ends, clearing_blocks, clearing_starts, clearing_removed, indices_left, next_is_least}
-pub use Rattle.slotmap_hop.proofs.Sweeping.{Clearing, ClearingAt, places_left, look_begins, place_comes, after_above}
+pub use Rattle.slotmap_hop.proofs.Sweeping.{clearing_ends, clearing_blocks, clearing_starts, clearing_removed, indices_left, next_is_least}
+pub use Rattle.slotmap_hop.proofs.Sweeping.{Clearing, places_left, look_begins, place_comes, after_above}
 pub use Rattle.slotmap_hop.proofs.Taking.{zero_leads, first_leads, read_back, first, second_head, front_vacant, taken_block, lost_front, shorter_to_one, shorter_longer}
 pub use Rattle.slotmap_hop.proofs.WellFormed.{StaysHop-with_value}
 pub use Rattle.slotmap_hop.proofs.Writes.{vacancy_kept, flag_read, links_here, flags_kept, leads_kept, tails_kept, ends_kept, keeps_both, nexts_both, prev_both, prevs_both}

@@ -1,20 +1,17 @@
 -- What a map is once all its slots were made vacant at once: the same as if its live keys had been removed one after the other.
 use Rattle.std.specs.FinMap as map
-use Rattle.std.proofs.Common.{◌≡◌, ◌≢◌, ◌+◌, ◌-◌, ◌<◌, ◌≤◌, ◌∷◌, Option, Some, None, ℕ, zero, suc, true, List, length, slice_get, inl, inr}
-use Rattle.std.proofs.Common.{map as list_map, set, ne_eqb, refl, sym, ap, subst, ◌∙◌, arith, is_some}
+use Rattle.std.proofs.Common.{◌≡◌, ◌≢◌, ◌+◌, ◌-◌, ◌<◌, ◌≤◌, ◌∷◌, Option, Some, None, ℕ, zero, suc, true, List, length, slice_get, inl, inr, map as list_map, set}
+use Rattle.std.proofs.Common.{ne_eqb, refl, sym, ap, subst, ◌∙◌, arith, is_some}
 use Rattle.std.proofs.lemmas.Option.{slice_get_within}
 use Rattle.slotmap_core.proofs.Common.{Key, key, last_version, Place, Live, Vacant, Detached, Retired, left_by, nat_tests, live, IsLive, NoneBelow, NoneBelow-end, Swept, Swept-start, Swept-on}
 use Rattle.slotmap_core.proofs.Common.{Swept-removed, first_entry, above_next, live_at, map-set_same, at_set, get_or_from_slice_get, get-live_at, IsStacked, key_cmp}
 use Rattle.slotmap_hop.specs.Slots.{Slot, all_links, places_of, hop_content, IsSound, Frees, CanEmpty, EmptiesAll, emptied}
-use Rattle.slotmap_hop.specs.Links.{vacant_at, blocks_of}
-use Rattle.slotmap_hop.specs.Blocks.{vacated}
+use Rattle.slotmap_hop.specs.{Links.vacant_at, Links.blocks_of, Blocks.vacated}
 use Rattle.slotmap_hop.specs.HopContent.{RemovesAt, Clears, blocks_without_all}
 use Rattle.slotmap_hop.proofs.SlotReads.{slot_cases, length-all_links, length-places}
 use Rattle.slotmap_hop.proofs.SlotLemmas.{valid, same_length, same_counts, taken_slots, place_vacant}
 use Rattle.slotmap_hop.proofs.BlocksLeft.{blocks_taken, keys_first, keys_none}
-use Rattle.slotmap_hop.proofs.Growth.{removes-slots}
-use Rattle.slotmap_hop.proofs.LiveSlots.{elems_positive, sound-freed}
-use Rattle.slotmap_hop.proofs.Relinking.{frees_one}
+use Rattle.slotmap_hop.proofs.{Growth.removes-slots, LiveSlots.elems_positive, LiveSlots.sound-freed, Relinking.frees_one}
 use Rattle.slotmap_hop.proofs.OneBlock.{Whole, whole, version_below, emptied_place, emptied_at, places_emptied, none_live_left}
 
 -- what freeing one slot does to the content

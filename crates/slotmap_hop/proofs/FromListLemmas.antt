@@ -7,7 +7,8 @@ use Rattle.slotmap_core.proofs.Common.{slice_get, length_push, length-map, take_
 use Rattle.slotmap_core.proofs.Common.{Some, refl, sym, ap, subst, ◌∙◌, arith, eqb, nat_tests, Vacant, live, Accepts, IsStacked, Writes, record_of, vacant_is, odd_of}
 use Rattle.slotmap_core.specs.declared.serial.SlotRecord.{SlotRecord}
 use Rattle.slotmap_hop.specs.Slots.{Slot, version_in, links_in, value_in, read_slot, place_in, all_links, places_of, hop_content, IsSound}
-use Rattle.slotmap_hop.specs.{Blocks.Blocks, Blocks.Ascend, Blocks.vacated, Links.vacant_at, Links.blocks_of, Links.HasBlockList, Links.CanVacate}
+use Rattle.slotmap_hop.specs.Blocks.{Blocks, Ascend, vacated}
+use Rattle.slotmap_hop.specs.Links.{vacant_at, blocks_of, HasBlockList, CanVacate}
 use Rattle.slotmap_hop.proofs.SlotReads.{length-all_links, length-places, slot_cases, place_at}
 use Rattle.slotmap_hop.proofs.{Taking.HasBlockList-pushed, Taking.blocks_pushed, Empty.sentinel_alone, Empty.IsSound-new}
 use Rattle.std.specs.FinMap as map

@@ -4,10 +4,12 @@ use Rattle.std.proofs.Common.{◌≡◌, ◌≢◌, ◌+◌, ◌-◌, ◌^◌, �
 use Rattle.slotmap_core.proofs.Common.{map-append, Removes, Detached, content_of_places, used_places, IsVersion, IsStacked, len-live-set, len-live-push, IsStacked-filled, IsStacked-pushed, ⊎_elim}
 use Rattle.slotmap_core.proofs.Common.{Key, most, Inserts, Place, Live, Vacant, live, left_by, filled, key, removes, inserts, at_set, at_push}
 use Rattle.slotmap_hop.specs.Slots.{Slot, SingleState, Occupied, version_in, place_in, all_links, places_of, next_place, offer_at, holding, hop_content, IsSound}
-use Rattle.slotmap_hop.specs.{Blocks.shorter, Links.list_without, Links.blocks_of, Links.HasBlockList}
+use Rattle.slotmap_hop.specs.Blocks.{shorter}
+use Rattle.slotmap_hop.specs.Links.{list_without, blocks_of, HasBlockList}
 use Rattle.slotmap_hop.proofs.StackOrder.{IsStacked-first, length_removed, untold, Inserts-untold, Removes-untold}
 use Rattle.slotmap_hop.proofs.SlotLemmas.{vacant_slot, back_vacant, empty_stack, in_order, ordered_map, content_is}
-use Rattle.slotmap_hop.proofs.{SlotReads.length-all_links, SlotReads.length-places, Taking.HasBlockList-pushed, Taking.blocks_pushed, Taking.shorter_none}
+use Rattle.slotmap_hop.proofs.SlotReads.{length-all_links, length-places}
+use Rattle.slotmap_hop.proofs.Taking.{HasBlockList-pushed, blocks_pushed, shorter_none}
 
 module _ {V : Type 0} (slots : List (Slot V)) (vacant elems : ℕ) (sound : IsSound slots vacant elems) (new : List (Slot V)) where
   -- one place changes; the new stack and both counts are given

@@ -5,9 +5,12 @@ use Rattle.slotmap_core.proofs.Common.{is_some, ◌∙◌, slice_get_within, get
 use Rattle.slotmap_core.proofs.Common.{refl, sym, ap, arith, drop_all, All-nil, All-cons, All-push, All, Key, Place, Live, Detached, live, gather, live_at, key, ℕ}
 use Rattle.slotmap_hop.specs.Slots.{Slot, value_in, links_in, hop_in, back_in, place_in, all_links, places_of, State, SingleState, FrontState, BackState, Retired, Occupied, Empty}
 use Rattle.slotmap_hop.specs.Iter.{pairs_left, retired_left, StandsAt, CanGoOn, FindsNone, FindsSlot, ReadsOnTheWay, Counted, IsRead, GoesTo}
-use Rattle.slotmap_hop.specs.{Blocks.Begins, Blocks.IsBlock, Links.is_vacant, Links.end_in, Links.NamesApart, Links.vacant_at, Links.links_at, Links.end_at}
+use Rattle.slotmap_hop.specs.Blocks.{Begins, IsBlock}
+use Rattle.slotmap_hop.specs.Links.{is_vacant, end_in, NamesApart, vacant_at, links_at, end_at}
 use Rattle.slotmap_hop.proofs.SlotReads.{length-places, slot_within, place_at, slot_cases, occupied}
-use Rattle.slotmap_hop.proofs.{BlockLemmas.clash, BlockLemmas.begins_after, BlockLemmas.front_here, Circle.shown, SlotLemmas.place_not_vacant, SlotLemmas.slots_fit, SlotLemmas.vacant_slot}
+use Rattle.slotmap_hop.proofs.BlockLemmas.{clash, begins_after, front_here}
+use Rattle.slotmap_hop.proofs.Circle.{shown}
+use Rattle.slotmap_hop.proofs.SlotLemmas.{place_not_vacant, slots_fit, vacant_slot}
 use Rattle.std.specs.FinMap as map
 
 module _ {V : Type 0} where

@@ -5,7 +5,9 @@ use Rattle.std.proofs.Common.{◌≡◌, ◌+◌, ◌-◌, ◌≤◌, ◌∷◌,
 use Rattle.slotmap_core.proofs.Common.{nil_from_length, drop-set-lt, key_cmp, Place, Retired, live, retired_entry, gather, retired_fits, detached_laws, len-add, entries-live}
 use Rattle.slotmap_core.specs.Places.{retired}
 use Rattle.slotmap_hop.specs.Iter.{pairs_left, retired_left, IsIter, CanGoOn, FindsLive, ReadsOnTheWay, ListsRetired}
-use Rattle.slotmap_hop.specs.{Slots.Slot, Slots.all_links, Slots.places_of, Slots.hop_content, Slots.IsSound, Blocks.Begins, Blocks.IsBlock, Links.vacant_at, Links.end_at, Links.fronts_of}
+use Rattle.slotmap_hop.specs.Slots.{Slot, all_links, places_of, hop_content, IsSound}
+use Rattle.slotmap_hop.specs.Blocks.{Begins, IsBlock}
+use Rattle.slotmap_hop.specs.Links.{vacant_at, end_at, fronts_of}
 use Rattle.slotmap_hop.proofs.HoppingLemmas.{pairs_from, retired_from, past_block, stands_on}
 use Rattle.slotmap_hop.proofs.{BlockLemmas.clash, BlockLemmas.begins_after, Circle.block_at, Vacating.zero_in_circle, SlotReads.slot_within, SlotLemmas.place_not_vacant, LiveSlots.sound-retired}
 

@@ -4,13 +4,15 @@ use Rattle.slotmap_core.proofs.Common.{arith, map-set, length-map, Option}
 use Rattle.slotmap_hop.specs.Blocks.{IsBlock, vacated_alone, vacated_before, vacated_after, vacated_between}
 use Rattle.slotmap_hop.specs.Links.{is_vacant, has_next, has_prev, end_in, vacant_at, links_at, list_without, fronts_of, blocks_of, Redirects, TakesOver, KeepsEnds, HasBlockList, HasBlocks, CanVacate}
 use Rattle.slotmap_hop.specs.Links.{next_in, prev_in, next_at, held_at, prev_at, end_at, occurs, replaced, Puts, Unlinks, IsHead}
-use Rattle.slotmap_hop.specs.{declared.links.Links.Links, declared.links.Links.TheVariants.Single, declared.links.Links.TheVariants.Front, declared.links.Links.TheVariants.Back}
+use Rattle.slotmap_hop.specs.declared.links.Links.{Links}
+use Rattle.slotmap_hop.specs.declared.links.Links.TheVariants.{Single, Front, Back}
 use Rattle.slotmap_hop.proofs.Chain.{in_removed, next_occurs, prev_occurs, IsChain-removed, IsChain-replaced, IsChain-appended}
 use Rattle.slotmap_hop.proofs.Writes.{links_here, links_other, vacancy_kept, flags_kept, ends_kept, apart_kept, apart_set, within, same_test, other_test}
 use Rattle.slotmap_hop.proofs.FrontsLemmas.{stands_once, zero_apart, on_circle, listed_alone, listed_right, listed_left, listed_both}
 use Rattle.slotmap_hop.proofs.Views.{blocks_replaced, blocks_removed, blocks_appended, back_at-listed, blocks_grown}
 use Rattle.slotmap_hop.proofs.Vacating.{zero_in_circle, in_circle_differs, absent, right_block, not_back, right_front, left_block, new_vacates, puts_between, grown, ends_stay}
-use Rattle.slotmap_hop.proofs.{BlockLemmas.IsBlock-front, BlockLemmas.begins_at, BlockLemmas.joined, Circle.shown, Circle.head_on, Circle.held_on, Circle.leads_at, Circle.tails_at}
+use Rattle.slotmap_hop.proofs.BlockLemmas.{IsBlock-front, begins_at, joined}
+use Rattle.slotmap_hop.proofs.Circle.{shown, head_on, held_on, leads_at, tails_at}
 
 -- the last block of the list
 module _ {es : List (Option Links)} (list : HasBlockList es) where

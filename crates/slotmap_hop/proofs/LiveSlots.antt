@@ -7,7 +7,8 @@ use Rattle.slotmap_core.proofs.Common.{nat_tests, length-set, Key, IsKey, key_cm
 use Rattle.slotmap_hop.specs.Slots.{Slot, State, Occupied, version_in, links_in, place_in, all_links, places_of, value_in, value_at, CanFree, next_place, offer_at, hop_content, IsSound}
 use Rattle.slotmap_hop.specs.{Links.blocks_of, Links.HasBlockList, HopContent.hop_with_value}
 use Rattle.slotmap_hop.proofs.SlotLemmas.{key_is, vacant_slot, place_not_vacant, slots_fit, back_vacant, in_order, ordered_map}
-use Rattle.slotmap_hop.proofs.{SlotReads.length-all_links, SlotReads.length-places, SlotReads.slot_cases, SlotReads.places_written, Growth.IsSound-set}
+use Rattle.slotmap_hop.proofs.SlotReads.{length-all_links, length-places, slot_cases, places_written}
+use Rattle.slotmap_hop.proofs.Growth.{IsSound-set}
 
 -- the slot of a live place
 live_slot : {V : Type 0} (slots : List (Slot V)) (i v : ℕ) (x : V) → slice_get (places_of slots) i ≡ Some (Live v x)

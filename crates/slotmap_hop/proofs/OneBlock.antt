@@ -1,13 +1,15 @@
 -- All slots are made vacant at once: then the sentinel's block is the only one.
 use Rattle.std.proofs.Common.{◌≡◌, ◌+◌, ◌-◌, ◌%◌, ◌<◌, ◌≤◌, ◌^◌, ◌∷◌, ◌++◌, take, drop, get_or, max, Option, Some, false, length, slice_get, ◌∙◌, arith}
 use Rattle.std.proofs.Common.{ℕ, zero, suc, true, List, [], map, set, refl, sym, ap, inl, inr}
-use Rattle.std.proofs.{lemmas.List.take_more, lemmas.List.take_more_set, lemmas.List.drop-set-lt, lemmas.List.get_or-drop, lemmas.Grind.drop_more_same, lemmas.Option.slice_get_within}
+use Rattle.std.proofs.lemmas.List.{take_more, take_more_set, drop-set-lt, get_or-drop}
+use Rattle.std.proofs.lemmas.{Grind.drop_more_same, Option.slice_get_within}
 use Rattle.slotmap_core.proofs.Common.{map-append, nat_tests, cases_Bool, length-map, length-set, last_version, Place, Live, Vacant, Detached, Retired, common_steps}
 use Rattle.slotmap_hop.specs.Blocks.{IsBlock}
 use Rattle.slotmap_hop.specs.Links.{is_front, vacant_at, links_at, next_at, prev_at, end_at, next_in, end_in, fronts_of, blocks_of, NamesApart, ListsOnce, HasBlockList}
 use Rattle.slotmap_hop.specs.Slots.{Links, Single, Front, Back, Slot, SingleState, Empty, version_in, place_in, all_links, places_of, AllGoOn, CanEmpty, emptied}
 use Rattle.slotmap_hop.proofs.Writes.{within, flag_read, links_here, links_other, vacancy_kept, apart_set}
-use Rattle.slotmap_hop.proofs.{Chain.occurs-head, BlockLemmas.IsBlock-unique, Circle.shown, Circle.block_at, Circle.is_linked, SlotReads.slot_cases, SlotReads.length-all_links}
+use Rattle.slotmap_hop.proofs.{Chain.occurs-head, BlockLemmas.IsBlock-unique, SlotReads.slot_cases, SlotReads.length-all_links}
+use Rattle.slotmap_hop.proofs.Circle.{shown, block_at, is_linked}
 
 -- the version before, where 0 is after the last one
 abbrev pub before : ℕ → ℕ

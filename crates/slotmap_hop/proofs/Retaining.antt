@@ -7,7 +7,8 @@ use Rattle.slotmap_core.proofs.Common.{FoldsTo, key_cmp, IsLive, Removes, Visit,
 use Rattle.slotmap_core.proofs.Common.{Mut, Key, seen}
 use Rattle.slotmap_hop.specs.HopContent.{HopContent, IsHopContent, IsNextLive, IsNextPlace, HasKeyAt, StaysHop, hop_with_value, blocks_without, blocks_without_all}
 use Rattle.slotmap_hop.specs.Retain.{RetainsByIndex, dropped}
-use Rattle.slotmap_hop.proofs.{BlocksLeft.InOrder, BlocksLeft.InOrder-kept, BlocksLeft.InOrder-dropped, Sweeping.Sweeping, Sweeping.same_comes, Sweeping.sweep_written, Sweeping.sweep_dropped}
+use Rattle.slotmap_hop.proofs.BlocksLeft.{InOrder, InOrder-kept, InOrder-dropped}
+use Rattle.slotmap_hop.proofs.Sweeping.{Sweeping, same_comes, sweep_written, sweep_dropped}
 
 module _ {F K V : Type 0} (g : Mut F (K × (MutBor V × Unit {0})) (Bool × (MutBor V × Unit {0}))) (data_of : K → Key) (old : HopContent V) (f : F) where
   -- the calls so far, and the key for which the closure is called next

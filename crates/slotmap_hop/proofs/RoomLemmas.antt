@@ -1,7 +1,8 @@
 -- Room for more keys.
 use Rattle.std.proofs.Common.{◌≡◌, ◌+◌, ◌-◌, ◌<◌, ◌≤◌, ◌^◌, ℕ, min, List, length, refl, subst, arith}
 use Rattle.slotmap_core.proofs.Common.{used, most, Keeps, used_places, room_had}
-use Rattle.slotmap_hop.specs.{Slots.Slot, Slots.hop_content, Slots.IsSound, HopContent.HopContent, HopContent.IsHopContent, HopContent.MakesHopRoom}
+use Rattle.slotmap_hop.specs.Slots.{Slot, hop_content, IsSound}
+use Rattle.slotmap_hop.specs.HopContent.{HopContent, IsHopContent, MakesHopRoom}
 use Rattle.slotmap_hop.proofs.SlotLemmas.{valid, taken_slots, slots_fit}
 
 module _ {V : Type 0} (m : HopContent V) (n : ℕ) (ok : Type 0) (well : IsHopContent m) where

@@ -3,8 +3,11 @@ use Rattle.std.specs.FinMap as map
 use Rattle.std.proofs.Common.{◌≡◌, ◌≢◌, ◌+◌, ◌-◌, ◌^◌, ◌<◌, ℕ, List, length, set, get_or, Some, vec_capacity, refl, sym, ap, subst, ◌∙◌, arith, eq-eqb, ne_eqb}
 use Rattle.slotmap_core.proofs.Common.{nat_tests, with_items, with_items_is, Key, IsKey, last_version, IsLive, most, Inserts, Removes, Place, Live, Vacant, Retired, left_by, used_places, same_read}
 use Rattle.slotmap_core.proofs.Common.{key}
-use Rattle.slotmap_hop.specs.{declared.HopSlotMap.TheInside.Inside, Slots.all_links, Links.HasBlockList, HopContent.HopContent, HopContent.IsHopContent, HopContent.StaysHop, HopContent.blocks_without}
-use Rattle.slotmap_hop.specs.{Slots.Slot, Slots.version_in, Slots.places_of, Slots.value_at, Slots.next_place, Slots.hop_content, Slots.IsSound, Links.vacant_at, Links.blocks_of, Blocks.vacated}
+use Rattle.slotmap_hop.specs.declared.HopSlotMap.TheInside.{Inside}
+use Rattle.slotmap_hop.specs.Slots.{all_links, Slot, version_in, places_of, value_at, next_place, hop_content, IsSound}
+use Rattle.slotmap_hop.specs.Links.{HasBlockList, vacant_at, blocks_of}
+use Rattle.slotmap_hop.specs.HopContent.{HopContent, IsHopContent, StaysHop, blocks_without}
+use Rattle.slotmap_hop.specs.Blocks.{vacated}
 use Rattle.slotmap_hop.proofs.SlotLemmas.{valid, same_length, same_counts, key_is, slots_fit, taken_slots}
 use Rattle.slotmap_hop.proofs.Growth.{removes-slots, back_slot, none_left, none_offered, some_offered, offer-end, offer-back, sound-filled, inserts-filled}
 use Rattle.slotmap_hop.proofs.LiveSlots.{Present, present, value_is, sound-freed, sound-retired}

@@ -7,8 +7,10 @@ use Rattle.slotmap_core.proofs.Common.{key_cmp, IsContent, places, Place, Vacant
 use Rattle.slotmap_hop.specs.Slots.{Links, Slot, version_in, all_links, places_of, next_place, offer_at, holding, hop_content, IsSound}
 use Rattle.slotmap_hop.specs.Links.{list_without, is_front, ListsOnce, vacant_at, next_at, end_at, fronts_of, blocks_of, IsLinked}
 use Rattle.slotmap_hop.specs.{Blocks.HasMaximalBlocks, HopContent.IsHopContent, HopContent.counts_vacant}
-use Rattle.slotmap_hop.proofs.{FrontsLemmas.listed_positive, SlotReads.length-all_links, SlotReads.length-places, SlotReads.slot_cases, StackOrder.IsStacked-first, StackOrder.IsContent-untold}
-use Rattle.slotmap_hop.proofs.{StackOrder.untold, Chain.occurs-head, Circle.shown, Taking.first_block, Taking.offer_is_end, Taking.offer_is_back, Maximal.maximal}
+use Rattle.slotmap_hop.proofs.{FrontsLemmas.listed_positive, Chain.occurs-head, Circle.shown, Maximal.maximal}
+use Rattle.slotmap_hop.proofs.SlotReads.{length-all_links, length-places, slot_cases}
+use Rattle.slotmap_hop.proofs.StackOrder.{IsStacked-first, IsContent-untold, untold}
+use Rattle.slotmap_hop.proofs.Taking.{first_block, offer_is_end, offer_is_back}
 use Rattle.std.specs.FinMap as map
 use Rattle.std.specs.FinSet as set
 

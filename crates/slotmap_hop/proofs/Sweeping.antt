@@ -1,16 +1,14 @@
 -- A loop over the live keys of a map, which skips vacant places.
 use Rattle.std.specs.FinMap as map
-use Rattle.std.proofs.Common.{◌∷◌, ◌≡◌, ◌↔◌, ◌+◌, ◌-◌, ◌<◌, ◌^◌, ◌≢◌, ℕ, zero, suc, true, Option, Some, None, IfSome, IfNone, is_some}
-use Rattle.std.proofs.Common.{List, refl, sym, ap, subst, ◌∙◌, arith}
-use Rattle.slotmap_core.proofs.Common.{Key, Content, IsLive, NoneBelow, Removes, with_value, NoneBelow-end, get-remove_other, in_after_remove}
-use Rattle.slotmap_core.proofs.Common.{keys_total, exact_keys, first_entry, above_next, Swept, Swept-start, Swept-to, Swept-on, Swept-next}
-use Rattle.slotmap_core.proofs.Common.{Swept-removed, key, get-live_at, same_live, remove-insert}
+use Rattle.std.proofs.Common.{◌∷◌, ◌≡◌, ◌↔◌, ◌+◌, ◌-◌, ◌<◌, ◌^◌, ◌≢◌, ℕ, zero, suc, true, Option, Some, None, IfSome, IfNone, is_some, List, refl, sym, ap}
+use Rattle.std.proofs.Common.{subst, ◌∙◌, arith}
+use Rattle.slotmap_core.proofs.Common.{Key, Content, IsLive, NoneBelow, Removes, with_value, NoneBelow-end, get-remove_other, in_after_remove, keys_total, exact_keys, first_entry, above_next, Swept}
+use Rattle.slotmap_core.proofs.Common.{Swept-start, Swept-to, Swept-on, Swept-next, Swept-removed, key, get-live_at, same_live, remove-insert}
 use Rattle.slotmap_hop.specs.Slots.{Slot, places_of, hop_content, IsSound}
 use Rattle.slotmap_hop.specs.HopContent.{HopContent, IsHopContent, IsNextLive, IsNextPlace, MayStand, StaysHop, hop_with_value, blocks_without, blocks_without_all}
 use Rattle.slotmap_hop.specs.Iter.{CanGoOn, FindsPlace, FindsNone}
-use Rattle.slotmap_hop.proofs.SlotLemmas.{same_counts}
+use Rattle.slotmap_hop.proofs.{SlotLemmas.same_counts, WellFormed.IsHopContent-with_value}
 use Rattle.slotmap_hop.proofs.BlocksLeft.{blocks_taken, keys_first, keys_none}
-use Rattle.slotmap_hop.proofs.WellFormed.{IsHopContent-with_value}
 
 -- a search may begin where an iterator may be
 pub look_begins : {V : Type 0} (slots : List (Slot V)) (vacant elems : ℕ) → IsSound slots vacant elems → (start c : ℕ)

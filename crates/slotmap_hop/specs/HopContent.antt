@@ -1,10 +1,10 @@
 -- The model of a `HopSlotMap`: a content, and the blocks that its vacant places form.
 use Rattle.std.specs.FinMap as map
 use Rattle.std.specs.FinSet as set
-use Rattle.std.specs.Prelude.{◌≡◌, ◌⊎◌, ◌+◌, ◌-◌, ◌<◌, ◌≤◌, if◌then◌else◌, ◌==◌, ◌||◌, ◌∷◌, ℕ, zero, suc, refl, Bool, true}
-use Rattle.std.specs.Prelude.{false, Option, Some, None, List, []}
-use Rattle.slotmap_core.specs.Words.{nat_cmp, Coded, code_by, coded×, Key, is_last, Content, content_code, IsContent, IsLive, used, places, most, freed}
-use Rattle.slotmap_core.specs.Words.{with_value, MakesRoom, with_values, Removes, Leaves, FreesByIndex}
+use Rattle.std.specs.Prelude.{◌≡◌, ◌⊎◌, ◌+◌, ◌-◌, ◌<◌, ◌≤◌, if◌then◌else◌, ◌==◌, ◌||◌, ◌∷◌, ℕ, zero, suc, refl, Bool, true, false, Option, Some}
+use Rattle.std.specs.Prelude.{None, List, []}
+use Rattle.slotmap_core.specs.Words.{nat_cmp, Coded, code_by, coded×, Key, is_last, Content, content_code, IsContent, IsLive, used, places, most, freed, with_value, MakesRoom, with_values, Removes}
+use Rattle.slotmap_core.specs.Words.{Leaves, FreesByIndex}
 use Rattle.slotmap_hop.specs.Blocks.{Blocks, coded_blocks, HasMaximalBlocks, vacated, offer_place}
 
 pub record HopContent (V : Type 0) : Type 0 where

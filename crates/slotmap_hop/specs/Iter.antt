@@ -4,9 +4,7 @@ use Rattle.std.specs.FinSet as set
 use Rattle.std.specs.Prelude.{◌≡◌, ◌+◌, ◌*◌, ◌<◌, ◌≤◌, ◌∷◌, ◌++◌, ℕ, List, [], length, drop, true, Option, None, Some, slice_get, All}
 use Rattle.slotmap_core.specs.Words.{Key, gather, ListsByIndex, Live, live, live_entry, retired_entry}
 use Rattle.slotmap_hop.specs.Slots.{Slot, State, Occupied, all_links, places_of, IsSound}
-use Rattle.slotmap_hop.specs.Blocks.{Begins}
-use Rattle.slotmap_hop.specs.HopContent.{HopContent}
-use Rattle.slotmap_hop.specs.Links.{vacant_at}
+use Rattle.slotmap_hop.specs.{Blocks.Begins, HopContent.HopContent, Links.vacant_at}
 
 -- The items that an iterator has yet to yield, and the keys of the retired places that it has yet to pass, both by ascending
 -- index. And the number of slots that it has read
