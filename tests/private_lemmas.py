@@ -31,6 +31,9 @@ def cited(crate, texts):
         begin = "pub use " if other == crate else ""
         for text in files.values():
             paths.update(re.findall(rf"{begin}Rattle\.{crate}\.proofs\.([\w.]+)", text))
+            # One line may import from several files, as `proofs.{File.lemma, Other.lemma}`.
+            for names in re.findall(rf"{begin}Rattle\.{crate}\.proofs\.{{([^}}]*)}}", text):
+                paths.update(it.strip().partition(" ")[0].rpartition(".")[0] for it in names.split(","))
             if other != crate:
                 paths.update(it.replace("::", ".") for it in re.findall(rf"\b{crate}::proofs::([\w:]+)", text))
     return paths
