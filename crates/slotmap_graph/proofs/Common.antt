@@ -29,13 +29,14 @@ pub use Rattle.slotmap_links.proofs.Counts.{one_itself as number_itself, is_othe
 pub use Rattle.slotmap_links.proofs.Counts.{times_first as often_first, times_without as often_without}
 pub use Rattle.slotmap_links.proofs.Counts.{times_gone as often_gone, times_joined as often_joined, by_first as by_first_number, same as same_number}
 pub use Rattle.slotmap_links.proofs.Linking.{cons_not_nil, cut_at}
-pub use Rattle.slotmap_links.specs.Lists.{first_or, number_after}
+pub use Rattle.slotmap_links.specs.Lists.{CoversMore, first_or, number_after}
 pub use Rattle.slotmap_links.specs.Lists.{AreDisjoint, IsFree, IsIn, Lists, list_of, with_list, with_members, with_owners, times as often, without as without_number}
+pub use Rattle.slotmap_bounded.specs.Indices.{AreIndices, HaveIndices, key_at, keys_at}
 pub use Rattle.slotmap_graph.specs.Parts.{avoids, ByNode, clones_edge, Edges, edges_at, ends, ends_at, EndsLive, from, IsJoined, key_after, ListsEdges, PutsAlone}
 pub use Rattle.slotmap_graph.specs.Parts.{PutsBehind, SameEdges, Seen, SeenEdge, to, touches, value, with_edge, with_edge_in}
 pub use Rattle.slotmap_graph.specs.Search.{AllLed, AreSeen, arrives_at, ends_along, entries_along, Finds, goes_to, GoesOn, HasEdge, HasNext, IsBreadthFirst, Leads, LeadsBy}
 pub use Rattle.slotmap_graph.specs.Search.{marked}
-pub use Rattle.slotmap_graph.specs.Threads.{AreIndices, by_node, far_end, CoversMore, HaveIndices, IsGraph, IsThreaded, key_at, keys_at}
+pub use Rattle.slotmap_graph.specs.Threads.{by_node, far_end, IsGraph, IsThreaded}
 pub use Rattle.slotmap_graph.specs.TopologicalOrder.{ClosesCycle, ComesFromLeft, Counting, edges_out, GoesForward, HasCycle, IsLeft, passed_of, Sorting}
 pub use Rattle.slotmap_graph.specs.declared.lists.Direction.{Direction}
 pub use Rattle.slotmap_graph.specs.declared.lists.Direction.TheVariants.{Into, Out}

@@ -11,7 +11,7 @@ use Rattle.slotmap_graph.proofs.Common.{clone_live}
 use Rattle.std.proofs.Common.{◌-◌, OnOk, OnErr, replicate}
 use Rattle.std.specs.FinMap as map
 use Rattle.slotmap_graph.proofs.Adjacent.{absent_unlisted, listed_edge, none_listed, nothing_listed}
-use Rattle.slotmap_graph.proofs.Indices.{indices_still}
+use Rattle.slotmap_bounded.proofs.Indices.{indices_inserted, indices_still}
 use Rattle.slotmap_graph.proofs.Threaded.{at_none, empty_at, lists, other_nodes, put_free, put_seen, put_threaded, same_seen, threaded_along}
 
 pub puts_alone : {N V : Type 0} (nodes : Content N) (m : Pairs V) (k : Key) → IsBeside nodes m → IsLive nodes k → IsContent true nodes → PutsAlone m k
@@ -80,26 +80,15 @@ graph_joined nodes edges outs intos graph = record {
 pub lacks : {E : Type 0} (end : SeenEdge E → Key) (edges : Edges E) (x : Key) → map.get edges x ≡ None → (k : Key) (ks : List Key) → ListsEdges end edges k ks → ks ≡ without x ks
 lacks end edges x none k ks lists = sym (absent_unlisted end edges x none k ks lists)
 
--- a key comes
-indices_inserted : {V : Type 0} (c : Content V) (k : Key) (v : V) (d : Content V) → HaveIndices c → Inserts c k v d → IsContent true d → d.capacity ≡ c.capacity
-    → k.index ≤ d.capacity → HaveIndices d
-indices_inserted c k v d indices inserts valid capacity within = record {
-  within = λ q live. (elim (same_or_other q k) [
-    | inl is ↦ ((valid.within q (inl (inl live))).0, (let at = ap (λ (q : Key). q.index) is in omega arith))
-    | inr other ↦ (let was = indices.within q (sym (ap is_some (ap (λ m. map.get m q) inserts.live ∙ get-insert_other c.live k v q other)) ∙ live) in (was.0, omega (arith, was.1, capacity)))
-  ]);
-  apart = λ a b of_a of_b. valid.apart a b (inl (inl of_a)) (inl (inl of_b));
-}
-
 module _ {N E : Type 0} (end : SeenEdge E → Key) (nodes : Content N) (edges : Content (SeenEdge E)) (links : Lists) (t : IsThreaded end nodes edges links) where
   -- as many owners and members as the capacities ask for, and the same nodes and edges
   module _ (nodes' : Content N) (edges' : Content (SeenEdge E)) (links' : Lists) (same_nodes : nodes'.live ≡ nodes.live) (same_edges : edges'.live ≡ edges.live)
       (more_nodes : nodes.capacity ≤ nodes'.capacity) (more_edges : edges.capacity ≤ edges'.capacity) (grows : CoversMore links links') where
     grown_nodes : HaveIndices nodes'
-    grown_nodes = indices_still nodes nodes' t.node_indices (λ k live. sym (ap (λ m. map.contains_key m k) same_nodes) ∙ live) more_nodes
+    grown_nodes = indices_still t.node_indices nodes' (λ k live. sym (ap (λ m. map.contains_key m k) same_nodes) ∙ live) more_nodes
 
     grown_edges : HaveIndices edges'
-    grown_edges = indices_still edges edges' t.edge_indices (λ k live. sym (ap (λ m. map.contains_key m k) same_edges) ∙ live) more_edges
+    grown_edges = indices_still t.edge_indices edges' (λ k live. sym (ap (λ m. map.contains_key m k) same_edges) ∙ live) more_edges
 
     pub grown : nodes'.capacity < length links'.lists → edges'.capacity < links'.members → IsThreaded end nodes' edges' links'
     grown owners members = threaded_along end nodes edges links t end nodes' edges' links' (λ x. ap (λ m. option_map end (map.get m x)) same_edges) grows.lists
@@ -123,7 +112,7 @@ module _ {N E : Type 0} (end : SeenEdge E → Key) (nodes : Content N) (edges : 
     still_node q live = ap (λ m. map.contains_key m q) inserts.live ∙ live-insert_still nodes.live k v q live
 
     pub node_threaded : IsThreaded end new edges links
-    node_threaded = threaded_beside new (indices_inserted nodes k v new t.node_indices inserts valid capacity within) capacity (λ x e there. still_node (end e) (t.ends x e there))
+    node_threaded = threaded_beside new (indices_inserted t.node_indices k v new inserts valid capacity within) capacity (λ x e there. still_node (end e) (t.ends x e there))
 
     pub node_seen : SameEdges (by_node nodes.live edges.live links) (by_node new.live edges.live links)
     node_seen = other_nodes end nodes edges links t new (λ q. elim (same_or_other q k) [
@@ -141,7 +130,7 @@ module _ {N E : Type 0} (end : SeenEdge E → Key) (nodes : Content N) (edges : 
       (capacity : new.capacity ≡ edges.capacity) (within : k.index ≤ new.capacity)
       (live : IsLive nodes (end e)) where
     new_indices : HaveIndices new
-    new_indices = indices_inserted edges k e new t.edge_indices inserts valid capacity within
+    new_indices = indices_inserted t.edge_indices k e new inserts valid capacity within
 
     pub edge_free : IsFree links k.index
     edge_free = put_free end nodes edges links t k e fresh live new inserts.live new_indices capacity
@@ -167,7 +156,7 @@ module _ {N E : Type 0} (end : SeenEdge E → Key) (nodes : Content N) (edges : 
     ]
 
     pub gone_threaded : IsThreaded end new edges links
-    gone_threaded = threaded_beside new (indices_still nodes new t.node_indices was_node (omega arith)) capacity (λ x e there. left_nodes (end e) (apart x e there) ∙ t.ends x e there)
+    gone_threaded = threaded_beside new (indices_still t.node_indices new was_node (omega arith)) capacity (λ x e there. left_nodes (end e) (apart x e there) ∙ t.ends x e there)
 
     pub gone_seen : SameEdges (by_node nodes.live edges.live links) (by_node new.live edges.live links)
     gone_seen = other_nodes end nodes edges links t new (λ q. elim (same_or_other q k) [
@@ -214,45 +203,16 @@ module _ {N E : Type 0} (end : SeenEdge E → Key) (nodes : Content N) (edges : 
   pub bare_seen : (k : Key) → edges_at (by_node nodes.live edges.live links) k ≡ []
   bare_seen k = at_none nodes.live edges.live links k (no_node k)
 
-covers_more : (s : Lists) → AreDisjoint s → (n m : ℕ) (mid new : Lists) → mid ≡ with_owners s n → (new ≡ with_members mid m) ⊎ (new ≡ mid) → CoversMore s new
-covers_more s disjoint n m mid new is either = record {
-  lists = same;
-  owners = (let more = ap (λ (l : Lists). length l.lists) is ∙ length-append s.lists (replicate (n - length s.lists) []) in let now = lists_now either in omega arith);
-  members = (let same = ap (λ (l : Lists). l.members) is in let more = members_now either in omega arith);
-  disjoint = disjoint_still s new disjoint same (let same = ap (λ (l : Lists). l.members) is in let more = members_now either in omega arith);
-}
-  where
-    lists_now : (new ≡ with_members mid m) ⊎ (new ≡ mid) → length new.lists ≡ length mid.lists
-    lists_now (inl is) = ap (λ (l : Lists). length l.lists) is
-    lists_now (inr is) = ap (λ (l : Lists). length l.lists) is
-
-    members_now : (new ≡ with_members mid m) ⊎ (new ≡ mid) → mid.members ≤ new.members
-    members_now (inl is) = let e = ap (λ (l : Lists). l.members) is in omega arith
-    members_now (inr is) = let e = ap (λ (l : Lists). l.members) is in omega arith
-
-    of_mid : (new ≡ with_members mid m) ⊎ (new ≡ mid) → (p : ℕ) → list_of new p ≡ list_of mid p
-    of_mid (inl is) p = ap (λ l. list_of l p) is
-    of_mid (inr is) p = ap (λ l. list_of l p) is
-
-    same : (p : ℕ) → list_of new p ≡ list_of s p
-    same p = of_mid either p ∙ ap (λ l. list_of l p) is ∙ list_covered s n p
-
--- the same lists, for more owners and members
-pub covered : (s : Lists) → AreDisjoint s → (n m : ℕ) (mid new : Lists) {A B : Type 0} (r : Result A B) → mid ≡ with_owners s n
-    → OnOk r (new ≡ with_members mid m) → OnErr r (new ≡ mid) → CoversMore s new
-covered s disjoint n m mid new (Ok a) is ok err = covers_more s disjoint n m mid new is (inl ok)
-covered s disjoint n m mid new (Err b) is ok err = covers_more s disjoint n m mid new is (inr err)
-
 -- the copies of nodes and edges are listed alike
 module _ {N E : Type 0} (end : SeenEdge E → Key) (nodes : Content N) (edges : Content (SeenEdge E)) (links : Lists) (t : IsThreaded end nodes edges links)
     (clones_node : N → N → Type 0) (clones_value : E → E → Type 0) (new : Content N) (cloned : IsCloneBy clones_node nodes new) (same_nodes : new.capacity ≡ nodes.capacity)
     (copies : Content (SeenEdge E)) (clones : IsCloneBy (clones_edge clones_value) edges copies) (same_edges : copies.capacity ≡ edges.capacity)
     (same : (o p : Option (SeenEdge E)) → IsCloneOf (clones_edge clones_value) o p → option_map end p ≡ option_map end o) where
   node_copies : HaveIndices new
-  node_copies = indices_still nodes new t.node_indices (λ k live. sym (clone_live clones_node nodes new cloned k) ∙ live) (omega arith)
+  node_copies = indices_still t.node_indices new (λ k live. sym (clone_live clones_node nodes new cloned k) ∙ live) (omega arith)
 
   edge_copies : HaveIndices copies
-  edge_copies = indices_still edges copies t.edge_indices (λ k live. sym (clone_live (clones_edge clones_value) edges copies clones k) ∙ live) (omega arith)
+  edge_copies = indices_still t.edge_indices copies (λ k live. sym (clone_live (clones_edge clones_value) edges copies clones k) ∙ live) (omega arith)
 
   pub copied : (now : Lists) → now ≡ links → IsThreaded end new copies now
   copied now is = subst (IsThreaded end new copies) (sym is) (threaded_along end nodes edges links t end new copies links (λ x. same _ _ (clones.live x)) (λ p. refl) node_copies edge_copies
@@ -285,7 +245,7 @@ module _ {N E : Type 0} (end : SeenEdge E → Key) (nodes : Content N) (edges : 
     ]
 
     pub node_written : IsThreaded end (with_value nodes k v) edges links
-    node_written = threaded_beside end nodes edges links t (with_value nodes k v) (indices_still nodes (with_value nodes k v) t.node_indices (λ q live. sym (same_node q) ∙ live) (omega arith)) refl
+    node_written = threaded_beside end nodes edges links t (with_value nodes k v) (indices_still t.node_indices (with_value nodes k v) (λ q live. sym (same_node q) ∙ live) (omega arith)) refl
         (λ x e found. same_node (end e) ∙ t.ends x e found)
 
     pub node_written_seen : by_node (map.insert nodes.live k v) edges.live links ≡ by_node nodes.live edges.live links
@@ -299,7 +259,7 @@ module _ {N E : Type 0} (end : SeenEdge E → Key) (nodes : Content N) (edges : 
     ]
 
     written_indices : HaveIndices (with_value edges k e)
-    written_indices = indices_still edges (with_value edges k e) t.edge_indices (λ q live. elim (same_or_other q k) [
+    written_indices = indices_still t.edge_indices (with_value edges k e) (λ q live. elim (same_or_other q k) [
       | inl is ↦ ap (map.contains_key edges.live) is ∙ ap is_some there
       | inr other ↦ sym (ap is_some (get-insert_other edges.live k e q other)) ∙ live
     ]) (omega arith)

@@ -10,7 +10,9 @@ use Rattle.slotmap_graph.proofs.Common.{key_after, key_at, number_after, option_
 use Rattle.slotmap_graph.proofs.Common.{PutsBehind, SameEdges, AreIndices, HaveIndices, IsThreaded, keys_at, eq-zero-or-pos}
 use Rattle.slotmap_graph.specs.Threads.{by_node}
 use Rattle.slotmap_graph.proofs.Adjacent.{listed_edge}
-use Rattle.slotmap_graph.proofs.Indices.{after_at, after_inside, key_at_live, keys_same, keys_without, no_key, times_key}
+use Rattle.slotmap_graph.proofs.Indices.{after_at}
+use Rattle.slotmap_links.proofs.Linking.{after_inside}
+use Rattle.slotmap_bounded.proofs.Indices.{by_live, key_at_live, keys_same, keys_without, no_key, times_key}
 use Rattle.std.specs.Ordering.{eq_by_cmp}
 use Rattle.std.specs.FinMap as map
 use Rattle.std.specs.FinMap.Entries.{find, below_all, is_sorted}
@@ -71,13 +73,9 @@ pub none_after : {A B : Type 0} (f : A → Option B) (o : Option A) → is_some 
 none_after f None gone = refl
 none_after f (Some a) gone = absurd (cc)
 
--- by whether a key is there
-by_live : {V : Type 0} (m : map.FinMap key_cmp V) (k : Key) (P : Type 0) → (map.contains_key m k ≡ true → P) → (map.contains_key m k ≡ false → P) → P
-by_live m k P here gone = elim (map.contains_key m k) as (λ b. map.contains_key m k ≡ b → P) [ true ↦ here | false ↦ gone ] refl
-
 module _ {N E : Type 0} (end : SeenEdge E → Key) (nodes : Content N) (edges : Content (SeenEdge E)) (links : Lists) (t : IsThreaded end nodes edges links) where
-  pub indices_at : (p : ℕ) → AreIndices edges.live (list_of links p)
-  indices_at p i inside = let l = t.live p i inside in (l.0, ap is_some l.2, l.3)
+  pub indices_at : (p : ℕ) → AreIndices edges (list_of links p)
+  indices_at p = record { have = λ i inside. (let l = t.live p i inside in (l.0, ap is_some l.2, l.3)) }
 
   pub owner_within : (k : Key) → IsLive nodes k → k.index < length links.lists
   owner_within k live = let within = (t.node_indices.within k live).1 in let owners = t.owners in omega arith
@@ -117,9 +115,9 @@ module _ {N E : Type 0} (end : SeenEdge E → Key) (nodes : Content N) (edges : 
 
   -- the list of a node has each edge with that end, once, and nothing else
   listed_live : (k x : Key) → IsLive nodes k → (o : Option (SeenEdge E)) → map.get edges.live x ≡ o → times x (keys_at edges.live (list_of links k.index)) ≡ ends_at end k o
-  listed_live k x live None is = no_key edges t.edge_indices (list_of links k.index) (indices_at k.index) x (ap is_some is)
+  listed_live k x live None is = no_key t.edge_indices (list_of links k.index) (indices_at k.index) x (ap is_some is)
   listed_live k x live (Some e) is =
-      times_key edges t.edge_indices (list_of links k.index) (indices_at k.index) x (ap is_some is) ∙ elim (same_or_other (end e) k) [
+      times_key t.edge_indices (list_of links k.index) (indices_at k.index) x (ap is_some is) ∙ elim (same_or_other (end e) k) [
         | inl at ↦ (let one = ap (λ q. same q k) at ∙ one_itself k in
             let listed = t.listed x e is in
             let here = ap (λ (q : Key). often x.index (list_of links q.index)) at in
@@ -146,7 +144,7 @@ module _ {N E : Type 0} (end : SeenEdge E → Key) (nodes : Content N) (edges : 
 
     after_one : (e : SeenEdge E) → map.get edges.live x ≡ Some e → option_map (key_at edges.live) number ≡ key_after x (edges_at (by_node nodes.live edges.live links) (end e))
     after_one e there = ap (option_map (key_at edges.live)) (number_is e there)
-        ∙ sym (ap (key_after x) (at_node nodes.live edges.live links (end e) (t.ends x e there)) ∙ after_at edges t.edge_indices (list_of links (end e).index)
+        ∙ sym (ap (key_after x) (at_node nodes.live edges.live links (end e) (t.ends x e there)) ∙ after_at t.edge_indices (list_of links (end e).index)
         (indices_at (end e).index) x (ap is_some there))
 
     pub after_is : IsLive edges x → option_map (key_at edges.live) number ≡ option_and_then (λ e. key_after x (edges_at (by_node nodes.live edges.live links) (end e))) (map.get edges.live x)
@@ -162,7 +160,7 @@ module _ {N E : Type 0} (end : SeenEdge E → Key) (nodes : Content N) (edges : 
       where
         by : (o : Option (SeenEdge E)) → map.get edges.live x ≡ o → is_some o ≡ true → (k : Key) × (map.contains_key edges.live k ≡ true) × (k.index ≡ i)
         by None is some = absurd (cc)
-        by (Some e) is some = indices_at (end e).index i (after_inside x.index i (list_of links (end e).index) (sym (number_is e is) ∙ found))
+        by (Some e) is some = (indices_at (end e).index).have i (after_inside x.index i (list_of links (end e).index) (sym (number_is e is) ∙ found))
 
   -- in whichever list an edge is
   pub after_along : (x : Key) (found : Option Key) → found ≡ option_and_then (λ e. key_after x (edges_at (by_node nodes.live edges.live links) (end e))) (map.get edges.live x)
@@ -208,7 +206,7 @@ module _ {N E : Type 0} (end : SeenEdge E → Key) (nodes : Content N) (edges : 
         by (Some d) is some = ap is_some (source x d is).1
 
     same_keys_at : HaveIndices edges' → (p : ℕ) → keys_at edges'.live (list_of links' p) ≡ keys_at edges.live (list_of links p)
-    same_keys_at indices p = ap (keys_at edges'.live) (same_lists p) ∙ keys_same edges t.edge_indices edges' indices (list_of links p) (indices_at p) (λ k live _. still k live)
+    same_keys_at indices p = ap (keys_at edges'.live) (same_lists p) ∙ keys_same t.edge_indices indices (list_of links p) (indices_at p) (λ k live _. still k live)
 
     pub threaded_along : HaveIndices nodes' → HaveIndices edges' → nodes'.capacity < length links'.lists → edges'.capacity < links'.members → AreDisjoint links'
         → ((x : Key) (e : SeenEdge E) → map.get edges.live x ≡ Some e → IsLive nodes' (end e)) → IsThreaded other_end nodes' edges' links'
@@ -290,13 +288,13 @@ module _ {N E : Type 0} (end : SeenEdge E → Key) (nodes : Content N) (edges : 
       }
 
       keys_still : (p : ℕ) → keys_at new.live (list_of links p) ≡ keys_at edges.live (list_of links p)
-      keys_still p = keys_same edges t.edge_indices new indices (list_of links p) (indices_at p) (λ x of_edges _. still_live x of_edges)
+      keys_still p = keys_same t.edge_indices indices (list_of links p) (indices_at p) (λ x of_edges _. still_live x of_edges)
 
       put_at : keys_at new.live (list_of now (end e).index) ≡ keys_at edges.live (list_of links (end e).index) ++ k ∷ []
       put_at = ap (λ l. keys_at new.live (list_of l (end e).index)) now_is
           ∙ ap (keys_at new.live) (list_now links (end e).index (list_of links (end e).index ++ k.index ∷ []) (owner_within (end e) live))
           ∙ map-append (λ i. _) (list_of links (end e).index) (k.index ∷ [])
-          ∙ (λ i. keys_still (end e).index i ++ key_at_live new indices k (ap is_some there_now) i ∷ [])
+          ∙ (λ i. keys_still (end e).index i ++ key_at_live indices k (ap is_some there_now) i ∷ [])
 
       put_beside : (q : Key) → IsLive nodes q → q ≢ end e → keys_at new.live (list_of now q.index) ≡ keys_at edges.live (list_of links q.index)
       put_beside q of_nodes other = ap (λ l. keys_at new.live (list_of l q.index)) now_is
@@ -368,7 +366,7 @@ module _ {N E : Type 0} (end : SeenEdge E → Key) (nodes : Content N) (edges : 
     pub left_seen : (q : Key) → edges_at (by_node nodes.live new.live now) q ≡ without k (edges_at (by_node nodes.live edges.live links) q)
     left_seen q = by_live nodes.live q _
         (λ of_nodes. at_node nodes.live new.live now q of_nodes ∙ ap (keys_at new.live) (lists_left q.index)
-        ∙ keys_without edges t.edge_indices new left_indices k (ap is_some there) (λ x live other. ap is_some (left_others x other) ∙ live) (list_of links q.index) (indices_at q.index)
+        ∙ keys_without t.edge_indices left_indices k (ap is_some there) (λ x live other. ap is_some (left_others x other) ∙ live) (list_of links q.index) (indices_at q.index)
         ∙ ap (without k) (sym (at_node nodes.live edges.live links q of_nodes)))
         (λ gone. at_none nodes.live new.live now q gone ∙ ap (without k) (sym (at_none nodes.live edges.live links q gone)))
 

@@ -1,6 +1,6 @@
 use Rattle.std.proofs.Common.{◌∙◌}
 use Rattle.slotmap_graph.proofs.Common.{Some, option_map, sym, ap, to, Key, key_at}
-use Rattle.slotmap_graph.proofs.Indices.{key_is}
+use Rattle.slotmap_bounded.proofs.Indices.{key_is}
 use Rattle.slotmap_graph.proofs.Threaded.{after_along, after_is, after_there, member_below, none_after}
 use Rattle.slotmap_graph.proofs.Graph.next_to.Goals as goal
 
@@ -35,7 +35,7 @@ pub returns-clause-value : goal.returns-clause-value
 returns-clause-value g c =
     let live = sym c.contains_key.ensures.value ∙ c.if-not-contains_key.false in
     let index = c.idx.ensures.value ∙ ap (λ (k : Key). k.index) c.data.ensures.value in
-    rw (← c.self.view_is) (ap Some (sym (key_is c.self.inside.edges c.self.invariant.into.edge_indices c.in_ok-next.next c.live_key.result c.live_key.ensures.live c.live_key.ensures.index))
+    rw (← c.self.view_is) (ap Some (sym (key_is c.self.invariant.into.edge_indices c.in_ok-next.next c.live_key.result c.live_key.ensures.live c.live_key.ensures.index))
     ∙ ap (option_map (key_at c.self.inside.edges.live)) (sym c.in_ok-next.was)
     ∙ after_is to _ _ _ c.self.invariant.into c.args.edge c.idx.result index c.next.result c.next.ensures live)
 
@@ -43,7 +43,7 @@ pub returns-clause-along : goal.returns-clause-along
 returns-clause-along g c =
     let live = sym c.contains_key.ensures.value ∙ c.if-not-contains_key.false in
     let index = c.idx.ensures.value ∙ ap (λ (k : Key). k.index) c.data.ensures.value in
-    let key = key_is c.self.inside.edges c.self.invariant.into.edge_indices c.in_ok-next.next c.live_key.result c.live_key.ensures.live c.live_key.ensures.index in
+    let key = key_is c.self.invariant.into.edge_indices c.in_ok-next.next c.live_key.result c.live_key.ensures.live c.live_key.ensures.index in
     rw (← c.self.view_is) (after_along to _ _ _ c.self.invariant.into c.args.edge _ (ap Some (sym key)
     ∙ ap (option_map (key_at c.self.inside.edges.live)) (sym c.in_ok-next.was)
     ∙ after_is to _ _ _ c.self.invariant.into c.args.edge c.idx.result index c.next.result c.next.ensures live))
