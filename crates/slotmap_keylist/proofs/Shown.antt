@@ -1,5 +1,5 @@
 -- What is known of a content, and of how a call changes it, where it has other live values under the same keys.
-use Rattle.std.proofs.Common.{◌≡◌, ℕ, ◌&&◌, ◌||◌, ◌+◌, ◌≤◌, ◌⊎◌, Bool, not, sym, ap, ◌∙◌, inl, inr, arith}
+use Rattle.std.proofs.Common.{◌≡◌, ℕ, ◌&&◌, ◌||◌, ◌⊎◌, Bool, not, sym, ap, ◌∙◌, inl, inr, arith}
 use Rattle.std.specs.FinMap as map
 use Rattle.std.specs.FinSet as set
 use Rattle.slotmap.specs.Words.{Key, key_cmp, Content, IsContent, IsSpent, KeepsSpent, Stands, IsRetired, Inserts, Removes, Keeps, Leaves, MakesRoom, is_last}
@@ -57,14 +57,11 @@ module _ {V W : Type 0} (old new : Content V) (was now : map.FinMap key_cmp W)
   shown_left : (k : Key) → (map.contains_key old.live k && not (map.contains_key new.live k)) ≡ (map.contains_key was k && not (map.contains_key now k))
   shown_left k = ap (λ b. b && not (map.contains_key new.live k)) (sym (same_was k)) ∙ ap (λ b. map.contains_key was k && not b) (sym (same_now k))
 
-  retired_alike : (k : Key) → (set.contains old.retired k || (map.contains_key old.live k && not (map.contains_key new.live k)) && is_last k) ≡ (set.contains old.retired k || (map.contains_key was k && not (map.contains_key now k)) && is_last k)
-  retired_alike k = ap (λ b. set.contains old.retired k || b && is_last k) (shown_left k)
-
   pub shown_leaves : Leaves old new → Leaves (with_live old was) (with_live new now)
   shown_leaves leaves = record {
     no_more = λ k live. same_was k ∙ leaves.no_more k (sym (same_now k) ∙ live);
     detached = leaves.detached;
-    retired = λ k. leaves.retired k ∙ retired_alike k;
+    retired = λ k. leaves.retired k ∙ ap (λ b. set.contains old.retired k || b && is_last k) (shown_left k);
     next = λ i v. (let step = leaves.next i v in (
       λ found. elim (step.0 found) [ inl before ↦ inl before | inr left ↦ inr (left.0, sym (shown_left left.0) ∙ left.1, left.2, left.3, left.4) ],
       λ either. step.1 (elim either [ inl before ↦ inl before | inr left ↦ inr (left.0, shown_left left.0 ∙ left.1, left.2, left.3, left.4) ]),

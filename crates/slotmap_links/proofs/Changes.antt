@@ -7,7 +7,7 @@ use Rattle.slotmap_links.proofs.Counts.{same, same_or_other, one_itself, one_oth
 use Rattle.slotmap_links.proofs.Callers.{list_covered, list_now, list_other}
 
 pub times_pushed : (x : ℕ) (ks : List ℕ) (k : ℕ) → times x (ks ++ k ∷ []) ≡ times x ks + same k x
-times_pushed x ks k = let joined = times_joined x ks (k ∷ []) in let first = times_first x k [] in omega arith
+times_pushed x ks k = omega (arith, times_joined x ks (k ∷ []), times_first x k [])
 
 -- k is put behind the others in the list of p
 module _ (s : Lists) (p k : ℕ) (there : p < length s.lists) where

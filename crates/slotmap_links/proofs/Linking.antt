@@ -2,6 +2,7 @@
 use Rattle.std.proofs.Common.{ℕ, nat_eq, ◌≡◌, ◌≢◌, ◌⊎◌, ◌+◌, ◌<◌, ◌≤◌, Option, Some, None, List, [], ◌∷◌, ◌++◌, length, cond}
 use Rattle.std.proofs.Common.{true, false, not, refl, sym, ap, ◌∙◌, inl, inr, arith, append_assoc, append-nil}
 use Rattle.std.proofs.Math.Nat.{eq-zero-or-pos}
+use Rattle.std.proofs.lemmas.Bool.Decides.{nat_tests}
 use Rattle.std.proofs.lemmas.List.Elements.{filter-append}
 use Rattle.std.proofs.lemmas.Option.{same_Some}
 use Rattle.slotmap_links.specs.Lists.{times, first_or, last_or, number_after, number_before, without}
@@ -19,45 +20,24 @@ last_or-append (x ∷ xs) ys o = last_or-append xs ys (Some x)
 -- the first number of a list is in it, and the last one too
 pub first_in : (ks : List ℕ) (f : ℕ) → first_or ks None ≡ Some f → 0 < times f ks
 first_in [] f is = absurd (cc)
-first_in (k ∷ ks) f is = let here = same_Some k f is in let first = times_first f k ks in let one = ap (λ q. same q f) here ∙ one_itself f in omega arith
+first_in (k ∷ ks) f is = grind (arith, nat_tests, times_first f k ks)
 
 last_of : (k : ℕ) (ks : List ℕ) (l : ℕ) → last_or ks (Some k) ≡ Some l → 0 < times l (k ∷ ks)
-last_of k [] l is = let e = same_Some k l is in let first = times_first l k [] in let one = ap (λ q. same q l) e ∙ one_itself l in omega arith
-last_of k (q ∷ ks) l is = let rest = last_of q ks l is in let first = times_first l k (q ∷ ks) in omega arith
+last_of k [] l is = grind (arith, nat_tests, times_first l k [])
+last_of k (q ∷ ks) l is = omega (arith, last_of q ks l is, times_first l k (q ∷ ks))
 
 pub last_in : (ks : List ℕ) (l : ℕ) → last_or ks None ≡ Some l → 0 < times l ks
 last_in [] l is = absurd (cc)
 last_in (k ∷ ks) l is = last_of k ks l is
 
-pub none_last : (ks : List ℕ) → last_or ks None ≡ None → ks ≡ []
-none_last [] is = refl
-none_last (k ∷ ks) is = by k ks is
-  where
-    by : {P : Type 0} (k : ℕ) (ks : List ℕ) → last_or ks (Some k) ≡ None → P
-    by k [] is = absurd (cc)
-    by k (q ∷ ks) is = by q ks is
-
 -- the number beside another one is in the list
 pub after_inside : (k i : ℕ) (ks : List ℕ) → number_after k ks ≡ Some i → 0 < times i ks
 after_inside k i [] is = absurd (cc)
-after_inside k i (q ∷ ks) is =
-    let first = times_first i q ks in
-    elim (nat_eq q k) as (λ b. cond b (first_or ks None) (number_after k ks) ≡ Some i → 0 < times i (q ∷ ks)) [
-      | true ↦ λ is. omega (arith, first_in ks i is)
-      | false ↦ λ is. omega (arith, after_inside k i ks is)
-    ] is
+after_inside k i (q ∷ ks) is = grind (arith, nat_tests, times_first i q ks, first_in ks i, after_inside k i ks)
 
 before_within : (other : Option ℕ) (k i : ℕ) (ks : List ℕ) → number_before other k ks ≡ Some i → (other ≡ Some i → ⊥) → 0 < times i ks
 before_within other k i [] is apart = absurd (cc)
-before_within other k i (q ∷ ks) is apart =
-    let first = times_first i q ks in
-    elim (nat_eq q k) as (λ b. cond b other (number_before (Some q) k ks) ≡ Some i → 0 < times i (q ∷ ks)) [
-      | true ↦ λ is. absurd (apart is)
-      | false ↦ λ is. (elim (same_or_other q i) [
-        | inl at ↦ omega (arith, ap (λ n. same n i) at ∙ one_itself i)
-        | inr other ↦ omega (arith, before_within (Some q) k i ks is (λ e. other (same_Some q i e)))
-      ])
-    ] is
+before_within other k i (q ∷ ks) is apart = grind (arith, nat_tests, times_first i q ks, before_within (Some q) k i ks)
 
 pub before_inside : (k i : ℕ) (ks : List ℕ) → number_before None k ks ≡ Some i → 0 < times i ks
 before_inside k i ks is = before_within None k i ks is (λ e. (cc))
@@ -68,7 +48,7 @@ cons_not_nil (q ∷ b) x a at = absurd (cc)
 
 -- a number in the midst of a list is in it
 pub in_midst : (before : List ℕ) (k : ℕ) (after : List ℕ) → times k (before ++ k ∷ after) ≡ 1 + (times k before + times k after)
-in_midst before k after = let sum = times_joined k before (k ∷ after) in let first = times_first k k after in let one = one_itself k in omega arith
+in_midst before k after = omega (arith, times_joined k before (k ∷ after), times_first k k after, one_itself k)
 
 -- where a list is cut, what stands in it is before the cut or after it
 pub cut_at : {A : Type 0} (before after b : List A) (x : A) (a : List A) → before ++ after ≡ b ++ x ∷ a
@@ -85,12 +65,7 @@ pub split_at : (k : ℕ) (ks : List ℕ) → 0 < times k ks → (before : List �
 split_at k [] more = absurd (omega arith)
 split_at k (q ∷ ks) more = elim (same_or_other q k) [
   | inl here ↦ ([], ks, ap (λ x. x ∷ ks) here)
-  | inr other ↦ (
-      let first = times_first k q ks in
-      let none = one_other q k other in
-      let later = split_at k ks (omega arith) in
-      (q ∷ later.0, later.1, ap (λ l. q ∷ l) later.2)
-      )
+  | inr other ↦ (let later = split_at k ks (omega (arith, times_first k q ks, one_other q k other)) in (q ∷ later.0, later.1, ap (λ l. q ∷ l) later.2))
 ]
 
 -- without a number that is in it once, a list is these two parts
