@@ -45,6 +45,10 @@ module _ {T : Type 0} (m : map.FinMap key_cmp T) where
       by None is = refl
       by (Some k) is = let f = found_there i k is in absurd (none k f.0 f.1)
 
+-- what an option has, if it has something
+pub some_is : {A : Type 0} (o : Option A) → is_some o ≡ true → (x : A) × (o ≡ Some x)
+some_is o is = grind arith
+
 -- by whether a key is live
 pub by_live : {T : Type 0} (m : map.FinMap key_cmp T) (k : Key) (P : Type 0) → (map.contains_key m k ≡ true → P) → (map.contains_key m k ≡ false → P) → P
 by_live m k P here gone = elim (map.contains_key m k) as (λ b. map.contains_key m k ≡ b → P) [ true ↦ here | false ↦ gone ] refl
@@ -61,7 +65,7 @@ pub indices_inserted : {V : Type 0} {c : Content V} (indices : HaveIndices c) (k
     → k.index ≤ d.capacity → HaveIndices d
 indices_inserted {c} indices k v d inserts valid capacity within = record {
   within = λ q live. (elim (same_or_other q k) [
-    | inl is ↦ ((valid.within q (inl (inl live))).0, (let at = ap (λ (q : Key). q.index) is in omega arith))
+    | inl is ↦ ((valid.within q (inl (inl live))).0, omega (arith, ap (λ (q : Key). q.index) is))
     | inr other ↦ (let was = indices.within q (sym (ap is_some (ap (λ m. map.get m q) inserts.live ∙ get-insert_other c.live k v q other)) ∙ live) in (was.0, omega (arith, was.1, capacity)))
   ]);
   apart = λ a b of_a of_b. valid.apart a b (inl (inl of_a)) (inl (inl of_b));
@@ -136,10 +140,14 @@ module _ {T : Type 0} {c : Content T} (indices : HaveIndices c) where
 
   pub no_key : (is : List ℕ) → AreIndices c is → (k : Key) → map.contains_key c.live k ≡ false → times k (keys_at c.live is) ≡ 0
   no_key [] all k gone = refl
-  no_key (i ∷ is) all k gone =
-      let has = first_index all in
-      let none = ap (λ q. same q k) (key_is indices i has.0 has.1 has.2) ∙ one_other has.0 k (λ e. absurd (let live = ap (map.contains_key c.live) (sym e) ∙ has.1 in cc)) in
-      omega (arith, times_first k (key_at c.live i) (keys_at c.live is), no_key is (later_indices all) k gone)
+  no_key (i ∷ is) all k gone = let has = first_index all in
+      omega (
+        arith,
+        ap (λ q. same q k) (key_is indices i has.0 has.1 has.2)
+            ∙ one_other has.0 k (λ e. absurd (let live = ap (map.contains_key c.live) (sym e) ∙ has.1 in cc)),
+        times_first k (key_at c.live i) (keys_at c.live is),
+        no_key is (later_indices all) k gone,
+      )
 
   -- the two ends
   pub first_key : (is : List ℕ) → first_or (keys_at c.live is) None ≡ option_map (key_at c.live) (first_or is None)

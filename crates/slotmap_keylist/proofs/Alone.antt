@@ -34,7 +34,7 @@ module _ {V : Type 0} where
 
   -- as many slots are in use, and there is as much room
   pub used_alone : (c : Content V) → used (without_values c) ≡ used c
-  used_alone c = let same = len-keys_of c.live in omega arith
+  used_alone c = omega (arith, len-keys_of c.live)
 
   -- a content that holds nothing, an insert, a removal, and a call that only makes room
   pub alone-new : (c : Content V) → IsNew c → IsNew (without_values c)

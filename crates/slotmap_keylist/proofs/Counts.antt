@@ -58,7 +58,7 @@ here_or_behind ks i k x below is more = elim (same_or_other x k) [
 ]
 
 pub none_behind : (ks : List Key) (i : ℕ) (x : Key) → length ks ≤ i → 0 < times x (drop i ks) → ⊥
-none_behind ks i x past more = let none = ap (times x) (drop_of_length-le ks {i = i} past) in omega arith
+none_behind ks i x past more = omega (arith, ap (times x) (drop_of_length-le ks {i = i} past))
 
 -- filters of a list of keys, one after the other
 pub filter_less : (p q : Key → Bool) → ((x : Key) → p x ≡ true → q x ≡ true) → (ks : List Key) → filter p (filter q ks) ≡ filter p ks
@@ -81,9 +81,11 @@ without_pushed k y ks other = filter-append (λ q. not (is_key q k)) ks (y ∷ [
 pub no_more_than : {V : Type 0} (ks : List Key) (m : map.FinMap key_cmp V) → ((k : Key) → times k ks ≤ 1)
     → ((k : Key) → 0 < times k ks → map.contains_key m k ≡ true) → length ks ≤ map.len m
 no_more_than [] m once there = omega arith
-no_more_than (k ∷ ks) m once there =
-    let first = times_first k k ks in
-    let one = one_itself k in
-    let rest = no_more_than ks (map.remove m k) (λ x. omega (arith, times_first x k ks, once x)) (λ x more.
-    left_in keys_total exact_keys m k x (λ is. let twice = rw is at more in omega (arith, once k)) (there x (omega (arith, times_first x k ks)))) in
-    omega (arith, len_removed keys_total exact_keys m k (there k (omega arith)))
+no_more_than (k ∷ ks) m once there = let first = times_first k k ks in let one = one_itself k in
+    omega (
+      arith,
+      no_more_than ks (map.remove m k) (λ x. omega (arith, times_first x k ks, once x))
+          (λ x more. left_in keys_total exact_keys m k x (λ is. omega (arith, rw is at more, once k)) (there x (omega (arith, times_first x k ks)))),
+      len_removed keys_total exact_keys m k
+          (there k (omega arith)),
+    )

@@ -76,16 +76,16 @@ module _ {V W : Type 0} (f : V → W) where
 
   module _ (c : Content V) where
     pub used-mapped : used (map_content f c) ≡ used c
-    used-mapped = let same = len-mapped c.live in omega arith
+    used-mapped = omega (arith, len-mapped c.live)
 
     same_places : places (map_content f c) ≡ places c
-    same_places = let same = len-mapped c.live in omega arith
+    same_places = omega (arith, len-mapped c.live)
 
     pub live-mapped : (k : Key) → IsLive c k → IsLive (map_content f c) k
     live-mapped k live = contains-mapped c.live k ∙ live
 
     pub mapped-lacks : LacksRoom c → LacksRoom (map_content f c)
-    mapped-lacks lacks = record { below_limit = (let same = used-mapped in let below = lacks.below_limit in omega arith); no_room = lacks.no_room }
+    mapped-lacks lacks = record { below_limit = omega (arith, used-mapped, lacks.below_limit); no_room = lacks.no_room }
 
     pub mapped-new : IsNew c → IsNew (map_content f c)
     mapped-new new = record { live = ap (map_values f) new.live ∙ mapped-empty; detached = new.detached; retired = new.retired; next = new.next }

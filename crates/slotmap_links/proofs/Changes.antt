@@ -15,7 +15,7 @@ module _ (s : Lists) (p k : ℕ) (there : p < length s.lists) where
   pushed = with_list s p (list_of s p ++ k ∷ [])
 
   pub pushed_here : IsIn pushed p k
-  pushed_here = let sum = ap (times k) (list_now s p (list_of s p ++ k ∷ []) there) ∙ times_pushed k (list_of s p) k in let one = one_itself k in omega arith
+  pushed_here = omega (arith, ap (times k) (list_now s p (list_of s p ++ k ∷ []) there) ∙ times_pushed k (list_of s p) k, one_itself k)
 
   pub pushed_still : (q x : ℕ) → IsIn s q x → IsIn pushed q x
   pushed_still q x inside = elim (same_or_other q p) [
@@ -48,13 +48,13 @@ module _ (s : Lists) (disjoint : AreDisjoint s) (p k : ℕ) (there : p < length 
 -- the same lists, where no fewer numbers may be members
 pub disjoint_still : (s t : Lists) → AreDisjoint s → ((p : ℕ) → list_of t p ≡ list_of s p) → s.members ≤ t.members → AreDisjoint t
 disjoint_still s t disjoint same more = record {
-  once = λ p k. (let o = disjoint.once p k in let e = ap (times k) (same p) in omega arith);
+  once = λ p k. omega (arith, disjoint.once p k, ap (times k) (same p));
   alone = λ p q k at_p at_q. disjoint.alone p q k (was p k at_p) (was q k at_q);
-  within = λ p k inside. (let w = disjoint.within p k (was p k inside) in omega arith);
+  within = λ p k inside. omega (arith, disjoint.within p k (was p k inside));
 }
   where
     was : (p k : ℕ) → IsIn t p k → IsIn s p k
-    was p k inside = let e = ap (times k) (same p) in omega arith
+    was p k inside = omega (arith, ap (times k) (same p))
 
 -- all lists are empty
 pub list_cleared : (n members q : ℕ) → list_of (record { lists = replicate n []; members = members }) q ≡ []

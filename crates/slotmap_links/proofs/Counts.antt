@@ -51,12 +51,17 @@ length_without k (q ∷ ks) = grind (arith, nat_tests, times_first k q ks, lengt
 pub few_below : (n : ℕ) (ks : List ℕ) → ((k : ℕ) → times k ks ≤ 1) → ((k : ℕ) → 0 < times k ks → k < n) → length ks ≤ n
 few_below zero [] once below = omega arith
 few_below zero (q ∷ ks) once below = grind (arith, nat_tests, times_first q q ks, below q)
-few_below (suc n) ks once below = omega (arith, length_without n ks, once n, few_below n (without n ks)
-    (λ k. elim (same_or_other k n) [
-      | inl is ↦ omega (arith, times_gone n ks, ap (λ x. times x (without n ks)) is)
-      | inr other ↦ omega (arith, times_without n k ks other, once k)
-    ])
-    (λ k more. elim (same_or_other k n) [
-      | inl is ↦ absurd (omega (arith, times_gone n ks, ap (λ x. times x (without n ks)) is))
-      | inr other ↦ (let below_more = below k (omega (arith, times_without n k ks other)) in omega (arith, other))
-    ]))
+few_below (suc n) ks once below = omega (
+  arith,
+  length_without n ks,
+  once n,
+  few_below n (without n ks)
+      (λ k. elim (same_or_other k n) [
+        | inl is ↦ omega (arith, times_gone n ks, ap (λ x. times x (without n ks)) is)
+        | inr other ↦ omega (arith, times_without n k ks other, once k)
+      ])
+      (λ k more. elim (same_or_other k n) [
+        | inl is ↦ absurd (omega (arith, times_gone n ks, ap (λ x. times x (without n ks)) is))
+        | inr other ↦ omega (arith, below k (omega (arith, times_without n k ks other)), other)
+      ]),
+)

@@ -91,21 +91,12 @@ module _ {ends : ℕ → Bounds} {link : ℕ → Neighbours} {lists : ℕ → Li
 
   -- the neighbours of a number
   pub prev_in : (p : ℕ) (k l : ℕ) → 0 < times k (lists p) → (link k).prev ≡ Some l → 0 < times l (lists p)
-  prev_in p k l more is =
-      let split = split_at k (lists p) more in
-      let at = linked.links_are p split.0 k split.1 split.2 in
-      let there = last_in split.0 l (sym (ap (λ (n : Neighbours). n.prev) at) ∙ is) in
-      let sum = ap (times l) split.2 ∙ times_joined l split.0 (k ∷ split.1) in
-      omega arith
+  prev_in p k l more is = let split = split_at k (lists p) more in let at = linked.links_are p split.0 k split.1 split.2 in
+      omega (arith, last_in split.0 l (sym (ap (λ (n : Neighbours). n.prev) at) ∙ is), ap (times l) split.2 ∙ times_joined l split.0 (k ∷ split.1))
 
   pub next_in : (p : ℕ) (k f : ℕ) → 0 < times k (lists p) → (link k).next ≡ Some f → 0 < times f (lists p)
-  next_in p k f more is =
-      let split = split_at k (lists p) more in
-      let at = linked.links_are p split.0 k split.1 split.2 in
-      let there = first_in split.1 f (sym (ap (λ (n : Neighbours). n.next) at) ∙ is) in
-      let sum = ap (times f) split.2 ∙ times_joined f split.0 (k ∷ split.1) in
-      let first = times_first f k split.1 in
-      omega arith
+  next_in p k f more is = let split = split_at k (lists p) more in let at = linked.links_are p split.0 k split.1 split.2 in
+      omega (arith, first_in split.1 f (sym (ap (λ (n : Neighbours). n.next) at) ∙ is), ap (times f) split.2 ∙ times_joined f split.0 (k ∷ split.1), times_first f k split.1)
 
   -- In the list of p the numbers between `before` and `after` change. The number k is the only one of them whose link may change
   module _ (apart : AreApart lists) (p k : ℕ) (before mid after : List ℕ) (is : lists p ≡ before ++ (mid ++ after))
@@ -121,10 +112,10 @@ module _ {ends : ℕ → Bounds} {link : ℕ → Neighbours} {lists : ℕ → Li
     is_counted x = ap (times x) is ∙ times_joined x before (mid ++ after) ∙ ap (λ n. times x before + n) (times_joined x mid after)
 
     not_last : (x : ℕ) → times x before ≡ 0 → last_or before None ≢ Some x
-    not_last x none last = absurd (let there = last_in before x last in omega arith)
+    not_last x none last = absurd (omega (arith, last_in before x last))
 
     not_first : (x : ℕ) → times x after ≡ 0 → first_or after None ≢ Some x
-    not_first x none first = absurd (let there = first_in after x first in omega arith)
+    not_first x none first = absurd (omega (arith, first_in after x first))
 
     -- the links that numbers before the place, and behind it, have now
     module _ (now : List ℕ) (link' : ℕ → Neighbours) (relinks : Relinks link link' k before after (first_or now (first_or after None)) (last_or now (last_or before None))) where
@@ -134,13 +125,9 @@ module _ {ends : ℕ → Bounds} {link : ℕ → Neighbours} {lists : ℕ → Li
           ∙ ap (λ (l : Neighbours). record l { next = first_or now (first_or after None) })
           (linked.links_are p b x (mid ++ after) (is ∙ ap (λ l. l ++ (mid ++ after)) at ∙ append_assoc b (x ∷ []) (mid ++ after)))
           ∙ ap (λ n. record { prev = last_or b None; next = n }) (sym (first_or-append now after None))
-      link_before b x (y ∷ m) at =
-          let sum = is_counted x in
-          let once = apart.once p x in
-          let there = ap (times x) at ∙ in_midst b x (y ∷ m) in
-          let no_k : x ≢ k = λ e. (let h = rw (← e) at not_before in omega arith) in
-          let no_last : last_or before None ≢ Some x = λ last.
-          (let again = last_of y m x (sym (last_or-append b (x ∷ y ∷ m) None) ∙ sym (ap (λ l. last_or l None) at) ∙ last) in omega arith) in
+      link_before b x (y ∷ m) at = let sum = is_counted x in let once = apart.once p x in let there = ap (times x) at ∙ in_midst b x (y ∷ m) in let no_k : x ≢ k =
+          λ e. (omega (arith, rw (← e) at not_before)) in let no_last : last_or before None ≢ Some x =
+          λ last. (omega (arith, last_of y m x (sym (last_or-append b (x ∷ y ∷ m) None) ∙ sym (ap (λ l. last_or l None) at) ∙ last))) in
           relinks.others x no_k no_last (not_first x (omega arith))
           ∙ linked.links_are p b x ((y ∷ m) ++ (mid ++ after)) (is ∙ ap (λ l. l ++ (mid ++ after)) at ∙ append_assoc b (x ∷ y ∷ m) (mid ++ after))
 
@@ -154,9 +141,9 @@ module _ {ends : ℕ → Bounds} {link : ℕ → Neighbours} {lists : ℕ → Li
           let sum = is_counted x in
           let once = apart.once p x in
           let there = ap (times x) at ∙ in_midst (y ∷ m) x a in
-          let no_k : x ≢ k = λ e. (let h = rw (← e) at not_after in omega arith) in
+          let no_k : x ≢ k = λ e. (omega (arith, rw (← e) at not_after)) in
           let no_first : first_or after None ≢ Some x = λ first.
-          (let again = same_Some y x (sym (ap (λ l. first_or l None) at) ∙ first) in let one = ap (λ q. same q x) again ∙ one_itself x in let head = times_first x y m in omega arith) in
+          (let again = same_Some y x (sym (ap (λ l. first_or l None) at) ∙ first) in omega (arith, ap (λ q. same q x) again ∙ one_itself x, times_first x y m)) in
           let whole = is ∙ ap (λ l. before ++ (mid ++ l)) at ∙ ap (λ l. before ++ l) (sym (append_assoc mid (y ∷ m) (x ∷ a))) ∙ sym (append_assoc before (mid ++ y ∷ m) (x ∷ a)) in
           let last : (ks : List ℕ) → last_or (before ++ (ks ++ y ∷ m)) None ≡ last_or m (Some y) = λ ks. last_or-append before (ks ++ y ∷ m) None
           ∙ last_or-append ks (y ∷ m) (last_or before None) in
@@ -175,12 +162,8 @@ module _ {ends : ℕ → Bounds} {link : ℕ → Neighbours} {lists : ℕ → Li
         ]
 
         link_elsewhere : (q : ℕ) → q ≢ p → (b : List ℕ) (x : ℕ) (a : List ℕ) → lists q ≡ b ++ x ∷ a → link' x ≡ link_between b a
-        link_elsewhere q other b x a at =
-            let there = ap (times x) at ∙ in_midst b x a in
-            let none = in_no_other q x other (omega arith) in
-            let sum = is_counted x in
-            let no_k : x ≢ k = λ e. (let h = rw (← e) at (nowhere q other) in omega arith) in
-            relinks.others x no_k (not_last x (omega arith)) (not_first x (omega arith)) ∙ linked.links_are q b x a at
+        link_elsewhere q other b x a at = let there = ap (times x) at ∙ in_midst b x a in let none = in_no_other q x other (omega arith) in let sum = is_counted x in let no_k : x ≢ k =
+            λ e. (omega (arith, rw (← e) at (nowhere q other))) in relinks.others x no_k (not_last x (omega arith)) (not_first x (omega arith)) ∙ linked.links_are q b x a at
 
         pub linked_now : {ends' : ℕ → Bounds} {lists' : ℕ → List ℕ} → IsListed lists lists' ends ends' p (before ++ (now ++ after)) → AreLinked ends' link' lists'
         linked_now {ends'} {lists'} listed = record {

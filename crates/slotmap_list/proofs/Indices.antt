@@ -1,33 +1,20 @@
 -- The live key with an index, and elements by the indices of their keys.
-use Rattle.std.proofs.Common.{◌≡◌, ◌≢◌, ℕ, ◌<◌, ◌≤◌, Bool, true, nat_eq, List, [], ◌∷◌, ◌++◌, length, Option, Some, None, IfSome}
+use Rattle.std.proofs.Common.{◌≡◌, ◌≢◌, ℕ, ◌<◌, ◌≤◌, true, List, [], ◌∷◌, ◌++◌, length, Option, Some, None, IfSome}
 use Rattle.std.proofs.Common.{IfNone, is_some, inl, inr, refl, sym, ap, subst, ◌∙◌, arith}
-use Rattle.std.specs.List.{find, cons_option, list_any}
+use Rattle.std.specs.List.{cons_option}
 use Rattle.std.specs.Option.{option_map}
-use Rattle.std.specs.Ordering.{eq_by_cmp}
 use Rattle.std.specs.FinMap as map
-use Rattle.std.proofs.Common.{eqb-true, eq-eqb}
 use Rattle.std.proofs.lemmas.List.Elements.{filter_map-append}
 use Rattle.slotmap.specs.Words.{Key, key_cmp, Content, IsContent, IsLive}
-use Rattle.slotmap.proofs.Callers.{keys_total, exact_keys, tied, itself, same_or_other}
+use Rattle.slotmap.proofs.Callers.{same_or_other}
 use Rattle.slotmap_links.specs.Lists as numbers
 use Rattle.slotmap_links.specs.Lists.{times}
 use Rattle.slotmap_links.proofs.Counts.{same, times_first, times_joined, one_itself}
+use Rattle.slotmap_bounded.specs.Indices.{AreApart, found_at}
+use Rattle.slotmap_bounded.proofs.Indices.{found_only, found_there, some_is}
 use Rattle.slotmap_list.specs.Sequence.{first_or, last_or}
 use Rattle.slotmap_list.proofs.Elements as keys
-use Rattle.slotmap_list.specs.Kept.{with_value, at_index, elements_at, key_there, AreApart, AreLiveIndices}
-
--- the first key that passes a test is in the list, and where one passes it there is a first
-first_found : (p : Key → Bool) (ks : List Key) (k : Key) → find p ks ≡ Some k → (p k ≡ true) × (list_any (eq_by_cmp key_cmp k) ks ≡ true)
-first_found p [] k is = absurd (cc)
-first_found p (q ∷ ks) k is = grind (arith, first_found p ks k, itself keys_total exact_keys k)
-
-some_found : (p : Key → Bool) (ks : List Key) (k : Key) → p k ≡ true → list_any (eq_by_cmp key_cmp k) ks ≡ true → is_some (find p ks) ≡ true
-some_found p [] k passes there = absurd (cc)
-some_found p (q ∷ ks) k passes there = grind (arith, some_found p ks k, tied keys_total exact_keys k q)
-
--- what an option has, if it has something
-pub some_is : {A : Type 0} (o : Option A) → is_some o ≡ true → (x : A) × (o ≡ Some x)
-some_is o is = grind arith
+use Rattle.slotmap_list.specs.Kept.{with_value, at_index, elements_at, key_there, AreLiveIndices}
 
 module _ {T : Type 0} (m : map.FinMap key_cmp T) where
   with_value_is : (o : Option Key) (e : Key × T) → with_value m o ≡ Some e → (o ≡ Some e.0) × (map.get m e.0 ≡ Some e.1)
@@ -41,9 +28,7 @@ module _ {T : Type 0} (m : map.FinMap key_cmp T) where
   -- the key with an index is live and has it
   pub at_is : (i : ℕ) (e : Key × T) → at_index m i ≡ Some e → (e.0.index ≡ i) × (map.get m e.0 ≡ Some e.1)
   unfolding at_index
-  at_is i e is =
-      let w = with_value_is (find (λ k. nat_eq k.index i) (map.keys m)) e is in
-      (eqb-true e.0.index i (first_found (λ k. nat_eq k.index i) (map.keys m) e.0 w.0).0, w.1)
+  at_is i e is = let w = with_value_is (found_at m i) e is in ((found_there m i e.0 w.0).1, w.1)
 
   -- so it is live
   pub there_live : (number : Option ℕ) (k : Key) → Some k ≡ key_there m number → map.contains_key m k ≡ true
@@ -66,15 +51,7 @@ module _ {T : Type 0} (m : map.FinMap key_cmp T) where
     -- a live key is the one with its index
     pub at_live : (k : Key) (v : T) → map.get m k ≡ Some v → at_index m k.index ≡ Some (k, v)
     unfolding at_index
-    at_live k v found = by (find (λ q. nat_eq q.index k.index) (map.keys m)) refl
-        (some_found (λ q. nat_eq q.index k.index) (map.keys m) k (eq-eqb k.index k.index refl) (sym (map.contains_key-keys m k) ∙ ap is_some found))
-      where
-        by : (o : Option Key) → find (λ q. nat_eq q.index k.index) (map.keys m) ≡ o → is_some o ≡ true → with_value m o ≡ Some (k, v)
-        by None is some = absurd (cc)
-        by (Some q) is some =
-            let first = first_found (λ q. nat_eq q.index k.index) (map.keys m) q is in
-            let same : q ≡ k = apart q k (map.contains_key-keys m q ∙ first.1) (ap is_some found) (eqb-true q.index k.index first.0) in
-            subst (λ (q : Key). with_value m (Some q) ≡ Some (k, v)) (sym same) (ap (option_map (λ v. (k, v))) found)
+    at_live k v found = ap (with_value m) (found_only m apart k (ap is_some found)) ∙ ap (option_map (λ v. (k, v))) found
 
     -- so there is one
     pub some_at : (i : ℕ) (k : Key) → map.contains_key m k ≡ true → k.index ≡ i → is_some (at_index m i) ≡ true

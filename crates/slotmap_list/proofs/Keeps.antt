@@ -11,7 +11,8 @@ use Rattle.slotmap_links.specs.Lists.{Lists, list_of, with_list, times, IsFree}
 use Rattle.slotmap_links.proofs.Callers.{list_now, owners_stay}
 use Rattle.slotmap_links.proofs.Counts.{same, same_or_other as same_or_not, one_itself, one_other, times_first, times_joined, times_gone}
 use Rattle.slotmap_list.specs.Sequence.{Sequence, without, with_value_at}
-use Rattle.slotmap_list.specs.Kept.{at_index, elements_at, AreApart, AreLiveIndices, IsKept}
+use Rattle.slotmap_list.specs.Kept.{at_index, elements_at, AreLiveIndices, IsKept}
+use Rattle.slotmap_bounded.specs.Indices.{AreApart}
 use Rattle.slotmap_list.specs.ListPlaces.{is_place, put_by_place, put_number}
 use Rattle.slotmap_list.specs.declared.place.Place.{Place}
 use Rattle.slotmap_list.proofs.Elements.{with_value-split}

@@ -11,14 +11,16 @@ use Rattle.slotmap_links.proofs.Counts.{is_itself, times_first, times_joined}
 use Rattle.slotmap_links.proofs.Linking.{in_midst, split_at, without_split}
 use Rattle.slotmap_links.proofs.SeenLists.{after_there, before_there, not_first, not_later, put_before_there, put_behind_there}
 use Rattle.slotmap_list.specs.Sequence.{value_of, key_after, key_before, from_key, put_after, put_before, without, IsOnce}
-use Rattle.slotmap_list.specs.Kept.{at_index, elements_at, key_there, AreApart, AreLiveIndices}
+use Rattle.slotmap_list.specs.Kept.{at_index, elements_at, key_there, AreLiveIndices}
+use Rattle.slotmap_bounded.specs.Indices.{AreApart}
 use Rattle.slotmap_list.specs.ListPlaces.{has_place, is_place, put_by_place, put_number}
 use Rattle.slotmap_list.specs.declared.place.Side.TheVariants.{Before, After}
 use Rattle.slotmap_list.specs.declared.place.Place.{Place}
 use Rattle.slotmap_list.specs.declared.place.Place.TheVariants.{Front, Back, Beside}
 use Rattle.slotmap_list.proofs.Elements as keys
 use Rattle.slotmap_list.proofs.Elements.{times_some, times_none, once_if, value_of-split, key_after-split, key_before-split, from_key-split, put_after-split, put_before-split, without-split}
-use Rattle.slotmap_list.proofs.Indices.{at_is, at_live, as_often, elements_first, elements-append, elements_stay, first_at, last_at, some_is}
+use Rattle.slotmap_bounded.proofs.Indices.{some_is}
+use Rattle.slotmap_list.proofs.Indices.{at_is, at_live, as_often, elements_first, elements-append, elements_stay, first_at, last_at}
 
 -- the numbers from a number on
 from_there : (k : ℕ) (before after : List ℕ) → times k before ≡ 0 → numbers.numbers_from k (before ++ k ∷ after) ≡ k ∷ after

@@ -10,7 +10,8 @@ use Rattle.slotmap_links.proofs.Counts.{times_first}
 use Rattle.slotmap_list.specs.Kept.{at_index, elements_at, key_there, AreLiveIndices, IsKept, IsRest}
 use Rattle.slotmap_list.proofs.Elements as keys
 use Rattle.slotmap_list.proofs.Elements.{times_none, key_after-absent, key_before-absent, from_key-absent, without-absent}
-use Rattle.slotmap_list.proofs.Indices.{elements_long, first_at, last_at, some_at, some_is}
+use Rattle.slotmap_bounded.proofs.Indices.{some_is}
+use Rattle.slotmap_list.proofs.Indices.{elements_long, first_at, last_at, some_at}
 use Rattle.slotmap_list.proofs.Parts.{IsAt, stands_at, value_none, value_there, next_there, prev_there, from_at, elements_once}
 
 -- a look-up that copies nothing found nothing
