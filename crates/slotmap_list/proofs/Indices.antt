@@ -68,19 +68,15 @@ module _ {T : Type 0} (m : map.FinMap key_cmp T) where
   -- a key occurs no more often than its index
   often_by : (k : Key) (i : ℕ) (is : List ℕ) (o : Option (Key × T)) → at_index m i ≡ o → keys.times k (elements_at m is) ≤ times k.index is
       → keys.times k (cons_option o (elements_at m is)) ≤ times k.index (i ∷ is)
-  often_by k i is None found rest = let first = times_first k.index i is in omega arith
+  often_by k i is None found rest = omega (arith, times_first k.index i is)
   often_by k i is (Some e) found rest =
       let first = times_first k.index i is in
       let at = (at_is m i e found).0 in
       elim (same_or_other k e.0) [
         | inl same_key ↦ (
-            let one = keys.one_itself k in
-            let as_one = ap (λ q. keys.one k q) same_key in
-            let here = ap (λ n. same n k.index) (ap (λ (q : Key). q.index) same_key ∙ at) in
-            let itself = one_itself k.index in
-            omega arith
+            omega (arith, keys.one_itself k, ap (λ q. keys.one k q) same_key, ap (λ n. same n k.index) (ap (λ (q : Key). q.index) same_key ∙ at), one_itself k.index)
             )
-        | inr other ↦ (let none = keys.one_other k e.0 other in omega arith)
+        | inr other ↦ omega (arith, keys.one_other k e.0 other)
       ]
 
   pub as_often : (k : Key) (is : List ℕ) → keys.times k (elements_at m is) ≤ times k.index is
@@ -107,16 +103,15 @@ module _ {T : Type 0} (c : Content T) where
   pub key_found : {K : Type 0} (data_of : K → Key) (i : ℕ) (r : Option K) → IsContent true c → IfSome r (λ key. IsLive c (data_of key)) → IfSome r (λ key. (data_of key).index ≡ i)
       → IfNone r ((q : Key) → IsLive c q → q.index ≢ i) → option_map data_of r ≡ key_there c.live (Some i)
   key_found data_of i None well live index none = sym (ap (option_map (λ e. e.0)) (none_at c.live i none))
-  key_found data_of i (Some key) well live index none =
-      let v = some_is (map.get c.live (data_of key)) live in
+  key_found data_of i (Some key) well live index none = let v = some_is (map.get c.live (data_of key)) live in
       sym (ap (option_map (λ e. e.0)) (ap (at_index c.live) (sym index) ∙ at_live c.live (content_apart well) (data_of key) v.0 v.1))
 
 -- a number of a list, and the numbers behind it
 pub in_first : (i : ℕ) (is : List ℕ) → 0 < times i (i ∷ is)
-in_first i is = let first = times_first i i is in let one = one_itself i in omega arith
+in_first i is = omega (arith, times_first i i is, one_itself i)
 
 in_rest : (i q : ℕ) (is : List ℕ) → 0 < times q is → 0 < times q (i ∷ is)
-in_rest i q is more = let first = times_first q i is in omega arith
+in_rest i q is more = omega (arith, times_first q i is)
 
 module _ {T : Type 0} {m : map.FinMap key_cmp T} where
   pub rest_indices : {i : ℕ} {is : List ℕ} → AreLiveIndices m (i ∷ is) → AreLiveIndices m is
@@ -129,25 +124,17 @@ module _ {T : Type 0} {m : map.FinMap key_cmp T} where
   -- one element for each index
   pub elements_long : (is : List ℕ) → AreLiveIndices m is → length (elements_at m is) ≡ length is
   elements_long [] all = refl
-  elements_long (i ∷ is) all =
-      let e = element_of all i (in_first i is) in
-      let rest = elements_long is (rest_indices all) in
-      let here = ap length (elements_first m i is e.0 e.1) in
-      omega arith
+  elements_long (i ∷ is) all = let e = element_of all i (in_first i is) in omega (arith, elements_long is (rest_indices all), ap length (elements_first m i is e.0 e.1))
 
   -- the two ends
   pub first_at : (is : List ℕ) → AreLiveIndices m is → key_there m (numbers.first_or is None) ≡ first_or (elements_at m is) None
   first_at [] all = refl
-  first_at (i ∷ is) all =
-      let e = element_of all i (in_first i is) in
-      ap (option_map (λ e. e.0)) e.1 ∙ sym (ap (λ l. first_or l None) (elements_first m i is e.0 e.1))
+  first_at (i ∷ is) all = let e = element_of all i (in_first i is) in ap (option_map (λ e. e.0)) e.1 ∙ sym (ap (λ l. first_or l None) (elements_first m i is e.0 e.1))
 
   last_from : (is : List ℕ) (o : Option ℕ) → AreLiveIndices m is → key_there m (numbers.last_or is o) ≡ last_or (elements_at m is) (key_there m o)
   last_from [] o all = refl
-  last_from (i ∷ is) o all =
-      let e = element_of all i (in_first i is) in
-      last_from is (Some i) (rest_indices all)
-      ∙ ap (λ o. last_or (elements_at m is) o) (ap (option_map (λ e. e.0)) e.1) ∙ sym (ap (λ l. last_or l (key_there m o)) (elements_first m i is e.0 e.1))
+  last_from (i ∷ is) o all = let e = element_of all i (in_first i is) in last_from is (Some i) (rest_indices all) ∙ ap (λ o. last_or (elements_at m is) o) (ap (option_map (λ e. e.0)) e.1)
+      ∙ sym (ap (λ l. last_or l (key_there m o)) (elements_first m i is e.0 e.1))
 
   pub last_at : (is : List ℕ) → AreLiveIndices m is → key_there m (numbers.last_or is None) ≡ last_or (elements_at m is) None
   last_at is all = last_from is None all
@@ -156,10 +143,8 @@ module _ {T : Type 0} {m : map.FinMap key_cmp T} where
   pub elements_stay : (n : map.FinMap key_cmp T) (is : List ℕ) → AreLiveIndices m is → ((i : ℕ) (e : Key × T) → 0 < times i is → at_index m i ≡ Some e → at_index n i ≡ Some e)
       → elements_at n is ≡ elements_at m is
   elements_stay n [] all stay = refl
-  elements_stay n (i ∷ is) all stay =
-      let e = element_of all i (in_first i is) in
-      elements_first n i is e.0 (stay i e.0 (in_first i is) e.1) ∙ ap (λ l. e.0 ∷ l) (elements_stay n is (rest_indices all) (λ q f more. stay q f (in_rest i q is more)))
-      ∙ sym (elements_first m i is e.0 e.1)
+  elements_stay n (i ∷ is) all stay = let e = element_of all i (in_first i is) in elements_first n i is e.0 (stay i e.0 (in_first i is) e.1)
+      ∙ ap (λ l. e.0 ∷ l) (elements_stay n is (rest_indices all) (λ q f more. stay q f (in_rest i q is more))) ∙ sym (elements_first m i is e.0 e.1)
 
 -- a step along a list of indices, from either end
 module _ {T : Type 0} {m : map.FinMap key_cmp T} {is : List ℕ} (all : AreLiveIndices m is) (i : ℕ) (rest : List ℕ) where
@@ -179,7 +164,7 @@ module _ {T : Type 0} {m : map.FinMap key_cmp T} {is : List ℕ} (all : AreLiveI
     back_is back = ap (elements_at m) back ∙ elements-append m rest (i ∷ []) ∙ ap (λ l. elements_at m rest ++ l) (elements_first m i [] (k, v) here)
 
   pub front_counted : is ≡ i ∷ rest → 0 < times i is
-  front_counted front = let same_often = ap (times i) front in let one = in_first i rest in omega arith
+  front_counted front = omega (arith, ap (times i) front, in_first i rest)
 
   pub back_counted : is ≡ rest ++ i ∷ [] → 0 < times i is
-  back_counted back = let same_often = ap (times i) back ∙ times_joined i rest (i ∷ []) in let one = in_first i [] in omega arith
+  back_counted back = omega (arith, ap (times i) back ∙ times_joined i rest (i ∷ []), in_first i [])

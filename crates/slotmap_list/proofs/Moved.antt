@@ -30,7 +30,7 @@ module _ {T : Type 0} {c : Content T} {s : Lists} (kept : IsKept c s) (k : Key) 
   without_it = with_list s 0 (numbers.without k.index (list_of s 0))
 
   there : 0 < length s.lists
-  there = let one = kept.owner in omega arith
+  there = omega (arith, kept.owner)
 
   taken : list_of without_it 0 ≡ numbers.without k.index (list_of s 0)
   taken = list_now s 0 (numbers.without k.index (list_of s 0)) there
