@@ -1,6 +1,6 @@
 -- What is at each of several indices: an edge, and the one after it.
 use Rattle.std.proofs.Common.{◌≡◌, ◌∷◌, ◌∙◌}
-use Rattle.slotmap_graph.proofs.Common.{ℕ, true, false, cond, nat_eq, Some, None, Option, List, [], refl, ap, Key, Content, IsLive, is_key}
+use Rattle.slotmap_graph.proofs.Common.{ℕ, true, false, cond, nat_eq, Some, None, Option, List, [], refl, ap, Key, Content, IsLive}
 use Rattle.slotmap_graph.proofs.Common.{cons_option, is_some, length, suc, first_or, key_after, number_after, option_map, AreIndices, HaveIndices, key_at, keys_at}
 use Rattle.std.specs.List.{filter_map}
 use Rattle.std.specs.FinMap as map
@@ -20,11 +20,8 @@ module _ {V : Type 0} {c : Content V} (indices : HaveIndices c) where
 
   pub entries_long : (is : List ℕ) → AreIndices c is → length (entries_at (keys_at c.live is)) ≡ length is
   entries_long [] all = refl
-  entries_long (i ∷ is) all =
-      let has = first_index all in
-      let k = key_at c.live i in
-      one_entry k (entries_at (keys_at c.live is)) (map.get c.live k) (ap (map.contains_key c.live) (key_is indices i has.0 has.1 has.2) ∙ has.1)
-      ∙ ap suc (entries_long is (later_indices all))
+  entries_long (i ∷ is) all = let has = first_index all in let k = key_at c.live i in
+      one_entry k (entries_at (keys_at c.live is)) (map.get c.live k) (ap (map.contains_key c.live) (key_is indices i has.0 has.1 has.2) ∙ has.1) ∙ ap suc (entries_long is (later_indices all))
 
   -- the key after another one, by their indices
   pub after_at : (is : List ℕ) → AreIndices c is → (k : Key) → IsLive c k → key_after k (keys_at c.live is) ≡ option_map (key_at c.live) (number_after k.index is)

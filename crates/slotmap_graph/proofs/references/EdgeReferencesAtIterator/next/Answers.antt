@@ -16,13 +16,9 @@ edge g c =
     λ i. record { from = from i; to = to i; value = sym c.value-value.ensures i }
 
 pub returns-clause-steps : goal.returns-clause-steps
-returns-clause-steps g c =
-    let live = c.self.inside.edges.now.live in
-    let rest = keys_at live c.next.new.self in
-    let key = c.live_key-key in
-    sym c.self.view_is ∙ ap (entries_along live) (front_key c.self.invariant.0 key.result key.ensures.live key.ensures.index c.in_ok-index.ensures.steps)
-    ∙ first_entry live key.result c.value-edge.result.now rest c.value-edge.ensures
-    ∙ ap (λ (e : SeenEdge g.row.E.Denot). (key.result, e) ∷ entries_along live rest) (edge g c)
+returns-clause-steps g c = let live = c.self.inside.edges.now.live in let rest = keys_at live c.next.new.self in let key = c.live_key-key in sym c.self.view_is
+    ∙ ap (entries_along live) (front_key c.self.invariant.0 key.result key.ensures.live key.ensures.index c.in_ok-index.ensures.steps)
+    ∙ first_entry live key.result c.value-edge.result.now rest c.value-edge.ensures ∙ ap (λ (e : SeenEdge g.row.E.Denot). (key.result, e) ∷ entries_along live rest) (edge g c)
 
 pub returns-clause-goes : goal.returns-clause-goes
-returns-clause-goes g c = record { on = λ _. (tt, tt, let long = ap length (returns-clause-steps g c) in omega (arith, long)); keeps = tt; rests = λ _. tt }
+returns-clause-goes g c = record { on = λ _. (tt, tt, omega (arith, ap length (returns-clause-steps g c))); keeps = tt; rests = λ _. tt }
