@@ -77,7 +77,6 @@ WORDS = {
     'CanReplace AreValuesOf with_values dropped CallsAt': 'several keys or calls of a closure, of each kind of map',
     'Given Step DetachStep StepInsert StepRemove StepDetach StepReattach after_insert after_remove after_detach after_reattach': 'the same of each machine',
     'key_after': 'the key after another one, in a list of keys or of elements',
-    'AreIndices HaveIndices CoversMore key_at keys_at': 'the keys of a map by their indices, and what is kept beside it: of a graph and of a scene',
     'IsOnce without is_key same times': 'lists of indices or keys: none twice; all but one; how often a key is in one',
     'AreApart AreLinked IsListed IsSegment followed link_between listed no_ends no_link own put_before': 'the same of lists of keys or edges, and of numbers',
     'Nodes IsChain Unlinks Relinks IsWalk follow with_link with_next with_prev link_in ends_in ends_of first_or last_or': 'what is linked both ways: nodes, slots, or the keys of a list',
@@ -92,11 +91,9 @@ LEMMA_NAMES = {
 
 # Lemmas of one name and one statement in two files
 PROVED_TWICE = {
-    'as_many linked_along next_here not_first not_last prev_here segment_is segment_long': 'the same of lists of keys, and of numbers',
     'dropped_push slots_equal': 'of words that each map has for itself',
-    'after_inside find_only key_at_live by_live covered': 'of the keys of a graph, and of a scene, by their indices',
     'keeps_lent yields_in_order': 'the same of the drain of each structure',
-    'first second some_is last_some own': 'a line of logic that a structure proves for itself',
+    'first second some_is own': 'a line of logic that a structure proves for itself',
     'below-changed sorted-changed': 'of entries whose values are changed by the value, or by the key',
     'closed_spec end_spec into_unboxed_spec of_unboxed_spec': 'that function of each handle for C, by the name that the checker wants',
 }

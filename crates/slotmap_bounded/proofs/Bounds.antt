@@ -43,9 +43,9 @@ module _ {V : Type 0} (c : Content V) (room capacity : ℕ) (is : IsBounded c ro
     limit = well.limit;
     offers = well.offers;
     stacked = λ stack at. (let s = well.stacked stack at in record { lists = s.lists; once = s.once; top = s.top });
-    room_fits = (let a = well.room_fits in let b = is.fits in omega arith);
+    room_fits = omega (arith, well.room_fits, is.fits);
     reused = λ _. is.vacant;
-    capacity_fits = (let e = is.exact in omega arith);
+    capacity_fits = omega (arith, is.exact);
   }
 
 module _ {V : Type 0} (c : Content V) (room capacity : ℕ) (is : IsBounded c room capacity) where
@@ -53,16 +53,12 @@ module _ {V : Type 0} (c : Content V) (room capacity : ℕ) (is : IsBounded c ro
   pub written : (k : Key) → IsLive c k → (v : V) → IsBounded (with_value c k v) room capacity
   written k live v =
       let len = same_len c is.valid k live v in
-      record { valid = written_valid c is.valid k live v; vacant = is.vacant; fits = is.fits; exact = (let e = is.exact in omega arith) }
+      record { valid = written_valid c is.valid k live v; vacant = is.vacant; fits = is.fits; exact = (omega (arith, is.exact)) }
 
   -- a value comes
   module _ (k : Key) (v : V) (new : Content V) (inserts : Inserts c k v new) where
     used_more : used new ≡ used c + 1
-    used_more =
-        let live = inserted_len true c k v new is.valid inserts in
-        let detached = ap set.len inserts.detached in
-        let retired = ap set.len inserts.retired in
-        omega arith
+    used_more = omega (arith, inserted_len true c k v new is.valid inserts, ap set.len inserts.detached, ap set.len inserts.retired)
 
     vacant_less : 0 < room → map.len new.next ≤ room - 1
     vacant_less some =
@@ -81,8 +77,8 @@ module _ {V : Type 0} (c : Content V) (room capacity : ℕ) (is : IsBounded c ro
     inserted some valid = record {
       valid = valid;
       vacant = vacant_less some;
-      fits = (let a = inserts.room in let b = is.fits in omega arith);
-      exact = (let a = used_more in let b = is.exact in omega arith);
+      fits = omega (arith, inserts.room, is.fits);
+      exact = omega (arith, used_more, is.exact);
     }
 
     pub inserts_bounded : 0 < room → Inserts (bounded c room capacity) k v (bounded new (room - 1) capacity)
@@ -98,13 +94,8 @@ module _ {V : Type 0} (c : Content V) (room capacity : ℕ) (is : IsBounded c ro
     }
 
     pub index_within : 0 < room → IsContent true new → k.index ≤ capacity
-    index_within some valid =
-        let there : IsLive new k = ap (λ m. map.contains_key m k) inserts.live ∙ ap is_some (get-insert_here c.live k v) in
-        let within = (valid.within k (inl (inl there))).1 in
-        let now = inserted some valid in
-        let vacant = now.vacant in
-        let exact = now.exact in
-        omega arith
+    index_within some valid = let there : IsLive new k = ap (λ m. map.contains_key m k) inserts.live ∙ ap is_some (get-insert_here c.live k v) in let now = inserted some valid in
+        omega (arith, (valid.within k (inl (inl there))).1, now.vacant, now.exact)
 
   -- a value goes
   module _ (k : Key) (live : IsLive c k) (new : Content V) (removes : Removes c k new) (valid : IsContent true new) where
@@ -117,9 +108,9 @@ module _ {V : Type 0} (c : Content V) (room capacity : ℕ) (is : IsBounded c ro
         let same = same_places in
         record {
           valid = valid;
-          vacant = (let v = is.vacant in omega arith);
-          fits = (let more : c.room + 0 ≤ new.room = rw last at removes.room in let f = is.fits in omega arith);
-          exact = (let e = is.exact in omega arith);
+          vacant = omega (arith, is.vacant);
+          fits = (let more : c.room + 0 ≤ new.room = rw last at removes.room in omega (arith, is.fits));
+          exact = omega (arith, is.exact);
         }
 
     removed_other : is_last k ≡ false → IsBounded new (room + 1) capacity
@@ -131,9 +122,9 @@ module _ {V : Type 0} (c : Content V) (room capacity : ℕ) (is : IsBounded c ro
         let same = same_places in
         record {
           valid = valid;
-          vacant = (let v = is.vacant in omega arith);
-          fits = (let more : c.room + 1 ≤ new.room = rw other at removes.room in let f = is.fits in omega arith);
-          exact = (let e = is.exact in omega arith);
+          vacant = omega (arith, is.vacant);
+          fits = (let more : c.room + 1 ≤ new.room = rw other at removes.room in omega (arith, is.fits));
+          exact = omega (arith, is.exact);
         }
 
     pub removed : IsBounded new (room + (if is_last k then 0 else 1)) capacity
@@ -157,9 +148,9 @@ module _ {V : Type 0} (c : Content V) (room capacity : ℕ) (is : IsBounded c ro
   had_room n ok done more = let valid = bounded_valid c room capacity is in record {
     before = valid;
     after = valid;
-    fits = λ _. (let f = valid.room_fits in omega arith);
+    fits = λ _. omega (arith, valid.room_fits);
     room = λ _. more;
-    live_and_more = λ _. (let f = valid.capacity_fits in omega arith);
+    live_and_more = λ _. omega (arith, valid.capacity_fits);
     succeeds = λ _. done;
     had_room = λ _. refl;
     keeps = record { live = refl; detached = refl; retired = refl; next = refl; offer = refl; stack = refl; room = omega arith };
@@ -181,26 +172,22 @@ module _ {V : Type 0} (c : Content V) (room capacity : ℕ) (is : IsBounded c ro
 
   module _ (n asked : ℕ) (ok : Type 0) (new : Content V) (makes : MakesRoom true c n ok new) (enough : asked ≤ n) (less : room < asked) where
     same_used : used new ≡ used c
-    same_used =
-        let live = ap map.len makes.keeps.live in
-        let detached = ap set.len makes.keeps.detached in
-        let retired = ap set.len makes.keeps.retired in
-        omega arith
+    same_used = omega (arith, ap map.len makes.keeps.live, ap set.len makes.keeps.detached, ap set.len makes.keeps.retired)
 
     pub made : ok → IsBounded new n (capacity - room + n)
     made done = record {
       valid = makes.after;
-      vacant = (let next = ap map.len makes.keeps.next in let v = is.vacant in omega arith);
+      vacant = omega (arith, ap map.len makes.keeps.next, is.vacant);
       fits = makes.room done;
-      exact = (let u = same_used in let e = is.exact in omega arith);
+      exact = omega (arith, same_used, is.exact);
     }
 
     refused : IsBounded new room capacity
     refused = record {
       valid = makes.after;
-      vacant = (let next = ap map.len makes.keeps.next in let v = is.vacant in omega arith);
-      fits = (let f = is.fits in let r = makes.keeps.room in omega arith);
-      exact = (let u = same_used in let e = is.exact in omega arith);
+      vacant = omega (arith, ap map.len makes.keeps.next, is.vacant);
+      fits = omega (arith, is.fits, makes.keeps.room);
+      exact = omega (arith, same_used, is.exact);
     }
 
     pub refused_same : bounded new room capacity ≡ bounded c room capacity
@@ -219,9 +206,9 @@ module _ {V : Type 0} (c : Content V) (room capacity : ℕ) (is : IsBounded c ro
     made_room done fine is_fine = let keeps = makes.keeps in record {
       before = bounded_valid c room capacity is;
       after = bounded_valid new n (capacity - room + n) (made done);
-      fits = λ _. (let f = makes.fits done in omega arith);
+      fits = λ _. omega (arith, makes.fits done);
       room = λ _. omega arith;
-      live_and_more = λ _. (let live = ap map.len keeps.live in let e = is.exact in omega arith);
+      live_and_more = λ _. omega (arith, ap map.len keeps.live, is.exact);
       succeeds = λ more. absurd (omega arith);
       had_room = λ more. absurd (omega arith);
       keeps = record {
@@ -233,7 +220,7 @@ module _ {V : Type 0} (c : Content V) (room capacity : ℕ) (is : IsBounded c ro
         stack = keeps.stack;
         room = omega arith;
       };
-      capacity = (let e = is.exact in omega arith);
+      capacity = omega (arith, is.exact);
     }
 
     pub refused_room : (fine : Type 0) → (fine → ⊥) → MakesRoom true (bounded c room capacity) asked fine (bounded new room capacity)
@@ -284,9 +271,9 @@ module _ {V : Type 0} (c : Content V) (room capacity : ℕ) (is : IsBounded c ro
       let next = ap map.len (keeps.next ∙ clones.next) in
       record {
         valid = makes.after;
-        vacant = (let v = is.vacant in omega arith);
+        vacant = omega (arith, is.vacant);
         fits = makes.room done;
-        exact = (let e = is.exact in omega arith);
+        exact = omega (arith, is.exact);
       }
 
   pub copied_clones : IsCloneBy is_clone (bounded c room capacity) (bounded new room capacity)
@@ -305,4 +292,4 @@ none_live {V} c index valid past above = map.same_map keys_total exact_keys c.li
   where
     none : (q : Key) (o : Option V) → map.get c.live q ≡ o → map.get c.live q ≡ None
     none q None is = is
-    none q (Some v) is = absurd (let live : IsLive c q = ap is_some is in let low = above q live in let within = (valid.within q (inl (inl live))).1 in omega arith)
+    none q (Some v) is = absurd (let live : IsLive c q = ap is_some is in omega (arith, above q live, (valid.within q (inl (inl live))).1))

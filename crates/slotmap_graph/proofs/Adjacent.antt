@@ -1,21 +1,13 @@
 -- The lists of the edges of each node: what a change of the edges asks of them.
 use Rattle.std.proofs.Common.{◌≡◌, ◌≢◌, ◌<◌, ◌≤◌, ◌∷◌, ◌∙◌}
-use Rattle.slotmap_graph.proofs.Common.{Some, None, Option, List, [], refl, ap, inl, inr, arith, Key, same_or_other}
-use Rattle.slotmap_graph.proofs.Common.{same, times, without, one_itself, one_other, times_first, without_none}
-use Rattle.slotmap_graph.proofs.Common.{SeenEdge, Edges, ends_at, ListsEdges}
+use Rattle.slotmap_graph.proofs.Common.{Some, None, List, [], refl, ap, inl, inr, arith, Key, same_or_other, same, times, without, one_itself, one_other, times_first, without_none, SeenEdge, Edges}
+use Rattle.slotmap_graph.proofs.Common.{ends_at, ListsEdges}
 use Rattle.std.specs.FinMap as map
 
 module _ {E : Type 0} (end : SeenEdge E → Key) (edges : Edges E) where
   -- a key is in a list at most once
   pub listed_once : (k : Key) (ks : List Key) → ListsEdges end edges k ks → (x : Key) → times x ks ≤ 1
-  listed_once k ks lists x = by (map.get edges x) (lists x)
-    where
-      by : (o : Option (SeenEdge E)) → times x ks ≡ ends_at end k o → times x ks ≤ 1
-      by None is = omega arith
-      by (Some e) is = elim (same_or_other (end e) k) [
-        | inl at ↦ (let one = ap (λ t. same t k) at ∙ one_itself k in omega arith)
-        | inr other ↦ (let none = one_other (end e) k other in omega arith)
-      ]
+  listed_once k ks lists x = grind (arith, lists x)
 
   -- an edge that isn't there is in no list
   pub absent_unlisted : (x : Key) → map.get edges x ≡ None → (k : Key) (ks : List Key) → ListsEdges end edges k ks → without x ks ≡ ks
@@ -28,13 +20,13 @@ module _ {E : Type 0} (end : SeenEdge E → Key) (edges : Edges E) where
       | None ↦ λ is less. absurd (omega arith)
       | Some e ↦ λ is less. elim (same_or_other (end e) k) [
         | inl at ↦ (e, is, at)
-        | inr other ↦ absurd (let none = one_other (end e) k other in omega arith)
+        | inr other ↦ absurd (omega (arith, one_other (end e) k other))
       ]
     ] refl more
 
     module _ (ks : List Key) (lists : ListsEdges end edges k ks) where
       pub listed_edge : (x : Key) → 0 < times x ks → (e : SeenEdge E) × (map.get edges x ≡ Some e) × (end e ≡ k)
-      listed_edge x more = some_listed x (let is = lists x in omega arith)
+      listed_edge x more = some_listed x (omega (arith, lists x))
 
       -- and each such edge is in it
       pub edge_listed : (x : Key) (e : SeenEdge E) → map.get edges x ≡ Some e → end e ≡ k → times x ks ≡ 1
@@ -42,9 +34,8 @@ module _ {E : Type 0} (end : SeenEdge E → Key) (edges : Edges E) where
 
     -- if the list is empty, no edge has that end, and the other way round
     pub none_listed : (ks : List Key) → ListsEdges end edges k ks → ks ≡ [] → (x : Key) (e : SeenEdge E) → map.get edges x ≡ Some e → end e ≢ k
-    none_listed ks lists empty x e there at = let one = edge_listed ks lists x e there at in let none = ap (times x) empty in absurd (omega arith)
+    none_listed ks lists empty x e there at = absurd (omega (arith, edge_listed ks lists x e there at, ap (times x) empty))
 
     pub nothing_listed : (ks : List Key) → ListsEdges end edges k ks → ((x : Key) (e : SeenEdge E) → map.get edges x ≡ Some e → end e ≢ k) → ks ≡ []
     nothing_listed [] lists none = refl
-    nothing_listed (x ∷ rest) lists none =
-        absurd (let found = listed_edge (x ∷ rest) lists x (let first = times_first x x rest in let one = one_itself x in omega arith) in none x found.0 found.1 found.2)
+    nothing_listed (x ∷ rest) lists none = absurd (let found = listed_edge (x ∷ rest) lists x (omega (arith, times_first x x rest, one_itself x)) in none x found.0 found.1 found.2)

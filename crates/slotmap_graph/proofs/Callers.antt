@@ -1,25 +1,25 @@
 -- What callers of a graph cite: the nodes that a search didn't find, loops along the edges of a node, and written values.
-use Rattle.std.proofs.Common.{◌≡◌, ◌≢◌, ◌<◌, ◌≤◌, ◌∷◌, ◌++◌, ◌∙◌, if◌then◌else◌}
-use Rattle.slotmap_graph.proofs.Common.{ℕ, suc, true, false, cond, not, Option, Some, None, List, [], length, get_or, refl, sym, ap, subst, inl, inr, arith, Key, is_key, same, times, times_first}
-use Rattle.slotmap_graph.proofs.Common.{append-nil, append_assoc, same_Some, same_or_other, is_itself, is_other, one_itself, one_other, times_pushed, without, first_or, key_after, in_midst}
-use Rattle.slotmap_graph.proofs.Common.{Content, Edges, SeenEdge, ListsEdges, with_edge, with_edge_in, get-insert_here, get-insert_other}
+use Rattle.std.proofs.Common.{◌≡◌, ◌≢◌, ◌<◌, ◌≤◌, ◌∷◌, ◌++◌, ◌∙◌, map as list_map}
+use Rattle.slotmap_graph.proofs.Common.{ℕ, suc, false, cond, Option, Some, None, List, [], length, get_or, refl, sym, ap, subst, inl, inr, arith, Key, is_key, times, times_first, append-nil}
+use Rattle.slotmap_graph.proofs.Common.{append_assoc, same_Some, same_or_other, is_itself, one_other, times_pushed, without, first_or, key_after, in_midst, Content, Edges, SeenEdge, ListsEdges}
+use Rattle.slotmap_graph.proofs.Common.{with_edge, with_edge_in, get-insert_here, get-insert_other}
 use Rattle.slotmap_graph.proofs.Adjacent.{listed_once}
 use Rattle.std.specs.FinMap as map
-use Rattle.std.proofs.Common.{map as list_map}
 
 module _ {K : Type 0} (data_of : K → Key) where
   none_is : (keys : List K) (x : Key) → ((i : ℕ) (other : K) → 0 ≤ i → i < length keys → is_key (data_of (get_or keys i other)) x ≡ false) → times x (list_map data_of keys) ≡ 0
   none_is [] x apart = refl
-  none_is (k ∷ keys) x apart =
-      let first = times_first x (data_of k) (list_map data_of keys) in
-      let here : same (data_of k) x ≡ 0 = ap (λ b. if b then 1 else 0) (apart 0 k (omega arith) (omega arith)) in
-      let rest = none_is keys x (λ i other low inside. apart (suc i) other (omega arith) (omega (arith, inside))) in
-      omega (arith, first, here, rest)
+  none_is (k ∷ keys) x apart = grind (
+    arith,
+    times_first x (data_of k) (list_map data_of keys),
+    apart 0 k (omega arith) (omega arith),
+    none_is keys x (λ i other low inside. apart (suc i) other (omega arith) (omega (arith, inside))),
+  )
 
   -- where `contains` says no, no path leads
   pub not_found : (keys : List K) (x : Key) → ((i : ℕ) (other : K) → 0 ≤ i → i < length keys → is_key (data_of (get_or keys i other)) x ≡ false)
       → 0 < times x (list_map data_of keys) → ⊥
-  not_found keys x apart some = let none = none_is keys x apart in absurd (omega (arith, none, some))
+  not_found keys x apart some = absurd (omega (arith, none_is keys x apart, some))
 
 -- a loop along the edges of a node: the keys that it passed, with a fact of each, and those ahead of it
 pub record GoesAlong (all : List Key) (at : Option Key) (Passed : Key → Type 0) : Type 0 where
@@ -41,21 +41,13 @@ left_along (Some k) ks = left_from k ks
 
 -- a key of which there is none before
 module _ (k : Key) (rest : List Key) where
-  first_other : (q : Key) (before : List Key) → times k (q ∷ before) ≡ 0 → (is_key q k ≡ false) × (times k before ≡ 0)
-  first_other q before none = elim (same_or_other q k) [
-    | inl is ↦ absurd (let first = times_first k q before in let one = ap (λ x. same x k) is ∙ one_itself k in omega arith)
-    | inr other ↦ (is_other q k other, (let first = times_first k q before in omega arith))
-  ]
-
   after_split : (before : List Key) → times k before ≡ 0 → key_after k (before ++ k ∷ rest) ≡ first_or rest None
-  after_split [] none = ap (λ b. cond b (first_or rest None) (key_after k rest)) (is_itself k)
-  after_split (q ∷ before) none = let other = first_other q before none in
-      ap (λ b. cond b (first_or (before ++ k ∷ rest) None) (key_after k (before ++ k ∷ rest))) other.0 ∙ after_split before other.1
+  after_split [] none = grind (arith, is_itself k)
+  after_split (q ∷ before) none = grind (arith, times_first k q before, after_split before)
 
   left_split : (before : List Key) → times k before ≡ 0 → left_from k (before ++ k ∷ rest) ≡ suc (length rest)
-  left_split [] none = ap (λ b. cond b (suc (length rest)) (left_from k rest)) (is_itself k)
-  left_split (q ∷ before) none = let other = first_other q before none in
-      ap (λ b. cond b (suc (length (before ++ k ∷ rest))) (left_from k (before ++ k ∷ rest))) other.0 ∙ left_split before other.1
+  left_split [] none = grind (arith, is_itself k)
+  left_split (q ∷ before) none = grind (arith, times_first k q before, left_split before)
 
 -- what stands first
 first_is : (ks : List Key) (k : Key) → Some k ≡ first_or ks None → (rest : List Key) × (ks ≡ k ∷ rest)
@@ -78,14 +70,14 @@ module _ (all : List Key) (k : Key) (Passed : Key → Type 0) (along : GoesAlong
   whole = along.list ∙ ap (λ l. along.passed ++ l) rest_of.1
 
   not_passed : times k along.passed ≡ 0
-  not_passed = let once = along.once k in let sum = ap (times k) whole ∙ in_midst along.passed k rest_of.0 in omega arith
+  not_passed = omega (arith, along.once k, ap (times k) whole ∙ in_midst along.passed k rest_of.0)
 
   next_is : key_after k all ≡ first_or rest_of.0 None
   next_is = ap (key_after k) whole ∙ after_split k rest_of.0 along.passed not_passed
 
   -- the edge is one of the node's
   pub along_here : 0 < times k all
-  along_here = let sum = ap (times k) whole ∙ in_midst along.passed k rest_of.0 in omega arith
+  along_here = omega (arith, ap (times k) whole ∙ in_midst along.passed k rest_of.0)
 
   pub along_next : (next : Option Key) → next ≡ key_after k all → (New : Key → Type 0) → New k → ((q : Key) → q ≢ k → Passed q → New q) → GoesAlong all next New
   along_next next is New holds still = record {
@@ -96,45 +88,32 @@ module _ (all : List Key) (k : Key) (Passed : Key → Type 0) (along : GoesAlong
     once = along.once;
     each = λ q more. (elim (same_or_other q k) [
       | inl at ↦ subst New (sym at) holds
-      | inr other ↦ still q other (along.each q (let sum = times_pushed q along.passed k in let none = one_other k q (λ e. other (sym e)) in omega arith))
+      | inr other ↦ still q other (along.each q (omega (arith, times_pushed q along.passed k, one_other k q (λ e. other (sym e)))))
     ]);
   }
 
   pub along_less : (next : Option Key) → next ≡ key_after k all → left_along next all < left_along (Some k) all
-  along_less next is =
-      let now : left_from k all ≡ suc (length rest_of.0) = ap (left_from k) whole ∙ left_split k rest_of.0 along.passed not_passed in
-      by rest_of.0 whole now (is ∙ next_is)
+  along_less next is = let now : left_from k all ≡ suc (length rest_of.0) = ap (left_from k) whole ∙ left_split k rest_of.0 along.passed not_passed in by rest_of.0 whole now (is ∙ next_is)
     where
       by : (rest : List Key) → all ≡ along.passed ++ k ∷ rest → left_from k all ≡ suc (length rest) → next ≡ first_or rest None → left_along next all < left_from k all
-      by [] all_is now at = let none = ap (λ o. left_along o all) at in omega arith
-      by (q ∷ rest) all_is now at =
-          let split : all ≡ (along.passed ++ k ∷ []) ++ q ∷ rest = all_is ∙ sym (append_assoc along.passed (k ∷ []) (q ∷ rest)) in
-          let once = along.once q in
+      by [] all_is now at = omega (arith, ap (λ o. left_along o all) at)
+      by (q ∷ rest) all_is now at = let split : all ≡ (along.passed ++ k ∷ []) ++ q ∷ rest = all_is ∙ sym (append_assoc along.passed (k ∷ []) (q ∷ rest)) in let once = along.once q in
           let sum = ap (times q) split ∙ in_midst (along.passed ++ k ∷ []) q rest in
-          let left = ap (λ o. left_along o all) at ∙ ap (left_from q) split ∙ left_split q rest (along.passed ++ k ∷ []) (omega arith) in
-          omega arith
+          omega (arith, ap (λ o. left_along o all) at ∙ ap (left_from q) split ∙ left_split q rest (along.passed ++ k ∷ []) (omega arith))
 
 -- after the loop each edge of the node was passed
 pub along_end : (all : List Key) (Passed : Key → Type 0) → GoesAlong all None Passed → (k : Key) → 0 < times k all → Passed k
-along_end all Passed along k more =
-    let same : all ≡ along.passed = along.list ∙ ap (λ l. along.passed ++ l) (none_first along.ahead along.here) ∙ append-nil along.passed in
-    along.each k (let same_times = ap (times k) same in omega arith)
+along_end all Passed along k more = let same : all ≡ along.passed = along.list ∙ ap (λ l. along.passed ++ l) (none_first along.ahead along.here) ∙ append-nil along.passed in
+    along.each k (omega (arith, ap (times k) same))
 
 -- a loop that removes the first edge of a node, until there is none
 less_without : (k : Key) (ks : List Key) → length (without k ks) ≤ length ks
 less_without k [] = omega arith
-less_without k (q ∷ ks) = let rest = less_without k ks in elim (is_key q k) as (λ b. length (cond (not b) (q ∷ without k ks) (without k ks)) ≤ length (q ∷ ks)) [
-  | true ↦ omega arith
-  | false ↦ omega arith
-]
+less_without k (q ∷ ks) = grind (arith, less_without k ks)
 
 pub first_less : (ks : List Key) (k : Key) → Some k ≡ first_or ks None → length (without k ks) < length ks
 first_less [] k is = absurd (cc)
-first_less (q ∷ ks) k is =
-    let here : is_key q k ≡ true = ap (λ x. is_key x k) (sym (same_Some _ _ is)) ∙ is_itself k in
-    let rest = less_without k ks in
-    let now = ap (λ b. length (cond (not b) (q ∷ without k ks) (without k ks))) here in
-    omega arith
+first_less (q ∷ ks) k is = grind (arith, ap (λ x. is_key x k) (sym (same_Some _ _ is)) ∙ is_itself k, less_without k ks)
 
 -- a value that is written through the reference to it
 module _ {E : Type 0} (edges : Content (SeenEdge E)) (k : Key) (v : E) where

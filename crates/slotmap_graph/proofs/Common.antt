@@ -1,7 +1,6 @@
 -- What the proofs of this crate cite of std, of the crates below and of its own definitions, from one place. Declares nothing.
-pub use Rattle.std.proofs.Common.{[], ap, append-nil, append_assoc, arith, Bool, cond, drop, eq-eqb, Err, false, get_or, IfNone, IfOk, IfSome, inl, inr, is_some, IsErr}
-pub use Rattle.std.proofs.Common.{length, length-append, List, map as list_map, MatchOption, nat_eq, None, not, Ok, OnSome, Option, option_map, refl, Result}
-pub use Rattle.std.proofs.Common.{Some, subst, suc, sym, take, true, unwrap_or, zero, ℕ, ⊎_elim}
+pub use Rattle.std.proofs.Common.{[], ap, append-nil, append_assoc, arith, Bool, cond, drop, false, get_or, IfNone, IfSome, inl, inr, is_some, length, length-append, List, map as list_map}
+pub use Rattle.std.proofs.Common.{MatchOption, nat_eq, None, not, OnSome, Option, option_map, refl, Some, subst, suc, sym, take, true, unwrap_or, zero, ℕ, ⊎_elim}
 pub use Rattle.std.proofs.Math.Nat.{eq-zero-or-pos}
 pub use Rattle.std.proofs.lemmas.Bool.Decides.{nat_tests}
 pub use Rattle.std.proofs.lemmas.Grind.{common_steps}
@@ -12,30 +11,24 @@ pub use Rattle.std.proofs.lemmas.List.Sums.{fold-append, sum_by-take-drop}
 pub use Rattle.std.proofs.lemmas.Option.{same_Some}
 pub use Rattle.std.specs.List.{cons_option, filter, find, fold}
 pub use Rattle.std.specs.Option.{option_and_then, option_or}
-pub use Rattle.slotmap.proofs.Callers.{beside_empty, clone_copies, clone_live, exact_keys, get-bind_here, get-bind_other, get-insert_here, get-insert_other}
-pub use Rattle.slotmap.proofs.Callers.{get-put_live, get-put_other, insert_still, inserted_fresh, keys, keys_total, leaves_by_removal, leaves_in_turn}
-pub use Rattle.slotmap.proofs.Callers.{leaves_none, left_spent, len_removed, live-insert_still, live-remove_other, none_of, of_some, remove_spent}
-pub use Rattle.slotmap.proofs.Callers.{removed_spent, same_lent, same_or_other, tied, itself, secondary, spent_insert, spent_inserts, spent_keeps, spent_leaves, spent_remove, spent_removes}
-pub use Rattle.slotmap.specs.Words.{ClonesEqual, contains_key, Content, get, Inserts, IsBeside, IsCloneBy, IsCloneOf, IsContent, IsLive, IsSpent, Keeps}
-pub use Rattle.slotmap.specs.Words.{KeepsSpent, Key, key_cmp, Leaves, most, Pairs, Removes, with_value}
-pub use Rattle.slotmap_keylist.proofs.Counts.{behind_split, filter_all, filter_less, here_or_behind, is_itself, is_other, no_more_than, none_behind, one_itself}
-pub use Rattle.slotmap_keylist.proofs.Counts.{one_other, times_first, times_gone, times_joined, times_pushed, times_there, times_without, without_none}
+pub use Rattle.slotmap.proofs.Callers.{beside_empty, clone_copies, clone_live, exact_keys, get-bind_here, get-bind_other, get-insert_here, get-insert_other, get-put_live, get-put_other}
+pub use Rattle.slotmap.proofs.Callers.{inserted_fresh, keys, keys_total, leaves_by_removal, leaves_in_turn, leaves_none, left_spent, len_removed, live-insert_still, of_some, remove_spent}
+pub use Rattle.slotmap.proofs.Callers.{removed_spent, same_lent, same_or_other, tied, secondary, spent_inserts, spent_keeps, spent_leaves, spent_remove, spent_removes}
+pub use Rattle.slotmap.specs.Words.{ClonesEqual, contains_key, Content, get, Inserts, IsBeside, IsCloneBy, IsCloneOf, IsContent, IsLive, IsSpent, KeepsSpent, Key, key_cmp, Leaves, Pairs, Removes}
+pub use Rattle.slotmap.specs.Words.{with_value}
+pub use Rattle.slotmap_keylist.proofs.Counts.{behind_split, filter_all, filter_less, here_or_behind, is_itself, is_other, no_more_than, none_behind, one_itself, one_other, times_first, times_joined}
+pub use Rattle.slotmap_keylist.proofs.Counts.{times_pushed, times_there, without_none}
 pub use Rattle.slotmap_keylist.proofs.Linking.{in_midst, split_at}
 pub use Rattle.slotmap_keylist.proofs.MapKeys.{key_live, key_there, keys_once}
 pub use Rattle.slotmap_keylist.specs.KeyLists.{is_key, same, times, without}
-pub use Rattle.slotmap_links.proofs.Callers.{list_covered, list_now, list_other, owners_stay}
-pub use Rattle.slotmap_links.proofs.Changes.{disjoint_still, list_cleared, list_without, pushed_here, pushed_still, pushed_was}
-pub use Rattle.slotmap_links.proofs.Counts.{one_itself as number_itself, is_other as other_number, one_other as number_other, same_or_other as same_or_other_number}
-pub use Rattle.slotmap_links.proofs.Counts.{times_first as often_first, times_without as often_without}
-pub use Rattle.slotmap_links.proofs.Counts.{times_gone as often_gone, times_joined as often_joined, by_first as by_first_number, same as same_number}
+pub use Rattle.slotmap_links.proofs.Callers.{list_now, list_other, owners_stay}
+pub use Rattle.slotmap_links.proofs.Changes.{list_cleared, list_without, pushed_here, pushed_still, pushed_was}
+pub use Rattle.slotmap_links.proofs.Counts.{one_itself as number_itself, times_first as often_first, times_without as often_without, times_gone as often_gone}
 pub use Rattle.slotmap_links.proofs.Linking.{cons_not_nil, cut_at}
-pub use Rattle.slotmap_links.specs.Lists.{first_or, number_after}
-pub use Rattle.slotmap_links.specs.Lists.{AreDisjoint, IsFree, IsIn, Lists, list_of, with_list, with_members, with_owners, times as often, without as without_number}
-pub use Rattle.slotmap_graph.specs.Parts.{avoids, ByNode, clones_edge, Edges, edges_at, ends, ends_at, EndsLive, from, IsJoined, key_after, ListsEdges, PutsAlone}
-pub use Rattle.slotmap_graph.specs.Parts.{PutsBehind, SameEdges, Seen, SeenEdge, to, touches, value, with_edge, with_edge_in}
-pub use Rattle.slotmap_graph.specs.Search.{AllLed, AreSeen, arrives_at, ends_along, entries_along, Finds, goes_to, GoesOn, HasEdge, HasNext, IsBreadthFirst, Leads, LeadsBy}
-pub use Rattle.slotmap_graph.specs.Search.{marked}
-pub use Rattle.slotmap_graph.specs.Threads.{AreIndices, by_node, far_end, CoversMore, HaveIndices, IsGraph, IsThreaded, key_at, keys_at}
+pub use Rattle.slotmap_links.specs.Lists.{CoversMore, first_or, number_after, AreDisjoint, IsFree, IsIn, Lists, list_of, with_list, times as often, without as without_number}
+pub use Rattle.slotmap_bounded.specs.Indices.{AreIndices, HaveIndices, key_at, keys_at}
+pub use Rattle.slotmap_graph.specs.Parts.{avoids, ByNode, clones_edge, Edges, edges_at, ends_at, from, IsJoined, key_after, ListsEdges, PutsAlone, PutsBehind, SameEdges, Seen, SeenEdge, to, touches}
+pub use Rattle.slotmap_graph.specs.Parts.{value, with_edge, with_edge_in}
+pub use Rattle.slotmap_graph.specs.Search.{AllLed, AreSeen, arrives_at, ends_along, entries_along, Finds, goes_to, GoesOn, HasEdge, HasNext, IsBreadthFirst, Leads, LeadsBy, marked}
+pub use Rattle.slotmap_graph.specs.Threads.{by_node, far_end, IsGraph, IsThreaded}
 pub use Rattle.slotmap_graph.specs.TopologicalOrder.{ClosesCycle, ComesFromLeft, Counting, edges_out, GoesForward, HasCycle, IsLeft, passed_of, Sorting}
-pub use Rattle.slotmap_graph.specs.declared.lists.Direction.{Direction}
-pub use Rattle.slotmap_graph.specs.declared.lists.Direction.TheVariants.{Into, Out}

@@ -10,13 +10,13 @@ module _ {N E : Type 0} (s : Seen N E) (counts counts' : Pairs ℕ) (found found
     (found_is : found' ≡ (if nat_eq (length (edges_at s.into y)) 0 then found ++ y ∷ [] else found)) where
   count_others : (q : Key) → q ≢ y → times q found' ≡ times q found
   count_others q other = elim (nat_eq (length (edges_at s.into y)) 0) as (λ b. found' ≡ (if b then found ++ y ∷ [] else found) → times q found' ≡ times q found) [
-    | true ↦ λ is. (let sum = ap (times q) is ∙ times_pushed q found y in let no = one_other y q (λ s. other (sym s)) in omega arith)
+    | true ↦ λ is. omega (arith, ap (times q) is ∙ times_pushed q found y, one_other y q (λ s. other (sym s)))
     | false ↦ λ is. ap (times q) is
   ] found_is
 
   count_here : times y found' ≡ (if nat_eq (length (edges_at s.into y)) 0 then 1 else 0)
   count_here = elim (nat_eq (length (edges_at s.into y)) 0) as (λ b. found' ≡ (if b then found ++ y ∷ [] else found) → times y found' ≡ (if b then 1 else 0)) [
-    | true ↦ λ is. (let sum = ap (times y) is ∙ times_pushed y found y in let one = one_itself y in let none = counting.others y new in omega arith)
+    | true ↦ λ is. omega (arith, ap (times y) is ∙ times_pushed y found y, one_itself y, counting.others y new)
     | false ↦ λ is. ap (times y) is ∙ counting.others y new
   ] found_is
 
@@ -29,18 +29,14 @@ module _ {N E : Type 0} (s : Seen N E) (counts counts' : Pairs ℕ) (found found
     table = λ q more. elim (same_or_other q y) [
       | inl is ↦ rw is (here, count_here)
       | inr other ↦ (
-          let entry = counting.table q (let sum = times_pushed q done y in let no = one_other y q (λ s. other (sym s)) in omega arith) in
+          let entry = counting.table q (omega (arith, times_pushed q done y, one_other y q (λ s. other (sym s)))) in
           (others q other ∙ entry.0, count_others q other ∙ entry.1))
     ];
     others = λ q none. elim (same_or_other q y) [
-      | inl is ↦ absurd (let sum = times_pushed q done y in let one = ap (same y) is ∙ one_itself y in omega arith)
-      | inr other ↦ count_others q other ∙ counting.others q (let sum = times_pushed q done y in omega arith)
+      | inl is ↦ absurd (omega (arith, times_pushed q done y, ap (same y) is ∙ one_itself y))
+      | inr other ↦ count_others q other ∙ counting.others q (omega (arith, times_pushed q done y))
     ];
   }
 
 pub counting_none : {N E : Type 0} (s : Seen N E) (counts : Pairs ℕ) (found : List Key) → counts ≡ map.empty → found ≡ [] → Counting s counts found []
-counting_none s counts found none empty = record {
-  beside = beside_empty s.nodes counts none;
-  table = λ y more. absurd (omega arith);
-  others = λ y no. ap (times y) empty;
-}
+counting_none s counts found none empty = record { beside = beside_empty s.nodes counts none; table = λ y more. absurd (omega arith); others = λ y no. ap (times y) empty }

@@ -1,9 +1,8 @@
 -- The search for an edge that closes a cycle: back from a node to one before it, until one comes again.
 use Rattle.std.proofs.Common.{◌≡◌, ◌≢◌, ◌+◌, ◌<◌, ◌≤◌, ◌++◌, ◌∷◌, ◌∙◌}
-use Rattle.slotmap_graph.proofs.Common.{ℕ, zero, suc, true, false, Option, Some, None, IfNone, List, [], cond, nat_eq, length, length-append, is_some}
-use Rattle.slotmap_graph.proofs.Common.{option_map, refl, sym, ap, inl, inr, arith, Key, IsBeside, Pairs, get, contains_key, same_or_other, secondary}
-use Rattle.slotmap_graph.proofs.Common.{same_Some, no_more_than, Edges, Seen, from, AllLed, AreSeen, HasEdge, LeadsBy, marked, ClosesCycle, ComesFromLeft}
-use Rattle.slotmap_graph.proofs.Common.{IsLeft, SeenEdge, times, times_pushed, one_other, subst, IsLive}
+use Rattle.slotmap_graph.proofs.Common.{ℕ, zero, suc, true, false, Option, Some, None, IfNone, List, [], cond, nat_eq, length, length-append, is_some, option_map, refl, sym, ap, inl, inr, arith}
+use Rattle.slotmap_graph.proofs.Common.{Key, IsBeside, Pairs, get, contains_key, same_or_other, secondary, same_Some, no_more_than, Edges, Seen, from, AllLed, AreSeen, HasEdge, LeadsBy, marked}
+use Rattle.slotmap_graph.proofs.Common.{ClosesCycle, ComesFromLeft, IsLeft, SeenEdge, times, times_pushed, one_other, subst, IsLive}
 use Rattle.std.specs.Prelude.{IsSome}
 use Rattle.std.specs.FinMap as map
 use Rattle.slotmap_graph.proofs.Searches.{are_none, listed_once, listed_seen, unseen_unlisted}
@@ -12,7 +11,7 @@ use Rattle.slotmap_graph.proofs.Searches.{are_none, listed_once, listed_seen, un
 pub each_pushed : (P : Key → Type 0) (ks : List Key) (y : Key) → ((x : Key) → 0 < times x ks → P x) → P y → (x : Key) → 0 < times x (ks ++ y ∷ []) → P x
 each_pushed P ks y each here x more = elim (same_or_other x y) [
   | inl is ↦ subst P (sym is) here
-  | inr other ↦ each x (let sum = times_pushed x ks y in let no = one_other y x (λ e. other (sym e)) in omega arith)
+  | inr other ↦ each x (omega (arith, times_pushed x ks y, one_other y x (λ e. other (sym e))))
 ]
 
 -- an answer that must be there
@@ -31,10 +30,8 @@ module _ {N E : Type 0} (s : Seen N E) (counts : Pairs ℕ) where
     comes_left e live more = let is : e.0.from ≡ p = same_Some _ _ (sym (ap (option_map from) e.1) ∙ begins) in (e.0, e.1, e.2, rw is (live, n, count, more))
 
     pub comes_found : n ≤ 0 → ComesFromLeft s counts y k → ⊥
-    comes_found none comes =
-        let is : comes.0.from ≡ p = same_Some _ _ (sym (ap (option_map from) comes.1) ∙ begins) in
-        let same_count : comes.3.1 ≡ n = (let h = sym comes.3.2 ∙ ap (get counts) is ∙ count in cc) in
-        absurd (let more = comes.3.3 in omega arith)
+    comes_found none comes = let is : comes.0.from ≡ p = same_Some _ _ (sym (ap (option_map from) comes.1) ∙ begins) in
+        let same_count : comes.3.1 ≡ n = (let h = sym comes.3.2 ∙ ap (get counts) is ∙ count in cc) in absurd (omega (arith, comes.3.3))
 
   -- this node wasn't found, and leads to each one that was passed
   pub record GoesBack (seen : Pairs (Unit {0})) (passed : List Key) (node : Key) : Type 0 where
@@ -93,7 +90,5 @@ module _ {N E : Type 0} (s : Seen N E) (counts : Pairs ℕ) where
 
     -- fewer nodes are left
     pub back_fits : now ≡ marked passed node → (length now ≡ length passed + 1) × (length now ≤ map.len s.nodes.live)
-    back_fits is =
-        let none = unseen_unlisted seen passed back.listed node back.new in
-        let longer = ap length (is ∙ ap (λ t. cond (nat_eq t 0) (passed ++ node ∷ []) passed) none) ∙ length-append passed (node ∷ []) in
-        (longer, no_more_than now s.nodes.live (λ q. listed_once new now listed q) (λ q more. beside_now q (listed_seen new now listed q more)))
+    back_fits is = let none = unseen_unlisted seen passed back.listed node back.new in let longer = ap length (is ∙ ap (λ t. cond (nat_eq t 0) (passed ++ node ∷ []) passed) none)
+        ∙ length-append passed (node ∷ []) in (longer, no_more_than now s.nodes.live (λ q. listed_once new now listed q) (λ q more. beside_now q (listed_seen new now listed q more)))

@@ -13,10 +13,7 @@ walked_on passed ahead rest all x so_far next = append_assoc passed (x ∷ []) r
 
 pub walked_in : (passed ahead rest all : List Key) (x : Key) → passed ++ ahead ≡ all → ahead ≡ x ∷ rest → 0 < times x all
 walked_in passed ahead rest all x so_far next =
-    let sum = sym (times_joined x passed (x ∷ rest)) ∙ ap (times x) (ap (λ l. passed ++ l) (sym next) ∙ so_far) in
-    let first = times_first x x rest in
-    let one = one_itself x in
-    omega arith
+    omega (arith, sym (times_joined x passed (x ∷ rest)) ∙ ap (times x) (ap (λ l. passed ++ l) (sym next) ∙ so_far), times_first x x rest, one_itself x)
 
 pub walked : (passed ahead all : List Key) → passed ++ ahead ≡ all → ahead ≡ [] → passed ≡ all
 walked passed ahead all so_far none = sym (append-nil passed) ∙ ap (λ l. passed ++ l) (sym none) ∙ so_far
@@ -102,8 +99,7 @@ goes_on found now k is = let more = marked_behind found k in (more.0, is ∙ mor
 module _ (next : Key → List Key) (start : Key) (found : List Key) (at : ℕ) (so_far : found ≡ fold (λ ks k. fold marked ks (next k)) (start ∷ []) (take at found)) where
   pub order_step : (a : Key) → at < length found → a ≡ get_or found at a → (now : List Key) → GoesOn found now → now ≡ fold marked found (next a)
       → now ≡ fold (λ ks k. fold marked ks (next k)) (start ∷ []) (take (at + 1) now)
-  order_step a below is now more made =
-      let step : List Key → Key → List Key = λ ks k. fold marked ks (next k) in
+  order_step a below is now more made = let step : List Key → Key → List Key = λ ks k. fold marked ks (next k) in
       let front : take (at + 1) now ≡ take at found ++ a ∷ [] = ap (take (at + 1)) more.1 ∙ take-append-le (at + 1) found more.0 (omega arith) ∙ taken found at a below is in
       sym (ap (fold step (start ∷ [])) front ∙ fold-append step (start ∷ []) (take at found) (a ∷ []) ∙ ap (λ ks. step ks a) (sym so_far) ∙ sym made)
 

@@ -1,17 +1,13 @@
 -- What a call makes of a graph, as a whole.
 use Rattle.std.proofs.Common.{◌≡◌, ◌≢◌, ◌<◌, ◌≤◌, ◌⊎◌, ◌∷◌, ◌++◌, ◌||◌, ◌∙◌}
-use Rattle.slotmap_graph.proofs.Common.{ℕ, Bool, true, false, Option, Some, None, OnSome, IfSome, IfNone, MatchOption, List, [], length, is_some, option_map}
-use Rattle.slotmap_graph.proofs.Common.{refl, sym, ap, subst, inl, inr, arith, Key, key_cmp, Content, IsContent, IsLive, Inserts, Removes, Leaves, Pairs}
-use Rattle.slotmap_graph.proofs.Common.{IsBeside, with_value, keys, same_or_other, get-insert_here, get-insert_other, get-put_live, get-put_other, leaves_none}
-use Rattle.slotmap_graph.proofs.Common.{leaves_by_removal, inserted_fresh, live-insert_still, is_key, times, without, is_itself, is_other, times_first}
-use Rattle.slotmap_graph.proofs.Common.{one_itself, Lists, AreDisjoint, list_of, often, SeenEdge, Edges, IsJoined, ListsEdges, PutsAlone, SameEdges}
-use Rattle.slotmap_graph.proofs.Common.{edges_at, from, to, touches, HaveIndices, IsThreaded, IsGraph, CoversMore, by_node, IsFree, PutsBehind, with_list, with_members}
-use Rattle.slotmap_graph.proofs.Common.{with_owners, list_covered, disjoint_still, length-append, Result, Ok, Err, ClonesEqual, IsCloneBy, IsCloneOf, clones_edge}
-use Rattle.slotmap_graph.proofs.Common.{clone_live}
-use Rattle.std.proofs.Common.{◌-◌, OnOk, OnErr, replicate}
+use Rattle.slotmap_graph.proofs.Common.{ℕ, Bool, true, false, Option, Some, None, OnSome, IfSome, IfNone, MatchOption, List, [], length, is_some, option_map, refl, sym, ap, subst, inl, inr, arith}
+use Rattle.slotmap_graph.proofs.Common.{Key, key_cmp, Content, IsContent, IsLive, Inserts, Removes, Leaves, Pairs, IsBeside, with_value, keys, same_or_other, get-insert_here, get-insert_other}
+use Rattle.slotmap_graph.proofs.Common.{get-put_live, get-put_other, leaves_none, leaves_by_removal, inserted_fresh, live-insert_still, is_key, times, without, is_itself, is_other, times_first}
+use Rattle.slotmap_graph.proofs.Common.{one_itself, Lists, AreDisjoint, list_of, often, SeenEdge, Edges, IsJoined, ListsEdges, PutsAlone, SameEdges, edges_at, from, to, touches, HaveIndices}
+use Rattle.slotmap_graph.proofs.Common.{IsThreaded, IsGraph, CoversMore, by_node, IsFree, PutsBehind, with_list, ClonesEqual, IsCloneBy, IsCloneOf, clones_edge, clone_live}
 use Rattle.std.specs.FinMap as map
 use Rattle.slotmap_graph.proofs.Adjacent.{absent_unlisted, listed_edge, none_listed, nothing_listed}
-use Rattle.slotmap_graph.proofs.Indices.{indices_still}
+use Rattle.slotmap_bounded.proofs.Indices.{indices_inserted, indices_still}
 use Rattle.slotmap_graph.proofs.Threaded.{at_none, empty_at, lists, other_nodes, put_free, put_seen, put_threaded, same_seen, threaded_along}
 
 pub puts_alone : {N V : Type 0} (nodes : Content N) (m : Pairs V) (k : Key) → IsBeside nodes m → IsLive nodes k → IsContent true nodes → PutsAlone m k
@@ -30,20 +26,17 @@ module _ {E : Type 0} (edges : Edges E) (k : Key) where
       (found.0, found.1, let here : is_key found.0.from k ≡ true = rw found.2 (is_itself k) in ap (λ b. b || is_key found.0.to k) here)
 
   into_touches : (ks : List Key) → ListsEdges to edges k ks → (x : Key) → 0 < times x ks → (e : SeenEdge E) × (map.get edges x ≡ Some e) × (touches k e ≡ true)
-  into_touches ks lists x more = let found = listed_edge to edges k ks lists x more in
-      (found.0, found.1, let here : is_key found.0.to k ≡ true = rw found.2 (is_itself k) in grind arith)
+  into_touches ks lists x more = let found = listed_edge to edges k ks lists x more in (found.0, found.1, let here : is_key found.0.to k ≡ true = rw found.2 (is_itself k) in grind arith)
 
   -- if both lists are empty, no edge does
   none_touches : (ks js : List Key) → ListsEdges from edges k ks → ks ≡ [] → ListsEdges to edges k js → js ≡ [] → (x : Key) (e : SeenEdge E)
       → map.get edges x ≡ Some e → touches k e ≡ false
-  none_touches ks js out no_out into no_into x e there =
-      let apart_from = is_other e.from k (none_listed from edges k ks out no_out x e there) in
-      let apart_to = is_other e.to k (none_listed to edges k js into no_into x e there) in
-      ap (λ b. b || is_key e.to k) apart_from ∙ apart_to
+  none_touches ks js out no_out into no_into x e there = let apart_from = is_other e.from k (none_listed from edges k ks out no_out x e there) in
+      let apart_to = is_other e.to k (none_listed to edges k js into no_into x e there) in ap (λ b. b || is_key e.to k) apart_from ∙ apart_to
 
 -- the first key of a list is in it
 pub first_there : (ks : List Key) (x : Key) (rest : List Key) → ks ≡ x ∷ rest → 0 < times x ks
-first_there ks x rest is = let first = ap (times x) is ∙ times_first x x rest in let one = one_itself x in omega arith
+first_there ks x rest is = omega (arith, ap (times x) is ∙ times_first x x rest, one_itself x)
 
 -- by the clauses of a step of an iterator over a list, whatever it returns
 pub into_found : {E : Type 0} (edges : Edges E) (k : Key) (ks rest : List Key) → ListsEdges to edges k ks → (found : Option Key)
@@ -70,64 +63,51 @@ module _ {E : Type 0} (edges : Edges E) (k : Key) (untouched : (x : Key) (e : Se
 -- every graph is joined
 pub graph_joined : {N E : Type 0} (nodes : Content N) (edges : Content (SeenEdge E)) (outs intos : Lists) → IsGraph nodes edges outs intos
     → IsJoined (record { nodes = nodes; edges = edges; out = by_node nodes.live edges.live outs; into = by_node nodes.live edges.live intos })
-graph_joined nodes edges outs intos graph = record {
-  ends = λ x e there. (graph.out.ends x e there, graph.into.ends x e there);
-  out = lists from nodes edges outs graph.out;
-  into = lists to nodes edges intos graph.into;
-}
+graph_joined nodes edges outs intos graph = record { ends = λ x e there. (graph.out.ends x e there, graph.into.ends x e there); out = lists graph.out; into = lists graph.into }
 
 -- an edge that isn't there is in no list
 pub lacks : {E : Type 0} (end : SeenEdge E → Key) (edges : Edges E) (x : Key) → map.get edges x ≡ None → (k : Key) (ks : List Key) → ListsEdges end edges k ks → ks ≡ without x ks
 lacks end edges x none k ks lists = sym (absent_unlisted end edges x none k ks lists)
 
--- a key comes
-indices_inserted : {V : Type 0} (c : Content V) (k : Key) (v : V) (d : Content V) → HaveIndices c → Inserts c k v d → IsContent true d → d.capacity ≡ c.capacity
-    → k.index ≤ d.capacity → HaveIndices d
-indices_inserted c k v d indices inserts valid capacity within = record {
-  within = λ q live. (elim (same_or_other q k) [
-    | inl is ↦ ((valid.within q (inl (inl live))).0, (let at = ap (λ (q : Key). q.index) is in omega arith))
-    | inr other ↦ (let was = indices.within q (sym (ap is_some (ap (λ m. map.get m q) inserts.live ∙ get-insert_other c.live k v q other)) ∙ live) in (was.0, omega (arith, was.1, capacity)))
-  ]);
-  apart = λ a b of_a of_b. valid.apart a b (inl (inl of_a)) (inl (inl of_b));
-}
-
-module _ {N E : Type 0} (end : SeenEdge E → Key) (nodes : Content N) (edges : Content (SeenEdge E)) (links : Lists) (t : IsThreaded end nodes edges links) where
+module _ {N E : Type 0} {end : SeenEdge E → Key} {nodes : Content N} {edges : Content (SeenEdge E)} {links : Lists} (t : IsThreaded end nodes edges links) where
   -- as many owners and members as the capacities ask for, and the same nodes and edges
-  module _ (nodes' : Content N) (edges' : Content (SeenEdge E)) (links' : Lists) (same_nodes : nodes'.live ≡ nodes.live) (same_edges : edges'.live ≡ edges.live)
-      (more_nodes : nodes.capacity ≤ nodes'.capacity) (more_edges : edges.capacity ≤ edges'.capacity) (grows : CoversMore links links') where
-    grown_nodes : HaveIndices nodes'
-    grown_nodes = indices_still nodes nodes' t.node_indices (λ k live. sym (ap (λ m. map.contains_key m k) same_nodes) ∙ live) more_nodes
-
+  module _ (nodes' : Content N) (edges' : Content (SeenEdge E)) (same_nodes : nodes'.live ≡ nodes.live) (same_edges : edges'.live ≡ edges.live)
+      (more_nodes : nodes.capacity ≤ nodes'.capacity) (more_edges : edges.capacity ≤ edges'.capacity) {links' : Lists} (grows : CoversMore links links') where
     grown_edges : HaveIndices edges'
-    grown_edges = indices_still edges edges' t.edge_indices (λ k live. sym (ap (λ m. map.contains_key m k) same_edges) ∙ live) more_edges
+    grown_edges = indices_still t.edge_indices edges' (λ k live. sym (ap (λ m. map.contains_key m k) same_edges) ∙ live) more_edges
 
     pub grown : nodes'.capacity < length links'.lists → edges'.capacity < links'.members → IsThreaded end nodes' edges' links'
-    grown owners members = threaded_along end nodes edges links t end nodes' edges' links' (λ x. ap (λ m. option_map end (map.get m x)) same_edges) grows.lists
-        grown_nodes grown_edges owners members grows.disjoint
+    grown owners members = threaded_along t end nodes' edges' links' (λ x. ap (λ m. option_map end (map.get m x)) same_edges) grows.lists
+        (indices_still t.node_indices nodes' (λ k live. sym (ap (λ m. map.contains_key m k) same_nodes) ∙ live) more_nodes) grown_edges owners members grows.disjoint
         (λ x e there. ap (λ m. map.contains_key m (end e)) same_nodes ∙ t.ends x e there)
 
-    pub grown_seen : by_node nodes'.live edges'.live links' ≡ by_node nodes.live edges.live links
-    grown_seen = same_seen end nodes edges links t end nodes' edges' links' (λ x. ap (λ m. option_map end (map.get m x)) same_edges) grows.lists grown_edges
-        (λ k. ap (λ m. map.contains_key m k) same_nodes)
+    pub grown_seen : SameEdges (by_node nodes.live edges.live links) (by_node nodes'.live edges'.live links')
+    grown_seen k = ap (λ b. edges_at b k) (same_seen t end nodes' edges' links' (λ x. ap (λ m. option_map end (map.get m x)) same_edges) grows.lists grown_edges
+        (λ k. ap (λ m. map.contains_key m k) same_nodes))
+
+  pub covered_threaded : {links' : Lists} → CoversMore links links' → IsThreaded end nodes edges links'
+  covered_threaded grows = grown nodes edges refl refl (omega arith) (omega arith) grows (omega (arith, t.owners, grows.owners)) (omega (arith, t.members, grows.members))
+
+  pub covered_seen : {links' : Lists} → CoversMore links links' → SameEdges (by_node nodes.live edges.live links) (by_node nodes.live edges.live links')
+  covered_seen grows = grown_seen nodes edges refl refl (omega arith) (omega arith) grows
 
   -- other nodes, with all ends of edges among them
   threaded_beside : (new : Content N) → HaveIndices new → new.capacity ≡ nodes.capacity
       → ((x : Key) (e : SeenEdge E) → map.get edges.live x ≡ Some e → IsLive new (end e)) → IsThreaded end new edges links
-  threaded_beside new indices capacity ends = threaded_along end nodes edges links t end new edges links (λ x. refl) (λ p. refl) indices t.edge_indices
-      (let o = t.owners in omega arith) t.members t.disjoint ends
+  threaded_beside new indices capacity ends = threaded_along t end new edges links (λ x. refl) (λ p. refl) indices t.edge_indices (omega (arith, t.owners)) t.members t.disjoint ends
 
   -- a node comes
-  module _ (k : Key) (v : N) (new : Content N) (inserts : Inserts nodes k v new) (was : IsContent true nodes) (valid : IsContent true new)
+  module _ {k : Key} {v : N} {new : Content N} (inserts : Inserts nodes k v new) (was : IsContent true nodes) (valid : IsContent true new)
       (capacity : new.capacity ≡ nodes.capacity) (within : k.index ≤ new.capacity) where
     still_node : (q : Key) → IsLive nodes q → IsLive new q
     still_node q live = ap (λ m. map.contains_key m q) inserts.live ∙ live-insert_still nodes.live k v q live
 
     pub node_threaded : IsThreaded end new edges links
-    node_threaded = threaded_beside new (indices_inserted nodes k v new t.node_indices inserts valid capacity within) capacity (λ x e there. still_node (end e) (t.ends x e there))
+    node_threaded = threaded_beside new (indices_inserted t.node_indices k v new inserts valid capacity within) capacity (λ x e there. still_node (end e) (t.ends x e there))
 
     pub node_seen : SameEdges (by_node nodes.live edges.live links) (by_node new.live edges.live links)
-    node_seen = other_nodes end nodes edges links t new (λ q. elim (same_or_other q k) [
-      | inl is ↦ inr (ap (λ (q : Key). list_of links q.index) is ∙ empty_at end nodes edges links t k.index (λ x e there at. (
+    node_seen = other_nodes t new (λ q. elim (same_or_other q k) [
+      | inl is ↦ inr (ap (λ (q : Key). list_of links q.index) is ∙ empty_at t k.index (λ x e there at. (
           let live = t.ends x e there in
           let here : IsLive new k = ap (λ m. map.contains_key m k) inserts.live ∙ ap is_some (get-insert_here nodes.live k v) in
           let one : end e ≡ k = valid.apart (end e) k (inl (inl (still_node (end e) live))) (inl (inl here)) at in
@@ -137,21 +117,21 @@ module _ {N E : Type 0} (end : SeenEdge E → Key) (nodes : Content N) (edges : 
     ])
 
   -- an edge comes
-  module _ (k : Key) (e : SeenEdge E) (new : Content (SeenEdge E)) (inserts : Inserts edges k e new) (fresh : map.get edges.live k ≡ None) (valid : IsContent true new)
+  module _ {k : Key} {e : SeenEdge E} {new : Content (SeenEdge E)} (inserts : Inserts edges k e new) (fresh : map.get edges.live k ≡ None) (valid : IsContent true new)
       (capacity : new.capacity ≡ edges.capacity) (within : k.index ≤ new.capacity)
       (live : IsLive nodes (end e)) where
     new_indices : HaveIndices new
-    new_indices = indices_inserted edges k e new t.edge_indices inserts valid capacity within
+    new_indices = indices_inserted t.edge_indices k e new inserts valid capacity within
 
     pub edge_free : IsFree links k.index
-    edge_free = put_free end nodes edges links t k e fresh live new inserts.live new_indices capacity
+    edge_free = put_free t k e fresh live new inserts.live new_indices capacity
 
-    module _ (now : Lists) (now_is : now ≡ with_list links (end e).index (list_of links (end e).index ++ k.index ∷ [])) where
+    module _ {now : Lists} (now_is : now ≡ with_list links (end e).index (list_of links (end e).index ++ k.index ∷ [])) where
       pub edge_threaded : AreDisjoint now → IsThreaded end nodes new now
-      edge_threaded = put_threaded end nodes edges links t k e fresh live new inserts.live new_indices capacity now now_is
+      edge_threaded = put_threaded t k e fresh live new inserts.live new_indices capacity now now_is
 
       pub edge_seen : PutsBehind (by_node nodes.live edges.live links) (end e) k (by_node nodes.live new.live now)
-      edge_seen = put_seen end nodes edges links t k e fresh live new inserts.live new_indices capacity now now_is
+      edge_seen = put_seen t k e fresh live new inserts.live new_indices capacity now now_is
 
   -- a node goes at which no edge is
   module _ (k : Key) (new : Content N) (is : new.live ≡ map.remove nodes.live k) (capacity : new.capacity ≡ nodes.capacity) (apart : (x : Key) (e : SeenEdge E)
@@ -167,13 +147,13 @@ module _ {N E : Type 0} (end : SeenEdge E → Key) (nodes : Content N) (edges : 
     ]
 
     pub gone_threaded : IsThreaded end new edges links
-    gone_threaded = threaded_beside new (indices_still nodes new t.node_indices was_node (omega arith)) capacity (λ x e there. left_nodes (end e) (apart x e there) ∙ t.ends x e there)
+    gone_threaded = threaded_beside new (indices_still t.node_indices new was_node (omega arith)) capacity (λ x e there. left_nodes (end e) (apart x e there) ∙ t.ends x e there)
 
     pub gone_seen : SameEdges (by_node nodes.live edges.live links) (by_node new.live edges.live links)
-    gone_seen = other_nodes end nodes edges links t new (λ q. elim (same_or_other q k) [
+    gone_seen = other_nodes t new (λ q. elim (same_or_other q k) [
       | inl at ↦ elim (map.contains_key nodes.live k) as (λ b. map.contains_key nodes.live k ≡ b
           → (map.contains_key new.live q ≡ map.contains_key nodes.live q) ⊎ (list_of links q.index ≡ [])) [
-            | true ↦ λ live. inr (ap (λ (q : Key). list_of links q.index) at ∙ empty_at end nodes edges links t k.index
+            | true ↦ λ live. inr (ap (λ (q : Key). list_of links q.index) at ∙ empty_at t k.index
                 (λ x e there same. apart x e there (t.node_indices.apart (end e) k (t.ends x e there) live same)))
             | false ↦ λ gone. inl (ap (map.contains_key new.live) at ∙ ap (λ m. map.contains_key m k) is ∙ grind (arith, keys) ∙ sym (ap (map.contains_key nodes.live) at))
           ] refl
@@ -202,65 +182,34 @@ module _ {N E : Type 0} (end : SeenEdge E → Key) (nodes : Content N) (edges : 
     owners = owners;
     members = members;
     disjoint = record {
-      once = λ p k. (let e = ap (often k) (none p) in omega arith);
-      alone = λ p q k inside. absurd (let e = ap (often k) (none p) in omega arith);
-      within = λ p k inside. absurd (let e = ap (often k) (none p) in omega arith);
+      once = λ p k. omega (arith, ap (often k) (none p));
+      alone = λ p q k inside. absurd (omega (arith, ap (often k) (none p)));
+      within = λ p k inside. absurd (omega (arith, ap (often k) (none p)));
     };
     ends = λ x e there. absurd (let gone = no_edge x in let f = ap is_some there in cc);
     listed = λ x e there. absurd (let gone = no_edge x in let f = ap is_some there in cc);
-    live = λ p i inside. absurd (let e = ap (often i) (none p) in omega arith);
+    live = λ p i inside. absurd (omega (arith, ap (often i) (none p)));
   }
 
   pub bare_seen : (k : Key) → edges_at (by_node nodes.live edges.live links) k ≡ []
   bare_seen k = at_none nodes.live edges.live links k (no_node k)
 
-covers_more : (s : Lists) → AreDisjoint s → (n m : ℕ) (mid new : Lists) → mid ≡ with_owners s n → (new ≡ with_members mid m) ⊎ (new ≡ mid) → CoversMore s new
-covers_more s disjoint n m mid new is either = record {
-  lists = same;
-  owners = (let more = ap (λ (l : Lists). length l.lists) is ∙ length-append s.lists (replicate (n - length s.lists) []) in let now = lists_now either in omega arith);
-  members = (let same = ap (λ (l : Lists). l.members) is in let more = members_now either in omega arith);
-  disjoint = disjoint_still s new disjoint same (let same = ap (λ (l : Lists). l.members) is in let more = members_now either in omega arith);
-}
-  where
-    lists_now : (new ≡ with_members mid m) ⊎ (new ≡ mid) → length new.lists ≡ length mid.lists
-    lists_now (inl is) = ap (λ (l : Lists). length l.lists) is
-    lists_now (inr is) = ap (λ (l : Lists). length l.lists) is
-
-    members_now : (new ≡ with_members mid m) ⊎ (new ≡ mid) → mid.members ≤ new.members
-    members_now (inl is) = let e = ap (λ (l : Lists). l.members) is in omega arith
-    members_now (inr is) = let e = ap (λ (l : Lists). l.members) is in omega arith
-
-    of_mid : (new ≡ with_members mid m) ⊎ (new ≡ mid) → (p : ℕ) → list_of new p ≡ list_of mid p
-    of_mid (inl is) p = ap (λ l. list_of l p) is
-    of_mid (inr is) p = ap (λ l. list_of l p) is
-
-    same : (p : ℕ) → list_of new p ≡ list_of s p
-    same p = of_mid either p ∙ ap (λ l. list_of l p) is ∙ list_covered s n p
-
--- the same lists, for more owners and members
-pub covered : (s : Lists) → AreDisjoint s → (n m : ℕ) (mid new : Lists) {A B : Type 0} (r : Result A B) → mid ≡ with_owners s n
-    → OnOk r (new ≡ with_members mid m) → OnErr r (new ≡ mid) → CoversMore s new
-covered s disjoint n m mid new (Ok a) is ok err = covers_more s disjoint n m mid new is (inl ok)
-covered s disjoint n m mid new (Err b) is ok err = covers_more s disjoint n m mid new is (inr err)
-
 -- the copies of nodes and edges are listed alike
-module _ {N E : Type 0} (end : SeenEdge E → Key) (nodes : Content N) (edges : Content (SeenEdge E)) (links : Lists) (t : IsThreaded end nodes edges links)
-    (clones_node : N → N → Type 0) (clones_value : E → E → Type 0) (new : Content N) (cloned : IsCloneBy clones_node nodes new) (same_nodes : new.capacity ≡ nodes.capacity)
-    (copies : Content (SeenEdge E)) (clones : IsCloneBy (clones_edge clones_value) edges copies) (same_edges : copies.capacity ≡ edges.capacity)
+module _ {N E : Type 0} {end : SeenEdge E → Key} {nodes : Content N} {edges : Content (SeenEdge E)} {links : Lists} (t : IsThreaded end nodes edges links)
+    {clones_node : N → N → Type 0} {new : Content N} (cloned : IsCloneBy clones_node nodes new) (same_nodes : new.capacity ≡ nodes.capacity)
+    (clones_value : E → E → Type 0) {copies : Content (SeenEdge E)} (clones : IsCloneBy (clones_edge clones_value) edges copies) (same_edges : copies.capacity ≡ edges.capacity)
     (same : (o p : Option (SeenEdge E)) → IsCloneOf (clones_edge clones_value) o p → option_map end p ≡ option_map end o) where
-  node_copies : HaveIndices new
-  node_copies = indices_still nodes new t.node_indices (λ k live. sym (clone_live clones_node nodes new cloned k) ∙ live) (omega arith)
-
   edge_copies : HaveIndices copies
-  edge_copies = indices_still edges copies t.edge_indices (λ k live. sym (clone_live (clones_edge clones_value) edges copies clones k) ∙ live) (omega arith)
+  edge_copies = indices_still t.edge_indices copies (λ k live. sym (clone_live (clones_edge clones_value) edges copies clones k) ∙ live) (omega arith)
 
-  pub copied : (now : Lists) → now ≡ links → IsThreaded end new copies now
-  copied now is = subst (IsThreaded end new copies) (sym is) (threaded_along end nodes edges links t end new copies links (λ x. same _ _ (clones.live x)) (λ p. refl) node_copies edge_copies
-      (let o = t.owners in omega arith) (let m = t.members in omega arith) t.disjoint (λ x e there. clone_live clones_node nodes new cloned (end e) ∙ t.ends x e there))
+  pub copied : {now : Lists} → now ≡ links → IsThreaded end new copies now
+  copied is = subst (IsThreaded end new copies) (sym is) (threaded_along t end new copies links (λ x. same _ _ (clones.live x)) (λ p. refl)
+      (indices_still t.node_indices new (λ k live. sym (clone_live clones_node nodes new cloned k) ∙ live) (omega arith)) edge_copies
+      (omega (arith, t.owners)) (omega (arith, t.members)) t.disjoint (λ x e there. clone_live clones_node nodes new cloned (end e) ∙ t.ends x e there))
 
-  pub copied_seen : (now : Lists) → now ≡ links → SameEdges (by_node nodes.live edges.live links) (by_node new.live copies.live now)
-  copied_seen now is k = ap (λ l. edges_at (by_node new.live copies.live l) k) is
-      ∙ ap (λ b. edges_at b k) (same_seen end nodes edges links t end new copies links (λ x. same _ _ (clones.live x)) (λ p. refl) edge_copies (clone_live clones_node nodes new cloned))
+  pub copied_seen : {now : Lists} → now ≡ links → SameEdges (by_node nodes.live edges.live links) (by_node new.live copies.live now)
+  copied_seen is k = ap (λ l. edges_at (by_node new.live copies.live l) k) is
+      ∙ ap (λ b. edges_at b k) (same_seen t end new copies links (λ x. same _ _ (clones.live x)) (λ p. refl) edge_copies (clone_live clones_node nodes new cloned))
 
 pub copied_from : {E : Type 0} (clones_value : E → E → Type 0) (o p : Option (SeenEdge E)) → IsCloneOf (clones_edge clones_value) o p → option_map from p ≡ option_map from o
 copied_from clones_value None p is = ap (option_map from) is
@@ -276,7 +225,7 @@ pub edges_equal : {E : Type 0} (is_clone : E → E → Type 0) → ClonesEqual i
 edges_equal is_clone same e copy is = λ i. record { from = is.0 i; to = is.1 i; value = same e.value copy.value is.2 i }
 
 -- a value is written
-module _ {N E : Type 0} (end : SeenEdge E → Key) (nodes : Content N) (edges : Content (SeenEdge E)) (links : Lists) (t : IsThreaded end nodes edges links) where
+module _ {N E : Type 0} {end : SeenEdge E → Key} {nodes : Content N} {edges : Content (SeenEdge E)} {links : Lists} (t : IsThreaded end nodes edges links) where
   module _ (k : Key) (was v : N) (there : map.get nodes.live k ≡ Some was) where
     same_node : (q : Key) → map.contains_key (map.insert nodes.live k v) q ≡ map.contains_key nodes.live q
     same_node q = elim (same_or_other q k) [
@@ -285,11 +234,11 @@ module _ {N E : Type 0} (end : SeenEdge E → Key) (nodes : Content N) (edges : 
     ]
 
     pub node_written : IsThreaded end (with_value nodes k v) edges links
-    node_written = threaded_beside end nodes edges links t (with_value nodes k v) (indices_still nodes (with_value nodes k v) t.node_indices (λ q live. sym (same_node q) ∙ live) (omega arith)) refl
+    node_written = threaded_beside t (with_value nodes k v) (indices_still t.node_indices (with_value nodes k v) (λ q live. sym (same_node q) ∙ live) (omega arith)) refl
         (λ x e found. same_node (end e) ∙ t.ends x e found)
 
     pub node_written_seen : by_node (map.insert nodes.live k v) edges.live links ≡ by_node nodes.live edges.live links
-    node_written_seen = same_seen end nodes edges links t end (with_value nodes k v) edges links (λ x. refl) (λ p. refl) t.edge_indices same_node
+    node_written_seen = same_seen t end (with_value nodes k v) edges links (λ x. refl) (λ p. refl) t.edge_indices same_node
 
   module _ (k : Key) (was e : SeenEdge E) (there : map.get edges.live k ≡ Some was) (same_end : end e ≡ end was) where
     same_ends : (x : Key) → option_map end (map.get (map.insert edges.live k e) x) ≡ option_map end (map.get edges.live x)
@@ -299,13 +248,13 @@ module _ {N E : Type 0} (end : SeenEdge E → Key) (nodes : Content N) (edges : 
     ]
 
     written_indices : HaveIndices (with_value edges k e)
-    written_indices = indices_still edges (with_value edges k e) t.edge_indices (λ q live. elim (same_or_other q k) [
+    written_indices = indices_still t.edge_indices (with_value edges k e) (λ q live. elim (same_or_other q k) [
       | inl is ↦ ap (map.contains_key edges.live) is ∙ ap is_some there
       | inr other ↦ sym (ap is_some (get-insert_other edges.live k e q other)) ∙ live
     ]) (omega arith)
 
     pub edge_written : IsThreaded end nodes (with_value edges k e) links
-    edge_written = threaded_along end nodes edges links t end nodes (with_value edges k e) links same_ends (λ p. refl) t.node_indices written_indices t.owners t.members t.disjoint t.ends
+    edge_written = threaded_along t end nodes (with_value edges k e) links same_ends (λ p. refl) t.node_indices written_indices t.owners t.members t.disjoint t.ends
 
     pub edge_written_seen : by_node nodes.live (map.insert edges.live k e) links ≡ by_node nodes.live edges.live links
-    edge_written_seen = same_seen end nodes edges links t end nodes (with_value edges k e) links same_ends (λ p. refl) written_indices (λ q. refl)
+    edge_written_seen = same_seen t end nodes (with_value edges k e) links same_ends (λ p. refl) written_indices (λ q. refl)

@@ -1,9 +1,8 @@
 -- A search from a node, along the edges.
 use Rattle.std.proofs.Common.{◌≡◌, ◌≢◌, ◌+◌, ◌<◌, ◌≤◌, ◌⊎◌, ◌∷◌, ◌++◌, if◌then◌else◌, ◌∙◌}
-use Rattle.slotmap_graph.proofs.Common.{ℕ, zero, suc, ⊎_elim, Bool, true, false, Some, None, List, [], length, get_or, drop, append_assoc, is_some, option_map}
-use Rattle.slotmap_graph.proofs.Common.{refl, sym, ap, inl, inr, arith, Key, Content, IsLive, Pairs, IsBeside, get, contains_key, same_or_other, secondary}
-use Rattle.slotmap_graph.proofs.Common.{append-nil, drop-append-le, same_Some, same, times, one_itself, one_other, times_first, times_joined, times_there}
-use Rattle.slotmap_graph.proofs.Common.{here_or_behind, none_behind, no_more_than, SeenEdge, Edges, ListsEdges, ends_at, from, to, HasEdge, LeadsBy, Leads}
+use Rattle.slotmap_graph.proofs.Common.{ℕ, zero, suc, ⊎_elim, Bool, true, false, Some, None, List, [], length, get_or, drop, append_assoc, is_some, option_map, refl, sym, ap, inl, inr, arith, Key}
+use Rattle.slotmap_graph.proofs.Common.{Content, IsLive, Pairs, IsBeside, get, contains_key, same_or_other, secondary, append-nil, drop-append-le, same_Some, same, times, one_itself, one_other}
+use Rattle.slotmap_graph.proofs.Common.{times_first, times_joined, times_there, here_or_behind, none_behind, no_more_than, SeenEdge, Edges, ListsEdges, ends_at, from, to, HasEdge, LeadsBy, Leads}
 use Rattle.slotmap_graph.proofs.Common.{AllLed, HasNext, AreSeen, GoesOn, Finds}
 use Rattle.std.specs.FinMap as map
 
@@ -17,13 +16,13 @@ module _ (seen : Pairs (Unit {0})) (found : List Key) (listed : AreSeen seen fou
   pub listed_seen : 0 < times x found → contains_key seen x ≡ true
   listed_seen more = elim (contains_key seen x) as (λ b. contains_key seen x ≡ b → contains_key seen x ≡ true) [
     | true ↦ λ is. is
-    | false ↦ λ is. absurd (let none = unseen_unlisted is in omega arith)
+    | false ↦ λ is. absurd (omega (arith, unseen_unlisted is))
   ] refl
 
   pub listed_once : times x found ≤ 1
   listed_once = elim (contains_key seen x) as (λ b. contains_key seen x ≡ b → times x found ≤ 1) [
-    | true ↦ λ is. (let one = seen_listed is in omega arith)
-    | false ↦ λ is. (let none = unseen_unlisted is in omega arith)
+    | true ↦ λ is. omega (arith, seen_listed is)
+    | false ↦ λ is. omega (arith, unseen_unlisted is)
   ] refl
 
 -- a mark keeps those that were marked
@@ -41,19 +40,19 @@ Pending {E} edges node ks seen = (k : Key) (e : SeenEdge E) → map.get edges k 
 module _ {E : Type 0} (edges : Edges E) (node : Key) where
   pub pending_start : (ks : List Key) (seen : Pairs (Unit {0})) → ListsEdges from edges node ks → Pending edges node ks seen
   pending_start ks seen lists k e there at =
-      inl (let one : ends_at from node (Some e) ≡ 1 = ap (λ q. same q node) at ∙ one_itself node in let is = lists k ∙ ap (ends_at from node) there ∙ one in omega arith)
+      inl (let one : ends_at from node (Some e) ≡ 1 = ap (λ q. same q node) at ∙ one_itself node in omega (arith, lists k ∙ ap (ends_at from node) there ∙ one))
 
   pub pending_step : (ks rest : List Key) (x b : Key) (seen new : Pairs (Unit {0})) → ks ≡ x ∷ rest → option_map to (map.get edges x) ≡ Some b → contains_key new b ≡ true
       → ((q : Key) → contains_key seen q ≡ true → contains_key new q ≡ true) → Pending edges node ks seen → Pending edges node rest new
   pending_step ks rest x b seen new next arrives marked kept pending k d found at = elim (same_or_other k x) [
     | inl is ↦ inr (rw (same_Some d.to b (ap (option_map to) (sym found) ∙ ap (λ q. option_map to (map.get edges q)) is ∙ arrives)) marked)
     | inr other ↦ ⊎_elim
-        (λ more. inl (let none = one_other x k (λ s. other (sym s)) in let split = ap (times k) next ∙ times_first k x rest in omega arith))
+        (λ more. inl (omega (arith, one_other x k (λ s. other (sym s)), ap (times k) next ∙ times_first k x rest)))
         (λ had. inr (kept d.to had)) (pending k d found at)
   ]
 
   pub pending_end : (ks : List Key) (seen : Pairs (Unit {0})) → ks ≡ [] → Pending edges node ks seen → HasNext edges node seen
-  pending_end ks seen past pending b join = ⊎_elim (λ more. absurd (let none = ap (times join.0) past in omega arith)) (λ had. rw (← join.4) had) (pending join.0 join.1 join.2 join.3)
+  pending_end ks seen past pending b join = ⊎_elim (λ more. absurd (omega (arith, ap (times join.0) past))) (λ had. rw (← join.4) had) (pending join.0 join.1 join.2 join.3)
 
 module _ {N E : Type 0} (nodes : Content N) (edges : Edges E) (a : Key) (seen : Pairs (Unit {0})) (found : List Key) where
   pub finds_start : AreSeen seen found → IsBeside nodes seen → Finds nodes edges a seen found seen found
@@ -100,7 +99,7 @@ module _ {N E : Type 0} (nodes : Content N) (edges : Edges E) (start : Key) wher
     live = λ q had. rw (only q had) live;
     begun = begun;
     led = λ q had. (zero, sym (only q had));
-    done = λ x had. inl (let one = seen_listed seen found listed x had in omega arith);
+    done = λ x had. inl (omega (arith, seen_listed seen found listed x had));
   }
     where
       only : (q : Key) → contains_key seen q ≡ true → q ≡ start
@@ -127,18 +126,21 @@ module _ {N E : Type 0} (nodes : Content N) (edges : Edges E) (start : Key) wher
         longer = ap (drop (at + 1)) finds.behind.1 ∙ drop-append-le (at + 1) found finds.behind.0 (omega arith)
 
         still : (x : Key) → 0 < times x (drop (at + 1) found) → 0 < times x (drop (at + 1) now)
-        still x some = let split = ap (times x) longer ∙ times_joined x (drop (at + 1) found) finds.behind.0 in omega arith
+        still x some = omega (arith, ap (times x) longer ∙ times_joined x (drop (at + 1) found) finds.behind.0)
 
         by : (x : Key) → contains_key new x ≡ true → (b : Bool) → contains_key seen x ≡ b → (0 < times x (drop (at + 1) now)) ⊎ HasNext edges x new
         by x had true was = ⊎_elim
             (λ some. ⊎_elim (λ (one : x ≡ a). inr (rw one next)) (λ behind. inl (still x behind)) (here_or_behind found at a x below is some))
             (λ (goes : HasNext edges x seen). inr (λ b join. finds.kept b (goes b join))) (searching.done x was)
-        by x had false was = inl (
-            let none = unseen_unlisted seen found searching.listed x was in
-            let one = seen_listed new now finds.listed x had in
-            let all = ap (times x) finds.behind.1 ∙ times_joined x found finds.behind.0 in
-            let split = ap (times x) longer ∙ times_joined x (drop (at + 1) found) finds.behind.0 in
-            omega arith)
+        by x had false was =
+            inl (omega (
+              arith,
+              unseen_unlisted seen found searching.listed x was,
+              seen_listed new now finds.listed x had,
+              ap (times x) finds.behind.1
+                  ∙ times_joined x found finds.behind.0,
+              ap (times x) longer ∙ times_joined x (drop (at + 1) found) finds.behind.0,
+            ))
 
     module _ (past : length found ≤ at) where
       goes_on : (x : Key) → contains_key seen x ≡ true → HasNext edges x seen
@@ -149,7 +151,7 @@ module _ {N E : Type 0} (nodes : Content N) (edges : Edges E) (start : Key) wher
       reached (suc n) x path = goes_on path.0 (reached n path.0 path.1) x path.2
 
       pub searching_all : (x : Key) → Leads edges start x → 0 < times x found
-      searching_all x leads = let one = seen_listed seen found searching.listed x (reached leads.0 x leads.1) in omega arith
+      searching_all x leads = omega (arith, seen_listed seen found searching.listed x (reached leads.0 x leads.1))
 
     pub searching_found : (x : Key) → 0 < times x found → IsLive nodes x × Leads edges start x
     searching_found x more = let had = listed_seen seen found searching.listed x more in (searching.live x had, searching.led x had)

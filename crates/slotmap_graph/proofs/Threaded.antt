@@ -1,16 +1,15 @@
 -- The lists of the edges of each node: what is seen of them, and what a change of nodes or edges leaves of them.
 use Rattle.std.proofs.Common.{◌≡◌, ◌≢◌, ◌⊎◌, ◌<◌, ◌∷◌, ◌++◌, ◌&&◌, ◌∙◌, T, is_lt}
-use Rattle.slotmap_graph.proofs.Common.{ℕ, true, false, cond, Option, Some, None, List, [], list_map, length, is_some, option_map, unwrap_or, refl, sym, ap, subst}
-use Rattle.slotmap_graph.proofs.Common.{inl, inr, arith, Key, key_cmp, Content, IsLive, keys, keys_total, exact_keys, tied, same_or_other, get-insert_here}
-use Rattle.slotmap_graph.proofs.Common.{get-insert_other, live-insert_still, is_key, same, times, without, is_itself, is_other, one_itself, one_other}
-use Rattle.slotmap_graph.proofs.Common.{map-append, often, often_first, often_gone, often_without, number_itself, without_number, list_now, list_other, owners_stay}
-use Rattle.slotmap_graph.proofs.Common.{list_without, pushed_here, pushed_still}
-use Rattle.slotmap_graph.proofs.Common.{pushed_was, with_list, list_of, Lists, IsIn, IsFree, AreDisjoint, SeenEdge, Edges, edges_at, ends_at, ListsEdges}
-use Rattle.slotmap_graph.proofs.Common.{key_after, key_at, number_after, option_and_then}
-use Rattle.slotmap_graph.proofs.Common.{PutsBehind, SameEdges, AreIndices, HaveIndices, IsThreaded, keys_at, eq-zero-or-pos}
+use Rattle.slotmap_graph.proofs.Common.{ℕ, true, false, cond, Option, Some, None, List, [], list_map, length, is_some, option_map, unwrap_or, refl, sym, ap, subst, inl, inr, arith, Key, key_cmp}
+use Rattle.slotmap_graph.proofs.Common.{Content, IsLive, keys, keys_total, exact_keys, tied, same_or_other, get-insert_here, get-insert_other, live-insert_still, is_key, same, times, without}
+use Rattle.slotmap_graph.proofs.Common.{is_itself, is_other, one_itself, one_other, map-append, often, often_first, often_gone, often_without, number_itself, without_number, list_now, list_other}
+use Rattle.slotmap_graph.proofs.Common.{owners_stay, list_without, pushed_here, pushed_still, pushed_was, with_list, list_of, Lists, IsIn, IsFree, AreDisjoint, SeenEdge, Edges, edges_at, ends_at}
+use Rattle.slotmap_graph.proofs.Common.{ListsEdges, key_after, key_at, number_after, option_and_then, PutsBehind, SameEdges, AreIndices, HaveIndices, IsThreaded, keys_at, eq-zero-or-pos}
 use Rattle.slotmap_graph.specs.Threads.{by_node}
 use Rattle.slotmap_graph.proofs.Adjacent.{listed_edge}
-use Rattle.slotmap_graph.proofs.Indices.{after_at, after_inside, key_at_live, keys_same, keys_without, no_key, times_key}
+use Rattle.slotmap_graph.proofs.Indices.{after_at}
+use Rattle.slotmap_links.proofs.Linking.{after_inside}
+use Rattle.slotmap_bounded.proofs.Indices.{by_live, indices_still, key_at_live, keys_same, keys_without, no_key, some_is, times_key}
 use Rattle.std.specs.Ordering.{eq_by_cmp}
 use Rattle.std.specs.FinMap as map
 use Rattle.std.specs.FinMap.Entries.{find, below_all, is_sorted}
@@ -42,14 +41,10 @@ module _ {V W : Type 0} (f : Key → W) where
       ∙ find-changed k (map.entries m) ∙ ap (option_map (λ _. f k)) (sym (map.get-entries m k))
 
 chosen : {V W : Type 0} (w none : W) (o : Option V) → unwrap_or (option_map (λ _. w) o) none ≡ cond (is_some o) w none
-chosen w none None = refl
-chosen w none (Some v) = refl
+chosen w none o = grind arith
 
 alike : {V U W : Type 0} (w : W) (o : Option V) (p : Option U) → is_some o ≡ is_some p → option_map (λ _. w) o ≡ option_map (λ _. w) p
-alike w None None same = refl
-alike w None (Some u) same = absurd (cc)
-alike w (Some v) None same = absurd (cc)
-alike w (Some v) (Some u) same = refl
+alike w o p same = grind (arith, same)
 
 -- what is seen at each node
 module _ {N E : Type 0} (nodes : map.FinMap key_cmp N) (edges : Edges E) (links : Lists) where
@@ -66,29 +61,26 @@ module _ {N E : Type 0} (nodes : map.FinMap key_cmp N) (edges : Edges E) (links 
   pub at_none : (k : Key) → map.contains_key nodes k ≡ false → edges_at (by_node nodes edges links) k ≡ []
   at_none k gone = seen_at k ∙ ap (λ b. cond b (keys_at edges (list_of links k.index)) []) gone
 
+-- what an option has is what f makes it
+mapped_some : {A B : Type 0} (f : A → B) (o : Option A) {b : B} → option_map f o ≡ Some b → (a : A) × (o ≡ Some a) × (f a ≡ b)
+mapped_some f None is = absurd (cc)
+mapped_some f (Some a) is = (a, refl, cc)
+
 -- an edge that doesn't exist has none after it
 pub none_after : {A B : Type 0} (f : A → Option B) (o : Option A) → is_some o ≡ false → None ≡ option_and_then f o
-none_after f None gone = refl
-none_after f (Some a) gone = absurd (cc)
+none_after f o gone = grind arith
 
--- by whether a key is there
-by_live : {V : Type 0} (m : map.FinMap key_cmp V) (k : Key) (P : Type 0) → (map.contains_key m k ≡ true → P) → (map.contains_key m k ≡ false → P) → P
-by_live m k P here gone = elim (map.contains_key m k) as (λ b. map.contains_key m k ≡ b → P) [ true ↦ here | false ↦ gone ] refl
-
-module _ {N E : Type 0} (end : SeenEdge E → Key) (nodes : Content N) (edges : Content (SeenEdge E)) (links : Lists) (t : IsThreaded end nodes edges links) where
-  pub indices_at : (p : ℕ) → AreIndices edges.live (list_of links p)
-  indices_at p i inside = let l = t.live p i inside in (l.0, ap is_some l.2, l.3)
+module _ {N E : Type 0} {end : SeenEdge E → Key} {nodes : Content N} {edges : Content (SeenEdge E)} {links : Lists} (t : IsThreaded end nodes edges links) where
+  pub indices_at : (p : ℕ) → AreIndices edges (list_of links p)
+  indices_at p = record { have = λ i inside. (let l = t.live p i inside in (l.0, ap is_some l.2, l.3)) }
 
   pub owner_within : (k : Key) → IsLive nodes k → k.index < length links.lists
-  owner_within k live = let within = (t.node_indices.within k live).1 in let owners = t.owners in omega arith
+  owner_within k live = omega (arith, (t.node_indices.within k live).1, t.owners)
 
   -- an edge in the list of a node
   pub edge_at : (x : Key) (e : SeenEdge E) → map.get edges.live x ≡ Some e → (p : ℕ) → IsIn links p x.index → (end e).index ≡ p
-  edge_at x e there p inside =
-      let l = t.live p x.index inside in
-      let is : l.0 ≡ x = t.edge_indices.apart l.0 x (ap is_some l.2) (ap is_some there) l.3 in
-      let one : l.1 ≡ e = (let f = sym l.2 ∙ ap (map.get edges.live) is ∙ there in cc) in
-      ap (λ (e : SeenEdge E). (end e).index) (sym one) ∙ l.4
+  edge_at x e there p inside = let l = t.live p x.index inside in let is : l.0 ≡ x = t.edge_indices.apart l.0 x (ap is_some l.2) (ap is_some there) l.3 in
+      let one : l.1 ≡ e = (let f = sym l.2 ∙ ap (map.get edges.live) is ∙ there in cc) in ap (λ (e : SeenEdge E). (end e).index) (sym one) ∙ l.4
 
   -- a list is empty where no edge has that end
   pub empty_at : (p : ℕ) → ((x : Key) (e : SeenEdge E) → map.get edges.live x ≡ Some e → (end e).index ≢ p) → list_of links p ≡ []
@@ -96,19 +88,15 @@ module _ {N E : Type 0} (end : SeenEdge E → Key) (nodes : Content N) (edges : 
     where
       by : (is : List ℕ) → list_of links p ≡ is → list_of links p ≡ []
       by [] at = at
-      by (i ∷ is) at = absurd (
-          let l = t.live p i (let sum = ap (often i) at ∙ often_first i i is in let one = number_itself i in omega arith) in
-          none l.0 l.1 l.2 l.4)
+      by (i ∷ is) at = absurd (let l = t.live p i (omega (arith, ap (often i) at ∙ often_first i i is, number_itself i)) in none l.0 l.1 l.2 l.4)
 
   empty_at_zero : list_of links 0 ≡ []
-  empty_at_zero = empty_at 0 (λ x e there at. (let low = (t.node_indices.within (end e) (t.ends x e there)).0 in omega arith))
+  empty_at_zero = empty_at 0 (λ x e there at. omega (arith, (t.node_indices.within (end e) (t.ends x e there)).0))
 
   -- the list at the index of a node, or at 0
   module _ (k : Key) (owner : ℕ) (is_live : IsLive nodes k → owner ≡ k.index) (is_gone : map.contains_key nodes.live k ≡ false → owner ≡ 0) where
     pub owner_below : owner < length links.lists
-    owner_below = by_live nodes.live k _
-        (λ live. (let at = is_live live in let within = owner_within k live in omega arith))
-        (λ gone. (let at = is_gone gone in let owners = t.owners in omega arith))
+    owner_below = by_live nodes.live k _ (λ live. omega (arith, is_live live, owner_within k live)) (λ gone. omega (arith, is_gone gone, t.owners))
 
     pub owned_at : keys_at edges.live (list_of links owner) ≡ edges_at (by_node nodes.live edges.live links) k
     owned_at = by_live nodes.live k _
@@ -117,13 +105,10 @@ module _ {N E : Type 0} (end : SeenEdge E → Key) (nodes : Content N) (edges : 
 
   -- the list of a node has each edge with that end, once, and nothing else
   listed_live : (k x : Key) → IsLive nodes k → (o : Option (SeenEdge E)) → map.get edges.live x ≡ o → times x (keys_at edges.live (list_of links k.index)) ≡ ends_at end k o
-  listed_live k x live None is = no_key edges t.edge_indices (list_of links k.index) (indices_at k.index) x (ap is_some is)
+  listed_live k x live None is = no_key t.edge_indices (list_of links k.index) (indices_at k.index) x (ap is_some is)
   listed_live k x live (Some e) is =
-      times_key edges t.edge_indices (list_of links k.index) (indices_at k.index) x (ap is_some is) ∙ elim (same_or_other (end e) k) [
-        | inl at ↦ (let one = ap (λ q. same q k) at ∙ one_itself k in
-            let listed = t.listed x e is in
-            let here = ap (λ (q : Key). often x.index (list_of links q.index)) at in
-            let once = t.disjoint.once k.index x.index in omega arith)
+      times_key t.edge_indices (list_of links k.index) (indices_at k.index) x (ap is_some is) ∙ elim (same_or_other (end e) k) [
+        | inl at ↦ omega (arith, ap (λ q. same q k) at ∙ one_itself k, t.listed x e is, ap (λ (q : Key). often x.index (list_of links q.index)) at, t.disjoint.once k.index x.index)
         | inr other ↦ (let none = one_other (end e) k other in elim (eq-zero-or-pos (often x.index (list_of links k.index))) [
           | inl zero ↦ zero ∙ sym none
           | inr more ↦ absurd (other (t.node_indices.apart (end e) k (t.ends x e is) live (edge_at x e is k.index more)))
@@ -146,69 +131,41 @@ module _ {N E : Type 0} (end : SeenEdge E → Key) (nodes : Content N) (edges : 
 
     after_one : (e : SeenEdge E) → map.get edges.live x ≡ Some e → option_map (key_at edges.live) number ≡ key_after x (edges_at (by_node nodes.live edges.live links) (end e))
     after_one e there = ap (option_map (key_at edges.live)) (number_is e there)
-        ∙ sym (ap (key_after x) (at_node nodes.live edges.live links (end e) (t.ends x e there)) ∙ after_at edges t.edge_indices (list_of links (end e).index)
+        ∙ sym (ap (key_after x) (at_node nodes.live edges.live links (end e) (t.ends x e there)) ∙ after_at t.edge_indices (list_of links (end e).index)
         (indices_at (end e).index) x (ap is_some there))
 
     pub after_is : IsLive edges x → option_map (key_at edges.live) number ≡ option_and_then (λ e. key_after x (edges_at (by_node nodes.live edges.live links) (end e))) (map.get edges.live x)
-    after_is live = by (map.get edges.live x) refl live
-      where
-        by : (o : Option (SeenEdge E)) → map.get edges.live x ≡ o → is_some o ≡ true → option_map (key_at edges.live) number ≡ option_and_then
-            (λ e. key_after x (edges_at (by_node nodes.live edges.live links) (end e))) o
-        by None is some = absurd (cc)
-        by (Some e) is some = after_one e is
+    after_is live = let e = some_is (map.get edges.live x) live in rw e.1 (after_one e.0 e.1)
 
     pub after_there : IsLive edges x → (i : ℕ) → number ≡ Some i → (k : Key) × (map.contains_key edges.live k ≡ true) × (k.index ≡ i)
-    after_there live i found = by (map.get edges.live x) refl live
-      where
-        by : (o : Option (SeenEdge E)) → map.get edges.live x ≡ o → is_some o ≡ true → (k : Key) × (map.contains_key edges.live k ≡ true) × (k.index ≡ i)
-        by None is some = absurd (cc)
-        by (Some e) is some = indices_at (end e).index i (after_inside x.index i (list_of links (end e).index) (sym (number_is e is) ∙ found))
+    after_there live i found = let e = some_is (map.get edges.live x) live in
+        (indices_at (end e.0).index).have i (after_inside x.index i (list_of links (end e.0).index) (sym (number_is e.0 e.1) ∙ found))
 
   -- in whichever list an edge is
   pub after_along : (x : Key) (found : Option Key) → found ≡ option_and_then (λ e. key_after x (edges_at (by_node nodes.live edges.live links) (end e))) (map.get edges.live x)
       → (k : Key) → 0 < times x (edges_at (by_node nodes.live edges.live links) k) → found ≡ key_after x (edges_at (by_node nodes.live edges.live links) k)
-  after_along x found is k inside =
-      let there = listed_edge end edges.live k (edges_at (by_node nodes.live edges.live links) k) (lists k) x inside in
-      is ∙ ap (option_and_then (λ e. key_after x (edges_at (by_node nodes.live edges.live links) (end e)))) there.1
+  after_along x found is k inside = let there = listed_edge end edges.live k (edges_at (by_node nodes.live edges.live links) k) (lists k) x inside in is
+      ∙ ap (option_and_then (λ e. key_after x (edges_at (by_node nodes.live edges.live links) (end e)))) there.1
       ∙ ap (λ q. key_after x (edges_at (by_node nodes.live edges.live links) q)) there.2
 
   -- an edge has a link
   pub member_below : (x : Key) → IsLive edges x → x.index < links.members
-  member_below x live = let within = (t.edge_indices.within x live).1 in let members = t.members in omega arith
+  member_below x live = omega (arith, (t.edge_indices.within x live).1, t.members)
 
   -- the same edges, but for their values, in the same lists
   module _ {M D : Type 0} (other_end : SeenEdge D → Key) (nodes' : Content M) (edges' : Content (SeenEdge D)) (links' : Lists)
       (same_ends : (x : Key) → option_map other_end (map.get edges'.live x) ≡ option_map end (map.get edges.live x)) (same_lists : (p : ℕ) → list_of links' p ≡ list_of links p) where
     source : (x : Key) (d : SeenEdge D) → map.get edges'.live x ≡ Some d → (e : SeenEdge E) × (map.get edges.live x ≡ Some e) × (end e ≡ other_end d)
-    source x d there = by (map.get edges.live x) refl (sym (same_ends x) ∙ ap (option_map other_end) there)
-      where
-        by : (o : Option (SeenEdge E)) → map.get edges.live x ≡ o → option_map end o ≡ Some (other_end d) → (e : SeenEdge E) × (map.get edges.live x ≡ Some e) × (end e ≡ other_end d)
-        by None is same = absurd (cc)
-        by (Some e) is same = (e, is, cc)
+    source x d there = mapped_some end (map.get edges.live x) (sym (same_ends x) ∙ ap (option_map other_end) there)
 
-    copy : (x : Key) (e : SeenEdge E) → map.get edges.live x ≡ Some e → (d : SeenEdge D) × (map.get edges'.live x ≡ Some d) × (end e ≡ other_end d)
-    copy x e there = by (map.get edges'.live x) refl (same_ends x ∙ ap (option_map end) there)
-      where
-        by : (o : Option (SeenEdge D)) → map.get edges'.live x ≡ o → option_map other_end o ≡ Some (end e) → (d : SeenEdge D) × (map.get edges'.live x ≡ Some d) × (end e ≡ other_end d)
-        by None is same = absurd (cc)
-        by (Some d) is same = (d, is, cc)
+    copy : (x : Key) (e : SeenEdge E) → map.get edges.live x ≡ Some e → (d : SeenEdge D) × (map.get edges'.live x ≡ Some d) × (other_end d ≡ end e)
+    copy x e there = mapped_some other_end (map.get edges'.live x) (same_ends x ∙ ap (option_map end) there)
 
     still : (x : Key) → IsLive edges x → IsLive edges' x
-    still x live = by (map.get edges.live x) refl live
-      where
-        by : (o : Option (SeenEdge E)) → map.get edges.live x ≡ o → is_some o ≡ true → IsLive edges' x
-        by None is some = absurd (cc)
-        by (Some e) is some = ap is_some (copy x e is).1
-
-    was : (x : Key) → IsLive edges' x → IsLive edges x
-    was x live = by (map.get edges'.live x) refl live
-      where
-        by : (o : Option (SeenEdge D)) → map.get edges'.live x ≡ o → is_some o ≡ true → IsLive edges x
-        by None is some = absurd (cc)
-        by (Some d) is some = ap is_some (source x d is).1
+    still x live = let e = some_is (map.get edges.live x) live in ap is_some (copy x e.0 e.1).1
 
     same_keys_at : HaveIndices edges' → (p : ℕ) → keys_at edges'.live (list_of links' p) ≡ keys_at edges.live (list_of links p)
-    same_keys_at indices p = ap (keys_at edges'.live) (same_lists p) ∙ keys_same edges t.edge_indices edges' indices (list_of links p) (indices_at p) (λ k live _. still k live)
+    same_keys_at indices p = ap (keys_at edges'.live) (same_lists p) ∙ keys_same t.edge_indices indices (list_of links p) (indices_at p) (λ k live _. still k live)
 
     pub threaded_along : HaveIndices nodes' → HaveIndices edges' → nodes'.capacity < length links'.lists → edges'.capacity < links'.members → AreDisjoint links'
         → ((x : Key) (e : SeenEdge E) → map.get edges.live x ≡ Some e → IsLive nodes' (end e)) → IsThreaded other_end nodes' edges' links'
@@ -222,7 +179,7 @@ module _ {N E : Type 0} (end : SeenEdge E → Key) (nodes : Content N) (edges : 
       listed = λ x d there. (let s = source x d there in let l = t.listed x s.0 s.1 in let at = same_lists (end s.0).index in
           let e = ap (λ (q : Key). often x.index (list_of links' q.index)) (sym s.2) in let f = ap (often x.index) at in omega arith);
       live = λ p i inside. (let f = ap (often i) (same_lists p) in let l = t.live p i (omega arith) in let c = copy l.0 l.1 l.2 in
-          (l.0, c.0, c.1, l.3, ap (λ (q : Key). q.index) (sym c.2) ∙ l.4));
+          (l.0, c.0, c.1, l.3, ap (λ (q : Key). q.index) c.2 ∙ l.4));
     }
 
     pub same_seen : HaveIndices edges' → ((k : Key) → map.contains_key nodes'.live k ≡ map.contains_key nodes.live k)
@@ -253,7 +210,7 @@ module _ {N E : Type 0} (end : SeenEdge E → Key) (nodes : Content N) (edges : 
 
     pub put_free : IsFree links k.index
     put_free = record {
-      within = (let within = (indices.within k (ap is_some there_now)).1 in let members = t.members in omega arith);
+      within = omega (arith, (indices.within k (ap is_some there_now)).1, t.members);
       nowhere = λ p. (elim (eq-zero-or-pos (often k.index (list_of links p))) [
         | inl none ↦ none
         | inr more ↦ absurd (let l = t.live p k.index more in
@@ -269,8 +226,8 @@ module _ {N E : Type 0} (end : SeenEdge E → Key) (nodes : Content N) (edges : 
       put_threaded disjoint = record {
         node_indices = t.node_indices;
         edge_indices = indices;
-        owners = (let o = t.owners in let s = ap (λ (l : Lists). length l.lists) now_is ∙ owners_stay links (end e).index (list_of links (end e).index ++ k.index ∷ []) in omega arith);
-        members = (let m = t.members in let s = ap (λ (l : Lists). l.members) now_is in omega arith);
+        owners = omega (arith, t.owners, ap (λ (l : Lists). length l.lists) now_is ∙ owners_stay links (end e).index (list_of links (end e).index ++ k.index ∷ []));
+        members = omega (arith, t.members, ap (λ (l : Lists). l.members) now_is);
         disjoint = disjoint;
         ends = λ x d there. (elim (same_or_other x k) [
           | inl at ↦ (let one : e ≡ d = (let f = sym there_now ∙ ap (map.get new.live) (sym at) ∙ there in cc) in
@@ -290,13 +247,13 @@ module _ {N E : Type 0} (end : SeenEdge E → Key) (nodes : Content N) (edges : 
       }
 
       keys_still : (p : ℕ) → keys_at new.live (list_of links p) ≡ keys_at edges.live (list_of links p)
-      keys_still p = keys_same edges t.edge_indices new indices (list_of links p) (indices_at p) (λ x of_edges _. still_live x of_edges)
+      keys_still p = keys_same t.edge_indices indices (list_of links p) (indices_at p) (λ x of_edges _. still_live x of_edges)
 
       put_at : keys_at new.live (list_of now (end e).index) ≡ keys_at edges.live (list_of links (end e).index) ++ k ∷ []
       put_at = ap (λ l. keys_at new.live (list_of l (end e).index)) now_is
           ∙ ap (keys_at new.live) (list_now links (end e).index (list_of links (end e).index ++ k.index ∷ []) (owner_within (end e) live))
           ∙ map-append (λ i. _) (list_of links (end e).index) (k.index ∷ [])
-          ∙ (λ i. keys_still (end e).index i ++ key_at_live new indices k (ap is_some there_now) i ∷ [])
+          ∙ (λ i. keys_still (end e).index i ++ key_at_live indices k (ap is_some there_now) i ∷ [])
 
       put_beside : (q : Key) → IsLive nodes q → q ≢ end e → keys_at new.live (list_of now q.index) ≡ keys_at edges.live (list_of links q.index)
       put_beside q of_nodes other = ap (λ l. keys_at new.live (list_of l q.index)) now_is
@@ -317,8 +274,8 @@ module _ {N E : Type 0} (end : SeenEdge E → Key) (nodes : Content N) (edges : 
       ]
 
   -- an edge goes
-  module _ (k : Key) (e : SeenEdge E) (there : map.get edges.live k ≡ Some e) (new : Content (SeenEdge E)) (is : new.live ≡ map.remove edges.live k) (capacity : new.capacity ≡ edges.capacity)
-      (now : Lists) (now_is : now ≡ with_list links (end e).index (without_number k.index (list_of links (end e).index))) where
+  module _ (k : Key) {e : SeenEdge E} (there : map.get edges.live k ≡ Some e) (new : Content (SeenEdge E)) (is : new.live ≡ map.remove edges.live k) (capacity : new.capacity ≡ edges.capacity)
+      {now : Lists} (now_is : now ≡ with_list links (end e).index (without_number k.index (list_of links (end e).index))) where
     left_others : (x : Key) → x ≢ k → map.get new.live x ≡ map.get edges.live x
     left_others x other = ap (λ m. map.get m x) is ∙ grind (arith, keys)
 
@@ -329,17 +286,7 @@ module _ {N E : Type 0} (end : SeenEdge E → Key) (nodes : Content N) (edges : 
         (apart, sym (left_others x apart) ∙ found)
 
     left_indices : HaveIndices new
-    left_indices = record {
-      within = λ x live. (let within = t.edge_indices.within x (were x live) in (within.0, omega (arith, within.1, capacity)));
-      apart = λ a b of_a of_b. t.edge_indices.apart a b (were a of_a) (were b of_b);
-    }
-      where
-        were : (x : Key) → IsLive new x → IsLive edges x
-        were x live = by (map.get new.live x) refl live
-          where
-            by : (o : Option (SeenEdge E)) → map.get new.live x ≡ o → is_some o ≡ true → IsLive edges x
-            by None at some = absurd (cc)
-            by (Some d) at some = ap is_some (left x d at).1
+    left_indices = indices_still t.edge_indices new (λ x live. let d = some_is (map.get new.live x) live in ap is_some (left x d.0 d.1).1) (omega arith)
 
     lists_left : (p : ℕ) → list_of now p ≡ without_number k.index (list_of links p)
     lists_left p = ap (λ l. list_of l p) now_is ∙ list_without links t.disjoint (end e).index k.index (owner_within (end e) (t.ends k e there)) (t.listed k e there) p
@@ -368,7 +315,7 @@ module _ {N E : Type 0} (end : SeenEdge E → Key) (nodes : Content N) (edges : 
     pub left_seen : (q : Key) → edges_at (by_node nodes.live new.live now) q ≡ without k (edges_at (by_node nodes.live edges.live links) q)
     left_seen q = by_live nodes.live q _
         (λ of_nodes. at_node nodes.live new.live now q of_nodes ∙ ap (keys_at new.live) (lists_left q.index)
-        ∙ keys_without edges t.edge_indices new left_indices k (ap is_some there) (λ x live other. ap is_some (left_others x other) ∙ live) (list_of links q.index) (indices_at q.index)
+        ∙ keys_without t.edge_indices left_indices k (ap is_some there) (λ x live other. ap is_some (left_others x other) ∙ live) (list_of links q.index) (indices_at q.index)
         ∙ ap (without k) (sym (at_node nodes.live edges.live links q of_nodes)))
         (λ gone. at_none nodes.live new.live now q gone ∙ ap (without k) (sym (at_none nodes.live edges.live links q gone)))
 
@@ -381,6 +328,4 @@ module _ {N E : Type 0} (end : SeenEdge E → Key) (nodes : Content N) (edges : 
   ]
     where
       nothing : (m : map.FinMap key_cmp N) (q : Key) → list_of links q.index ≡ [] → edges_at (by_node m edges.live links) q ≡ []
-      nothing m q empty = by_live m q _
-          (λ live. at_node m edges.live links q live ∙ ap (keys_at edges.live) empty)
-          (λ gone. at_none m edges.live links q gone)
+      nothing m q empty = by_live m q _ (λ live. at_node m edges.live links q live ∙ ap (keys_at edges.live) empty) (λ gone. at_none m edges.live links q gone)

@@ -1,11 +1,10 @@
 -- An order of the nodes in which each edge goes forward: how it is found, and that there is a cycle where there is none.
 use Rattle.std.proofs.Common.{◌≡◌, ◌≢◌, ◌+◌, ◌-◌, ◌<◌, ◌≤◌, ◌⊎◌, ◌∷◌, ◌++◌, if◌then◌else◌, ◌∙◌}
-use Rattle.slotmap_graph.proofs.Common.{ℕ, zero, suc, ⊎_elim, Bool, true, false, Some, List, [], length, take, drop, get_or, nat_eq, option_map, refl, sym, ap}
-use Rattle.slotmap_graph.proofs.Common.{subst, append-nil, append_assoc, inl, inr, arith, eq-zero-or-pos, take-append-le, take_all, sum_by-take-drop, nat_tests}
-use Rattle.slotmap_graph.proofs.Common.{Key, IsLive, Pairs, get, same_or_other, same, times, one_itself, one_other, times_first, times_there, times_pushed}
-use Rattle.slotmap_graph.proofs.Common.{times_joined, behind_split, no_more_than, cut_at, split_at, in_midst, cons_not_nil, Seen, SeenEdge, Edges, ByNode}
-use Rattle.slotmap_graph.proofs.Common.{IsJoined, edges_at, ends_at, from, to, GoesOn, LeadsBy, GoesForward, HasCycle, edges_out, passed_of, Sorting, Counting}
-use Rattle.slotmap_graph.proofs.Common.{ComesFromLeft, IsLeft, key_live, key_there, contains_key, is_some}
+use Rattle.slotmap_graph.proofs.Common.{ℕ, zero, suc, ⊎_elim, Bool, true, false, Some, List, [], length, take, drop, get_or, nat_eq, option_map, refl, sym, ap, subst, append-nil, append_assoc}
+use Rattle.slotmap_graph.proofs.Common.{inl, inr, arith, eq-zero-or-pos, take-append-le, take_all, sum_by-take-drop, nat_tests, Key, IsLive, Pairs, get, same_or_other, same, times, one_itself}
+use Rattle.slotmap_graph.proofs.Common.{one_other, times_first, times_there, times_pushed, times_joined, behind_split, no_more_than, cut_at, split_at, in_midst, cons_not_nil, Seen, SeenEdge, Edges}
+use Rattle.slotmap_graph.proofs.Common.{ByNode, IsJoined, edges_at, ends_at, from, to, GoesOn, LeadsBy, GoesForward, HasCycle, edges_out, passed_of, Sorting, Counting, ComesFromLeft, IsLeft, key_live}
+use Rattle.slotmap_graph.proofs.Common.{key_there, contains_key, is_some}
 use Rattle.std.specs.FinMap as map
 use Rattle.slotmap_graph.proofs.Adjacent.{listed_edge, edge_listed}
 use Rattle.slotmap_graph.proofs.Followed.{next_seen, taken}
@@ -19,28 +18,23 @@ same_turned a b = elim (same_or_other a b) [
 -- one more edge is passed
 passed_more : (passed : List Key) (x : Key) (js : List Key) → passed_of (passed ++ x ∷ []) js ≡ passed_of passed js + times x js
 passed_more passed x [] = refl
-passed_more passed x (j ∷ js) =
-    let rest = passed_more passed x js in
-    let here = times_pushed j passed x in
-    let first = times_first x j js in
-    let turned = same_turned x j in
-    omega arith
+passed_more passed x (j ∷ js) = omega (arith, passed_more passed x js, times_pushed j passed x, times_first x j js, same_turned x j)
 
 passed_none : (js : List Key) → passed_of [] js ≡ 0
 passed_none [] = refl
-passed_none (j ∷ js) = let rest = passed_none js in omega arith
+passed_none (j ∷ js) = omega (arith, passed_none js)
 
 module _ (passed : List Key) (once : (x : Key) → times x passed ≤ 1) where
   passed_most : (js : List Key) → passed_of passed js ≤ length js
   passed_most [] = omega arith
-  passed_most (j ∷ js) = let rest = passed_most js in let one = once j in omega arith
+  passed_most (j ∷ js) = omega (arith, passed_most js, once j)
 
   -- not all were passed, if one was not
   passed_less : (x : Key) (js : List Key) → 0 < times x js → times x passed ≡ 0 → passed_of passed js < length js
   passed_less x [] more none = absurd (omega arith)
   passed_less x (j ∷ js) more none = elim (same_or_other j x) [
-    | inl is ↦ (let rest = passed_most js in let gone = ap (λ q. times q passed) is ∙ none in omega arith)
-    | inr other ↦ (let first = times_first x j js in let no = one_other j x other in let rest = passed_less x js (omega arith) none in let one = once j in omega arith)
+    | inl is ↦ omega (arith, passed_most js, ap (λ q. times q passed) is ∙ none)
+    | inr other ↦ (let first = times_first x j js in let no = one_other j x other in omega (arith, passed_less x js (omega arith) none, once j))
   ]
 
 test_one : (n : ℕ) → nat_eq n 1 ≡ true → n ≡ 1
@@ -69,11 +63,8 @@ module _ {N E : Type 0} (s : Seen N E) (joined : IsJoined s) where
     in_list = edge_listed to s.edges.live e.to (edges_at s.into e.to) (joined.into e.to) x e there refl
 
     some_left : (n : ℕ) → get counts e.to ≡ Some n → 0 < n
-    some_left n is =
-        let entry = sorting.table e.to live in
-        let same_count : entry.0 ≡ n = (let h = entry.1 in cc) in
-        let less = passed_less passed sorting.once x (edges_at s.into e.to) (omega (arith, in_list)) new in
-        omega (arith, entry.2, same_count, less)
+    some_left n is = let entry = sorting.table e.to live in let same_count : entry.0 ≡ n = (let h = entry.1 in cc) in
+        omega (arith, passed_less passed sorting.once x (edges_at s.into e.to) (omega (arith, in_list)) new, entry.2, same_count)
 
     can_pass : (n : ℕ) × (get counts e.to ≡ Some n) × (0 < n)
     can_pass = let entry = sorting.table e.to live in (entry.0, entry.1, some_left entry.0 entry.1)
@@ -99,9 +90,7 @@ module _ {N E : Type 0} (s : Seen N E) (joined : IsJoined s) where
           ] refl (found_is count (sorting.table e.to live).1)
 
       others_found : (q : Key) → q ≢ e.to → times q found' ≡ times q found
-      others_found q other = ⊎_elim
-          (λ last. (let sum = ap (times q) last.0 ∙ times_pushed q found e.to in let no = one_other e.to q (λ s. other (sym s)) in omega arith))
-          (λ stays. ap (times q) stays.0) either
+      others_found q other = ⊎_elim (λ last. omega (arith, ap (times q) last.0 ∙ times_pushed q found e.to, one_other e.to q (λ s. other (sym s)))) (λ stays. ap (times q) stays.0) either
 
       here_found : times e.to found' ≡ (if nat_eq (count - 1) 0 then 1 else 0)
       here_found = ⊎_elim
@@ -111,32 +100,28 @@ module _ {N E : Type 0} (s : Seen N E) (joined : IsJoined s) where
 
       kept_found : (q : Key) → 0 < times q found → 0 < times q found'
       kept_found q more = elim (same_or_other q e.to) [
-        | inl is ↦ absurd (let none = ap (λ k. times k found) is ∙ not_yet in omega arith)
-        | inr other ↦ (let same_times = others_found q other in omega arith)
+        | inl is ↦ absurd (omega (arith, ap (λ k. times k found) is ∙ not_yet))
+        | inr other ↦ omega (arith, others_found q other)
       ]
 
       once_pushed : (q : Key) → times q (passed ++ x ∷ []) ≤ 1
       once_pushed q = elim (same_or_other q x) [
-        | inl is ↦ (let sum = times_pushed q passed x in let none = ap (λ k. times k passed) is ∙ new in let one = ap (same x) is ∙ one_itself x in omega arith)
-        | inr other ↦ (let sum = times_pushed q passed x in let no = one_other x q (λ s. other (sym s)) in let few = sorting.once q in omega arith)
+        | inl is ↦ omega (arith, times_pushed q passed x, ap (λ k. times k passed) is ∙ new, ap (same x) is ∙ one_itself x)
+        | inr other ↦ omega (arith, times_pushed q passed x, one_other x q (λ s. other (sym s)), sorting.once q)
       ]
 
       -- each edge to a node that comes into the list was passed
       all_passed : count ≡ 1 → (j : Key) → 0 < times j (edges_at s.into e.to) → 0 < times j (passed ++ x ∷ [])
       all_passed one j there_too = elim (eq-zero-or-pos (times j (passed ++ x ∷ []))) [
         | inl none ↦ absurd (
-            let less = passed_less (passed ++ x ∷ []) once_pushed j (edges_at s.into e.to) there_too none in
-            let sum = passed_more passed x (edges_at s.into e.to) in
-            let entry = (sorting.table e.to live).2 in
-            let mine = in_list in
-            omega (arith, less, sum, entry, mine, one))
+            omega (arith, passed_less (passed ++ x ∷ []) once_pushed j (edges_at s.into e.to) there_too none, passed_more passed x (edges_at s.into e.to), (sorting.table e.to live).2, in_list, one))
         | inr more ↦ more
       ]
 
       began_now : (k : Key) (d : SeenEdge E) → map.get s.edges.live k ≡ Some d → 0 < times k (passed ++ x ∷ []) → 0 < times d.from found
       began_now k d at more = elim (same_or_other k x) [
         | inl is ↦ (let one : d ≡ e = (let h = sym (ap (map.get s.edges.live) (sym is) ∙ at) ∙ there in cc) in rw one start)
-        | inr other ↦ sorting.began k d at (let sum = times_pushed k passed x in let no = one_other x k (λ s. other (sym s)) in omega arith)
+        | inr other ↦ sorting.began k d at (omega (arith, times_pushed k passed x, one_other x k (λ s. other (sym s))))
       ]
 
       forward_now : GoesForward s.edges.live found'
@@ -148,12 +133,8 @@ module _ {N E : Type 0} (s : Seen N E) (joined : IsJoined s) where
           (λ stays. sorting.forward k d before after at (sym stays.0 ∙ split)) either
         where
           at_end : count ≡ 1 → (m : List Key) → before ≡ found ++ m → e.to ∷ [] ≡ m ++ d.to ∷ after → 0 < times d.from before
-          at_end one [] is last =
-              let same_end : d.to ≡ e.to = (cc) in
-              let mine = edge_listed to s.edges.live e.to (edges_at s.into e.to) (joined.into e.to) k d at same_end in
-              let from_found = began_now k d at (all_passed one k (omega (arith, mine))) in
-              let sum = ap (times d.from) is ∙ times_joined d.from found [] in
-              omega arith
+          at_end one [] is last = let same_end : d.to ≡ e.to = (cc) in let mine = edge_listed to s.edges.live e.to (edges_at s.into e.to) (joined.into e.to) k d at same_end in
+              omega (arith, began_now k d at (all_passed one k (omega (arith, mine))), ap (times d.from) is ∙ times_joined d.from found [])
           at_end one (q ∷ m) is last = absurd (cons_not_nil m d.to after (cc))
 
       table_now : (y : Key) → IsLive s.nodes y
@@ -169,27 +150,17 @@ module _ {N E : Type 0} (s : Seen N E) (joined : IsJoined s) where
         where
           here : (n : ℕ) × (get counts' e.to ≡ Some n) × (n + passed_of (passed ++ x ∷ []) (edges_at s.into e.to) ≡ length (edges_at s.into e.to))
               × (times e.to found' ≡ (if nat_eq n 0 then 1 else 0))
-          here =
-              let entry = sorting.table e.to live in
-              let sum = passed_more passed x (edges_at s.into e.to) in
-              let mine = in_list in
-              let more = more_left in
-              (count - 1, counted count entry.1, omega (arith, entry.2, sum, mine, more), here_found)
+          here = let entry = sorting.table e.to live in let sum = passed_more passed x (edges_at s.into e.to) in let mine = in_list in
+              let more = more_left in (count - 1, counted count entry.1, omega (arith, entry.2, sum, mine, more), here_found)
 
       live_now : (y : Key) → 0 < times y found' → IsLive s.nodes y
       live_now y more = elim (same_or_other y e.to) [
         | inl is ↦ rw is live
-        | inr other ↦ sorting.live y (let same_times = others_found y other in omega arith)
+        | inr other ↦ sorting.live y (omega (arith, others_found y other))
       ]
 
       sorting_step : Sorting s counts' found' (passed ++ x ∷ [])
-      sorting_step = record {
-        table = table_now;
-        live = live_now;
-        forward = forward_now;
-        began = λ k d at more. kept_found d.from (began_now k d at more);
-        once = once_pushed;
-      }
+      sorting_step = record { table = table_now; live = live_now; forward = forward_now; began = λ k d at more. kept_found d.from (began_now k d at more); once = once_pushed }
 
   -- all nodes were counted
   pub sorting_start : (counts : Pairs ℕ) (found : List Key) → Counting s counts found (map.keys s.nodes.live) → Sorting s counts found []
@@ -199,14 +170,14 @@ module _ {N E : Type 0} (s : Seen N E) (joined : IsJoined s) where
         let none = passed_none (edges_at s.into y) in
         (length (edges_at s.into y), entry.0, omega arith, entry.1));
     live = λ y more. key_live s.nodes.live y (elim (eq-zero-or-pos (times y (map.keys s.nodes.live))) [
-      | inl none ↦ absurd (let gone = counting.others y none in omega arith)
+      | inl none ↦ absurd (omega (arith, counting.others y none))
       | inr there ↦ there
     ]);
     forward = λ k e before after at split. absurd (
-        let there : 0 < times e.to found = (let sum = ap (times e.to) split ∙ in_midst before e.to after in omega arith) in
+        let there : 0 < times e.to found = (omega (arith, ap (times e.to) split ∙ in_midst before e.to after)) in
         let listed = edge_listed to s.edges.live e.to (edges_at s.into e.to) (joined.into e.to) k e at refl in
         elim (eq-zero-or-pos (times e.to (map.keys s.nodes.live))) [
-          | inl none ↦ (let gone = counting.others e.to none in omega arith)
+          | inl none ↦ omega (arith, counting.others e.to none)
           | inr known ↦ (
               let entry = counting.table e.to known in
               let empty : length (edges_at s.into e.to) ≡ 0 = is_zero (length (edges_at s.into e.to)) (times e.to found) entry.1 there in
@@ -236,23 +207,21 @@ module _ {N E : Type 0} (s : Seen N E) (joined : IsJoined s) where
   out_times : (ks : List Key) (x : Key) (e : SeenEdge E) → map.get s.edges.live x ≡ Some e → times x (edges_out s.out ks) ≡ times e.from ks
   out_times [] x e there = refl
   out_times (k ∷ ks) x e there =
-      let sum = times_joined x (edges_at s.out k) (edges_out s.out ks) in
-      let here = joined.out k x ∙ ap (ends_at from k) there in
-      let rest = out_times ks x e there in
-      let first = times_first e.from k ks in
-      let turned = same_turned e.from k in
-      omega arith
+      omega (arith, times_joined x (edges_at s.out k) (edges_out s.out ks), joined.out k x ∙ ap (ends_at from k) there, out_times ks x e there, times_first e.from k ks, same_turned e.from k)
 
   -- an edge that was not passed is the next one of a node whose edges were not passed before
   next_new : (done passed rest : List Key) (a x : Key) (e : SeenEdge E) → map.get s.edges.live x ≡ Some e → e.from ≡ a → times a done ≡ 0 → passed ++ x ∷ rest ≡ edges_at s.out a
       → times x (edges_out s.out done ++ passed) ≡ 0
   next_new done passed rest a x e there at none split =
-      let before = out_times done x e there ∙ ap (λ q. times q done) at ∙ none in
-      let one = joined.out a x ∙ ap (ends_at from a) there ∙ ap (λ q. same q a) at ∙ one_itself a in
-      let twice = ap (times x) split in
-      let sum = times_joined x (edges_out s.out done) passed in
-      let inner = in_midst passed x rest in
-      omega arith
+      omega (
+        arith,
+        out_times done x e there ∙ ap (λ q. times q done) at ∙ none,
+        joined.out a x ∙ ap (ends_at from a) there ∙ ap (λ q. same q a) at
+            ∙ one_itself a,
+        ap (times x) split,
+        times_joined x (edges_out s.out done) passed,
+        in_midst passed x rest,
+      )
 
 edges_out_more : (out : ByNode) (ks : List Key) (a : Key) → edges_out out (ks ++ a ∷ []) ≡ edges_out out ks ++ edges_at out a
 edges_out_more out [] a = append-nil (edges_at out a)
@@ -262,8 +231,8 @@ edges_out_more out (k ∷ ks) a = ap (λ l. edges_at out k ++ l) (edges_out_more
 some_unpassed : (passed js : List Key) → passed_of passed js < length js → (j : Key) × (0 < times j js) × (times j passed ≡ 0)
 some_unpassed passed [] less = absurd (omega arith)
 some_unpassed passed (j ∷ js) less = elim (eq-zero-or-pos (times j passed)) [
-  | inl none ↦ (j, (let first = times_first j j js in let one = one_itself j in omega arith), none)
-  | inr there ↦ (let later = some_unpassed passed js (omega arith) in (later.0, (let first = times_first later.0 j js in let more = later.1 in omega arith), later.2))
+  | inl none ↦ (j, omega (arith, times_first j j js, one_itself j), none)
+  | inr there ↦ (let later = some_unpassed passed js (omega arith) in (later.0, omega (arith, times_first later.0 j js, later.1), later.2))
 ]
 
 -- all edges of the nodes that were found were passed
@@ -273,15 +242,11 @@ module _ {N E : Type 0} (s : Seen N E) (counts : Pairs ℕ) (found : List Key) (
 
   -- an edge leads to a node that wasn't found, from another one
   pub left_before : IsJoined s → (y : Key) → IsLeft s counts y → (k : Key) × ComesFromLeft s counts y k
-  left_before joined y left =
-      let entry = sorting.table y left.0 in
-      let same_count : entry.0 ≡ left.1 = (let h = sym entry.1 ∙ left.2 in cc) in
+  left_before joined y left = let entry = sorting.table y left.0 in let same_count : entry.0 ≡ left.1 = (let h = sym entry.1 ∙ left.2 in cc) in
       let some = some_unpassed (edges_out s.out found) (edges_at s.into y) (omega (arith, entry.2, same_count, left.3)) in
-      let e = listed_edge to s.edges.live y (edges_at s.into y) (joined.into y) some.0 some.1 in
-      let live = (joined.ends some.0 e.0 e.1).0 in
-      let from = sorting.table e.0.from live in
-      let missing : times e.0.from found ≡ 0 = sym (out_times s joined found some.0 e.0 e.1) ∙ some.2 in
-      (some.0, (e.0, e.1, e.2, (live, from.0, from.1, none_left from.0 (times e.0.from found) from.3 missing)))
+      let e = listed_edge to s.edges.live y (edges_at s.into y) (joined.into y) some.0 some.1 in let live = (joined.ends some.0 e.0 e.1).0 in let from = sorting.table e.0.from live in
+      let missing : times e.0.from found ≡ 0 = sym (out_times s joined found some.0 e.0 e.1)
+      ∙ some.2 in (some.0, (e.0, e.1, e.2, (live, from.0, from.1, none_left from.0 (times e.0.from found) from.3 missing)))
 
   -- where none is left, each node is in the list once
   each_once : ((y : Key) → IsLive s.nodes y → get counts y ≡ Some 0) → (x : Key) → times x found ≡ (if map.contains_key s.nodes.live x then 1 else 0)
@@ -304,7 +269,7 @@ module _ {E : Type 0} (edges : Edges E) (ks : List Key) (forward : GoesForward e
       let whole : ks ≡ inner.0 ++ path.0 ∷ (inner.1 ++ y ∷ after) = split ∙ ap (λ l. l ++ y ∷ after) inner.2 ∙ append_assoc inner.0 (path.0 ∷ inner.1) (y ∷ after) in
       elim (led_before n x path.0 inner.0 (inner.1 ++ y ∷ after) whole path.1) [
         | inl is ↦ inr (rw is there)
-        | inr more ↦ inr (let sum = ap (times x) inner.2 ∙ times_joined x inner.0 (path.0 ∷ inner.1) in omega arith)
+        | inr more ↦ inr (omega (arith, ap (times x) inner.2 ∙ times_joined x inner.0 (path.0 ∷ inner.1)))
       ]
 
   -- so there is no cycle of nodes that are in it, each once
@@ -322,17 +287,14 @@ module _ {E : Type 0} (edges : Edges E) (ks : List Key) (forward : GoesForward e
       let sum = ap (times e.to) split.2 ∙ in_midst split.0 e.to split.1 in
       let part = ap (times e.to) inner.2 ∙ times_joined e.to inner.0 (e.from ∷ inner.1) in
       elim (led_before path.0 e.to e.from inner.0 (inner.1 ++ e.to ∷ split.1) whole path.1) [
-        | inl is ↦ (let back = ap (λ q. times q split.0) is in omega arith)
+        | inl is ↦ omega (arith, ap (λ q. times q split.0) is)
         | inr more ↦ omega arith
       ]
 
 -- a key that is in a list once isn't before its place
 fresh_at : (ks : List Key) (i : ℕ) (k : Key) → i < length ks → k ≡ get_or ks i k → times k ks ≤ 1 → times k (take i ks) ≡ 0
-fresh_at ks i k below is once =
-    let sum : times k (take i ks) + times k (drop i ks) ≡ times k ks = sum_by-take-drop (λ q. same q k) ks i in
-    let split = ap (times k) (behind_split ks i k below is) ∙ times_first k k (drop (i + 1) ks) in
-    let one = one_itself k in
-    omega arith
+fresh_at ks i k below is once = let sum : times k (take i ks) + times k (drop i ks) ≡ times k ks = sum_by-take-drop (λ q. same q k) ks i in
+    omega (arith, ap (times k) (behind_split ks i k below is) ∙ times_first k k (drop (i + 1) ks), one_itself k)
 
 goes_more : (b : Bool) (old found found' : List Key) (y : Key) → found' ≡ (if b then found ++ y ∷ [] else found) → GoesOn old found → GoesOn old found'
 goes_more true old found found' y is goes = (goes.0 ++ y ∷ [], is ∙ ap (λ l. l ++ y ∷ []) goes.1 ∙ append_assoc old goes.0 (y ∷ []))
@@ -349,7 +311,7 @@ module _ {N E : Type 0} (s : Seen N E) (joined : IsJoined s) (old : List Key) (a
   new = next_new s joined (take at old) yielded rest a x _ this.1 refl (fresh_at old at a within is once) (ap (λ l. yielded ++ l) (sym next) ∙ so_far)
 
   start : 0 < times a found
-  start = let first = times_there old at a within is in let sum = ap (times a) goes.1 ∙ times_joined a old goes.0 in omega (arith, first, sum)
+  start = omega (arith, times_there old at a within is, ap (times a) goes.1 ∙ times_joined a old goes.0)
 
   pub next_can_pass : (n : ℕ) × (get counts b ≡ Some n) × (0 < n)
   next_can_pass = can_pass s joined counts found _ sorting x _ this.1 new start live
@@ -368,11 +330,10 @@ module _ {N E : Type 0} (s : Seen N E) (joined : IsJoined s) (old : List Key) (a
 pub pass_end : {N E : Type 0} (s : Seen N E) (old : List Key) (at : ℕ) (a : Key) → at < length old → a ≡ get_or old at a
     → (counts : Pairs ℕ) (found yielded : List Key) → GoesOn old found → yielded ≡ edges_at s.out a
     → Sorting s counts found (edges_out s.out (take at old) ++ yielded) → Sorting s counts found (edges_out s.out (take (at + 1) found))
-pass_end s old at a within is counts found yielded goes all sorting =
-    let front : take (at + 1) found ≡ take at old ++ a ∷ [] = ap (take (at + 1)) goes.1 ∙ take-append-le (at + 1) old goes.0 (omega (arith, within)) ∙ taken old at a within is in
-    let passed : edges_out s.out (take at old) ++ yielded ≡ edges_out s.out (take (at + 1) found) =
-    ap (λ l. edges_out s.out (take at old) ++ l) all ∙ sym (edges_out_more s.out (take at old) a) ∙ ap (edges_out s.out) (sym front) in
-    subst (Sorting s counts found) passed sorting
+pass_end s old at a within is counts found yielded goes all sorting = let front : take (at + 1) found ≡ take at old ++ a ∷ [] = ap (take (at + 1)) goes.1
+    ∙ take-append-le (at + 1) old goes.0 (omega (arith, within)) ∙ taken old at a within is in
+    let passed : edges_out s.out (take at old) ++ yielded ≡ edges_out s.out (take (at + 1) found) = ap (λ l. edges_out s.out (take at old) ++ l) all ∙ sym (edges_out_more s.out (take at old) a)
+    ∙ ap (edges_out s.out) (sym front) in subst (Sorting s counts found) passed sorting
 
 -- the list has each node once, each edge goes forward in it, and there is no cycle
 pub record IsOrder {N E : Type 0} (s : Seen N E) (found : List Key) : Type 0 where
@@ -392,5 +353,5 @@ ordered s joined counts found sorting none =
     let once = each_once s counts found sorting none in
     let few = found_once s counts found (edges_out s.out found) sorting in
     let there : (k : Key) (e : SeenEdge _) → map.get s.edges.live k ≡ Some e → 0 < times e.to found =
-    λ k e found_there. (let is = once e.to ∙ ap (λ b. if b then 1 else 0) (joined.ends k e found_there).1 in omega arith) in
+    λ k e found_there. (omega (arith, once e.to ∙ ap (λ b. if b then 1 else 0) (joined.ends k e found_there).1)) in
     record { once = once; forward = sorting.forward; acyclic = no_cycle s.edges.live found sorting.forward few there }

@@ -1,29 +1,12 @@
 -- How the edges of each node are listed: at its index the indices of the edges from it, and those of the edges to it.
-use Rattle.std.specs.Prelude.{◌≡◌, ◌<◌, ◌≤◌, ℕ, true, List, length, map as list_map, unwrap_or, nat_eq, Some}
-use Rattle.std.specs.List.{find}
+use Rattle.std.specs.Prelude.{◌≡◌, ◌<◌, ℕ, length, map as list_map, Some}
 use Rattle.std.specs.FinMap as map
-use Rattle.slotmap.specs.Words.{Key, key_cmp, null_key, Content, IsLive}
-use Rattle.slotmap_links.specs.Lists.{Lists, times, list_of, IsIn, AreDisjoint}
+use Rattle.slotmap.specs.Words.{Key, key_cmp, Content, IsLive}
+use Rattle.slotmap_bounded.specs.Indices.{HaveIndices, keys_at}
+use Rattle.slotmap_links.specs.Lists.{Lists, list_of, IsIn, AreDisjoint}
 use Rattle.slotmap_graph.specs.declared.lists.Direction.{Direction}
 use Rattle.slotmap_graph.specs.declared.lists.Direction.TheVariants.{Out, Into}
 use Rattle.slotmap_graph.specs.Parts.{SeenEdge, Edges, ByNode, from, to}
-
-module _ {V : Type 0} where
-  -- the key with this index
-  abbrev pub key_at : map.FinMap key_cmp V → ℕ → Key
-  key_at live i = unwrap_or (find (λ k. nat_eq k.index i) (map.keys live)) null_key
-
-  abbrev pub keys_at : map.FinMap key_cmp V → List ℕ → List Key
-  keys_at live is = list_map (key_at live) is
-
-  -- each of these is the index of a key
-  abbrev pub AreIndices : map.FinMap key_cmp V → List ℕ → Type 0
-  AreIndices live is = (i : ℕ) → 0 < times i is → (k : Key) × (map.contains_key live k ≡ true) × (k.index ≡ i)
-
-  -- the indices of the keys are within the capacity, and each key has its own
-  pub record HaveIndices (c : Content V) : Type 0 where
-    pub within : (k : Key) → IsLive c k → (1 ≤ k.index) × (k.index ≤ c.capacity)
-    pub apart : (a b : Key) → IsLive c a → IsLive c b → a.index ≡ b.index → a ≡ b
 
 module _ {N E : Type 0} where
   -- for each node the edges that are listed at its index
@@ -45,13 +28,6 @@ module _ {N E : Type 0} where
   pub record IsGraph (nodes : Content N) (edges : Content (SeenEdge E)) (outs intos : Lists) : Type 0 where
     pub out : IsThreaded from nodes edges outs
     pub into : IsThreaded to nodes edges intos
-
--- the same lists, for no fewer owners and members
-pub record CoversMore (old new : Lists) : Type 0 where
-  pub lists : (p : ℕ) → list_of new p ≡ list_of old p
-  pub owners : length old.lists ≤ length new.lists
-  pub members : old.members ≤ new.members
-  pub disjoint : AreDisjoint new
 
 -- where an edge leads that is listed in this direction
 abbrev pub far_end : {E : Type 0} → Direction → SeenEdge E → Key

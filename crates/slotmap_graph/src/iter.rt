@@ -36,11 +36,11 @@ impl<'a, E> Model for EdgesAt<'a, E> {
 
     ghost Value = { List Key };
 
-    ghost use Rattle.slotmap_graph.specs.Threads.{AreIndices, HaveIndices, keys_at};
+    ghost use Rattle.slotmap_bounded.specs.Indices.{AreIndices, HaveIndices, keys_at};
 
     ghost view = { λ it. keys_at it.edges.now.live it.members };
 
-    ghost invariant = { λ it. HaveIndices it.edges.now × AreIndices it.edges.now.live it.members };
+    ghost invariant = { λ it. HaveIndices it.edges.now × AreIndices it.edges.now it.members };
 }
 
 impl<'a, E: Drop> Iterator for EdgesAt<'a, E> {

@@ -4,7 +4,8 @@ ghost use Rattle.std.specs.Prelude.{◌≡◌, ◌<◌, ◌≤◌, ◌++◌, ◌
 ghost use Rattle.std.specs.Borrow.{sem};
 ghost use Rattle.slotmap.specs.Words.{most};
 ghost use Rattle.slotmap_links.specs.Lists.{AreDisjoint, IsFree, IsIn, list_of, with_list, without};
-ghost use Rattle.slotmap_graph.specs.Threads.{CoversMore, far_end};
+ghost use Rattle.slotmap_graph.specs.Threads.{far_end};
+ghost use Rattle.slotmap_links.specs.Lists.{CoversMore};
 
 use crate::EdgeKey;
 use slotmap::{DefaultKey, Key};

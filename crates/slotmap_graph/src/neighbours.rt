@@ -37,11 +37,12 @@ impl<'a, K, E> Model for Neighbours<'a, K, E> {
     ghost Value = { List Key };
 
     ghost use Rattle.slotmap_graph.specs.Search.{ends_along};
-    ghost use Rattle.slotmap_graph.specs.Threads.{AreIndices, HaveIndices, far_end, keys_at};
+    ghost use Rattle.slotmap_graph.specs.Threads.{far_end};
+    ghost use Rattle.slotmap_bounded.specs.Indices.{AreIndices, HaveIndices, keys_at};
 
     ghost view = { λ it. ends_along (far_end it.direction) it.edges.now.live (keys_at it.edges.now.live it.members) };
 
-    ghost invariant = { λ it. HaveIndices it.edges.now × AreIndices it.edges.now.live it.members };
+    ghost invariant = { λ it. HaveIndices it.edges.now × AreIndices it.edges.now it.members };
 }
 
 impl<'a, K: Key, E: Drop> Iterator for Neighbours<'a, K, E> {

@@ -3,13 +3,28 @@
 ghost use Rattle.std.specs.Prelude.{◌≡◌, ◌<◌, None};
 ghost use Rattle.std.specs.Option.{option_and_then};
 ghost use Rattle.std.specs.FinMap as map;
-ghost use Rattle.slotmap.specs.Words.{Key as KeyOf};
+ghost use Rattle.slotmap.specs.Words.{Content, Key as KeyOf};
 ghost use Rattle.slotmap_keylist.specs.KeyLists.{times};
 ghost use Rattle.slotmap_links.specs.Lists.{first_or};
-ghost use Rattle.slotmap_graph.specs.Parts.{ListsEdges, edges_at, from, key_after, to};
+ghost use Rattle.slotmap_graph.specs.Parts.{ListsEdges, SeenEdge, edges_at, from, key_after, to};
+ghost use Rattle.slotmap_graph.specs.Threads.{IsThreaded, by_node};
 
+use crate::lists::Edges;
 use crate::{EdgeKey, Graph};
 use slotmap::Key;
+use slotmap_links::Links;
+
+// The edge after this one in its list, of those that begin at a node or of those that end there.
+fn next_of<N, E: Drop>(edges: &Edges<E>, links: &Links, edge: EdgeKey) -> Option<EdgeKey>
+    requires { (end : SeenEdge E → KeyOf) × (nodes : Content N) × IsThreaded end nodes edges.now links.now }
+    ensures { (end : SeenEdge E → KeyOf) (nodes : Content N) → IsThreaded end nodes edges.now links.now → result ≡ option_and_then (λ e. key_after edge (edges_at (by_node nodes.live edges.now.live links.now) (end e))) (map.get edges.now.live edge) }
+{
+    if !edges.contains_key(edge) {
+        return None;
+    }
+    let next = links.next(edge.data().idx())?;
+    Some(edges.live_key(next))
+}
 
 impl<K: Key, N: Drop, E: Drop> Graph<K, N, E> {
     /// Returns the first of a node's outgoing edges, or `None` if it has none.
@@ -71,11 +86,7 @@ impl<K: Key, N: Drop, E: Drop> Graph<K, N, E> {
         ensures value { result ≡ option_and_then (λ e. key_after edge (edges_at self.now.out (from e))) (map.get self.now.edges.live edge) }
         ensures along { (node : KeyOf) → 0 < times edge (edges_at self.now.out node) → result ≡ key_after edge (edges_at self.now.out node) }
     {
-        if !self.edges.contains_key(edge) {
-            return None;
-        }
-        let next = self.out.next(edge.data().idx())?;
-        Some(self.edges.live_key(next))
+        next_of::<N, E>(&self.edges, &self.out, edge)
     }
 
     /// Returns the edge after this one among the incoming edges of the node where it ends. It returns
@@ -96,10 +107,6 @@ impl<K: Key, N: Drop, E: Drop> Graph<K, N, E> {
         ensures value { result ≡ option_and_then (λ e. key_after edge (edges_at self.now.into (to e))) (map.get self.now.edges.live edge) }
         ensures along { (node : KeyOf) → 0 < times edge (edges_at self.now.into node) → result ≡ key_after edge (edges_at self.now.into node) }
     {
-        if !self.edges.contains_key(edge) {
-            return None;
-        }
-        let next = self.into.next(edge.data().idx())?;
-        Some(self.edges.live_key(next))
+        next_of::<N, E>(&self.edges, &self.into, edge)
     }
 }

@@ -92,11 +92,11 @@ impl<'a, K, E> Model for EdgeReferencesAt<'a, K, E> {
     ghost Value = { List (Key × SeenEdge E) };
 
     ghost use Rattle.slotmap_graph.specs.Search.{entries_along};
-    ghost use Rattle.slotmap_graph.specs.Threads.{AreIndices, HaveIndices, keys_at};
+    ghost use Rattle.slotmap_bounded.specs.Indices.{AreIndices, HaveIndices, keys_at};
 
     ghost view = { λ it. entries_along it.edges.now.live (keys_at it.edges.now.live it.members) };
 
-    ghost invariant = { λ it. HaveIndices it.edges.now × AreIndices it.edges.now.live it.members };
+    ghost invariant = { λ it. HaveIndices it.edges.now × AreIndices it.edges.now it.members };
 }
 
 impl<'a, K: Key, E: Drop> Iterator for EdgeReferencesAt<'a, K, E> {

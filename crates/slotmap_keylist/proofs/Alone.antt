@@ -1,12 +1,13 @@
 -- A content without its values, which is one with the same value for each: what each change of a map does to it.
 use Rattle.std.proofs.Common.{◌≡◌, ℕ, true, Option, Some, None, is_some, refl, sym, ap, ◌∙◌, arith}
-use Rattle.std.specs.Option.{option_map}
 use Rattle.std.specs.FinMap as map
-use Rattle.slotmap.specs.Words.{Key, key_cmp, Content, IsContent, IsLive, IsSpent, KeepsSpent, IsNew, Inserts, Removes, Keeps, Leaves, MakesRoom, IsCopy, IsCloneBy, without_values, with_value, used}
+use Rattle.slotmap.specs.Words.{Key, key_cmp, Content, IsContent, IsLive, IsSpent, KeepsSpent, IsNew, Inserts, Removes, Keeps, Leaves, MakesRoom}
+use Rattle.slotmap.specs.Words.{IsCopy, IsCloneBy, without_values, with_value, used}
 use Rattle.slotmap.specs.KeysAlone.{keys_of}
 use Rattle.slotmap.proofs.Callers.{clone_copies, contains-keys_of, len-keys_of, spent_alone, alone_spent, keeps_spent_alone, spent_finds_nothing, inserted_not_spent}
 use Rattle.slotmap_keylist.specs.Mapped.{map_values}
-use Rattle.slotmap_keylist.proofs.Mapped.{mapped-new, mapped-inserts, mapped-removes, mapped-keeps, mapped-leaves, mapped-room, mapped-clones, mapped-written, get-mapped, len-mapped, some-mapped, is_mapped}
+use Rattle.slotmap_keylist.proofs.Mapped.{mapped-new, mapped-inserts, mapped-removes, mapped-keeps, mapped-leaves, mapped-room, mapped-clones, mapped-written}
+use Rattle.slotmap_keylist.proofs.Mapped.{get-mapped, len-mapped, some-mapped, is_mapped}
 
 same_units : (a b : Option (Unit {0})) → is_some a ≡ is_some b → a ≡ b
 same_units None None is = refl
@@ -20,8 +21,8 @@ module _ {V : Type 0} where
 
   -- maps with the same keys have as many
   pub len_alike : (a b : map.FinMap key_cmp V) → ((q : Key) → map.contains_key a q ≡ map.contains_key b q) → map.len a ≡ map.len b
-  len_alike a b same = sym (len-mapped none a) ∙ ap map.len (is_mapped none a (map_values none b) (λ q.
-      get-mapped none b q ∙ same_units (option_map none (map.get b q)) (option_map none (map.get a q)) (some-mapped none (map.get b q) ∙ sym (same q) ∙ sym (some-mapped none (map.get a q))))) ∙ len-mapped none b
+  len_alike a b same = sym (len-mapped none a) ∙ ap map.len (is_mapped none a (map_values none b) (λ q. get-mapped none b q
+      ∙ same_units _ _ (some-mapped none (map.get b q) ∙ sym (same q) ∙ sym (some-mapped none (map.get a q))))) ∙ len-mapped none b
 
   -- a value that is written under a live key changes no key
   pub alone-written : (c : Content V) (k : Key) (v : V) → IsLive c k → without_values (with_value c k v) ≡ without_values c
@@ -33,7 +34,7 @@ module _ {V : Type 0} where
 
   -- as many slots are in use, and there is as much room
   pub used_alone : (c : Content V) → used (without_values c) ≡ used c
-  used_alone c = let same = len-keys_of c.live in omega arith
+  used_alone c = omega (arith, len-keys_of c.live)
 
   -- a content that holds nothing, an insert, a removal, and a call that only makes room
   pub alone-new : (c : Content V) → IsNew c → IsNew (without_values c)

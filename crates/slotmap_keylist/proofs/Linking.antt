@@ -1,5 +1,5 @@
 -- The last key of a list, and the parts that a key cuts a list in.
-use Rattle.std.proofs.Common.{◌≡◌, ◌+◌, ◌<◌, Option, Some, None, List, [], ◌∷◌, ◌++◌, refl, ap, ◌∙◌, inl, inr, arith}
+use Rattle.std.proofs.Common.{◌≡◌, ◌+◌, ◌<◌, Some, None, List, [], ◌∷◌, ◌++◌, refl, ap, inl, inr, arith}
 use Rattle.std.proofs.lemmas.Option.{same_Some}
 use Rattle.slotmap.specs.Words.{Key}
 use Rattle.slotmap.proofs.Callers.{same_or_other}
@@ -8,8 +8,8 @@ use Rattle.slotmap_keylist.proofs.Counts.{one_itself, one_other, times_first, ti
 
 -- the last key is in the list, and where there is none, nothing is
 last_of : (k : Key) (ks : List Key) (l : Key) → last_or ks (Some k) ≡ Some l → 0 < times l (k ∷ ks)
-last_of k [] l is = let e = same_Some k l is in let first = times_first l k [] in let one = ap (λ q. same q l) e ∙ one_itself l in omega arith
-last_of k (q ∷ ks) l is = let rest = last_of q ks l is in let first = times_first l k (q ∷ ks) in omega arith
+last_of k [] l is = omega (arith, times_first l k [], one_itself l, ap (λ q. same q l) (same_Some k l is))
+last_of k (q ∷ ks) l is = omega (arith, last_of q ks l is, times_first l k (q ∷ ks))
 
 pub last_in : (ks : List Key) (l : Key) → last_or ks None ≡ Some l → 0 < times l ks
 last_in [] l is = absurd (cc)
@@ -25,17 +25,12 @@ none_last (k ∷ ks) is = by k ks is
 
 -- a key in the midst of a list is in it
 pub in_midst : (before : List Key) (k : Key) (after : List Key) → times k (before ++ k ∷ after) ≡ 1 + (times k before + times k after)
-in_midst before k after = let sum = times_joined k before (k ∷ after) in let first = times_first k k after in let one = one_itself k in omega arith
+in_midst before k after = omega (arith, times_joined k before (k ∷ after), times_first k k after, one_itself k)
 
 -- a key that is in a list stands between two parts of it
 pub split_at : (k : Key) (ks : List Key) → 0 < times k ks → (before : List Key) × (after : List Key) × (ks ≡ before ++ k ∷ after)
 split_at k [] more = absurd (omega arith)
 split_at k (q ∷ ks) more = elim (same_or_other q k) [
   | inl here ↦ ([], ks, ap (λ x. x ∷ ks) here)
-  | inr other ↦ (
-      let first = times_first k q ks in
-      let none = one_other q k other in
-      let later = split_at k ks (omega arith) in
-      (q ∷ later.0, later.1, ap (λ l. q ∷ l) later.2)
-      )
+  | inr other ↦ (let later = split_at k ks (omega (arith, times_first k q ks, one_other q k other)) in (q ∷ later.0, later.1, ap (λ l. q ∷ l) later.2))
 ]

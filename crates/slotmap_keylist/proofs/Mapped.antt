@@ -1,9 +1,9 @@
 -- A map, or a content, with another value for each of its values: what each change of a map does to it.
-use Rattle.std.proofs.Common.{◌≡◌, ◌&&◌, ◌||◌, ◌⊎◌, ℕ, T, Bool, true, false, cond, is_lt, Option, Some, None, is_some, List, [], ◌∷◌, length, map as list_map, refl, sym, ap, ◌∙◌, subst, inl, inr, arith}
+use Rattle.std.proofs.Common.{◌≡◌, ◌&&◌, ℕ, T, Bool, true, false, cond, is_lt, Option, Some, None, is_some, List, [], ◌∷◌, length}
+use Rattle.std.proofs.Common.{map as list_map, refl, sym, ap, ◌∙◌, subst, inl, inr, arith}
 use Rattle.std.specs.Option.{option_map}
 use Rattle.std.specs.Ordering.{eq_by_cmp}
 use Rattle.std.specs.FinMap as map
-use Rattle.std.specs.FinSet as set
 use Rattle.std.specs.FinMap.Entries.{find, below_all, is_sorted}
 use Rattle.std.proofs.lemmas.List.{length-map}
 use Rattle.slotmap.specs.Words.{Key, key_cmp, Content, IsContent, IsLive, IsNew, Inserts, Removes, Keeps, Leaves, MakesRoom, StaysValid, IsCloneOf, IsCloneBy, with_value, LacksRoom, used, places}
@@ -76,16 +76,16 @@ module _ {V W : Type 0} (f : V → W) where
 
   module _ (c : Content V) where
     pub used-mapped : used (map_content f c) ≡ used c
-    used-mapped = let same = len-mapped c.live in omega arith
+    used-mapped = omega (arith, len-mapped c.live)
 
     same_places : places (map_content f c) ≡ places c
-    same_places = let same = len-mapped c.live in omega arith
+    same_places = omega (arith, len-mapped c.live)
 
     pub live-mapped : (k : Key) → IsLive c k → IsLive (map_content f c) k
     live-mapped k live = contains-mapped c.live k ∙ live
 
     pub mapped-lacks : LacksRoom c → LacksRoom (map_content f c)
-    mapped-lacks lacks = record { below_limit = (let same = used-mapped in let below = lacks.below_limit in omega arith); no_room = lacks.no_room }
+    mapped-lacks lacks = record { below_limit = omega (arith, used-mapped, lacks.below_limit); no_room = lacks.no_room }
 
     pub mapped-new : IsNew c → IsNew (map_content f c)
     mapped-new new = record { live = ap (map_values f) new.live ∙ mapped-empty; detached = new.detached; retired = new.retired; next = new.next }
@@ -122,8 +122,8 @@ module _ {V W : Type 0} (f : V → W) where
 
     -- a write that changes nothing of what f sees
     pub mapped-written : (k : Key) (v was : V) → map.get old.live k ≡ Some was → f v ≡ f was → new ≡ with_value old k v → map_content f new ≡ map_content f old
-    mapped-written k v was there same is = ap (map_content f) is ∙ ap (λ (m : map.FinMap key_cmp W). record (map_content f old) { live = m }) (is_mapped (map.insert old.live k v) (map_values f old.live) (λ q.
-        elim (same_or_other q k) [
+    mapped-written k v was there same is = ap (map_content f) is ∙ ap (λ (m : map.FinMap key_cmp W). record (map_content f old) { live = m })
+        (is_mapped (map.insert old.live k v) (map_values f old.live) (λ q. elim (same_or_other q k) [
           | inl at ↦ rw at (get-mapped old.live k ∙ ap (option_map f) there ∙ ap Some (sym same) ∙ sym (ap (option_map f) (get-insert_here old.live k v)))
           | inr other ↦ get-mapped old.live q ∙ sym (ap (option_map f) (get-insert_other old.live k v q other))
         ]))

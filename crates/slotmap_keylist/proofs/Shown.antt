@@ -1,5 +1,5 @@
 -- What is known of a content, and of how a call changes it, where it has other live values under the same keys.
-use Rattle.std.proofs.Common.{◌≡◌, ℕ, ◌&&◌, ◌||◌, ◌+◌, ◌≤◌, ◌⊎◌, Bool, not, sym, ap, ◌∙◌, inl, inr, arith}
+use Rattle.std.proofs.Common.{◌≡◌, ℕ, ◌&&◌, ◌||◌, ◌⊎◌, Bool, not, sym, ap, ◌∙◌, inl, inr, arith}
 use Rattle.std.specs.FinMap as map
 use Rattle.std.specs.FinSet as set
 use Rattle.slotmap.specs.Words.{Key, key_cmp, Content, IsContent, IsSpent, KeepsSpent, Stands, IsRetired, Inserts, Removes, Keeps, Leaves, MakesRoom, is_last}
@@ -15,14 +15,14 @@ module _ {V W : Type 0} (c : Content V) (m : map.FinMap key_cmp W) (same : (q : 
 
   pub shown_spent : (k : Key) → IsSpent c k → IsSpent (with_live c m) k
   shown_spent k spent = record {
-    within = (let within = spent.within in omega arith);
+    within = omega (arith, spent.within);
     vacant = spent.vacant;
     stands = λ u there at. spent.stands u (elim there [ inl live ↦ inl (sym (same u) ∙ live) | inr detached ↦ inr detached ]) at;
   }
 
   pub spent_shown : (k : Key) → IsSpent (with_live c m) k → IsSpent c k
   spent_shown k spent = record {
-    within = (let within = spent.within in omega arith);
+    within = omega (arith, spent.within);
     vacant = spent.vacant;
     stands = λ u there at. spent.stands u (elim there [ inl live ↦ inl (same u ∙ live) | inr detached ↦ inr detached ]) at;
   }
@@ -39,12 +39,12 @@ module _ {V W : Type 0} (c : Content V) (m : map.FinMap key_cmp W) (same : (q : 
     not_live_and_detached = λ k live. well.not_live_and_detached k (sym (same k) ∙ live);
     not_standing_and_retired = λ k stands. well.not_standing_and_retired k (elim stands [ inl live ↦ inl (sym (same k) ∙ live) | inr detached ↦ inr detached ]);
     not_used_and_vacant = λ k uses. well.not_used_and_vacant k (shown_uses k uses);
-    limit = (let limit = well.limit in omega arith);
-    offers = λ below. elim (well.offers (omega arith)) [ inl freed ↦ inl freed | inr made ↦ inr (made.0, (let at = made.1 in omega arith), made.2) ];
+    limit = omega (arith, well.limit);
+    offers = λ below. elim (well.offers (omega arith)) [ inl freed ↦ inl freed | inr made ↦ inr (made.0, omega (arith, made.1), made.2) ];
     stacked = λ stack is. (let stacked = well.stacked stack is in record { lists = stacked.lists; once = stacked.once; top = λ below. stacked.top (omega arith) });
-    room_fits = (let fits = well.room_fits in omega arith);
+    room_fits = omega (arith, well.room_fits);
     reused = well.reused;
-    capacity_fits = (let fits = well.capacity_fits in omega arith);
+    capacity_fits = omega (arith, well.capacity_fits);
   }
 
 -- before a call, and after it
@@ -57,26 +57,23 @@ module _ {V W : Type 0} (old new : Content V) (was now : map.FinMap key_cmp W)
   shown_left : (k : Key) → (map.contains_key old.live k && not (map.contains_key new.live k)) ≡ (map.contains_key was k && not (map.contains_key now k))
   shown_left k = ap (λ b. b && not (map.contains_key new.live k)) (sym (same_was k)) ∙ ap (λ b. map.contains_key was k && not b) (sym (same_now k))
 
-  retired_alike : (k : Key) → (set.contains old.retired k || (map.contains_key old.live k && not (map.contains_key new.live k)) && is_last k) ≡ (set.contains old.retired k || (map.contains_key was k && not (map.contains_key now k)) && is_last k)
-  retired_alike k = ap (λ b. set.contains old.retired k || b && is_last k) (shown_left k)
-
   pub shown_leaves : Leaves old new → Leaves (with_live old was) (with_live new now)
   shown_leaves leaves = record {
     no_more = λ k live. same_was k ∙ leaves.no_more k (sym (same_now k) ∙ live);
     detached = leaves.detached;
-    retired = λ k. leaves.retired k ∙ retired_alike k;
+    retired = λ k. leaves.retired k ∙ ap (λ b. set.contains old.retired k || b && is_last k) (shown_left k);
     next = λ i v. (let step = leaves.next i v in (
       λ found. elim (step.0 found) [ inl before ↦ inl before | inr left ↦ inr (left.0, sym (shown_left left.0) ∙ left.1, left.2, left.3, left.4) ],
       λ either. step.1 (elim either [ inl before ↦ inl before | inr left ↦ inr (left.0, shown_left left.0 ∙ left.1, left.2, left.3, left.4) ]),
     ));
-    same_places = (let same = leaves.same_places in omega arith);
+    same_places = omega (arith, leaves.same_places);
     room = leaves.room;
   }
 
   pub shown_inserts : (k : Key) (v : V) (w : W) → now ≡ map.insert was k w → Inserts old k v new → Inserts (with_live old was) k w (with_live new now)
   shown_inserts k v w live inserts = record {
     offered = inserts.offered;
-    below_limit = (let below = inserts.below_limit in omega arith);
+    below_limit = omega (arith, inserts.below_limit);
     live = live;
     detached = inserts.detached;
     retired = inserts.retired;
@@ -110,9 +107,9 @@ module _ {V W : Type 0} (old new : Content V) (was now : map.FinMap key_cmp W)
   shown_makes_room live reuses n ok makes = record {
     before = shown_content old was same_was len_was reuses makes.before;
     after = shown_content new now same_now len_now reuses makes.after;
-    fits = λ done. (let fits = makes.fits done in omega arith);
+    fits = λ done. omega (arith, makes.fits done);
     room = makes.room;
-    live_and_more = λ done. (let fits = makes.live_and_more done in omega arith);
+    live_and_more = λ done. omega (arith, makes.live_and_more done);
     succeeds = makes.succeeds;
     had_room = λ more. (λ i. with_live (makes.had_room more i) (live i));
     keeps = shown_keeps live makes.keeps;

@@ -33,7 +33,7 @@ module _ (ends : List Ends) (links : List Link) (kept : AreKept ends links) (s :
         before = st.before;
         ahead = k ∷ st.after;
         links_are = λ b x a at. kept.linked.links_are p b x a (is ∙ at);
-        few = (let f = list_fits ends links kept p in let e = ap length is in let a = length-append st.before (k ∷ st.after) in omega arith);
+        few = omega (arith, list_fits ends links kept p, ap length is, length-append st.before (k ∷ st.after));
         first_is = somebody_is ends links kept s seen p k inside;
       }
 
@@ -45,8 +45,6 @@ module _ (ends : List Ends) (links : List Link) (kept : AreKept ends links) (s :
 
   pub tail_below : (k : ℕ) → IsIn s p k → AreBelow (length links) (follow (link_at links) (length links) (unless_nobody k))
   unfolding tail_begins
-  tail_below k inside x more =
-      let st = member_stands ends links kept s seen p k inside in
-      let is : listed ends links p ≡ st.before ++ k ∷ st.after = list_here ends links s seen p ∙ st.is in
+  tail_below k inside x more = let st = member_stands ends links kept s seen p k inside in let is : listed ends links p ≡ st.before ++ k ∷ st.after = list_here ends links s seen p ∙ st.is in
       let rest = ap (times x) (tail_is (link_at links) (length links) (unless_nobody k) (tail_begins k inside)) in
-      kept.within p x (let whole = ap (times x) is ∙ times_joined x st.before (k ∷ st.after) in omega arith)
+      kept.within p x (omega (arith, ap (times x) is ∙ times_joined x st.before (k ∷ st.after)))

@@ -47,7 +47,7 @@ free_kept s p ks k free none = record {
   where
     in_new : (p < length s.lists) ⊎ (length s.lists ≤ p) → times k (list_of (with_list s p ks) p) ≡ 0
     in_new (inl there) = ap (times k) (list_now s p ks there) ∙ none
-    in_new (inr past) = ap (times k) (get_or-eq_default (set s.lists p ks) [] {n = p} (let n = length-set s.lists p ks in omega arith))
+    in_new (inr past) = ap (times k) (get_or-eq_default (set s.lists p ks) [] {n = p} (omega (arith, length-set s.lists p ks)))
 
 -- with one owner, what isn't in its list is free
 pub free_alone : (ks : List ℕ) (n k : ℕ) → k < n → times k ks ≡ 0 → IsFree (record { lists = ks ∷ []; members = n }) k

@@ -1,12 +1,13 @@
 -- What callers cite: what is in each list once a member was put behind the others, or was taken out.
-use Rattle.std.proofs.Common.{◌≡◌, ◌≢◌, ℕ, ◌+◌, ◌<◌, ◌≤◌, ◌⊎◌, List, [], ◌∷◌, ◌++◌, length, replicate, refl, sym, ap, ◌∙◌, inl, inr, arith, zero, suc}
+use Rattle.std.proofs.Common.{◌≡◌, ℕ, ◌+◌, ◌-◌, ◌<◌, ◌≤◌, ◌⊎◌, List, [], ◌∷◌, ◌++◌, length, length-append, replicate, max, zero, suc}
+use Rattle.std.proofs.Common.{refl, sym, ap, subst, ◌∙◌, inl, inr, arith, Result, Ok, Err, OnOk, OnErr}
 use Rattle.std.proofs.Math.Nat.{eq-zero-or-pos}
-use Rattle.slotmap_links.specs.Lists.{Lists, times, list_of, with_list, IsIn, AreDisjoint, without}
-use Rattle.slotmap_links.proofs.Counts.{same, same_or_other, one_itself, one_other, times_first, times_joined, times_gone, times_without, without_none}
-use Rattle.slotmap_links.proofs.Callers.{list_now, list_other}
+use Rattle.slotmap_links.specs.Lists.{Lists, times, list_of, with_list, with_owners, with_members, IsIn, AreDisjoint, CoversMore, without}
+use Rattle.slotmap_links.proofs.Counts.{same, same_or_other, one_itself, one_other, times_first, times_joined, without_none}
+use Rattle.slotmap_links.proofs.Callers.{list_covered, list_now, list_other}
 
 pub times_pushed : (x : ℕ) (ks : List ℕ) (k : ℕ) → times x (ks ++ k ∷ []) ≡ times x ks + same k x
-times_pushed x ks k = let joined = times_joined x ks (k ∷ []) in let first = times_first x k [] in omega arith
+times_pushed x ks k = omega (arith, times_joined x ks (k ∷ []), times_first x k [])
 
 -- k is put behind the others in the list of p
 module _ (s : Lists) (p k : ℕ) (there : p < length s.lists) where
@@ -14,7 +15,7 @@ module _ (s : Lists) (p k : ℕ) (there : p < length s.lists) where
   pushed = with_list s p (list_of s p ++ k ∷ [])
 
   pub pushed_here : IsIn pushed p k
-  pushed_here = let sum = ap (times k) (list_now s p (list_of s p ++ k ∷ []) there) ∙ times_pushed k (list_of s p) k in let one = one_itself k in omega arith
+  pushed_here = omega (arith, ap (times k) (list_now s p (list_of s p ++ k ∷ []) there) ∙ times_pushed k (list_of s p) k, one_itself k)
 
   pub pushed_still : (q x : ℕ) → IsIn s q x → IsIn pushed q x
   pushed_still q x inside = elim (same_or_other q p) [
@@ -47,16 +48,30 @@ module _ (s : Lists) (disjoint : AreDisjoint s) (p k : ℕ) (there : p < length 
 -- the same lists, where no fewer numbers may be members
 pub disjoint_still : (s t : Lists) → AreDisjoint s → ((p : ℕ) → list_of t p ≡ list_of s p) → s.members ≤ t.members → AreDisjoint t
 disjoint_still s t disjoint same more = record {
-  once = λ p k. (let o = disjoint.once p k in let e = ap (times k) (same p) in omega arith);
+  once = λ p k. omega (arith, disjoint.once p k, ap (times k) (same p));
   alone = λ p q k at_p at_q. disjoint.alone p q k (was p k at_p) (was q k at_q);
-  within = λ p k inside. (let w = disjoint.within p k (was p k inside) in omega arith);
+  within = λ p k inside. omega (arith, disjoint.within p k (was p k inside));
 }
   where
     was : (p k : ℕ) → IsIn t p k → IsIn s p k
-    was p k inside = let e = ap (times k) (same p) in omega arith
+    was p k inside = omega (arith, ap (times k) (same p))
 
 -- all lists are empty
 pub list_cleared : (n members q : ℕ) → list_of (record { lists = replicate n []; members = members }) q ≡ []
 list_cleared zero members q = refl
 list_cleared (suc n) members zero = refl
 list_cleared (suc n) members (suc q) = list_cleared n members q
+
+-- owners and members came, or owners alone
+covers_by : (s : Lists) → AreDisjoint s → (n m : ℕ) (new : Lists) → s.members ≤ m → new ≡ record (with_owners s n) { members = m } → CoversMore s new
+covers_by s disjoint n m new more is = subst (CoversMore s) (sym is) (record {
+  lists = list_covered s n;
+  owners = omega (arith, length-append s.lists (replicate {A = List ℕ} (n - length s.lists) []));
+  members = more;
+  disjoint = disjoint_still s (record (with_owners s n) { members = m }) disjoint (list_covered s n) more;
+})
+
+pub covered : (s : Lists) → AreDisjoint s → (n m : ℕ) (mid new : Lists) {A B : Type 0} (r : Result A B) → mid ≡ with_owners s n
+    → OnOk r (new ≡ with_members mid m) → OnErr r (new ≡ mid) → CoversMore s new
+covered s disjoint n m mid new (Ok a) is ok err = covers_by s disjoint n (max s.members m) new (omega arith) (ok ∙ ap (λ l. with_members l m) is)
+covered s disjoint n m mid new (Err b) is ok err = covers_by s disjoint n s.members new (omega arith) (err ∙ is)

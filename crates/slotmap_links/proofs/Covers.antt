@@ -19,7 +19,7 @@ below_or_past a b = search arith
 read_default : {X : Type 0} (n q : ℕ) (d : X) → get_or (replicate n d) q d ≡ d
 read_default n q d = elim (below_or_past q n) [
   | inl below ↦ get_or-replicate n q d d below
-  | inr past ↦ get_or-eq_default (replicate n d) d {n = q} (let l = length-replicate n d in omega arith)
+  | inr past ↦ get_or-eq_default (replicate n d) d {n = q} (omega (arith, length-replicate n d))
 ]
 
 pub read_padded : {X : Type 0} (xs : List X) (n q : ℕ) (d : X) → get_or (xs ++ replicate n d) q d ≡ get_or xs q d
@@ -41,10 +41,10 @@ module _ (ends ends' : List Ends) (links links' : List Link) (same_ends : (q : �
   kept_along kept more few = record {
     linked = linked_along same_ends same_links kept.linked;
     apart = record {
-      once = λ p k. (let e = ap (times k) (list_stays p) in let o = kept.apart.once p k in omega arith);
-      alone = λ p q k in_p in_q. kept.apart.alone p q k (let e = ap (times k) (list_stays p) in omega arith) (let e = ap (times k) (list_stays q) in omega arith);
+      once = λ p k. omega (arith, ap (times k) (list_stays p), kept.apart.once p k);
+      alone = λ p q k in_p in_q. kept.apart.alone p q k (omega (arith, ap (times k) (list_stays p))) (omega (arith, ap (times k) (list_stays q)));
     };
-    within = λ p k inside. (let w = kept.within p k (let e = ap (times k) (list_stays p) in omega arith) in omega arith);
+    within = λ p k inside. omega (arith, kept.within p k (omega (arith, ap (times k) (list_stays p))));
     few = few;
   }
 
@@ -68,11 +68,10 @@ module _ (ends : List Ends) (links : List Link) (kept : AreKept ends links) (n :
     more_links = links ++ replicate (n - length links) no_link
 
     long : length more_links ≡ max (length links) n
-    long = let a = length-append links (replicate (n - length links) no_link) in let b = length-replicate (n - length links) no_link in omega arith
+    long = omega (arith, length-append links (replicate (n - length links) no_link), length-replicate (n - length links) no_link)
 
     kept_members : AreKept ends more_links
-    kept_members = kept_along ends ends links more_links (λ q. refl) (λ q. ap neighbours (read_padded links (n - length links) q no_link)) kept
-        (let l = long in omega arith) (let l = long in let f = kept.few in omega arith)
+    kept_members = kept_along ends ends links more_links (λ q. refl) (λ q. ap neighbours (read_padded links (n - length links) q no_link)) kept (omega (arith, long)) (omega (arith, long, kept.few))
 
     seen_members_more : lists_by ends more_links ≡ with_members (lists_by ends links) n
     seen_members_more = λ i. record {

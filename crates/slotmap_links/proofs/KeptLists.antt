@@ -20,9 +20,9 @@ module _ (ends : List Ends) (links : List Link) where
 
   pub kept_disjoint : AreKept ends links → AreDisjoint (lists_by ends links)
   kept_disjoint kept = record {
-    once = λ p k. (let h = kept.apart.once p k in let e = ap (times k) (seen_list p) in omega arith);
-    alone = λ p q k in_p in_q. kept.apart.alone p q k (let e = ap (times k) (seen_list p) in omega arith) (let e = ap (times k) (seen_list q) in omega arith);
-    within = λ p k more. kept.within p k (let e = ap (times k) (seen_list p) in omega arith);
+    once = λ p k. omega (arith, kept.apart.once p k, ap (times k) (seen_list p));
+    alone = λ p q k in_p in_q. kept.apart.alone p q k (omega (arith, ap (times k) (seen_list p))) (omega (arith, ap (times k) (seen_list q)));
+    within = λ p k more. kept.within p k (omega (arith, ap (times k) (seen_list p)));
   }
 
   -- a list is no longer than there are members
@@ -43,8 +43,8 @@ module _ (ends : List Ends) (links : List Link) (few : length links ≤ nobody) 
       ends_are = λ p. (ap bounds (all p) ∙ ap ends_of (sym (none p)));
       links_are = λ p before k after at. absurd (nothing p before k after at);
     };
-    apart = record { once = λ p k. (let e = ap (times k) (none p) in omega arith); alone = λ p q k more _. absurd (let e = ap (times k) (none p) in omega arith) };
-    within = λ p k more. absurd (let e = ap (times k) (none p) in omega arith);
+    apart = record { once = λ p k. omega (arith, ap (times k) (none p)); alone = λ p q k more _. absurd (omega (arith, ap (times k) (none p))) };
+    within = λ p k more. absurd (omega (arith, ap (times k) (none p)));
     few = few;
   }
 
@@ -65,7 +65,7 @@ module _ (ends : List Ends) (links : List Link) (p : ℕ) (ks : List ℕ) (ends'
 
   at_each : (q : ℕ) → get_or now q [] ≡ get_or (set was p ks) q []
   at_each q = elim (same_or_other q p) [
-    | inl is ↦ rw is (seen_list ends' links' p ∙ relists.list ∙ sym (get_or-set_same was p ks [] (let n = seen_owners ends links in omega arith)))
+    | inl is ↦ rw is (seen_list ends' links' p ∙ relists.list ∙ sym (get_or-set_same was p ks [] (omega (arith, seen_owners ends links))))
     | inr other ↦ seen_list ends' links' q ∙ relists.others q other ∙ sym (seen_list ends links q) ∙ sym (get_or-set_other was p q ks [] other)
   ]
 

@@ -1,10 +1,11 @@
 -- Lists that are kept as links: a walk along them, and what a number that is put in or taken out does to them. For the structures.
 use Rattle.std.proofs.Common.{ℕ, nat_eq, ◌≡◌, ◌≢◌, ◌⊎◌, ◌+◌, ◌<◌, ◌≤◌, Option, Some, None, List, [], ◌∷◌, ◌++◌, length, cond}
-use Rattle.std.proofs.Common.{not, refl, sym, ap, ◌∙◌, inl, inr, arith, append_assoc, append-nil}
+use Rattle.std.proofs.Common.{true, false, not, refl, sym, ap, ◌∙◌, inl, inr, arith, append_assoc, append-nil}
 use Rattle.std.proofs.Math.Nat.{eq-zero-or-pos}
+use Rattle.std.proofs.lemmas.Bool.Decides.{nat_tests}
 use Rattle.std.proofs.lemmas.List.Elements.{filter-append}
 use Rattle.std.proofs.lemmas.Option.{same_Some}
-use Rattle.slotmap_links.specs.Lists.{times, first_or, last_or, without}
+use Rattle.slotmap_links.specs.Lists.{times, first_or, last_or, number_after, number_before, without}
 use Rattle.slotmap_links.specs.Linked.{Bounds, Neighbours, ends_of, link_between, follow, followed, AreLinked, AreApart, Relinks, IsListed}
 use Rattle.slotmap_links.proofs.Counts.{same, same_or_other, is_itself, one_itself, one_other, times_first, times_joined, without_none}
 
@@ -19,23 +20,27 @@ last_or-append (x ∷ xs) ys o = last_or-append xs ys (Some x)
 -- the first number of a list is in it, and the last one too
 pub first_in : (ks : List ℕ) (f : ℕ) → first_or ks None ≡ Some f → 0 < times f ks
 first_in [] f is = absurd (cc)
-first_in (k ∷ ks) f is = let here = same_Some k f is in let first = times_first f k ks in let one = ap (λ q. same q f) here ∙ one_itself f in omega arith
+first_in (k ∷ ks) f is = grind (arith, nat_tests, times_first f k ks)
 
 last_of : (k : ℕ) (ks : List ℕ) (l : ℕ) → last_or ks (Some k) ≡ Some l → 0 < times l (k ∷ ks)
-last_of k [] l is = let e = same_Some k l is in let first = times_first l k [] in let one = ap (λ q. same q l) e ∙ one_itself l in omega arith
-last_of k (q ∷ ks) l is = let rest = last_of q ks l is in let first = times_first l k (q ∷ ks) in omega arith
+last_of k [] l is = grind (arith, nat_tests, times_first l k [])
+last_of k (q ∷ ks) l is = omega (arith, last_of q ks l is, times_first l k (q ∷ ks))
 
 pub last_in : (ks : List ℕ) (l : ℕ) → last_or ks None ≡ Some l → 0 < times l ks
 last_in [] l is = absurd (cc)
 last_in (k ∷ ks) l is = last_of k ks l is
 
-pub none_last : (ks : List ℕ) → last_or ks None ≡ None → ks ≡ []
-none_last [] is = refl
-none_last (k ∷ ks) is = by k ks is
-  where
-    by : {P : Type 0} (k : ℕ) (ks : List ℕ) → last_or ks (Some k) ≡ None → P
-    by k [] is = absurd (cc)
-    by k (q ∷ ks) is = by q ks is
+-- the number beside another one is in the list
+pub after_inside : (k i : ℕ) (ks : List ℕ) → number_after k ks ≡ Some i → 0 < times i ks
+after_inside k i [] is = absurd (cc)
+after_inside k i (q ∷ ks) is = grind (arith, nat_tests, times_first i q ks, first_in ks i, after_inside k i ks)
+
+before_within : (other : Option ℕ) (k i : ℕ) (ks : List ℕ) → number_before other k ks ≡ Some i → (other ≡ Some i → ⊥) → 0 < times i ks
+before_within other k i [] is apart = absurd (cc)
+before_within other k i (q ∷ ks) is apart = grind (arith, nat_tests, times_first i q ks, before_within (Some q) k i ks)
+
+pub before_inside : (k i : ℕ) (ks : List ℕ) → number_before None k ks ≡ Some i → 0 < times i ks
+before_inside k i ks is = before_within None k i ks is (λ e. (cc))
 
 pub cons_not_nil : {A : Type 0} (b : List A) (x : A) (a : List A) → [] ≡ b ++ x ∷ a → ⊥
 cons_not_nil [] x a at = absurd (cc)
@@ -43,7 +48,7 @@ cons_not_nil (q ∷ b) x a at = absurd (cc)
 
 -- a number in the midst of a list is in it
 pub in_midst : (before : List ℕ) (k : ℕ) (after : List ℕ) → times k (before ++ k ∷ after) ≡ 1 + (times k before + times k after)
-in_midst before k after = let sum = times_joined k before (k ∷ after) in let first = times_first k k after in let one = one_itself k in omega arith
+in_midst before k after = omega (arith, times_joined k before (k ∷ after), times_first k k after, one_itself k)
 
 -- where a list is cut, what stands in it is before the cut or after it
 pub cut_at : {A : Type 0} (before after b : List A) (x : A) (a : List A) → before ++ after ≡ b ++ x ∷ a
@@ -60,12 +65,7 @@ pub split_at : (k : ℕ) (ks : List ℕ) → 0 < times k ks → (before : List �
 split_at k [] more = absurd (omega arith)
 split_at k (q ∷ ks) more = elim (same_or_other q k) [
   | inl here ↦ ([], ks, ap (λ x. x ∷ ks) here)
-  | inr other ↦ (
-      let first = times_first k q ks in
-      let none = one_other q k other in
-      let later = split_at k ks (omega arith) in
-      (q ∷ later.0, later.1, ap (λ l. q ∷ l) later.2)
-      )
+  | inr other ↦ (let later = split_at k ks (omega (arith, times_first k q ks, one_other q k other)) in (q ∷ later.0, later.1, ap (λ l. q ∷ l) later.2))
 ]
 
 -- without a number that is in it once, a list is these two parts
@@ -91,21 +91,12 @@ module _ {ends : ℕ → Bounds} {link : ℕ → Neighbours} {lists : ℕ → Li
 
   -- the neighbours of a number
   pub prev_in : (p : ℕ) (k l : ℕ) → 0 < times k (lists p) → (link k).prev ≡ Some l → 0 < times l (lists p)
-  prev_in p k l more is =
-      let split = split_at k (lists p) more in
-      let at = linked.links_are p split.0 k split.1 split.2 in
-      let there = last_in split.0 l (sym (ap (λ (n : Neighbours). n.prev) at) ∙ is) in
-      let sum = ap (times l) split.2 ∙ times_joined l split.0 (k ∷ split.1) in
-      omega arith
+  prev_in p k l more is = let split = split_at k (lists p) more in let at = linked.links_are p split.0 k split.1 split.2 in
+      omega (arith, last_in split.0 l (sym (ap (λ (n : Neighbours). n.prev) at) ∙ is), ap (times l) split.2 ∙ times_joined l split.0 (k ∷ split.1))
 
   pub next_in : (p : ℕ) (k f : ℕ) → 0 < times k (lists p) → (link k).next ≡ Some f → 0 < times f (lists p)
-  next_in p k f more is =
-      let split = split_at k (lists p) more in
-      let at = linked.links_are p split.0 k split.1 split.2 in
-      let there = first_in split.1 f (sym (ap (λ (n : Neighbours). n.next) at) ∙ is) in
-      let sum = ap (times f) split.2 ∙ times_joined f split.0 (k ∷ split.1) in
-      let first = times_first f k split.1 in
-      omega arith
+  next_in p k f more is = let split = split_at k (lists p) more in let at = linked.links_are p split.0 k split.1 split.2 in
+      omega (arith, first_in split.1 f (sym (ap (λ (n : Neighbours). n.next) at) ∙ is), ap (times f) split.2 ∙ times_joined f split.0 (k ∷ split.1), times_first f k split.1)
 
   -- In the list of p the numbers between `before` and `after` change. The number k is the only one of them whose link may change
   module _ (apart : AreApart lists) (p k : ℕ) (before mid after : List ℕ) (is : lists p ≡ before ++ (mid ++ after))
@@ -121,10 +112,10 @@ module _ {ends : ℕ → Bounds} {link : ℕ → Neighbours} {lists : ℕ → Li
     is_counted x = ap (times x) is ∙ times_joined x before (mid ++ after) ∙ ap (λ n. times x before + n) (times_joined x mid after)
 
     not_last : (x : ℕ) → times x before ≡ 0 → last_or before None ≢ Some x
-    not_last x none last = absurd (let there = last_in before x last in omega arith)
+    not_last x none last = absurd (omega (arith, last_in before x last))
 
     not_first : (x : ℕ) → times x after ≡ 0 → first_or after None ≢ Some x
-    not_first x none first = absurd (let there = first_in after x first in omega arith)
+    not_first x none first = absurd (omega (arith, first_in after x first))
 
     -- the links that numbers before the place, and behind it, have now
     module _ (now : List ℕ) (link' : ℕ → Neighbours) (relinks : Relinks link link' k before after (first_or now (first_or after None)) (last_or now (last_or before None))) where
@@ -134,13 +125,9 @@ module _ {ends : ℕ → Bounds} {link : ℕ → Neighbours} {lists : ℕ → Li
           ∙ ap (λ (l : Neighbours). record l { next = first_or now (first_or after None) })
           (linked.links_are p b x (mid ++ after) (is ∙ ap (λ l. l ++ (mid ++ after)) at ∙ append_assoc b (x ∷ []) (mid ++ after)))
           ∙ ap (λ n. record { prev = last_or b None; next = n }) (sym (first_or-append now after None))
-      link_before b x (y ∷ m) at =
-          let sum = is_counted x in
-          let once = apart.once p x in
-          let there = ap (times x) at ∙ in_midst b x (y ∷ m) in
-          let no_k : x ≢ k = λ e. (let h = rw (← e) at not_before in omega arith) in
-          let no_last : last_or before None ≢ Some x = λ last.
-          (let again = last_of y m x (sym (last_or-append b (x ∷ y ∷ m) None) ∙ sym (ap (λ l. last_or l None) at) ∙ last) in omega arith) in
+      link_before b x (y ∷ m) at = let sum = is_counted x in let once = apart.once p x in let there = ap (times x) at ∙ in_midst b x (y ∷ m) in let no_k : x ≢ k =
+          λ e. (omega (arith, rw (← e) at not_before)) in let no_last : last_or before None ≢ Some x =
+          λ last. (omega (arith, last_of y m x (sym (last_or-append b (x ∷ y ∷ m) None) ∙ sym (ap (λ l. last_or l None) at) ∙ last))) in
           relinks.others x no_k no_last (not_first x (omega arith))
           ∙ linked.links_are p b x ((y ∷ m) ++ (mid ++ after)) (is ∙ ap (λ l. l ++ (mid ++ after)) at ∙ append_assoc b (x ∷ y ∷ m) (mid ++ after))
 
@@ -154,9 +141,9 @@ module _ {ends : ℕ → Bounds} {link : ℕ → Neighbours} {lists : ℕ → Li
           let sum = is_counted x in
           let once = apart.once p x in
           let there = ap (times x) at ∙ in_midst (y ∷ m) x a in
-          let no_k : x ≢ k = λ e. (let h = rw (← e) at not_after in omega arith) in
+          let no_k : x ≢ k = λ e. (omega (arith, rw (← e) at not_after)) in
           let no_first : first_or after None ≢ Some x = λ first.
-          (let again = same_Some y x (sym (ap (λ l. first_or l None) at) ∙ first) in let one = ap (λ q. same q x) again ∙ one_itself x in let head = times_first x y m in omega arith) in
+          (let again = same_Some y x (sym (ap (λ l. first_or l None) at) ∙ first) in omega (arith, ap (λ q. same q x) again ∙ one_itself x, times_first x y m)) in
           let whole = is ∙ ap (λ l. before ++ (mid ++ l)) at ∙ ap (λ l. before ++ l) (sym (append_assoc mid (y ∷ m) (x ∷ a))) ∙ sym (append_assoc before (mid ++ y ∷ m) (x ∷ a)) in
           let last : (ks : List ℕ) → last_or (before ++ (ks ++ y ∷ m)) None ≡ last_or m (Some y) = λ ks. last_or-append before (ks ++ y ∷ m) None
           ∙ last_or-append ks (y ∷ m) (last_or before None) in
@@ -175,12 +162,8 @@ module _ {ends : ℕ → Bounds} {link : ℕ → Neighbours} {lists : ℕ → Li
         ]
 
         link_elsewhere : (q : ℕ) → q ≢ p → (b : List ℕ) (x : ℕ) (a : List ℕ) → lists q ≡ b ++ x ∷ a → link' x ≡ link_between b a
-        link_elsewhere q other b x a at =
-            let there = ap (times x) at ∙ in_midst b x a in
-            let none = in_no_other q x other (omega arith) in
-            let sum = is_counted x in
-            let no_k : x ≢ k = λ e. (let h = rw (← e) at (nowhere q other) in omega arith) in
-            relinks.others x no_k (not_last x (omega arith)) (not_first x (omega arith)) ∙ linked.links_are q b x a at
+        link_elsewhere q other b x a at = let there = ap (times x) at ∙ in_midst b x a in let none = in_no_other q x other (omega arith) in let sum = is_counted x in let no_k : x ≢ k =
+            λ e. (omega (arith, rw (← e) at (nowhere q other))) in relinks.others x no_k (not_last x (omega arith)) (not_first x (omega arith)) ∙ linked.links_are q b x a at
 
         pub linked_now : {ends' : ℕ → Bounds} {lists' : ℕ → List ℕ} → IsListed lists lists' ends ends' p (before ++ (now ++ after)) → AreLinked ends' link' lists'
         linked_now {ends'} {lists'} listed = record {

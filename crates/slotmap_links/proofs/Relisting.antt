@@ -18,29 +18,29 @@ module _ (lists : ℕ → List ℕ) (apart : AreApart lists) (p k : ℕ) (ks : L
   -- a number of the new list, which is in another one, was in the old one
   was_there : (q x : ℕ) → q ≢ p → 0 < times x (lists' p) → 0 < times x (lists' q) → p ≡ q
   was_there q x other in_p in_q = elim (same_or_other x k) [
-    | inl is ↦ absurd (let a = ap (λ x. times x (lists' q)) is in let b = ap (times k) (others q other) in let c = elsewhere q other in omega arith)
+    | inl is ↦ absurd (omega (arith, ap (λ x. times x (lists' q)) is, ap (times k) (others q other), elsewhere q other))
     | inr not_k ↦ apart.alone p q x
-        (let a = ap (times x) here in let b = fewer x not_k in omega arith)
-        (let b = ap (times x) (others q other) in omega arith)
+        (omega (arith, ap (times x) here, fewer x not_k))
+        (omega (arith, ap (times x) (others q other)))
   ]
 
   apart_now : AreApart lists'
   apart_now = record {
     once = λ q x. (elim (same_or_other q p) [
       | inl is ↦ (let a = ap (λ q. times x (lists' q)) is ∙ ap (times x) here in elim (same_or_other x k) [
-        | inl e ↦ (let b = ap (λ x. times x ks) e in omega arith)
-        | inr not_k ↦ (let b = fewer x not_k in let c = apart.once p x in omega arith)
+        | inl e ↦ omega (arith, ap (λ x. times x ks) e)
+        | inr not_k ↦ omega (arith, fewer x not_k, apart.once p x)
       ])
-      | inr other ↦ (let a = ap (times x) (others q other) in let c = apart.once q x in omega arith)
+      | inr other ↦ omega (arith, ap (times x) (others q other), apart.once q x)
     ]);
     alone = λ q r x in_q in_r. (elim (same_or_other q p) [
       | inl is ↦ (elim (same_or_other r p) [
         | inl too ↦ is ∙ sym too
-        | inr other ↦ is ∙ was_there r x other (let a = ap (λ q. times x (lists' q)) is in omega arith) in_r
+        | inr other ↦ is ∙ was_there r x other (omega (arith, ap (λ q. times x (lists' q)) is)) in_r
       ])
       | inr other ↦ (elim (same_or_other r p) [
-        | inl is ↦ sym (is ∙ was_there q x other (let a = ap (λ q. times x (lists' q)) is in omega arith) in_q)
-        | inr too ↦ apart.alone q r x (let b = ap (times x) (others q other) in omega arith) (let b = ap (times x) (others r too) in omega arith)
+        | inl is ↦ sym (is ∙ was_there q x other (omega (arith, ap (λ q. times x (lists' q)) is)) in_q)
+        | inr too ↦ apart.alone q r x (omega (arith, ap (times x) (others q other))) (omega (arith, ap (times x) (others r too)))
       ])
     ]);
   }
@@ -49,9 +49,9 @@ module _ (lists : ℕ → List ℕ) (apart : AreApart lists) (p k : ℕ) (ks : L
   within_now n below within q x more = elim (same_or_other q p) [
     | inl is ↦ (let a = ap (λ q. times x (lists' q)) is ∙ ap (times x) here in elim (same_or_other x k) [
       | inl e ↦ omega arith
-      | inr not_k ↦ within p x (let b = fewer x not_k in omega arith)
+      | inr not_k ↦ within p x (omega (arith, fewer x not_k))
     ])
-    | inr other ↦ within q x (let b = ap (times x) (others q other) in omega arith)
+    | inr other ↦ within q x (omega (arith, ap (times x) (others q other)))
   ]
 
 module _ (ends : List Ends) (links : List Link) (kept : AreKept ends links) (p k : ℕ) (below : k < length links) where
@@ -101,44 +101,40 @@ module _ (ends : List Ends) (links : List Link) (kept : AreKept ends links) (p k
     none_there = sym (ap (times k) is ∙ times_joined k before after) ∙ nowhere p
 
     not_before : times k before ≡ 0
-    not_before = let n = none_there in omega arith
+    not_before = omega (arith, none_there)
 
     not_after : times k after ≡ 0
-    not_after = let n = none_there in omega arith
+    not_after = omega (arith, none_there)
 
     apart_at : (x : ℕ) → last_or before None ≡ Some x → first_or after None ≢ Some x
-    apart_at = two_neighbours before [] after (λ x. (let h = kept.apart.once p x in let e = ap (times x) is ∙ times_joined x before after in omega arith))
+    apart_at = two_neighbours before [] after (λ x. omega (arith, kept.apart.once p x, ap (times x) is ∙ times_joined x before after))
 
     pub relists_put : bounds_at ends' p
         ≡ record { first = own (last_or before None) (bounds_at ends p).first (Some k); last = own (first_or after None) (bounds_at ends p).last (Some k); len = (bounds_at ends p).len + 1 }
         → ((q : ℕ) → q ≢ p → bounds_at ends' q ≡ bounds_at ends q) → Relists ends links p (before ++ k ∷ after) ends' links'
-    relists_put here there =
-        let new = here ∙ ends_put before k after (bounds_at ends p) (kept.linked.ends_are p ∙ ap ends_of is) in
+    relists_put here there = let new = here ∙ ends_put before k after (bounds_at ends p) (kept.linked.ends_are p ∙ ap ends_of is) in
         relists_by (before ++ k ∷ after) ends' links' owners members new there
-        (linked_put kept.linked kept.apart p k before after is nowhere
-        (spliced_own before after k not_before not_after (link_at links) mid (link_at links') (Some k) (Some k) but written ∙ at)
+        (linked_put kept.linked kept.apart p k before after is nowhere (spliced_own before after k not_before not_after (link_at links) mid (link_at links') (Some k) (Some k) but written ∙ at)
         (spliced before after k not_before not_after (link_at links) mid (link_at links') (Some k) (Some k) but written apart_at)
         (is_listed (before ++ k ∷ after) ends' links' owners members new there))
-        (λ x other. (let a = times_joined x before (k ∷ after) in let b = times_first x k after in let c = one_other k x (λ e. other (sym e)) in let d =
-        ap (times x) is ∙ times_joined x before after in omega arith))
-        (let a = in_midst before k after in let n = none_there in omega arith)
-        (λ q _. nowhere q)
+        (λ x other. omega (arith, times_joined x before (k ∷ after), times_first x k after, one_other k x (λ e. other (sym e)), ap (times x) is ∙ times_joined x before after))
+        (omega (arith, in_midst before k after, none_there)) (λ q _. nowhere q)
 
   -- k is taken out of the list of p
   module _ (there : 0 < times k list) (before after : List ℕ) (is : list ≡ before ++ k ∷ after) (ends' : List Ends) (links' : List Link)
       (owners : length ends' ≡ length ends) (members : length links' ≡ length links)
       (written : (q : ℕ) → link_at links' q ≡ with_prev (first_or after None) (last_or before None) (with_next (last_or before None) (first_or after None) (link_at links)) q) where
     once_there : (x : ℕ) → times x before + (same k x + times x after) ≤ 1
-    once_there x = let h = kept.apart.once p x in let e = ap (times x) is ∙ times_joined x before (k ∷ after) in let f = times_first x k after in omega arith
+    once_there x = omega (arith, kept.apart.once p x, ap (times x) is ∙ times_joined x before (k ∷ after), times_first x k after)
 
     apart_now_at : (x : ℕ) → last_or before None ≡ Some x → first_or after None ≢ Some x
-    apart_now_at = two_neighbours before (k ∷ []) after (λ x. (let h = once_there x in let b = times_joined x (k ∷ []) after in let f = times_first x k [] in omega arith))
+    apart_now_at = two_neighbours before (k ∷ []) after (λ x. omega (arith, once_there x, times_joined x (k ∷ []) after, times_first x k []))
 
     gone_before : times k before ≡ 0
-    gone_before = let h = once_there k in let o = one_itself k in omega arith
+    gone_before = omega (arith, once_there k, one_itself k)
 
     gone_after : times k after ≡ 0
-    gone_after = let h = once_there k in let o = one_itself k in omega arith
+    gone_after = omega (arith, once_there k, one_itself k)
 
     pub relists_taken : bounds_at ends' p
         ≡ record {
@@ -154,6 +150,6 @@ module _ (ends : List Ends) (links : List Link) (kept : AreKept ends links) (p k
         (linked_taken kept.linked kept.apart p k before after is
         (spliced before after k gone_before gone_after (link_at links) (link_at links) (link_at links') (first_or after None) (last_or before None) (λ q _. refl) written apart_now_at)
         (is_listed (before ++ after) ends' links' owners members new rest))
-        (λ x other. (let a = times_joined x before after in let d = ap (times x) is ∙ times_joined x before (k ∷ after) in let f = times_first x k after in omega arith))
-        (let a = times_joined k before after in let g = gone_before in let h = gone_after in omega arith)
+        (λ x other. omega (arith, times_joined x before after, ap (times x) is ∙ times_joined x before (k ∷ after), times_first x k after))
+        (omega (arith, times_joined k before after, gone_before, gone_after))
         (λ q other. elim (eq-zero-or-pos (times k (listed ends links q))) [ inl none ↦ none | inr more ↦ absurd (other (kept.apart.alone q p k more there)) ])

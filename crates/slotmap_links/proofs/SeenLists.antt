@@ -17,10 +17,10 @@ use Rattle.slotmap_links.proofs.Written.{somebody}
 -- a number of a list, where it is not before the place
 module _ (at : ℕ) (after : List ℕ) where
   pub not_first : (q : ℕ) (before : List ℕ) → times at (q ∷ before) ≡ 0 → nat_eq q at ≡ false
-  not_first q before none = is_other q at (λ e. (let f = times_first at q before in let o = ap (λ x. times at (x ∷ before)) e ∙ times_first at at before in let i = one_itself at in omega arith))
+  not_first q before none = is_other q at (λ e. omega (arith, times_first at q before, ap (λ x. times at (x ∷ before)) e ∙ times_first at at before, one_itself at))
 
   pub not_later : (q : ℕ) (before : List ℕ) → times at (q ∷ before) ≡ 0 → times at before ≡ 0
-  not_later q before none = let f = times_first at q before in omega arith
+  not_later q before none = omega (arith, times_first at q before)
 
   pub after_there : (before : List ℕ) → times at before ≡ 0 → number_after at (before ++ at ∷ after) ≡ first_or after None
   after_there [] none = ap (λ b. cond b (first_or after None) (number_after at after)) (is_itself at)
@@ -76,11 +76,11 @@ module _ (ends : List Ends) (links : List Link) (kept : AreKept ends links) wher
 
   -- the first member and the last one of an owner's list
   first_here : (p : ℕ) (x : Ends) → x ≡ get_or ends p x → p < length here.lists → unless_nobody x.first ≡ first_or (list_of here p) None
-  first_here p x is there = ap (λ (b : Bounds). b.first) (ap bounds (is ∙ get_or_default ends p x no_ends (let n = seen_owners ends links in omega arith))
+  first_here p x is there = ap (λ (b : Bounds). b.first) (ap bounds (is ∙ get_or_default ends p x no_ends (omega (arith, seen_owners ends links)))
       ∙ kept.linked.ends_are p) ∙ ap (λ l. first_or l None) (sym (seen_list ends links p))
 
   last_here : (p : ℕ) (x : Ends) → x ≡ get_or ends p x → p < length here.lists → unless_nobody x.last ≡ last_or (list_of here p) None
-  last_here p x is there = ap (λ (b : Bounds). b.last) (ap bounds (is ∙ get_or_default ends p x no_ends (let n = seen_owners ends links in omega arith))
+  last_here p x is there = ap (λ (b : Bounds). b.last) (ap bounds (is ∙ get_or_default ends p x no_ends (omega (arith, seen_owners ends links)))
       ∙ kept.linked.ends_are p) ∙ ap (λ l. last_or l None) (sym (seen_list ends links p))
 
   -- where a member stands
@@ -91,11 +91,11 @@ module _ (ends : List Ends) (links : List Link) (kept : AreKept ends links) wher
         before = split.0;
         after = split.1;
         is = split.2;
-        not_before = (let o = kept.apart.once p k in let e = ap (times k) (sym (seen_list ends links p) ∙ split.2) ∙ in_midst split.0 k split.1 in omega arith);
+        not_before = omega (arith, kept.apart.once p k, ap (times k) (sym (seen_list ends links p) ∙ split.2) ∙ in_midst split.0 k split.1);
       }
 
   below_here : (p k : ℕ) → IsIn here p k → k < length links
-  below_here p k inside = kept.within p k (let e = ap (times k) (seen_list ends links p) in omega arith)
+  below_here p k inside = kept.within p k (omega (arith, ap (times k) (seen_list ends links p)))
 
   -- the two beside it
   next_here : (p k : ℕ) (x : Link) → x ≡ get_or links k x → (inside : IsIn here p k) (stands : Stands here p k) → unless_nobody x.next ≡ first_or stands.after None
@@ -107,7 +107,7 @@ module _ (ends : List Ends) (links : List Link) (kept : AreKept ends links) wher
       ∙ kept.linked.links_are p stands.before k stands.after (sym (seen_list ends links p) ∙ stands.is))
 
   somebody_here : (p k : ℕ) → IsIn here p k → unless_nobody k ≡ Some k
-  somebody_here p k inside = somebody k (let b = below_here p k inside in let f = kept.few in omega arith)
+  somebody_here p k inside = somebody k (omega (arith, below_here p k inside, kept.few))
 
   module _ (s : Lists) (seen : here ≡ s) where
     pub first_is : (p : ℕ) (x : Ends) → x ≡ get_or ends p x → p < length s.lists → unless_nobody x.first ≡ first_or (list_of s p) None
@@ -142,10 +142,10 @@ module _ (ends : List Ends) (links : List Link) (kept : AreKept ends links) wher
     free_here k free p = sym (ap (times k) (sym (ap (λ s. list_of s p) seen) ∙ seen_list ends links p)) ∙ free.nowhere p
 
     pub free_below : (k : ℕ) → IsFree s k → k < length links
-    free_below k free = let n = ap (λ (s : Lists). s.members) seen in let w = free.within in omega arith
+    free_below k free = omega (arith, ap (λ (s : Lists). s.members) seen, free.within)
 
     pub owner_here : (p : ℕ) → p < length s.lists → p < length ends
-    owner_here p there = let n = ap (λ (s : Lists). length s.lists) seen in let m = seen_owners ends links in omega arith
+    owner_here p there = omega (arith, ap (λ (s : Lists). length s.lists) seen, seen_owners ends links)
 
 -- the list that the user sees, and the one by the links
 module _ (ends : List Ends) (links : List Link) (s : Lists) (seen : lists_by ends links ≡ s) (p : ℕ) where
@@ -180,6 +180,5 @@ module _ {Z Z' : Type 0} (V : Vec Ends Z) (W : Vec Link Z') (p : ℕ) (ks : List
   kept_written = subst (λ (x : List Ends × List Link). AreKept x.0 x.1) (λ i. (sym ends_hold i, sym links_hold i)) relists.kept
 
   pub seen_written : (s : Lists) → lists_by V.items W.items ≡ s → p < length s.lists → lists_by (with_items V ends).items (with_items W links).items ≡ with_list s p ks
-  seen_written s seen there =
-      (λ i. lists_by (ends_hold i) (links_hold i)) ∙ seen_relisted V.items W.items p ks ends links (let n = ap (λ (s : Lists). length s.lists) seen in let m =
-      seen_owners V.items W.items in omega arith) relists ∙ ap (λ s. with_list s p ks) seen
+  seen_written s seen there = (λ i. lists_by (ends_hold i) (links_hold i))
+      ∙ seen_relisted V.items W.items p ks ends links (omega (arith, ap (λ (s : Lists). length s.lists) seen, seen_owners V.items W.items)) relists ∙ ap (λ s. with_list s p ks) seen

@@ -51,7 +51,7 @@ module _ (link : ℕ → Neighbours) (left : ℕ) (first last : Option ℕ) (s :
         ahead = es;
         after = s.after;
         links_are = λ b x a at. s.links_are b x a (whole ∙ sym (append_assoc s.before (k ∷ []) (es ++ s.after)) ∙ at);
-        left_is = (let n = s.left_is ∙ ap length is in omega arith);
+        left_is = omega (arith, s.left_is ∙ ap length is);
         first_is = ap (λ (l : Neighbours). l.next) (s.links_are s.before k (es ++ s.after) whole);
         last_is = s.last_is ∙ ap (λ l. last_or l None) (ap (λ l. s.before ++ l) is ∙ sym (append_assoc s.before (k ∷ []) es));
       }
@@ -65,7 +65,7 @@ module _ (link : ℕ → Neighbours) (left : ℕ) (first last : Option ℕ) (s :
         ahead = es;
         after = k ∷ s.after;
         links_are = λ b x a at. s.links_are b x a (ap (λ l. s.before ++ l) behind ∙ at);
-        left_is = (let n = s.left_is ∙ ap length is ∙ length-append es (k ∷ []) in omega arith);
+        left_is = omega (arith, s.left_is ∙ ap length is ∙ length-append es (k ∷ []));
         first_is = s.first_is ∙ ap (λ l. first_or l None) behind;
         last_is = ap (λ (l : Neighbours). l.prev) (s.links_are (s.before ++ es) k s.after whole);
       }
@@ -80,7 +80,7 @@ module _ (link : ℕ → Neighbours) (left : ℕ) (first last : Option ℕ) (s :
     where
       by : (ks : List ℕ) → s.ahead ≡ ks → (k : ℕ) × (first ≡ Some k) × IsSegment link (left - 1) (link k).next last
           × (follow link left first ≡ k ∷ follow link (left - 1) (link k).next)
-      by [] is = absurd (let n = s.left_is ∙ ap length is in omega arith)
+      by [] is = absurd (omega (arith, s.left_is ∙ ap length is))
       by (k ∷ es) is =
           let r = front_by k es is in
           let rest : follow link (left - 1) (link k).next ≡ es = ap (λ n. follow link n (link k).next) r.left_is ∙ ap (follow link (length es)) r.first_is
@@ -90,7 +90,7 @@ module _ (link : ℕ → Neighbours) (left : ℕ) (first last : Option ℕ) (s :
   segment_back : 0 < left → (k : ℕ) × (last ≡ Some k) × IsSegment link (left - 1) first (link k).prev × (follow link left first ≡ follow link (left - 1) first ++ k ∷ [])
   unfolding back_by
   segment_back more = elim (at_back s.ahead) [
-    | inl none ↦ absurd (let n = s.left_is ∙ ap length none in omega arith)
+    | inl none ↦ absurd (omega (arith, s.left_is ∙ ap length none))
     | inr some ↦ (
         let es = some.0 in
         let k = some.1 in
@@ -123,7 +123,7 @@ module _ (link : ℕ → Neighbours) (most : ℕ) (first : Option ℕ) (t : IsTa
           let next = ap (λ (n : Neighbours). n.next) (t.links_are t.before k ks (ap (λ l. t.before ++ l) is)) in
           let links : (b : List ℕ) (x : ℕ) (a : List ℕ) → (t.before ++ k ∷ []) ++ ks ≡ b ++ x ∷ a → link x ≡ link_between b a =
           λ b x a at. t.links_are b x a (ap (λ l. t.before ++ l) is ∙ sym (append_assoc t.before (k ∷ []) ks) ∙ at) in
-          let few : length ks ≤ most = (let n = ap length is in let f = t.few in omega arith) in
+          let few : length ks ≤ most = (omega (arith, ap length is, t.few)) in
           (record { before = t.before ++ k ∷ []; ahead = ks; links_are = links; few = few; first_is = next }, ap (follow link most) next ∙ follow_tail most (t.before ++ k ∷ []) ks links few)
 
       by : (ks : List ℕ) → t.ahead ≡ ks → IsTail link most (link k).next × (follow link most first ≡ k ∷ follow link most (link k).next)
@@ -143,16 +143,16 @@ number_is n k = elim (nat_eq n nobody) as (λ b. cond b None (Some n) ≡ Some k
 -- the first of several numbers below n, those after it, the last, and those before it
 module _ (n k : ℕ) (ks : List ℕ) where
   first_below : AreBelow n (k ∷ ks) → k < n
-  first_below all = all k (let first = times_first k k ks in let one = one_itself k in omega arith)
+  first_below all = all k (omega (arith, times_first k k ks, one_itself k))
 
   later_below : AreBelow n (k ∷ ks) → AreBelow n ks
-  later_below all x more = all x (let first = times_first x k ks in omega arith)
+  later_below all x more = all x (omega (arith, times_first x k ks))
 
   last_below : AreBelow n (ks ++ k ∷ []) → k < n
-  last_below all = all k (let joined = times_joined k ks (k ∷ []) in let first = times_first k k [] in let one = one_itself k in omega arith)
+  last_below all = all k (omega (arith, times_joined k ks (k ∷ []), times_first k k [], one_itself k))
 
   front_below : AreBelow n (ks ++ k ∷ []) → AreBelow n ks
-  front_below all x more = all x (let joined = times_joined x ks (k ∷ []) in omega arith)
+  front_below all x more = all x (omega (arith, times_joined x ks (k ∷ [])))
 
 -- the same steps, by the numbers that an iterator has, which are below n
 module _ (link : ℕ → Neighbours) (n left first last : ℕ) (s : IsSegment link left (unless_nobody first) (unless_nobody last))

@@ -4,8 +4,8 @@ use Rattle.std.proofs.Common.{subst, ◌∙◌, arith, append-nil, length-append
 use Rattle.slotmap_links.specs.Lists.{times, first_or, last_or}
 use Rattle.slotmap_links.specs.Linked.{Bounds, Neighbours, ends_of, followed, AreLinked, Relinks}
 use Rattle.slotmap_links.specs.Splice.{with_next, with_prev, own}
-use Rattle.slotmap_links.proofs.Counts.{same, is_itself, is_other}
-use Rattle.slotmap_links.proofs.Linking.{last_or-append, first_in, last_in, in_midst, followed_is}
+use Rattle.slotmap_links.proofs.Counts.{is_itself, is_other}
+use Rattle.slotmap_links.proofs.Linking.{last_or-append, first_in, last_in, followed_is}
 
 module _ (to : Option ℕ) (link : ℕ → Neighbours) (q : ℕ) where
   next_here : with_next (Some q) to link q ≡ record (link q) { next = to }
@@ -25,10 +25,10 @@ module _ (to : Option ℕ) (link : ℕ → Neighbours) (q : ℕ) where
 -- a place in a list: what is before it and after it
 module _ (before after : List ℕ) (k : ℕ) (not_before : times k before ≡ 0) (not_after : times k after ≡ 0) where
   not_last : last_or before None ≢ Some k
-  not_last last = absurd (let there = last_in before k last in omega arith)
+  not_last last = absurd (omega (arith, last_in before k last))
 
   not_first : first_or after None ≢ Some k
-  not_first first = absurd (let there = first_in after k first in omega arith)
+  not_first first = absurd (omega (arith, first_in after k first))
 
   -- the links of the two neighbours of the place are written, beside that of k
   module _ (link mid link' : ℕ → Neighbours) (on back : Option ℕ) (but : (q : ℕ) → q ≢ k → mid q ≡ link q)
@@ -49,7 +49,7 @@ module _ (before after : List ℕ) (k : ℕ) (not_before : times k before ≡ 0)
 -- where a number is in a list once, the two neighbours of a place are two numbers
 pub two_neighbours : (before mid after : List ℕ) → ((x : ℕ) → times x before + (times x mid + times x after) ≤ 1) → (x : ℕ)
     → last_or before None ≡ Some x → first_or after None ≢ Some x
-two_neighbours before mid after once x last first = absurd (let a = last_in before x last in let b = first_in after x first in let c = once x in omega arith)
+two_neighbours before mid after once x last first = absurd (omega (arith, last_in before x last, first_in after x first, once x))
 
 last_some : (x : ℕ) (xs : List ℕ) (a b : Option ℕ) → own (last_or xs (Some x)) a b ≡ a
 last_some x [] a b = refl
@@ -69,7 +69,7 @@ ends_put before k after e is = λ i. record { first = firsts before (ap (λ (e :
     lasts (y ∷ after) is = is ∙ last_or-append before (y ∷ after) None ∙ sym (last_or-append before (k ∷ y ∷ after) None)
 
     as_many : e.len + 1 ≡ length (before ++ k ∷ after)
-    as_many = let n = ap (λ (e : Bounds). e.len) is in let a = length-append before (k ∷ after) in let b = length-append before after in omega arith
+    as_many = omega (arith, ap (λ (e : Bounds). e.len) is, length-append before (k ∷ after), length-append before after)
 
 -- the ends of a list without one of its numbers
 pub ends_taken : (before : List ℕ) (k : ℕ) (after : List ℕ) → (e : Bounds) → e ≡ ends_of (before ++ k ∷ after)
@@ -85,7 +85,7 @@ ends_taken before k after e is = λ i. record { first = firsts before (ap (λ (e
     lasts (y ∷ after) is = is ∙ last_or-append before (k ∷ y ∷ after) None ∙ sym (last_or-append before (y ∷ after) None)
 
     as_many : e.len - 1 ≡ length (before ++ after)
-    as_many = let n = ap (λ (e : Bounds). e.len) is in let a = length-append before (k ∷ after) in let b = length-append before after in omega arith
+    as_many = omega (arith, ap (λ (e : Bounds). e.len) is, length-append before (k ∷ after), length-append before after)
 
 -- lists that are kept as links are those that the links lead to
 pub linked_self : {ends : ℕ → Bounds} {link : ℕ → Neighbours} {lists : ℕ → List ℕ} → AreLinked ends link lists → AreLinked ends link (λ p. followed link (ends p))

@@ -58,21 +58,17 @@ module _ (ends : List Ends) (links : List Link) (kept : AreKept ends links) (p :
   -- the two beside a place are members
   module _ (prev next : Option ℕ) (place : IsGap list prev next) where
     pub prev_below : IfSome prev (λ k. k < length links)
-    prev_below =
-        if_some prev _ (λ l is. kept.within p l (let h = last_in place.before l (sym place.prev_is ∙ is) in let e = ap (times l) place.is
-        ∙ times_joined l place.before place.after in omega arith))
+    prev_below = if_some prev _ (λ l is. kept.within p l (omega (arith, last_in place.before l (sym place.prev_is ∙ is), ap (times l) place.is ∙ times_joined l place.before place.after)))
 
     pub next_below : IfSome next (λ k. k < length links)
-    next_below =
-        if_some next _ (λ f is. kept.within p f (let h = first_in place.after f (sym place.next_is ∙ is) in let e = ap (times f) place.is
-        ∙ times_joined f place.before place.after in omega arith))
+    next_below = if_some next _ (λ f is. kept.within p f (omega (arith, first_in place.after f (sym place.next_is ∙ is), ap (times f) place.is ∙ times_joined f place.before place.after)))
 
   len_of : (bounds_at ends p).len ≡ length list
   len_of = ap (λ (e : Bounds). e.len) (kept.linked.ends_are p)
 
   module _ (k : ℕ) (below : k < length links) where
     k_is : unless_nobody k ≡ Some k
-    k_is = somebody k (let f = kept.few in omega arith)
+    k_is = somebody k (omega (arith, kept.few))
 
     -- k is put between two others
     module _ (nowhere : (q : ℕ) → times k (listed ends links q) ≡ 0) (link : Link) (mid_links new_links : List Link) (mid_ends new_ends : List Ends)
@@ -211,7 +207,7 @@ module _ (ends : List Ends) (links : List Link) (kept : AreKept ends links) (p :
 
       -- the list had a member
       pub take_fits : 0 < (get_or new_ends p d').len
-      take_fits = let l = long_still ∙ len_of ∙ ap length list_is ∙ length-append before (k ∷ after) in omega arith
+      take_fits = omega (arith, long_still ∙ len_of ∙ ap length list_is ∙ length-append before (k ∷ after))
 
       written_now : (q : ℕ) → link_at new_links q ≡ with_prev (first_or after None) (last_or before None) (with_next (last_or before None) (first_or after None) (link_at links)) q
       written_now q = links_two q ∙ (λ i. with_prev ((between i).next) ((between i).prev) (λ x. (links_one x ∙ (λ j. with_next ((between j).prev) ((between j).next) (link_at links) x)) i) q)
@@ -241,5 +237,5 @@ module _ (ends : List Ends) (links : List Link) (kept : AreKept ends links) (p :
           (unless_nobody link.prev) ends_one ends_two q other
 
       pub take_written : Relists ends links p (without k list) lowered new_links
-      take_written = rw (ap (without k) list_is, without_split k before after (let o = kept.apart.once p k in let e = ap (times k) list_is in omega arith))
+      take_written = rw (ap (without k) list_is, without_split k before after (omega (arith, kept.apart.once p k, ap (times k) list_is)))
           (relists_taken ends links kept p k k_below inside before after list_is lowered new_links (length-set new_ends p _ ∙ owners) members written_now ends_taken_here ends_taken_there)

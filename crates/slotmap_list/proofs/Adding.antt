@@ -100,7 +100,7 @@ module _ {T : Type 0} where
     moved = m.moved ++ v ∷ [];
     adds = Adds-push old.elements now.elements next.elements m.moved q v m.adds adds;
     ahead = append_assoc m.moved (v ∷ []) (values next_other.elements) ∙ ap (λ l. m.moved ++ l) (sym (ap values takes)) ∙ m.ahead;
-    room = (let long = ap length takes in let more = inserts.room in let had = m.room in omega arith);
+    room = omega (arith, ap length takes, inserts.room, m.room);
     gone = λ u s. keeps u (m.gone u s);
     gone_other = λ u s. keeps_other u (m.gone_other u s);
     in_place = λ fits. in_place ∙ m.in_place fits;

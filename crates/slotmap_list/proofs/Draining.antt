@@ -26,10 +26,7 @@ module _ {T : Type 0} where
 module _ {K T : Type 0} (data_of : K → Key) where
   pub keeps_lent : (first : Drain K T) → KeepsLent data_of first
   keeps_lent first [] later run = subst (SameLoan first) run (refl, λ end ends. ends)
-  keeps_lent first (item ∷ items) later run =
-      let step = run.1.1 in
-      let rest = keeps_lent run.0 items later run.2 in
-      (rest.0 ∙ step.0, λ end ends. step.1 end (rest.1 end ends))
+  keeps_lent first (item ∷ items) later run = let step = run.1.1 in let rest = keeps_lent run.0 items later run.2 in (rest.0 ∙ step.0, λ end ends. step.1 end (rest.1 end ends))
 
   pub yields_in_order : (first : Drain K T) → YieldsInOrder data_of first
   yields_in_order first [] later run = ap (λ (d : Drain K T). d.list.now.elements) run

@@ -37,7 +37,7 @@ pub itself_first : (k : Key) → same k k ≡ true
 itself_first k = itself keys_total exact_keys k
 
 pub apart_first : (q k : Key) → one q k ≡ 0 → same q k ≡ false
-apart_first q k none = other_key q k (λ e. absurd (let here = ap (one q) (sym e) ∙ one_itself q in omega arith))
+apart_first q k none = other_key q k (λ e. absurd (omega (arith, ap (one q) (sym e) ∙ one_itself q)))
 
 module _ {T : Type 0} where
   -- how often a key stands in a list
@@ -76,18 +76,14 @@ module _ {T : Type 0} where
 
   pub once_if : (es : List (Key × T)) → ((q : Key) → times q es ≤ 1) → IsOnce es
   once_if [] few = tt
-  once_if (e ∷ es) few = (none_there e.0 es (let here = few e.0 in let first = one_itself e.0 in omega arith), once_if es (λ q. (let here = few q in omega arith)))
+  once_if (e ∷ es) few = (none_there e.0 es (omega (arith, few e.0, one_itself e.0)), once_if es (λ q. omega (arith, few q)))
 
   -- what is before a key that stands once, and what is behind it
   pub absent_before : (ys : List (Key × T)) (k : Key) (v : T) (zs : List (Key × T)) → IsOnce (ys ++ (k, v) ∷ zs) → (times k ys ≡ 0) × (times k zs ≡ 0)
-  absent_before ys k v zs once =
-      let few = at_most_once (ys ++ (k, v) ∷ zs) once k in
-      let sum = times-append k ys ((k, v) ∷ zs) in
-      let first = one_itself k in
-      (omega arith, omega arith)
+  absent_before ys k v zs once = let few = at_most_once (ys ++ (k, v) ∷ zs) once k in let sum = times-append k ys ((k, v) ∷ zs) in let first = one_itself k in (omega arith, omega arith)
 
   pub once_drop : (ys : List (Key × T)) (e : Key × T) (zs : List (Key × T)) → IsOnce (ys ++ e ∷ zs) → IsOnce (ys ++ zs)
-  once_drop ys e zs once = once_if (ys ++ zs) (λ q. (let few = at_most_once (ys ++ e ∷ zs) once q in let sum = times-put q ys e zs in omega arith))
+  once_drop ys e zs once = once_if (ys ++ zs) (λ q. omega (arith, at_most_once (ys ++ e ∷ zs) once q, times-put q ys e zs))
 
   -- the ends of a list
   pub last_or-append : (xs ys : List (Key × T)) (o : Option Key) → last_or (xs ++ ys) o ≡ last_or ys (last_or xs o)
@@ -120,14 +116,14 @@ module _ {T : Type 0} where
   back_of (e ∷ es) k is = split_last e es k is
 
   pub last_in : (es : List (Key × T)) (k : Key) → last_or es None ≡ Some k → 0 < times k es
-  last_in es k is = let b = back_of es k is in let sum = ap (times k) b.2 ∙ times-append k b.0 ((k, b.1) ∷ []) in let here = one_itself k in omega arith
+  last_in es k is = let b = back_of es k is in omega (arith, ap (times k) b.2 ∙ times-append k b.0 ((k, b.1) ∷ []), one_itself k)
 
   -- a key that stands in a list splits it
   pub parts_at : (xs : List (Key × T)) (k : Key) → 0 < times k xs → (ys : List (Key × T)) × (v : T) × (zs : List (Key × T)) × (xs ≡ ys ++ (k, v) ∷ zs)
   parts_at [] k more = absurd (omega arith)
   parts_at (x ∷ xs) k more = elim (same_or_other k x.0) [
     | inl is ↦ ([], x.1, xs, ap (λ q. (q, x.1) ∷ xs) (sym is))
-    | inr other ↦ (let rest = parts_at xs k (let first = one_other k x.0 other in omega arith) in (x ∷ rest.0, rest.1, rest.2, ap (λ l. x ∷ l) rest.3))
+    | inr other ↦ (let rest = parts_at xs k (omega (arith, one_other k x.0 other)) in (x ∷ rest.0, rest.1, rest.2, ap (λ l. x ∷ l) rest.3))
   ]
 
   -- what the words of a list say of a key that stands behind this part
@@ -193,4 +189,4 @@ module _ {T : Type 0} where
       (λ _ _. ap (λ n. one q x.0 + n) (times-written q k v xs))
 
   pub once-written : (k : Key) (v : T) (xs : List (Key × T)) → IsOnce xs → IsOnce (with_value_at k v xs)
-  once-written k v xs once = once_if (with_value_at k v xs) (λ q. (let few = at_most_once xs once q in let same = times-written q k v xs in omega arith))
+  once-written k v xs once = once_if (with_value_at k v xs) (λ q. omega (arith, at_most_once xs once q, times-written q k v xs))

@@ -30,9 +30,7 @@ module _ {T : Type 0} where
     value = split.1
 
     last_value : slice_get (values es) (length es - 1) ≡ Some value
-    last_value =
-        let long = length-append before ((k, value) ∷ []) in
-        let end : length (before ++ (k, value) ∷ []) - 1 ≡ length before = omega arith in
+    last_value = let long = length-append before ((k, value) ∷ []) in let end : length (before ++ (k, value) ∷ []) - 1 ≡ length before = omega arith in
         ap (λ l. slice_get (values l) (length l - 1)) split.2 ∙ ap (slice_get (values (before ++ (k, value) ∷ []))) end ∙ value_behind before (k, value)
 
     pub back_there : value_of k es ≡ slice_get (values es) (length es - 1)

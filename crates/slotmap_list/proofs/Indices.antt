@@ -1,33 +1,20 @@
 -- The live key with an index, and elements by the indices of their keys.
-use Rattle.std.proofs.Common.{◌≡◌, ◌≢◌, ℕ, ◌<◌, ◌≤◌, Bool, true, nat_eq, List, [], ◌∷◌, ◌++◌, length, Option, Some, None, IfSome}
+use Rattle.std.proofs.Common.{◌≡◌, ◌≢◌, ℕ, ◌<◌, ◌≤◌, true, List, [], ◌∷◌, ◌++◌, length, Option, Some, None, IfSome}
 use Rattle.std.proofs.Common.{IfNone, is_some, inl, inr, refl, sym, ap, subst, ◌∙◌, arith}
-use Rattle.std.specs.List.{find, cons_option, list_any}
+use Rattle.std.specs.List.{cons_option}
 use Rattle.std.specs.Option.{option_map}
-use Rattle.std.specs.Ordering.{eq_by_cmp}
 use Rattle.std.specs.FinMap as map
-use Rattle.std.proofs.Common.{eqb-true, eq-eqb}
 use Rattle.std.proofs.lemmas.List.Elements.{filter_map-append}
 use Rattle.slotmap.specs.Words.{Key, key_cmp, Content, IsContent, IsLive}
-use Rattle.slotmap.proofs.Callers.{keys_total, exact_keys, tied, itself, same_or_other}
+use Rattle.slotmap.proofs.Callers.{same_or_other}
 use Rattle.slotmap_links.specs.Lists as numbers
 use Rattle.slotmap_links.specs.Lists.{times}
 use Rattle.slotmap_links.proofs.Counts.{same, times_first, times_joined, one_itself}
+use Rattle.slotmap_bounded.specs.Indices.{AreApart, found_at}
+use Rattle.slotmap_bounded.proofs.Indices.{found_only, found_there, some_is}
 use Rattle.slotmap_list.specs.Sequence.{first_or, last_or}
 use Rattle.slotmap_list.proofs.Elements as keys
-use Rattle.slotmap_list.specs.Kept.{with_value, at_index, elements_at, key_there, AreApart, AreLiveIndices}
-
--- the first key that passes a test is in the list, and where one passes it there is a first
-first_found : (p : Key → Bool) (ks : List Key) (k : Key) → find p ks ≡ Some k → (p k ≡ true) × (list_any (eq_by_cmp key_cmp k) ks ≡ true)
-first_found p [] k is = absurd (cc)
-first_found p (q ∷ ks) k is = grind (arith, first_found p ks k, itself keys_total exact_keys k)
-
-some_found : (p : Key → Bool) (ks : List Key) (k : Key) → p k ≡ true → list_any (eq_by_cmp key_cmp k) ks ≡ true → is_some (find p ks) ≡ true
-some_found p [] k passes there = absurd (cc)
-some_found p (q ∷ ks) k passes there = grind (arith, some_found p ks k, tied keys_total exact_keys k q)
-
--- what an option has, if it has something
-pub some_is : {A : Type 0} (o : Option A) → is_some o ≡ true → (x : A) × (o ≡ Some x)
-some_is o is = grind arith
+use Rattle.slotmap_list.specs.Kept.{with_value, at_index, elements_at, key_there, AreLiveIndices}
 
 module _ {T : Type 0} (m : map.FinMap key_cmp T) where
   with_value_is : (o : Option Key) (e : Key × T) → with_value m o ≡ Some e → (o ≡ Some e.0) × (map.get m e.0 ≡ Some e.1)
@@ -41,9 +28,7 @@ module _ {T : Type 0} (m : map.FinMap key_cmp T) where
   -- the key with an index is live and has it
   pub at_is : (i : ℕ) (e : Key × T) → at_index m i ≡ Some e → (e.0.index ≡ i) × (map.get m e.0 ≡ Some e.1)
   unfolding at_index
-  at_is i e is =
-      let w = with_value_is (find (λ k. nat_eq k.index i) (map.keys m)) e is in
-      (eqb-true e.0.index i (first_found (λ k. nat_eq k.index i) (map.keys m) e.0 w.0).0, w.1)
+  at_is i e is = let w = with_value_is (found_at m i) e is in ((found_there m i e.0 w.0).1, w.1)
 
   -- so it is live
   pub there_live : (number : Option ℕ) (k : Key) → Some k ≡ key_there m number → map.contains_key m k ≡ true
@@ -66,15 +51,7 @@ module _ {T : Type 0} (m : map.FinMap key_cmp T) where
     -- a live key is the one with its index
     pub at_live : (k : Key) (v : T) → map.get m k ≡ Some v → at_index m k.index ≡ Some (k, v)
     unfolding at_index
-    at_live k v found = by (find (λ q. nat_eq q.index k.index) (map.keys m)) refl
-        (some_found (λ q. nat_eq q.index k.index) (map.keys m) k (eq-eqb k.index k.index refl) (sym (map.contains_key-keys m k) ∙ ap is_some found))
-      where
-        by : (o : Option Key) → find (λ q. nat_eq q.index k.index) (map.keys m) ≡ o → is_some o ≡ true → with_value m o ≡ Some (k, v)
-        by None is some = absurd (cc)
-        by (Some q) is some =
-            let first = first_found (λ q. nat_eq q.index k.index) (map.keys m) q is in
-            let same : q ≡ k = apart q k (map.contains_key-keys m q ∙ first.1) (ap is_some found) (eqb-true q.index k.index first.0) in
-            subst (λ (q : Key). with_value m (Some q) ≡ Some (k, v)) (sym same) (ap (option_map (λ v. (k, v))) found)
+    at_live k v found = ap (with_value m) (found_only m apart k (ap is_some found)) ∙ ap (option_map (λ v. (k, v))) found
 
     -- so there is one
     pub some_at : (i : ℕ) (k : Key) → map.contains_key m k ≡ true → k.index ≡ i → is_some (at_index m i) ≡ true
@@ -91,19 +68,15 @@ module _ {T : Type 0} (m : map.FinMap key_cmp T) where
   -- a key occurs no more often than its index
   often_by : (k : Key) (i : ℕ) (is : List ℕ) (o : Option (Key × T)) → at_index m i ≡ o → keys.times k (elements_at m is) ≤ times k.index is
       → keys.times k (cons_option o (elements_at m is)) ≤ times k.index (i ∷ is)
-  often_by k i is None found rest = let first = times_first k.index i is in omega arith
+  often_by k i is None found rest = omega (arith, times_first k.index i is)
   often_by k i is (Some e) found rest =
       let first = times_first k.index i is in
       let at = (at_is m i e found).0 in
       elim (same_or_other k e.0) [
         | inl same_key ↦ (
-            let one = keys.one_itself k in
-            let as_one = ap (λ q. keys.one k q) same_key in
-            let here = ap (λ n. same n k.index) (ap (λ (q : Key). q.index) same_key ∙ at) in
-            let itself = one_itself k.index in
-            omega arith
+            omega (arith, keys.one_itself k, ap (λ q. keys.one k q) same_key, ap (λ n. same n k.index) (ap (λ (q : Key). q.index) same_key ∙ at), one_itself k.index)
             )
-        | inr other ↦ (let none = keys.one_other k e.0 other in omega arith)
+        | inr other ↦ omega (arith, keys.one_other k e.0 other)
       ]
 
   pub as_often : (k : Key) (is : List ℕ) → keys.times k (elements_at m is) ≤ times k.index is
@@ -130,16 +103,15 @@ module _ {T : Type 0} (c : Content T) where
   pub key_found : {K : Type 0} (data_of : K → Key) (i : ℕ) (r : Option K) → IsContent true c → IfSome r (λ key. IsLive c (data_of key)) → IfSome r (λ key. (data_of key).index ≡ i)
       → IfNone r ((q : Key) → IsLive c q → q.index ≢ i) → option_map data_of r ≡ key_there c.live (Some i)
   key_found data_of i None well live index none = sym (ap (option_map (λ e. e.0)) (none_at c.live i none))
-  key_found data_of i (Some key) well live index none =
-      let v = some_is (map.get c.live (data_of key)) live in
+  key_found data_of i (Some key) well live index none = let v = some_is (map.get c.live (data_of key)) live in
       sym (ap (option_map (λ e. e.0)) (ap (at_index c.live) (sym index) ∙ at_live c.live (content_apart well) (data_of key) v.0 v.1))
 
 -- a number of a list, and the numbers behind it
 pub in_first : (i : ℕ) (is : List ℕ) → 0 < times i (i ∷ is)
-in_first i is = let first = times_first i i is in let one = one_itself i in omega arith
+in_first i is = omega (arith, times_first i i is, one_itself i)
 
 in_rest : (i q : ℕ) (is : List ℕ) → 0 < times q is → 0 < times q (i ∷ is)
-in_rest i q is more = let first = times_first q i is in omega arith
+in_rest i q is more = omega (arith, times_first q i is)
 
 module _ {T : Type 0} {m : map.FinMap key_cmp T} where
   pub rest_indices : {i : ℕ} {is : List ℕ} → AreLiveIndices m (i ∷ is) → AreLiveIndices m is
@@ -152,25 +124,17 @@ module _ {T : Type 0} {m : map.FinMap key_cmp T} where
   -- one element for each index
   pub elements_long : (is : List ℕ) → AreLiveIndices m is → length (elements_at m is) ≡ length is
   elements_long [] all = refl
-  elements_long (i ∷ is) all =
-      let e = element_of all i (in_first i is) in
-      let rest = elements_long is (rest_indices all) in
-      let here = ap length (elements_first m i is e.0 e.1) in
-      omega arith
+  elements_long (i ∷ is) all = let e = element_of all i (in_first i is) in omega (arith, elements_long is (rest_indices all), ap length (elements_first m i is e.0 e.1))
 
   -- the two ends
   pub first_at : (is : List ℕ) → AreLiveIndices m is → key_there m (numbers.first_or is None) ≡ first_or (elements_at m is) None
   first_at [] all = refl
-  first_at (i ∷ is) all =
-      let e = element_of all i (in_first i is) in
-      ap (option_map (λ e. e.0)) e.1 ∙ sym (ap (λ l. first_or l None) (elements_first m i is e.0 e.1))
+  first_at (i ∷ is) all = let e = element_of all i (in_first i is) in ap (option_map (λ e. e.0)) e.1 ∙ sym (ap (λ l. first_or l None) (elements_first m i is e.0 e.1))
 
   last_from : (is : List ℕ) (o : Option ℕ) → AreLiveIndices m is → key_there m (numbers.last_or is o) ≡ last_or (elements_at m is) (key_there m o)
   last_from [] o all = refl
-  last_from (i ∷ is) o all =
-      let e = element_of all i (in_first i is) in
-      last_from is (Some i) (rest_indices all)
-      ∙ ap (λ o. last_or (elements_at m is) o) (ap (option_map (λ e. e.0)) e.1) ∙ sym (ap (λ l. last_or l (key_there m o)) (elements_first m i is e.0 e.1))
+  last_from (i ∷ is) o all = let e = element_of all i (in_first i is) in last_from is (Some i) (rest_indices all) ∙ ap (λ o. last_or (elements_at m is) o) (ap (option_map (λ e. e.0)) e.1)
+      ∙ sym (ap (λ l. last_or l (key_there m o)) (elements_first m i is e.0 e.1))
 
   pub last_at : (is : List ℕ) → AreLiveIndices m is → key_there m (numbers.last_or is None) ≡ last_or (elements_at m is) None
   last_at is all = last_from is None all
@@ -179,10 +143,8 @@ module _ {T : Type 0} {m : map.FinMap key_cmp T} where
   pub elements_stay : (n : map.FinMap key_cmp T) (is : List ℕ) → AreLiveIndices m is → ((i : ℕ) (e : Key × T) → 0 < times i is → at_index m i ≡ Some e → at_index n i ≡ Some e)
       → elements_at n is ≡ elements_at m is
   elements_stay n [] all stay = refl
-  elements_stay n (i ∷ is) all stay =
-      let e = element_of all i (in_first i is) in
-      elements_first n i is e.0 (stay i e.0 (in_first i is) e.1) ∙ ap (λ l. e.0 ∷ l) (elements_stay n is (rest_indices all) (λ q f more. stay q f (in_rest i q is more)))
-      ∙ sym (elements_first m i is e.0 e.1)
+  elements_stay n (i ∷ is) all stay = let e = element_of all i (in_first i is) in elements_first n i is e.0 (stay i e.0 (in_first i is) e.1)
+      ∙ ap (λ l. e.0 ∷ l) (elements_stay n is (rest_indices all) (λ q f more. stay q f (in_rest i q is more))) ∙ sym (elements_first m i is e.0 e.1)
 
 -- a step along a list of indices, from either end
 module _ {T : Type 0} {m : map.FinMap key_cmp T} {is : List ℕ} (all : AreLiveIndices m is) (i : ℕ) (rest : List ℕ) where
@@ -202,7 +164,7 @@ module _ {T : Type 0} {m : map.FinMap key_cmp T} {is : List ℕ} (all : AreLiveI
     back_is back = ap (elements_at m) back ∙ elements-append m rest (i ∷ []) ∙ ap (λ l. elements_at m rest ++ l) (elements_first m i [] (k, v) here)
 
   pub front_counted : is ≡ i ∷ rest → 0 < times i is
-  front_counted front = let same_often = ap (times i) front in let one = in_first i rest in omega arith
+  front_counted front = omega (arith, ap (times i) front, in_first i rest)
 
   pub back_counted : is ≡ rest ++ i ∷ [] → 0 < times i is
-  back_counted back = let same_often = ap (times i) back ∙ times_joined i rest (i ∷ []) in let one = in_first i [] in omega arith
+  back_counted back = omega (arith, ap (times i) back ∙ times_joined i rest (i ∷ []), in_first i [])

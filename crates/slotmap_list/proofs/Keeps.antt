@@ -11,7 +11,8 @@ use Rattle.slotmap_links.specs.Lists.{Lists, list_of, with_list, times, IsFree}
 use Rattle.slotmap_links.proofs.Callers.{list_now, owners_stay}
 use Rattle.slotmap_links.proofs.Counts.{same, same_or_other as same_or_not, one_itself, one_other, times_first, times_joined, times_gone}
 use Rattle.slotmap_list.specs.Sequence.{Sequence, without, with_value_at}
-use Rattle.slotmap_list.specs.Kept.{at_index, elements_at, AreApart, AreLiveIndices, IsKept}
+use Rattle.slotmap_list.specs.Kept.{at_index, elements_at, AreLiveIndices, IsKept}
+use Rattle.slotmap_bounded.specs.Indices.{AreApart}
 use Rattle.slotmap_list.specs.ListPlaces.{is_place, put_by_place, put_number}
 use Rattle.slotmap_list.specs.declared.place.Place.{Place}
 use Rattle.slotmap_list.proofs.Elements.{with_value-split}
@@ -21,7 +22,7 @@ use Rattle.slotmap_list.proofs.Seen.{indices, once, inside_if, own, stands}
 
 -- how often a number is in a list with one more
 one_more : (i : ℕ) (before : List ℕ) (k : ℕ) (after : List ℕ) → times i (before ++ k ∷ after) ≡ same k i + times i (before ++ after)
-one_more i before k after = let a = times_joined i before (k ∷ after) in let b = times_first i k after in let c = times_joined i before after in omega arith
+one_more i before k after = omega (arith, times_joined i before (k ∷ after), times_first i k after, times_joined i before after)
 
 -- a number that isn't in the one list is free
 pub free_one : (s : Lists) (k : ℕ) → length s.lists ≡ 1 → k < s.members → times k (list_of s 0) ≡ 0 → IsFree s k
@@ -43,7 +44,7 @@ module _ {T : Type 0} {c : Content T} {s : Lists} (kept : IsKept c s) where
   is = list_of s 0
 
   there : 0 < length s.lists
-  there = let one = kept.owner in omega arith
+  there = omega (arith, kept.owner)
 
   -- this is the list now, with the indices of these keys
   now_kept : (new : Content T) (js : List ℕ) → AreApart new.live → ((i : ℕ) → times i js ≡ cond (is_some (at_index new.live i)) 1 0)
@@ -52,8 +53,8 @@ module _ {T : Type 0} {c : Content T} {s : Lists} (kept : IsKept c s) where
     owner = owners_stay s 0 js ∙ kept.owner;
     apart = apart;
     each = λ i. ap (times i) (list_now s 0 js there) ∙ each i;
-    within = λ i more. within i (let n = ap (times i) (list_now s 0 js there) in omega arith);
-    covered = (let covered = kept.covered in omega arith);
+    within = λ i more. within i (omega (arith, ap (times i) (list_now s 0 js there)));
+    covered = omega (arith, kept.covered);
   }
 
   -- room is made in the map, and in the links
@@ -62,7 +63,7 @@ module _ {T : Type 0} {c : Content T} {s : Lists} (kept : IsKept c s) where
     owner = ap length lists ∙ kept.owner;
     apart = subst AreApart (sym keeps.live) kept.apart;
     each = λ i. ap (λ (l : List (List ℕ)). times i (list_of (record { lists = l; members = 0 }) 0)) lists ∙ kept.each i ∙ ap (λ m. cond (is_some (at_index m i)) 1 0) (sym keeps.live);
-    within = λ i inside. (let n = ap (λ (l : List (List ℕ)). times i (list_of (record { lists = l; members = 0 }) 0)) lists in let below = kept.within i (omega arith) in omega arith);
+    within = λ i inside. (let n = ap (λ (l : List (List ℕ)). times i (list_of (record { lists = l; members = 0 }) 0)) lists in omega (arith, kept.within i (omega arith)));
     covered = covered;
   }
 
@@ -109,13 +110,11 @@ module _ {T : Type 0} {c : Content T} {s : Lists} (kept : IsKept c s) where
     rest = numbers.without k.index is
 
     taken : (i : ℕ) → times i is ≡ same k.index i + times i rest
-    taken i =
-        let at = stands kept k v found in
-        ap (times i) at.list ∙ one_more i at.before k.index at.after
+    taken i = let at = stands kept k v found in ap (times i) at.list ∙ one_more i at.before k.index at.after
         ∙ ap (λ l. same k.index i + times i l) (sym (number_without c.live is (indices kept) (once kept) k v found (inside_if kept k (ap is_some found)) at))
 
     rest_indices : AreLiveIndices c.live rest
-    rest_indices = record { apart = kept.apart; live = λ i more. (indices kept).live i (let all = taken i in omega arith) }
+    rest_indices = record { apart = kept.apart; live = λ i more. (indices kept).live i (omega (arith, taken i)) }
 
     pub rest_elements : elements_at c.live rest ≡ without k (elements_at c.live is)
     rest_elements = sym (element_without c.live is (indices kept) (once kept) k v found (inside_if kept k (ap is_some found)) (stands kept k v found))
@@ -145,11 +144,10 @@ module _ {T : Type 0} {c : Content T} {s : Lists} (kept : IsKept c s) where
             as_often ∙ kept.each i
             ∙ ap (λ b. cond b 1 0) (sym (some_alike c.live new.live kept.apart apart_left i (λ q index. ap is_some (others q (λ e. other (sym (ap (λ (q : Key). q.index) e) ∙ index))))))
             )
-      ]) (λ i more. kept.within i (let all = taken i in omega arith))
+      ]) (λ i more. kept.within i (omega (arith, taken i)))
 
       pub elements_taken : elements_at new.live (list_of (with_list s 0 rest) 0) ≡ without k (elements_at c.live is)
-      elements_taken =
-          ap (elements_at new.live) (list_now s 0 rest there)
+      elements_taken = ap (elements_at new.live) (list_now s 0 rest there)
           ∙ part_left c.live new.live k apart_left (λ q u other is. others q (λ e. other (ap (λ (q : Key). q.index) e)) ∙ is) rest rest_indices (times_gone k.index is) ∙ rest_elements
 
     -- it is put into another place
@@ -158,32 +156,27 @@ module _ {T : Type 0} {c : Content T} {s : Lists} (kept : IsKept c s) where
       again = put_number place k.index rest
 
       spot : IsPlace c.live rest place
-      spot = place_in c.live rest rest_indices (λ i. (let few = once kept i in let all = taken i in omega arith)) place can
+      spot = place_in c.live rest rest_indices (λ i. omega (arith, once kept i, taken i)) place can
 
       now : list_of (with_list (with_list s 0 rest) 0 again) 0 ≡ again
-      now = list_now (with_list s 0 rest) 0 again (let long = owners_stay s 0 rest in let one = kept.owner in omega arith)
+      now = list_now (with_list s 0 rest) 0 again (omega (arith, owners_stay s 0 rest, kept.owner))
 
       as_often : (i : ℕ) → times i again ≡ times i is
-      as_often i =
-          let put = ap (times i) (spot.number k.index) ∙ one_more i spot.before k.index spot.after in
-          let parts = ap (times i) spot.list in
-          let all = taken i in
-          omega arith
+      as_often i = omega (arith, ap (times i) (spot.number k.index) ∙ one_more i spot.before k.index spot.after, ap (times i) spot.list, taken i)
 
       pub kept_moved : IsKept c (with_list (with_list s 0 rest) 0 again)
       kept_moved = record {
         owner = owners_stay (with_list s 0 rest) 0 again ∙ owners_stay s 0 rest ∙ kept.owner;
         apart = kept.apart;
         each = λ i. ap (times i) now ∙ as_often i ∙ kept.each i;
-        within = λ i more. kept.within i (let n = ap (times i) now in let same_often = as_often i in omega arith);
+        within = λ i more. kept.within i (omega (arith, ap (times i) now, as_often i));
         covered = kept.covered;
       }
 
       pub elements_moved : elements_at c.live (list_of (with_list (with_list s 0 rest) 0 again) 0) ≡ put_by_place place (k, v) (without k (elements_at c.live is))
-      elements_moved =
-          ap (elements_at c.live) (now ∙ spot.number k.index)
-          ∙ put_between c.live c.live k v kept.apart found (λ q u other is. is) rest rest_indices (times_gone k.index is) spot.before spot.after spot.list
-          ∙ sym (spot.element (k, v)) ∙ ap (put_by_place place (k, v)) rest_elements
+      elements_moved = ap (elements_at c.live) (now ∙ spot.number k.index)
+          ∙ put_between c.live c.live k v kept.apart found (λ q u other is. is) rest rest_indices (times_gone k.index is) spot.before spot.after spot.list ∙ sym (spot.element (k, v))
+          ∙ ap (put_by_place place (k, v)) rest_elements
 
   -- a new key is put into a place
   module _ (new : Content T) (k : Key) (v : T) (inserts : Inserts c k v new) (fresh : map.get c.live k ≡ None) (well : IsContent true new) (place : Place)
@@ -230,7 +223,7 @@ module _ {T : Type 0} {c : Content T} {s : Lists} (kept : IsKept c s) where
               )
         ]) (λ i more. elim (same_or_not k.index i) [
           | inl same_index ↦ omega arith
-          | inr other ↦ kept.within i (let all = many_new i in let none = one_other k.index i other in omega arith)
+          | inr other ↦ kept.within i (omega (arith, many_new i, one_other k.index i other))
         ])
 
     pub elements_put : elements_at new.live (list_of (with_list s 0 more_is) 0) ≡ put_by_place place (k, v) (elements_at c.live is)
@@ -254,14 +247,12 @@ module _ {T : Type 0} (is_clone : T → T → Type 0) {c copy : Content T} {s : 
     apart = apart_copied;
     each = λ i. kept.each i ∙ ap (λ b. cond b 1 0) (sym (some_alike c.live copy.live kept.apart apart_copied i (λ k index. same_live k)));
     within = kept.within;
-    covered = (let covered = kept.covered in omega arith);
+    covered = omega (arith, kept.covered);
   }
 
   clones_by : (is : List ℕ) → AreLiveIndices c.live is → AreClones is_clone (elements_at c.live is) (elements_at copy.live is)
   clones_by [] all = tt
-  clones_by (i ∷ is) all =
-      let e = element_of all i (in_first i is) in
-      let found = at_is c.live i e.0 e.1 in
+  clones_by (i ∷ is) all = let e = element_of all i (in_first i is) in let found = at_is c.live i e.0 e.1 in
       by e.0 e.1 found.0 (map.get copy.live e.0.0) refl (subst (λ o. IsCloneOf is_clone o (map.get copy.live e.0.0)) found.1 (clones.live e.0.0)) (clones_by is (indices_behind all))
     where
       by : (e : Key × T) → at_index c.live i ≡ Some e → e.0.index ≡ i → (o : Option T) → map.get copy.live e.0 ≡ o → IsCloneOf is_clone (Some e.1) o

@@ -10,7 +10,7 @@ use Rattle.slotmap_list.specs.Sequence.{value_of}
 use Rattle.slotmap_list.specs.Kept.{elements_at, IsKept}
 use Rattle.slotmap_list.specs.ListPlaces.{has_place, is_move, is_place, moved_to, put_number}
 use Rattle.slotmap_list.specs.declared.place.Place.{Place}
-use Rattle.slotmap_list.proofs.Indices.{some_is}
+use Rattle.slotmap_bounded.proofs.Indices.{some_is}
 use Rattle.slotmap_list.proofs.Keeping.{moved_values}
 use Rattle.slotmap_list.proofs.Keeps.{elements_moved, free_one, kept_moved, rest_elements}
 use Rattle.slotmap_list.proofs.Moving.{mover_stands, place_left, put_there}
@@ -30,7 +30,7 @@ module _ {T : Type 0} {c : Content T} {s : Lists} (kept : IsKept c s) (k : Key) 
   without_it = with_list s 0 (numbers.without k.index (list_of s 0))
 
   there : 0 < length s.lists
-  there = let one = kept.owner in omega arith
+  there = omega (arith, kept.owner)
 
   taken : list_of without_it 0 ≡ numbers.without k.index (list_of s 0)
   taken = list_now s 0 (numbers.without k.index (list_of s 0)) there

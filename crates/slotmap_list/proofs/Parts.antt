@@ -11,14 +11,16 @@ use Rattle.slotmap_links.proofs.Counts.{is_itself, times_first, times_joined}
 use Rattle.slotmap_links.proofs.Linking.{in_midst, split_at, without_split}
 use Rattle.slotmap_links.proofs.SeenLists.{after_there, before_there, not_first, not_later, put_before_there, put_behind_there}
 use Rattle.slotmap_list.specs.Sequence.{value_of, key_after, key_before, from_key, put_after, put_before, without, IsOnce}
-use Rattle.slotmap_list.specs.Kept.{at_index, elements_at, key_there, AreApart, AreLiveIndices}
+use Rattle.slotmap_list.specs.Kept.{at_index, elements_at, key_there, AreLiveIndices}
+use Rattle.slotmap_bounded.specs.Indices.{AreApart}
 use Rattle.slotmap_list.specs.ListPlaces.{has_place, is_place, put_by_place, put_number}
 use Rattle.slotmap_list.specs.declared.place.Side.TheVariants.{Before, After}
 use Rattle.slotmap_list.specs.declared.place.Place.{Place}
 use Rattle.slotmap_list.specs.declared.place.Place.TheVariants.{Front, Back, Beside}
 use Rattle.slotmap_list.proofs.Elements as keys
 use Rattle.slotmap_list.proofs.Elements.{times_some, times_none, once_if, value_of-split, key_after-split, key_before-split, from_key-split, put_after-split, put_before-split, without-split}
-use Rattle.slotmap_list.proofs.Indices.{at_is, at_live, as_often, elements_first, elements-append, elements_stay, first_at, last_at, some_is}
+use Rattle.slotmap_bounded.proofs.Indices.{some_is}
+use Rattle.slotmap_list.proofs.Indices.{at_is, at_live, as_often, elements_first, elements-append, elements_stay, first_at, last_at}
 
 -- the numbers from a number on
 from_there : (k : ℕ) (before after : List ℕ) → times k before ≡ 0 → numbers.numbers_from k (before ++ k ∷ after) ≡ k ∷ after
@@ -39,7 +41,7 @@ module _ {T : Type 0} (m : map.FinMap key_cmp T) where
 
   -- one that has an element is live, and its index is in the list
   value_in : (k : Key) (is : List ℕ) → is_some (value_of k (elements_at m is)) ≡ true → (is_some (map.get m k) ≡ true) × (0 < times k.index is)
-  value_in k is some = (by (map.get m k) refl, (let often = as_often m k is in let more = times_some k (elements_at m is) some in omega arith))
+  value_in k is some = (by (map.get m k) refl, omega (arith, as_often m k is, times_some k (elements_at m is) some))
     where
       by : (o : Option T) → map.get m k ≡ o → is_some o ≡ true
       by None none = absurd (let gone = ap is_some (value_none k is none) in cc)
@@ -47,7 +49,7 @@ module _ {T : Type 0} (m : map.FinMap key_cmp T) where
 
   -- no key has two elements
   pub elements_once : (is : List ℕ) → ((i : ℕ) → times i is ≤ 1) → IsOnce (elements_at m is)
-  elements_once is once = once_if (elements_at m is) (λ q. (let often = as_often m q is in let few = once q.index in omega arith))
+  elements_once is once = once_if (elements_at m is) (λ q. omega (arith, as_often m q is, once q.index))
 
   -- the indices before that of k, and those behind it
   pub record IsAt (is : List ℕ) (k : Key) (v : T) : Type 0 where
@@ -74,16 +76,15 @@ module _ {T : Type 0} (m : map.FinMap key_cmp T) where
           list = split.2;
           not_before = none;
           not_after = omega arith;
-          before_indices = record { apart = all.apart; live = λ i more. all.live i (let h = ap (times i) split.2 ∙ times_joined i split.0 (k.index ∷ split.1) in omega arith) };
+          before_indices = record { apart = all.apart; live = λ i more. all.live i (omega (arith, ap (times i) split.2 ∙ times_joined i split.0 (k.index ∷ split.1))) };
           after_indices =
               record {
                 apart = all.apart;
-                live = λ i more. all.live i (let h = ap (times i) split.2 ∙ times_joined i split.0 (k.index ∷ split.1) in let f =
-                    times_first i k.index split.1 in omega arith);
+                live = λ i more. all.live i (omega (arith, ap (times i) split.2 ∙ times_joined i split.0 (k.index ∷ split.1), times_first i k.index split.1));
               };
           elements = ap (elements_at m) split.2 ∙ elements-append m split.0 (k.index ∷ split.1)
               ∙ ap (λ l. elements_at m split.0 ++ l) (elements_first m k.index split.1 (k, v) (at_live m all.apart k v found));
-          no_element = (let often = as_often m k split.0 in omega arith);
+          no_element = omega (arith, as_often m k split.0);
         }
 
     module _ (s : IsAt is k v) where
@@ -104,7 +105,7 @@ module _ {T : Type 0} (m : map.FinMap key_cmp T) where
           ∙ sym (ap (from_key k) s.elements ∙ from_key-split k v (elements_at m s.after) (elements_at m s.before) s.no_element)
 
       pub number_without : numbers.without k.index is ≡ s.before ++ s.after
-      number_without = ap (numbers.without k.index) s.list ∙ without_split k.index s.before s.after (let few = once k.index in let same = ap (times k.index) s.list in omega arith)
+      number_without = ap (numbers.without k.index) s.list ∙ without_split k.index s.before s.after (omega (arith, once k.index, ap (times k.index) s.list))
 
       pub element_without : without k (elements_at m is) ≡ elements_at m (numbers.without k.index is)
       element_without = ap (without k) s.elements ∙ without-split k v (elements_at m s.after) (elements_at m s.before) s.no_element
@@ -157,9 +158,8 @@ module _ {T : Type 0} (m : map.FinMap key_cmp T) where
 -- what is under other indices stays where others stay
 module _ {T : Type 0} (m n : map.FinMap key_cmp T) (k : Key) (apart : AreApart n) (others : (q : Key) (w : T) → q.index ≢ k.index → map.get m q ≡ Some w → map.get n q ≡ Some w) where
   pub part_left : (is : List ℕ) → AreLiveIndices m is → times k.index is ≡ 0 → elements_at n is ≡ elements_at m is
-  part_left is all none = elements_stay n is all (λ i e more at.
-      let found = at_is m i e at in
-      let other : e.0.index ≢ k.index = λ same. (let h = ap (λ j. times j is) (sym found.0 ∙ same) in absurd (omega arith)) in
+  part_left is all none =
+      elements_stay n is all (λ i e more at. let found = at_is m i e at in let other : e.0.index ≢ k.index = λ same. (absurd (omega (arith, ap (λ j. times j is) (sym found.0 ∙ same)))) in
       ap (at_index n) (sym found.0) ∙ at_live n apart e.0 e.1 (others e.0 e.1 other found.1))
 
 -- an element that is put between others, or written where it was
@@ -176,5 +176,5 @@ module _ {T : Type 0} (m n : map.FinMap key_cmp T) (k : Key) (v : T) (apart : Ar
   put_between is all none before after split =
       let sum : (i : ℕ) → times i is ≡ times i before + times i after = λ i. ap (times i) split ∙ times_joined i before after in
       let own = sum k.index in
-      placed before after (record { apart = all.apart; live = λ i more. all.live i (let h = sum i in omega arith) })
-      (record { apart = all.apart; live = λ i more. all.live i (let h = sum i in omega arith) }) (omega arith) (omega arith)
+      placed before after (record { apart = all.apart; live = λ i more. all.live i (omega (arith, sum i)) })
+      (record { apart = all.apart; live = λ i more. all.live i (omega (arith, sum i)) }) (omega arith) (omega arith)

@@ -10,7 +10,8 @@ use Rattle.slotmap_links.proofs.Counts.{times_first}
 use Rattle.slotmap_list.specs.Kept.{at_index, elements_at, key_there, AreLiveIndices, IsKept, IsRest}
 use Rattle.slotmap_list.proofs.Elements as keys
 use Rattle.slotmap_list.proofs.Elements.{times_none, key_after-absent, key_before-absent, from_key-absent, without-absent}
-use Rattle.slotmap_list.proofs.Indices.{elements_long, first_at, last_at, some_at, some_is}
+use Rattle.slotmap_bounded.proofs.Indices.{some_is}
+use Rattle.slotmap_list.proofs.Indices.{elements_long, first_at, last_at, some_at}
 use Rattle.slotmap_list.proofs.Parts.{IsAt, stands_at, value_none, value_there, next_there, prev_there, from_at, elements_once}
 
 -- a look-up that copies nothing found nothing
@@ -37,7 +38,7 @@ module _ {T : Type 0} {c : Content T} {s : Lists} (kept : IsKept c s) where
   es = elements_at c.live is
 
   pub indices : AreLiveIndices c.live is
-  indices = record { apart = kept.apart; live = λ i more. by i (is_some (at_index c.live i)) refl (let n = kept.each i in omega arith) }
+  indices = record { apart = kept.apart; live = λ i more. by i (is_some (at_index c.live i)) refl (omega (arith, kept.each i)) }
     where
       by : (i : ℕ) (b : Bool) → is_some (at_index c.live i) ≡ b → 0 < cond b 1 0 → IsSome (at_index c.live i)
       by i true some more = some
@@ -136,8 +137,8 @@ module _ {T : Type 0} {c : Content T} {s : Lists} (kept : IsKept c s) where
 
     pub rest_begins : (most : ℕ) → most ≡ length es → IsRest c.live from most
     rest_begins most long = subst (λ l. IsRest c.live l most) (sym from_is) (record {
-      indices = record { apart = indices.apart; live = λ j more. indices.live j (let few = (few_from k.index j is).0 in omega arith) };
-      few = (let few = (few_from k.index 0 is).1 in let all = elements_long is indices in omega arith);
+      indices = record { apart = indices.apart; live = λ j more. indices.live j (omega (arith, (few_from k.index j is).0)) };
+      few = omega (arith, (few_from k.index 0 is).1, elements_long is indices);
     })
 
     pub tail_elements : elements_at c.live from ≡ from_key k es

@@ -14,31 +14,23 @@ use Rattle.slotmap_list.proofs.Moving.{is_itself, is_other, two}
 
 module _ {T : Type 0} where
   two_are : (k other : Key) (es : List (Key × T)) → other ≢ k → 0 < times k es → 0 < times other es → are_two k other es ≡ true
-  two_are k other es apart here there =
-      let differ = is_other k other (λ e. apart (sym e)) in let a = some_there k es here in let b = some_there other es there in cc
+  two_are k other es apart here there = let differ = is_other k other (λ e. apart (sym e)) in let a = some_there k es here in let b = some_there other es there in cc
 
   -- an element stays where it is put beside itself
   stays_beside : (side : Side) (k : Key) (es : List (Key × T)) → moved_to (Beside side k) k es ≡ es
-  stays_beside side k es =
-      ap (λ b. if not b && (is_some (value_of k es) && is_some (value_of k es)) then put_again (insert_beside side k) k (value_of k es) es else es) (is_itself k)
+  stays_beside side k es = ap (λ b. if not b && (is_some (value_of k es) && is_some (value_of k es)) then put_again (insert_beside side k) k (value_of k es) es else es) (is_itself k)
 
   -- an element is taken out of a list and put back in
   again-split : (put : Key × T → List (Key × T) → List (Key × T)) (k : Key) (v : T) (ys zs : List (Key × T)) → IsOnce (ys ++ (k, v) ∷ zs)
       → put_again put k (value_of k (ys ++ (k, v) ∷ zs)) (ys ++ (k, v) ∷ zs) ≡ put (k, v) (ys ++ zs)
-  again-split put k v ys zs once =
-      let absent = (absent_before ys k v zs once).0 in
-      ap (λ o. put_again put k o (ys ++ (k, v) ∷ zs)) (value_of-split k v zs ys absent) ∙ ap (put (k, v)) (without-split k v zs ys absent)
+  again-split put k v ys zs once = let absent = (absent_before ys k v zs once).0 in ap (λ o. put_again put k o (ys ++ (k, v) ∷ zs)) (value_of-split k v zs ys absent)
+      ∙ ap (put (k, v)) (without-split k v zs ys absent)
 
   -- beside the element of c, which stands among the others
   module _ (k : Key) (v : T) (ys zs : List (Key × T)) (c : Key) (u : T) (us ws : List (Key × T)) (is : ys ++ zs ≡ us ++ (c, u) ∷ ws) (once : IsOnce (ys ++ (k, v) ∷ zs)) where
     beside-split : (side : Side) → moved_to (Beside side c) k (ys ++ (k, v) ∷ zs) ≡ insert_beside side c (k, v) (us ++ (c, u) ∷ ws)
-    beside-split side =
-        let all = ys ++ (k, v) ∷ zs in
-        let few = at_most_once all once c in
-        let sum = times-put c ys (k, v) zs in
-        let here = ap (times c) is ∙ times-put c us (c, u) ws in
-        let own = times-put k ys (k, v) zs in
-        let apart : c ≢ k = λ e. absurd (let first = ap (one c) (sym e) in grind (arith, one_itself c)) in
+    beside-split side = let all = ys ++ (k, v) ∷ zs in let few = at_most_once all once c in let sum = times-put c ys (k, v) zs in let here = ap (times c) is ∙ times-put c us (c, u) ws in
+        let own = times-put k ys (k, v) zs in let apart : c ≢ k = λ e. absurd (let first = ap (one c) (sym e) in grind (arith, one_itself c)) in
         ap (λ b. if b then put_again (insert_beside side c) k (value_of k all) all else all) (two_are k c all apart (grind (arith, one_itself k)) (grind (arith, one_itself c)))
         ∙ again-split (insert_beside side c) k v ys zs once ∙ ap (insert_beside side c (k, v)) is
 
@@ -52,13 +44,16 @@ module _ {T : Type 0} where
     before_to = beside-split Before ∙ put_before-split c u ws (k, v) us absent_c
 
     once_after : IsOnce (us ++ (c, u) ∷ (k, v) ∷ ws)
-    once_after = once_if (us ++ (c, u) ∷ (k, v) ∷ ws) (λ q. (
-        let few = at_most_once (ys ++ (k, v) ∷ zs) once q in
-        let sum = times-put q ys (k, v) zs in
-        let all = ap (times q) is ∙ times-put q us (c, u) ws in
-        let more = times-put q us (c, u) ((k, v) ∷ ws) in
-        let most = times-put q us (k, v) ws in
-        omega arith))
+    once_after =
+        once_if (us ++ (c, u) ∷ (k, v) ∷ ws) (λ q. (omega (
+          arith,
+          at_most_once (ys ++ (k, v) ∷ zs) once q,
+          times-put q ys (k, v) zs,
+          ap (times q) is
+              ∙ times-put q us (c, u) ws,
+          times-put q us (c, u) ((k, v) ∷ ws),
+          times-put q us (k, v) ws,
+        )))
 
   -- k stands before the other one, and the two moves make this of the list
   forward : (k other : Key) (v w : T) (xs ys zs : List (Key × T)) → IsOnce (xs ++ (k, v) ∷ (ys ++ (other, w) ∷ zs))
@@ -74,9 +69,7 @@ module _ {T : Type 0} where
   -- or it stands behind it
   backward : (k other : Key) (v w : T) (xs ys zs : List (Key × T)) → IsOnce ((xs ++ (other, w) ∷ ys) ++ (k, v) ∷ zs)
       → moved_to (before_or_back (first_or zs None)) other (moved_to (Beside After other) k ((xs ++ (other, w) ∷ ys) ++ (k, v) ∷ zs)) ≡ xs ++ (k, v) ∷ (ys ++ (other, w) ∷ zs)
-  backward k other v w xs ys [] once =
-      let list = append_assoc xs ((other, w) ∷ ys) [] in
-      ap (moved_to Back other) (after_to k v (xs ++ (other, w) ∷ ys) [] other w xs (ys ++ []) list once)
+  backward k other v w xs ys [] once = let list = append_assoc xs ((other, w) ∷ ys) [] in ap (moved_to Back other) (after_to k v (xs ++ (other, w) ∷ ys) [] other w xs (ys ++ []) list once)
       ∙ again-split (λ x rest. rest ++ x ∷ []) other w xs ((k, v) ∷ (ys ++ [])) (once_after k v (xs ++ (other, w) ∷ ys) [] other w xs (ys ++ []) list once)
       ∙ append_assoc xs ((k, v) ∷ (ys ++ [])) ((other, w) ∷ []) ∙ ap (λ l. xs ++ (k, v) ∷ (l ++ (other, w) ∷ [])) (append-nil ys)
   backward k other v w xs ys (z ∷ zs) once =

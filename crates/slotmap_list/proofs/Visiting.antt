@@ -32,8 +32,7 @@ module _ {T : Type 0} where
 module _ {F K T : Type 0} {g : Mut F (K × (MutBor T × Unit {0})) (Bool × (MutBor T × Unit {0}))} {data_of : K → Key} where
   each_push : (f : F) (es left : List (Key × T)) (f' : F) (e : Key × T) (more : List (Key × T)) (f'' : F) → RetainsEach g data_of f es left f' → RetainsOne g data_of f' e more f''
       → RetainsEach g data_of f (es ++ e ∷ []) (left ++ more) f''
-  each_push f [] left f' e more f'' all one =
-      (more, f'', [], subst (λ x. RetainsOne g data_of x e more f'') all.1 one, (refl, refl), ap (λ l. l ++ more) all.0 ∙ sym (append-nil more))
+  each_push f [] left f' e more f'' all one = (more, f'', [], subst (λ x. RetainsOne g data_of x e more f'') all.1 one, (refl, refl), ap (λ l. l ++ more) all.0 ∙ sym (append-nil more))
   each_push f (x ∷ es) left f' e more f'' all one =
       (all.0, all.1, all.2 ++ more, all.3, each_push all.1 es all.2 f' e more f'' all.4 one, ap (λ l. l ++ more) all.5 ∙ append_assoc all.0 all.2 more)
 
@@ -68,11 +67,8 @@ module _ {F K T : Type 0} (g : Mut F (K × (MutBor T × Unit {0})) (Bool × (Mut
   }
 
   pub retaining_end : (old : Sequence T) (f : F) (now : Sequence T) (f' : F) → Retaining old f now None f' → RetainsEach g data_of f old.elements now.elements f'
-  retaining_end old f now f' r =
-      let none = no_first r.rest (sym r.at_is) in
-      let old_is : old.elements ≡ r.done = r.old_is ∙ ap (λ l. r.done ++ l) none ∙ append-nil r.done in
-      let now_is : now.elements ≡ r.left = r.now_is ∙ ap (λ l. r.left ++ l) none ∙ append-nil r.left in
-      rw (old_is, now_is) r.visited
+  retaining_end old f now f' r = let none = no_first r.rest (sym r.at_is) in let old_is : old.elements ≡ r.done = r.old_is ∙ ap (λ l. r.done ++ l) none ∙ append-nil r.done in
+      let now_is : now.elements ≡ r.left = r.now_is ∙ ap (λ l. r.left ++ l) none ∙ append-nil r.left in rw (old_is, now_is) r.visited
 
 -- a step: the element of k is visited
 module _ {F K T : Type 0} {g : Mut F (K × (MutBor T × Unit {0})) (Bool × (MutBor T × Unit {0}))} {data_of : K → Key}
@@ -123,10 +119,8 @@ module _ {F K T : Type 0} {g : Mut F (K × (MutBor T × Unit {0})) (Bool × (Mut
 
       -- these elements are left before those ahead, which are one less
       ahead_less : (new left : List (Key × T)) → new ≡ left ++ here.1 → IsOnce new → ahead next new < ahead (Some k) now.elements
-      ahead_less new left new_is single =
-          let long : ahead next new ≡ length here.1 = ap (λ o. ahead o new) next_is ∙ ap (ahead (first_or here.1 None)) new_is ∙ ahead-first left here.1 (subst IsOnce new_is single) in
-          let all = ahead_here in
-          omega arith
+      ahead_less new left new_is single = let long : ahead next new ≡ length here.1 = ap (λ o. ahead o new) next_is ∙ ap (ahead (first_or here.1 None)) new_is
+          ∙ ahead-first left here.1 (subst IsOnce new_is single) in omega (arith, ahead_here)
 
       kept_is : with_value_at k after.now now.elements ≡ (r.left ++ (k, after.now) ∷ []) ++ here.1
       kept_is = written ∙ sym (append_assoc r.left ((k, after.now) ∷ []) here.1)
@@ -184,6 +178,4 @@ module _ {F K T : Type 0} (g : Mut F (K × (MutBor T × Unit {0})) (Bool × (Mut
   still_callable f (e ∷ es) left f' always all = still_callable all.1 es all.2 f' (mut_next g f _ _ all.1 all.1 all.3.called refl always) all.4
 
   pub callable_in_order : (f : F) (es : List (Key × T)) → always_mut g f → CallableInOrder g data_of f es
-  callable_in_order f es always = record {
-    at = λ before e after left f' key shown is visited at shows. ((still_callable f before left f' always visited).at ((key, (shown, tt)) ∷ [])).0;
-  }
+  callable_in_order f es always = record { at = λ before e after left f' key shown is visited at shows. ((still_callable f before left f' always visited).at ((key, (shown, tt)) ∷ [])).0 }

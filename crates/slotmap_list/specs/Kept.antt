@@ -1,8 +1,9 @@
 -- How a list is kept: its values in a map, and the indices of their keys, in the order of the list, as a list of numbers.
-use Rattle.std.specs.Prelude.{◌≡◌, ℕ, ◌<◌, ◌≤◌, true, cond, nat_eq, List, [], length, Option, Some, None, option_map, IsSome, is_some}
-use Rattle.std.specs.List.{find, filter_map}
+use Rattle.std.specs.Prelude.{◌≡◌, ℕ, ◌<◌, ◌≤◌, cond, List, [], length, Option, Some, None, option_map, IsSome, is_some}
+use Rattle.std.specs.List.{filter_map}
 use Rattle.std.specs.FinMap as map
 use Rattle.slotmap.specs.Words.{Key, key_cmp, Content}
+use Rattle.slotmap_bounded.specs.Indices.{AreApart, found_at}
 use Rattle.slotmap_links.specs.Lists.{Lists, list_of, times}
 
 module _ {T : Type 0} where
@@ -13,7 +14,7 @@ module _ {T : Type 0} where
 
   -- the live key with this index, and its value
   unfoldable pub at_index : map.FinMap key_cmp T → ℕ → Option (Key × T)
-  at_index m i = with_value m (find (λ k. nat_eq k.index i) (map.keys m))
+  at_index m i = with_value m (found_at m i)
 
   -- the elements at these indices, in their order
   abbrev pub elements_at : map.FinMap key_cmp T → List ℕ → List (Key × T)
@@ -23,10 +24,6 @@ module _ {T : Type 0} where
   abbrev pub key_there : map.FinMap key_cmp T → Option ℕ → Option Key
   key_there m None = None
   key_there m (Some i) = option_map (λ e. e.0) (at_index m i)
-
-  -- no two live keys have one index
-  abbrev pub AreApart : map.FinMap key_cmp T → Type 0
-  AreApart m = (a b : Key) → map.contains_key m a ≡ true → map.contains_key m b ≡ true → a.index ≡ b.index → a ≡ b
 
   -- each of these numbers is the index of a live key
   pub record AreLiveIndices (m : map.FinMap key_cmp T) (is : List ℕ) : Type 0 where

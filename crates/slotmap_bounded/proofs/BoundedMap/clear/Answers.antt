@@ -5,7 +5,7 @@ use Rattle.slotmap_bounded.proofs.BoundedMap.clear.Goals as goal
 
 pub loop-index-preserved : goal.loop-index-preserved
 loop-index-preserved g c = let so_far = c.loop-index.invariant in record {
-  above = λ k live. (let low = so_far.above k (c.clear_at.ensures.leaves.no_more k live) in let apart = c.clear_at.ensures.gone k live in omega arith);
+  above = λ k live. omega (arith, so_far.above k (c.clear_at.ensures.leaves.no_more k live), c.clear_at.ensures.gone k live);
   leaves = leaves_in_turn c.args.self.now c.loop-index.self c.clear_at.new.self so_far.leaves c.clear_at.ensures.leaves;
   stays = record { before = so_far.stays.before; after = c.clear_at.ensures.valid.after; capacity = c.clear_at.ensures.valid.capacity ∙ so_far.stays.capacity };
 }

@@ -9,24 +9,20 @@ pub invariant_of-self : goal.invariant_of-self
 invariant_of-self g c = record {
   out = bare_threaded from c.clear.new.self c.clear-2.new.self c.clear-3.new.self c.clear.ensures.empty c.clear-2.ensures.empty
       (λ p. ap (λ l. list_of l p) c.clear-3.ensures ∙ list_cleared (length c.self.inside.out.lists) c.self.inside.out.members p)
-      (let same = c.clear.ensures.valid.capacity in let now = ap (λ (l : Lists). length l.lists) c.clear-3.ensures
-      ∙ length-replicate (length c.self.inside.out.lists) [] in let was = c.self.invariant.out.owners in omega arith)
-      (let same = c.clear-2.ensures.valid.capacity in let now = ap (λ (l : Lists). l.members) c.clear-3.ensures in let was = c.self.invariant.out.members in omega arith);
+      (omega (arith, c.clear.ensures.valid.capacity, ap (λ (l : Lists). length l.lists) c.clear-3.ensures ∙ length-replicate (length c.self.inside.out.lists) [], c.self.invariant.out.owners))
+      (omega (arith, c.clear-2.ensures.valid.capacity, ap (λ (l : Lists). l.members) c.clear-3.ensures, c.self.invariant.out.members));
   into = bare_threaded to c.clear.new.self c.clear-2.new.self c.clear-4.new.self c.clear.ensures.empty c.clear-2.ensures.empty
       (λ p. ap (λ l. list_of l p) c.clear-4.ensures ∙ list_cleared (length c.self.inside.into.lists) c.self.inside.into.members p)
-      (let same = c.clear.ensures.valid.capacity in let now = ap (λ (l : Lists). length l.lists) c.clear-4.ensures
-      ∙ length-replicate (length c.self.inside.into.lists) [] in let was = c.self.invariant.into.owners in omega arith)
-      (let same = c.clear-2.ensures.valid.capacity in let now = ap (λ (l : Lists). l.members) c.clear-4.ensures in let was = c.self.invariant.into.members in omega arith);
+      (omega (arith, c.clear.ensures.valid.capacity, ap (λ (l : Lists). length l.lists) c.clear-4.ensures ∙ length-replicate (length c.self.inside.into.lists) [], c.self.invariant.into.owners))
+      (omega (arith, c.clear-2.ensures.valid.capacity, ap (λ (l : Lists). l.members) c.clear-4.ensures, c.self.invariant.into.members));
 }
 
 pub returns-clause-for_good : goal.returns-clause-for_good
-returns-clause-for_good g c k live =
-    let none = ap (λ m. map.contains_key m k) c.clear.ensures.empty ∙ ap is_some (map.get-empty {X = g.row.N.Denot} key_cmp k) in
+returns-clause-for_good g c k live = let none = ap (λ m. map.contains_key m k) c.clear.ensures.empty ∙ ap is_some (map.get-empty {X = g.row.N.Denot} key_cmp k) in
     left_spent c.self.inside.nodes c.clear.new.self true c.clear.ensures.valid.before k c.clear.ensures.leaves (rw (← c.self.view_is) at live) none
 
 pub returns-clause-edges_for_good : goal.returns-clause-edges_for_good
-returns-clause-edges_for_good g c k live =
-    let none = ap (λ m. map.contains_key m k) c.clear-2.ensures.empty ∙ ap is_some (map.get-empty {X = SeenEdge g.row.E.Denot} key_cmp k) in
+returns-clause-edges_for_good g c k live = let none = ap (λ m. map.contains_key m k) c.clear-2.ensures.empty ∙ ap is_some (map.get-empty {X = SeenEdge g.row.E.Denot} key_cmp k) in
     left_spent c.self.inside.edges c.clear-2.new.self true c.clear-2.ensures.valid.before k c.clear-2.ensures.leaves (rw (← c.self.view_is) at live) none
 
 pub returns-clause-gone : goal.returns-clause-gone

@@ -36,9 +36,7 @@ returns-then-contains_key g c =
     c.unwrap-edge.result c.source.result comes c.source.ensures.begins (rw c.outer-node.ensures at (sym c.contains_key.ensures.value ∙ c.if-contains_key.true))
 
 pub loop-passed-smaller : goal.loop-passed-smaller
-loop-passed-smaller g c =
-    let fits = back_fits c.args.self.now c.args.counts.now.pairs c.loop-passed.seen.pairs _ (g.K.Key.data_of c.loop-passed.node) c.loop-passed.invariant
-    c.mark.new.seen.pairs _ c.in_ok-mark.ensures.listed c.mark.ensures.others c.in_ok-mark.ensures.marks in
-    let was = length-map c.loop-passed.passed.items g.K.Key.data_of in
-    let now = length-map c.mark.new.found.items g.K.Key.data_of in
-    omega (arith, fits.0, fits.1, was, now)
+loop-passed-smaller g c = let fits =
+    back_fits c.args.self.now c.args.counts.now.pairs c.loop-passed.seen.pairs _
+    (g.K.Key.data_of c.loop-passed.node) c.loop-passed.invariant c.mark.new.seen.pairs _ c.in_ok-mark.ensures.listed c.mark.ensures.others c.in_ok-mark.ensures.marks in
+    omega (arith, length-map c.loop-passed.passed.items g.K.Key.data_of, length-map c.mark.new.found.items g.K.Key.data_of, fits.0, fits.1)

@@ -1,4 +1,3 @@
-use Rattle.slotmap_graph.proofs.Common.{from, to}
 use Rattle.slotmap_graph.proofs.GraphSteps.{out_touches, first_there, into_found, into_none}
 use Rattle.slotmap_graph.proofs.Threaded.{lists}
 use Rattle.slotmap_graph.proofs.Graph.edge_at.Goals as goal
@@ -9,10 +8,10 @@ returns-in-Some-clause-some g c =
     (first_there c.edges_from.result c.in-Some.edge c.next.new.self c.in-Some.ensures.steps)
 
 pub returns-in-Some-clause-out : goal.returns-in-Some-clause-out
-returns-in-Some-clause-out g c = rw (← c.self.view_is) (lists from _ _ _ c.self.invariant.out)
+returns-in-Some-clause-out g c = rw (← c.self.view_is) (lists c.self.invariant.out)
 
 pub returns-in-Some-clause-into : goal.returns-in-Some-clause-into
-returns-in-Some-clause-into g c = rw (← c.self.view_is) (lists to _ _ _ c.self.invariant.into)
+returns-in-Some-clause-into g c = rw (← c.self.view_is) (lists c.self.invariant.into)
 
 pub returns-in-None-clause-some : goal.returns-in-None-clause-some
 returns-in-None-clause-some g c = into_found c.args.self.now.edges.live (g.K.Key.data_of c.args.node) c.edges_to.result c.next-in-None.new.self c.edges_to.ensures.listed
@@ -24,7 +23,7 @@ returns-in-None-clause-none g c =
     c.in-None.ensures.steps.0 c.edges_to.ensures.listed c.next-in-None.result c.next-in-None.ensures.steps
 
 pub returns-in-None-clause-out : goal.returns-in-None-clause-out
-returns-in-None-clause-out g c = rw (← c.self.view_is) (lists from _ _ _ c.self.invariant.out)
+returns-in-None-clause-out g c = rw (← c.self.view_is) (lists c.self.invariant.out)
 
 pub returns-in-None-clause-into : goal.returns-in-None-clause-into
-returns-in-None-clause-into g c = rw (← c.self.view_is) (lists to _ _ _ c.self.invariant.into)
+returns-in-None-clause-into g c = rw (← c.self.view_is) (lists c.self.invariant.into)

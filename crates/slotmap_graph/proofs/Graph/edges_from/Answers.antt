@@ -1,6 +1,5 @@
-use Rattle.slotmap_graph.proofs.Common.{from}
 use Rattle.slotmap_graph.proofs.Threaded.{lists}
 use Rattle.slotmap_graph.proofs.Graph.edges_from.Goals as goal
 
 pub returns-clause-listed : goal.returns-clause-listed
-returns-clause-listed g c = rw (← c.self.view_is, c.edges_of.ensures) (lists from _ _ _ c.self.invariant.out (g.K.Key.data_of c.args.node))
+returns-clause-listed g c = rw (← c.self.view_is, c.edges_of.ensures) (lists c.self.invariant.out (g.K.Key.data_of c.args.node))

@@ -1,6 +1,5 @@
-use Rattle.slotmap_graph.proofs.Common.{to}
 use Rattle.slotmap_graph.proofs.Threaded.{lists}
 use Rattle.slotmap_graph.proofs.Graph.edges_to.Goals as goal
 
 pub returns-clause-listed : goal.returns-clause-listed
-returns-clause-listed g c = rw (← c.self.view_is, c.edges_of.ensures) (lists to _ _ _ c.self.invariant.into (g.K.Key.data_of c.args.node))
+returns-clause-listed g c = rw (← c.self.view_is, c.edges_of.ensures) (lists c.self.invariant.into (g.K.Key.data_of c.args.node))

@@ -4,12 +4,7 @@ use Rattle.slotmap_graph.proofs.Followed.{found_first, next_live, not_found, wal
 use Rattle.slotmap_graph.proofs.Graph.find_edge.Goals as goal
 
 pub loop-edge-init : goal.loop-edge-init
-loop-edge-init g c = record {
-  can_next = tt;
-  is_finite = tt;
-  walked = c.into_iter-edge-iterator.ensures.into_iter_gives ∙ c.edges_from-edge-items.ensures.in_order;
-  none = refl;
-}
+loop-edge-init g c = record { can_next = tt; is_finite = tt; walked = c.into_iter-edge-iterator.ensures.into_iter_gives ∙ c.edges_from-edge-items.ensures.in_order; none = refl }
 
 pub target-requires : goal.target-requires
 target-requires g c =

@@ -6,12 +6,7 @@ use Rattle.slotmap_graph.proofs.TopologicalOrders.{each_counted}
 use Rattle.slotmap_graph.proofs.Graph.first_left.Goals as goal
 
 pub loop-node-init : goal.loop-node-init
-loop-node-init g c = record {
-  can_next = tt;
-  is_finite = tt;
-  walked = c.into_iter-node-iterator.ensures.into_iter_gives ∙ c.nodes-node-items.ensures;
-  none = λ x more. absurd (omega arith);
-}
+loop-node-init g c = record { can_next = tt; is_finite = tt; walked = c.into_iter-node-iterator.ensures.into_iter_gives ∙ c.nodes-node-items.ensures; none = λ x more. absurd (omega arith) }
 
 pub index-requires : goal.index-requires
 index-requires g c = each_counted c.args.self.now c.args.counts.now.pairs _ c.requires.1 (g.K.Key.data_of c.in-Some.node) (key_live c.args.self.now.nodes.live (g.K.Key.data_of c.in-Some.node)

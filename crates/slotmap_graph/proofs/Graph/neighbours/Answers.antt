@@ -29,6 +29,5 @@ loop-edge-preserved g c =
     }
 
 pub returns : goal.returns
-returns g c =
-    let all = walked c.loop-edge.yielded c.loop-edge.edge-iterator _ c.loop-edge.invariant.walked c.in-None.ensures.steps.0 in
-    c.loop-edge.invariant.found ∙ ap (ends_along to c.args.self.now.edges.live) all
+returns g c = let all = walked c.loop-edge.yielded c.loop-edge.edge-iterator _ c.loop-edge.invariant.walked c.in-None.ensures.steps.0 in c.loop-edge.invariant.found
+    ∙ ap (ends_along to c.args.self.now.edges.live) all

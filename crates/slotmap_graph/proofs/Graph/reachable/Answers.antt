@@ -1,6 +1,5 @@
 use Rattle.std.proofs.Common.{◌≡◌, ◌<◌, ◌≤◌, ◌∙◌}
-use Rattle.slotmap_graph.proofs.Common.{length, get_or, sym, ap, arith, list_map, get_or-map, length-map, IsLive, beside_empty}
-use Rattle.slotmap_graph.proofs.Common.{edges_at, to, ends_along, marked}
+use Rattle.slotmap_graph.proofs.Common.{length, get_or, sym, ap, arith, list_map, get_or-map, length-map, IsLive, beside_empty, edges_at, to, ends_along, marked}
 use Rattle.slotmap_graph.proofs.GraphSteps.{puts_alone}
 use Rattle.slotmap_graph.proofs.Followed.{order_step, order_end}
 use Rattle.slotmap_graph.proofs.Searches.{are_none, listed_once, searching_start, searching_step, searching_all, searching_found, searching_fits}
@@ -34,11 +33,13 @@ pub mark_neighbours-requires-clause-live : goal.mark_neighbours-requires-clause-
 mark_neighbours-requires-clause-live g c = c.loop-at.invariant.searching.live
 
 pub loop-at-smaller : goal.loop-at-smaller
-loop-at-smaller g c =
-    let keys = list_map g.K.Key.data_of c.loop-at.found.items in
-    let fits = searching_fits c.args.self.now.nodes c.args.self.now.edges.live (g.K.Key.data_of c.args.from) c.loop-at.seen.pairs keys c.loop-at.at c.loop-at.invariant.searching in
-    let long : length keys ≡ length c.loop-at.found.items = length-map c.loop-at.found.items g.K.Key.data_of in
-    omega (arith, c.loop-at.found.ok.0, fits, long)
+loop-at-smaller g c = let keys = list_map g.K.Key.data_of c.loop-at.found.items in let long : length keys ≡ length c.loop-at.found.items = length-map c.loop-at.found.items g.K.Key.data_of in
+    omega (
+      arith,
+      searching_fits c.args.self.now.nodes c.args.self.now.edges.live (g.K.Key.data_of c.args.from) c.loop-at.seen.pairs keys c.loop-at.at c.loop-at.invariant.searching,
+      c.loop-at.found.ok.0,
+      long,
+    )
 
 pub loop-at-preserved : goal.loop-at-preserved
 loop-at-preserved g c =
@@ -68,10 +69,8 @@ returns-clause-found_is_reachable g c x more =
     (searching_found c.args.self.now.nodes c.args.self.now.edges.live (g.K.Key.data_of c.args.from) c.loop-at.seen.pairs _ c.loop-at.at c.loop-at.invariant.searching x more).1
 
 pub returns-clause-reachable_is_found : goal.returns-clause-reachable_is_found
-returns-clause-reachable_is_found g c x live leads =
-    let keys = list_map g.K.Key.data_of c.loop-at.found.items in
-    let long : length keys ≡ length c.loop-at.found.items = length-map c.loop-at.found.items g.K.Key.data_of in
-    let past : length keys ≤ c.loop-at.at = omega (arith, c.loop-at.found.ok.0, long) in
+returns-clause-reachable_is_found g c x live leads = let keys = list_map g.K.Key.data_of c.loop-at.found.items in
+    let long : length keys ≡ length c.loop-at.found.items = length-map c.loop-at.found.items g.K.Key.data_of in let past : length keys ≤ c.loop-at.at = omega (arith, c.loop-at.found.ok.0, long) in
     searching_all c.args.self.now.nodes c.args.self.now.edges.live (g.K.Key.data_of c.args.from) c.loop-at.seen.pairs keys c.loop-at.at c.loop-at.invariant.searching past x leads
 
 pub returns-clause-live : goal.returns-clause-live
@@ -81,8 +80,6 @@ returns-clause-live g c x more = (
 )
 
 pub returns-clause-in_order : goal.returns-clause-in_order
-returns-clause-in_order g c live =
-    let keys = list_map g.K.Key.data_of c.loop-at.found.items in
-    let long : length keys ≡ length c.loop-at.found.items = length-map c.loop-at.found.items g.K.Key.data_of in
-    let past : length keys ≤ c.loop-at.at = omega (arith, c.loop-at.found.ok.0, long) in
+returns-clause-in_order g c live = let keys = list_map g.K.Key.data_of c.loop-at.found.items in
+    let long : length keys ≡ length c.loop-at.found.items = length-map c.loop-at.found.items g.K.Key.data_of in let past : length keys ≤ c.loop-at.at = omega (arith, c.loop-at.found.ok.0, long) in
     order_end (λ k. ends_along to c.args.self.now.edges.live (edges_at c.args.self.now.out k)) (g.K.Key.data_of c.args.from) keys c.loop-at.at c.loop-at.invariant.order past

@@ -4,27 +4,25 @@ use Rattle.slotmap_graph.proofs.Threaded.{left_seen, left_threaded, lists, owner
 use Rattle.slotmap_graph.proofs.Graph.remove_edge.Goals as goal
 
 pub returns-in_err-removed-clause-out : goal.returns-in_err-removed-clause-out
-returns-in_err-removed-clause-out g c k =
-    rw (c.in_err-removed.ensures.unchanged, ← c.self.view_is) (lacks from c.self.inside.edges.live c.args.edge (sym c.in_err-removed.ensures.value) k _ (lists from _ _ _ c.self.invariant.out k))
+returns-in_err-removed-clause-out g c k = rw (c.in_err-removed.ensures.unchanged, ← c.self.view_is)
+    (lacks from c.self.inside.edges.live c.args.edge (sym c.in_err-removed.ensures.value) k _ (lists c.self.invariant.out k))
 
 pub returns-in_err-removed-clause-into : goal.returns-in_err-removed-clause-into
-returns-in_err-removed-clause-into g c k =
-    rw (c.in_err-removed.ensures.unchanged, ← c.self.view_is) (lacks to c.self.inside.edges.live c.args.edge (sym c.in_err-removed.ensures.value) k _ (lists to _ _ _ c.self.invariant.into k))
+returns-in_err-removed-clause-into g c k = rw (c.in_err-removed.ensures.unchanged, ← c.self.view_is)
+    (lacks to c.self.inside.edges.live c.args.edge (sym c.in_err-removed.ensures.value) k _ (lists c.self.invariant.into k))
 
 pub take_out-requires-clause-node : goal.take_out-requires-clause-node
-take_out-requires-clause-node g c = rw c.ends-from.ensures
-    (owner_within from _ _ _ c.self.invariant.out c.in_ok-removed.removed.from (c.self.invariant.out.ends c.args.edge c.in_ok-removed.removed (sym c.in_ok-removed.ensures.value)))
+take_out-requires-clause-node g c = rw c.ends-from.ensures (owner_within c.self.invariant.out _ (c.self.invariant.out.ends c.args.edge _ (sym c.in_ok-removed.ensures.value)))
 
 pub take_out-requires-2-clause-node : goal.take_out-requires-2-clause-node
-take_out-requires-2-clause-node g c = rw c.ends-from.ensures
-    (owner_within to _ _ _ c.self.invariant.into c.in_ok-removed.removed.to (c.self.invariant.into.ends c.args.edge c.in_ok-removed.removed (sym c.in_ok-removed.ensures.value)))
+take_out-requires-2-clause-node g c = rw c.ends-from.ensures (owner_within c.self.invariant.into _ (c.self.invariant.into.ends c.args.edge _ (sym c.in_ok-removed.ensures.value)))
 
 pub invariant_of-self-2 : goal.invariant_of-self-2
 invariant_of-self-2 g c = record {
-  out = left_threaded from _ _ _ c.self.invariant.out c.args.edge c.in_ok-removed.removed (sym c.in_ok-removed.ensures.value) c.remove.new.self c.remove.ensures.live c.remove.ensures.valid.capacity
-      c.take_out.new.links (rw c.ends-from.ensures at c.take_out.ensures.list) c.take_out.ensures.disjoint;
-  into = left_threaded to _ _ _ c.self.invariant.into c.args.edge c.in_ok-removed.removed (sym c.in_ok-removed.ensures.value) c.remove.new.self c.remove.ensures.live c.remove.ensures.valid.capacity
-      c.take_out-2.new.links (rw c.ends-from.ensures at c.take_out-2.ensures.list) c.take_out-2.ensures.disjoint;
+  out = left_threaded c.self.invariant.out c.args.edge (sym c.in_ok-removed.ensures.value) c.remove.new.self c.remove.ensures.live c.remove.ensures.valid.capacity
+      (rw c.ends-from.ensures at c.take_out.ensures.list) c.take_out.ensures.disjoint;
+  into = left_threaded c.self.invariant.into c.args.edge (sym c.in_ok-removed.ensures.value) c.remove.new.self c.remove.ensures.live c.remove.ensures.valid.capacity
+      (rw c.ends-from.ensures at c.take_out-2.ensures.list) c.take_out-2.ensures.disjoint;
 }
 
 pub returns-clause-for_good : goal.returns-clause-for_good
@@ -39,10 +37,10 @@ returns-clause-gone g c = rw (← c.self.view_is) (spent_removes _ _ true c.remo
 
 pub returns-clause-out : goal.returns-clause-out
 returns-clause-out g c = rw (← c.self.view_is)
-    (left_seen from _ _ _ c.self.invariant.out c.args.edge c.in_ok-removed.removed (sym c.in_ok-removed.ensures.value) c.remove.new.self c.remove.ensures.live c.remove.ensures.valid.capacity
-    c.take_out.new.links (rw c.ends-from.ensures at c.take_out.ensures.list))
+    (left_seen c.self.invariant.out c.args.edge (sym c.in_ok-removed.ensures.value) c.remove.new.self c.remove.ensures.live c.remove.ensures.valid.capacity
+    (rw c.ends-from.ensures at c.take_out.ensures.list))
 
 pub returns-clause-into : goal.returns-clause-into
 returns-clause-into g c = rw (← c.self.view_is)
-    (left_seen to _ _ _ c.self.invariant.into c.args.edge c.in_ok-removed.removed (sym c.in_ok-removed.ensures.value) c.remove.new.self c.remove.ensures.live c.remove.ensures.valid.capacity
-    c.take_out-2.new.links (rw c.ends-from.ensures at c.take_out-2.ensures.list))
+    (left_seen c.self.invariant.into c.args.edge (sym c.in_ok-removed.ensures.value) c.remove.new.self c.remove.ensures.live c.remove.ensures.valid.capacity
+    (rw c.ends-from.ensures at c.take_out-2.ensures.list))

@@ -1,6 +1,5 @@
 use Rattle.std.proofs.Common.{◌∙◌}
-use Rattle.slotmap_graph.proofs.Common.{is_some, refl, ap, arith, option_map, keys_total, exact_keys, len_removed, of_some, leaves_none, leaves_in_turn}
-use Rattle.slotmap_graph.proofs.Common.{edges_at, from, to, value}
+use Rattle.slotmap_graph.proofs.Common.{is_some, refl, ap, arith, option_map, keys_total, exact_keys, len_removed, of_some, leaves_none, leaves_in_turn, edges_at, from, to, value}
 use Rattle.slotmap_graph.proofs.Thinned.{thinned_start, thinned_step, thinned_end, thinned_spent, thin_step, thin_end}
 use Rattle.slotmap_graph.proofs.GraphSteps.{none_from, none_to}
 use Rattle.slotmap_graph.proofs.Graph.remove_edges_of.Goals as goal
@@ -18,9 +17,7 @@ loop-edge-init g c =
     }
 
 pub loop-edge-smaller : goal.loop-edge-smaller
-loop-edge-smaller g c =
-    let less = len_removed keys_total exact_keys c.loop-edge.self.edges.live c.in-Some.edge (ap is_some c.in-Some.ensures.some.1) in
-    rw c.remove_edge.ensures.live (omega arith)
+loop-edge-smaller g c = let less = len_removed keys_total exact_keys c.loop-edge.self.edges.live c.in-Some.edge (ap is_some c.in-Some.ensures.some.1) in rw c.remove_edge.ensures.live (omega arith)
 
 pub loop-edge-preserved-in-Some : goal.loop-edge-preserved-in-Some
 loop-edge-preserved-in-Some g c =

@@ -1,5 +1,5 @@
 use Rattle.std.proofs.Common.{◌∙◌}
-use Rattle.slotmap_graph.proofs.Common.{true, sym, filter, ap, remove_spent, spent_remove, edges_at, from, to}
+use Rattle.slotmap_graph.proofs.Common.{true, sym, filter, ap, remove_spent, spent_remove, edges_at}
 use Rattle.std.specs.FinMap as map
 use Rattle.slotmap_graph.proofs.GraphSteps.{ends_apart, gone_seen, gone_threaded, node_leaves}
 use Rattle.slotmap_graph.proofs.Thinned.{none_left}
@@ -10,44 +10,34 @@ invariant_of-self g c =
     let node = g.K.Key.data_of c.args.node in
     let untouched = none_left node c.args.self.now.edges.live c.self.inside.edges.live (λ k. ap (λ s. map.get s.edges.live k) c.self.view_is ∙ c.remove_edges_of.ensures.edges k) in
     record {
-      out = gone_threaded from _ _ _ c.self.invariant.out node c.remove.new.self c.remove.ensures.live c.remove.ensures.valid.capacity (λ x e there. (ends_apart node e (untouched x e there)).0);
-      into = gone_threaded to _ _ _ c.self.invariant.into node c.remove.new.self c.remove.ensures.live c.remove.ensures.valid.capacity (λ x e there. (ends_apart node e (untouched x e there)).1);
+      out = gone_threaded c.self.invariant.out node c.remove.new.self c.remove.ensures.live c.remove.ensures.valid.capacity (λ x e there. (ends_apart node e (untouched x e there)).0);
+      into = gone_threaded c.self.invariant.into node c.remove.new.self c.remove.ensures.live c.remove.ensures.valid.capacity (λ x e there. (ends_apart node e (untouched x e there)).1);
     }
 
 pub returns-clause-value : goal.returns-clause-value
-returns-clause-value g c =
-    let same = ap (λ s. s.nodes) c.self.view_is ∙ c.remove_edges_of.ensures.nodes in
-    c.remove.ensures.value ∙ ap (λ n. map.get n.live (g.K.Key.data_of c.args.node)) same
+returns-clause-value g c = let same = ap (λ s. s.nodes) c.self.view_is ∙ c.remove_edges_of.ensures.nodes in c.remove.ensures.value ∙ ap (λ n. map.get n.live (g.K.Key.data_of c.args.node)) same
 
 pub returns-clause-live : goal.returns-clause-live
-returns-clause-live g c =
-    let same = ap (λ s. s.nodes) c.self.view_is ∙ c.remove_edges_of.ensures.nodes in
-    c.remove.ensures.live ∙ ap (λ n. map.remove n.live (g.K.Key.data_of c.args.node)) same
+returns-clause-live g c = let same = ap (λ s. s.nodes) c.self.view_is ∙ c.remove_edges_of.ensures.nodes in c.remove.ensures.live ∙ ap (λ n. map.remove n.live (g.K.Key.data_of c.args.node)) same
 
 pub returns-clause-removes : goal.returns-clause-removes
-returns-clause-removes g c =
-    let same = ap (λ s. s.nodes) c.self.view_is ∙ c.remove_edges_of.ensures.nodes in
-    rw (← same) c.remove.ensures.removes
+returns-clause-removes g c = let same = ap (λ s. s.nodes) c.self.view_is ∙ c.remove_edges_of.ensures.nodes in rw (← same) c.remove.ensures.removes
 
 pub returns-clause-unchanged : goal.returns-clause-unchanged
-returns-clause-unchanged g c =
-    let same = ap (λ s. s.nodes) c.self.view_is ∙ c.remove_edges_of.ensures.nodes in
-    rw (← same) c.remove.ensures.unchanged
+returns-clause-unchanged g c = let same = ap (λ s. s.nodes) c.self.view_is ∙ c.remove_edges_of.ensures.nodes in rw (← same) c.remove.ensures.unchanged
 
 pub returns-clause-for_good : goal.returns-clause-for_good
 returns-clause-for_good g c = remove_spent _ _ true c.remove.ensures.valid _ _ c.remove.ensures.value c.remove.ensures.removes
 
 pub returns-clause-leaves : goal.returns-clause-leaves
-returns-clause-leaves g c =
-    let same = ap (λ s. s.nodes) c.self.view_is ∙ c.remove_edges_of.ensures.nodes in
+returns-clause-leaves g c = let same = ap (λ s. s.nodes) c.self.view_is ∙ c.remove_edges_of.ensures.nodes in
     rw (← same) (node_leaves _ _ true c.remove.ensures.valid.before _ _ c.remove.ensures.value c.remove.ensures.removes c.remove.ensures.unchanged)
 
 pub returns-clause-edges_leave : goal.returns-clause-edges_leave
 returns-clause-edges_leave g c = rw (ap (λ s. s.edges) c.self.view_is) c.remove_edges_of.ensures.leaves
 
 pub returns-clause-gone : goal.returns-clause-gone
-returns-clause-gone g c =
-    let same = ap (λ s. s.nodes) c.self.view_is ∙ c.remove_edges_of.ensures.nodes in
+returns-clause-gone g c = let same = ap (λ s. s.nodes) c.self.view_is ∙ c.remove_edges_of.ensures.nodes in
     rw (← same) (spent_remove _ _ true c.remove.ensures.valid _ _ c.remove.ensures.value c.remove.ensures.removes c.remove.ensures.unchanged)
 
 pub returns-clause-edges : goal.returns-clause-edges
@@ -60,23 +50,19 @@ pub returns-clause-edges_gone : goal.returns-clause-edges_gone
 returns-clause-edges_gone g c k spent = rw (ap (λ s. s.edges) c.self.view_is) (c.remove_edges_of.ensures.gone k spent)
 
 pub returns-clause-out : goal.returns-clause-out
-returns-clause-out g c k =
-    let node = g.K.Key.data_of c.args.node in
+returns-clause-out g c k = let node = g.K.Key.data_of c.args.node in
     let untouched = none_left node c.args.self.now.edges.live c.self.inside.edges.live (λ q. ap (λ s. map.get s.edges.live q) c.self.view_is ∙ c.remove_edges_of.ensures.edges q) in
-    gone_seen from _ _ _ c.self.invariant.out node c.remove.new.self c.remove.ensures.live c.remove.ensures.valid.capacity (λ x e there. (ends_apart node e (untouched x e there)).0) k
+    gone_seen c.self.invariant.out node c.remove.new.self c.remove.ensures.live c.remove.ensures.valid.capacity (λ x e there. (ends_apart node e (untouched x e there)).0) k
     ∙ ap (λ s. edges_at s.out k) c.self.view_is ∙ c.remove_edges_of.ensures.out k ∙ ap (λ s. filter (map.contains_key s.edges.live) (edges_at c.args.self.now.out k)) (sym c.self.view_is)
 
 pub returns-clause-into : goal.returns-clause-into
-returns-clause-into g c k =
-    let node = g.K.Key.data_of c.args.node in
+returns-clause-into g c k = let node = g.K.Key.data_of c.args.node in
     let untouched = none_left node c.args.self.now.edges.live c.self.inside.edges.live (λ q. ap (λ s. map.get s.edges.live q) c.self.view_is ∙ c.remove_edges_of.ensures.edges q) in
-    gone_seen to _ _ _ c.self.invariant.into node c.remove.new.self c.remove.ensures.live c.remove.ensures.valid.capacity (λ x e there. (ends_apart node e (untouched x e there)).1) k
+    gone_seen c.self.invariant.into node c.remove.new.self c.remove.ensures.live c.remove.ensures.valid.capacity (λ x e there. (ends_apart node e (untouched x e there)).1) k
     ∙ ap (λ s. edges_at s.into k) c.self.view_is ∙ c.remove_edges_of.ensures.into k ∙ ap (λ s. filter (map.contains_key s.edges.live) (edges_at c.args.self.now.into k)) (sym c.self.view_is)
 
 pub returns-clause-capacity : goal.returns-clause-capacity
-returns-clause-capacity g c =
-    let same = ap (λ s. s.nodes) c.self.view_is ∙ c.remove_edges_of.ensures.nodes in
-    c.remove.ensures.valid.capacity ∙ ap (λ n. n.capacity) same
+returns-clause-capacity g c = let same = ap (λ s. s.nodes) c.self.view_is ∙ c.remove_edges_of.ensures.nodes in c.remove.ensures.valid.capacity ∙ ap (λ n. n.capacity) same
 
 pub returns-clause-edges_capacity : goal.returns-clause-edges_capacity
 returns-clause-edges_capacity g c = ap (λ s. s.edges.capacity) c.self.view_is ∙ c.remove_edges_of.ensures.capacity

@@ -1,37 +1,25 @@
-use Rattle.slotmap_graph.proofs.Common.{refl, ap, arith, edges_at, from, to}
-use Rattle.slotmap_graph.proofs.GraphSteps.{grown, grown_seen}
+use Rattle.slotmap_graph.proofs.Common.{refl, arith}
+use Rattle.slotmap_graph.proofs.GraphSteps.{covered_seen, grown, grown_seen}
 use Rattle.slotmap_graph.proofs.Graph.reserve_edges.Goals as goal
 
 pub returns-in_err-cover_both-clause-out : goal.returns-in_err-cover_both-clause-out
-returns-in_err-cover_both-clause-out g c k =
-    rw (← c.self.view_is)
-    (ap (λ b. edges_at b k) (grown_seen from _ _ _ c.self.invariant.out c.self.inside.nodes c.self.inside.edges c.cover_both.new.out refl refl (omega arith) (omega arith) c.cover_both.ensures.out))
+returns-in_err-cover_both-clause-out g c = rw (← c.self.view_is) (covered_seen c.self.invariant.out c.cover_both.ensures.out)
 
 pub returns-in_err-cover_both-clause-into : goal.returns-in_err-cover_both-clause-into
-returns-in_err-cover_both-clause-into g c k =
-    rw (← c.self.view_is)
-    (ap (λ b. edges_at b k) (grown_seen to _ _ _ c.self.invariant.into c.self.inside.nodes c.self.inside.edges c.cover_both.new.into refl refl (omega arith) (omega arith) c.cover_both.ensures.into))
+returns-in_err-cover_both-clause-into g c = rw (← c.self.view_is) (covered_seen c.self.invariant.into c.cover_both.ensures.into)
 
 pub invariant_of-self-2 : goal.invariant_of-self-2
-invariant_of-self-2 g c = record {
-  out = grown from _ _ _ c.self.invariant.out c.self.inside.nodes c.reserve.new.self c.cover_both.new.out refl c.reserve.ensures.makes_room.keeps.live (omega arith)
-      c.reserve.ensures.makes_room.capacity c.cover_both.ensures.out
-      (let cover = c.in_ok-cover_both.ensures.out_covers.0 in let was = c.in_ok-edge.ensures.value in let now = c.reserve.ensures.capacity in let same = c.capacity.ensures.value in omega arith)
-      (let cover = c.in_ok-cover_both.ensures.out_covers.1 in let was = c.in_ok-edge.ensures.value in let now = c.reserve.ensures.capacity in let same = c.capacity.ensures.value in omega arith);
-  into = grown to _ _ _ c.self.invariant.into c.self.inside.nodes c.reserve.new.self c.cover_both.new.into refl c.reserve.ensures.makes_room.keeps.live (omega arith)
-      c.reserve.ensures.makes_room.capacity c.cover_both.ensures.into
-      (let cover = c.in_ok-cover_both.ensures.into_covers.0 in let was = c.in_ok-edge.ensures.value in let now = c.reserve.ensures.capacity in let same = c.capacity.ensures.value in omega arith)
-      (let cover = c.in_ok-cover_both.ensures.into_covers.1 in let was = c.in_ok-edge.ensures.value in let now = c.reserve.ensures.capacity in let same = c.capacity.ensures.value in omega arith);
+invariant_of-self-2 g c = let m = c.reserve.ensures.makes_room in let was = c.in_ok-edge.ensures.value in record {
+  out = (let cover = c.in_ok-cover_both.ensures.out_covers in
+      grown c.self.invariant.out c.self.inside.nodes c.reserve.new.self refl m.keeps.live (omega arith) m.capacity c.cover_both.ensures.out (omega (arith, cover.0)) (omega (arith, cover.1)));
+  into = (let cover = c.in_ok-cover_both.ensures.into_covers in
+      grown c.self.invariant.into c.self.inside.nodes c.reserve.new.self refl m.keeps.live (omega arith) m.capacity c.cover_both.ensures.into (omega (arith, cover.0)) (omega (arith, cover.1)));
 }
 
 pub returns-clause-out : goal.returns-clause-out
-returns-clause-out g c k =
-    rw (← c.self.view_is)
-    (ap (λ b. edges_at b k) (grown_seen from _ _ _ c.self.invariant.out c.self.inside.nodes c.reserve.new.self c.cover_both.new.out refl
-    c.reserve.ensures.makes_room.keeps.live (omega arith) c.reserve.ensures.makes_room.capacity c.cover_both.ensures.out))
+returns-clause-out g c = let m = c.reserve.ensures.makes_room in
+    rw (← c.self.view_is) (grown_seen c.self.invariant.out c.self.inside.nodes c.reserve.new.self refl m.keeps.live (omega arith) m.capacity c.cover_both.ensures.out)
 
 pub returns-clause-into : goal.returns-clause-into
-returns-clause-into g c k =
-    rw (← c.self.view_is)
-    (ap (λ b. edges_at b k) (grown_seen to _ _ _ c.self.invariant.into c.self.inside.nodes c.reserve.new.self c.cover_both.new.into refl
-    c.reserve.ensures.makes_room.keeps.live (omega arith) c.reserve.ensures.makes_room.capacity c.cover_both.ensures.into))
+returns-clause-into g c = let m = c.reserve.ensures.makes_room in
+    rw (← c.self.view_is) (grown_seen c.self.invariant.into c.self.inside.nodes c.reserve.new.self refl m.keeps.live (omega arith) m.capacity c.cover_both.ensures.into)

@@ -9,33 +9,24 @@ pub count_all-requires-clause-valid : goal.count_all-requires-clause-valid
 count_all-requires-clause-valid g c = rw (← c.self.view_is) (c.len.ensures.valid)
 
 pub loop-at-init : goal.loop-at-init
-loop-at-init g c =
-    let joined : IsJoined c.args.self.now = rw (← c.self.view_is) (graph_joined _ _ _ _ c.self.invariant) in
+loop-at-init g c = let joined : IsJoined c.args.self.now = rw (← c.self.view_is) (graph_joined _ _ _ _ c.self.invariant) in
     sorting_start c.args.self.now joined c.count_all.new.counts.pairs _ c.in_ok-count_all.ensures
 
 pub pass_edges-requires-clause-within : goal.pass_edges-requires-clause-within
-pass_edges-requires-clause-within g c =
-    let long = length-map c.loop-at.found.items g.K.Key.data_of in
-    omega (arith, c.loop-at.found.ok.0, long)
+pass_edges-requires-clause-within g c = omega (arith, length-map c.loop-at.found.items g.K.Key.data_of, c.loop-at.found.ok.0)
 
 pub pass_edges-requires-clause-next : goal.pass_edges-requires-clause-next
-pass_edges-requires-clause-next g c =
-    let short : c.loop-at.at < length c.loop-at.found.items = omega (arith, c.loop-at.found.ok.0) in
-    ap g.K.Key.data_of c.index-node.ensures ∙ sym (get_or-map g.K.Key.data_of c.loop-at.found.items c.loop-at.at c.index-node.result.now (g.K.Key.data_of c.index-node.result.now) short)
+pass_edges-requires-clause-next g c = let short : c.loop-at.at < length c.loop-at.found.items = omega (arith, c.loop-at.found.ok.0) in ap g.K.Key.data_of c.index-node.ensures
+    ∙ sym (get_or-map g.K.Key.data_of c.loop-at.found.items c.loop-at.at c.index-node.result.now (g.K.Key.data_of c.index-node.result.now) short)
 
 pub loop-at-smaller : goal.loop-at-smaller
-loop-at-smaller g c =
-    let keys = list_map g.K.Key.data_of c.loop-at.found.items in
-    let fits = found_fits c.args.self.now c.loop-at.counts.pairs keys _ c.loop-at.invariant in
-    let long : length keys ≡ length c.loop-at.found.items = length-map c.loop-at.found.items g.K.Key.data_of in
-    omega (arith, c.loop-at.found.ok.0, fits, long)
+loop-at-smaller g c = let keys = list_map g.K.Key.data_of c.loop-at.found.items in let long : length keys ≡ length c.loop-at.found.items = length-map c.loop-at.found.items g.K.Key.data_of in
+    omega (arith, found_fits c.args.self.now c.loop-at.counts.pairs keys _ c.loop-at.invariant, c.loop-at.found.ok.0, long)
 
 -- all edges of the nodes in the list were passed
 sorted : (g : _) (c : After-loop-at g) → Sorting c.args.self.now c.loop-at.counts.pairs (list_map g.K.Key.data_of c.loop-at.found.items)
     (edges_out c.args.self.now.out (list_map g.K.Key.data_of c.loop-at.found.items))
-sorted g c =
-    let long = length-map c.loop-at.found.items g.K.Key.data_of in
-    ended c.args.self.now c.loop-at.counts.pairs _ c.loop-at.at (omega (arith, c.loop-at.found.ok.0, long)) c.loop-at.invariant
+sorted g c = let long = length-map c.loop-at.found.items g.K.Key.data_of in ended c.args.self.now c.loop-at.counts.pairs _ c.loop-at.at (omega (arith, c.loop-at.found.ok.0, long)) c.loop-at.invariant
 
 pub first_left-requires : goal.first_left-requires
 first_left-requires g c = (list_map g.K.Key.data_of c.loop-at.found.items, sorted g (goal.at.first_left-requires g c).After-loop-at)

@@ -2,10 +2,10 @@ use Rattle.slotmap_graph.proofs.Threaded.{indices_at, owned_at, owner_below}
 use Rattle.slotmap_graph.proofs.iter.edges_of.Goals as goal
 
 pub iter-requires : goal.iter-requires
-iter-requires g c = owner_below c.requires.0 _ _ _ c.requires.1 (g.K.Key.data_of c.args.node) c.owner_of-owner.result c.owner_of-owner.ensures.live c.owner_of-owner.ensures.gone
+iter-requires g c = owner_below c.requires.1 (g.K.Key.data_of c.args.node) c.owner_of-owner.result c.owner_of-owner.ensures.live c.owner_of-owner.ensures.gone
 
 pub invariant_of-result : goal.invariant_of-result
-invariant_of-result g c = rw c.iter.ensures (c.requires.1.edge_indices, indices_at c.requires.0 _ _ _ c.requires.1 c.owner_of-owner.result)
+invariant_of-result g c = rw c.iter.ensures (c.requires.1.edge_indices, indices_at c.requires.1 c.owner_of-owner.result)
 
 pub returns : goal.returns
-returns g c = rw c.iter.ensures (owned_at c.requires.0 _ _ _ c.requires.1 (g.K.Key.data_of c.args.node) c.owner_of-owner.result c.owner_of-owner.ensures.live c.owner_of-owner.ensures.gone)
+returns g c = rw c.iter.ensures (owned_at c.requires.1 (g.K.Key.data_of c.args.node) c.owner_of-owner.result c.owner_of-owner.ensures.live c.owner_of-owner.ensures.gone)

@@ -5,9 +5,7 @@ use Rattle.slotmap_links.proofs.Links.put_before.Goals as goal
 
 pub index-requires : goal.index-requires
 index-requires c =
-    let below = member_below c.self.inside.ends.items c.self.inside.links.items c.self.invariant c.args.self.now c.self.view_is c.args.owner c.args.at c.requires.at in
-    let len = c.self.inside.links.ok.0 in
-    omega arith
+    omega (arith, member_below c.self.inside.ends.items c.self.inside.links.items c.self.invariant c.args.self.now c.self.view_is c.args.owner c.args.at c.requires.at, c.self.inside.links.ok.0)
 
 pub put-requires-clause-place : goal.put-requires-clause-place
 put-requires-clause-place c =

@@ -5,17 +5,14 @@ use Rattle.slotmap_list.proofs.Adding.{ok_so, moving_start, moving_step}
 use Rattle.slotmap_list.proofs.StableList.append.Goals as goal
 
 pub loop-value-init : goal.loop-value-init
-loop-value-init g c =
-    let made = c.in_ok-reserve.ensures in
-    let room = made.room in
-    let long = c.len.ensures.value in
+loop-value-init g c = let made = c.in_ok-reserve.ensures in let room = made.room in let long = c.len.ensures.value in
     moving_start _ _ _ made.elements (omega arith) made.gone (λ fits. ap (λ (n : Content (Unit {0})). n.capacity) (c.reserve.ensures.makes_room.had_room (omega arith)))
 
 pub loop-value-preserved : goal.loop-value-preserved
 loop-value-preserved g c =
     let m = c.loop-value.invariant in
     let popped = c.in-Some.ensures in
-    let room : 0 < c.loop-value.self.cursors.room = (let long = ap length popped.front in let had = m.room in omega arith) in
+    let room : 0 < c.loop-value.self.cursors.room = (omega (arith, ap length popped.front, m.room)) in
     let ok = c.push_back.ensures.room room in
     let added = ok_so c.push_back.result (λ key. c.push_back.new.self.elements ≡ c.loop-value.self.elements ++ (g.K.Key.data_of key, c.in-Some.value) ∷ [])
     (λ key. Inserts c.loop-value.self.cursors (g.K.Key.data_of key) tt c.push_back.new.self.cursors) ok c.push_back.ensures.ok c.push_back.ensures.cursors in

@@ -3,8 +3,7 @@ use Rattle.slotmap.specs.Words.{KeepsSpent, used}
 use Rattle.slotmap.proofs.Callers.{vacant_less}
 use Rattle.slotmap_list.specs.Additions.{Adds, refused}
 use Rattle.std.specs.FinMap as map
-use Rattle.slotmap_list.proofs.Adding.{Adds-push, no_room, refused_is, full_after}
-use Rattle.slotmap_list.proofs.Adding.{used_kept}
+use Rattle.slotmap_list.proofs.Adding.{Adds-push, no_room, refused_is, full_after, used_kept}
 use Rattle.slotmap_list.proofs.StableList.extend.Goals as goal
 
 pub loop-value-preserved : goal.loop-value-preserved
@@ -14,7 +13,7 @@ loop-value-preserved g c =
     c.in-Some.value at.invariant.2.adds c.in_default.ensures.ok in
     let long = ap length c.in_default.ensures.ok ∙ length-append at.self.elements ((g.K.Key.data_of c.in_default.field-0, c.in-Some.value) ∷ []) in
     let slots : used c.push_back.new.self.cursors + length c.args.self.now.elements ≡ used c.args.self.now.cursors + length c.push_back.new.self.elements =
-    (let before = at.invariant.2.used in omega (arith, long, c.in_default.ensures.used)) in
+    (omega (arith, at.invariant.2.used, long, c.in_default.ensures.used)) in
     let room : c.args.self.now.cursors.room + length c.args.self.now.elements ≤ c.push_back.new.self.cursors.room + length c.push_back.new.self.elements =
     omega (arith, long, at.invariant.2.room, c.in_default.ensures.cursors.room) in
     let vacant : map.len c.args.self.now.cursors.next + length c.args.self.now.elements ≤ map.len c.push_back.new.self.cursors.next + length c.push_back.new.self.elements =
@@ -50,10 +49,13 @@ returns-in-Err-clause-gone g c k spent = c.push_back.ensures.gone k (c.loop-valu
 
 pub returns-in-Err-clause-room : goal.returns-in-Err-clause-room
 returns-in-Err-clause-room g c =
-    let none = no_room c.loop-value.self.cursors.room c.push_back.result (ap is_err c.in-Err.is) c.push_back.ensures.room in
-    omega (arith, none, c.loop-value.invariant.2.room, ap length c.in-Err.ensures.unchanged)
+    omega (arith, no_room c.loop-value.self.cursors.room c.push_back.result (ap is_err c.in-Err.is) c.push_back.ensures.room, c.loop-value.invariant.2.room, ap length c.in-Err.ensures.unchanged)
 
 pub returns-in-Err-clause-reuses : goal.returns-in-Err-clause-reuses
 returns-in-Err-clause-reuses g c =
-    let none = no_room (map.len c.loop-value.self.cursors.next) c.push_back.result (ap is_err c.in-Err.is) c.push_back.ensures.reuses in
-    omega (arith, none, c.loop-value.invariant.2.vacant, ap length c.in-Err.ensures.unchanged)
+    omega (
+      arith,
+      no_room (map.len c.loop-value.self.cursors.next) c.push_back.result (ap is_err c.in-Err.is) c.push_back.ensures.reuses,
+      c.loop-value.invariant.2.vacant,
+      ap length c.in-Err.ensures.unchanged,
+    )

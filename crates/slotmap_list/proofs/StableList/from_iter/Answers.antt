@@ -14,5 +14,4 @@ returns-in-Err-clause-err g c =
     (all.0, all.2.values, all.2.ended.0, all.1, all.2.ended.1, subst (λ n. FullAfter n c.in-Err.error) many c.in-Err.ensures.err)
 
 pub returns-in_default-clause-err : goal.returns-in_default-clause-err
-returns-in_default-clause-err g c =
-    (c.into_iter.result, [], c.next.new.self, c.into_iter.ensures.into_iter_gives, (c.into_iter.result, refl, c.in-Some.ensures.steps), omega arith)
+returns-in_default-clause-err g c = (c.into_iter.result, [], c.next.new.self, c.into_iter.ensures.into_iter_gives, (c.into_iter.result, refl, c.in-Some.ensures.steps), omega arith)

@@ -43,6 +43,5 @@ returns-clause-moved g c =
     (ap (λ (s : Sequence g.row.T.Denot). s.cursors) c.self.view_is))
 
 pub returns-clause-values : goal.returns-clause-values
-returns-clause-values g c q =
-    let at = (goal.at.returns-clause-values g c).After-idx-index in
+returns-clause-values g c q = let at = (goal.at.returns-clause-values g c).After-idx-index in
     rw (c.put_index.ensures, c.take_out.ensures, index g at, ← c.self.view_is) (ap (value_of q) (made g at).elements ∙ (made g at).values q)

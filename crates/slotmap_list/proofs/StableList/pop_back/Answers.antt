@@ -6,8 +6,7 @@ use Rattle.slotmap_list.proofs.Seen.{last_is, no_key_twice}
 use Rattle.slotmap_list.proofs.StableList.pop_back.Goals as goal
 
 pub returns-in_err-cursor-clause-back : goal.returns-in_err-cursor-clause-back
-returns-in_err-cursor-clause-back g c =
-    let last = last_is c.self.invariant g.K.Key.data_of c.key_at.result c.last.result c.key_at.ensures c.last.ensures in
+returns-in_err-cursor-clause-back g c = let last = last_is c.self.invariant g.K.Key.data_of c.key_at.result c.last.result c.key_at.ensures c.last.ensures in
     let none = sym (ap (λ (s : Sequence g.row.T.Denot). s.elements) c.self.view_is) ∙ no_last _ (sym last ∙ ap (option_map g.K.Key.data_of) c.in_err-cursor.was) in
     rw c.from_residual.ensures (none, none)
 

@@ -20,22 +20,17 @@ index : (g : _) (c : After-idx g) → c.idx.result ≡ (g.K.Key.data_of c.insert
 index g c = c.idx.ensures.value ∙ ap (λ (k : Key). k.index) c.data.ensures.value
 
 pub put_index-requires-clause-free : goal.put_index-requires-clause-free
-put_index-requires-clause-free g c =
-    let made = c.insert_reserved-key.ensures in
-    let covered = c.self.invariant.covered in
-    rw (index g c) (free_one c.self.inside.links _ c.self.invariant.owner (let within = made.within in let same = made.valid.capacity in omega arith)
+put_index-requires-clause-free g c = let made = c.insert_reserved-key.ensures in let covered = c.self.invariant.covered in
+    rw (index g c) (free_one c.self.inside.links _ c.self.invariant.owner (omega (arith, made.within, made.valid.capacity))
     (none_yet c.self.invariant c.insert_reserved-key.new.self _ c.args.value made.inserts made.fresh made.valid.after c.args.place (can g c)))
 
 pub put_index-requires-clause-place : goal.put_index-requires-clause-place
 put_index-requires-clause-place g c = place_there c.self.inside.values.live c.args.place (list_of c.self.inside.links 0) (can g c)
 
 pub invariant_of-self : goal.invariant_of-self
-invariant_of-self g c =
-    let at = (goal.at.invariant_of-self g c).After-idx in
-    let made = c.insert_reserved-key.ensures in
-    let covered = c.self.invariant.covered in
+invariant_of-self g c = let at = (goal.at.invariant_of-self g c).After-idx in let made = c.insert_reserved-key.ensures in let covered = c.self.invariant.covered in
     rw (c.put_index.ensures, index g at) (kept_put c.self.invariant c.insert_reserved-key.new.self _ c.args.value made.inserts made.fresh made.valid.after c.args.place (can g at)
-    (let within = made.within in let same = made.valid.capacity in omega arith) made.valid.capacity)
+    (omega (arith, made.within, made.valid.capacity)) made.valid.capacity)
 
 pub returns-clause-elements : goal.returns-clause-elements
 returns-clause-elements g c =
@@ -54,11 +49,8 @@ pub returns-clause-cursors : goal.returns-clause-cursors
 returns-clause-cursors g c = rw (← c.self.view_is) (alone-inserts _ _ _ _ c.insert_reserved-key.ensures.inserts)
 
 pub returns-clause-used : goal.returns-clause-used
-returns-clause-used g c =
-    let made = c.insert_reserved-key.ensures in
-    let more = inserted_len true _ _ c.args.value _ made.valid.before made.inserts in
-    let detached = ap set.len made.inserts.detached in
-    let retired = ap set.len made.inserts.retired in
+returns-clause-used g c = let made = c.insert_reserved-key.ensures in let more = inserted_len true _ _ c.args.value _ made.valid.before made.inserts in
+    let detached = ap set.len made.inserts.detached in let retired = ap set.len made.inserts.retired in
     rw (← c.self.view_is, used_alone c.self.inside.values, used_alone c.insert_reserved-key.new.self) (omega arith)
 
 pub returns-clause-gone : goal.returns-clause-gone

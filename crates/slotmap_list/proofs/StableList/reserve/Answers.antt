@@ -21,34 +21,22 @@ returns-in_err-capacity-clause-makes_room g c =
     (λ fits. absurd (let is = sym c.in_err-capacity.was ∙ c.capacity_for.ensures.had_room fits in cc))))
 
 pub returns-in_err-capacity-clause-err : goal.returns-in_err-capacity-clause-err
-returns-in_err-capacity-clause-err g c =
-    let over = rw c.in_err-capacity.was at c.capacity_for.ensures.err in
-    let refused = refused_greatly _ _ over.0 over.1 in
+returns-in_err-capacity-clause-err g c = let over = rw c.in_err-capacity.was at c.capacity_for.ensures.err in let refused = refused_greatly _ _ over.0 over.1 in
     rw (← c.self.view_is, used_alone c.self.inside.values) (search (rules, refused))
 
 pub invariant_of-self : goal.invariant_of-self
-invariant_of-self g c =
-    let covered = c.self.invariant.covered in
-    let more = c.cover.ensures.more in
+invariant_of-self g c = let covered = c.self.invariant.covered in let more = c.cover.ensures.more in
     kept_room c.self.invariant c.self.inside.values (stuck g c).keeps c.cover.new.links c.cover.ensures.lists more (omega arith)
 
 pub returns-then-is_err-clause-makes_room : goal.returns-then-is_err-clause-makes_room
 returns-then-is_err-clause-makes_room g c = rw (← c.self.view_is) (alone-room _ _ _ _ (stuck g (goal.at.returns-then-is_err-clause-makes_room g c).Then-is_err))
 
 pub returns-then-is_err-clause-err : goal.returns-then-is_err-clause-err
-returns-then-is_err-clause-err g c =
-    let many = used_alone c.self.inside.values in
-    let same = ap (λ (s : Sequence g.row.T.Denot). used s.cursors) c.self.view_is in
-    let value = c.in_ok-capacity.ensures.value in
-    let limit = c.in_ok-capacity.ensures.limit in
-    let fits = c.capacity_for.ensures.valid.room_fits in
-    grind arith
+returns-then-is_err-clause-err g c = let many = used_alone c.self.inside.values in let same = ap (λ (s : Sequence g.row.T.Denot). used s.cursors) c.self.view_is in
+    let value = c.in_ok-capacity.ensures.value in let limit = c.in_ok-capacity.ensures.limit in let fits = c.capacity_for.ensures.valid.room_fits in grind arith
 
 pub invariant_of-self-2 : goal.invariant_of-self-2
-invariant_of-self-2 g c =
-    let long = on_ok c.cover.result c.cover.ensures.covers c.if-is_err.ensures.negation in
-    let value = c.in_ok-capacity.ensures.value in
-    let made = c.reserve.ensures.capacity in
+invariant_of-self-2 g c = let long = on_ok c.cover.result c.cover.ensures.covers c.if-is_err.ensures.negation in let value = c.in_ok-capacity.ensures.value in let made = c.reserve.ensures.capacity in
     kept_room c.self.invariant c.reserve.new.self c.reserve.ensures.makes_room.keeps c.cover.new.links c.cover.ensures.lists c.cover.ensures.more (omega arith)
 
 pub returns-clause-makes_room : goal.returns-clause-makes_room

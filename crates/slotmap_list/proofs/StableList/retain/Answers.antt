@@ -24,12 +24,10 @@ loop-at-preserved-then-not-stays g c =
     c.if-not-stays.true c.reject.ensures.removed c.reject.ensures.for_good c.reject.ensures.gone c.reject.ensures.leaves c.reject.ensures.capacity
 
 pub loop-at-smaller : goal.loop-at-smaller
-loop-at-smaller g c =
-    rw c.in-Some.is (kept_less (rw c.in-Some.is at c.loop-at.invariant) c.after-at.ensures.once refl c.value_mut.ensures.value c.f-stays.ensures c.after-at.ensures.value)
+loop-at-smaller g c = rw c.in-Some.is (kept_less (rw c.in-Some.is at c.loop-at.invariant) c.after-at.ensures.once refl c.value_mut.ensures.value c.f-stays.ensures c.after-at.ensures.value)
 
 pub loop-at-preserved : goal.loop-at-preserved
-loop-at-preserved g c =
-    retaining_kept (rw c.in-Some.is at c.loop-at.invariant) c.after-at.ensures.once refl c.value_mut.ensures.value c.f-stays.ensures c.after-at.ensures.value c.if-not-stays.false
+loop-at-preserved g c = retaining_kept (rw c.in-Some.is at c.loop-at.invariant) c.after-at.ensures.once refl c.value_mut.ensures.value c.f-stays.ensures c.after-at.ensures.value c.if-not-stays.false
 
 pub returns-clause-retained : goal.returns-clause-retained
 returns-clause-retained g c = (c.loop-at.f, retaining_end g.F.FnMut g.K.Key.data_of c.args.self.now c.args.f _ _ (rw c.in_default.is at c.loop-at.invariant))

@@ -3,4 +3,4 @@ use Rattle.slotmap_list.proofs.Indices.{elements_long}
 use Rattle.slotmap_list.proofs.rest.IterFromIterator.size_hint.Goals as goal
 
 pub returns-clause-upper : goal.returns-clause-upper
-returns-clause-upper g c = (tt, let few = c.self.invariant.few in let long = elements_long _ c.self.invariant.indices in let seen = ap length c.self.view_is in omega arith)
+returns-clause-upper g c = (tt, omega (arith, c.self.invariant.few, elements_long _ c.self.invariant.indices, ap length c.self.view_is))
