@@ -1,9 +1,8 @@
 -- What callers of a scheduler cite: which jobs a loop over `pop_due` took out, which `retain` left, and that none is due sooner.
+use Rattle.slotmap_scheduler.proofs.Common.{All, All-cons, All-head, All-nil, All-tail, IsByTime, Key, Waiting, [], ap, arith, cond, due_at, false, in_turn, left_at, nat_lt, nat_tests, refl, sym}
+use Rattle.slotmap_scheduler.proofs.Common.{true, ℕ, ◌++◌, ◌<◌, ◌∙◌, ◌∷◌, ◌≡◌, ◌≤◌}
 pub use Rattle.slotmap_scheduler.proofs.Retained.{retained_jobs, retained_where}
 pub use Rattle.slotmap_scheduler.proofs.Visiting.{callable_on_jobs}
-use Rattle.std.proofs.Common.{◌≡◌, ◌<◌, ◌≤◌, [], ◌∷◌, ◌++◌, ◌∙◌}
-use Rattle.slotmap_scheduler.proofs.Common.{ℕ, true, false, cond, refl, sym, ap, arith, nat_lt, All, nat_tests, All-nil, All-cons, All-head, All-tail}
-use Rattle.slotmap_scheduler.proofs.Common.{Key, Waiting, in_turn, IsByTime, due_at, left_at}
 
 module _ {T : Type 0} (now : ℕ) where
   abbrev IsDue : Key × (ℕ × T) → Type 0

@@ -1,8 +1,6 @@
 -- How many entries of a heap are due, at a place and below it.
-use Rattle.std.proofs.Common.{◌≡◌, ◌+◌, ◌*◌, ◌<◌, ◌≤◌, ◌&&◌}
-use Rattle.slotmap_scheduler.proofs.Common.{ℕ, zero, suc, Bool, true, false, cond, nat_eq, nat_lt, List, get_or, get_or_default, length, refl, ap}
-use Rattle.slotmap_scheduler.proofs.Common.{arith, nat_tests}
-use Rattle.slotmap_scheduler.proofs.Common.{Entry, Turn, no_entry, turn_at, up, IsHeap, is_under, count_below, is_due_at}
+use Rattle.slotmap_scheduler.proofs.Common.{Bool, Entry, IsHeap, List, Turn, ap, arith, cond, count_below, false, get_or, get_or_default, is_due_at, is_under, length, nat_eq, nat_lt, nat_tests}
+use Rattle.slotmap_scheduler.proofs.Common.{no_entry, refl, suc, true, turn_at, up, zero, ℕ, ◌&&◌, ◌*◌, ◌+◌, ◌<◌, ◌≡◌, ◌≤◌}
 unfoldable use Rattle.slotmap_scheduler.proofs.Common.{precedes, due_under}
 
 -- a place below another comes after it

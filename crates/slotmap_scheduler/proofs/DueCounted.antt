@@ -1,19 +1,16 @@
 -- How many of the jobs that wait are due, counted by their places in the heap.
-use Rattle.std.proofs.Common.{◌≡◌, ◌≢◌, ◌+◌, ◌<◌, ◌≤◌, ◌&&◌, [], ◌∷◌, ◌∙◌}
-use Rattle.slotmap_scheduler.proofs.Common.{ℕ, zero, suc, Bool, true, false, not, cond, nat_lt, Some, None, get_or, length, refl, sym}
-use Rattle.slotmap_scheduler.proofs.Common.{ap, arith, nat_tests, option_map, slice_get-get_or}
-use Rattle.slotmap_scheduler.proofs.Common.{All, All-head, All-tail, filter, nil_from_length, eq_by_cmp, Vec, Key, key_cmp, keys_total}
-use Rattle.slotmap_scheduler.proofs.Common.{exact_keys, tied, itself, Content, get-mapped}
-use Rattle.slotmap_scheduler.proofs.Common.{Job, Waiting, job_of, without, IsOnce, IsByTime, due_at, Entry, no_entry, turn_at}
-use Rattle.slotmap_scheduler.proofs.Common.{heap_entry, spot_of, unplaced, timed, waiting_of, IsSchedule, is_under, count_below, is_due_at}
-unfoldable use Rattle.slotmap_scheduler.proofs.Common.{due_under}
-use Rattle.std.specs.FinMap as map
+use Rattle.slotmap_scheduler.proofs.Common.{All, All-head, All-tail, Bool, Content, Entry, IsByTime, IsOnce, IsSchedule, Job, Key, None, Some, Vec, Waiting, [], ap, arith, cond, count_below}
+use Rattle.slotmap_scheduler.proofs.Common.{due_at, eq_by_cmp, exact_keys, false, filter, get-mapped, get_or, heap_entry, is_due_at, is_under, itself, job_of, key_cmp, keys_total, length, nat_lt}
+use Rattle.slotmap_scheduler.proofs.Common.{nat_tests, nil_from_length, no_entry, not, option_map, refl, slice_get-get_or, spot_of, suc, sym, tied, timed, true, turn_at, unplaced, waiting_of}
+use Rattle.slotmap_scheduler.proofs.Common.{without, zero, ℕ, ◌&&◌, ◌+◌, ◌<◌, ◌∙◌, ◌∷◌, ◌≡◌, ◌≢◌, ◌≤◌}
 use Rattle.slotmap_scheduler.proofs.Results.{without_none}
-use Rattle.slotmap_scheduler.proofs.Counting.{under_top, count_alike}
+use Rattle.slotmap_scheduler.proofs.Counting.{count_alike, under_top}
 use Rattle.slotmap_scheduler.proofs.HeapPlaces.{one_place}
 use Rattle.slotmap_scheduler.proofs.Order.{job_is, len_is}
 use Rattle.slotmap_scheduler.proofs.Seen.{job_there}
 use Rattle.slotmap_scheduler.proofs.Waits.{waits_by_time, waits_once}
+unfoldable use Rattle.slotmap_scheduler.proofs.Common.{due_under}
+use Rattle.std.specs.FinMap as map
 
 module _ {T : Type 0} (k : Key) where
   pub other_found : (q : Key) (ws : Waiting T) → q ≢ k → job_of q (without k ws) ≡ job_of q ws

@@ -1,12 +1,11 @@
 -- The places of the jobs in the heap, and how a change of both keeps them.
-use Rattle.std.proofs.Common.{◌≡◌, ◌≢◌, ◌+◌, ◌-◌, ◌<◌, ◌≤◌, ◌∙◌}
-use Rattle.slotmap_scheduler.proofs.Common.{ℕ, true, List, Option, Some, None, get_or, length, refl, sym, ap, arith, option_map, vec_len, vec_capacity, Vec, SwappedAt}
-use Rattle.slotmap_scheduler.proofs.Common.{slice_get_past, slice_get-get_or, slice_get_read, Key, Content, with_value, keys, get-insert_here, get-insert_other, same_or_other}
-use Rattle.slotmap_scheduler.proofs.Common.{live-remove_other, mapped-written, Job, Entry, Turn, Jobs, no_entry, heap_entry, spot_of, IsPlaced, IsHeap, IsHeapBut, Resettled}
-use Rattle.slotmap_scheduler.proofs.Common.{unplaced, timed}
+use Rattle.slotmap_scheduler.proofs.Common.{Content, Entry, IsHeap, IsHeapBut, IsPlaced, Job, Jobs, Key, List, None, Option, Resettled, Some, SwappedAt, Turn, Vec, ap, arith, get-insert_here}
+use Rattle.slotmap_scheduler.proofs.Common.{get-insert_other, get_or, heap_entry, keys, length, live-remove_other, mapped-written, no_entry, option_map, refl, same_or_other, slice_get-get_or}
+use Rattle.slotmap_scheduler.proofs.Common.{slice_get_past, slice_get_read, spot_of, sym, timed, true, unplaced, vec_capacity, vec_len, with_value, ℕ, ◌+◌, ◌-◌, ◌<◌, ◌∙◌}
+use Rattle.slotmap_scheduler.proofs.Common.{◌≡◌, ◌≢◌, ◌≤◌}
+use Rattle.slotmap_scheduler.proofs.Inverse.{dropped, exchanged, moved, put}
+use Rattle.slotmap_scheduler.proofs.Heaps.{heap_left, heap_put, same_or_not}
 use Rattle.std.specs.FinMap as map
-use Rattle.slotmap_scheduler.proofs.Inverse.{exchanged, moved, put, dropped}
-use Rattle.slotmap_scheduler.proofs.Heaps.{same_or_not, heap_put, heap_left}
 
 -- one list has at j what the other has at i
 pub read_alike : (xs ys : List Entry) (i j : ℕ) → (j < length ys → (i < length xs) × (get_or ys j no_entry ≡ get_or xs i no_entry))

@@ -4,6 +4,7 @@ mod Copied
 mod Counting
 mod Draining
 mod DueCounted
+mod Fewer
 mod Handles
 mod HeapPlaces
 mod Heaps

@@ -1,13 +1,11 @@
 -- What a scheduler's user sees, by what its map holds.
-use Rattle.std.proofs.Common.{◌≡◌, ◌<◌, ◌≤◌, [], ◌∷◌, ◌∙◌}
-use Rattle.slotmap_scheduler.proofs.Common.{ℕ, true, false, inl, List, Bor, Option, Some, None, is_some, option_copied, length, refl, sym, ap, arith, list_map, slice_get, Vec, All}
-use Rattle.slotmap_scheduler.proofs.Common.{option_map, find, length-map, slice_get-get_or, Key, key_cmp, Content, get-mapped, len-mapped, Job}
-use Rattle.slotmap_scheduler.proofs.Common.{Entry, job_of, without, ListsJobs, shown, Turn, waiting_of, precedes, no_entry, turn_at, heap_entry, unplaced, timed}
-use Rattle.slotmap_scheduler.proofs.Common.{IsSchedule, IsContent, IsLive}
-use Rattle.std.specs.FinMap as map
-use Rattle.slotmap_scheduler.proofs.Order.{job_is, len_is, waits_first, none_due, none_wait}
+use Rattle.slotmap_scheduler.proofs.Common.{All, Bor, Content, Entry, IsContent, IsLive, IsSchedule, Job, Key, List, ListsJobs, None, Option, Some, Turn, Vec, [], ap, arith, false, find}
+use Rattle.slotmap_scheduler.proofs.Common.{get-mapped, heap_entry, inl, is_some, job_of, key_cmp, len-mapped, length, length-map, list_map, no_entry, option_copied, option_map, precedes, refl}
+use Rattle.slotmap_scheduler.proofs.Common.{shown, slice_get, slice_get-get_or, sym, timed, true, turn_at, unplaced, waiting_of, without, ℕ, ◌<◌, ◌∙◌, ◌∷◌, ◌≡◌, ◌≤◌}
+use Rattle.slotmap_scheduler.proofs.Order.{job_is, len_is, none_due, none_wait, waits_first}
 use Rattle.slotmap_scheduler.proofs.Heaps.{top_first}
 use Rattle.slotmap_scheduler.proofs.HeapPlaces.{entry_within}
+use Rattle.std.specs.FinMap as map
 
 -- a reference that is not there
 pub none_copied : {A : Type 0} (r : Option (Bor A)) (o : Option A) → option_copied r ≡ o → r ≡ None → o ≡ None

@@ -1,16 +1,11 @@
 -- A loop that visits all jobs, by ascending index of their handles, and keeps or removes each.
-use Rattle.std.proofs.Common.{◌≡◌, ◌≢◌, ◌⊎◌, ◌+◌, ◌<◌, ◌≤◌, [], ◌∷◌, ◌++◌, ◌∙◌}
-use Rattle.std.specs.Prelude.{if◌then◌else◌}
-use denote.Param.Always.{always_mut, mut_next}
-use Rattle.std.specs.Fn.{Mut, Called, Takes}
-use Rattle.std.specs.Borrow.{MutBor}
-use Rattle.std.specs.List.{FoldsTo}
-use Rattle.std.proofs.lemmas.Fn.{FoldsTo-push}
-use Rattle.slotmap_scheduler.proofs.Common.{ℕ, Bool, true, false, List, Some, None, is_some, length, inl, inr, refl, sym, ap, subst, arith, nat_lt, nat_tests, cond, eq_by_cmp, key_cmp}
-use Rattle.slotmap_scheduler.proofs.Common.{Key, IsSpent, KeepsSpent, Leaves, leaves_none, leaves_in_turn, keys_total, exact_keys, tied, itself, same_or_other}
-use Rattle.slotmap_scheduler.proofs.Common.{Schedule, Waiting, job_of, with_job, without, IsOnce}
-use Rattle.slotmap_scheduler.specs.Retain.{JobVisit, jobs_seen, after_visit, after_visits, SeesEachOnce, CallsForJob, RetainsJobs, CallableOnJobs}
-use Rattle.slotmap_scheduler.proofs.DueCounted.{other_found, once_without, len_without}
+use Rattle.slotmap_scheduler.proofs.Common.{Bool, CallableOnJobs, Called, CallsForJob, FoldsTo, FoldsTo-push, IsOnce, IsSpent, JobVisit, KeepsSpent, Key, Leaves, List, Mut, MutBor, None}
+use Rattle.slotmap_scheduler.proofs.Common.{RetainsJobs, Schedule, SeesEachOnce, Some, Takes, Waiting, [], after_visit, after_visits, always_mut, ap, arith, exact_keys, false, if◌then◌else◌}
+use Rattle.slotmap_scheduler.proofs.Common.{inl, inr, is_some, itself, job_of, jobs_seen, keys_total, leaves_none, length, mut_next, nat_lt, nat_tests, refl, same_or_other, subst, sym, tied, true}
+use Rattle.slotmap_scheduler.proofs.Common.{with_job, without, ℕ, ◌++◌, ◌+◌, ◌<◌, ◌∙◌, ◌∷◌, ◌≡◌, ◌≢◌, ◌≤◌, ◌⊎◌}
+use Rattle.slotmap_scheduler.proofs.DueCounted.{len_without, once_without, other_found}
+use Rattle.slotmap_scheduler.proofs.Fewer.{HasFewer, one_fewer, same_fewer, still_fewer}
+use Rattle.slotmap_scheduler.proofs.Results.{behind_first}
 
 below_or_not : (i n : ℕ) → (i < n) ⊎ (n ≤ i)
 below_or_not i n = elim (nat_lt i n) as (λ b. nat_lt i n ≡ b → (i < n) ⊎ (n ≤ i)) [
@@ -20,24 +15,13 @@ below_or_not i n = elim (nat_lt i n) as (λ b. nat_lt i n ≡ b → (i < n) ⊎ 
 
 module _ {T : Type 0} (k : Key) where
   -- a job that is written stays where it was
-  written_there : (w : T) (ws : Waiting T) → is_some (job_of k (with_job k w ws)) ≡ is_some (job_of k ws)
-  written_there w [] = refl
-  written_there w (e ∷ ws) = grind (arith, written_there w ws)
+  written_there : (w : T) (q : Key) (ws : Waiting T) → is_some (job_of q (with_job k w ws)) ≡ is_some (job_of q ws)
+  written_there w q [] = refl
+  written_there w q (e ∷ ws) = grind (arith, written_there w q ws)
 
   pub written_other : (w : T) (q : Key) (ws : Waiting T) → q ≢ k → job_of q (with_job k w ws) ≡ job_of q ws
   written_other w q [] other = refl
   written_other w q (e ∷ ws) other = grind (arith, tied keys_total exact_keys k e.0, tied keys_total exact_keys q e.0, written_other w q ws other)
-
-  written_none : (w : T) (q : Key) (ws : Waiting T) → job_of q ws ≡ None → job_of q (with_job k w ws) ≡ None
-  written_none w q [] none = refl
-  written_none w q (e ∷ ws) none = grind (arith, written_none w q ws)
-
-  pub written_once : (w : T) (ws : Waiting T) → IsOnce ws → IsOnce (with_job k w ws)
-  written_once w [] once = tt
-  written_once w (e ∷ ws) once = elim (eq_by_cmp key_cmp k e.0) as (λ b. IsOnce (cond b ((e.0, (e.1.0, w)) ∷ ws) (e ∷ with_job k w ws))) [
-    | true ↦ once
-    | false ↦ (written_none w e.0 ws once.0, written_once w ws once.1)
-  ]
 
   written_without : (w : T) (ws : Waiting T) → without k (with_job k w ws) ≡ without k ws
   written_without w [] = refl
@@ -66,10 +50,6 @@ module _ {T : Type 0} (e : Key × (ℕ × T)) where
   once_pushed : (ws : Waiting T) → IsOnce ws → job_of e.0 ws ≡ None → IsOnce (ws ++ e ∷ [])
   once_pushed [] once none = (refl, tt)
   once_pushed (x ∷ ws) once none = (pushed_other x.0 ws (first_apart x ws none) ∙ once.0, once_pushed ws once.1 (rest_none x ws none))
-
-  -- the jobs behind the first one
-  pub behind_first : (k : Key) (ws : Waiting T) → k ≢ e.0 → job_of k (e ∷ ws) ≡ job_of k ws
-  behind_first k ws other = grind (arith, tied keys_total exact_keys k e.0)
 
 -- as many jobs, where each handle finds the same
 as_many_found : {T : Type 0} (xs ys : Waiting T) → IsOnce xs → IsOnce ys → ((k : Key) → job_of k ys ≡ job_of k xs) → length ys ≡ length xs
@@ -104,11 +84,7 @@ module _ {F K T : Type 0} (g : Mut F (K × (ℕ × (MutBor T × Unit {0}))) (Boo
     pub below : (k : Key) → k.index < floor → job_of k (jobs_seen data_of visits) ≡ job_of k old.waiting
     pub unseen : (k : Key) → floor ≤ k.index → job_of k (jobs_seen data_of visits) ≡ None
     pub ahead : (k : Key) → floor ≤ k.index → job_of k now.waiting ≡ job_of k old.waiting
-    pub turns : now.turns ≡ old.turns
-    pub capacity : now.handles.capacity ≡ old.handles.capacity
-    pub leaves : Leaves old.handles now.handles
-    pub for_good : (k : Key) → is_some (job_of k old.waiting) ≡ true → job_of k now.waiting ≡ None → IsSpent now.handles k
-    pub stale : KeepsSpent old.handles now.handles
+    pub fewer : HasFewer old now
 
   pub visiting_start : (old : Schedule T) (f : F) → Visiting old f old 0 f
   visiting_start old f = record {
@@ -119,11 +95,7 @@ module _ {F K T : Type 0} (g : Mut F (K × (ℕ × (MutBor T × Unit {0}))) (Boo
     below = λ k low. absurd (omega arith);
     unseen = λ k from. refl;
     ahead = λ k from. refl;
-    turns = refl;
-    capacity = refl;
-    leaves = leaves_none old.handles;
-    for_good = λ k there none. absurd (let h = ap is_some none in cc);
-    stale = λ k spent. spent;
+    fewer = same_fewer old;
   }
 
 module _ {F K T : Type 0} {g : Mut F (K × (ℕ × (MutBor T × Unit {0}))) (Bool × (MutBor T × Unit {0}))} {data_of : K → Key}
@@ -160,7 +132,7 @@ module _ {F K T : Type 0} {g : Mut F (K × (ℕ × (MutBor T × Unit {0}))) (Boo
 
   -- it is left where the closure wrote to it
   pub written_waits : (k : Key) (due : ℕ × T) → job_of k now.waiting ≡ Some due → (w : T) → is_some (job_of k (with_job k w now.waiting)) ≡ true
-  written_waits k due at w = written_there k w now.waiting ∙ ap is_some at
+  written_waits k due at w = written_there k w k now.waiting ∙ ap is_some at
 
   saw : SeesEachOnce data_of old.waiting r.visits
   saw = record {
@@ -213,10 +185,9 @@ module _ {F K T : Type 0} {g : Mut F (K × (ℕ × (MutBor T × Unit {0}))) (Boo
       not_here : (q : Key) → k.index + 1 ≤ q.index → q ≢ k
       not_here q from same = let index = ap (λ (x : Key). x.index) same in omega arith
 
-      step : (new : Schedule T) → new.waiting ≡ after_visit data_of visit now.waiting → ((q : Key) → q ≢ k → job_of q new.waiting ≡ job_of q now.waiting)
-          → (job_of k new.waiting ≡ None → IsSpent new.handles k) → new.turns ≡ now.turns → new.handles.capacity ≡ now.handles.capacity → Leaves now.handles new.handles
-          → KeepsSpent now.handles new.handles → Visiting g data_of old f new (k.index + 1) f''
-      step new stay others spent turns capacity leaves keeps = record {
+      step : (new : Schedule T) → new.waiting ≡ after_visit data_of visit now.waiting → ((q : Key) → q ≢ k → job_of q new.waiting ≡ job_of q now.waiting) → HasFewer now new
+          → Visiting g data_of old f new (k.index + 1) f''
+      step new stay others fewer = record {
         visits = r.visits ++ visit ∷ [];
         calls = FoldsTo-push (CallsForJob g) f r.visits f' visit f'' r.calls (record { shown = shown; shows = refl; left = after; leaves = refl; called = called });
         stay = stay ∙ ap (after_visit data_of visit) r.stay ∙ sym (after_visits_pushed data_of r.visits visit old.waiting);
@@ -224,27 +195,25 @@ module _ {F K T : Type 0} {g : Mut F (K × (ℕ × (MutBor T × Unit {0}))) (Boo
         below = below_now;
         unseen = λ q from. seen_other q (not_here q from) ∙ r.unseen q (omega arith);
         ahead = λ q from. others q (not_here q from) ∙ r.ahead q (omega arith);
-        turns = turns ∙ r.turns;
-        capacity = capacity ∙ r.capacity;
-        leaves = leaves_in_turn old.handles now.handles new.handles r.leaves leaves;
-        for_good = λ q there none. elim (same_or_other q k) [
-          | inl here ↦ subst (IsSpent new.handles) (sym here) (spent (ap (λ x. job_of x new.waiting) (sym here) ∙ none))
-          | inr other ↦ keeps q (r.for_good q there (sym (others q other) ∙ none))
-        ];
-        stale = λ q s. keeps q (r.stale q s);
+        fewer = still_fewer r.fewer fewer;
       }
 
       pub visiting_kept : stays ≡ true → Visiting g data_of old f (record now { waiting = with_job k after.now now.waiting }) (k.index + 1) f''
       visiting_kept keep = step (record now { waiting = with_job k after.now now.waiting }) (sym (ap (λ b. if b then with_job k after.now now.waiting else without k now.waiting) keep))
-          (λ q other. written_other k after.now q now.waiting other)
-          (λ none. absurd (let some = written_waits k (time, shown.now) at after.now in let h = ap is_some none in cc)) refl refl (leaves_none now.handles) (λ q s. s)
+          (λ q other. written_other k after.now q now.waiting other) (record {
+            turns = refl;
+            capacity = refl;
+            leaves = leaves_none now.handles;
+            for_good = λ q there none. absurd (let some = written_there k after.now q now.waiting in let h = ap is_some none in cc);
+            stale = λ q s. s;
+          })
 
       pub visiting_dropped : {new : Schedule T} → stays ≡ false → new.waiting ≡ without k (with_job k after.now now.waiting) → IsSpent new.handles k → new.turns ≡ now.turns
           → new.handles.capacity ≡ now.handles.capacity → Leaves now.handles new.handles → KeepsSpent now.handles new.handles → Visiting g data_of old f new (k.index + 1) f''
       visiting_dropped {new} drop removed spent turns capacity leaves keeps =
           let now_is = removed ∙ written_without k after.now now.waiting in
-          step new (now_is ∙ sym (ap (λ b. if b then with_job k after.now now.waiting else without k now.waiting) drop))
-          (λ q other. ap (job_of q) now_is ∙ other_found k q now.waiting other) (λ _. spent) turns capacity leaves keeps
+          let others = λ (q : Key) (other : q ≢ k). ap (job_of q) now_is ∙ other_found k q now.waiting other in
+          step new (now_is ∙ sym (ap (λ b. if b then with_job k after.now now.waiting else without k now.waiting) drop)) others (one_fewer now new turns capacity leaves keeps k spent others)
 
 -- a closure that can always be called
 module _ {F K T : Type 0} (g : Mut F (K × (ℕ × (MutBor T × Unit {0}))) (Bool × (MutBor T × Unit {0}))) (data_of : K → Key) where

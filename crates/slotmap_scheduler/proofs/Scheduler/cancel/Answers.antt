@@ -1,8 +1,6 @@
-use Rattle.std.proofs.Common.{◌∙◌}
-use Rattle.slotmap_scheduler.proofs.Common.{rules, true, is_some, sym, ap, arith, option_map, spent_removes, removed_spent, live-mapped, Job, waiting_of}
-use Rattle.slotmap_scheduler.proofs.Common.{unplaced, timed}
-use Rattle.slotmap_scheduler.proofs.Schedules.{left_len, left_waits, left_schedule, left_less, left_others, left_leaves}
-use Rattle.slotmap_scheduler.proofs.Handles.{handles_removed, handles_stale, handles_spent, handles_left, same_capacity}
+use Rattle.slotmap_scheduler.proofs.Common.{Job, ap, arith, is_some, live-mapped, option_map, removed_spent, rules, spent_removes, sym, timed, true, unplaced, waiting_of, ◌∙◌}
+use Rattle.slotmap_scheduler.proofs.Schedules.{left_leaves, left_len, left_less, left_others, left_schedule, left_waits}
+use Rattle.slotmap_scheduler.proofs.Handles.{handles_left, handles_removed, handles_spent, handles_stale, same_capacity}
 use Rattle.slotmap_scheduler.proofs.Seen.{job_seen, none_seen}
 use Rattle.slotmap_scheduler.proofs.Results.{without_none}
 use Rattle.slotmap_scheduler.proofs.Scheduler.cancel.Goals as goal

@@ -1,10 +1,9 @@
-use Rattle.std.proofs.Common.{◌∙◌}
-use Rattle.slotmap_scheduler.proofs.Common.{true, is_some, ap, arith, key_cmp, spent_leaves, left_spent, mapped-empty, map_values, mapped-leaves, live-mapped, contains-mapped, Job, unplaced}
-use Rattle.slotmap_scheduler.proofs.Common.{timed}
-use Rattle.std.specs.FinMap as map
-use Rattle.slotmap_scheduler.proofs.Schedules.{schedule_cleared, none_waits}
-use Rattle.slotmap_scheduler.proofs.Handles.{empty_keys, handles_stale, handles_spent, handles_left, same_capacity}
+use Rattle.slotmap_scheduler.proofs.Common.{Job, ap, arith, contains-mapped, is_some, key_cmp, left_spent, live-mapped, map_values, mapped-empty, mapped-leaves, spent_leaves, timed, true}
+use Rattle.slotmap_scheduler.proofs.Common.{unplaced, ◌∙◌}
+use Rattle.slotmap_scheduler.proofs.Schedules.{none_waits, schedule_cleared}
+use Rattle.slotmap_scheduler.proofs.Handles.{empty_keys, handles_left, handles_spent, handles_stale, same_capacity}
 use Rattle.slotmap_scheduler.proofs.Seen.{contains_seen}
+use Rattle.std.specs.FinMap as map
 use Rattle.slotmap_scheduler.proofs.Scheduler.clear.Goals as goal
 
 pub invariant_of-self : goal.invariant_of-self

@@ -1,5 +1,4 @@
-use Rattle.std.proofs.Common.{◌∙◌}
-use Rattle.slotmap_scheduler.proofs.Common.{ap, timed, due_under}
+use Rattle.slotmap_scheduler.proofs.Common.{ap, due_under, timed, ◌∙◌}
 use Rattle.slotmap_scheduler.proofs.DueCounted.{due_counted}
 use Rattle.slotmap_scheduler.proofs.Waits.{waits_by_time, waits_once}
 use Rattle.slotmap_scheduler.proofs.Scheduler.due_count.Goals as goal

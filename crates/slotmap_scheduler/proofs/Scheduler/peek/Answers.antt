@@ -1,7 +1,6 @@
-use Rattle.std.proofs.Common.{◌≡◌, ◌∙◌}
-use Rattle.slotmap_scheduler.proofs.Common.{Some, ap, sym, slice_get, timed}
-use Rattle.slotmap_scheduler.proofs.Seen.{top_waits, top_later, empty_waits, none_copied}
-use Rattle.slotmap_scheduler.proofs.Waits.{waits_by_time, waits_once, least_first}
+use Rattle.slotmap_scheduler.proofs.Common.{Some, ap, slice_get, sym, timed, ◌∙◌, ◌≡◌}
+use Rattle.slotmap_scheduler.proofs.Seen.{empty_waits, none_copied, top_later, top_waits}
+use Rattle.slotmap_scheduler.proofs.Waits.{least_first, waits_by_time, waits_once}
 use Rattle.slotmap_scheduler.proofs.Scheduler.peek.Goals as goal
 
 pub returns-clause-first : goal.returns-clause-first

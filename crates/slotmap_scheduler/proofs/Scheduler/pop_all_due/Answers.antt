@@ -1,6 +1,6 @@
-use Rattle.std.proofs.Common.{refl, ◌∙◌}
-use Rattle.slotmap_scheduler.proofs.Common.{arith}
-use Rattle.slotmap_scheduler.proofs.TakingDue.{first_due, taking_start, taking_step, taking_end, takes_none}
+use Rattle.slotmap_scheduler.proofs.Common.{arith, refl, ◌∙◌}
+use Rattle.slotmap_scheduler.proofs.Fewer.{first_fewer}
+use Rattle.slotmap_scheduler.proofs.TakingDue.{first_due, takes_none, taking_end, taking_start, taking_step}
 use Rattle.slotmap_scheduler.proofs.Scheduler.pop_all_due.Goals as goal
 
 pub loop-job-init : goal.loop-job-init
@@ -26,8 +26,8 @@ loop-job-preserved g c =
     let popped = c.pop_due.ensures in
     let pushed = c.push_reserved.ensures in
     record {
-      taking = taking_step g.K.Key.data_of c.args.now _ _ _ _ c.loop-job.due c.push_reserved.new.self c.in-Some.job next.0 c.loop-job.invariant.taking next.1
-          next.2 c.in-Some.ensures.for_good popped.capacity popped.leaves popped.stale popped.turns pushed.items pushed.len pushed.capacity;
+      taking = taking_step g.K.Key.data_of c.args.now _ _ _ _ c.loop-job.due c.push_reserved.new.self c.in-Some.job next.0 c.loop-job.invariant.taking next.1 next.2
+          (first_fewer _ _ popped.turns popped.capacity popped.leaves popped.stale _ c.in-Some.ensures.for_good next.2) pushed.items pushed.len pushed.capacity;
       room = pushed.capacity ∙ c.loop-job.invariant.room;
     }
 

@@ -1,7 +1,6 @@
-use Rattle.std.proofs.Common.{◌∙◌}
-use Rattle.slotmap_scheduler.proofs.Common.{sym, none_of}
-use Rattle.slotmap_scheduler.proofs.Schedules.{turned_schedule, turned_waits, turned_there, turned_others, turned_more, turned_handles}
-use Rattle.slotmap_scheduler.proofs.Seen.{seen_job, contains_seen, none_seen}
+use Rattle.slotmap_scheduler.proofs.Common.{none_of, sym, ◌∙◌}
+use Rattle.slotmap_scheduler.proofs.Schedules.{turned_handles, turned_more, turned_others, turned_schedule, turned_there, turned_waits}
+use Rattle.slotmap_scheduler.proofs.Seen.{contains_seen, none_seen, seen_job}
 use Rattle.slotmap_scheduler.proofs.Results.{some_is}
 use Rattle.slotmap_scheduler.proofs.Scheduler.reschedule.Goals as goal
 

@@ -1,5 +1,5 @@
-use Rattle.slotmap_scheduler.proofs.Common.{refl, arith}
-use Rattle.slotmap_scheduler.proofs.Schedules.{reserved_schedule, reserved_room}
+use Rattle.slotmap_scheduler.proofs.Common.{arith, refl}
+use Rattle.slotmap_scheduler.proofs.Schedules.{reserved_room, reserved_schedule}
 use Rattle.slotmap_scheduler.proofs.Handles.{used_handles}
 use Rattle.slotmap_scheduler.proofs.Results.{if_ok}
 use Rattle.slotmap_scheduler.proofs.Scheduler.reserve.Goals as goal

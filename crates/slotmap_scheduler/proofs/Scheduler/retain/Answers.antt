@@ -1,4 +1,4 @@
-use Rattle.slotmap_scheduler.proofs.Visiting.{visiting_start, visiting_takes, visiting_kept, visiting_dropped, visiting_end, shown_there, written_waits}
+use Rattle.slotmap_scheduler.proofs.Visiting.{shown_there, visiting_dropped, visiting_end, visiting_kept, visiting_start, visiting_takes, written_waits}
 use Rattle.slotmap_scheduler.proofs.Scheduler.retain.Goals as goal
 
 pub loop-next-init : goal.loop-next-init

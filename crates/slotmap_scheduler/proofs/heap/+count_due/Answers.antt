@@ -1,7 +1,7 @@
-use Rattle.std.proofs.Common.{◌+◌, ◌*◌, sym, arith}
-use Rattle.slotmap_scheduler.proofs.Counting.{none_past, none_under, due_split, due-le}
+use Rattle.slotmap_scheduler.proofs.Common.{arith, sym, ◌*◌, ◌+◌}
+use Rattle.slotmap_scheduler.proofs.Counting.{due-le, due_split, none_past, none_under}
+use Rattle.slotmap_scheduler.proofs.heap.+count_due.Goals.{then-at-heap-via-else-at-heap+then-heap-at, then-at-heap-via-then-at-heap}
 use Rattle.slotmap_scheduler.proofs.heap.+count_due.Goals as goal
-use Rattle.slotmap_scheduler.proofs.heap.+count_due.Goals.{then-at-heap-via-then-at-heap, then-at-heap-via-else-at-heap+then-heap-at}
 
 pub returns-then-at-heap : goal.returns-then-at-heap
 returns-then-at-heap t c = elim c.then-at-heap.branch [

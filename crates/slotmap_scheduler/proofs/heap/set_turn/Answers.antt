@@ -1,7 +1,6 @@
-use Rattle.std.proofs.Common.{◌∙◌}
-use Rattle.slotmap_scheduler.proofs.Common.{mapped-with, unplaced}
+use Rattle.slotmap_scheduler.proofs.Common.{mapped-with, unplaced, ◌∙◌}
 use Rattle.slotmap_scheduler.proofs.HeapPlaces.{in_heap}
-use Rattle.slotmap_scheduler.proofs.Indexed.{indexed_settled, turned_placed, turned_but, turned_len, same_job}
+use Rattle.slotmap_scheduler.proofs.Indexed.{indexed_settled, same_job, turned_but, turned_len, turned_placed}
 use Rattle.slotmap_scheduler.proofs.heap.set_turn.Goals as goal
 
 pub index_mut-requires : goal.index_mut-requires

@@ -1,6 +1,5 @@
-use Rattle.std.proofs.Common.{◌≡◌, ◌<◌, ◌∙◌}
-use Rattle.slotmap_scheduler.proofs.Common.{length, vec_len, true, false, sym, arith}
-use Rattle.slotmap_scheduler.proofs.Heaps.{resettled_same, resettled_then, sunk, sunk_above, heap_settled, heap_ended, compared}
+use Rattle.slotmap_scheduler.proofs.Common.{arith, false, length, sym, true, vec_len, ◌<◌, ◌∙◌, ◌≡◌}
+use Rattle.slotmap_scheduler.proofs.Heaps.{compared, heap_ended, heap_settled, resettled_same, resettled_then, sunk, sunk_above}
 use Rattle.slotmap_scheduler.proofs.heap.sift_down.Goals as goal
 
 pub loop-child-init : goal.loop-child-init

@@ -1,6 +1,5 @@
-use Rattle.std.proofs.Common.{◌∙◌}
-use Rattle.slotmap_scheduler.proofs.Common.{false, sym, arith}
-use Rattle.slotmap_scheduler.proofs.Heaps.{resettled_same, resettled_then, risen, compared}
+use Rattle.slotmap_scheduler.proofs.Common.{arith, false, sym, ◌∙◌}
+use Rattle.slotmap_scheduler.proofs.Heaps.{compared, resettled_same, resettled_then, risen}
 use Rattle.slotmap_scheduler.proofs.heap.sift_up.Goals as goal
 
 pub loop-at-init : goal.loop-at-init
