@@ -44,6 +44,4 @@ module _ {T : Type 0} (time : ℕ) where
 
 -- of two jobs that are taken out one after the other, the first is due no later
 pub first_no_later : {T : Type 0} (a b : Key × (ℕ × T)) (es fs gs : Waiting T) → IsByTime es → es ≡ a ∷ fs → fs ≡ b ∷ gs → a.1.0 ≤ b.1.0
-first_no_later {T} a b es fs gs sorted one two =
-    let from = rw (one ∙ ap (λ l. a ∷ l) two) at sorted in
-    All-head (λ (x : Key × (ℕ × T)). a.1.0 ≤ x.1.0) b gs from.0
+first_no_later {T} a b es fs gs sorted one two = grind arith

@@ -30,10 +30,7 @@ module _ {A : Type 0} (is_clone : A → A → Type 0) where
 
   module _ (jobs copy : Timed A) (count : ℕ) (is : InOrder jobs count) (clones : (k : Key) → IsCloneOf Clones (map.get jobs k) (map.get copy k)) (len : map.len copy ≡ map.len jobs) where
     one_handle : (k q : Key) (t : Turn) (x y : A) → map.get copy k ≡ Some (t, x) → map.get copy q ≡ Some (t, y) → k ≡ q
-    one_handle k q t x y at there =
-        let a = back (map.get jobs k) (map.get copy k) (clones k) t x at in
-        let b = back (map.get jobs q) (map.get copy q) (clones q) t y there in
-        grind (arith, is.turns.to k t a.0 a.1, is.turns.to q t b.0 b.1)
+    one_handle k q t x y at there = grind (arith, back (map.get jobs k) (map.get copy k) (clones k) t x at, back (map.get jobs q) (map.get copy q) (clones q) t y there)
 
     by : IsInverse (map.get copy) (map.get (by_turn copy))
     by = inverse copy one_handle

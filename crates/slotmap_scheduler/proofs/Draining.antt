@@ -1,5 +1,5 @@
 -- What the steps of a drain keep, and what they yield.
-use Rattle.slotmap_scheduler.proofs.Common.{Drain, EmptiesSchedule, KeepsLent, Key, SameLoan, Schedule, YieldsInOrder, [], ap, job_of, refl, subst, yielded_job, ◌∙◌, ◌∷◌}
+use Rattle.slotmap_scheduler.proofs.Common.{Drain, EmptiesSchedule, KeepsLent, Key, SameLoan, Schedule, YieldsInOrder, [], ap, job_of, refl, subst, yielded_job, ◌∙◌, ◌∷◌, arith}
 use Rattle.slotmap_scheduler.proofs.Fewer.{HasFewer, still_fewer}
 
 -- a scheduler that has fewer jobs, and then none
@@ -12,10 +12,7 @@ emptied_then old mid fewer end ends =
 module _ {K T : Type 0} (data_of : K → Key) where
   pub keeps_lent : (first : Drain K T) → KeepsLent data_of first
   keeps_lent first [] later run = subst (SameLoan first) run (refl, λ end ends. ends)
-  keeps_lent first (item ∷ items) later run =
-      let step = run.1.1 in
-      let rest = keeps_lent run.0 items later run.2 in
-      (rest.0 ∙ step.0, λ end ends. step.1 end (rest.1 end ends))
+  keeps_lent first (item ∷ items) later run = grind (arith, keeps_lent run.0 items later run.2, (keeps_lent run.0 items later run.2).0, run.1.1.0)
 
   pub yields_in_order : (first : Drain K T) → YieldsInOrder data_of first
   yields_in_order first [] later run = ap (λ (d : Drain K T). d.scheduler.now.waiting) run

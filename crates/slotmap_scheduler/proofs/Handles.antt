@@ -64,9 +64,7 @@ module _ {T Z : Type 0} where
     -- a job that is written changes no handle
     pub handles_written : (k : Key) (v : Turn × T) → IsLive old k → new ≡ with_value old k v → vec_len heap' ≡ vec_len heap
         → vec_capacity heap' ≡ vec_capacity heap → handles_of new heap' ≡ handles_of old heap
-    handles_written k v live is len capacity =
-        let same : without_values new ≡ without_values old = ap (λ (c : Content (Turn × T)). without_values c) is ∙ alone-written old k v live in
-        λ i. record (same i) { room = min (same i).room (capacity i - len i); capacity = min (same i).capacity (capacity i) }
+    handles_written k v live is len capacity = grind (arith, alone-written old k v live)
 
     pub handles_copied : (is_clone : Turn × T → Turn × T → Type 0) → IsCloneBy is_clone old new → IsCopy (handles_of old heap) (handles_of new heap')
     handles_copied is_clone clones = let alone = alone-copy is_clone old new clones in search arith

@@ -2,7 +2,7 @@
 use Rattle.slotmap_scheduler.proofs.Common.{Content, Entry, Inserts, IsContent, IsHeap, IsHeapBut, IsIndexed, IsPlaced, Job, Key, List, None, Option, Removes, Resettled, Some, Turn, Vec, [], ap}
 use Rattle.slotmap_scheduler.proofs.Common.{arith, content-mapped, get-mapped, get_or, get_or-append_right, get_or-set_other, get_or-set_same, get_or_append_left, inserted_fresh, inserted_len}
 use Rattle.slotmap_scheduler.proofs.Common.{keys, length, length-set, list_set, mapped-insert, mapped-inserts, no_entry, none_of, option_map, refl, removed_len, slice_get-get_or, spot_of, sym}
-use Rattle.slotmap_scheduler.proofs.Common.{timed, true, unplaced, vec_len, with_value, ℕ, ◌++◌, ◌+◌, ◌<◌, ◌∙◌, ◌∷◌, ◌≡◌}
+use Rattle.slotmap_scheduler.proofs.Common.{timed, true, unplaced, vec_len, with_value, ℕ, ◌++◌, ◌+◌, ◌<◌, ◌∙◌, ◌∷◌, ◌≡◌, common_steps}
 use Rattle.slotmap_scheduler.proofs.Heaps.{heap_put}
 use Rattle.slotmap_scheduler.proofs.HeapPlaces.{entry_is, entry_within, in_heap, one_place, placed_put, read_alike}
 use Rattle.std.specs.FinMap as map
@@ -24,8 +24,7 @@ module _ {T Z : Type 0} where
     below i d within = ap (λ es. get_or es i d) items ∙ get_or_append_left heap.items (record { turn = turn; handle = k } ∷ []) d i (omega (arith, heap.ok.0))
 
     last : (d : Entry) → get_or pushed.items (vec_len heap) d ≡ record { turn = turn; handle = k }
-    last d = rw heap.ok.0 (ap (λ es. get_or es (length heap.items) d) items
-        ∙ get_or-append_right heap.items (record { turn = turn; handle = k } ∷ []) (length heap.items) (length heap.items) d refl (omega arith) ∙ grind arith)
+    last d = grind (arith, get_or-append_right heap.items (record { turn = turn; handle = k } ∷ []) (length heap.items) (length heap.items) d refl (omega arith))
 
     free : map.get jobs.live k ≡ None
     free = none_of (map.get jobs.live k) (inserted_fresh true jobs k _ mid valid inserts)

@@ -1,7 +1,7 @@
 -- What callers cite of `retain`: which jobs are left, by what each call of the closure does.
 use Rattle.slotmap_scheduler.proofs.Common.{AllByRecursion, Bool, Called, CallsForJob, FoldsTo, IsOnce, JobVisit, Key, List, Mut, MutBor, None, Option, RetainsJobs, Some, Waiting, [], after_visit}
 use Rattle.slotmap_scheduler.proofs.Common.{after_visits, ap, arith, cond, eq_by_cmp, exact_keys, filter, filter_map, itself, job_of, jobs_seen, key_cmp, keys_total, option_and_then, option_map}
-use Rattle.slotmap_scheduler.proofs.Common.{refl, sym, tied, ℕ, ◌∙◌, ◌∷◌, ◌≡◌}
+use Rattle.slotmap_scheduler.proofs.Common.{refl, sym, tied, ℕ, ◌∙◌, ◌∷◌, ◌≡◌, common_steps}
 
 module _ {T : Type 0} (left : Key → ℕ → T → Option T) where
   -- a job as the calls leave it, or none
@@ -77,8 +77,7 @@ module _ {F K T : Type 0} {g : Mut F (K × (ℕ × (MutBor T × Unit {0}))) (Boo
       (ap (left (data_of x.handle) x.time) (sym call.shows) ∙ one.1 ∙ ap (λ w. cond x.stays (Some w) None) call.leaves, leave_all calls.0 last xs one.0 calls.2)
 
   pub retained_jobs : {f : F} {old new : Waiting T} → Holds f → IsOnce old → RetainsJobs g data_of f old new → new ≡ filter_map (left_of left) old
-  retained_jobs {f} {old} holds once ran = ran.stay ∙ after_all data_of ran.visits old once
-      ∙ all_seen data_of left ran.visits (leave_all f ran.last ran.visits holds ran.calls) ran.once old once (λ k due found. ran.each.same k ∙ found)
+  retained_jobs {f} {old} holds once ran = grind (arith, after_all data_of ran.visits old once, all_seen, leave_all f ran.last ran.visits holds ran.calls)
 
 -- the same where no call writes: the jobs that pass a test
 module _ {F K T : Type 0} {g : Mut F (K × (ℕ × (MutBor T × Unit {0}))) (Bool × (MutBor T × Unit {0}))} {data_of : K → Key} (test : Key → ℕ → T → Bool) (Holds : F → Type 0)

@@ -1,7 +1,7 @@
 -- What holds of every scheduler, after each call.
 use Rattle.slotmap_scheduler.proofs.Common.{Content, Entry, InOrder, Inserts, IsContent, IsIndexed, IsLive, IsSchedule, Job, Key, Leaves, MakesRoom, None, Removes, Schedule, Some, Turn, Vec, []}
 use Rattle.slotmap_scheduler.proofs.Common.{ap, arith, cond, content-mapped, exact_keys, exact_unsigned, get-insert_here, get-insert_other, get-mapped, handles_of, heap_entry, in_turn, inl, inr}
-use Rattle.slotmap_scheduler.proofs.Common.{inserted_fresh, inserted_len, is_some, job_of, key_cmp, keys, keys_total, leaves_by_removal, len-mapped, length, map_values, mapped-empty}
+use Rattle.slotmap_scheduler.proofs.Common.{inserted_fresh, inserted_len, is_some, job_of, key_cmp, keys, keys_total, leaves_by_removal, len-mapped, length, map_values, mapped-empty, common_steps}
 use Rattle.slotmap_scheduler.proofs.Common.{mapped-insert, mapped-room, mapped-with, nat_cmp_total, none_of, option_map, refl, removed_len, shown_content, some_entry, spot_of, sym, tied, timed}
 use Rattle.slotmap_scheduler.proofs.Common.{true, unplaced, vacant_at_most, vec_capacity, vec_len, waiting_of, with_job, with_value, without, ℕ, ◌+◌, ◌∙◌, ◌≡◌, ◌≢◌}
 use Rattle.slotmap_scheduler.proofs.Common.{◌≤◌, ◌⊎◌}
@@ -54,15 +54,7 @@ module _ {T Z : Type 0} {jobs : Content (Job T)} {count : ℕ} {heap : Vec Entry
   -- room was made in the map and in the heap
   pub reserved_schedule : (jobs' : Content (Job T)) (heap' : Vec Entry Z) (n : ℕ) (ok : Type 0) → MakesRoom true jobs n ok jobs' → heap'.items ≡ heap.items → vec_len heap' ≡ vec_len heap
       → vec_capacity heap ≤ vec_capacity heap' → IsSchedule jobs' count heap'
-  reserved_schedule jobs' heap' n ok makes items len more =
-      let keeps = makes.keeps in
-      let live = ap (map_values unplaced) keeps.live in
-      record {
-        order = rw live is.order;
-        valid = content-mapped unplaced jobs' true makes.after;
-        indexed = record { placed = rw (keeps.live, items) is.indexed.placed; ordered = rw items is.indexed.ordered; len = len ∙ is.indexed.len ∙ sym (ap map.len live) };
-        room = (let room = is.room in let next = ap map.len keeps.next in let all = ap map.len live in omega arith);
-      }
+  reserved_schedule jobs' heap' n ok makes items len more = grind (arith, content-mapped unplaced jobs' true makes.after, makes.keeps.live)
 
   -- a job was put in
   module _ (jobs' : Content (Job T)) (k : Key) (time : ℕ) (job : T) (inserts : Inserts (timed jobs) k ((time, count), job) (timed jobs')) where

@@ -1,7 +1,7 @@
 -- Jobs by their turns: no two have one turn, so each is found by its turn.
 use Rattle.slotmap_scheduler.proofs.Common.{AllByRecursion, CmpEqualImpliesEq, InOrder, IsInverse, IsTotalOrder, Key, List, Some, Timed, Turn, [], ap, arith, as_seen, by_turn, exact_keys}
 use Rattle.slotmap_scheduler.proofs.Common.{exact_pairs, exact_unsigned, find, key_cmp, keys_total, list_map, nat_cmp, nat_cmp_total, on_total, sym, then_total, tied, turn_cmp, untied, waiting_of}
-use Rattle.slotmap_scheduler.proofs.Common.{ℕ, ◌<◌, ◌∙◌, ◌∷◌, ◌≡◌}
+use Rattle.slotmap_scheduler.proofs.Common.{ℕ, ◌<◌, ◌∙◌, ◌∷◌, ◌≡◌, common_steps}
 use Rattle.slotmap_scheduler.proofs.Sorted.{all_of, same_option}
 use Rattle.std.specs.FinMap as map
 
@@ -51,6 +51,4 @@ module _ {T : Type 0} where
   -- jobs that are in order, and how they wait, by what finds each by its turn
   pub in_order : (jobs : Timed T) (count : ℕ) (turns : map.FinMap turn_cmp (Key × T)) → IsInverse (map.get jobs) (map.get turns) → map.len turns ≡ map.len jobs
       → ((k : Key) (t : Turn) (job : T) → map.get jobs k ≡ Some (t, job) → t.1 < count) → InOrder jobs count × (waiting_of jobs ≡ list_map as_seen (map.entries turns))
-  in_order jobs count turns is len numbered =
-      let same = by_turn_is jobs turns is in
-      (record { turns = rw same is; len = rw same len; numbered = numbered }, ap (λ (m : map.FinMap turn_cmp (Key × T)). list_map as_seen (map.entries m)) same)
+  in_order jobs count turns is len numbered = grind (arith, by_turn_is jobs turns is)

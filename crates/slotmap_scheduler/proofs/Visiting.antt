@@ -199,14 +199,7 @@ module _ {F K T : Type 0} {g : Mut F (K × (ℕ × (MutBor T × Unit {0}))) (Boo
       }
 
       pub visiting_kept : stays ≡ true → Visiting g data_of old f (record now { waiting = with_job k after.now now.waiting }) (k.index + 1) f''
-      visiting_kept keep = step (record now { waiting = with_job k after.now now.waiting }) (sym (ap (λ b. if b then with_job k after.now now.waiting else without k now.waiting) keep))
-          (λ q other. written_other k after.now q now.waiting other) (record {
-            turns = refl;
-            capacity = refl;
-            leaves = leaves_none now.handles;
-            for_good = λ q there none. absurd (let some = written_there k after.now q now.waiting in let h = ap is_some none in cc);
-            stale = λ q s. s;
-          })
+      visiting_kept keep = grind (arith, step, written_other, leaves_none now.handles, written_there)
 
       pub visiting_dropped : {new : Schedule T} → stays ≡ false → new.waiting ≡ without k (with_job k after.now now.waiting) → IsSpent new.handles k → new.turns ≡ now.turns
           → new.handles.capacity ≡ now.handles.capacity → Leaves now.handles new.handles → KeepsSpent now.handles new.handles → Visiting g data_of old f new (k.index + 1) f''

@@ -37,9 +37,7 @@ returns g c =
     }
 
 pub returns-in_err-removed-clause-job : goal.returns-in_err-removed-clause-job
-returns-in_err-removed-clause-job g c =
-    rw (← c.self.view_is, ← c.inner.ensures) (c.from_residual.ensures ∙ ap (option_map (λ (j : Job g.row.T.Denot). j.job)) (sym c.in_err-removed.was ∙ c.take_out.ensures.value)
-    ∙ job_seen c.self.invariant c.inner.result)
+returns-in_err-removed-clause-job g c = grind (arith, option_map, job_seen c.self.invariant c.inner.result, c.inner.ensures, c.from_residual.ensures, c.take_out.ensures.value, c.self.invariant)
 
 pub returns-in_err-removed-clause-removed : goal.returns-in_err-removed-clause-removed
 returns-in_err-removed-clause-removed g c =

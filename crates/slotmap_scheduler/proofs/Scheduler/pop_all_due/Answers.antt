@@ -1,4 +1,4 @@
-use Rattle.slotmap_scheduler.proofs.Common.{arith, refl, ◌∙◌}
+use Rattle.slotmap_scheduler.proofs.Common.{arith, refl, ◌∙◌, common_steps}
 use Rattle.slotmap_scheduler.proofs.Fewer.{first_fewer}
 use Rattle.slotmap_scheduler.proofs.TakingDue.{first_due, takes_none, taking_end, taking_start, taking_step}
 use Rattle.slotmap_scheduler.proofs.Scheduler.pop_all_due.Goals as goal
@@ -14,11 +14,7 @@ pub returns-in_err-make_room-clause-taken : goal.returns-in_err-make_room-clause
 returns-in_err-make_room-clause-taken g c = takes_none g.K.Key.data_of c.args.now _ _ _ c.make_room.ensures.keeps
 
 pub push_reserved-requires : goal.push_reserved-requires
-push_reserved-requires g c =
-    let next = c.in-Some.ensures.next in
-    let one = first_due c.args.now _ _ _ next.1 next.2 in
-    let room = c.loop-job.invariant.taking.room in
-    omega arith
+push_reserved-requires g c = grind (arith, first_due, c.in-Some.ensures.next, c.loop-job.invariant.taking.room)
 
 pub loop-job-preserved : goal.loop-job-preserved
 loop-job-preserved g c =

@@ -1,4 +1,4 @@
-use Rattle.slotmap_scheduler.proofs.Common.{none_of, sym, ◌∙◌}
+use Rattle.slotmap_scheduler.proofs.Common.{none_of, sym, ◌∙◌, arith, common_steps}
 use Rattle.slotmap_scheduler.proofs.Schedules.{turned_handles, turned_more, turned_others, turned_schedule, turned_there, turned_waits}
 use Rattle.slotmap_scheduler.proofs.Seen.{contains_seen, none_seen, seen_job}
 use Rattle.slotmap_scheduler.proofs.Results.{some_is}
@@ -36,8 +36,7 @@ returns-clause-as_many g c =
     rw (← c.self.view_is) (turned_more c.self.invariant c.inner-key.result j.0 j.1 c.args.time c.set_turn.new.jobs (c.set_turn.ensures.written j.0 j.1))
 
 pub returns-clause-waits : goal.returns-clause-waits
-returns-clause-waits g c =
-    rw (← c.self.view_is, ← c.inner-key.ensures) (sym (contains_seen c.self.invariant c.inner-key.result) ∙ sym c.contains_key.ensures.value ∙ c.if-not-contains_key.false)
+returns-clause-waits g c = grind (arith, contains_seen c.self.invariant c.inner-key.result, c.inner-key.ensures, c.self.invariant, c.contains_key.ensures.value)
 
 pub returns-clause-handles : goal.returns-clause-handles
 returns-clause-handles g c =

@@ -1,4 +1,4 @@
-use Rattle.slotmap_scheduler.proofs.Common.{arith, refl}
+use Rattle.slotmap_scheduler.proofs.Common.{arith, refl, common_steps}
 use Rattle.slotmap_scheduler.proofs.Schedules.{reserved_room, reserved_schedule}
 use Rattle.slotmap_scheduler.proofs.Handles.{used_handles}
 use Rattle.slotmap_scheduler.proofs.Results.{if_ok}
@@ -29,9 +29,7 @@ returns-then-is_err-clause-makes_room g c =
 
 pub returns-then-is_err-clause-err : goal.returns-then-is_err-clause-err
 returns-then-is_err-clause-err g c =
-    let same = used_handles c.self.inside.jobs c.self.inside.heap in
-    let fits = c.reserve.ensures.makes_room.fits (if_ok c.reserve.result c.in_default.not-Err) in
-    rw (← c.self.view_is) (omega arith)
+    grind (arith, used_handles c.self.inside.jobs c.self.inside.heap, if_ok c.reserve.result c.in_default.not-Err, c.reserve.ensures.makes_room.fits (if_ok c.reserve.result c.in_default.not-Err))
 
 pub invariant_of-self-2 : goal.invariant_of-self-2
 invariant_of-self-2 g c =

@@ -6,9 +6,7 @@ pub loop-at-init : goal.loop-at-init
 loop-at-init g c = record { within = c.requires.within; but = c.requires.but; resettled = resettled_same _ _ c.requires.placed }
 
 pub returns-then-not-is_before-clause-above : goal.returns-then-not-is_before-clause-above
-returns-then-not-is_before-clause-above g c some =
-    compared c.loop-at.heap c.loop-at.at _ c.index.result.now c.index-in-loop-at.result.now c.loop-at.invariant.within (omega arith) c.index.ensures c.index-in-loop-at.ensures false
-    (sym c.is_before.ensures ∙ c.if-not-is_before.true)
+returns-then-not-is_before-clause-above g c some = grind (arith, compared, c.loop-at.invariant.within, c.index.ensures, c.index-in-loop-at.ensures, c.is_before.ensures)
 
 pub loop-at-preserved : goal.loop-at-preserved
 loop-at-preserved g c = record {
