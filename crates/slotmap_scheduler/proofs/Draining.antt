@@ -1,5 +1,5 @@
 -- What the steps of a drain keep, and what they yield.
-use Rattle.slotmap_scheduler.proofs.Common.{Drain, EmptiesSchedule, KeepsLent, Key, SameLoan, Schedule, YieldsInOrder, [], ap, job_of, refl, subst, yielded_job, ◌∙◌, ◌∷◌, arith}
+use Rattle.slotmap_scheduler.proofs.Common.{Drain, EmptiesSchedule, KeepsLent, Key, SameLoan, Schedule, YieldsInOrder, [], ap, arith, job_of, refl, subst, yielded_job, ◌∙◌, ◌∷◌}
 use Rattle.slotmap_scheduler.proofs.Fewer.{HasFewer, still_fewer}
 
 -- a scheduler that has fewer jobs, and then none

@@ -2,7 +2,7 @@
 use Rattle.slotmap_scheduler.proofs.Common.{All, All-head, All-tail, Bool, Content, Entry, IsByTime, IsOnce, IsSchedule, Job, Key, None, Some, Vec, Waiting, [], ap, arith, cond, count_below}
 use Rattle.slotmap_scheduler.proofs.Common.{due_at, eq_by_cmp, exact_keys, false, filter, get-mapped, get_or, heap_entry, is_due_at, is_under, itself, job_of, key_cmp, keys_total, length, nat_lt}
 use Rattle.slotmap_scheduler.proofs.Common.{nat_tests, nil_from_length, no_entry, not, option_map, refl, slice_get-get_or, spot_of, suc, sym, tied, timed, true, turn_at, unplaced, waiting_of}
-use Rattle.slotmap_scheduler.proofs.Common.{without, zero, ℕ, ◌&&◌, ◌+◌, ◌<◌, ◌∙◌, ◌∷◌, ◌≡◌, ◌≢◌, ◌≤◌, common_steps}
+use Rattle.slotmap_scheduler.proofs.Common.{without, zero, ℕ, ◌&&◌, ◌+◌, ◌<◌, ◌∙◌, ◌∷◌, ◌≡◌, ◌≢◌, ◌≤◌}
 use Rattle.slotmap_scheduler.proofs.Results.{without_none}
 use Rattle.slotmap_scheduler.proofs.Counting.{count_alike, under_top}
 use Rattle.slotmap_scheduler.proofs.HeapPlaces.{one_place}

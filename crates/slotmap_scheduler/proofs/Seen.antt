@@ -5,6 +5,7 @@ use Rattle.slotmap_scheduler.proofs.Common.{shown, slice_get, slice_get-get_or, 
 use Rattle.slotmap_scheduler.proofs.Order.{job_is, len_is, none_due, none_wait, waits_first}
 use Rattle.slotmap_scheduler.proofs.Heaps.{top_first}
 use Rattle.slotmap_scheduler.proofs.HeapPlaces.{entry_within}
+use Rattle.slotmap_scheduler.proofs.Waits.{least_first, waits_by_time}
 use Rattle.std.specs.FinMap as map
 
 -- a reference that is not there
@@ -64,6 +65,9 @@ module _ {T Z : Type 0} {jobs : Content (Job T)} {count : ℕ} {heap : Vec Entry
 
     pub top_waits : (job : T) × (waiting_of (timed jobs).live ≡ (e.handle, (e.turn.0, job)) ∷ without e.handle (waiting_of (timed jobs).live))
     top_waits = (top_job.0, waits_first (timed jobs).live count is.order e.handle e.turn top_job.0 top_job.1 least)
+
+    pub top_least : All (λ (x : Key × (ℕ × T)). e.turn.0 ≤ x.1.0) (waiting_of (timed jobs).live)
+    top_least = least_first _ _ _ (waits_by_time (timed jobs).live) top_waits.1
 
     pub top_later : (now : ℕ) → now < e.turn.0 → All (λ (x : Key × (ℕ × T)). now < x.1.0) (waiting_of (timed jobs).live)
     top_later now later = none_due (timed jobs).live count is.order e.handle e.turn top_job.0 top_job.1 least now later

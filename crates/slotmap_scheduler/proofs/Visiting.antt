@@ -7,12 +7,6 @@ use Rattle.slotmap_scheduler.proofs.DueCounted.{len_without, once_without, other
 use Rattle.slotmap_scheduler.proofs.Fewer.{HasFewer, one_fewer, same_fewer, still_fewer}
 use Rattle.slotmap_scheduler.proofs.Results.{behind_first}
 
-below_or_not : (i n : ℕ) → (i < n) ⊎ (n ≤ i)
-below_or_not i n = elim (nat_lt i n) as (λ b. nat_lt i n ≡ b → (i < n) ⊎ (n ≤ i)) [
-  | true ↦ λ less. inl (grind (arith, nat_tests))
-  | false ↦ λ more. inr (grind (arith, nat_tests))
-] refl
-
 module _ {T : Type 0} (k : Key) where
   -- a job that is written stays where it was
   written_there : (w : T) (q : Key) (ws : Waiting T) → is_some (job_of q (with_job k w ws)) ≡ is_some (job_of q ws)
@@ -41,15 +35,9 @@ module _ {T : Type 0} (e : Key × (ℕ × T)) where
   pushed_itself [] none = grind (arith, itself keys_total exact_keys e.0)
   pushed_itself (x ∷ ws) none = grind (arith, pushed_itself ws)
 
-  first_apart : (x : Key × (ℕ × T)) (ws : Waiting T) → job_of e.0 (x ∷ ws) ≡ None → x.0 ≢ e.0
-  first_apart x ws none same = absurd (let i = itself keys_total exact_keys e.0 in let n = rw same at none in grind arith)
-
-  rest_none : (x : Key × (ℕ × T)) (ws : Waiting T) → job_of e.0 (x ∷ ws) ≡ None → job_of e.0 ws ≡ None
-  rest_none x ws none = grind arith
-
   once_pushed : (ws : Waiting T) → IsOnce ws → job_of e.0 ws ≡ None → IsOnce (ws ++ e ∷ [])
   once_pushed [] once none = (refl, tt)
-  once_pushed (x ∷ ws) once none = (pushed_other x.0 ws (first_apart x ws none) ∙ once.0, once_pushed ws once.1 (rest_none x ws none))
+  once_pushed (x ∷ ws) once none = grind (arith, pushed_other x.0 ws, once_pushed ws once.1, once.0, itself keys_total exact_keys e.0)
 
 -- as many jobs, where each handle finds the same
 as_many_found : {T : Type 0} (xs ys : Waiting T) → IsOnce xs → IsOnce ys → ((k : Key) → job_of k ys ≡ job_of k xs) → length ys ≡ length xs
@@ -57,12 +45,9 @@ as_many_found [] [] once_a once_b same = refl
 as_many_found [] (y ∷ ys) once_a once_b same = absurd (let i = itself keys_total exact_keys y.0 in let h = same y.0 in grind arith)
 as_many_found (e ∷ xs) ys once_a once_b same =
     let there : job_of e.0 ys ≡ Some e.1 = same e.0 ∙ grind (arith, itself keys_total exact_keys e.0) in
-    let more = len_without e.0 ys e.1 once_b there in
-    let rest = as_many_found xs (without e.0 ys) once_a.1 (once_without e.0 ys once_b) (λ k. elim (same_or_other k e.0) [
-      | inl is ↦ rw is (gone_itself e.0 ys ∙ sym once_a.0)
-      | inr other ↦ other_found e.0 k ys other ∙ same k ∙ behind_first e k xs other
-    ]) in
-    omega arith
+    let rest = as_many_found xs (without e.0 ys) once_a.1 (once_without e.0 ys once_b)
+    (λ k. grind (arith, same k, once_a.0, gone_itself e.0 ys, other_found e.0 k ys, tied keys_total exact_keys k e.0, itself keys_total exact_keys k)) in
+    omega (arith, len_without e.0 ys e.1 once_b there)
 
 module _ {K T : Type 0} (data_of : K → Key) where
   -- one more call
@@ -110,20 +95,8 @@ module _ {F K T : Type 0} {g : Mut F (K × (ℕ × (MutBor T × Unit {0}))) (Boo
     stay = r.stay;
   }
     where
-      none_ahead : (k : Key) → floor ≤ k.index → (due : ℕ × T) → job_of k old.waiting ≡ Some due → ⊥
-      none_ahead k from due there = let low = none k (ap is_some (r.ahead k from ∙ there)) in omega arith
-
-      absent : (k : Key) → floor ≤ k.index → job_of k old.waiting ≡ None
-      absent k from = elim (job_of k old.waiting) as (λ o. job_of k old.waiting ≡ o → o ≡ None) [
-        | None ↦ λ is. refl
-        | Some due ↦ λ is. absurd (none_ahead k from due is)
-      ] refl
-
       same : (k : Key) → job_of k (jobs_seen data_of r.visits) ≡ job_of k old.waiting
-      same k = elim (below_or_not k.index floor) [
-        | inl low ↦ r.below k low
-        | inr from ↦ r.unseen k from ∙ sym (absent k from)
-      ]
+      same k = grind (arith, r.below k, r.unseen k, r.ahead k, none k)
 
   -- the job that is shown is the one that waits
   pub shown_there : (k : Key) (time : ℕ) (shown : T) → ((job : T) × (job_of k now.waiting ≡ Some (time, job)))
@@ -135,13 +108,7 @@ module _ {F K T : Type 0} {g : Mut F (K × (ℕ × (MutBor T × Unit {0}))) (Boo
   written_waits k due at w = written_there k w k now.waiting ∙ ap is_some at
 
   saw : SeesEachOnce data_of old.waiting r.visits
-  saw = record {
-    there = λ q due found. elim (below_or_not q.index floor) [
-      | inl low ↦ sym (r.below q low) ∙ found
-      | inr from ↦ absurd (let none = r.unseen q from in cc)
-    ];
-    once = r.once;
-  }
+  saw = record { there = λ q due found. grind (arith, r.below q, r.unseen q); once = r.once }
 
   -- the next one
   module _ (handle : K) (time : ℕ) (shown : MutBor T) (at : job_of (data_of handle) now.waiting ≡ Some (time, shown.now)) (behind : floor ≤ (data_of handle).index) where
@@ -157,13 +124,6 @@ module _ {F K T : Type 0} {g : Mut F (K × (ℕ × (MutBor T × Unit {0}))) (Boo
       abbrev visit : JobVisit K T
       visit = record { handle = handle; time = time; before = shown.now; after = after.now; stays = stays }
 
-      -- a handle with an index in between finds nothing
-      none_between : (q : Key) → q ≢ k → floor ≤ q.index → q.index ≤ k.index → job_of q old.waiting ≡ None
-      none_between q other from up = elim (job_of q old.waiting) as (λ o. job_of q old.waiting ≡ o → o ≡ None) [
-        | None ↦ λ none. refl
-        | Some due ↦ λ there. absurd (other (least q (ap is_some (r.ahead q from ∙ there)) from up))
-      ] refl
-
       seen_now : jobs_seen data_of (r.visits ++ visit ∷ []) ≡ jobs_seen data_of r.visits ++ (k, (time, shown.now)) ∷ []
       seen_now = jobs_seen_pushed data_of r.visits visit
 
@@ -174,13 +134,7 @@ module _ {F K T : Type 0} {g : Mut F (K × (ℕ × (MutBor T × Unit {0}))) (Boo
       seen_here = ap (job_of k) seen_now ∙ pushed_itself (k, (time, shown.now)) (jobs_seen data_of r.visits) (r.unseen k behind) ∙ sym at ∙ r.ahead k behind
 
       below_now : (q : Key) → q.index < k.index + 1 → job_of q (jobs_seen data_of (r.visits ++ visit ∷ [])) ≡ job_of q old.waiting
-      below_now q low = elim (same_or_other q k) [
-        | inl here ↦ subst (λ x. job_of x (jobs_seen data_of (r.visits ++ visit ∷ [])) ≡ job_of x old.waiting) (sym here) seen_here
-        | inr other ↦ seen_other q other ∙ elim (below_or_not q.index floor) [
-          | inl before ↦ r.below q before
-          | inr from ↦ r.unseen q from ∙ sym (none_between q other from (omega arith))
-        ]
-      ]
+      below_now q low = grind (arith, same_or_other q k, seen_here, seen_other q, r.below q, r.unseen q, r.ahead q, least q)
 
       not_here : (q : Key) → k.index + 1 ≤ q.index → q ≢ k
       not_here q from same = let index = ap (λ (x : Key). x.index) same in omega arith

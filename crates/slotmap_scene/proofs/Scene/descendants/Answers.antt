@@ -27,18 +27,13 @@ done g c =
     let all = ap (λ l. listed ++ l) c.in-None.ensures.steps.0 ∙ append-nil listed in
     subst (Descended c.args.self.now.live (g.K.Key.data_of c.args.node)) all c.loop-key.invariant.listed
 
-pub returns-clause-order : goal.returns-clause-order
-returns-clause-order g c = (done g c).order
-
-pub returns-clause-all : goal.returns-clause-all
-returns-clause-all g c = (done g c).all
-
-pub returns-clause-only : goal.returns-clause-only
-returns-clause-only g c =
-    let nodes = c.args.self.now.live in
-    let node = g.K.Key.data_of c.args.node in
-    each_listed g.K.Key.data_of (λ k. has_node nodes k × IsWithin nodes k node × (k ≢ node)) _
-    (done g c).only
-
-pub returns-clause-once : goal.returns-clause-once
-returns-clause-once g c = (done g c).once
+pub returns : goal.returns
+returns g c = record {
+  order = (done g c).order;
+  all = (done g c).all;
+  only = (let nodes = c.args.self.now.live in
+      let node = g.K.Key.data_of c.args.node in
+      each_listed g.K.Key.data_of (λ k. has_node nodes k × IsWithin nodes k node × (k ≢ node)) _
+      (done g c).only);
+  once = (done g c).once;
+}

@@ -21,19 +21,11 @@ loop-at-preserved g c =
       each = c.in_ok-push_children.ensures.each;
     }
 
-pub returns-clause-composed : goal.returns-clause-composed
-returns-clause-composed g c joins = worlds_composed g.K.Key.data_of _ g.T.HasTransform.transform_of _ _ joins c.loop-at.invariant.each
-
-pub returns-clause-order : goal.returns-clause-order
-returns-clause-order g c =
-    let same = length-map c.loop-at.all.items (λ e. g.K.Key.data_of e.0) in
-    levels_done _ _ _ c.loop-at.invariant.levels (omega arith)
-
-pub returns-clause-all : goal.returns-clause-all
-returns-clause-all g c = levels_all _ (rw c.self.view_is at c.self.invariant) _ (returns-clause-order g c)
-
-pub returns-clause-only : goal.returns-clause-only
-returns-clause-only g c = going_live _ (rw c.self.view_is at c.self.invariant) _ _ c.loop-at.invariant.levels
-
-pub returns-clause-once : goal.returns-clause-once
-returns-clause-once g c = going_once _ (rw c.self.view_is at c.self.invariant) _ _ c.loop-at.invariant.levels
+pub returns : goal.returns
+returns g c = record {
+  composed = λ joins. worlds_composed g.K.Key.data_of _ g.T.HasTransform.transform_of _ _ joins c.loop-at.invariant.each;
+  order = (let same = length-map c.loop-at.all.items (λ e. g.K.Key.data_of e.0) in levels_done _ _ _ c.loop-at.invariant.levels (omega arith));
+  all = levels_all _ (rw c.self.view_is at c.self.invariant) _ (returns-clause-order g c);
+  only = going_live _ (rw c.self.view_is at c.self.invariant) _ _ c.loop-at.invariant.levels;
+  once = going_once _ (rw c.self.view_is at c.self.invariant) _ _ c.loop-at.invariant.levels;
+}

@@ -1,4 +1,4 @@
-use Rattle.slotmap_scheduler.proofs.Common.{arith, refl, ◌∙◌, common_steps}
+use Rattle.slotmap_scheduler.proofs.Common.{arith, refl, ◌∙◌}
 use Rattle.slotmap_scheduler.proofs.Fewer.{first_fewer}
 use Rattle.slotmap_scheduler.proofs.TakingDue.{first_due, takes_none, taking_end, taking_start, taking_step}
 use Rattle.slotmap_scheduler.proofs.Scheduler.pop_all_due.Goals as goal

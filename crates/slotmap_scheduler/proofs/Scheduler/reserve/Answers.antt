@@ -1,4 +1,4 @@
-use Rattle.slotmap_scheduler.proofs.Common.{arith, refl, common_steps}
+use Rattle.slotmap_scheduler.proofs.Common.{arith, refl}
 use Rattle.slotmap_scheduler.proofs.Schedules.{reserved_room, reserved_schedule}
 use Rattle.slotmap_scheduler.proofs.Handles.{used_handles}
 use Rattle.slotmap_scheduler.proofs.Results.{if_ok}

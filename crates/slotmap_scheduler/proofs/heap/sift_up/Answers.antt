@@ -1,4 +1,4 @@
-use Rattle.slotmap_scheduler.proofs.Common.{arith, false, sym, ◌∙◌}
+use Rattle.slotmap_scheduler.proofs.Common.{arith}
 use Rattle.slotmap_scheduler.proofs.Heaps.{compared, resettled_same, resettled_then, risen}
 use Rattle.slotmap_scheduler.proofs.heap.sift_up.Goals as goal
 

@@ -30,22 +30,19 @@ loop-child-preserved-in-Some g c =
 pub prune-value-requires-clause-leaf : goal.prune-value-requires-clause-leaf
 prune-value-requires-clause-leaf g c = none_last (children_of c.loop-child.self.live c.loop-child.at) (sym c.in-None.ensures)
 
-pub returns-then-eq-clause-removed : goal.returns-then-eq-clause-removed
-returns-then-eq-clause-removed g c = rw (c.prune-value.ensures.live)
-    (all_removed _ _ _ _ c.loop-child.invariant.removing (none_last _ (sym c.in-None.ensures))
-    ((same_keys c.loop-child.at c.args.root).0 (sym c.if-eq.ensures)))
-
-pub returns-then-eq-clause-others : goal.returns-then-eq-clause-others
-returns-then-eq-clause-others g c = rw (c.prune-value.ensures.live)
-    (others_left _ _ _ _ c.loop-child.invariant.removing (none_last _ (sym c.in-None.ensures))
-    ((same_keys c.loop-child.at c.args.root).0 (sym c.if-eq.ensures)))
-
-pub returns-then-eq-clause-scene : goal.returns-then-eq-clause-scene
-returns-then-eq-clause-scene g c = rw (c.prune-value.ensures.live)
-    (pruned_scene _ c.loop-child.invariant.removing.scene c.loop-child.at c.loop-child.invariant.removing.here (none_last _ (sym c.in-None.ensures)))
-
-pub returns-then-eq-clause-leaves : goal.returns-then-eq-clause-leaves
-returns-then-eq-clause-leaves g c = leaves_in_turn _ _ _ c.loop-child.invariant.leaves c.prune-value.ensures.leaves
+pub returns-then-eq : goal.returns-then-eq
+returns-then-eq g c = record {
+  removed = rw (c.prune-value.ensures.live)
+      (all_removed _ _ _ _ c.loop-child.invariant.removing (none_last _ (sym c.in-None.ensures))
+      ((same_keys c.loop-child.at c.args.root).0 (sym c.if-eq.ensures)));
+  others = rw (c.prune-value.ensures.live)
+      (others_left _ _ _ _ c.loop-child.invariant.removing (none_last _ (sym c.in-None.ensures))
+      ((same_keys c.loop-child.at c.args.root).0 (sym c.if-eq.ensures)));
+  scene = rw (c.prune-value.ensures.live) (pruned_scene _ c.loop-child.invariant.removing.scene c.loop-child.at c.loop-child.invariant.removing.here (none_last _ (sym c.in-None.ensures)));
+  leaves = leaves_in_turn _ _ _ c.loop-child.invariant.leaves c.prune-value.ensures.leaves;
+  capacity = c.prune-value.ensures.capacity ∙ c.loop-child.invariant.capacity;
+  value = search rules;
+}
 
 pub loop-child-smaller : goal.loop-child-smaller
 loop-child-smaller g c = rw (c.prune-value.ensures.live)
@@ -62,6 +59,3 @@ loop-child-preserved g c =
       leaves = leaves_in_turn _ _ _ c.loop-child.invariant.leaves c.prune-value.ensures.leaves;
       capacity = c.prune-value.ensures.capacity ∙ c.loop-child.invariant.capacity;
     }
-
-pub returns-then-eq-clause-capacity : goal.returns-then-eq-clause-capacity
-returns-then-eq-clause-capacity g c = c.prune-value.ensures.capacity ∙ c.loop-child.invariant.capacity

@@ -1,4 +1,4 @@
-use Rattle.slotmap_scheduler.proofs.Common.{refl, arith, common_steps}
+use Rattle.slotmap_scheduler.proofs.Common.{refl}
 use Rattle.slotmap_scheduler.proofs.Fewer.{first_fewer}
 use Rattle.slotmap_scheduler.proofs.Draining.{emptied_then}
 use Rattle.slotmap_scheduler.proofs.drain.DrainIterator.next.Goals as goal
