@@ -1,9 +1,10 @@
 -- What callers cite: what is in each list once a member was put behind the others, or was taken out.
-use Rattle.std.proofs.Common.{◌≡◌, ◌≢◌, ℕ, ◌+◌, ◌<◌, ◌≤◌, ◌⊎◌, List, [], ◌∷◌, ◌++◌, length, replicate, refl, sym, ap, ◌∙◌, inl, inr, arith, zero, suc}
+use Rattle.std.proofs.Common.{◌≡◌, ℕ, ◌+◌, ◌-◌, ◌<◌, ◌≤◌, ◌⊎◌, List, [], ◌∷◌, ◌++◌, length, length-append, replicate, max, zero, suc}
+use Rattle.std.proofs.Common.{refl, sym, ap, subst, ◌∙◌, inl, inr, arith, Result, Ok, Err, OnOk, OnErr}
 use Rattle.std.proofs.Math.Nat.{eq-zero-or-pos}
-use Rattle.slotmap_links.specs.Lists.{Lists, times, list_of, with_list, IsIn, AreDisjoint, without}
-use Rattle.slotmap_links.proofs.Counts.{same, same_or_other, one_itself, one_other, times_first, times_joined, times_gone, times_without, without_none}
-use Rattle.slotmap_links.proofs.Callers.{list_now, list_other}
+use Rattle.slotmap_links.specs.Lists.{Lists, times, list_of, with_list, with_owners, with_members, IsIn, AreDisjoint, CoversMore, without}
+use Rattle.slotmap_links.proofs.Counts.{same, same_or_other, one_itself, one_other, times_first, times_joined, without_none}
+use Rattle.slotmap_links.proofs.Callers.{list_covered, list_now, list_other}
 
 pub times_pushed : (x : ℕ) (ks : List ℕ) (k : ℕ) → times x (ks ++ k ∷ []) ≡ times x ks + same k x
 times_pushed x ks k = let joined = times_joined x ks (k ∷ []) in let first = times_first x k [] in omega arith
@@ -60,3 +61,17 @@ pub list_cleared : (n members q : ℕ) → list_of (record { lists = replicate n
 list_cleared zero members q = refl
 list_cleared (suc n) members zero = refl
 list_cleared (suc n) members (suc q) = list_cleared n members q
+
+-- owners and members came, or owners alone
+covers_by : (s : Lists) → AreDisjoint s → (n m : ℕ) (new : Lists) → s.members ≤ m → new ≡ record (with_owners s n) { members = m } → CoversMore s new
+covers_by s disjoint n m new more is = subst (CoversMore s) (sym is) (record {
+  lists = list_covered s n;
+  owners = omega (arith, length-append s.lists (replicate {A = List ℕ} (n - length s.lists) []));
+  members = more;
+  disjoint = disjoint_still s (record (with_owners s n) { members = m }) disjoint (list_covered s n) more;
+})
+
+pub covered : (s : Lists) → AreDisjoint s → (n m : ℕ) (mid new : Lists) {A B : Type 0} (r : Result A B) → mid ≡ with_owners s n
+    → OnOk r (new ≡ with_members mid m) → OnErr r (new ≡ mid) → CoversMore s new
+covered s disjoint n m mid new (Ok a) is ok err = covers_by s disjoint n (max s.members m) new (omega arith) (ok ∙ ap (λ l. with_members l m) is)
+covered s disjoint n m mid new (Err b) is ok err = covers_by s disjoint n s.members new (omega arith) (err ∙ is)

@@ -1,10 +1,10 @@
 -- Lists that are kept as links: a walk along them, and what a number that is put in or taken out does to them. For the structures.
 use Rattle.std.proofs.Common.{ℕ, nat_eq, ◌≡◌, ◌≢◌, ◌⊎◌, ◌+◌, ◌<◌, ◌≤◌, Option, Some, None, List, [], ◌∷◌, ◌++◌, length, cond}
-use Rattle.std.proofs.Common.{not, refl, sym, ap, ◌∙◌, inl, inr, arith, append_assoc, append-nil}
+use Rattle.std.proofs.Common.{true, false, not, refl, sym, ap, ◌∙◌, inl, inr, arith, append_assoc, append-nil}
 use Rattle.std.proofs.Math.Nat.{eq-zero-or-pos}
 use Rattle.std.proofs.lemmas.List.Elements.{filter-append}
 use Rattle.std.proofs.lemmas.Option.{same_Some}
-use Rattle.slotmap_links.specs.Lists.{times, first_or, last_or, without}
+use Rattle.slotmap_links.specs.Lists.{times, first_or, last_or, number_after, number_before, without}
 use Rattle.slotmap_links.specs.Linked.{Bounds, Neighbours, ends_of, link_between, follow, followed, AreLinked, AreApart, Relinks, IsListed}
 use Rattle.slotmap_links.proofs.Counts.{same, same_or_other, is_itself, one_itself, one_other, times_first, times_joined, without_none}
 
@@ -36,6 +36,31 @@ none_last (k ∷ ks) is = by k ks is
     by : {P : Type 0} (k : ℕ) (ks : List ℕ) → last_or ks (Some k) ≡ None → P
     by k [] is = absurd (cc)
     by k (q ∷ ks) is = by q ks is
+
+-- the number beside another one is in the list
+pub after_inside : (k i : ℕ) (ks : List ℕ) → number_after k ks ≡ Some i → 0 < times i ks
+after_inside k i [] is = absurd (cc)
+after_inside k i (q ∷ ks) is =
+    let first = times_first i q ks in
+    elim (nat_eq q k) as (λ b. cond b (first_or ks None) (number_after k ks) ≡ Some i → 0 < times i (q ∷ ks)) [
+      | true ↦ λ is. omega (arith, first_in ks i is)
+      | false ↦ λ is. omega (arith, after_inside k i ks is)
+    ] is
+
+before_within : (other : Option ℕ) (k i : ℕ) (ks : List ℕ) → number_before other k ks ≡ Some i → (other ≡ Some i → ⊥) → 0 < times i ks
+before_within other k i [] is apart = absurd (cc)
+before_within other k i (q ∷ ks) is apart =
+    let first = times_first i q ks in
+    elim (nat_eq q k) as (λ b. cond b other (number_before (Some q) k ks) ≡ Some i → 0 < times i (q ∷ ks)) [
+      | true ↦ λ is. absurd (apart is)
+      | false ↦ λ is. (elim (same_or_other q i) [
+        | inl at ↦ omega (arith, ap (λ n. same n i) at ∙ one_itself i)
+        | inr other ↦ omega (arith, before_within (Some q) k i ks is (λ e. other (same_Some q i e)))
+      ])
+    ] is
+
+pub before_inside : (k i : ℕ) (ks : List ℕ) → number_before None k ks ≡ Some i → 0 < times i ks
+before_inside k i ks is = before_within None k i ks is (λ e. (cc))
 
 pub cons_not_nil : {A : Type 0} (b : List A) (x : A) (a : List A) → [] ≡ b ++ x ∷ a → ⊥
 cons_not_nil [] x a at = absurd (cc)

@@ -4,8 +4,8 @@ use Rattle.std.proofs.Common.{subst, ◌∙◌, arith, append-nil, length-append
 use Rattle.slotmap_links.specs.Lists.{times, first_or, last_or}
 use Rattle.slotmap_links.specs.Linked.{Bounds, Neighbours, ends_of, followed, AreLinked, Relinks}
 use Rattle.slotmap_links.specs.Splice.{with_next, with_prev, own}
-use Rattle.slotmap_links.proofs.Counts.{same, is_itself, is_other}
-use Rattle.slotmap_links.proofs.Linking.{last_or-append, first_in, last_in, in_midst, followed_is}
+use Rattle.slotmap_links.proofs.Counts.{is_itself, is_other}
+use Rattle.slotmap_links.proofs.Linking.{last_or-append, first_in, last_in, followed_is}
 
 module _ (to : Option ℕ) (link : ℕ → Neighbours) (q : ℕ) where
   next_here : with_next (Some q) to link q ≡ record (link q) { next = to }

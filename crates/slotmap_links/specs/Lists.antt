@@ -87,3 +87,10 @@ with_owners s n = record { lists = s.lists ++ replicate (n - length s.lists) [];
 -- the same lists, where the numbers below n may be members too
 abbrev pub with_members : Lists → ℕ → Lists
 with_members s n = record { lists = s.lists; members = max s.members n }
+
+-- the same lists, for no fewer owners and members
+pub record CoversMore (old new : Lists) : Type 0 where
+  pub lists : (p : ℕ) → list_of new p ≡ list_of old p
+  pub owners : length old.lists ≤ length new.lists
+  pub members : old.members ≤ new.members
+  pub disjoint : AreDisjoint new

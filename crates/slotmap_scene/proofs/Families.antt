@@ -24,11 +24,13 @@ use Rattle.slotmap_scene.specs.Node.{Node, Nodes, key_and_value}
 use Rattle.slotmap_scene.specs.Above.{roots_in}
 use Rattle.slotmap_scene.specs.Climb.{parent_in, parent_of, with_parent}
 use Rattle.slotmap_scene.specs.Family.{behind, children_in, in_front, children_of, value_of, with_children_in}
-use Rattle.slotmap_scene.specs.Kept.{AreCovered, AreIndices, HasKey, HaveIndices, HoldsNodes, parent_at, found_at, key_at, parent_index, keys_at, node_at}
+use Rattle.slotmap_scene.specs.Kept.{AreCovered, HoldsNodes, parent_at, parent_index, node_at}
+use Rattle.slotmap_bounded.specs.Indices.{AreIndices, HasKey, HaveIndices, found_at, key_at, keys_at}
 use Rattle.slotmap_scene.specs.Kept.{nodes_by}
 use Rattle.slotmap_scene.specs.Kept.{owner_of, roots_of}
-use Rattle.slotmap_scene.proofs.Indices.{first_key, found_has, found_is, found_key, key_after, key_ahead, last_key, found_live, found_same, found_zero}
-use Rattle.slotmap_scene.proofs.Indices.{keys_same, no_key, times_key}
+use Rattle.slotmap_scene.proofs.Indices.{key_after, key_ahead}
+use Rattle.slotmap_bounded.proofs.Indices.{by_live, first_key, found_has, found_is, found_key, last_key, found_live, found_same, found_zero}
+use Rattle.slotmap_bounded.proofs.Indices.{keys_same, no_key, times_key}
 
 -- nodes with the same values, parents and children are the same
 pub same_nodes : {V : Type 0} (a b : Nodes V) → ((q : Key) → value_of a q ≡ value_of b q) → ((q : Key) → parent_of a q ≡ parent_of b q)
@@ -70,11 +72,6 @@ module _ {V W : Type 0} (f : Key → V → W) where
   keys-made [] = refl
   keys-made (e ∷ es) = ap (λ ks. e.0 ∷ ks) (keys-made es)
 
--- by whether a key is there
-pub by_live : {V : Type 0} (m : map.FinMap key_cmp V) (k : Key) (P : Type 0) → (map.contains_key m k ≡ true → P)
-    → (map.contains_key m k ≡ false → P) → P
-by_live m k P here gone = elim (map.contains_key m k) as (λ b. map.contains_key m k ≡ b → P) [ true ↦ here | false ↦ gone ] refl
-
 pub covers_less : (n m : ℕ) (ps : List ℕ) (ls : Lists) → AreCovered n ps ls → m ≤ n → AreCovered m ps ls
 covers_less n m ps ls covered less = record {
   parents = (let was = covered.parents in omega arith);
@@ -88,8 +85,8 @@ written_has c None is = inl refl
 written_has c (Some p) is = inr (p, is, refl)
 
 pub written_found : {V : Type 0} (c : Content V) → HaveIndices c → (o : Option Key) → IfSome o (IsLive c) → found_at c.live (parent_index o) ≡ o
-written_found c indices None is = found_zero c indices
-written_found c indices (Some p) is = found_live c indices p is
+written_found c indices None is = found_zero indices
+written_found c indices (Some p) is = found_live indices p is
 
 -- what is read of the parents
 pub read_above : (ps : List ℕ) (at i parent : ℕ) → parent ≡ get_or ps at parent → at ≡ i → i < length ps → parent ≡ parent_at ps i
@@ -156,20 +153,12 @@ module _ {V : Type 0} (live : map.FinMap key_cmp V) (parents : List ℕ) (childr
   pub children_gone : (k : Key) → map.contains_key live k ≡ false → children_of seen k ≡ []
   children_gone k gone = seen_children k ∙ ap (λ b. cond b (keys_at live (list_of children k.index)) []) gone
 
--- the same keys, and no less capacity
-pub indices_still : {V : Type 0} (c d : Content V) → HaveIndices c → ((k : Key) → IsLive d k → IsLive c k) → c.capacity ≤ d.capacity
-    → HaveIndices d
-indices_still c d indices were more = record {
-  within = λ k live. (let within = indices.within k (were k live) in (within.0, omega (arith, within.1)));
-  apart = λ a b of_a of_b. indices.apart a b (were a of_a) (were b of_b);
-}
-
 module _ {V : Type 0} {c : Content V} {parents : List ℕ} {children : Lists} (kept : HoldsNodes c parents children) where
   abbrev nodes : Nodes V
   nodes = nodes_by c.live parents children
 
   pub indices_at : (p : ℕ) → AreIndices c (list_of children p)
-  indices_at p i inside = (kept.listed p i inside).1
+  indices_at p = record { have = λ i inside. (kept.listed p i inside).1 }
 
   pub has_place : (k : Key) → IsLive c k → AreCovered k.index parents children
   has_place k live = covers_less c.capacity k.index parents children kept.covered (kept.indices.within k live).1
@@ -209,15 +198,15 @@ module _ {V : Type 0} {c : Content V} {parents : List ℕ} {children : Lists} (k
         there,
         live,
         let count = ap (times k) (children_live c.live parents children p there)
-            ∙ times_key c kept.indices (list_of children p.index) (indices_at p.index) k live in omega arith,
+            ∙ times_key kept.indices (list_of children p.index) (indices_at p.index) k live in omega arith,
       ))
       (λ gone. absurd (let count = ap (times k) (children_live c.live parents children p there)
-      ∙ no_key c kept.indices (list_of children p.index) (indices_at p.index) k gone in omega arith)))
+      ∙ no_key kept.indices (list_of children p.index) (indices_at p.index) k gone in omega arith)))
       (λ gone. absurd (let none = ap (times k) (children_gone c.live parents children p gone) in omega arith))
 
   in_child : (p k : Key) → IsLive c p → IsLive c k → IsIn children p.index k.index → 0 < times k (children_of nodes p)
   in_child p k there live inside = let count = ap (times k) (children_live c.live parents children p there)
-      ∙ times_key c kept.indices (list_of children p.index) (indices_at p.index) k live in omega arith
+      ∙ times_key kept.indices (list_of children p.index) (indices_at p.index) k live in omega arith
 
   -- a node that is no child is free
   pub nowhere : (k : Key) → IsLive c k → ((p : Key) → times k (children_of nodes p) ≡ 0) → (p : ℕ) → often k.index (list_of children p) ≡ 0
@@ -235,23 +224,23 @@ module _ {V : Type 0} {c : Content V} {parents : List ℕ} {children : Lists} (k
 
   -- the index of the parent, and the parent
   pub above_none : (k : Key) → IsLive c k → parent_at parents k.index ≡ 0 → parent_of nodes k ≡ None
-  above_none k live none = parent_live c.live parents children k live ∙ ap (found_at c.live) none ∙ found_zero c kept.indices
+  above_none k live none = parent_live c.live parents children k live ∙ ap (found_at c.live) none ∙ found_zero kept.indices
 
   pub above_has : (k : Key) → IsLive c k → parent_at parents k.index ≢ 0
       → (p : Key) × IsLive c p × (p.index ≡ parent_at parents k.index) × (parent_of nodes k ≡ Some p)
   above_has k live some = elim (kept.has_parent k live) [
     | inl none ↦ absurd (some none)
-    | inr has ↦ (has.0, has.1, has.2, parent_live c.live parents children k live ∙ found_has c kept.indices (parent_at parents k.index) has)
+    | inr has ↦ (has.0, has.1, has.2, parent_live c.live parents children k live ∙ found_has kept.indices (parent_at parents k.index) has)
   ]
 
   -- the roots are those with no index of a parent
   found_above : (k : Key) → IsLive c k → is_some (found_at c.live (parent_at parents k.index)) ≡ not (nat_eq (parent_at parents k.index) 0)
   found_above k live = elim (nat_eq (parent_at parents k.index) 0) as
       (λ b. nat_eq (parent_at parents k.index) 0 ≡ b → is_some (found_at c.live (parent_at parents k.index)) ≡ not b) [
-        | true ↦ λ none. ap is_some (ap (found_at c.live) (eqb-true (parent_at parents k.index) 0 none) ∙ found_zero c kept.indices)
+        | true ↦ λ none. ap is_some (ap (found_at c.live) (eqb-true (parent_at parents k.index) 0 none) ∙ found_zero kept.indices)
         | false ↦ λ some. (elim (kept.has_parent k live) [
           | inl none ↦ absurd (let h = ap (λ n. nat_eq n 0) none in cc)
-          | inr has ↦ ap is_some (found_has c kept.indices (parent_at parents k.index) has)
+          | inr has ↦ ap is_some (found_has kept.indices (parent_at parents k.index) has)
         ])
       ] refl
 
@@ -274,15 +263,15 @@ module _ {V : Type 0} {c : Content V} {parents : List ℕ} {children : Lists} (k
   pub key_found : (number : Option ℕ) (i : ℕ) → number ≡ Some i → HasKey c i → (o : Option Key) → IfSome o (IsLive c)
       → IfSome o (λ k. k.index ≡ i) → IfNone o ((k : Key) → IsLive c k → k.index ≢ i)
       → o ≡ option_map (key_at c.live) number
-  key_found number i was has o live at none = found_is c kept.indices i o live at none ∙ found_key c kept.indices i has
+  key_found number i was has o live at none = found_is kept.indices i o live at none ∙ found_key kept.indices i has
       ∙ sym (ap (option_map (key_at c.live)) was)
 
   -- the two ends of the children of a node
   pub first_seen : (k : Key) → option_map (key_at c.live) (first_or (list_of children (owner_of nodes k)) None) ≡ first_or (children_of nodes k) None
-  first_seen k = sym (ap (λ ks. first_or ks None) (children_owned k) ∙ first_key c kept.indices (list_of children (owner_of nodes k)))
+  first_seen k = sym (ap (λ ks. first_or ks None) (children_owned k) ∙ first_key kept.indices (list_of children (owner_of nodes k)))
 
   pub last_seen : (k : Key) → option_map (key_at c.live) (last_number (list_of children (owner_of nodes k)) None) ≡ last_or (children_of nodes k) None
-  last_seen k = sym (ap (λ ks. last_or ks None) (children_owned k) ∙ last_key c kept.indices (list_of children (owner_of nodes k)) None)
+  last_seen k = sym (ap (λ ks. last_or ks None) (children_owned k) ∙ last_key kept.indices (list_of children (owner_of nodes k)) None)
 
   -- those beside a child
   module _ (p k : Key) (more : 0 < times k (children_of nodes p)) where
@@ -291,11 +280,11 @@ module _ {V : Type 0} {c : Content V} {parents : List ℕ} {children : Lists} (k
 
     pub next_seen : option_map (key_at c.live) (number_after k.index (list_of children p.index)) ≡ behind k (children_of nodes p)
     next_seen = sym (ap (behind k) (children_live c.live parents children p inside.0)
-        ∙ key_after c kept.indices k inside.1 (list_of children p.index) (indices_at p.index))
+        ∙ key_after kept.indices k inside.1 (list_of children p.index) (indices_at p.index))
 
     pub prev_seen : option_map (key_at c.live) (number_before None k.index (list_of children p.index)) ≡ in_front None k (children_of nodes p)
     prev_seen = sym (ap (in_front None k) (children_live c.live parents children p inside.0)
-        ∙ key_ahead c kept.indices k inside.1 (list_of children p.index) (indices_at p.index) None)
+        ∙ key_ahead kept.indices k inside.1 (list_of children p.index) (indices_at p.index) None)
 
   -- the list of p is another one
   module _ (p : Key) (there : IsLive c p) (is : List ℕ) (all : AreIndices c is) (f : List Key → List Key)
@@ -317,7 +306,7 @@ module _ {V : Type 0} {c : Content V} {parents : List ℕ} {children : Lists} (k
       };
       disjoint = disjoint;
       listed = λ q i inside. elim (same_or_other_number q p.index) [
-        | inl at ↦ ((p, there, sym at), all i (let now = ap (λ q. often i (list_of new q)) at ∙ ap (often i) list_here in omega arith))
+        | inl at ↦ ((p, there, sym at), all.have i (let now = ap (λ q. often i (list_of new q)) at ∙ ap (often i) list_here in omega arith))
         | inr other ↦ kept.listed q i (let same = ap (often i) (list_there q other) in omega arith)
       ];
       has_parent = kept.has_parent;
@@ -400,11 +389,11 @@ module _ {V : Type 0} {c : Content V} {parents : List ℕ} {children : Lists} (k
     node_still q live same_parent same_list parent_still children_still v =
         let parent : found_at d.live (parent_at parents' q.index) ≡ found_at c.live (parent_at parents q.index) = ap (found_at d.live) same_parent
         ∙ elim (kept.has_parent q live) [
-          | inl none ↦ ap (found_at d.live) none ∙ found_zero d also ∙ sym (ap (found_at c.live) none ∙ found_zero c kept.indices)
-          | inr has ↦ found_same c kept.indices d also (parent_at parents q.index) has (parent_still has.0 has.1 has.2)
+          | inl none ↦ ap (found_at d.live) none ∙ found_zero also ∙ sym (ap (found_at c.live) none ∙ found_zero kept.indices)
+          | inr has ↦ found_same kept.indices also (parent_at parents q.index) has (parent_still has.0 has.1 has.2)
         ] in
         let own : keys_at d.live (list_of children' q.index) ≡ keys_at c.live (list_of children q.index) =
-        ap (keys_at d.live) same_list ∙ keys_same c kept.indices d also (list_of children q.index) (indices_at q.index) children_still in
+        ap (keys_at d.live) same_list ∙ keys_same kept.indices also (list_of children q.index) (indices_at q.index) children_still in
         λ i. record { value = v; parent = parent i; children = own i }
 
     pub get_alike : (q : Key) → map.get d.live q ≡ map.get c.live q

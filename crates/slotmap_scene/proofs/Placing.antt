@@ -13,8 +13,10 @@ use Rattle.slotmap_scene.specs.declared.tree.Side.TheVariants.{Before, After}
 use Rattle.slotmap_scene.specs.Node.{Node}
 use Rattle.slotmap_scene.specs.Climb.{has_node, parent_of, with_parent}
 use Rattle.slotmap_scene.specs.Family.{children_of, placed, with_children_in, without_child}
-use Rattle.slotmap_scene.specs.Kept.{AreIndices, HasKey, HoldsNodes, IsParent, parent_at, put_on, family, parent_index, key_at, keys_at}
-use Rattle.slotmap_scene.proofs.Indices.{key_at_live, key_beside, without_key}
+use Rattle.slotmap_scene.specs.Kept.{HoldsNodes, IsParent, parent_at, put_on, family, parent_index}
+use Rattle.slotmap_bounded.specs.Indices.{AreIndices, HasKey, key_at, keys_at}
+use Rattle.slotmap_scene.proofs.Indices.{key_beside}
+use Rattle.slotmap_bounded.proofs.Indices.{key_at_live, keys_without}
 use Rattle.slotmap_scene.proofs.Families.{above_has, above_none, child_in, has_place, hung, hung_seen, indices_at, is_free, relisted, relisted_seen, seen_has}
 
 -- a list to which k comes has no other number
@@ -58,10 +60,10 @@ module _ {V : Type 0} {c : Content V} {parents : List ℕ} {children : Lists} (k
   abbrev Relists : Key → Lists → (List Key → List Key) → Type 0
   Relists p new f = HoldsNodes c parents new × (family c parents new ≡ record self { live = with_children_in self.live p (map.get self.live p) f })
 
-  relists : (p : Key) → IsLive c p → (is : List ℕ) → AreIndices c is → (f : List Key → List Key)
+  relists : (p : Key) → IsLive c p → (is : List ℕ) → ((i : ℕ) → 0 < often i is → HasKey c i) → (f : List Key → List Key)
       → keys_at c.live is ≡ f (keys_at c.live (list_of children p.index))
       → (new : Lists) → new ≡ with_list children p.index is → AreDisjoint new → Relists p new f
-  relists p live is all f made new new_is disjoint = (
+  relists p live is have f made new new_is disjoint = let all : AreIndices c is = record { have = have } in (
     relisted kept p live is all f made new new_is disjoint,
     ap (λ n. record (family c parents children) { live = n }) (relisted_seen kept p live is all f made new new_is)
         ∙ ap (λ (s : Content (Node V)). record s { live = with_children_in s.live p (map.get s.live p) f }) view,
@@ -77,11 +79,11 @@ module _ {V : Type 0} {c : Content V} {parents : List ℕ} {children : Lists} (k
     came : (i : ℕ) → 0 < often i was_list + same_number k.index i → HasKey c i
     came i more = elim (same_or_other_number k.index i) [
       | inl at ↦ (k, is_live k node, at)
-      | inr apart ↦ had i (let none = number_other k.index i apart in omega arith)
+      | inr apart ↦ had.have i (let none = number_other k.index i apart in omega arith)
     ]
 
     at_k : key_at c.live k.index ≡ k
-    at_k = key_at_live c kept.indices k (is_live k node)
+    at_k = key_at_live kept.indices k (is_live k node)
 
     pub put_in_front : new ≡ with_list children p.index (k.index ∷ was_list) → AreDisjoint new → Relists p new (λ ks. k ∷ ks)
     put_in_front = relists p (is_live p there) (k.index ∷ was_list)
@@ -99,7 +101,7 @@ module _ {V : Type 0} {c : Content V} {parents : List ℕ} {children : Lists} (k
         let inside = child_in kept p s (let same = ap (λ (s' : Content (Node V)). times s (children_of s'.live p)) view in omega arith) in
         relists p (is_live p there) (put_on side s.index k.index was_list)
         (λ i more. came i (let few = beside_few s.index k.index i side was_list in omega arith))
-        (placed side s k) (key_beside c kept.indices s k inside.1 (is_live k node) side was_list had inside.2) new
+        (placed side s k) (key_beside kept.indices s k inside.1 (is_live k node) side was_list had inside.2) new
 
   -- k leaves the children of its parent, whose index was read, if it has one
   module _ (k : Key) (node : has_node self.live k) (parent : ℕ) (read : parent ≡ parent_at parents k.index) where
@@ -135,9 +137,9 @@ module _ {V : Type 0} {c : Content V} {parents : List ℕ} {children : Lists} (k
           (λ i more. elim (same_or_other_number i k.index) [
             | inl at ↦ absurd (let none = ap (λ j. often j (without_number k.index (list_of children p.index))) at
                 ∙ often_gone k.index (list_of children p.index) in omega arith)
-            | inr apart ↦ indices_at kept p.index i (let same = often_without k.index i (list_of children p.index) apart in omega arith)
+            | inr apart ↦ (indices_at kept p.index).have i (let same = often_without k.index i (list_of children p.index) apart in omega arith)
           ])
-          (without k) (without_key c kept.indices k (is_live k node) (list_of children p.index) (indices_at kept p.index))
+          (without k) (keys_without kept.indices kept.indices k (is_live k node) (λ q live _. live) (list_of children p.index) (indices_at kept p.index))
           new (subst (λ p. new ≡ with_list children p (without_number k.index (list_of children p))) (sym up.2) new_is) disjoint in
           (left_p.0, left_p.1 ∙ ap (λ o. record self { live = without_child self.live o k }) (sym up.3))
 

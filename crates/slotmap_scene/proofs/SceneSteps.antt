@@ -1,6 +1,6 @@
 -- What a call makes of the nodes of a scene, as a whole: nodes come or go, more places are made, a value is written, or all is copied.
 use Rattle.std.proofs.Common.{◌≡◌, ◌≢◌, ◌-◌, ◌+◌, ◌⊎◌, ◌<◌, ◌≤◌, ℕ, zero, suc, true, false, cond, nat_lt, Option, Some}
-use Rattle.std.proofs.Common.{None, IfSome, Result, Ok, Err, IsOk, IsErr, OnOk, OnErr, is_some, is_ok, if◌then◌else◌, max, List, [], ◌∷◌}
+use Rattle.std.proofs.Common.{None, IfSome, Result, Ok, Err, IsOk, IsErr, OnOk, is_some, is_ok, if◌then◌else◌, List, [], ◌∷◌}
 use Rattle.std.proofs.Common.{◌++◌, length, length-append, replicate, set, take, refl, sym, ap, subst, ◌∙◌, inl, inr, arith}
 use Rattle.std.specs.Option.{option_map}
 use Rattle.std.specs.FinMap as map
@@ -13,18 +13,19 @@ use Rattle.slotmap.proofs.Callers.{keys_total, exact_keys, keys, same_or_other, 
 use Rattle.slotmap.proofs.Callers.{clone_live}
 use Rattle.slotmap_keylist.specs.KeyLists.{times}
 use Rattle.slotmap_keylist.proofs.Changed.{changed_here, changed_other}
-use Rattle.slotmap_keylist.proofs.Shown.{shown_content, shown_inserts, shown_keeps, shown_keeps_spent, shown_leaves, shown_makes_room}
-use Rattle.slotmap_links.specs.Lists.{Lists, list_of, times as often, with_members, with_owners, AreDisjoint, IsIn}
-use Rattle.slotmap_links.proofs.Callers.{list_covered}
-use Rattle.slotmap_links.proofs.Changes.{disjoint_still}
+use Rattle.slotmap_keylist.proofs.Shown.{shown_content, shown_inserts, shown_leaves, shown_makes_room}
+use Rattle.slotmap_links.specs.Lists.{Lists, list_of, times as often, IsIn}
 use Rattle.slotmap_scene.specs.Node.{Node, Nodes}
 use Rattle.slotmap_scene.specs.Climb.{parent_of}
 use Rattle.slotmap_scene.specs.Family.{IsNodeClone, child, children_of, with_value}
-use Rattle.slotmap_scene.specs.Kept.{AreCovered, CoversMore, HoldsMore, HasKey, HaveIndices, HoldsNodes, parent_at, family, found_at, parent_index, keys_at}
+use Rattle.slotmap_scene.specs.Kept.{AreCovered, HoldsMore, HoldsNodes, parent_at, family, parent_index}
+use Rattle.slotmap_links.specs.Lists.{CoversMore}
+use Rattle.slotmap_bounded.specs.Indices.{HasKey, HaveIndices, found_at, keys_at}
 use Rattle.slotmap_scene.specs.Kept.{node_at}
 use Rattle.slotmap_scene.specs.Kept.{nodes_by}
-use Rattle.slotmap_scene.proofs.Indices.{found_live}
-use Rattle.slotmap_scene.proofs.Families.{above_still, children_live, list_none, get_alike, get_along, indices_still, kept_along, node_along, covers_less}
+use Rattle.slotmap_bounded.proofs.Indices.{found_live}
+use Rattle.slotmap_scene.proofs.Families.{above_still, children_live, list_none, get_alike, get_along, kept_along, node_along, covers_less}
+use Rattle.slotmap_bounded.proofs.Indices.{indices_inserted, indices_still}
 use Rattle.slotmap_scene.proofs.Families.{written_found, written_has, kept_still, node_still, nowhere, parent_live, seen_get, seen_has, seen_len}
 
 -- what is known of the values is known of the nodes
@@ -53,21 +54,7 @@ module _ {V : Type 0} (c : Content V) (parents : List ℕ) (children : Lists) wh
     family_inserts k v o live = shown_inserts c d seen_was seen_now (seen_has c.live parents children) (seen_len c.live parents children)
         (seen_has d.live parents' children') (seen_len d.live parents' children') k v (child o v) live
 
--- places are made, for lists and for parents
-covers_by : (s : Lists) → AreDisjoint s → (n m : ℕ) (new : Lists) → s.members ≤ m → new ≡ record (with_owners s n) { members = m }
-    → CoversMore s new
-covers_by s disjoint n m new more is = subst (CoversMore s) (sym is) (record {
-  lists = list_covered s n;
-  owners = (let long = length-append s.lists (replicate {A = List ℕ} (n - length s.lists) []) in omega arith);
-  members = more;
-  disjoint = disjoint_still s (record (with_owners s n) { members = m }) disjoint (list_covered s n) more;
-})
-
-pub covered : (s : Lists) → AreDisjoint s → (n m : ℕ) (mid new : Lists) {A B : Type 0} (r : Result A B) → mid ≡ with_owners s n
-    → OnOk r (new ≡ with_members mid m) → OnErr r (new ≡ mid) → CoversMore s new
-covered s disjoint n m mid new (Ok a) is ok err = covers_by s disjoint n (max s.members m) new (omega arith) (ok ∙ ap (λ l. with_members l m) is)
-covered s disjoint n m mid new (Err b) is ok err = covers_by s disjoint n s.members new (omega arith) (err ∙ is)
-
+-- places are made for parents
 padded : (ps : List ℕ) (n i : ℕ) → parent_at (ps ++ replicate n 0) i ≡ parent_at ps i
 padded [] zero i = refl
 padded [] (suc n) zero = refl
@@ -159,7 +146,7 @@ module _ {V : Type 0} {c : Content V} {parents : List ℕ} {children : Lists} (k
     same_live q = ap (λ m. map.contains_key m q) same
 
     grown_indices : HaveIndices d
-    grown_indices = indices_still c d kept.indices (λ k live. sym (same_live k) ∙ live) more
+    grown_indices = indices_still kept.indices d (λ k live. sym (same_live k) ∙ live) more
 
     pub grown_kept : AreCovered d.capacity parents' children' → HoldsNodes d parents' children'
     grown_kept covered = kept_along kept d grown_indices parents' children' (λ q live. same_live q ∙ live) grows.lists
@@ -206,13 +193,7 @@ module _ {V : Type 0} {c : Content V} {parents : List ℕ} {children : Lists} (k
         let f = ap (map.contains_key c.live) (sym one) ∙ live in let gone = fresh in cc
 
     came_indices : HaveIndices d
-    came_indices = record {
-      within = λ q live. (elim (same_or_other q k) [
-        | inl is ↦ ((after.within q (inl (inl live))).0, (let at = ap (λ (q : Key). q.index) is in omega arith))
-        | inr other ↦ (let was = kept.indices.within q (sym (ap is_some (came_other q other)) ∙ live) in (was.0, omega (arith, was.1, capacity)))
-      ]);
-      apart = λ a b of_a of_b. after.apart a b (inl (inl of_a)) (inl (inl of_b));
-    }
+    came_indices = indices_inserted kept.indices k v d inserts after capacity within
 
     place : k.index < length parents
     place = let covered = kept.covered.parents in omega arith
@@ -282,7 +263,7 @@ module _ {V : Type 0} {c : Content V} {parents : List ℕ} {children : Lists} (k
     was_live q of_d = sym (ap is_some (left_get q (not_k q of_d))) ∙ of_d
 
     left_indices : HaveIndices d
-    left_indices = indices_still c d kept.indices was_live (omega arith)
+    left_indices = indices_still kept.indices d was_live (omega arith)
 
     -- no list has it, and it has none
     unlisted : (p i : ℕ) → IsIn children p i → i ≢ k.index
@@ -300,7 +281,7 @@ module _ {V : Type 0} {c : Content V} {parents : List ℕ} {children : Lists} (k
 
     not_above : (q : Key) → IsLive c q → parent_at parents q.index ≢ k.index
     not_above q of_c at =
-        let found = parent_live c.live parents children q of_c ∙ ap (found_at c.live) at ∙ found_live c kept.indices k live in
+        let found = parent_live c.live parents children q of_c ∙ ap (found_at c.live) at ∙ found_live kept.indices k live in
         childless q found
 
     pub gone_kept : HoldsNodes d parents children
@@ -341,7 +322,7 @@ module _ {V : Type 0} {c : Content V} {parents : List ℕ} {children : Lists} (k
     ]
 
     written_indices : HaveIndices written
-    written_indices = indices_still c written kept.indices (λ q live. sym (written_keys q) ∙ live) (omega arith)
+    written_indices = indices_still kept.indices written (λ q live. sym (written_keys q) ∙ live) (omega arith)
 
     pub written_kept : HoldsNodes written parents children
     written_kept = kept_along kept written written_indices parents children (λ q live. written_keys q ∙ live) (λ p. refl)
@@ -368,7 +349,7 @@ module _ {V : Type 0} {c : Content V} {parents : List ℕ} {children : Lists} (k
     copied_keys = clone_live is_clone c copy clones
 
     copied_indices : HaveIndices copy
-    copied_indices = indices_still c copy kept.indices (λ q live. sym (copied_keys q) ∙ live) (omega arith)
+    copied_indices = indices_still kept.indices copy (λ q live. sym (copied_keys q) ∙ live) (omega arith)
 
     pub copied_kept : HoldsNodes copy parents children
     copied_kept = kept_along kept copy copied_indices parents children (λ q live. copied_keys q ∙ live) (λ p. refl)

@@ -1,11 +1,12 @@
 -- How a scene is kept: its values in a map, and beside it, by the index of a key, the index of the parent and those of the children.
-use Rattle.std.specs.Prelude.{◌≡◌, ◌⊎◌, ℕ, ◌<◌, ◌≤◌, Option, Some, None, IfSome, List, length, map as list_map, unwrap_or, nat_eq}
+use Rattle.std.specs.Prelude.{◌≡◌, ◌⊎◌, ℕ, ◌<◌, ◌≤◌, Option, Some, None, IfSome, List, length, map as list_map, nat_eq}
 use Rattle.std.specs.Prelude.{slice_index_or, cond}
-use Rattle.std.specs.List.{find, filter}
+use Rattle.std.specs.List.{filter}
 use Rattle.std.specs.FinMap as map
-use Rattle.slotmap.specs.Words.{Key, key_cmp, null_key, Content, IsLive}
+use Rattle.slotmap.specs.Words.{Key, key_cmp, Content, IsLive}
+use Rattle.slotmap_bounded.specs.Indices.{HasKey, HaveIndices, found_at, keys_at}
 use Rattle.slotmap_keylist.specs.Mapped.{with_live}
-use Rattle.slotmap_links.specs.Lists.{Lists, list_of, times, IsIn, AreDisjoint, put_before, put_behind}
+use Rattle.slotmap_links.specs.Lists.{Lists, list_of, IsIn, AreDisjoint, put_before, put_behind}
 use Rattle.slotmap_scene.specs.Node.{Node, Nodes}
 use Rattle.slotmap_scene.specs.Climb.{has_node}
 use Rattle.slotmap_scene.specs.declared.tree.Side.{Side}
@@ -39,23 +40,7 @@ pub record HoldsMore (old new : List ℕ) : Type 0 where
   pub same : (i : ℕ) → parent_at new i ≡ parent_at old i
   pub more : length old ≤ length new
 
-pub record CoversMore (old new : Lists) : Type 0 where
-  pub lists : (p : ℕ) → list_of new p ≡ list_of old p
-  pub owners : length old.lists ≤ length new.lists
-  pub members : old.members ≤ new.members
-  pub disjoint : AreDisjoint new
-
 module _ {T : Type 0} where
-  -- the key with an index, if there is one
-  abbrev pub found_at : map.FinMap key_cmp T → ℕ → Option Key
-  found_at live i = find (λ k. nat_eq k.index i) (map.keys live)
-
-  abbrev pub key_at : map.FinMap key_cmp T → ℕ → Key
-  key_at live i = unwrap_or (found_at live i) null_key
-
-  abbrev pub keys_at : map.FinMap key_cmp T → List ℕ → List Key
-  keys_at live is = list_map (key_at live) is
-
   -- a node as it is seen
   abbrev pub node_at : map.FinMap key_cmp T → List ℕ → Lists → Key → T → Node T
   node_at live parents children k v =
@@ -66,19 +51,6 @@ module _ {T : Type 0} where
 
   abbrev pub family : Content T → List ℕ → Lists → Content (Node T)
   family c parents children = with_live c (nodes_by c.live parents children)
-
-  -- a live key has this index
-  abbrev pub HasKey : Content T → ℕ → Type 0
-  HasKey c i = (k : Key) × IsLive c k × (k.index ≡ i)
-
-  -- each of these is the index of a live key
-  abbrev pub AreIndices : Content T → List ℕ → Type 0
-  AreIndices c is = (i : ℕ) → 0 < times i is → HasKey c i
-
-  -- the indices of the keys are within the capacity, and each key has its own
-  pub record HaveIndices (c : Content T) : Type 0 where
-    pub within : (k : Key) → IsLive c k → (1 ≤ k.index) × (k.index ≤ c.capacity)
-    pub apart : (a b : Key) → IsLive c a → IsLive c b → a.index ≡ b.index → a ≡ b
 
   -- parents and children are nodes
   pub record HoldsNodes (c : Content T) (parents : List ℕ) (children : Lists) : Type 0 where

@@ -31,7 +31,7 @@ impl<'a, K, T> Model for ChildKeys<'a, K, T> {
 
     ghost Value = { List Key };
 
-    ghost use Rattle.slotmap_scene.specs.Kept.{AreIndices, HaveIndices, keys_at};
+    ghost use Rattle.slotmap_bounded.specs.Indices.{AreIndices, HaveIndices, keys_at};
 
     ghost view = { λ it. keys_at it.nodes.now.live it.members };
 

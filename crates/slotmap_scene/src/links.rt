@@ -4,7 +4,8 @@
 ghost use Rattle.std.specs.Prelude.{◌≡◌, ◌<◌, ◌≤◌, ◌++◌, ◌∷◌, [], IsOk, OnOk, length};
 ghost use Rattle.slotmap.specs.Words.{most};
 ghost use Rattle.slotmap_links.specs.Lists.{AreDisjoint, IsFree, IsIn, list_of, with_list, without};
-ghost use Rattle.slotmap_scene.specs.Kept.{AreCovered, CoversMore, HoldsMore, put_on, parent_index};
+ghost use Rattle.slotmap_scene.specs.Kept.{AreCovered, HoldsMore, put_on, parent_index};
+ghost use Rattle.slotmap_links.specs.Lists.{CoversMore};
 
 use crate::tree::Side;
 use slotmap::{DefaultKey, Key};

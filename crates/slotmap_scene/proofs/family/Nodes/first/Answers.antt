@@ -4,7 +4,8 @@ use Rattle.slotmap.specs.Words.{Content}
 use Rattle.slotmap_links.specs.Lists.{list_of, first_or}
 use Rattle.slotmap_scene.specs.Node.{Node}
 use Rattle.slotmap_links.proofs.Linking.{first_in}
-use Rattle.slotmap_scene.specs.Kept.{key_at, owner_of}
+use Rattle.slotmap_scene.specs.Kept.{owner_of}
+use Rattle.slotmap_bounded.specs.Indices.{key_at}
 use Rattle.slotmap_scene.proofs.Families.{indices_at, key_found, owner_below, first_seen}
 use Rattle.slotmap_scene.proofs.family.Nodes.first.Goals as goal
 
@@ -19,12 +20,12 @@ returns-in_err-index g c = rw (c.from_residual.ensures, ← c.self.view_is) (
     ∙ first_seen c.self.invariant c.args.node)
 
 pub live_key-requires : goal.live_key-requires
-live_key-requires g c = indices_at c.self.invariant c.owner.result c.in_ok-index.index
+live_key-requires g c = (indices_at c.self.invariant c.owner.result).have c.in_ok-index.index
     (first_in (list_of c.self.inside.children c.owner.result) c.in_ok-index.index (sym c.first.ensures ∙ c.in_ok-index.was))
 
 pub returns : goal.returns
 returns g c =
-    let has = indices_at c.self.invariant c.owner.result c.in_ok-index.index
+    let has = (indices_at c.self.invariant c.owner.result).have c.in_ok-index.index
     (first_in (list_of c.self.inside.children c.owner.result) c.in_ok-index.index (sym c.first.ensures ∙ c.in_ok-index.was)) in
     rw (← c.self.view_is) (
     key_found c.self.invariant c.first.result c.in_ok-index.index c.in_ok-index.was has (Some c.live_key.result)

@@ -1,8 +1,8 @@
 use Rattle.std.proofs.Common.{◌≡◌, sym, ap, ◌∙◌}
 use Rattle.std.specs.Option.{option_map}
 use Rattle.slotmap_links.specs.Lists.{list_of, number_after}
-use Rattle.slotmap_scene.specs.Kept.{key_at}
-use Rattle.slotmap_scene.proofs.Indices.{after_inside}
+use Rattle.slotmap_bounded.specs.Indices.{key_at}
+use Rattle.slotmap_links.proofs.Linking.{after_inside}
 use Rattle.slotmap_scene.proofs.Families.{child_in, indices_at, key_found, next_seen}
 use Rattle.slotmap_scene.proofs.family.Nodes.next.Goals as goal
 
@@ -21,7 +21,7 @@ pub returns : goal.returns
 returns g c = rw (← c.self.view_is) (λ p more.
     let number : c.next.result ≡ number_after c.args.node.index
     (list_of c.self.inside.children p.index) = (rw c.index_of.ensures at c.next.ensures) p.index (child_in c.self.invariant p c.args.node more).2 in
-    let has = indices_at c.self.invariant p.index c.in_ok-next.field-0
+    let has = (indices_at c.self.invariant p.index).have c.in_ok-next.field-0
     (after_inside c.args.node.index c.in_ok-next.field-0 (list_of c.self.inside.children p.index) (sym number ∙ c.in_ok-next.was)) in
     key_found c.self.invariant c.next.result c.in_ok-next.field-0 c.in_ok-next.was has c.key_at.result c.key_at.ensures.live c.key_at.ensures.index
     c.key_at.ensures.none
