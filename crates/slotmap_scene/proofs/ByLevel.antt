@@ -1,20 +1,9 @@
 -- The nodes of a scene, level by level from the roots down.
-use Rattle.std.proofs.Common.{◌≡◌, ◌≢◌, ℕ, zero, suc, ◌+◌, ◌<◌, ◌≤◌, true, false, cond, Option, Some, None, is_some, List, [], ◌∷◌}
-use Rattle.std.proofs.Common.{◌++◌, length, get_or, take, refl, sym, ap, ◌∙◌, inl, inr, arith, append_assoc}
-use Rattle.std.specs.Prelude.{map as list_map}
+use Rattle.slotmap_scene.proofs.Common.{ClimbsTo, GoesByLevel, IsScene, Key, List, Node, Nodes, None, Option, Some, [], ap, append_assoc, arith, children_of, children_of_each, cond, exact_keys}
+use Rattle.slotmap_scene.proofs.Common.{false, find, get_or, has_node, inl, inr, is_parent, is_some, itself, key_cmp, keys_once, keys_total, length, list_map, no_more_than, one_itself, one_other}
+use Rattle.slotmap_scene.proofs.Common.{parent_in, parent_of, refl, roots_by, roots_in, same, same_or_other, suc, sym, take, take-append-le, take_all, take_more, tied, times, times_first}
+use Rattle.slotmap_scene.proofs.Common.{times_joined, true, zero, ℕ, ◌++◌, ◌+◌, ◌<◌, ◌∙◌, ◌∷◌, ◌≡◌, ◌≢◌, ◌≤◌}
 use Rattle.std.specs.FinMap as map
-use Rattle.std.specs.FinMap.Entries.{find}
-use Rattle.std.proofs.lemmas.List.{take_all, take_more, take-append-le}
-use Rattle.slotmap.specs.Words.{Key, key_cmp}
-use Rattle.slotmap.proofs.Callers.{keys_total, exact_keys, tied, itself, same_or_other}
-use Rattle.slotmap_keylist.specs.KeyLists.{same, times}
-use Rattle.slotmap_keylist.proofs.Counts.{no_more_than, one_itself, one_other, times_first, times_joined}
-use Rattle.slotmap_keylist.proofs.MapKeys.{keys_once}
-use Rattle.slotmap_scene.specs.Node.{Node, Nodes}
-use Rattle.slotmap_scene.specs.Above.{roots_by, roots_in}
-use Rattle.slotmap_scene.specs.Climb.{has_node, parent_in, parent_of, ClimbsTo}
-use Rattle.slotmap_scene.specs.Family.{children_of, is_parent, IsScene}
-use Rattle.slotmap_scene.specs.Levels.{children_of_each, GoesByLevel}
 
 not_some : {A : Type 0} (o : Option A) → is_some o ≡ false → o ≡ None
 not_some None is = refl

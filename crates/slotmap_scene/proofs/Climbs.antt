@@ -1,14 +1,8 @@
 -- The way up from each node: where it ends, what a change of the nodes does to it, and the keys that an iterator yields on it.
-use Rattle.std.proofs.Common.{◌≡◌, ◌≢◌, ℕ, zero, suc, ◌+◌, ◌≤◌, ◌<◌, ◌↔◌, true, Option, Some, None, is_some, refl, sym, ap, subst, ◌∙◌, inl, inr, arith, [], ◌∷◌}
-use Rattle.std.specs.Option.{option_map}
+use Rattle.slotmap_scene.proofs.Common.{ClimbsTo, GoesUp, HasRoot, IsTree, IsWithin, Key, Node, Nodes, None, Option, Some, StepsTo, [], ap, arith, children_in, children_of, exact_keys, has_node}
+use Rattle.slotmap_scene.proofs.Common.{inl, inr, is_some, keys_total, keys_up, left_in, len_removed, option_map, parent_in, parent_of, refl, same_Some, same_or_other, some_entry, subst, suc, sym}
+use Rattle.slotmap_scene.proofs.Common.{true, value_of, zero, ℕ, ◌+◌, ◌<◌, ◌↔◌, ◌∙◌, ◌∷◌, ◌≡◌, ◌≢◌, ◌≤◌}
 use Rattle.std.specs.FinMap as map
-use Rattle.std.proofs.lemmas.Option.{same_Some}
-use Rattle.slotmap.specs.Words.{Key}
-use Rattle.slotmap.proofs.Callers.{same_or_other, keys_total, exact_keys, left_in, len_removed, some_entry}
-use Rattle.slotmap_scene.specs.Node.{Node, Nodes}
-use Rattle.slotmap_scene.specs.Climb.{has_node, parent_in, parent_of, ClimbsTo, IsTree, StepsTo, IsWithin}
-use Rattle.slotmap_scene.specs.Above.{GoesUp, keys_up, HasRoot}
-use Rattle.slotmap_scene.specs.Family.{children_in, children_of, value_of}
 
 module _ {T : Type 0} where
   leads_live : (nodes : Nodes T) (n : ℕ) (k : Key) → ClimbsTo nodes n k → has_node nodes k

@@ -1,36 +1,16 @@
 -- What is seen of the values, the parents and the children of a scene together, and what a change of one of them shows.
-use Rattle.std.proofs.Common.{◌≡◌, ◌≢◌, ◌&&◌, ◌⊎◌, ◌<◌, ◌≤◌, T, ℕ, Bool, true, false, cond, is_lt, nat_eq, Option, Some}
-use Rattle.std.proofs.Common.{None, IfSome, is_some, List, [], ◌∷◌, length, get_or, set, map as list_map, refl, sym, ap, subst, ◌∙◌, inl, inr}
-use Rattle.std.proofs.Common.{arith, eqb-true, IfNone, not}
-use Rattle.std.specs.Option.{option_map}
-use Rattle.std.specs.Ordering.{eq_by_cmp}
-use Rattle.std.specs.FinMap as map
-use Rattle.std.specs.FinMap.Entries.{find, below_all, is_sorted}
-use Rattle.std.proofs.Math.Nat.{eq-zero-or-pos}
-use Rattle.std.proofs.lemmas.List.{get_or_default, length-map, length-set, get_or-set_same, get_or-set_other}
-use Rattle.std.proofs.lemmas.Option.{same_Some}
-use Rattle.slotmap.specs.Words.{Key, key_cmp, Content, IsLive}
-use Rattle.slotmap.proofs.Callers.{keys_total, exact_keys, tied, same_or_other}
-use Rattle.slotmap_keylist.specs.KeyLists.{last_or, times}
-use Rattle.slotmap_keylist.proofs.Counts.{one_itself, times_first}
-use Rattle.slotmap_keylist.proofs.MapKeys.{key_live}
-use Rattle.slotmap_keylist.proofs.Changed.{changed_gives, changed_keeps, changed_other}
-use Rattle.slotmap_keylist.proofs.Mapped.{some-mapped}
-use Rattle.slotmap_links.specs.Lists.{Lists, list_of, times as often, first_or, last_or as last_number, number_after, number_before}
-use Rattle.slotmap_links.specs.Lists.{with_list, IsIn, IsFree, AreDisjoint}
-use Rattle.slotmap_links.proofs.Callers.{list_now, list_other, owners_stay}
-use Rattle.slotmap_links.proofs.Counts.{times_first as often_first, one_itself as number_itself, same_or_other as same_or_other_number}
-use Rattle.slotmap_scene.specs.Node.{Node, Nodes, key_and_value}
-use Rattle.slotmap_scene.specs.Above.{roots_in}
-use Rattle.slotmap_scene.specs.Climb.{parent_in, parent_of, with_parent}
-use Rattle.slotmap_scene.specs.Family.{behind, children_in, in_front, children_of, value_of, with_children_in}
-use Rattle.slotmap_scene.specs.Kept.{AreCovered, HoldsNodes, parent_at, parent_index, node_at}
-use Rattle.slotmap_bounded.specs.Indices.{AreIndices, HasKey, HaveIndices, found_at, key_at, keys_at}
 use Rattle.slotmap_scene.specs.Kept.{nodes_by}
-use Rattle.slotmap_scene.specs.Kept.{owner_of, roots_of}
+use Rattle.slotmap_scene.proofs.Common.{AreCovered, AreDisjoint, AreIndices, Bool, Content, HasKey, HaveIndices, HoldsNodes, IfNone, IfSome, IsFree, IsIn, IsLive, Key, List, Lists, Node, Nodes}
+use Rattle.slotmap_scene.proofs.Common.{None, Option, Some, T, [], ap, arith, behind, below_all, by_live, changed_gives, changed_keeps, changed_other, children_in, children_of, cond}
+use Rattle.slotmap_scene.proofs.Common.{eq-zero-or-pos, eq_by_cmp, eqb-true, exact_keys, false, find, first_key, first_or, found_at, found_has, found_is, found_key, found_live, found_same}
+use Rattle.slotmap_scene.proofs.Common.{found_zero, get_or, get_or-set_other, get_or-set_same, get_or_default, in_front, inl, inr, is_lt, is_some, is_sorted, key_and_value, key_at, key_cmp}
+use Rattle.slotmap_scene.proofs.Common.{key_live, keys_at, keys_same, keys_total, last_key, last_number, last_or, length, length-map, length-set, list_map, list_now, list_of, list_other, nat_eq}
+use Rattle.slotmap_scene.proofs.Common.{no_key, node_at, not, number_after, number_before, number_itself, often, often_first, one_itself, option_map, owner_of, owners_stay, parent_at, parent_in}
+use Rattle.slotmap_scene.proofs.Common.{parent_index, parent_of, refl, roots_in, roots_of, same_Some, same_or_other, same_or_other_number, set, some-mapped, subst, sym, tied, times, times_first}
+use Rattle.slotmap_scene.proofs.Common.{times_key, true, value_of, with_children_in, with_list, with_parent, ℕ, ◌&&◌, ◌<◌, ◌∙◌, ◌∷◌, ◌≡◌, ◌≢◌, ◌≤◌}
+use Rattle.slotmap_scene.proofs.Common.{◌⊎◌}
 use Rattle.slotmap_scene.proofs.Indices.{key_after, key_ahead}
-use Rattle.slotmap_bounded.proofs.Indices.{by_live, first_key, found_has, found_is, found_key, last_key, found_live, found_same, found_zero}
-use Rattle.slotmap_bounded.proofs.Indices.{keys_same, no_key, times_key}
+use Rattle.std.specs.FinMap as map
 
 -- nodes with the same values, parents and children are the same
 pub same_nodes : {V : Type 0} (a b : Nodes V) → ((q : Key) → value_of a q ≡ value_of b q) → ((q : Key) → parent_of a q ≡ parent_of b q)

@@ -1,10 +1,6 @@
 -- Loops along keys: what holds of the keys that are ahead, and of those that were passed.
-use Rattle.std.proofs.Common.{◌≡◌, ◌≢◌, false, ◌<◌, List, [], ◌∷◌, ◌++◌, sym, ap, ◌∙◌, arith, append_assoc}
-use Rattle.std.specs.Prelude.{map as list_map}
-use Rattle.std.proofs.lemmas.List.{map_push}
-use Rattle.slotmap.specs.Words.{Key, same_keys}
-use Rattle.slotmap_keylist.specs.KeyLists.{is_key, times}
-use Rattle.slotmap_keylist.proofs.Counts.{one_itself, one_other, times_first}
+use Rattle.slotmap_scene.proofs.Common.{Key, List, [], ap, append_assoc, arith, false, is_key, list_map, map_push, one_itself, one_other, same_keys, sym, times, times_first, ◌++◌, ◌<◌}
+use Rattle.slotmap_scene.proofs.Common.{◌∙◌, ◌∷◌, ◌≡◌, ◌≢◌}
 
 -- keys that a test tells apart
 pub unlike : (a b : Key) {x y : Key} → a ≡ x → b ≡ y → false ≡ is_key a b → x ≢ y

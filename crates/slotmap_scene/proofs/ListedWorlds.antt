@@ -1,16 +1,6 @@
 -- A list of nodes, each with its transform in the coordinates of its root.
-use Rattle.std.proofs.Common.{◌≡◌, ◌<◌, List, [], ◌∷◌, ◌++◌, Some, None, refl, ap, sym, subst, inl, inr, arith}
-use Rattle.std.specs.List.{All}
-use Rattle.std.proofs.lemmas.List.Elements.{All-head, All-push, All-tail, All-weaker}
-use Rattle.slotmap.specs.Words.{Key}
-use Rattle.slotmap.proofs.Callers.{same_or_other}
-use Rattle.slotmap_keylist.specs.KeyLists.{times}
-use Rattle.slotmap_keylist.proofs.Counts.{one_other, times_first}
-use Rattle.slotmap_scene.specs.Node.{Nodes}
-use Rattle.slotmap_scene.specs.Climb.{has_node, parent_of}
-use Rattle.slotmap_scene.specs.Family.{value_of}
-use Rattle.slotmap_scene.specs.Levels.{AreWorlds, keys_of_pairs}
-use Rattle.slotmap_scene.specs.WorldValue.{IsPathFrom, IsWorldOf, IsComposed, Joins}
+use Rattle.slotmap_scene.proofs.Common.{All, All-head, All-push, All-tail, All-weaker, AreWorlds, IsComposed, IsPathFrom, IsWorldOf, Joins, Key, List, Nodes, None, Some, [], ap, arith, has_node}
+use Rattle.slotmap_scene.proofs.Common.{inl, inr, keys_of_pairs, one_other, parent_of, refl, same_or_other, subst, sym, times, times_first, value_of, ◌++◌, ◌<◌, ◌∷◌, ◌≡◌}
 use Rattle.slotmap_scene.proofs.Worlds.{one_world_of, path_live, world_composed}
 
 -- the transforms on the way down

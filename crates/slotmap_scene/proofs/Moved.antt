@@ -1,21 +1,13 @@
 -- The parent and the children of each node, and what a scene is once a node became a root, was moved below another one, or came.
-use Rattle.std.proofs.Common.{◌≡◌, ◌≢◌, ℕ, zero, suc, ◌+◌, ◌≤◌, ◌<◌, Option, Some, None, List, is_some, refl, sym, ap, subst, ◌∙◌, inl, inr, arith, Result, Ok, Err, IfOk, OnErr, [], ◌∷◌, ◌++◌, true, false, cond}
-use Rattle.std.specs.Prelude.{option_map}
+use Rattle.slotmap_scene.proofs.Common.{AreListed, ClonesEqual, Content, Err, IfOk, Inserts, IsCloneBy, IsCloneOf, IsMoved, IsNewChild, IsNodeClone, IsScene, IsWithin, Keeps, KeepsSpent, Key}
+use Rattle.slotmap_scene.proofs.Common.{Leaves, List, Node, Nodes, None, Ok, OnErr, Option, Result, Side, Some, StepsTo, [], ap, arith, as_child, as_root, beside_first, changed, changed_gives}
+use Rattle.slotmap_scene.proofs.Common.{changed_here, changed_keeps, changed_other, child, children_in, children_of, clone_live, cond, exact_keys, false, forgets, get-insert_here}
+use Rattle.slotmap_scene.proofs.Common.{get-insert_other, has_node, inl, inr, is_key, is_parent, is_some, key_cmp, keys_total, lacks_node, leaves_by_write, leaves_none, len_alike, none_of}
+use Rattle.slotmap_scene.proofs.Common.{one_itself, one_other, option_map, parent_in, parent_of, placed, refl, same, same_or_other, shown_spent, subst, suc, sym, times, times_first, times_gone}
+use Rattle.slotmap_scene.proofs.Common.{times_pushed, times_without, true, value_of, with_children_in, with_children_of, with_parent, with_value, without, without_child, without_none, zero, ℕ}
+use Rattle.slotmap_scene.proofs.Common.{◌++◌, ◌+◌, ◌<◌, ◌∙◌, ◌∷◌, ◌≡◌, ◌≢◌, ◌≤◌}
+use Rattle.slotmap_scene.proofs.Climbs.{parent_there, tree_moved, tree_same}
 use Rattle.std.specs.FinMap as map
-use Rattle.slotmap.specs.Words.{Key, Content, ClonesEqual, IsCloneOf, IsCloneBy, key_cmp, KeepsSpent, Leaves, Inserts, Keeps}
-use Rattle.slotmap.proofs.Callers.{same_or_other, clone_live, leaves_none, leaves_by_write, get-insert_here, get-insert_other, keys_total, exact_keys, none_of}
-use Rattle.slotmap_keylist.specs.KeyLists.{same, times, without, is_key}
-use Rattle.slotmap_keylist.proofs.Changed.{changed_keeps, changed_gives, changed_here, changed_other}
-use Rattle.slotmap_keylist.proofs.Counts.{one_itself, one_other, times_gone, times_without, times_pushed, without_none, times_first}
-use Rattle.slotmap_keylist.proofs.Alone.{len_alike}
-use Rattle.slotmap_keylist.proofs.Shown.{shown_spent}
-use Rattle.slotmap_keylist.specs.Changed.{changed}
-use Rattle.slotmap_scene.specs.Node.{Node, Nodes}
-use Rattle.slotmap_scene.specs.Climb.{has_node, parent_in, parent_of, IsWithin, lacks_node, StepsTo, with_parent}
-use Rattle.slotmap_scene.specs.Family.{is_parent, children_in, children_of, AreListed, IsMoved, IsScene, IsNodeClone, with_value, with_children_in, with_children_of, IsNewChild, as_child, as_root, child, forgets, value_of, without_child, beside_first, placed}
-use Rattle.slotmap_scene.proofs.Climbs.{tree_moved, tree_same, parent_there}
-use Rattle.slotmap_scene.specs.declared.tree.Side.{Side}
-use Rattle.slotmap_scene.specs.declared.tree.Side.TheVariants.{Before, After}
 
 -- who is a parent of whom
 is_its_parent : (o : Option Key) (p : Key) → o ≡ Some p → is_parent o p ≡ 1

@@ -1,18 +1,12 @@
 -- A walk through all that is below a node, from sibling to sibling and from the last one up.
-use Rattle.std.proofs.Common.{◌≡◌, ◌≢◌, ℕ, zero, suc, ◌+◌, ◌<◌, ◌≤◌, cond, Option, Some, None, List, [], ◌∷◌}
-use Rattle.std.proofs.Common.{◌++◌, length, length-append, refl, sym, ap, subst, ◌∙◌, arith, append_assoc, append-nil}
-use Rattle.std.specs.FinMap as map
-use Rattle.slotmap.specs.Words.{Key}
-use Rattle.slotmap_keylist.specs.KeyLists.{same, times}
-use Rattle.slotmap_links.specs.Lists.{first_or}
-use Rattle.slotmap_keylist.proofs.Counts.{is_itself, is_other, one_itself, times_first, times_joined}
-use Rattle.slotmap_scene.specs.Node.{Node, Nodes}
-use Rattle.slotmap_scene.specs.Below.{GoesDown, keys_down, all_below, keys_from, AreAhead, WalkStands, WalksBelow}
-use Rattle.slotmap_scene.specs.Climb.{has_node, parent_in, parent_of, StepsTo, IsWithin}
-use Rattle.slotmap_scene.specs.Family.{behind, children_of, children_under, siblings_of, IsScene}
+use Rattle.slotmap_scene.proofs.Common.{AreAhead, GoesDown, IsScene, IsWithin, Key, List, Node, Nodes, None, Option, Some, StepsTo, WalkStands, WalksBelow, [], all_below, ap, append-nil}
+use Rattle.slotmap_scene.proofs.Common.{append_assoc, arith, behind, children_of, children_under, cond, first_or, has_node, is_itself, is_other, keys_down, keys_from, length, length-append}
+use Rattle.slotmap_scene.proofs.Common.{one_itself, parent_in, parent_of, refl, same, siblings_of, subst, suc, sym, times, times_first, times_joined, zero, ℕ, ◌++◌, ◌+◌, ◌<◌}
+use Rattle.slotmap_scene.proofs.Common.{◌∙◌, ◌∷◌, ◌≡◌, ◌≢◌, ◌≤◌}
 use Rattle.slotmap_scene.proofs.Climbs.{Climbing, climbing_start, climbing_step, has_parent, no_cycle}
 use Rattle.slotmap_scene.proofs.Moved.{listed_few, listed_parent}
-use Rattle.slotmap_scene.proofs.Descending.{Descending, descending_start, descending_step, longer, all_listed, below_node}
+use Rattle.slotmap_scene.proofs.Descending.{Descending, all_listed, below_node, descending_start, descending_step, longer}
+use Rattle.std.specs.FinMap as map
 
 -- the key behind k, where it is in the midst of a list
 behind_split : (k : Key) (b a : List Key) → times k b ≡ 0 → behind k (b ++ k ∷ a) ≡ first_or a None

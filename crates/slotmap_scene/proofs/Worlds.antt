@@ -1,17 +1,10 @@
 -- What a fold of the values on the way up comes to.
-use Rattle.std.proofs.Common.{◌≡◌, ◌≢◌, ℕ, zero, suc, List, [], ◌∷◌, ◌++◌, append_assoc, Option, Some, None, IfSome, IfNone, is_some, option_map, true, map as list_map, refl, sym, ap, subst, ◌∙◌, inl, inr}
-use Rattle.std.specs.Fn.{Mut, Takes}
-use Rattle.std.specs.Borrow.{Bor}
-use Rattle.std.specs.List.{FoldsTo, fold}
-use Rattle.std.proofs.lemmas.Fn.{FoldsTo-push}
-use Rattle.std.specs.FinMap as map
-use Rattle.slotmap.specs.Words.{Key}
-use Rattle.slotmap.proofs.Callers.{get-insert_here, same_or_other}
-use Rattle.slotmap_scene.specs.Node.{Node, Nodes}
-use Rattle.slotmap_scene.specs.Climb.{has_node, lacks_node, parent_of, parent_in, ClimbsTo, IsTree, IsWithin}
-use Rattle.slotmap_scene.specs.Family.{IsMoved, IsNewChild, value_of, child}
+use Rattle.slotmap_scene.proofs.Common.{Bor, CallableUp, CallsAt, ClimbsTo, FoldsTo, FoldsTo-push, FoldsUp, IfNone, IfSome, IsComposed, IsMoved, IsNewChild, IsPathFrom, IsPathUp, IsTree, IsWithin}
+use Rattle.slotmap_scene.proofs.Common.{IsWorld, IsWorldOf, Joins, Key, List, Mut, Node, Nodes, None, Option, Some, Takes, [], ap, append_assoc, child, fold, get-insert_here, has_node, inl, inr}
+use Rattle.slotmap_scene.proofs.Common.{is_some, lacks_node, list_map, option_map, parent_in, parent_of, refl, same_or_other, subst, suc, sym, true, value_of, world_along, zero, ℕ, ◌++◌}
+use Rattle.slotmap_scene.proofs.Common.{◌∙◌, ◌∷◌, ◌≡◌, ◌≢◌}
 use Rattle.slotmap_scene.proofs.Climbs.{parent_there}
-use Rattle.slotmap_scene.specs.WorldValue.{IsPathFrom, IsPathUp, world_along, IsWorld, IsWorldOf, IsComposed, Joins, CallsAt, FoldsUp, CallableUp}
+use Rattle.std.specs.FinMap as map
 
 module _ {T : Type 0} (nodes : Nodes T) where
   -- the node at k, in front of a path from its parent

@@ -1,5 +1,5 @@
-use Rattle.std.proofs.Common.{sym, ◌∙◌}
-use Rattle.slotmap_scene.proofs.Climbs.{climbing_start, climbing_step, climbing_end, climbing_live, node_there}
+use Rattle.slotmap_scene.proofs.Common.{sym, ◌∙◌}
+use Rattle.slotmap_scene.proofs.Climbs.{climbing_end, climbing_live, climbing_start, climbing_step, node_there}
 use Rattle.slotmap_scene.proofs.Scene.depth.Goals as goal
 
 pub loop-depth-init : goal.loop-depth-init

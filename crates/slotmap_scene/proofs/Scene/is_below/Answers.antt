@@ -1,7 +1,4 @@
-use Rattle.std.proofs.Common.{◌≡◌, Some, sym, ap, subst, ◌∙◌}
-use Rattle.slotmap.specs.Words.{same_keys}
-use Rattle.slotmap_scene.specs.Above.{HasRoot}
-use Rattle.slotmap_scene.specs.Climb.{parent_of}
+use Rattle.slotmap_scene.proofs.Common.{HasRoot, Some, ap, parent_of, same_keys, subst, sym, ◌∙◌, ◌≡◌}
 use Rattle.slotmap_scene.proofs.Climbs.{apart_beside}
 use Rattle.slotmap_scene.proofs.Scene.is_below.Goals as goal
 

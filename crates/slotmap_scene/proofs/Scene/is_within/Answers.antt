@@ -1,7 +1,5 @@
-use Rattle.std.proofs.Common.{◌≢◌, zero, ◌∙◌, sym, refl}
-use Rattle.slotmap.specs.Words.{same_keys}
-use Rattle.slotmap_scene.specs.Climb.{has_node, lacks_node}
-use Rattle.slotmap_scene.proofs.Climbs.{climbing_start, climbing_live, climbing_step, node_there, within_step, within_none}
+use Rattle.slotmap_scene.proofs.Common.{has_node, lacks_node, refl, same_keys, sym, zero, ◌∙◌, ◌≢◌}
+use Rattle.slotmap_scene.proofs.Climbs.{climbing_live, climbing_start, climbing_step, node_there, within_none, within_step}
 use Rattle.slotmap_scene.proofs.Scene.is_within.Goals as goal
 
 pub returns-then-not-contains_key : goal.returns-then-not-contains_key

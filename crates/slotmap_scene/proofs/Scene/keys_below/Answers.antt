@@ -5,9 +5,7 @@ pub invariant_of-result : goal.invariant_of-result
 invariant_of-result g c = (walk_begins _ (rw c.self.view_is at c.self.invariant) _ _ c.first_child.ensures).0
 
 pub returns : goal.returns
-returns g c = record {
-  order = (let scene = rw c.self.view_is at c.self.invariant in rw (walk_begins _ scene _ _ c.first_child.ensures).1 (below_order _ scene _));
-  all = (let scene = rw c.self.view_is at c.self.invariant in rw (walk_begins _ scene _ _ c.first_child.ensures).1 (below_all _ scene _));
-  only = (let scene = rw c.self.view_is at c.self.invariant in rw (walk_begins _ scene _ _ c.first_child.ensures).1 (below_only _ scene _));
-  once = (let scene = rw c.self.view_is at c.self.invariant in rw (walk_begins _ scene _ _ c.first_child.ensures).1 (below_once _ scene _));
-}
+returns g c =
+    let scene = rw c.self.view_is at c.self.invariant in
+    rw (walk_begins _ scene _ _ c.first_child.ensures).1
+    (record { order = below_order _ scene _; all = below_all _ scene _; only = below_only _ scene _; once = below_once _ scene _ })

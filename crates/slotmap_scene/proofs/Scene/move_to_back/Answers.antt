@@ -1,5 +1,4 @@
-use Rattle.std.proofs.Common.{sym, ap, ◌∙◌}
-use Rattle.slotmap_scene.specs.Climb.{parent_of}
+use Rattle.slotmap_scene.proofs.Common.{ap, parent_of, sym, ◌∙◌}
 use Rattle.slotmap_scene.proofs.Climbs.{no_cycle}
 use Rattle.slotmap_scene.proofs.Scene.move_to_back.Goals as goal
 

@@ -1,5 +1,4 @@
-use Rattle.std.proofs.Common.{sym, subst}
-use Rattle.slotmap_scene.specs.Above.{HasRoot}
+use Rattle.slotmap_scene.proofs.Common.{HasRoot, subst, sym}
 use Rattle.slotmap_scene.proofs.Climbs.{parent_rooted}
 use Rattle.slotmap_scene.proofs.Scene.parent_key.Goals as goal
 

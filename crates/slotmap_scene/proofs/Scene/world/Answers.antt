@@ -1,6 +1,6 @@
-use Rattle.std.proofs.Common.{sym, rules}
+use Rattle.slotmap_scene.proofs.Common.{rules, sym}
 use Rattle.slotmap_scene.proofs.Climbs.{node_is}
-use Rattle.slotmap_scene.proofs.Worlds.{composed_root, composed_of_folds, joined_of_folds, parent_found, world_root}
+use Rattle.slotmap_scene.proofs.Worlds.{composed_of_folds, composed_root, joined_of_folds, parent_found, world_root}
 use Rattle.slotmap_scene.proofs.Scene.world.Goals as goal
 
 pub returns-in-None : goal.returns-in-None
@@ -9,6 +9,7 @@ returns-in-None g c =
     record {
       some = composed_root _ _ (λ v. v) (g.K.Key.data_of c.args.node) _ there (sym (rw (c.self.view_is, c.inner-2.ensures) at c.in-None.ensures));
       joined = λ joins. world_root _ _ (g.K.Key.data_of c.args.node) _ there (sym (rw (c.self.view_is, c.inner-2.ensures) at c.in-None.ensures));
+      none = tt;
     }
 
 pub returns-in-Some : goal.returns-in-Some

@@ -1,6 +1,6 @@
-use Rattle.std.proofs.Common.{Some, sym, rules}
+use Rattle.slotmap_scene.proofs.Common.{Some, rules, sym}
 use Rattle.slotmap_scene.proofs.Climbs.{node_is}
-use Rattle.slotmap_scene.proofs.Worlds.{composed_root, composed_of_folds, joined_transform, parent_found}
+use Rattle.slotmap_scene.proofs.Worlds.{composed_of_folds, composed_root, joined_transform, parent_found}
 use Rattle.slotmap_scene.proofs.Scene.world_transform.Goals as goal
 
 pub returns-in-None-clause-some : goal.returns-in-None-clause-some

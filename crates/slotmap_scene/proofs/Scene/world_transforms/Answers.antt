@@ -1,6 +1,4 @@
-use Rattle.std.proofs.Common.{sym, ap, ◌∙◌, arith}
-use Rattle.std.proofs.Math.ListN.{get_or-map}
-use Rattle.std.proofs.lemmas.List.{length-map}
+use Rattle.slotmap_scene.proofs.Common.{ap, arith, get_or-map, length-map, rules, sym, ◌∙◌}
 use Rattle.slotmap_scene.proofs.ByLevel.{going_live, going_long, going_on, going_once, levels_all, levels_done}
 use Rattle.slotmap_scene.proofs.ListedWorlds.{worlds_composed}
 use Rattle.slotmap_scene.proofs.Scene.world_transforms.Goals as goal
@@ -22,10 +20,14 @@ loop-at-preserved g c =
     }
 
 pub returns : goal.returns
-returns g c = record {
-  composed = λ joins. worlds_composed g.K.Key.data_of _ g.T.HasTransform.transform_of _ _ joins c.loop-at.invariant.each;
-  order = (let same = length-map c.loop-at.all.items (λ e. g.K.Key.data_of e.0) in levels_done _ _ _ c.loop-at.invariant.levels (omega arith));
-  all = levels_all _ (rw c.self.view_is at c.self.invariant) _ (returns-clause-order g c);
-  only = going_live _ (rw c.self.view_is at c.self.invariant) _ _ c.loop-at.invariant.levels;
-  once = going_once _ (rw c.self.view_is at c.self.invariant) _ _ c.loop-at.invariant.levels;
-}
+returns g c =
+    let same = length-map c.loop-at.all.items (λ e. g.K.Key.data_of e.0) in
+    let scene = rw c.self.view_is at c.self.invariant in
+    record {
+      each = search rules;
+      composed = λ joins. worlds_composed g.K.Key.data_of _ g.T.HasTransform.transform_of _ _ joins c.loop-at.invariant.each;
+      order = levels_done _ _ _ c.loop-at.invariant.levels (omega arith);
+      all = levels_all _ scene _ (levels_done _ _ _ c.loop-at.invariant.levels (omega arith));
+      only = going_live _ scene _ _ c.loop-at.invariant.levels;
+      once = going_once _ scene _ _ c.loop-at.invariant.levels;
+    }

@@ -1,7 +1,6 @@
-use Rattle.std.proofs.Common.{◌∷◌, sym, ap, subst, ◌∙◌, length, arith}
-use Rattle.std.specs.FinMap as map
-use Rattle.slotmap_scene.specs.Above.{HasRoot, keys_up}
+use Rattle.slotmap_scene.proofs.Common.{HasRoot, ap, arith, keys_up, length, subst, sym, ◌∙◌, ◌∷◌}
 use Rattle.slotmap_scene.proofs.Climbs.{root_above, step_up}
+use Rattle.std.specs.FinMap as map
 use Rattle.slotmap_scene.proofs.above.AncestorsIterator.next.Goals as goal
 
 pub invariant_of-self : goal.invariant_of-self

@@ -1,5 +1,4 @@
-use Rattle.std.proofs.Common.{sym, ap, ◌∙◌, option_map}
-use Rattle.slotmap_scene.specs.Below.{all_below, keys_from}
+use Rattle.slotmap_scene.proofs.Common.{all_below, ap, keys_from, option_map, sym, ◌∙◌}
 use Rattle.slotmap_scene.proofs.below.KeysBelowIterator.next.Goals as goal
 
 pub returns-clause-steps : goal.returns-clause-steps

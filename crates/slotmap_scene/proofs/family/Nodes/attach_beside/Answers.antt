@@ -1,4 +1,4 @@
-use Rattle.std.proofs.Common.{arith}
+use Rattle.slotmap_scene.proofs.Common.{arith}
 use Rattle.slotmap_scene.proofs.Placing.{child_there, free_there, owner_there, put_on_side}
 use Rattle.slotmap_scene.proofs.family.Nodes.attach_beside.Goals as goal
 

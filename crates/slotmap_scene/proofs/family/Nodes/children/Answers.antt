@@ -1,9 +1,4 @@
-use Rattle.std.proofs.Common.{sym, ap, subst, ◌∙◌}
-use Rattle.slotmap.specs.Words.{Content}
-use Rattle.slotmap_links.specs.Lists.{list_of}
-use Rattle.slotmap_scene.specs.Node.{Node}
-use Rattle.slotmap_scene.specs.Kept.{owner_of}
-use Rattle.slotmap_bounded.specs.Indices.{AreIndices, keys_at}
+use Rattle.slotmap_scene.proofs.Common.{AreIndices, Content, Node, ap, keys_at, list_of, owner_of, subst, sym, ◌∙◌}
 use Rattle.slotmap_scene.proofs.Families.{children_owned, indices_at, owner_below}
 use Rattle.slotmap_scene.proofs.family.Nodes.children.Goals as goal
 

@@ -1,7 +1,4 @@
-use Rattle.std.proofs.Common.{[], ap, ◌∙◌, length, arith}
-use Rattle.std.proofs.lemmas.List.{length-replicate}
-use Rattle.slotmap_links.specs.Lists.{Lists, list_of}
-use Rattle.slotmap_links.proofs.Changes.{list_cleared}
+use Rattle.slotmap_scene.proofs.Common.{Lists, [], ap, arith, length, length-replicate, list_cleared, list_of, ◌∙◌}
 use Rattle.slotmap_scene.proofs.SceneSteps.{bare_kept, bare_seen, family_leaves, family_valid}
 use Rattle.slotmap_scene.proofs.family.Nodes.clear.Goals as goal
 

@@ -1,5 +1,5 @@
-use Rattle.std.proofs.Common.{None}
-use Rattle.slotmap_scene.proofs.Moved.{spent_alike, hung_keys, moved_out, scene_out, values_out}
+use Rattle.slotmap_scene.proofs.Common.{None, rules}
+use Rattle.slotmap_scene.proofs.Moved.{hung_keys, moved_out, scene_out, spent_alike, values_out}
 use Rattle.slotmap_scene.proofs.family.Nodes.detach.Goals as goal
 
 pub returns : goal.returns

@@ -1,12 +1,5 @@
-use Rattle.std.proofs.Common.{None, Some, sym, ap, ◌∙◌}
-use Rattle.std.specs.Option.{option_map}
-use Rattle.slotmap.specs.Words.{Content}
-use Rattle.slotmap_links.specs.Lists.{list_of, first_or}
-use Rattle.slotmap_scene.specs.Node.{Node}
-use Rattle.slotmap_links.proofs.Linking.{first_in}
-use Rattle.slotmap_scene.specs.Kept.{owner_of}
-use Rattle.slotmap_bounded.specs.Indices.{key_at}
-use Rattle.slotmap_scene.proofs.Families.{indices_at, key_found, owner_below, first_seen}
+use Rattle.slotmap_scene.proofs.Common.{Content, Node, None, Some, ap, first_in, first_or, key_at, list_of, option_map, owner_of, sym, ◌∙◌}
+use Rattle.slotmap_scene.proofs.Families.{first_seen, indices_at, key_found, owner_below}
 use Rattle.slotmap_scene.proofs.family.Nodes.first.Goals as goal
 
 pub first-requires : goal.first-requires

@@ -1,12 +1,5 @@
-use Rattle.std.proofs.Common.{None, Some, sym, ap, ◌∙◌}
-use Rattle.std.specs.Option.{option_map}
-use Rattle.slotmap.specs.Words.{Content}
-use Rattle.slotmap_links.specs.Lists.{list_of, last_or as last_number}
-use Rattle.slotmap_scene.specs.Node.{Node}
-use Rattle.slotmap_links.proofs.Linking.{last_in}
-use Rattle.slotmap_scene.specs.Kept.{owner_of}
-use Rattle.slotmap_bounded.specs.Indices.{key_at}
-use Rattle.slotmap_scene.proofs.Families.{indices_at, key_found, owner_below, last_seen}
+use Rattle.slotmap_scene.proofs.Common.{Content, Node, None, Some, ap, key_at, last_in, last_number, list_of, option_map, owner_of, sym, ◌∙◌}
+use Rattle.slotmap_scene.proofs.Families.{indices_at, key_found, last_seen, owner_below}
 use Rattle.slotmap_scene.proofs.family.Nodes.last.Goals as goal
 
 pub last-requires : goal.last-requires

@@ -1,6 +1,5 @@
-use Rattle.std.proofs.Common.{Some, ◌++◌, ◌∷◌, []}
-use Rattle.slotmap_keylist.proofs.Counts.{times_pushed}
-use Rattle.slotmap_scene.proofs.Moved.{spent_alike, hung_alone, keys_among, moved_among, scene_among, values_among}
+use Rattle.slotmap_scene.proofs.Common.{Some, [], rules, times_pushed, ◌++◌, ◌∷◌}
+use Rattle.slotmap_scene.proofs.Moved.{hung_alone, keys_among, moved_among, scene_among, spent_alike, values_among}
 use Rattle.slotmap_scene.proofs.family.Nodes.move_below.Goals as goal
 
 pub attach-requires-clause-alone : goal.attach-requires-clause-alone

@@ -1,8 +1,6 @@
-use Rattle.std.proofs.Common.{Some, is_some, refl, ◌∙◌}
-use Rattle.slotmap_scene.specs.Family.{placed}
+use Rattle.slotmap_scene.proofs.Common.{Some, is_some, placed, refl, rules, ◌∙◌}
 use Rattle.slotmap_scene.proofs.Climbs.{parent_there}
-use Rattle.slotmap_scene.proofs.Moved.{spent_alike, hung_alone, keys_among, moved_among, hung_keys, hung_sibling, left_of, scene_among, times_placed}
-use Rattle.slotmap_scene.proofs.Moved.{values_among}
+use Rattle.slotmap_scene.proofs.Moved.{hung_alone, hung_keys, hung_sibling, keys_among, left_of, moved_among, scene_among, spent_alike, times_placed, values_among}
 use Rattle.slotmap_scene.proofs.family.Nodes.move_beside.Goals as goal
 
 pub attach_beside-requires : goal.attach_beside-requires

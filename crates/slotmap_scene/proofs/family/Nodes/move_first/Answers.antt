@@ -1,5 +1,5 @@
-use Rattle.std.proofs.Common.{Some, ◌∷◌}
-use Rattle.slotmap_scene.proofs.Moved.{spent_alike, hung_alone, keys_among, moved_among, scene_among, times_put, values_among}
+use Rattle.slotmap_scene.proofs.Common.{Some, rules, ◌∷◌}
+use Rattle.slotmap_scene.proofs.Moved.{hung_alone, keys_among, moved_among, scene_among, spent_alike, times_put, values_among}
 use Rattle.slotmap_scene.proofs.family.Nodes.move_first.Goals as goal
 
 pub attach_first-requires-clause-alone : goal.attach_first-requires-clause-alone

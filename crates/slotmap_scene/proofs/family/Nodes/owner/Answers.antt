@@ -1,4 +1,4 @@
-use Rattle.std.proofs.Common.{cond, sym, ap, ◌∙◌}
+use Rattle.slotmap_scene.proofs.Common.{ap, cond, sym, ◌∙◌}
 use Rattle.slotmap_scene.proofs.Families.{seen_has}
 use Rattle.slotmap_scene.proofs.family.Nodes.owner.Goals as goal
 

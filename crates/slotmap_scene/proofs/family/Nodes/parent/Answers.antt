@@ -1,4 +1,4 @@
-use Rattle.std.proofs.Common.{sym, ◌∙◌}
+use Rattle.slotmap_scene.proofs.Common.{sym, ◌∙◌}
 use Rattle.slotmap_scene.proofs.Families.{parent_gone, seen_has}
 use Rattle.slotmap_scene.proofs.family.Nodes.parent.Goals as goal
 

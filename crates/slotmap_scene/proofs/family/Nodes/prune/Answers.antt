@@ -1,9 +1,4 @@
-use Rattle.std.proofs.Common.{is_some, refl, sym, ap, ◌∙◌, option_map}
-use Rattle.slotmap.proofs.Callers.{leaves_in_turn}
-use Rattle.slotmap_keylist.specs.KeyLists.{times, without}
-use Rattle.slotmap_keylist.proofs.Counts.{times_gone}
-use Rattle.slotmap_scene.specs.Climb.{parent_in, parent_of}
-use Rattle.slotmap_scene.specs.Family.{children_in, children_of}
+use Rattle.slotmap_scene.proofs.Common.{ap, children_in, children_of, is_some, leaves_in_turn, option_map, parent_in, parent_of, refl, rules, sym, times, times_gone, without, ◌∙◌}
 use Rattle.slotmap_scene.proofs.Moved.{leaves_filled, left_of}
 use Rattle.slotmap_scene.proofs.Removals.{childless}
 use Rattle.slotmap_scene.proofs.family.Nodes.prune.Goals as goal

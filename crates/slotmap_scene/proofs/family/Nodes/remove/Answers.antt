@@ -1,5 +1,4 @@
-use Rattle.std.proofs.Common.{true, is_some, sym, ap, ◌∙◌}
-use Rattle.slotmap.proofs.Callers.{leaves_by_removal}
+use Rattle.slotmap_scene.proofs.Common.{ap, is_some, leaves_by_removal, sym, true, ◌∙◌}
 use Rattle.slotmap_scene.proofs.Families.{seen_value}
 use Rattle.slotmap_scene.proofs.Placing.{is_live}
 use Rattle.slotmap_scene.proofs.SceneSteps.{family_leaves, gone_kept, gone_seen}

@@ -1,9 +1,5 @@
-use Rattle.std.proofs.Common.{◌≢◌, refl, sym, ◌∙◌}
-use Rattle.slotmap.specs.Words.{same_keys}
-use Rattle.slotmap.proofs.Callers.{leaves_none, leaves_in_turn}
-use Rattle.slotmap_keylist.proofs.Linking.{none_last}
-use Rattle.slotmap_scene.specs.Family.{children_of}
-use Rattle.slotmap_scene.proofs.Removals.{removing_start, goes_down, down_smaller, goes_up, up_smaller, all_removed, others_left, pruned_scene}
+use Rattle.slotmap_scene.proofs.Common.{children_of, leaves_in_turn, leaves_none, none_last, refl, rules, same_keys, sym, ◌∙◌, ◌≢◌}
+use Rattle.slotmap_scene.proofs.Removals.{all_removed, down_smaller, goes_down, goes_up, others_left, pruned_scene, removing_start, up_smaller}
 use Rattle.slotmap_scene.proofs.family.Nodes.remove_tree.Goals as goal
 
 pub loop-child-init : goal.loop-child-init
