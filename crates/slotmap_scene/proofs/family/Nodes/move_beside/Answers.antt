@@ -9,7 +9,8 @@ attach_beside-requires g c = record {
   sibling = rw (c.set_parent.ensures, c.leave.ensures) (hung_sibling c.args.self.now.live c.requires.scene c.args.node c.args.parent c.args.sibling c.requires.apart c.requires.sibling);
   parent = rw (c.set_parent.ensures, c.leave.ensures) (hung_keys c.args.self.now.live c.requires.scene c.args.node (Some c.args.parent) c.args.parent
       ∙ parent_there c.args.self.now.live c.requires.scene.tree c.args.sibling c.args.parent c.requires.sibling);
-  node = search rules;
+  node = rw (c.set_parent.ensures, c.leave.ensures)
+      (hung_keys c.args.self.now.live c.requires.scene c.args.node (Some c.args.parent) c.args.node ∙ c.requires.node);
 }
 
 pub returns : goal.returns
