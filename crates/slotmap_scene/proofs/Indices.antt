@@ -1,4 +1,5 @@
 -- Lists of children by lists of their indices: a key on one side of another one, and the key beside one.
+use Rattle.slotmap_scene.proofs.Common.{common_steps}
 use Rattle.slotmap_scene.proofs.Common.{After, AreIndices, Before, Bool, Content, HaveIndices, IsLive, Key, List, None, Option, Side, Some, [], ap, arith, behind, cond, false, first_index}
 use Rattle.slotmap_scene.proofs.Common.{first_key, first_or, if◌then◌else◌, in_front, is_key, key_at, key_at_live, keys_at, later_indices, nat_eq, number_after, number_before, often}
 use Rattle.slotmap_scene.proofs.Common.{often_first, option_map, placed, put_before, put_behind, put_on, refl, same_at, same_number, sym, true, ℕ, ◌<◌, ◌∙◌, ◌∷◌, ◌≡◌}
@@ -6,8 +7,7 @@ use Rattle.slotmap_scene.proofs.Common.{often_first, option_map, placed, put_bef
 module _ {T : Type 0} {c : Content T} (indices : HaveIndices c) where
   module _ (s k : Key) (sibling : IsLive c s) (live : IsLive c k) where
     later_there : (i : ℕ) (is : List ℕ) → nat_eq i s.index ≡ false → 0 < often s.index (i ∷ is) → 0 < often s.index is
-    later_there i is apart there = let first = often_first s.index i is in let none : same_number i s.index ≡ 0 = ap (λ b. if b then 1 else 0) apart in
-        omega arith
+    later_there i is apart there = grind (arith, often_first s.index i is)
 
     key_before : (is : List ℕ) → AreIndices c is → 0 < often s.index is
         → keys_at c.live (put_before s.index k.index is) ≡ placed Before s k (keys_at c.live is)

@@ -21,6 +21,4 @@ module _ (it rest : List Key) (k : Key) (is : it ≡ k ∷ rest) where
   -- a value is pushed for the first key
   pub passed : {X : Type 0} (f : X → Key) (xs : List X) (x : X) (new : List X) → f x ≡ k → new ≡ xs ++ x ∷ []
       → list_map f new ++ rest ≡ list_map f xs ++ it
-  passed f xs x new here new_is =
-      ap (λ l. list_map f l ++ rest) new_is ∙ ap (λ l. l ++ rest) (map_push f xs x)
-      ∙ append_assoc (list_map f xs) (f x ∷ []) rest ∙ ap (λ q. list_map f xs ++ q ∷ rest) here ∙ sym (ap (λ l. list_map f xs ++ l) is)
+  passed f xs x new here new_is = grind (arith, list_map, map_push f xs x, append_assoc (list_map f xs) (f x ∷ []) rest, list_map f xs)

@@ -5,7 +5,7 @@ use Rattle.slotmap_scene.proofs.Common.{changed_other, child, children_of, clone
 use Rattle.slotmap_scene.proofs.Common.{get_or-set_same, grown, if◌then◌else◌, indices_inserted, indices_still, inl, inr, inserted_fresh, is_ok, is_some, key_cmp, keys, keys_at, keys_total}
 use Rattle.slotmap_scene.proofs.Common.{length, length-append, length-replicate, length-set, list_of, live-insert_still, most, nat_lt, nat_tests, node_at, nodes_by, often, option_map, parent_at}
 use Rattle.slotmap_scene.proofs.Common.{parent_index, parent_of, refl, replicate, same_or_other, set, shown_content, shown_inserts, shown_leaves, shown_makes_room, subst, suc, sym, take, take_all}
-use Rattle.slotmap_scene.proofs.Common.{times, true, used, with_value, zero, ℕ, ◌++◌, ◌+◌, ◌-◌, ◌<◌, ◌∙◌, ◌∷◌, ◌≡◌, ◌≢◌, ◌≤◌, ◌⊎◌}
+use Rattle.slotmap_scene.proofs.Common.{times, true, used, with_value, zero, ℕ, ◌++◌, ◌+◌, ◌-◌, ◌<◌, ◌∙◌, ◌∷◌, ◌≡◌, ◌≢◌, ◌≤◌, ◌⊎◌, common_steps}
 use Rattle.slotmap_scene.proofs.Families.{above_still, children_live, covers_less, get_alike, get_along, kept_along, kept_still, list_none, node_along, node_still, nowhere, parent_live, seen_get}
 use Rattle.slotmap_scene.proofs.Families.{seen_has, seen_len, written_found, written_has}
 use Rattle.std.specs.FinMap as map
@@ -85,11 +85,7 @@ module _ {V : Type 0} (c : Content V) (valid : IsContent true c) (n : ℕ) where
   }
 
   pub fits_most : (capacity : ℕ) → capacity ≡ capacity_with c n → capacity ≤ most → used c + n ≤ most
-  fits_most capacity is few = elim (nat_lt c.room n) as
-      (λ b. nat_lt c.room n ≡ b → capacity ≡ cond b (used c + grown (used c) n) c.capacity → used c + n ≤ most) [
-        | true ↦ λ _ is. (omega arith)
-        | false ↦ λ more is. (let fits = valid.room_fits in grind (arith, nat_tests))
-      ] refl is
+  fits_most capacity is few = grind arith
 
 -- no node at all
 module _ {V : Type 0} (c : Content V) (none : c.live ≡ map.empty) (parents : List ℕ) (children : Lists) where
@@ -239,8 +235,7 @@ module _ {V : Type 0} {c : Content V} {parents : List ℕ} {children : Lists} (k
     gone_other m q other = grind (arith, keys)
 
     not_k : (q : Key) → IsLive d q → q ≢ k
-    not_k q of_d at = let none = ap (λ m. map.get m k) is ∙ gone_here c.live in let f = ap (λ q. is_some (map.get d.live q)) (sym at) ∙ of_d in
-        let g = ap is_some none in cc
+    not_k q of_d at = grind (arith, gone_here c.live)
 
     was_live : (q : Key) → IsLive d q → IsLive c q
     was_live q of_d = sym (ap is_some (left_get q (not_k q of_d))) ∙ of_d
@@ -263,9 +258,7 @@ module _ {V : Type 0} {c : Content V} {parents : List ℕ} {children : Lists} (k
     has_left i has apart = (has.0, ap is_some (left_get has.0 (λ at. apart (sym has.2 ∙ ap (λ (q : Key). q.index) at))) ∙ has.1, has.2)
 
     not_above : (q : Key) → IsLive c q → parent_at parents q.index ≢ k.index
-    not_above q of_c at =
-        let found = parent_live c.live parents children q of_c ∙ ap (found_at c.live) at ∙ found_live kept.indices k live in
-        childless q found
+    not_above q of_c at = grind (arith, parent_live c.live parents children q of_c, found_live kept.indices k live)
 
     pub gone_kept : HoldsNodes d parents children
     gone_kept = record {

@@ -1,5 +1,5 @@
 -- A walk through all that is below a node, from sibling to sibling and from the last one up.
-use Rattle.slotmap_scene.proofs.Common.{AreAhead, GoesDown, IsScene, IsWithin, Key, List, Node, Nodes, None, Option, Some, StepsTo, WalkStands, WalksBelow, [], all_below, ap, append-nil}
+use Rattle.slotmap_scene.proofs.Common.{AreAhead, GoesDown, IsScene, IsWithin, Key, List, Node, Nodes, None, Option, Some, StepsTo, WalkStands, WalksBelow, [], all_below, ap, append-nil, common_steps}
 use Rattle.slotmap_scene.proofs.Common.{append_assoc, arith, behind, children_of, children_under, cond, first_or, has_node, is_itself, is_other, keys_down, keys_from, length, length-append}
 use Rattle.slotmap_scene.proofs.Common.{one_itself, parent_in, parent_of, refl, same, siblings_of, subst, suc, sym, times, times_first, times_joined, zero, ℕ, ◌++◌, ◌+◌, ◌<◌}
 use Rattle.slotmap_scene.proofs.Common.{◌∙◌, ◌∷◌, ◌≡◌, ◌≢◌, ◌≤◌}
@@ -65,8 +65,7 @@ module _ {T : Type 0} (nodes : Nodes T) (scene : IsScene nodes) (node : Key) whe
   goes_down : (n : ℕ) (listed ahead : List Key) → Descending nodes node listed ahead → map.len nodes ≤ n + length listed
       → GoesDown nodes ahead (keys_down nodes n ahead)
   goes_down zero listed [] d enough = refl
-  goes_down zero listed (q ∷ others) d enough =
-      absurd (let long = longer nodes scene node listed (q ∷ others) d q others refl in omega arith)
+  goes_down zero listed (q ∷ others) d enough = grind (arith, longer nodes scene node listed (q ∷ others) d q others refl)
   goes_down (suc n) listed [] d enough = refl
   goes_down (suc n) listed (q ∷ others) d enough =
       let long = length-append listed (q ∷ []) in
@@ -76,8 +75,7 @@ module _ {T : Type 0} (nodes : Nodes T) (scene : IsScene nodes) (node : Key) whe
   -- and then nothing is ahead
   gone_down : (rest listed ahead : List Key) → Descending nodes node listed ahead → GoesDown nodes ahead rest
       → Descending nodes node (listed ++ rest) []
-  gone_down [] listed ahead d goes =
-      subst (λ l. Descending nodes node l []) (sym (append-nil listed)) (subst (Descending nodes node listed) goes d)
+  gone_down [] listed ahead d goes = grind (arith, append-nil listed)
   gone_down (q ∷ rest) listed ahead d goes =
       let next = descending_step nodes scene node listed ahead d q goes.0 goes.1.0 in
       subst (λ l. Descending nodes node l []) (append_assoc listed (q ∷ []) rest)
@@ -138,11 +136,7 @@ module _ {T : Type 0} (nodes : Nodes T) (scene : IsScene nodes) (node : Key) whe
   -- a child with these later siblings has this parent, and this sibling behind it
   module _ (k p : Key) (before after : List Key) (split : children_of nodes p ≡ before ++ k ∷ after) where
     counted : times k (children_of nodes p) ≡ times k before + 1 + times k after
-    counted =
-        let joined = ap (times k) split ∙ times_joined k before (k ∷ after) in
-        let first = times_first k k after in
-        let one = one_itself k in
-        omega arith
+    counted = grind (arith, times_joined k before (k ∷ after), times_first k k after, one_itself k)
 
     own_parent : parent_of nodes k ≡ Some p
     own_parent = let c = counted in listed_parent nodes scene.listed p k (omega arith)

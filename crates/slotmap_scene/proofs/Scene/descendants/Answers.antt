@@ -1,4 +1,4 @@
-use Rattle.slotmap_scene.proofs.Common.{IsWithin, ap, append-nil, has_node, list_map, refl, subst, ◌++◌, ◌∙◌, ◌≢◌}
+use Rattle.slotmap_scene.proofs.Common.{IsWithin, ap, append-nil, has_node, list_map, refl, subst, ◌++◌, ◌∙◌, ◌≢◌, arith, common_steps}
 use Rattle.slotmap_scene.proofs.Descending.{Descended, each_listed}
 use Rattle.slotmap_scene.proofs.KeyLoops.{passed}
 use Rattle.slotmap_scene.proofs.Scene.descendants.Goals as goal
@@ -14,9 +14,7 @@ loop-key-init g c =
     }
 
 pub loop-key-preserved : goal.loop-key-preserved
-loop-key-preserved g c =
-    let same = passed _ _ _ c.in-Some.ensures.steps g.K.Key.data_of _ _ _ refl c.in_ok-push.ensures.items in
-    record { can_next = tt; is_finite = tt; listed = rw same c.loop-key.invariant.listed }
+loop-key-preserved g c = grind (arith, common_steps, c.in-Some.ensures.steps, c.in_ok-push.ensures.items, c.loop-key.invariant.listed)
 
 pub returns : goal.returns
 returns g c =

@@ -1,14 +1,10 @@
-use Rattle.slotmap_scene.proofs.Common.{Some, rules, sym}
+use Rattle.slotmap_scene.proofs.Common.{Some, rules, sym, arith, common_steps}
 use Rattle.slotmap_scene.proofs.Climbs.{node_is}
 use Rattle.slotmap_scene.proofs.Worlds.{composed_of_folds, composed_root, joined_transform, parent_found}
 use Rattle.slotmap_scene.proofs.Scene.world_transform.Goals as goal
 
 pub returns-in-None-clause-some : goal.returns-in-None-clause-some
-returns-in-None-clause-some g c =
-    let there = node_is _ _ _ (rw (c.self.view_is, c.inner.ensures) at (sym c.in_ok-get.ensures)) in
-    rw c.transform-start.ensures
-    (composed_root _ _ g.T.HasTransform.transform_of (g.K.Key.data_of c.args.node) _ there
-    (sym (rw (c.self.view_is, c.inner-2.ensures) at c.in-None.ensures)))
+returns-in-None-clause-some g c = grind (arith, node_is, composed_root, c.inner.ensures, c.in_ok-get.ensures, c.transform-start.ensures, c.inner-2.ensures, c.in-None.ensures)
 
 pub returns-in-None-clause-joined : goal.returns-in-None-clause-joined
 returns-in-None-clause-joined g c joins =

@@ -1,13 +1,10 @@
-use Rattle.slotmap_scene.proofs.Common.{ap, arith, get_or-map, length-map, rules, sym, ◌∙◌}
+use Rattle.slotmap_scene.proofs.Common.{ap, arith, get_or-map, length-map, rules, sym, ◌∙◌, common_steps}
 use Rattle.slotmap_scene.proofs.ByLevel.{going_live, going_long, going_on, going_once, levels_all, levels_done}
 use Rattle.slotmap_scene.proofs.ListedWorlds.{worlds_composed}
 use Rattle.slotmap_scene.proofs.Scene.world_transforms.Goals as goal
 
 pub loop-at-smaller : goal.loop-at-smaller
-loop-at-smaller g c =
-    let long = going_long _ (rw c.self.view_is at c.self.invariant) _ _ c.loop-at.invariant.levels in
-    let same = length-map c.loop-at.all.items (λ e. g.K.Key.data_of e.0) in
-    omega arith
+loop-at-smaller g c = grind (arith, going_long, length-map, c.self.invariant, c.loop-at.invariant.levels)
 
 pub loop-at-preserved : goal.loop-at-preserved
 loop-at-preserved g c =

@@ -25,5 +25,4 @@ returns-clause-leaves g c = rw (← c.self.view_is)
     c.clear.ensures.leaves)
 
 pub returns-clause-valid : goal.returns-clause-valid
-returns-clause-valid g c = rw (← c.self.view_is)
-    (family_valid c.self.inside.values c.self.inside.parents.items c.self.inside.children c.clear.ensures.valid.before)
+returns-clause-valid g c = grind (arith, family_valid c.self.inside.values c.self.inside.parents.items c.self.inside.children c.clear.ensures.valid.before, c.clear.ensures.valid.before)

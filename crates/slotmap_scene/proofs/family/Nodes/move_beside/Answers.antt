@@ -1,4 +1,4 @@
-use Rattle.slotmap_scene.proofs.Common.{Some, is_some, placed, refl, rules, ◌∙◌}
+use Rattle.slotmap_scene.proofs.Common.{Some, is_some, placed, refl, rules, ◌∙◌, arith, common_steps}
 use Rattle.slotmap_scene.proofs.Climbs.{parent_there}
 use Rattle.slotmap_scene.proofs.Moved.{hung_alone, hung_keys, hung_sibling, keys_among, left_of, moved_among, scene_among, spent_alike, times_placed, values_among}
 use Rattle.slotmap_scene.proofs.family.Nodes.move_beside.Goals as goal

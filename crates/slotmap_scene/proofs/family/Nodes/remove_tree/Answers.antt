@@ -1,15 +1,9 @@
-use Rattle.slotmap_scene.proofs.Common.{children_of, leaves_in_turn, leaves_none, none_last, refl, rules, same_keys, sym, ◌∙◌, ◌≢◌}
+use Rattle.slotmap_scene.proofs.Common.{children_of, leaves_in_turn, leaves_none, none_last, refl, rules, same_keys, sym, ◌∙◌, ◌≢◌, arith, common_steps}
 use Rattle.slotmap_scene.proofs.Removals.{all_removed, down_smaller, goes_down, goes_up, others_left, pruned_scene, removing_start, up_smaller}
 use Rattle.slotmap_scene.proofs.family.Nodes.remove_tree.Goals as goal
 
 pub loop-child-init : goal.loop-child-init
-loop-child-init g c =
-    record {
-      removing = removing_start c.args.self.now.live c.args.root c.requires.scene c.requires.there;
-      leaves = leaves_none c.args.self.now;
-      capacity =
-          refl;
-    }
+loop-child-init g c = grind (arith, removing_start c.args.self.now.live c.args.root c.requires.scene c.requires.there, leaves_none c.args.self.now)
 
 pub loop-child-smaller-in-Some : goal.loop-child-smaller-in-Some
 loop-child-smaller-in-Some g c = down_smaller _ _ _ _ c.loop-child.invariant.removing c.in-Some.child (sym c.in-Some.ensures) c.requires.scene.tree

@@ -9,8 +9,7 @@ returns-in_err-capacity-clause-makes_room g c = rw (← c.self.view_is)
     (err_fails c.from_residual.result c.from_residual.ensures.0) (λ more. let h = c.in_err-capacity.ensures.had_room more in cc))
 
 pub returns-in_err-capacity-clause-err : goal.returns-in_err-capacity-clause-err
-returns-in_err-capacity-clause-err g c = rw (← c.self.view_is, seen_len c.self.inside.values.live c.self.inside.parents.items c.self.inside.children)
-    (search rules)
+returns-in_err-capacity-clause-err g c = grind (arith, seen_len c.self.inside.values.live c.self.inside.parents.items c.self.inside.children)
 
 pub invariant_of-self : goal.invariant_of-self
 invariant_of-self g c = covered_kept c.self.invariant c.cover.new.parents.items c.cover.new.children c.cover.ensures.parents c.cover.ensures.children
