@@ -1,6 +1,6 @@
 -- What the steps of a drain keep, and what they yield.
 use Rattle.slotmap_scheduler.proofs.Common.{Drain, EmptiesSchedule, KeepsLent, Key, SameLoan, Schedule, YieldsInOrder, [], ap, arith, job_of, refl, subst, yielded_job, ◌∙◌, ◌∷◌}
-use Rattle.slotmap_scheduler.proofs.Fewer.{HasFewer, still_fewer}
+use Rattle.slotmap_scheduler.proofs.TakingOut.{HasFewer, still_fewer}
 
 -- a scheduler that has fewer jobs, and then none
 pub emptied_then : {T : Type 0} (old mid : Schedule T) → HasFewer old mid → (end : Schedule T) → EmptiesSchedule mid end → EmptiesSchedule old end

@@ -125,14 +125,8 @@ module _ {T Z : Type 0} (jobs : Content (Job T)) (heap : Vec Entry Z) (is : IsPl
     now_a = grind (arith, get-insert_other mid.live eb.handle (record jb { place = a }) ea.handle two, get-insert_here jobs.live ea.handle (record ja { place = b }), spot_a, found_a)
 
     now_b : spot_of noted.live eb.handle ≡ Some (a, eb.turn)
-    now_b = grind (
-      arith,
-      get-insert_here mid.live eb.handle (record jb { place = a }),
-      get-insert_other jobs.live ea.handle (record ja { place = b }) eb.handle
-          (λ same. two (sym same)),
-      spot_b,
-      found_b,
-    )
+    now_b =
+        grind (arith, get-insert_here mid.live eb.handle (record jb { place = a }), get-insert_other jobs.live ea.handle (record ja { place = b }) eb.handle (λ same. two (sym same)), spot_b, found_b)
 
     pub resettled_swap : (new : Vec Entry Z) → vec_len new ≡ vec_len heap → vec_capacity new ≡ vec_capacity heap → SwappedAt heap.items new.items a b → Resettled jobs heap noted new
     resettled_swap new len capacity by = record {

@@ -4,7 +4,6 @@ mod Copied
 mod Counting
 mod Draining
 mod DueCounted
-mod Fewer
 mod Handles
 mod HeapPlaces
 mod Heaps
@@ -17,6 +16,7 @@ mod Schedules
 mod Seen
 mod Sorted
 mod TakingDue
+mod TakingOut
 mod Timed
 pub mod Visiting
 mod Waits

@@ -100,6 +100,4 @@ module _ {T Z : Type 0} {jobs : Content (Job T)} {count : ℕ} {heap : Vec Entry
       → ((other : Key) → IsLive jobs other → floor ≤ other.index → k.index ≤ other.index)
       → (q : Key) → is_some (job_of q (waiting_of (timed jobs).live)) ≡ true → floor ≤ q.index → q.index ≤ k.index → q ≡ k
   alone_at well j found floor first q there from up =
-      let live : IsLive jobs q = contains_seen is q ∙ there in
-      let least = first q live from in
-      well.apart q k (inl (inl live)) (inl (inl (ap is_some found))) (omega arith)
+      let live : IsLive jobs q = contains_seen is q ∙ there in let least = first q live from in well.apart q k (inl (inl live)) (inl (inl (ap is_some found))) (omega arith)

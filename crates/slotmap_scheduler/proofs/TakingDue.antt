@@ -1,7 +1,7 @@
 -- A loop that takes out the jobs that are due.
 use Rattle.slotmap_scheduler.proofs.Common.{All, All-nil, All-push, Due, IsByTime, Key, List, Schedule, TakesDue, Vec, Waiting, [], ap, append-nil, append_assoc, arith, cond, due_at, false}
 use Rattle.slotmap_scheduler.proofs.Common.{length, map_push, nat_lt, nat_tests, refl, sym, vec_capacity, vec_len, ℕ, ◌++◌, ◌+◌, ◌∙◌, ◌∷◌, ◌≡◌, ◌≤◌}
-use Rattle.slotmap_scheduler.proofs.Fewer.{HasFewer, same_fewer, still_fewer}
+use Rattle.slotmap_scheduler.proofs.TakingOut.{HasFewer, same_fewer, still_fewer}
 use Rattle.slotmap_scheduler.proofs.Waits.{sorted_first}
 
 module _ {T : Type 0} (now : ℕ) where
@@ -30,20 +30,13 @@ module _ {K T Z : Type 0} (data_of : K → Key) (now : ℕ) where
 
   pub taking_start : (old : Schedule T) (start grew : Vec (K × T) Z) → grew.items ≡ start.items
       → vec_len grew + length (due_at now old.waiting) ≤ vec_capacity grew → Taking old start old grew
-  taking_start old start grew same room = record {
-    first = [];
-    taken = [];
-    waited = refl;
-    all_due = All-nil _;
-    returned = refl;
-    added = same ∙ sym (append-nil start.items);
-    room = room;
-    fewer = same_fewer old;
-  }
+  taking_start old start grew same room =
+      record { first = []; taken = []; waited = refl; all_due = All-nil _; returned = refl; added = same ∙ sym (append-nil start.items); room = room; fewer = same_fewer old }
 
   -- one more job
   pub taking_step : (old : Schedule T) (start : Vec (K × T) Z) (s s' : Schedule T) (due due' : Vec (K × T) Z) (job : K × T) (time : ℕ) → Taking old start s due → time ≤ now
-      → s.waiting ≡ (data_of job.0, (time, job.1)) ∷ s'.waiting → HasFewer s s' → due'.items ≡ due.items ++ job ∷ [] → vec_len due' ≡ vec_len due + 1 → vec_capacity due' ≡ vec_capacity due
+      → s.waiting ≡ (data_of job.0, (time, job.1)) ∷ s'.waiting → HasFewer s s' → due'.items ≡ due.items ++ job ∷ [] → vec_len due' ≡ vec_len due + 1
+      → vec_capacity due' ≡ vec_capacity due
       → Taking old start s' due'
   taking_step old start s s' due due' job time t le waits fewer items len capacity =
       let e : Key × (ℕ × T) = (data_of job.0, (time, job.1)) in
@@ -73,5 +66,4 @@ module _ {K T Z : Type 0} (data_of : K → Key) (now : ℕ) where
 
 -- nothing was taken out
 pub takes_none : {K T : Type 0} (data_of : K → Key) (now : ℕ) (ws : Waiting T) (items all : List (K × T)) → all ≡ items → TakesDue data_of now ws items all ws
-takes_none data_of now ws items all same =
-    record { first = []; taken = []; waited = refl; due = All-nil _; sorted = tt; returned = refl; added = same ∙ sym (append-nil items) }
+takes_none data_of now ws items all same = record { first = []; taken = []; waited = refl; due = All-nil _; sorted = tt; returned = refl; added = same ∙ sym (append-nil items) }

@@ -4,7 +4,7 @@ use Rattle.slotmap_scheduler.proofs.Common.{RetainsJobs, Schedule, SeesEachOnce,
 use Rattle.slotmap_scheduler.proofs.Common.{is_some, itself, job_of, jobs_seen, keys_total, leaves_none, length, mut_next, refl, same_or_other, subst, sym, tied, true}
 use Rattle.slotmap_scheduler.proofs.Common.{with_job, without, ℕ, ◌++◌, ◌+◌, ◌<◌, ◌∙◌, ◌∷◌, ◌≡◌, ◌≢◌, ◌≤◌}
 use Rattle.slotmap_scheduler.proofs.DueCounted.{len_without, once_without, other_found}
-use Rattle.slotmap_scheduler.proofs.Fewer.{HasFewer, one_fewer, same_fewer, still_fewer}
+use Rattle.slotmap_scheduler.proofs.TakingOut.{HasFewer, one_fewer, same_fewer, still_fewer}
 
 module _ {T : Type 0} (k : Key) where
   -- a job that is written stays where it was
@@ -71,16 +71,8 @@ module _ {F K T : Type 0} (g : Mut F (K × (ℕ × (MutBor T × Unit {0}))) (Boo
     pub fewer : HasFewer old now
 
   pub visiting_start : (old : Schedule T) (f : F) → Visiting old f old 0 f
-  visiting_start old f = record {
-    visits = [];
-    calls = refl;
-    stay = refl;
-    once = tt;
-    below = λ k low. absurd (omega arith);
-    unseen = λ k from. refl;
-    ahead = λ k from. refl;
-    fewer = same_fewer old;
-  }
+  visiting_start old f =
+      record { visits = []; calls = refl; stay = refl; once = tt; below = λ k low. absurd (omega arith); unseen = λ k from. refl; ahead = λ k from. refl; fewer = same_fewer old }
 
 module _ {F K T : Type 0} {g : Mut F (K × (ℕ × (MutBor T × Unit {0}))) (Bool × (MutBor T × Unit {0}))} {data_of : K → Key}
     {old : Schedule T} {f : F} {now : Schedule T} {floor : ℕ} {f' : F} (r : Visiting g data_of old f now floor f') where

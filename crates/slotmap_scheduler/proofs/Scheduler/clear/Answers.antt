@@ -15,7 +15,8 @@ pub returns : goal.returns
 returns g c = record {
   empty = none_waits c.clear.new.self c.clear.ensures.empty;
   none_live = empty_keys _ (ap (map_values unplaced) c.clear.ensures.empty ∙ mapped-empty unplaced);
-  capacity = rw (← c.self.view_is) (same_capacity (timed c.self.inside.jobs) (timed c.clear.new.self) c.self.inside.heap c.clear-2.new.self c.clear.ensures.valid.capacity c.clear-2.ensures.capacity);
+  capacity = rw (← c.self.view_is) (same_capacity (timed c.self.inside.jobs)
+      (timed c.clear.new.self) c.self.inside.heap c.clear-2.new.self c.clear.ensures.valid.capacity c.clear-2.ensures.capacity);
   leaves = (let waiting = c.self.invariant.indexed.len in
       rw (← c.self.view_is) (handles_left (timed c.self.inside.jobs) (timed c.clear.new.self) c.self.inside.heap c.clear-2.new.self
       (mapped-leaves unplaced c.self.inside.jobs c.clear.new.self c.clear.ensures.leaves)

@@ -1,5 +1,5 @@
 use Rattle.slotmap_scheduler.proofs.Common.{arith, refl, ◌∙◌}
-use Rattle.slotmap_scheduler.proofs.Fewer.{first_fewer}
+use Rattle.slotmap_scheduler.proofs.TakingOut.{first_fewer}
 use Rattle.slotmap_scheduler.proofs.TakingDue.{first_due, takes_none, taking_end, taking_start, taking_step}
 use Rattle.slotmap_scheduler.proofs.Scheduler.pop_all_due.Goals as goal
 
@@ -28,5 +28,4 @@ loop-job-preserved g c =
     }
 
 pub returns-clause-taken : goal.returns-clause-taken
-returns-clause-taken g c =
-    rw c.in_default.ensures.unchanged (taking_end g.K.Key.data_of c.args.now _ _ _ _ c.loop-job.invariant.taking c.due_count-count.ensures.sorted _ refl)
+returns-clause-taken g c = rw c.in_default.ensures.unchanged (taking_end g.K.Key.data_of c.args.now _ _ _ _ c.loop-job.invariant.taking c.due_count-count.ensures.sorted _ refl)

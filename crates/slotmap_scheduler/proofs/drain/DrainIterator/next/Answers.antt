@@ -1,5 +1,5 @@
 use Rattle.slotmap_scheduler.proofs.Common.{refl}
-use Rattle.slotmap_scheduler.proofs.Fewer.{first_fewer}
+use Rattle.slotmap_scheduler.proofs.TakingOut.{first_fewer}
 use Rattle.slotmap_scheduler.proofs.Draining.{emptied_then}
 use Rattle.slotmap_scheduler.proofs.drain.DrainIterator.next.Goals as goal
 
