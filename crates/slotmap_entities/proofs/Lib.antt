@@ -1,4 +1,5 @@
 pub mod Callers
+mod Common
 mod Fewer
 mod LiveOnly
 mod Spawned

@@ -1,20 +1,9 @@
 -- The nodes of a scene, level by level from the roots down.
-use Rattle.std.proofs.Common.{◌≡◌, ◌≢◌, ℕ, zero, suc, ◌+◌, ◌<◌, ◌≤◌, true, false, cond, Option, Some, None, is_some, List, [], ◌∷◌}
-use Rattle.std.proofs.Common.{◌++◌, length, get_or, take, refl, sym, ap, ◌∙◌, inl, inr, arith, append_assoc}
-use Rattle.std.specs.Prelude.{map as list_map}
+use Rattle.slotmap_scene.proofs.Common.{ClimbsTo, GoesByLevel, IsScene, Key, List, Node, Nodes, None, Option, Some, [], ap, append_assoc, arith, children_of, children_of_each, cond, exact_keys}
+use Rattle.slotmap_scene.proofs.Common.{false, find, get_or, has_node, inl, inr, is_parent, is_some, itself, key_cmp, keys_once, keys_total, length, list_map, no_more_than, one_itself, one_other}
+use Rattle.slotmap_scene.proofs.Common.{parent_in, parent_of, refl, roots_by, roots_in, same, same_or_other, suc, sym, take, take-append-le, take_all, take_more, tied, times, times_first}
+use Rattle.slotmap_scene.proofs.Common.{times_joined, true, zero, ℕ, ◌++◌, ◌+◌, ◌<◌, ◌∙◌, ◌∷◌, ◌≡◌, ◌≢◌, ◌≤◌, common_steps}
 use Rattle.std.specs.FinMap as map
-use Rattle.std.specs.FinMap.Entries.{find}
-use Rattle.std.proofs.lemmas.List.{take_all, take_more, take-append-le}
-use Rattle.slotmap.specs.Words.{Key, key_cmp}
-use Rattle.slotmap.proofs.Callers.{keys_total, exact_keys, tied, itself, same_or_other}
-use Rattle.slotmap_keylist.specs.KeyLists.{same, times}
-use Rattle.slotmap_keylist.proofs.Counts.{no_more_than, one_itself, one_other, times_first, times_joined}
-use Rattle.slotmap_keylist.proofs.MapKeys.{keys_once}
-use Rattle.slotmap_scene.specs.Node.{Node, Nodes}
-use Rattle.slotmap_scene.specs.Above.{roots_by, roots_in}
-use Rattle.slotmap_scene.specs.Climb.{has_node, parent_in, parent_of, ClimbsTo}
-use Rattle.slotmap_scene.specs.Family.{children_of, is_parent, IsScene}
-use Rattle.slotmap_scene.specs.Levels.{children_of_each, GoesByLevel}
 
 not_some : {A : Type 0} (o : Option A) → is_some o ≡ false → o ≡ None
 not_some None is = refl
@@ -34,19 +23,11 @@ module _ {N : Type 0} (parent : N → Option Key) (k : Key) where
   -- by whether the first one is a root
   by_first : (P : List Key → Type 0) (e : Key × N) (es : List (Key × N)) → (is_some (parent e.1) ≡ true → P (roots_by parent es))
       → (is_some (parent e.1) ≡ false → P (e.0 ∷ roots_by parent es)) → P (roots_by parent (e ∷ es))
-  by_first P e es child root =
-      elim (is_some (parent e.1)) as (λ b. is_some (parent e.1) ≡ b → P (cond b (roots_by parent es) (e.0 ∷ roots_by parent es))) [
-        | true ↦ child
-        | false ↦ root
-      ] refl
+  by_first P e es child root = grind arith
 
   roots_few : (es : List (Key × N)) → times k (roots_by parent es) ≤ times k (listed_keys es)
   roots_few [] = omega arith
-  roots_few (e ∷ es) =
-      let rest = roots_few es in
-      let keys = times_first k e.0 (listed_keys es) in
-      let first = times_first k e.0 (roots_by parent es) in
-      by_first (λ ks. times k ks ≤ times k (e.0 ∷ listed_keys es)) e es (λ child. omega arith) (λ root. omega arith)
+  roots_few (e ∷ es) = grind (arith, roots_few es, times_first k e.0 (listed_keys es), listed_keys es, times_first k e.0 (roots_by parent es), by_first)
 
   found_first : (e : Key × N) (es : List (Key × N)) → k ≡ e.0 → find key_cmp k (e ∷ es) ≡ Some e.1
   found_first e es is = let i = itself keys_total exact_keys k in grind (arith, rw is at i)
@@ -148,13 +129,7 @@ module _ {T : Type 0} (nodes : Nodes T) (scene : IsScene nodes) where
     module _ (part : (k : Key) → times k done ≤ times k keys) where
       few_up : (n : ℕ) (k : Key) → ClimbsTo nodes n k → times k keys ≤ 1
       few_up zero k leads = let c = counted k in let none = orphan_times k leads.1 done in let one = roots_once nodes k in omega arith
-      few_up (suc n) k leads =
-          let c = counted k in
-          let none = no_root k leads.0 leads.1.1 in
-          let own = child_times k leads.0 leads.1.1 done in
-          let some = part leads.0 in
-          let up = few_up n leads.0 leads.1.2 in
-          omega arith
+      few_up (suc n) k leads = grind (arith, counted k, no_root k leads.0 leads.1.1, child_times k leads.0 leads.1.1 done, part leads.0, few_up n leads.0 leads.1.2)
 
       node_there : (k : Key) → 0 < times k keys → has_node nodes k
       node_there k more = by (map.get nodes k) refl
@@ -180,11 +155,7 @@ module _ {T : Type 0} (nodes : Nodes T) (scene : IsScene nodes) where
   module _ (keys : List Key) (is : GoesByLevel nodes keys) where
     listed_up : (n : ℕ) (k : Key) → ClimbsTo nodes n k → 0 < times k keys
     listed_up zero k leads = let c = counted keys keys is k in let root = root_listed nodes k leads.0 leads.1 in omega arith
-    listed_up (suc n) k leads =
-        let c = counted keys keys is k in
-        let own = child_times k leads.0 leads.1.1 keys in
-        let up = listed_up n leads.0 leads.1.2 in
-        omega arith
+    listed_up (suc n) k leads = grind (arith, counted keys keys is k, child_times k leads.0 leads.1.1 keys, listed_up n leads.0 leads.1.2)
 
     pub levels_all : (k : Key) → has_node nodes k → 0 < times k keys
     levels_all k live = let up = scene.tree k live in listed_up up.0 k up.1
@@ -197,8 +168,7 @@ each_pushed nodes [] k = append_nil_of (children_of nodes k)
     append_nil_of : (xs : List Key) → xs ++ [] ≡ xs
     append_nil_of [] = refl
     append_nil_of (x ∷ xs) = ap (λ l. x ∷ l) (append_nil_of xs)
-each_pushed nodes (q ∷ ks) k =
-    ap (λ l. children_of nodes q ++ l) (each_pushed nodes ks k) ∙ sym (append_assoc (children_of nodes q) (children_of_each nodes ks) (children_of nodes k))
+each_pushed nodes (q ∷ ks) k = grind (arith, each_pushed nodes ks k, append_assoc (children_of nodes q) (children_of_each nodes ks) (children_of nodes k))
 
 part_of_keys : (k : Key) (i : ℕ) (ks : List Key) → times k (take i ks) ≤ times k ks
 part_of_keys k zero ks = omega arith

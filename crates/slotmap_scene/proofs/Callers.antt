@@ -1,11 +1,6 @@
 -- What callers of a scene cite, where a node was moved.
-use Rattle.std.proofs.Common.{◌≡◌, List, [], ◌∷◌, ◌++◌, Some, ap, sym, ◌∙◌, inl, inr, arith}
-use Rattle.slotmap.specs.Words.{Key}
-use Rattle.slotmap.proofs.Callers.{same_or_other}
-use Rattle.slotmap_keylist.specs.KeyLists.{without}
-use Rattle.slotmap_keylist.proofs.Counts.{is_itself, without_none, without_pushed, times_gone}
-use Rattle.slotmap_scene.specs.Node.{Nodes}
-use Rattle.slotmap_scene.specs.Family.{SiblingSide, placed, beside_first, children_of, IsMoved}
+use Rattle.slotmap_scene.proofs.Common.{IsMoved, Key, List, Nodes, SiblingSide, Some, [], ap, arith, beside_first, children_of, inl, inr, is_itself, placed, same_or_other, sym, times_gone}
+use Rattle.slotmap_scene.proofs.Common.{without, without_none, without_pushed, ◌++◌, ◌∙◌, ◌∷◌, ◌≡◌}
 
 -- for `using`
 pub ruleset families = (without_pushed)

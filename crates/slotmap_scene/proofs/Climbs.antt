@@ -1,14 +1,8 @@
 -- The way up from each node: where it ends, what a change of the nodes does to it, and the keys that an iterator yields on it.
-use Rattle.std.proofs.Common.{◌≡◌, ◌≢◌, ℕ, zero, suc, ◌+◌, ◌≤◌, ◌<◌, ◌↔◌, true, Option, Some, None, is_some, refl, sym, ap, subst, ◌∙◌, inl, inr, arith, [], ◌∷◌}
-use Rattle.std.specs.Option.{option_map}
+use Rattle.slotmap_scene.proofs.Common.{ClimbsTo, GoesUp, HasRoot, IsTree, IsWithin, Key, Node, Nodes, None, Option, Some, StepsTo, [], ap, arith, children_in, children_of, exact_keys, has_node}
+use Rattle.slotmap_scene.proofs.Common.{inl, inr, is_some, keys_total, keys_up, left_in, len_removed, option_map, parent_in, parent_of, refl, same_Some, same_or_other, some_entry, subst, suc, sym}
+use Rattle.slotmap_scene.proofs.Common.{true, value_of, zero, ℕ, ◌+◌, ◌<◌, ◌↔◌, ◌∙◌, ◌∷◌, ◌≡◌, ◌≢◌, ◌≤◌, common_steps}
 use Rattle.std.specs.FinMap as map
-use Rattle.std.proofs.lemmas.Option.{same_Some}
-use Rattle.slotmap.specs.Words.{Key}
-use Rattle.slotmap.proofs.Callers.{same_or_other, keys_total, exact_keys, left_in, len_removed, some_entry}
-use Rattle.slotmap_scene.specs.Node.{Node, Nodes}
-use Rattle.slotmap_scene.specs.Climb.{has_node, parent_in, parent_of, ClimbsTo, IsTree, StepsTo, IsWithin}
-use Rattle.slotmap_scene.specs.Above.{GoesUp, keys_up, HasRoot}
-use Rattle.slotmap_scene.specs.Family.{children_in, children_of, value_of}
 
 module _ {T : Type 0} where
   leads_live : (nodes : Nodes T) (n : ℕ) (k : Key) → ClimbsTo nodes n k → has_node nodes k
@@ -111,10 +105,7 @@ module _ {T : Type 0} where
           record { left = next.0; up = next.1.1; all = subst (λ n. ClimbsTo nodes n from) sum climbing.all; few = omega arith }
 
       pub climbing_end : node.parent ≡ None → ClimbsTo nodes steps from
-      climbing_end is =
-          let none = ends nodes climbing.left at climbing.up (ap parent_in there ∙ is) in
-          let sum : steps + climbing.left ≡ steps = omega arith in
-          subst (λ n. ClimbsTo nodes n from) sum climbing.all
+      climbing_end is = grind (arith, ends nodes climbing.left at climbing.up (ap parent_in there ∙ is))
 
       -- whether it is within another node, which isn't here, is up to the parent
       pub within_step : (p other : Key) → at ≢ other → node.parent ≡ Some p → (IsWithin nodes from other ↔ IsWithin nodes at other)
@@ -134,8 +125,7 @@ module _ {T : Type 0} where
 
   pub tree_same : (old new : Nodes T) → ((q : Key) → map.contains_key new q ≡ map.contains_key old q)
       → ((q : Key) → parent_of new q ≡ parent_of old q) → IsTree old → IsTree new
-  tree_same old new keys parents tree q there =
-      let up = tree q (sym (keys q) ∙ there) in (up.0, leads_kept old new (λ k live. (keys k ∙ live, parents k)) up.0 q up.1)
+  tree_same old new keys parents tree q there = grind (arith, (tree q (sym (keys q) ∙ there)).0, leads_kept)
 
   -- a node was moved, or came: all others are there as before, and have the same parents
   module _ (old new : Nodes T) (k : Key) (keys : (q : Key) → q ≢ k → map.contains_key new q ≡ map.contains_key old q)
@@ -200,9 +190,7 @@ module _ {T : Type 0} where
       omega arith
 
   none_above : (nodes : Nodes T) (k p : Key) → parent_of nodes k ≡ Some p → HasRoot nodes (Some p) → IsWithin nodes p k → ⊥
-  none_above nodes k p is up within =
-      let sum = steps_sum nodes up.0 within.0 (suc up.0) p k up.1 within.1 (p, (has_parent nodes k p is, is, up.1)) in
-      omega arith
+  none_above nodes k p is up within = grind (arith, steps_sum nodes up.0 within.0 (suc up.0) p k up.1 within.1 (p, (has_parent nodes k p is, is, up.1)), has_parent nodes k p is, up.1)
 
   pub no_cycle : (nodes : Nodes T) → IsTree nodes → (k p : Key) → parent_of nodes k ≡ Some p → IsWithin nodes p k → ⊥
   no_cycle nodes tree k p is = none_above nodes k p is (tree p (parent_there nodes tree k p is))
@@ -242,9 +230,7 @@ module _ {T : Type 0} (nodes : Nodes T) where
 
   -- a key with what is above its parent
   pub step_up : (k : Key) → HasRoot nodes (Some k) → keys_up nodes (map.len nodes) (Some k) ≡ k ∷ keys_up nodes (map.len nodes) (parent_of nodes k)
-  step_up k has =
-      let below = short nodes has.0 k has.1 in
-      same_up (map.len nodes) (suc (map.len nodes)) (Some k) (λ q is. (has.0, subst (ClimbsTo nodes has.0) (cc) has.1, below, omega arith))
+  step_up k has = grind (arith, short nodes has.0 k has.1, same_up, (short nodes has.0 k has.1))
 
   goes_up_from : (n : ℕ) (k : Key) → ClimbsTo nodes n k → GoesUp nodes (Some k) (keys_up nodes (suc n) (Some k))
   goes_up_from zero k climbs = (refl, subst (λ o. GoesUp nodes o (keys_up nodes zero o)) (sym climbs.1) tt)

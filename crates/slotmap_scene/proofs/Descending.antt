@@ -1,20 +1,10 @@
 -- A walk down from a node: the keys that were listed, and those that are ahead.
-use Rattle.std.proofs.Common.{◌≡◌, ◌≢◌, ◌⊎◌, ℕ, zero, suc, ◌+◌, ◌<◌, ◌≤◌, Some, List, [], ◌∷◌, ◌++◌, length}
-use Rattle.std.proofs.Common.{length-append, refl, sym, ap, subst, ◌∙◌, inl, inr, arith, append_assoc}
-use Rattle.std.specs.Prelude.{map as list_map}
-use Rattle.std.specs.List.{All}
-use Rattle.std.proofs.lemmas.List.Elements.{All-nil, All-cons}
-use Rattle.std.specs.FinMap as map
-use Rattle.slotmap.specs.Words.{Key}
-use Rattle.slotmap.proofs.Callers.{same_or_other}
-use Rattle.slotmap_keylist.specs.KeyLists.{same, times}
-use Rattle.slotmap_keylist.proofs.Counts.{no_more_than, one_itself, one_other, times_first, times_pushed, times_joined}
-use Rattle.slotmap_scene.specs.Node.{Nodes}
-use Rattle.slotmap_scene.specs.Below.{GoesDown}
-use Rattle.slotmap_scene.specs.Climb.{has_node, parent_of, StepsTo, IsWithin}
-use Rattle.slotmap_scene.specs.Family.{children_of, IsScene}
+use Rattle.slotmap_scene.proofs.Common.{All, All-cons, All-nil, GoesDown, IsScene, IsWithin, Key, List, Nodes, Some, StepsTo, [], ap, append_assoc, arith, children_of, has_node, inl, inr, length}
+use Rattle.slotmap_scene.proofs.Common.{length-append, list_map, no_more_than, one_itself, one_other, parent_of, refl, same, same_or_other, subst, suc, sym, times, times_first, times_joined}
+use Rattle.slotmap_scene.proofs.Common.{times_pushed, zero, ℕ, ◌++◌, ◌+◌, ◌<◌, ◌∙◌, ◌∷◌, ◌≡◌, ◌≢◌, ◌≤◌, ◌⊎◌, common_steps}
 use Rattle.slotmap_scene.proofs.Climbs.{has_parent, no_cycle}
-use Rattle.slotmap_scene.proofs.Moved.{listed_once, listed_few, listed_parent}
+use Rattle.slotmap_scene.proofs.Moved.{listed_few, listed_once, listed_parent}
+use Rattle.std.specs.FinMap as map
 
 -- what holds of each key that is listed
 pub each_listed : {K : Type 0} (data_of : K → Key) (P : Key → Type 0) (xs : List K) → ((k : Key) → 0 < times k (list_map data_of xs) → P k)

@@ -1,36 +1,16 @@
 -- What is seen of the values, the parents and the children of a scene together, and what a change of one of them shows.
-use Rattle.std.proofs.Common.{◌≡◌, ◌≢◌, ◌&&◌, ◌⊎◌, ◌<◌, ◌≤◌, T, ℕ, Bool, true, false, cond, is_lt, nat_eq, Option, Some}
-use Rattle.std.proofs.Common.{None, IfSome, is_some, List, [], ◌∷◌, length, get_or, set, map as list_map, refl, sym, ap, subst, ◌∙◌, inl, inr}
-use Rattle.std.proofs.Common.{arith, eqb-true, IfNone, not}
-use Rattle.std.specs.Option.{option_map}
-use Rattle.std.specs.Ordering.{eq_by_cmp}
-use Rattle.std.specs.FinMap as map
-use Rattle.std.specs.FinMap.Entries.{find, below_all, is_sorted}
-use Rattle.std.proofs.Math.Nat.{eq-zero-or-pos}
-use Rattle.std.proofs.lemmas.List.{get_or_default, length-map, length-set, get_or-set_same, get_or-set_other}
-use Rattle.std.proofs.lemmas.Option.{same_Some}
-use Rattle.slotmap.specs.Words.{Key, key_cmp, Content, IsLive}
-use Rattle.slotmap.proofs.Callers.{keys_total, exact_keys, tied, same_or_other}
-use Rattle.slotmap_keylist.specs.KeyLists.{last_or, times}
-use Rattle.slotmap_keylist.proofs.Counts.{one_itself, times_first}
-use Rattle.slotmap_keylist.proofs.MapKeys.{key_live}
-use Rattle.slotmap_keylist.proofs.Changed.{changed_gives, changed_keeps, changed_other}
-use Rattle.slotmap_keylist.proofs.Mapped.{some-mapped}
-use Rattle.slotmap_links.specs.Lists.{Lists, list_of, times as often, first_or, last_or as last_number, number_after, number_before}
-use Rattle.slotmap_links.specs.Lists.{with_list, IsIn, IsFree, AreDisjoint}
-use Rattle.slotmap_links.proofs.Callers.{list_now, list_other, owners_stay}
-use Rattle.slotmap_links.proofs.Counts.{times_first as often_first, one_itself as number_itself, same_or_other as same_or_other_number}
-use Rattle.slotmap_scene.specs.Node.{Node, Nodes, key_and_value}
-use Rattle.slotmap_scene.specs.Above.{roots_in}
-use Rattle.slotmap_scene.specs.Climb.{parent_in, parent_of, with_parent}
-use Rattle.slotmap_scene.specs.Family.{behind, children_in, in_front, children_of, value_of, with_children_in}
-use Rattle.slotmap_scene.specs.Kept.{AreCovered, HoldsNodes, parent_at, parent_index, node_at}
-use Rattle.slotmap_bounded.specs.Indices.{AreIndices, HasKey, HaveIndices, found_at, key_at, keys_at}
 use Rattle.slotmap_scene.specs.Kept.{nodes_by}
-use Rattle.slotmap_scene.specs.Kept.{owner_of, roots_of}
+use Rattle.slotmap_scene.proofs.Common.{AreCovered, AreDisjoint, AreIndices, Bool, Content, HasKey, HaveIndices, HoldsNodes, IfNone, IfSome, IsFree, IsIn, IsLive, Key, List, Lists, Node, Nodes}
+use Rattle.slotmap_scene.proofs.Common.{None, Option, Some, T, [], ap, arith, behind, below_all, by_live, changed_gives, changed_keeps, changed_other, children_in, children_of, cond, common_steps}
+use Rattle.slotmap_scene.proofs.Common.{eq-zero-or-pos, eq_by_cmp, eqb-true, exact_keys, false, find, first_key, first_or, found_at, found_has, found_is, found_key, found_live, found_same}
+use Rattle.slotmap_scene.proofs.Common.{found_zero, get_or, get_or-set_other, get_or-set_same, get_or_default, in_front, inl, inr, is_lt, is_some, is_sorted, key_and_value, key_at, key_cmp}
+use Rattle.slotmap_scene.proofs.Common.{key_live, keys_at, keys_same, keys_total, last_key, last_number, last_or, length, length-map, length-set, list_map, list_now, list_of, list_other, nat_eq}
+use Rattle.slotmap_scene.proofs.Common.{no_key, node_at, not, number_after, number_before, number_itself, often, often_first, one_itself, option_map, owner_of, owners_stay, parent_at, parent_in}
+use Rattle.slotmap_scene.proofs.Common.{parent_index, parent_of, refl, roots_in, roots_of, same_Some, same_or_other, same_or_other_number, set, some-mapped, subst, sym, tied, times, times_first}
+use Rattle.slotmap_scene.proofs.Common.{times_key, true, value_of, with_children_in, with_list, with_parent, ℕ, ◌&&◌, ◌<◌, ◌∙◌, ◌∷◌, ◌≡◌, ◌≢◌, ◌≤◌}
+use Rattle.slotmap_scene.proofs.Common.{◌⊎◌}
 use Rattle.slotmap_scene.proofs.Indices.{key_after, key_ahead}
-use Rattle.slotmap_bounded.proofs.Indices.{by_live, first_key, found_has, found_is, found_key, last_key, found_live, found_same, found_zero}
-use Rattle.slotmap_bounded.proofs.Indices.{keys_same, no_key, times_key}
+use Rattle.std.specs.FinMap as map
 
 -- nodes with the same values, parents and children are the same
 pub same_nodes : {V : Type 0} (a b : Nodes V) → ((q : Key) → value_of a q ≡ value_of b q) → ((q : Key) → parent_of a q ≡ parent_of b q)
@@ -56,8 +36,7 @@ module _ {V W : Type 0} (f : Key → V → W) where
 
   sorted-made : (es : List (Key × V)) → is_sorted key_cmp (list_map made es) ≡ is_sorted key_cmp es
   sorted-made [] = refl
-  sorted-made (e ∷ es) = ap (λ b. b && is_sorted key_cmp (list_map made es)) (below-made e.0 es)
-      ∙ ap (λ b. below_all key_cmp e.0 es && b) (sorted-made es)
+  sorted-made (e ∷ es) = grind (arith, is_sorted key_cmp (list_map made es), list_map made es, below-made e.0 es, below_all key_cmp e.0 es, sorted-made es)
 
   find-made : (k : Key) (es : List (Key × V)) → find key_cmp k (list_map made es) ≡ option_map (f k) (find key_cmp k es)
   find-made k [] = refl
@@ -178,17 +157,10 @@ module _ {V : Type 0} {c : Content V} {parents : List ℕ} {children : Lists} (k
 
   -- the list at the index of a node, or at 0
   pub owner_below : (k : Key) → owner_of nodes k < length children.lists
-  owner_below k = by_live c.live k _
-      (λ live. (let at = ap (λ b. cond b k.index 0) (seen_has c.live parents children k ∙ live) in let place = (has_place k live).owners in omega arith))
-      (λ gone. (let at = ap (λ b. cond b k.index 0) (seen_has c.live parents children k ∙ gone) in let place = kept.covered.owners in omega arith))
+  owner_below k = grind (arith, by_live, seen_has c.live parents children k, has_place)
 
   pub children_owned : (k : Key) → children_of nodes k ≡ keys_at c.live (list_of children (owner_of nodes k))
-  children_owned k = by_live c.live k _
-      (λ live. children_live c.live parents children k live
-      ∙ sym (ap (λ b. keys_at c.live (list_of children (cond b k.index 0))) (seen_has c.live parents children k ∙ live)))
-      (λ gone. children_gone c.live parents children k gone
-      ∙ sym (ap (λ b. keys_at c.live (list_of children (cond b k.index 0))) (seen_has c.live parents children k ∙ gone)
-      ∙ ap (keys_at c.live) list_zero))
+  children_owned k = grind (arith, common_steps, by_live, children_live, seen_has, children_gone, list_zero, seen_has c.live parents children k)
 
   -- a child is a node, and is in the list of its parent
   pub child_in : (p k : Key) → 0 < times k (children_of nodes p) → IsLive c p × IsLive c k × IsIn children p.index k.index
@@ -205,8 +177,7 @@ module _ {V : Type 0} {c : Content V} {parents : List ℕ} {children : Lists} (k
       (λ gone. absurd (let none = ap (times k) (children_gone c.live parents children p gone) in omega arith))
 
   in_child : (p k : Key) → IsLive c p → IsLive c k → IsIn children p.index k.index → 0 < times k (children_of nodes p)
-  in_child p k there live inside = let count = ap (times k) (children_live c.live parents children p there)
-      ∙ times_key kept.indices (list_of children p.index) (indices_at p.index) k live in omega arith
+  in_child p k there live inside = grind (arith, children_live c.live parents children p there, times_key kept.indices (list_of children p.index) (indices_at p.index) k live, indices_at p.index)
 
   -- a node that is no child is free
   pub nowhere : (k : Key) → IsLive c k → ((p : Key) → times k (children_of nodes p) ≡ 0) → (p : ℕ) → often k.index (list_of children p) ≡ 0
@@ -263,8 +234,7 @@ module _ {V : Type 0} {c : Content V} {parents : List ℕ} {children : Lists} (k
   pub key_found : (number : Option ℕ) (i : ℕ) → number ≡ Some i → HasKey c i → (o : Option Key) → IfSome o (IsLive c)
       → IfSome o (λ k. k.index ≡ i) → IfNone o ((k : Key) → IsLive c k → k.index ≢ i)
       → o ≡ option_map (key_at c.live) number
-  key_found number i was has o live at none = found_is kept.indices i o live at none ∙ found_key kept.indices i has
-      ∙ sym (ap (option_map (key_at c.live)) was)
+  key_found number i was has o live at none = grind (arith, found_is kept.indices i o live at none, found_key kept.indices i has, option_map (key_at c.live))
 
   -- the two ends of the children of a node
   pub first_seen : (k : Key) → option_map (key_at c.live) (first_or (list_of children (owner_of nodes k)) None) ≡ first_or (children_of nodes k) None
@@ -283,8 +253,7 @@ module _ {V : Type 0} {c : Content V} {parents : List ℕ} {children : Lists} (k
         ∙ key_after kept.indices k inside.1 (list_of children p.index) (indices_at p.index))
 
     pub prev_seen : option_map (key_at c.live) (number_before None k.index (list_of children p.index)) ≡ in_front None k (children_of nodes p)
-    prev_seen = sym (ap (in_front None k) (children_live c.live parents children p inside.0)
-        ∙ key_ahead kept.indices k inside.1 (list_of children p.index) (indices_at p.index) None)
+    prev_seen = grind (arith, children_live c.live parents children p inside.0, key_ahead kept.indices k inside.1 (list_of children p.index) (indices_at p.index) None, indices_at p.index)
 
   -- the list of p is another one
   module _ (p : Key) (there : IsLive c p) (is : List ℕ) (all : AreIndices c is) (f : List Key → List Key)
@@ -339,8 +308,7 @@ module _ {V : Type 0} {c : Content V} {parents : List ℕ} {children : Lists} (k
       above_here = ap (λ l. parent_at l k.index) new_is ∙ get_or-set_same parents k.index (parent_index o) 0 (has_place k live).parents
 
       above_there : (q : Key) → IsLive c q → q ≢ k → parent_at new q.index ≡ parent_at parents q.index
-      above_there q of_c other = ap (λ l. parent_at l q.index) new_is
-          ∙ get_or-set_other parents k.index q.index (parent_index o) 0 (λ at. other (kept.indices.apart q k of_c live at))
+      above_there q of_c other = grind (arith, get_or-set_other)
 
       pub hung : HoldsNodes c new children
       hung = record {
@@ -428,8 +396,7 @@ module _ {V : Type 0} {c : Content V} {parents : List ℕ} {children : Lists} (k
       -- the same nodes but for their values
       module _ (same_keys : (q : Key) → IsLive d q → IsLive c q) (same_parents : (i : ℕ) → parent_at parents' i ≡ parent_at parents i) where
         pub kept_along : AreCovered d.capacity parents' children' → AreDisjoint children' → HoldsNodes d parents' children'
-        kept_along covered disjoint = kept_still covered disjoint
-            (λ q live. above_still (parent_at parents q.index) (parent_at parents' q.index) (same_parents q.index) (kept.has_parent q (same_keys q live)))
+        kept_along covered disjoint = grind (arith, kept_still, above_still)
 
         pub node_along : (q : Key) → IsLive c q → (v : V) → node_at d.live parents' children' q v ≡ node_at c.live parents children q v
         node_along q live = node_still q live (same_parents q.index) (same_lists q.index) (λ p of_c _. still p of_c) (λ x of_c _. still x of_c)

@@ -1,22 +1,13 @@
 -- Lists of children by lists of their indices: a key on one side of another one, and the key beside one.
-use Rattle.std.proofs.Common.{◌≡◌, ℕ, ◌<◌, Bool, true, false, cond, if◌then◌else◌, nat_eq, Option, Some, None, List, [], ◌∷◌, refl, sym, ap, ◌∙◌, arith}
-use Rattle.std.specs.Option.{option_map}
-use Rattle.slotmap.specs.Words.{Key, Content, IsLive}
-use Rattle.slotmap_keylist.specs.KeyLists.{is_key}
-use Rattle.slotmap_links.specs.Lists.{times as often, first_or, number_after, number_before, put_before, put_behind}
-use Rattle.slotmap_links.proofs.Counts.{times_first as often_first, same as same_number}
-use Rattle.slotmap_bounded.specs.Indices.{AreIndices, HaveIndices, key_at, keys_at}
-use Rattle.slotmap_bounded.proofs.Indices.{first_index, first_key, key_at_live, later_indices, same_at}
-use Rattle.slotmap_scene.specs.declared.tree.Side.{Side}
-use Rattle.slotmap_scene.specs.declared.tree.Side.TheVariants.{Before, After}
-use Rattle.slotmap_scene.specs.Family.{behind, in_front, placed}
-use Rattle.slotmap_scene.specs.Kept.{put_on}
+use Rattle.slotmap_scene.proofs.Common.{common_steps}
+use Rattle.slotmap_scene.proofs.Common.{After, AreIndices, Before, Bool, Content, HaveIndices, IsLive, Key, List, None, Option, Side, Some, [], ap, arith, behind, cond, false, first_index}
+use Rattle.slotmap_scene.proofs.Common.{first_key, first_or, if◌then◌else◌, in_front, is_key, key_at, key_at_live, keys_at, later_indices, nat_eq, number_after, number_before, often}
+use Rattle.slotmap_scene.proofs.Common.{often_first, option_map, placed, put_before, put_behind, put_on, refl, same_at, same_number, sym, true, ℕ, ◌<◌, ◌∙◌, ◌∷◌, ◌≡◌}
 
 module _ {T : Type 0} {c : Content T} (indices : HaveIndices c) where
   module _ (s k : Key) (sibling : IsLive c s) (live : IsLive c k) where
     later_there : (i : ℕ) (is : List ℕ) → nat_eq i s.index ≡ false → 0 < often s.index (i ∷ is) → 0 < often s.index is
-    later_there i is apart there = let first = often_first s.index i is in let none : same_number i s.index ≡ 0 = ap (λ b. if b then 1 else 0) apart in
-        omega arith
+    later_there i is apart there = grind (arith, often_first s.index i is)
 
     key_before : (is : List ℕ) → AreIndices c is → 0 < often s.index is
         → keys_at c.live (put_before s.index k.index is) ≡ placed Before s k (keys_at c.live is)

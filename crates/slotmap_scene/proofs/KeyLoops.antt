@@ -1,10 +1,6 @@
 -- Loops along keys: what holds of the keys that are ahead, and of those that were passed.
-use Rattle.std.proofs.Common.{◌≡◌, ◌≢◌, false, ◌<◌, List, [], ◌∷◌, ◌++◌, sym, ap, ◌∙◌, arith, append_assoc}
-use Rattle.std.specs.Prelude.{map as list_map}
-use Rattle.std.proofs.lemmas.List.{map_push}
-use Rattle.slotmap.specs.Words.{Key, same_keys}
-use Rattle.slotmap_keylist.specs.KeyLists.{is_key, times}
-use Rattle.slotmap_keylist.proofs.Counts.{one_itself, one_other, times_first}
+use Rattle.slotmap_scene.proofs.Common.{Key, List, [], ap, append_assoc, arith, false, is_key, list_map, map_push, one_itself, one_other, same_keys, sym, times, times_first, ◌++◌, ◌<◌}
+use Rattle.slotmap_scene.proofs.Common.{◌∙◌, ◌∷◌, ◌≡◌, ◌≢◌}
 
 -- keys that a test tells apart
 pub unlike : (a b : Key) {x y : Key} → a ≡ x → b ≡ y → false ≡ is_key a b → x ≢ y
@@ -25,6 +21,4 @@ module _ (it rest : List Key) (k : Key) (is : it ≡ k ∷ rest) where
   -- a value is pushed for the first key
   pub passed : {X : Type 0} (f : X → Key) (xs : List X) (x : X) (new : List X) → f x ≡ k → new ≡ xs ++ x ∷ []
       → list_map f new ++ rest ≡ list_map f xs ++ it
-  passed f xs x new here new_is =
-      ap (λ l. list_map f l ++ rest) new_is ∙ ap (λ l. l ++ rest) (map_push f xs x)
-      ∙ append_assoc (list_map f xs) (f x ∷ []) rest ∙ ap (λ q. list_map f xs ++ q ∷ rest) here ∙ sym (ap (λ l. list_map f xs ++ l) is)
+  passed f xs x new here new_is = grind (arith, list_map, map_push f xs x, append_assoc (list_map f xs) (f x ∷ []) rest, list_map f xs)

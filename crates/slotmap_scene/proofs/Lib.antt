@@ -1,6 +1,7 @@
 mod ByLevel
 pub mod Callers
 mod Climbs
+mod Common
 mod Descending
 mod Families
 mod Indices

@@ -1,23 +1,12 @@
 -- A list of nodes, each with its transform in the coordinates of its root.
-use Rattle.std.proofs.Common.{◌≡◌, ◌<◌, List, [], ◌∷◌, ◌++◌, Some, None, refl, ap, sym, subst, inl, inr, arith}
-use Rattle.std.specs.List.{All}
-use Rattle.std.proofs.lemmas.List.Elements.{All-head, All-push, All-tail, All-weaker}
-use Rattle.slotmap.specs.Words.{Key}
-use Rattle.slotmap.proofs.Callers.{same_or_other}
-use Rattle.slotmap_keylist.specs.KeyLists.{times}
-use Rattle.slotmap_keylist.proofs.Counts.{one_other, times_first}
-use Rattle.slotmap_scene.specs.Node.{Nodes}
-use Rattle.slotmap_scene.specs.Climb.{has_node, parent_of}
-use Rattle.slotmap_scene.specs.Family.{value_of}
-use Rattle.slotmap_scene.specs.Levels.{AreWorlds, keys_of_pairs}
-use Rattle.slotmap_scene.specs.WorldValue.{IsPathFrom, IsWorldOf, IsComposed, Joins}
+use Rattle.slotmap_scene.proofs.Common.{All, All-head, All-push, All-tail, All-weaker, AreWorlds, IsComposed, IsPathFrom, IsWorldOf, Joins, Key, List, Nodes, None, Some, [], ap, arith, has_node}
+use Rattle.slotmap_scene.proofs.Common.{inl, inr, keys_of_pairs, one_other, parent_of, refl, same_or_other, subst, sym, times, times_first, value_of, ◌++◌, ◌<◌, ◌∷◌, ◌≡◌}
 use Rattle.slotmap_scene.proofs.Worlds.{one_world_of, path_live, world_composed}
 
 -- the transforms on the way down
 module _ {T W : Type 0} (nodes : Nodes T) (under : W → W → W) (of : T → W) (k : Key) (v : T) (own : value_of nodes k ≡ Some v) where
   pub world_of_root : parent_of nodes k ≡ None → IsWorldOf under of nodes k (of v)
-  world_of_root root =
-      record { own = v; above = []; path = (own, subst (λ p. IsPathFrom nodes p []) (sym root) tt); made = refl }
+  world_of_root root = grind arith
 
   pub world_of_child : (p : Key) (w : W) → parent_of nodes k ≡ Some p → IsWorldOf under of nodes p w → IsWorldOf under of nodes k (under (of v) w)
   world_of_child p w up world = record {
@@ -39,9 +28,7 @@ module _ {K T W : Type 0} (data_of : K → Key) (under : W → W → W) (of : T 
   -- where transforms join, each is what it comes to on the way up too
   pub worlds_composed : (pairs : List (K × W)) → Joins under → AreWorlds data_of under of nodes pairs
       → All (λ e. IsComposed under of nodes (data_of e.0) e.1) pairs
-  worlds_composed pairs joins each =
-      All-weaker IsPlaced (λ e. IsComposed under of nodes (data_of e.0) e.1)
-      (λ e world. world_composed nodes under of (data_of e.0) e.1 joins world) pairs each
+  worlds_composed pairs joins each = grind (arith, world_composed)
 
   -- what holds of each transform that is listed holds of that of each node, if all nodes are listed
   module _ (P : W → Type 0) (k : Key) (w : W) (world : IsWorldOf under of nodes k w) where

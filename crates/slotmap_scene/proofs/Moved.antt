@@ -1,21 +1,13 @@
 -- The parent and the children of each node, and what a scene is once a node became a root, was moved below another one, or came.
-use Rattle.std.proofs.Common.{◌≡◌, ◌≢◌, ℕ, zero, suc, ◌+◌, ◌≤◌, ◌<◌, Option, Some, None, List, is_some, refl, sym, ap, subst, ◌∙◌, inl, inr, arith, Result, Ok, Err, IfOk, OnErr, [], ◌∷◌, ◌++◌, true, false, cond}
-use Rattle.std.specs.Prelude.{option_map}
+use Rattle.slotmap_scene.proofs.Common.{After, AreListed, Before, ClonesEqual, Content, Err, IfOk, Inserts, IsCloneBy, IsCloneOf, IsMoved, IsNewChild, IsNodeClone, IsScene, IsWithin, Keeps}
+use Rattle.slotmap_scene.proofs.Common.{KeepsSpent, Key, Leaves, List, Node, Nodes, None, Ok, OnErr, Option, Result, Side, Some, StepsTo, [], ap, arith, as_child, as_root, beside_first, changed}
+use Rattle.slotmap_scene.proofs.Common.{changed_gives, changed_here, changed_keeps, changed_other, child, children_in, children_of, clone_live, cond, exact_keys, false, forgets, get-insert_here}
+use Rattle.slotmap_scene.proofs.Common.{get-insert_other, has_node, inl, inr, is_key, is_parent, is_some, key_cmp, keys_total, lacks_node, leaves_by_write, leaves_none, len_alike, none_of}
+use Rattle.slotmap_scene.proofs.Common.{one_itself, one_other, option_map, parent_in, parent_of, placed, refl, same, same_or_other, shown_spent, subst, suc, sym, times, times_first, times_gone}
+use Rattle.slotmap_scene.proofs.Common.{times_pushed, times_without, true, value_of, with_children_in, with_children_of, with_parent, with_value, without, without_child, without_none, zero, ℕ}
+use Rattle.slotmap_scene.proofs.Common.{◌++◌, ◌+◌, ◌<◌, ◌∙◌, ◌∷◌, ◌≡◌, ◌≢◌, ◌≤◌, common_steps}
+use Rattle.slotmap_scene.proofs.Climbs.{parent_there, tree_moved, tree_same}
 use Rattle.std.specs.FinMap as map
-use Rattle.slotmap.specs.Words.{Key, Content, ClonesEqual, IsCloneOf, IsCloneBy, key_cmp, KeepsSpent, Leaves, Inserts, Keeps}
-use Rattle.slotmap.proofs.Callers.{same_or_other, clone_live, leaves_none, leaves_by_write, get-insert_here, get-insert_other, keys_total, exact_keys, none_of}
-use Rattle.slotmap_keylist.specs.KeyLists.{same, times, without, is_key}
-use Rattle.slotmap_keylist.proofs.Changed.{changed_keeps, changed_gives, changed_here, changed_other}
-use Rattle.slotmap_keylist.proofs.Counts.{one_itself, one_other, times_gone, times_without, times_pushed, without_none, times_first}
-use Rattle.slotmap_keylist.proofs.Alone.{len_alike}
-use Rattle.slotmap_keylist.proofs.Shown.{shown_spent}
-use Rattle.slotmap_keylist.specs.Changed.{changed}
-use Rattle.slotmap_scene.specs.Node.{Node, Nodes}
-use Rattle.slotmap_scene.specs.Climb.{has_node, parent_in, parent_of, IsWithin, lacks_node, StepsTo, with_parent}
-use Rattle.slotmap_scene.specs.Family.{is_parent, children_in, children_of, AreListed, IsMoved, IsScene, IsNodeClone, with_value, with_children_in, with_children_of, IsNewChild, as_child, as_root, child, forgets, value_of, without_child, beside_first, placed}
-use Rattle.slotmap_scene.proofs.Climbs.{tree_moved, tree_same, parent_there}
-use Rattle.slotmap_scene.specs.declared.tree.Side.{Side}
-use Rattle.slotmap_scene.specs.declared.tree.Side.TheVariants.{Before, After}
 
 -- who is a parent of whom
 is_its_parent : (o : Option Key) (p : Key) → o ≡ Some p → is_parent o p ≡ 1
@@ -62,10 +54,7 @@ module _ {T : Type 0} where
   module _ (old new : Nodes T) (scene : IsScene old) (k : Key) (parent : Option Key) (put : List Key → List Key) (moved : IsMoved old new k parent put)
       (more : (x : Key) (ks : List Key) → times x (put ks) ≡ times x ks + same k x) where
     listed_itself : (p : Key) → times k (children_of new p) ≡ is_parent parent p
-    listed_itself p = by_parent parent p (times k (children_of new p) ≡ is_parent parent p)
-        (λ is. (let sum = ap (times k) (moved.children_are p is) ∙ more k (without k (children_of old p)) in
-        let gone = times_gone k (children_of old p) in let one = one_itself k in let its = is_its_parent parent p is in omega arith))
-        (λ other. ap (times k) (moved.other_children p other) ∙ times_gone k (children_of old p) ∙ sym (is_no_parent parent p other))
+    listed_itself p = grind (arith, by_parent, times_gone k (children_of old p), one_itself k, is_its_parent, is_no_parent)
 
     listed_still : (p x : Key) → x ≢ k → times x (children_of new p) ≡ times x (children_of old p)
     listed_still p x apart = by_parent parent p (times x (children_of new p) ≡ times x (children_of old p))
@@ -137,9 +126,7 @@ module _ {T : Type 0} where
     left = without_child nodes (parent_of nodes k) k
 
     pub left_get : (q : Key) → map.get left q ≡ option_map (forgets k) (map.get nodes q)
-    left_get q = by_parent (parent_of nodes k) q (map.get left q ≡ option_map (forgets k) (map.get nodes q))
-        (λ is. ap (λ o. map.get (without_child nodes o k) q) is ∙ changed_here nodes q (forgets k))
-        (λ other. filled_other nodes (without k) (parent_of nodes k) q other ∙ sym (forgotten k (map.get nodes q) (listed_never nodes scene.listed q k other)))
+    left_get q = grind (arith, by_parent, option_map (forgets k) (map.get nodes q), changed_here nodes q (forgets k), filled_other, forgotten, listed_never)
 
     pub left_of : {X : Type 0} (P : Option (Node T) → X) (f : X → X) → P None ≡ f (P None) → ((n : Node T) → P (Some (forgets k n)) ≡ f (P (Some n))) → (q : Key) → P (map.get left q) ≡ f (P (map.get nodes q))
     left_of P f none some q = ap P (left_get q) ∙ forgot k P f none some (map.get nodes q)

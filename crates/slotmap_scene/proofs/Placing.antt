@@ -1,23 +1,12 @@
 -- A node is put among the children of another one or taken out of them, or gets another parent: what is kept then, and what it shows.
-use Rattle.std.proofs.Common.{◌≡◌, ◌≢◌, ◌+◌, ◌<◌, ◌≤◌, ℕ, cond, nat_eq, Option, Some, None, IfSome, List, [], ◌∷◌, ◌++◌}
-use Rattle.std.proofs.Common.{length, set, true, false, sym, ap, subst, ◌∙◌, inl, inr, arith}
-use Rattle.std.specs.FinMap as map
-use Rattle.std.proofs.lemmas.List.{map-append}
-use Rattle.slotmap.specs.Words.{Key, Content, IsLive}
-use Rattle.slotmap_keylist.specs.KeyLists.{times, without}
-use Rattle.slotmap_links.specs.Lists.{Lists, list_of, times as often, with_list, IsIn, IsFree, AreDisjoint, put_before, put_behind, without as without_number}
-use Rattle.slotmap_links.proofs.Counts.{times_first as often_first, times_joined as often_joined, times_gone as often_gone, times_without as often_without}
-use Rattle.slotmap_links.proofs.Counts.{one_other as number_other, same as same_number, same_or_other as same_or_other_number}
-use Rattle.slotmap_scene.specs.declared.tree.Side.{Side}
-use Rattle.slotmap_scene.specs.declared.tree.Side.TheVariants.{Before, After}
-use Rattle.slotmap_scene.specs.Node.{Node}
-use Rattle.slotmap_scene.specs.Climb.{has_node, parent_of, with_parent}
-use Rattle.slotmap_scene.specs.Family.{children_of, placed, with_children_in, without_child}
-use Rattle.slotmap_scene.specs.Kept.{HoldsNodes, IsParent, parent_at, put_on, family, parent_index}
-use Rattle.slotmap_bounded.specs.Indices.{AreIndices, HasKey, key_at, keys_at}
+use Rattle.slotmap_scene.proofs.Common.{After, AreDisjoint, AreIndices, Before, Content, HasKey, HoldsNodes, IfSome, IsFree, IsIn, IsLive, IsParent, Key, List, Lists, Node, None, Option, Side}
+use Rattle.slotmap_scene.proofs.Common.{Some, [], ap, arith, children_of, cond, false, family, has_node, inl, inr, key_at, key_at_live, keys_at, keys_without, length, list_of, map-append, nat_eq}
+use Rattle.slotmap_scene.proofs.Common.{number_other, often, often_first, often_gone, often_joined, often_without, parent_at, parent_index, parent_of, placed, put_before, put_behind, put_on}
+use Rattle.slotmap_scene.proofs.Common.{same_number, same_or_other_number, set, subst, sym, times, true, with_children_in, with_list, with_parent, without, without_child, without_number, ℕ}
+use Rattle.slotmap_scene.proofs.Common.{◌++◌, ◌+◌, ◌<◌, ◌∙◌, ◌∷◌, ◌≡◌, ◌≢◌, ◌≤◌, common_steps}
 use Rattle.slotmap_scene.proofs.Indices.{key_beside}
-use Rattle.slotmap_bounded.proofs.Indices.{key_at_live, keys_without}
 use Rattle.slotmap_scene.proofs.Families.{above_has, above_none, child_in, has_place, hung, hung_seen, indices_at, is_free, relisted, relisted_seen, seen_has}
+use Rattle.std.specs.FinMap as map
 
 -- a list to which k comes has no other number
 module _ (s k i : ℕ) where

@@ -1,19 +1,12 @@
 -- How a node is removed with all that is below it: down by the last child as far as a leaf, which goes, and on from its parent.
-use Rattle.std.proofs.Common.{◌≡◌, ◌≢◌, ℕ, zero, suc, ◌+◌, ◌-◌, ◌*◌, ◌≤◌, ◌<◌, false, Option, Some, None, [], ◌∷◌, ◌++◌, length, is_some, refl, sym, ap, subst, ◌∙◌, inl, inr, arith}
-use Rattle.std.specs.Prelude.{option_map}
-use Rattle.std.specs.FinMap as map
-use Rattle.slotmap.specs.Words.{Key}
-use Rattle.slotmap.proofs.Callers.{keys, same_or_other, keys_total, exact_keys, len_removed}
-use Rattle.slotmap_keylist.specs.KeyLists.{last_or, times, without}
-use Rattle.slotmap_keylist.proofs.Alone.{len_alike}
-use Rattle.slotmap_keylist.proofs.Counts.{times_pushed}
 use Rattle.slotmap_keylist.proofs.Linking.{last_in}
-use Rattle.slotmap_scene.specs.Node.{Node, Nodes}
-use Rattle.slotmap_scene.specs.Above.{keys_up}
-use Rattle.slotmap_scene.specs.Climb.{has_node, lacks_node, parent_in, parent_of, ClimbsTo, IsTree, StepsTo, IsWithin}
-use Rattle.slotmap_scene.specs.Family.{IsMoved, IsScene, children_in, children_of, forgets, value_of, without_child}
-use Rattle.slotmap_scene.proofs.Climbs.{step_up, has_parent, within_up, parent_there}
-use Rattle.slotmap_scene.proofs.Moved.{listed_never, listed_once, listed_parent, moved_listed, forgotten, left_get, left_of}
+use Rattle.slotmap_scene.proofs.Common.{ClimbsTo, IsMoved, IsScene, IsTree, IsWithin, Key, Node, Nodes, None, Option, Some, StepsTo, [], ap, arith, children_in, children_of, exact_keys, false}
+use Rattle.slotmap_scene.proofs.Common.{forgets, has_node, inl, inr, is_some, keys, keys_total, keys_up, lacks_node, last_or, len_alike, len_removed, length, option_map, parent_in, parent_of}
+use Rattle.slotmap_scene.proofs.Common.{refl, same_or_other, subst, suc, sym, times, times_pushed, value_of, without, without_child, zero, ℕ, ◌*◌, ◌++◌, ◌+◌, ◌-◌, ◌<◌}
+use Rattle.slotmap_scene.proofs.Common.{◌∙◌, ◌∷◌, ◌≡◌, ◌≢◌, ◌≤◌}
+use Rattle.slotmap_scene.proofs.Climbs.{has_parent, parent_there, step_up, within_up}
+use Rattle.slotmap_scene.proofs.Moved.{forgotten, left_get, left_of, listed_never, listed_once, listed_parent, moved_listed}
+use Rattle.std.specs.FinMap as map
 
 -- the walk ends: each step down goes deeper, and each step up removes a node
 module _ {T : Type 0} (old : Nodes T) where

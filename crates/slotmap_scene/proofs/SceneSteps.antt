@@ -1,32 +1,15 @@
 -- What a call makes of the nodes of a scene, as a whole: nodes come or go, more places are made, a value is written, or all is copied.
-use Rattle.std.proofs.Common.{◌≡◌, ◌≢◌, ◌-◌, ◌+◌, ◌⊎◌, ◌<◌, ◌≤◌, ℕ, zero, suc, true, false, cond, nat_lt, Option, Some}
-use Rattle.std.proofs.Common.{None, IfSome, Result, Ok, Err, IsOk, IsErr, OnOk, is_some, is_ok, if◌then◌else◌, List, [], ◌∷◌}
-use Rattle.std.proofs.Common.{◌++◌, length, length-append, replicate, set, take, refl, sym, ap, subst, ◌∙◌, inl, inr, arith}
-use Rattle.std.specs.Option.{option_map}
+use Rattle.slotmap_scene.proofs.Common.{AreCovered, Content, CoversMore, Err, HasKey, HaveIndices, HoldsMore, HoldsNodes, IfSome, Inserts, IsCloneBy, IsCloneOf, IsContent, IsErr, IsIn, IsLive}
+use Rattle.slotmap_scene.proofs.Common.{IsNodeClone, IsOk, Key, Leaves, List, Lists, MakesRoom, Node, Nodes, None, Ok, OnOk, Option, Result, Some, [], ap, arith, capacity_with, changed_here}
+use Rattle.slotmap_scene.proofs.Common.{changed_other, child, children_of, clone_live, cond, exact_keys, false, family, found_at, found_live, get-insert_here, get-insert_other, get_or-set_other}
+use Rattle.slotmap_scene.proofs.Common.{get_or-set_same, grown, if◌then◌else◌, indices_inserted, indices_still, inl, inr, inserted_fresh, is_ok, is_some, key_cmp, keys, keys_at, keys_total}
+use Rattle.slotmap_scene.proofs.Common.{length, length-append, length-replicate, length-set, list_of, live-insert_still, most, nat_lt, nat_tests, node_at, nodes_by, often, option_map, parent_at}
+use Rattle.slotmap_scene.proofs.Common.{parent_index, parent_of, refl, replicate, same_or_other, set, shown_content, shown_inserts, shown_leaves, shown_makes_room, subst, suc, sym, take, take_all}
+use Rattle.slotmap_scene.proofs.Common.{times, true, used, with_value, zero, ℕ, ◌++◌, ◌+◌, ◌-◌, ◌<◌, ◌∙◌, ◌∷◌, ◌≡◌, ◌≢◌, ◌≤◌, ◌⊎◌, common_steps}
+use Rattle.slotmap_scene.proofs.Families.{above_still, children_live, covers_less, get_alike, get_along, kept_along, kept_still, list_none, node_along, node_still, nowhere, parent_live, seen_get}
+use Rattle.slotmap_scene.proofs.Families.{seen_has, seen_len, written_found, written_has}
 use Rattle.std.specs.FinMap as map
-use Rattle.std.proofs.lemmas.List.{length-replicate, length-set, get_or-set_same, get_or-set_other, take_all}
-use Rattle.slotmap.specs.Words.{Key, key_cmp, Content, IsContent, IsLive, KeepsSpent, Inserts, Keeps, Leaves, MakesRoom, IsCloneBy, IsCloneOf, most, used}
-use Rattle.slotmap_bounded.specs.Bounded.{capacity_with, grown}
-use Rattle.std.proofs.lemmas.Bool.Decides.{nat_tests}
 use Rattle.slotmap.specs.Words as words
-use Rattle.slotmap.proofs.Callers.{keys_total, exact_keys, keys, same_or_other, get-insert_here, get-insert_other, live-insert_still, inserted_fresh}
-use Rattle.slotmap.proofs.Callers.{clone_live}
-use Rattle.slotmap_keylist.specs.KeyLists.{times}
-use Rattle.slotmap_keylist.proofs.Changed.{changed_here, changed_other}
-use Rattle.slotmap_keylist.proofs.Shown.{shown_content, shown_inserts, shown_leaves, shown_makes_room}
-use Rattle.slotmap_links.specs.Lists.{Lists, list_of, times as often, IsIn}
-use Rattle.slotmap_scene.specs.Node.{Node, Nodes}
-use Rattle.slotmap_scene.specs.Climb.{parent_of}
-use Rattle.slotmap_scene.specs.Family.{IsNodeClone, child, children_of, with_value}
-use Rattle.slotmap_scene.specs.Kept.{AreCovered, HoldsMore, HoldsNodes, parent_at, family, parent_index}
-use Rattle.slotmap_links.specs.Lists.{CoversMore}
-use Rattle.slotmap_bounded.specs.Indices.{HasKey, HaveIndices, found_at, keys_at}
-use Rattle.slotmap_scene.specs.Kept.{node_at}
-use Rattle.slotmap_scene.specs.Kept.{nodes_by}
-use Rattle.slotmap_bounded.proofs.Indices.{found_live}
-use Rattle.slotmap_scene.proofs.Families.{above_still, children_live, list_none, get_alike, get_along, kept_along, node_along, covers_less}
-use Rattle.slotmap_bounded.proofs.Indices.{indices_inserted, indices_still}
-use Rattle.slotmap_scene.proofs.Families.{written_found, written_has, kept_still, node_still, nowhere, parent_live, seen_get, seen_has, seen_len}
 
 -- what is known of the values is known of the nodes
 module _ {V : Type 0} (c : Content V) (parents : List ℕ) (children : Lists) where
@@ -102,11 +85,7 @@ module _ {V : Type 0} (c : Content V) (valid : IsContent true c) (n : ℕ) where
   }
 
   pub fits_most : (capacity : ℕ) → capacity ≡ capacity_with c n → capacity ≤ most → used c + n ≤ most
-  fits_most capacity is few = elim (nat_lt c.room n) as
-      (λ b. nat_lt c.room n ≡ b → capacity ≡ cond b (used c + grown (used c) n) c.capacity → used c + n ≤ most) [
-        | true ↦ λ _ is. (omega arith)
-        | false ↦ λ more is. (let fits = valid.room_fits in grind (arith, nat_tests))
-      ] refl is
+  fits_most capacity is few = grind arith
 
 -- no node at all
 module _ {V : Type 0} (c : Content V) (none : c.live ≡ map.empty) (parents : List ℕ) (children : Lists) where
@@ -256,8 +235,7 @@ module _ {V : Type 0} {c : Content V} {parents : List ℕ} {children : Lists} (k
     gone_other m q other = grind (arith, keys)
 
     not_k : (q : Key) → IsLive d q → q ≢ k
-    not_k q of_d at = let none = ap (λ m. map.get m k) is ∙ gone_here c.live in let f = ap (λ q. is_some (map.get d.live q)) (sym at) ∙ of_d in
-        let g = ap is_some none in cc
+    not_k q of_d at = grind (arith, gone_here c.live)
 
     was_live : (q : Key) → IsLive d q → IsLive c q
     was_live q of_d = sym (ap is_some (left_get q (not_k q of_d))) ∙ of_d
@@ -280,9 +258,7 @@ module _ {V : Type 0} {c : Content V} {parents : List ℕ} {children : Lists} (k
     has_left i has apart = (has.0, ap is_some (left_get has.0 (λ at. apart (sym has.2 ∙ ap (λ (q : Key). q.index) at))) ∙ has.1, has.2)
 
     not_above : (q : Key) → IsLive c q → parent_at parents q.index ≢ k.index
-    not_above q of_c at =
-        let found = parent_live c.live parents children q of_c ∙ ap (found_at c.live) at ∙ found_live kept.indices k live in
-        childless q found
+    not_above q of_c at = grind (arith, parent_live c.live parents children q of_c, found_live kept.indices k live)
 
     pub gone_kept : HoldsNodes d parents children
     gone_kept = record {

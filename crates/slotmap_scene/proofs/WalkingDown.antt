@@ -1,18 +1,12 @@
 -- A walk through all that is below a node, from sibling to sibling and from the last one up.
-use Rattle.std.proofs.Common.{◌≡◌, ◌≢◌, ℕ, zero, suc, ◌+◌, ◌<◌, ◌≤◌, cond, Option, Some, None, List, [], ◌∷◌}
-use Rattle.std.proofs.Common.{◌++◌, length, length-append, refl, sym, ap, subst, ◌∙◌, arith, append_assoc, append-nil}
-use Rattle.std.specs.FinMap as map
-use Rattle.slotmap.specs.Words.{Key}
-use Rattle.slotmap_keylist.specs.KeyLists.{same, times}
-use Rattle.slotmap_links.specs.Lists.{first_or}
-use Rattle.slotmap_keylist.proofs.Counts.{is_itself, is_other, one_itself, times_first, times_joined}
-use Rattle.slotmap_scene.specs.Node.{Node, Nodes}
-use Rattle.slotmap_scene.specs.Below.{GoesDown, keys_down, all_below, keys_from, AreAhead, WalkStands, WalksBelow}
-use Rattle.slotmap_scene.specs.Climb.{has_node, parent_in, parent_of, StepsTo, IsWithin}
-use Rattle.slotmap_scene.specs.Family.{behind, children_of, children_under, siblings_of, IsScene}
+use Rattle.slotmap_scene.proofs.Common.{AreAhead, GoesDown, IsScene, IsWithin, Key, List, Node, Nodes, None, Option, Some, StepsTo, WalkStands, WalksBelow, [], all_below, ap, append-nil, common_steps}
+use Rattle.slotmap_scene.proofs.Common.{append_assoc, arith, behind, children_of, children_under, cond, first_or, has_node, is_itself, is_other, keys_down, keys_from, length, length-append}
+use Rattle.slotmap_scene.proofs.Common.{one_itself, parent_in, parent_of, refl, same, siblings_of, subst, suc, sym, times, times_first, times_joined, zero, ℕ, ◌++◌, ◌+◌, ◌<◌}
+use Rattle.slotmap_scene.proofs.Common.{◌∙◌, ◌∷◌, ◌≡◌, ◌≢◌, ◌≤◌}
 use Rattle.slotmap_scene.proofs.Climbs.{Climbing, climbing_start, climbing_step, has_parent, no_cycle}
 use Rattle.slotmap_scene.proofs.Moved.{listed_few, listed_parent}
-use Rattle.slotmap_scene.proofs.Descending.{Descending, descending_start, descending_step, longer, all_listed, below_node}
+use Rattle.slotmap_scene.proofs.Descending.{Descending, all_listed, below_node, descending_start, descending_step, longer}
+use Rattle.std.specs.FinMap as map
 
 -- the key behind k, where it is in the midst of a list
 behind_split : (k : Key) (b a : List Key) → times k b ≡ 0 → behind k (b ++ k ∷ a) ≡ first_or a None
@@ -71,8 +65,7 @@ module _ {T : Type 0} (nodes : Nodes T) (scene : IsScene nodes) (node : Key) whe
   goes_down : (n : ℕ) (listed ahead : List Key) → Descending nodes node listed ahead → map.len nodes ≤ n + length listed
       → GoesDown nodes ahead (keys_down nodes n ahead)
   goes_down zero listed [] d enough = refl
-  goes_down zero listed (q ∷ others) d enough =
-      absurd (let long = longer nodes scene node listed (q ∷ others) d q others refl in omega arith)
+  goes_down zero listed (q ∷ others) d enough = grind (arith, longer nodes scene node listed (q ∷ others) d q others refl)
   goes_down (suc n) listed [] d enough = refl
   goes_down (suc n) listed (q ∷ others) d enough =
       let long = length-append listed (q ∷ []) in
@@ -82,8 +75,7 @@ module _ {T : Type 0} (nodes : Nodes T) (scene : IsScene nodes) (node : Key) whe
   -- and then nothing is ahead
   gone_down : (rest listed ahead : List Key) → Descending nodes node listed ahead → GoesDown nodes ahead rest
       → Descending nodes node (listed ++ rest) []
-  gone_down [] listed ahead d goes =
-      subst (λ l. Descending nodes node l []) (sym (append-nil listed)) (subst (Descending nodes node listed) goes d)
+  gone_down [] listed ahead d goes = grind (arith, append-nil listed)
   gone_down (q ∷ rest) listed ahead d goes =
       let next = descending_step nodes scene node listed ahead d q goes.0 goes.1.0 in
       subst (λ l. Descending nodes node l []) (append_assoc listed (q ∷ []) rest)
@@ -144,11 +136,7 @@ module _ {T : Type 0} (nodes : Nodes T) (scene : IsScene nodes) (node : Key) whe
   -- a child with these later siblings has this parent, and this sibling behind it
   module _ (k p : Key) (before after : List Key) (split : children_of nodes p ≡ before ++ k ∷ after) where
     counted : times k (children_of nodes p) ≡ times k before + 1 + times k after
-    counted =
-        let joined = ap (times k) split ∙ times_joined k before (k ∷ after) in
-        let first = times_first k k after in
-        let one = one_itself k in
-        omega arith
+    counted = grind (arith, times_joined k before (k ∷ after), times_first k k after, one_itself k)
 
     own_parent : parent_of nodes k ≡ Some p
     own_parent = let c = counted in listed_parent nodes scene.listed p k (omega arith)

@@ -1,24 +1,16 @@
 -- What a fold of the values on the way up comes to.
-use Rattle.std.proofs.Common.{◌≡◌, ◌≢◌, ℕ, zero, suc, List, [], ◌∷◌, ◌++◌, append_assoc, Option, Some, None, IfSome, IfNone, is_some, option_map, true, map as list_map, refl, sym, ap, subst, ◌∙◌, inl, inr}
-use Rattle.std.specs.Fn.{Mut, Takes}
-use Rattle.std.specs.Borrow.{Bor}
-use Rattle.std.specs.List.{FoldsTo, fold}
-use Rattle.std.proofs.lemmas.Fn.{FoldsTo-push}
-use Rattle.std.specs.FinMap as map
-use Rattle.slotmap.specs.Words.{Key}
-use Rattle.slotmap.proofs.Callers.{get-insert_here, same_or_other}
-use Rattle.slotmap_scene.specs.Node.{Node, Nodes}
-use Rattle.slotmap_scene.specs.Climb.{has_node, lacks_node, parent_of, parent_in, ClimbsTo, IsTree, IsWithin}
-use Rattle.slotmap_scene.specs.Family.{IsMoved, IsNewChild, value_of, child}
+use Rattle.slotmap_scene.proofs.Common.{Bor, CallableUp, CallsAt, ClimbsTo, FoldsTo, FoldsTo-push, FoldsUp, IfNone, IfSome, IsComposed, IsMoved, IsNewChild, IsPathFrom, IsPathUp, IsTree, IsWithin}
+use Rattle.slotmap_scene.proofs.Common.{IsWorld, IsWorldOf, Joins, Key, List, Mut, Node, Nodes, None, Option, Some, Takes, [], ap, append_assoc, child, fold, get-insert_here, has_node, inl, inr}
+use Rattle.slotmap_scene.proofs.Common.{is_some, lacks_node, list_map, option_map, parent_in, parent_of, refl, same_or_other, subst, suc, sym, true, value_of, world_along, zero, ℕ, ◌++◌, arith}
+use Rattle.slotmap_scene.proofs.Common.{◌∙◌, ◌∷◌, ◌≡◌, ◌≢◌, common_steps}
 use Rattle.slotmap_scene.proofs.Climbs.{parent_there}
-use Rattle.slotmap_scene.specs.WorldValue.{IsPathFrom, IsPathUp, world_along, IsWorld, IsWorldOf, IsComposed, Joins, CallsAt, FoldsUp, CallableUp}
+use Rattle.std.specs.FinMap as map
 
 module _ {T : Type 0} (nodes : Nodes T) where
   -- the node at k, in front of a path from its parent
   path_step : (k : Key) (node : Node T) → map.get nodes k ≡ Some node → (above : List T) → IsPathFrom nodes node.parent above
       → IsPathUp nodes k (node.value ∷ above)
-  path_step k node there above path =
-      (ap (option_map (λ n. n.value)) there, subst (λ p. IsPathFrom nodes p above) (sym (ap parent_in there)) path)
+  path_step k node there above path = grind (arith, option_map)
 
   -- a root is the end of its path
   root_path : (k : Key) (node : Node T) → map.get nodes k ≡ Some node → node.parent ≡ None → IsPathUp nodes k (node.value ∷ [])
@@ -52,19 +44,11 @@ module _ {T : Type 0} (nodes : Nodes T) where
 
   -- and so one value in the coordinates of the root
   pub one_world : (under : T → T → T) (k : Key) (v w : T) → IsWorld under nodes k v → IsWorld under nodes k w → v ≡ w
-  one_world under k v w a b =
-      let same = one_path (Some k) (a.own ∷ a.above) (b.own ∷ b.above) a.path b.path in
-      let own : a.own ≡ b.own = cc in
-      let above : a.above ≡ b.above = cc in
-      a.made ∙ (λ i. world_along under (own i) (above i)) ∙ sym b.made
+  one_world under k v w a b = grind (arith, one_path (Some k) (a.own ∷ a.above) (b.own ∷ b.above) a.path b.path)
 
   pub one_world_of : {W : Type 0} (under : W → W → W) (of : T → W) (k : Key) (v w : W) → IsWorldOf under of nodes k v
       → IsWorldOf under of nodes k w → v ≡ w
-  one_world_of under of k v w a b =
-      let same = one_path (Some k) (a.own ∷ a.above) (b.own ∷ b.above) a.path b.path in
-      let own : a.own ≡ b.own = cc in
-      let above : a.above ≡ b.above = cc in
-      a.made ∙ (λ i. world_along under (of (own i)) (list_map of (above i))) ∙ sym b.made
+  one_world_of under of k v w a b = grind (arith, one_path (Some k) (a.own ∷ a.above) (b.own ∷ b.above) a.path b.path, list_map)
 
   -- a root is where its own value says
   pub world_root : (under : T → T → T) (k : Key) (node : Node T) → map.get nodes k ≡ Some node → node.parent ≡ None
@@ -267,9 +251,7 @@ module _ {T : Type 0} (old new : Nodes T) (k p : Key) {put : List Key → List K
     (values : (q : Key) → value_of new q ≡ value_of old q) where
   pub world_moved : (IsWithin old p k → ⊥) → (under : T → T → T) (v w : T) → value_of old k ≡ Some v → IsWorld under old p w
       → IsWorld under new k (under v w)
-  world_moved out under v w own world =
-      world_below old new k (λ q there other. values q) (λ q there other. trees.parents q other)
-      under v p w (values k ∙ own) trees.parent_is world out
+  world_moved out under v w own world = grind (arith, world_below)
 
 -- where a node is that is added
 pub world_added_root : {T : Type 0} (nodes : Nodes T) (k : Key) (v : T) (under : T → T → T) → IsWorld under (map.insert nodes k (child None v)) k v
@@ -277,10 +259,4 @@ world_added_root nodes k v under = world_root (map.insert nodes k (child None v)
 
 pub world_added_child : {T : Type 0} (old new : Nodes T) (k p : Key) {v : T} {children : List Key} → IsNewChild old new k p v children → lacks_node old k
     → (under : T → T → T) (w : T) → IsWorld under old p w → IsWorld under new k (under v w)
-world_added_child old new k p {v} gains fresh under w world = world_new old new k
-    (λ q there other. elim (same_or_other q p) [
-      | inl at ↦ rw at gains.value
-      | inr elsewhere ↦ ap (option_map (λ n. n.value)) (gains.others q other elsewhere)
-    ])
-    (λ q there other. elim (same_or_other q p) [ inl at ↦ rw at gains.parent | inr elsewhere ↦ ap parent_in (gains.others q other elsewhere) ])
-    under v p w (ap (option_map (λ n. n.value)) gains.node) (ap parent_in gains.node) world fresh
+world_added_child old new k p {v} gains fresh under w world = grind (arith, world_new, option_map)

@@ -1,9 +1,8 @@
 -- What callers of a scheduler cite: which jobs a loop over `pop_due` took out, which `retain` left, and that none is due sooner.
+use Rattle.slotmap_scheduler.proofs.Common.{All, All-cons, All-head, All-nil, All-tail, IsByTime, Key, Waiting, [], ap, arith, cond, due_at, false, in_turn, left_at, nat_lt, nat_tests, refl, sym}
+use Rattle.slotmap_scheduler.proofs.Common.{true, ℕ, ◌++◌, ◌<◌, ◌∙◌, ◌∷◌, ◌≡◌, ◌≤◌}
 pub use Rattle.slotmap_scheduler.proofs.Retained.{retained_jobs, retained_where}
 pub use Rattle.slotmap_scheduler.proofs.Visiting.{callable_on_jobs}
-use Rattle.std.proofs.Common.{◌≡◌, ◌<◌, ◌≤◌, [], ◌∷◌, ◌++◌, ◌∙◌}
-use Rattle.slotmap_scheduler.proofs.Common.{ℕ, true, false, cond, refl, sym, ap, arith, nat_lt, All, nat_tests, All-nil, All-cons, All-head, All-tail}
-use Rattle.slotmap_scheduler.proofs.Common.{Key, Waiting, in_turn, IsByTime, due_at, left_at}
 
 module _ {T : Type 0} (now : ℕ) where
   abbrev IsDue : Key × (ℕ × T) → Type 0
@@ -45,6 +44,4 @@ module _ {T : Type 0} (time : ℕ) where
 
 -- of two jobs that are taken out one after the other, the first is due no later
 pub first_no_later : {T : Type 0} (a b : Key × (ℕ × T)) (es fs gs : Waiting T) → IsByTime es → es ≡ a ∷ fs → fs ≡ b ∷ gs → a.1.0 ≤ b.1.0
-first_no_later {T} a b es fs gs sorted one two =
-    let from = rw (one ∙ ap (λ l. a ∷ l) two) at sorted in
-    All-head (λ (x : Key × (ℕ × T)). a.1.0 ≤ x.1.0) b gs from.0
+first_no_later {T} a b es fs gs sorted one two = grind arith

@@ -1,12 +1,11 @@
 -- A copy of a scheduler: the same handles, times and places, each with a clone of its job.
-use Rattle.std.proofs.Common.{◌≡◌, ◌≤◌, [], ◌∷◌, ◌∙◌}
-use Rattle.slotmap_scheduler.proofs.Common.{ℕ, true, List, Option, Some, None, refl, sym, ap, arith, list_map, option_map, vec_len, vec_capacity, Vec, AllZip, Key, Content}
-use Rattle.slotmap_scheduler.proofs.Common.{IsContent, AreClones, IsCloneOf, IsCloneBy, clone_len, mapped-clones, content-mapped, len-mapped, Job, Entry, IsInverse, IsDueClone, Turn, Timed}
-use Rattle.slotmap_scheduler.proofs.Common.{by_turn, as_seen, waiting_of, InOrder, unplaced, timed, spot_of, heap_entry, IsSchedule}
-use Rattle.std.specs.FinMap as map
+use Rattle.slotmap_scheduler.proofs.Common.{AllZip, AreClones, Content, Entry, InOrder, IsCloneBy, IsCloneOf, IsContent, IsDueClone, IsInverse, IsSchedule, Job, Key, List, None, Option, Some}
+use Rattle.slotmap_scheduler.proofs.Common.{Timed, Turn, Vec, [], ap, arith, as_seen, by_turn, clone_len, content-mapped, heap_entry, len-mapped, list_map, mapped-clones, option_map, refl}
+use Rattle.slotmap_scheduler.proofs.Common.{spot_of, sym, timed, true, unplaced, vec_capacity, vec_len, waiting_of, ℕ, ◌∙◌, ◌∷◌, ◌≡◌, ◌≤◌}
 use Rattle.slotmap_scheduler.proofs.Inverse.{alike}
-use Rattle.slotmap_scheduler.proofs.Sorted.{none_there, entries_alike, len_alike}
-use Rattle.slotmap_scheduler.proofs.Timed.{exact_turns, turns_total, inverse}
+use Rattle.slotmap_scheduler.proofs.Sorted.{entries_alike, len_alike, none_there}
+use Rattle.slotmap_scheduler.proofs.Timed.{exact_turns, inverse, turns_total}
+use Rattle.std.specs.FinMap as map
 
 module _ {A : Type 0} (is_clone : A → A → Type 0) where
   abbrev pub clones_job : Job A → Job A → Type 0
@@ -31,10 +30,7 @@ module _ {A : Type 0} (is_clone : A → A → Type 0) where
 
   module _ (jobs copy : Timed A) (count : ℕ) (is : InOrder jobs count) (clones : (k : Key) → IsCloneOf Clones (map.get jobs k) (map.get copy k)) (len : map.len copy ≡ map.len jobs) where
     one_handle : (k q : Key) (t : Turn) (x y : A) → map.get copy k ≡ Some (t, x) → map.get copy q ≡ Some (t, y) → k ≡ q
-    one_handle k q t x y at there =
-        let a = back (map.get jobs k) (map.get copy k) (clones k) t x at in
-        let b = back (map.get jobs q) (map.get copy q) (clones q) t y there in
-        grind (arith, is.turns.to k t a.0 a.1, is.turns.to q t b.0 b.1)
+    one_handle k q t x y at there = grind (arith, back (map.get jobs k) (map.get copy k) (clones k) t x at, back (map.get jobs q) (map.get copy q) (clones q) t y there)
 
     by : IsInverse (map.get copy) (map.get (by_turn copy))
     by = inverse copy one_handle

@@ -1,8 +1,6 @@
 -- How many entries of a heap are due, at a place and below it.
-use Rattle.std.proofs.Common.{◌≡◌, ◌+◌, ◌*◌, ◌<◌, ◌≤◌, ◌&&◌}
-use Rattle.slotmap_scheduler.proofs.Common.{ℕ, zero, suc, Bool, true, false, cond, nat_eq, nat_lt, List, get_or, get_or_default, length, refl, ap}
-use Rattle.slotmap_scheduler.proofs.Common.{arith, nat_tests}
-use Rattle.slotmap_scheduler.proofs.Common.{Entry, Turn, no_entry, turn_at, up, IsHeap, is_under, count_below, is_due_at}
+use Rattle.slotmap_scheduler.proofs.Common.{Bool, Entry, IsHeap, List, Turn, ap, arith, cond, count_below, false, get_or, get_or_default, is_due_at, is_under, length, nat_eq, nat_lt, nat_tests}
+use Rattle.slotmap_scheduler.proofs.Common.{no_entry, refl, suc, true, turn_at, up, zero, ℕ, ◌&&◌, ◌*◌, ◌+◌, ◌<◌, ◌≡◌, ◌≤◌}
 unfoldable use Rattle.slotmap_scheduler.proofs.Common.{precedes, due_under}
 
 -- a place below another comes after it
@@ -21,15 +19,7 @@ one b = cond b 1 0
 under_split : (steps at c : ℕ) → c ≤ steps
     → one (is_under steps at c) ≡ one (nat_eq c at) + (one (is_under steps (2 * at + 1) c) + one (is_under steps (2 * at + 2) c))
 under_split zero at c within = grind (arith, nat_tests)
-under_split (suc steps) at c within =
-    grind (
-      arith,
-      nat_tests,
-      under_split steps at (up c),
-      under_after steps at (up c),
-      under_after steps (2 * at + 1) (up c),
-      under_after steps (2 * at + 2) (up c),
-    )
+under_split (suc steps) at c within = grind (arith, under_split steps at (up c), under_after steps at (up c), under_after steps (2 * at + 1) (up c), under_after steps (2 * at + 2) (up c))
 
 count-le : (p : ℕ → Bool) (n : ℕ) → count_below p n ≤ n
 count-le p zero = omega arith
@@ -51,8 +41,7 @@ module _ (now : ℕ) (heap : List Entry) (ordered : IsHeap heap) where
   -- below an entry that isn't due none is
   none_below : (steps at c : ℕ) → now < (turn_at heap at).0 → c < length heap → is_under steps at c ≡ true → now < (turn_at heap c).0
   none_below zero at c later inside under = grind (arith, nat_tests)
-  none_below (suc steps) at c later inside under =
-      grind (arith, nat_tests, ordered c, later_turn (turn_at heap (up c)) (turn_at heap c), none_below steps at (up c))
+  none_below (suc steps) at c later inside under = grind (arith, later_turn (turn_at heap (up c)) (turn_at heap c), none_below steps at (up c))
 
   abbrev counted : ℕ → ℕ → Bool
   counted at c = is_under (length heap) at c && is_due_at now heap c

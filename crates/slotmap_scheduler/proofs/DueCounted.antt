@@ -1,32 +1,22 @@
 -- How many of the jobs that wait are due, counted by their places in the heap.
-use Rattle.std.proofs.Common.{◌≡◌, ◌≢◌, ◌+◌, ◌<◌, ◌≤◌, ◌&&◌, [], ◌∷◌, ◌∙◌}
-use Rattle.slotmap_scheduler.proofs.Common.{ℕ, zero, suc, Bool, true, false, not, cond, nat_lt, Some, None, get_or, length, refl, sym}
-use Rattle.slotmap_scheduler.proofs.Common.{ap, arith, nat_tests, option_map, slice_get-get_or}
-use Rattle.slotmap_scheduler.proofs.Common.{All, All-head, All-tail, filter, nil_from_length, eq_by_cmp, Vec, Key, key_cmp, keys_total}
-use Rattle.slotmap_scheduler.proofs.Common.{exact_keys, tied, itself, Content, get-mapped}
-use Rattle.slotmap_scheduler.proofs.Common.{Job, Waiting, job_of, without, IsOnce, IsByTime, due_at, Entry, no_entry, turn_at}
-use Rattle.slotmap_scheduler.proofs.Common.{heap_entry, spot_of, unplaced, timed, waiting_of, IsSchedule, is_under, count_below, is_due_at}
-unfoldable use Rattle.slotmap_scheduler.proofs.Common.{due_under}
-use Rattle.std.specs.FinMap as map
+use Rattle.slotmap_scheduler.proofs.Common.{All, All-head, All-tail, Bool, Content, Entry, IsByTime, IsOnce, IsSchedule, Job, Key, None, Some, Vec, Waiting, [], ap, arith, cond, count_below}
+use Rattle.slotmap_scheduler.proofs.Common.{due_at, eq_by_cmp, exact_keys, false, filter, get-mapped, get_or, heap_entry, is_due_at, is_under, itself, job_of, key_cmp, keys_total, length, nat_lt}
+use Rattle.slotmap_scheduler.proofs.Common.{nat_tests, nil_from_length, no_entry, not, option_map, refl, slice_get-get_or, spot_of, suc, sym, tied, timed, true, turn_at, unplaced, waiting_of}
+use Rattle.slotmap_scheduler.proofs.Common.{without, zero, ℕ, ◌&&◌, ◌+◌, ◌<◌, ◌∙◌, ◌∷◌, ◌≡◌, ◌≢◌, ◌≤◌}
 use Rattle.slotmap_scheduler.proofs.Results.{without_none}
-use Rattle.slotmap_scheduler.proofs.Counting.{under_top, count_alike}
+use Rattle.slotmap_scheduler.proofs.Counting.{count_alike, under_top}
 use Rattle.slotmap_scheduler.proofs.HeapPlaces.{one_place}
 use Rattle.slotmap_scheduler.proofs.Order.{job_is, len_is}
 use Rattle.slotmap_scheduler.proofs.Seen.{job_there}
 use Rattle.slotmap_scheduler.proofs.Waits.{waits_by_time, waits_once}
+unfoldable use Rattle.slotmap_scheduler.proofs.Common.{due_under}
+use Rattle.std.specs.FinMap as map
 
 module _ {T : Type 0} (k : Key) where
   pub other_found : (q : Key) (ws : Waiting T) → q ≢ k → job_of q (without k ws) ≡ job_of q ws
   other_found q [] other = refl
   other_found q (e ∷ ws) other =
-      grind (
-        arith,
-        tied keys_total exact_keys k e.0,
-        tied keys_total exact_keys q e.0,
-        itself keys_total exact_keys k,
-        itself keys_total exact_keys q,
-        other_found q ws other,
-      )
+      grind (arith, tied keys_total exact_keys k e.0, tied keys_total exact_keys q e.0, itself keys_total exact_keys k, itself keys_total exact_keys q, other_found q ws other)
 
   none_without : (q : Key) (ws : Waiting T) → job_of q ws ≡ None → job_of q (without k ws) ≡ None
   none_without q [] none = refl
@@ -44,13 +34,11 @@ module _ {T : Type 0} (k : Key) where
     count_without : (ws : Waiting T) (x : ℕ × T) → IsOnce ws → job_of k ws ≡ Some x
         → length (filter test ws) ≡ cond (test (k, x)) 1 0 + length (filter test (without k ws))
     count_without [] x once there = absurd (cc)
-    count_without (e ∷ ws) x once there =
-        grind (arith, tied keys_total exact_keys k e.0, itself keys_total exact_keys k, without_none k ws, once.0, count_without ws x once.1)
+    count_without (e ∷ ws) x once there = grind (arith, tied keys_total exact_keys k e.0, itself keys_total exact_keys k, without_none k ws, count_without ws x once.1)
 
   pub len_without : (ws : Waiting T) (x : ℕ × T) → IsOnce ws → job_of k ws ≡ Some x → length ws ≡ 1 + length (without k ws)
   len_without [] x once there = absurd (cc)
-  len_without (e ∷ ws) x once there =
-      grind (arith, tied keys_total exact_keys k e.0, itself keys_total exact_keys k, without_none k ws, once.0, len_without ws x once.1)
+  len_without (e ∷ ws) x once there = grind (arith, tied keys_total exact_keys k e.0, itself keys_total exact_keys k, without_none k ws, len_without ws x once.1)
 
 module _ {T : Type 0} (now : ℕ) where
   abbrev is_due : Key × (ℕ × T) → Bool

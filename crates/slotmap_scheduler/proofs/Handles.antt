@@ -1,13 +1,11 @@
 -- The handles of a scheduler: the keys of its jobs, with the room that the map and the heap have.
-use Rattle.std.proofs.Common.{◌≡◌, ◌+◌, ◌-◌, ◌≤◌, ◌∙◌}
-use Rattle.std.specs.FinMap as map
 use Rattle.slotmap.specs.KeysAlone.{keys_of}
-use Rattle.slotmap.proofs.Callers.{vacant_at_most}
 use Rattle.slotmap_keylist.specs.Mapped.{map_values}
-use Rattle.slotmap_scheduler.proofs.Common.{ℕ, true, refl, ap, arith, vec_len, vec_capacity, min, Vec, Key, key_cmp, Content, IsContent, IsLive, IsSpent, KeepsSpent, IsNew, Inserts, Removes}
-use Rattle.slotmap_scheduler.proofs.Common.{Leaves, MakesRoom, contains-keys_of, len-keys_of, shown_content, shown_leaves, alone-keeps, mapped-empty}
-use Rattle.slotmap_scheduler.proofs.Common.{IsCopy, IsCloneBy, without_values, with_value, used, spent_alone, alone_spent, inserted_not_spent, alone-new, alone-inserts}
-use Rattle.slotmap_scheduler.proofs.Common.{alone-removes, alone-copy, alone-written, used_alone, used-mapped, Job, Entry, Turn, unplaced, timed, handles_of}
+use Rattle.slotmap_scheduler.proofs.Common.{Content, Entry, Inserts, IsCloneBy, IsContent, IsCopy, IsLive, IsNew, IsSpent, Job, KeepsSpent, Key, Leaves, List, MakesRoom, Removes, Some, Turn, Vec}
+use Rattle.slotmap_scheduler.proofs.Common.{alone-copy, alone-inserts, alone-keeps, alone-new, alone-removes, alone-written, alone_spent, ap, arith, contains-keys_of, handles_of}
+use Rattle.slotmap_scheduler.proofs.Common.{inserted_not_spent, key_cmp, len-keys_of, mapped-empty, min, refl, shown_content, shown_leaves, spent_alone, timed, true, unplaced, used, used-mapped}
+use Rattle.slotmap_scheduler.proofs.Common.{used_alone, vacant_at_most, vec_capacity, vec_len, with_value, without_values, ℕ, ◌+◌, ◌-◌, ◌∙◌, ◌≡◌, ◌≤◌}
+use Rattle.std.specs.FinMap as map
 
 pub empty_keys : {V : Type 0} (m : map.FinMap key_cmp V) → m ≡ map.empty → keys_of m ≡ map.empty
 unfolding keys_of map_values
@@ -35,31 +33,14 @@ module _ {T Z : Type 0} where
       handles_inserted len capacity = let alone = alone-inserts old new k v inserts in search arith
 
     pub handles_removed : (k : Key) → Removes old k new → vec_len heap' + 1 ≡ vec_len heap → vec_capacity heap' ≡ vec_capacity heap → Removes (handles_of old heap) k (handles_of new heap')
-    handles_removed k removes len capacity =
-        let alone = alone-removes old new k removes in
-        record {
-          live = alone.live;
-          detached = alone.detached;
-          retired = alone.retired;
-          next = alone.next;
-          stack = alone.stack;
-          room = grind (arith, alone.room, len, capacity, heap.ok.1);
-        }
+    handles_removed k removes len capacity = grind (arith, alone-removes old new k removes, len, capacity, heap.ok.1)
 
     -- as many entries leave the heap as jobs leave the map, or more
     pub handles_left : Leaves old new → vec_len heap' ≤ vec_len heap → vec_len heap' + map.len old.live ≤ vec_len heap + map.len new.live
         → vec_capacity heap' ≡ vec_capacity heap → Leaves (handles_of old heap) (handles_of new heap')
     handles_left leaves fewer len capacity =
-        let vacant = vacant_at_most old new leaves in
         let alone = shown_leaves old new (keys_of old.live) (keys_of new.live) (contains-keys_of old.live) (len-keys_of old.live) (contains-keys_of new.live) (len-keys_of new.live) leaves in
-        record {
-          no_more = alone.no_more;
-          detached = alone.detached;
-          retired = alone.retired;
-          next = alone.next;
-          same_places = alone.same_places;
-          room = (let more = alone.room in omega (arith, heap.ok.1));
-        }
+        grind (arith, vacant_at_most old new leaves, heap.ok.1)
 
     pub same_capacity : new.capacity ≡ old.capacity → vec_capacity heap' ≡ vec_capacity heap → (handles_of new heap').capacity ≡ (handles_of old heap).capacity
     same_capacity map heap i = min (map i) (heap i)
@@ -77,32 +58,13 @@ module _ {T Z : Type 0} where
         let same_used = used_alone old in
         let live = len-keys_of old.live in
         let keeps = alone-keeps old new makes.keeps in
-        record {
-          before = before;
-          after = after;
-          fits = λ o. (let fits = makes.fits (has o).0 in omega arith);
-          room = λ o. (let room = makes.room (has o).0 in let long = (has o).1 in omega arith);
-          live_and_more = λ o. (let room = makes.live_and_more (has o).0 in let long = (has o).1 in omega arith);
-          succeeds = λ room. had (omega arith) (omega (arith, heap.ok.1));
-          had_room = λ room. same_handles (makes.had_room (omega arith)) len (same (omega (arith, heap.ok.1)));
-          keeps = record {
-            live = keeps.live;
-            detached = keeps.detached;
-            retired = keeps.retired;
-            next = keeps.next;
-            offer = keeps.offer;
-            stack = keeps.stack;
-            room = (let room = keeps.room in omega arith);
-          };
-          capacity = (let capacity = makes.capacity in omega arith);
-        }
+        let had_room = λ (room : n ≤ (handles_of old heap).room). same_handles (makes.had_room (omega arith)) len (same (omega (arith, heap.ok.1))) in
+        grind (arith, makes.fits, makes.room, makes.live_and_more, has, had, had_room, heap.ok.1, makes.keeps.room, makes.capacity)
 
     -- a job that is written changes no handle
     pub handles_written : (k : Key) (v : Turn × T) → IsLive old k → new ≡ with_value old k v → vec_len heap' ≡ vec_len heap
         → vec_capacity heap' ≡ vec_capacity heap → handles_of new heap' ≡ handles_of old heap
-    handles_written k v live is len capacity =
-        let same : without_values new ≡ without_values old = ap (λ (c : Content (Turn × T)). without_values c) is ∙ alone-written old k v live in
-        λ i. record (same i) { room = min (same i).room (capacity i - len i); capacity = min (same i).capacity (capacity i) }
+    handles_written k v live is len capacity = grind (arith, alone-written old k v live)
 
     pub handles_copied : (is_clone : Turn × T → Turn × T → Type 0) → IsCloneBy is_clone old new → IsCopy (handles_of old heap) (handles_of new heap')
     handles_copied is_clone clones = let alone = alone-copy is_clone old new clones in search arith
@@ -113,24 +75,10 @@ module _ {T Z : Type 0} where
   handles_content jobs heap valid all space =
       let well = shown_content jobs (keys_of jobs.live) (contains-keys_of jobs.live) (len-keys_of jobs.live) true valid in
       let live = len-keys_of jobs.live in
-      record {
-        keys = well.keys;
-        vacancies = well.vacancies;
-        had_keys = well.had_keys;
-        last = well.last;
-        within = well.within;
-        vacant = well.vacant;
-        apart = well.apart;
-        not_live_and_detached = well.not_live_and_detached;
-        not_standing_and_retired = well.not_standing_and_retired;
-        not_used_and_vacant = well.not_used_and_vacant;
-        limit = well.limit;
-        offers = well.offers;
-        stacked = λ stack is. (let stacked = well.stacked stack is in record { lists = stacked.lists; once = stacked.once; top = stacked.top });
-        room_fits = (let fits = well.room_fits in omega arith);
-        reused = λ _. (let reused = well.reused refl in omega arith);
-        capacity_fits = (let fits = well.capacity_fits in omega (arith, heap.ok.1));
-      }
+      let lists = λ (stack : List ℕ) (is : jobs.stack ≡ Some stack). (well.stacked stack is).lists in
+      let once = λ (stack : List ℕ) (is : jobs.stack ≡ Some stack). (well.stacked stack is).once in
+      let top = λ (stack : List ℕ) (is : jobs.stack ≡ Some stack). (well.stacked stack is).top in
+      grind (arith, lists, once, top, heap.ok.1)
 
   pub handles_new : (jobs : Content (Turn × T)) (heap : Vec Entry Z) → IsNew jobs → IsNew (handles_of jobs heap)
   handles_new jobs heap new = let alone = alone-new jobs new in search arith

@@ -1,12 +1,11 @@
 -- The places of the jobs in the heap, and how a change of both keeps them.
-use Rattle.std.proofs.Common.{◌≡◌, ◌≢◌, ◌+◌, ◌-◌, ◌<◌, ◌≤◌, ◌∙◌}
-use Rattle.slotmap_scheduler.proofs.Common.{ℕ, true, List, Option, Some, None, get_or, length, refl, sym, ap, arith, option_map, vec_len, vec_capacity, Vec, SwappedAt}
-use Rattle.slotmap_scheduler.proofs.Common.{slice_get_past, slice_get-get_or, slice_get_read, Key, Content, with_value, keys, get-insert_here, get-insert_other, same_or_other}
-use Rattle.slotmap_scheduler.proofs.Common.{live-remove_other, mapped-written, Job, Entry, Turn, Jobs, no_entry, heap_entry, spot_of, IsPlaced, IsHeap, IsHeapBut, Resettled}
-use Rattle.slotmap_scheduler.proofs.Common.{unplaced, timed}
+use Rattle.slotmap_scheduler.proofs.Common.{Content, Entry, IsHeap, IsHeapBut, IsPlaced, Job, Jobs, Key, List, None, Option, Resettled, Some, SwappedAt, Turn, Vec, ap, arith, common_steps}
+use Rattle.slotmap_scheduler.proofs.Common.{get-insert_here, get-insert_other, get_or, heap_entry, keys, length, live-remove_other, mapped-written, no_entry, option_map, refl, same_or_other}
+use Rattle.slotmap_scheduler.proofs.Common.{slice_get-get_or, slice_get_past, slice_get_read, spot_of, sym, timed, true, unplaced, vec_capacity, vec_len, with_value, ℕ, ◌+◌, ◌-◌}
+use Rattle.slotmap_scheduler.proofs.Common.{◌<◌, ◌∙◌, ◌≡◌, ◌≢◌, ◌≤◌}
+use Rattle.slotmap_scheduler.proofs.Inverse.{exchanged, moved}
+use Rattle.slotmap_scheduler.proofs.Heaps.{heap_left, heap_put, same_or_not}
 use Rattle.std.specs.FinMap as map
-use Rattle.slotmap_scheduler.proofs.Inverse.{exchanged, moved, put, dropped}
-use Rattle.slotmap_scheduler.proofs.Heaps.{same_or_not, heap_put, heap_left}
 
 -- one list has at j what the other has at i
 pub read_alike : (xs ys : List Entry) (i j : ℕ) → (j < length ys → (i < length xs) × (get_or ys j no_entry ≡ get_or xs i no_entry))
@@ -27,13 +26,7 @@ module _ {T : Type 0} (jobs : Jobs T) (heap : List Entry) (is : IsPlaced jobs he
   pub placed_put : (new : List Entry) (k : Key) (j : Job T) (at : ℕ) → j.place ≡ at → heap_entry new at ≡ Some (k, j.turn)
       → ((i : ℕ) → i ≢ at → heap_entry new i ≡ heap_entry heap i)
       → ((q : Key) (t : Turn) → spot_of jobs q ≡ Some (at, t) → q ≡ k) → ((i : ℕ) (t : Turn) → heap_entry heap i ≡ Some (k, t) → i ≡ at) → IsPlaced (map.insert jobs k j) new
-  placed_put new k j at place here others only_place only_key = put same_or_other same_or_not (spot_of jobs) _ (heap_entry heap) _ is k at j.turn
-      (record {
-        here = ap (option_map _) (get-insert_here jobs k j) ∙ ap (λ p. Some (p, j.turn)) place;
-        others = λ q other. ap (option_map _) (get-insert_other jobs k j q other);
-        alone = only_place;
-      })
-      (record { here = here; others = others; alone = only_key })
+  placed_put new k j at place here others only_place only_key = grind (arith, here, option_map, get-insert_here jobs k j, get-insert_other)
 
 -- a job that gets another place keeps all else
 pub place_written : {T : Type 0} (jobs : Content (Job T)) (k : Key) (j : Job T) (p : ℕ) → map.get jobs.live k ≡ Some j → timed (with_value jobs k (record j { place = p })) ≡ timed jobs
@@ -64,8 +57,7 @@ module _ {T Z : Type 0} (jobs : Content (Job T)) (heap : Vec Entry Z) (is : IsPl
     module _ (new : Vec Entry Z) (len : vec_len new + 1 ≡ vec_len heap) (by : ((d : Entry) → j.place + 1 < vec_len heap → get_or new.items j.place d ≡ get_or heap.items (vec_len heap - 1) d)
         × ((i : ℕ) (d : Entry) → i ≢ j.place → i + 1 < vec_len heap → get_or new.items i d ≡ get_or heap.items i d)) where
       kept : (i : ℕ) → i ≢ j.place → i + 1 ≢ vec_len heap → heap_entry new.items i ≡ heap_entry heap.items i
-      kept i other not_last = read_alike heap.items new.items i i
-          (λ within. (omega (arith, heap.ok.0, new.ok.0), by.1 i no_entry other (omega (arith, new.ok.0)))) (λ past. omega (arith, heap.ok.0, new.ok.0))
+      kept i other not_last = grind (arith, read_alike)
 
       past_end : (i : ℕ) → vec_len new ≤ i → heap_entry new.items i ≡ None
       past_end i past = ap (option_map _) (slice_get_past new.items i (omega (arith, new.ok.0)))
@@ -73,12 +65,10 @@ module _ {T Z : Type 0} (jobs : Content (Job T)) (heap : Vec Entry Z) (is : IsPl
       -- it was the last itself
       module _ (end : j.place ≡ vec_len new) where
         pub last_placed : IsPlaced (map.remove jobs.live k) new.items
-        last_placed = dropped same_or_other same_or_not (spot_of jobs.live) _ (heap_entry heap.items) _ is k j.place j.turn spot_k (record { gone = spot_gone; others = spot_left })
-            (record { gone = past_end j.place (omega arith); others = λ i other. kept i other (λ same. other (omega arith)) })
+        last_placed = grind (arith, common_steps, same_or_other, same_or_not, spot_k, spot_gone, spot_left, past_end, kept, past_end j.place (omega arith))
 
         pub last_heap : IsHeap heap.items → IsHeap new.items
-        last_heap ordered = heap_left heap.items new.items ordered (omega (arith, heap.ok.0, new.ok.0))
-            (λ i inside. by.1 i no_entry (λ same. absurd (omega (arith, new.ok.0))) (omega (arith, new.ok.0)))
+        last_heap ordered = grind (arith, heap_left)
 
       module _ (apart : j.place ≢ vec_len new) where
         pub gap_within : j.place < vec_len new
@@ -88,10 +78,7 @@ module _ {T Z : Type 0} (jobs : Content (Job T)) (heap : Vec Entry Z) (is : IsPl
         gap_but ordered = heap_put heap.items new.items ordered j.place (λ i inside other. (omega (arith, heap.ok.0, new.ok.0), by.1 i no_entry other (omega (arith, new.ok.0))))
 
         here : heap_entry new.items j.place ≡ heap_entry heap.items (vec_len new)
-        here = let inside = in_heap in
-            let last : vec_len heap - 1 ≡ vec_len new = omega arith in
-            read_alike heap.items new.items (vec_len new) j.place
-            (λ _. (omega (arith, heap.ok.0), by.0 no_entry (omega arith) ∙ ap (λ n. get_or heap.items n no_entry) last)) (λ past. absurd (omega (arith, new.ok.0)))
+        here = grind (arith, in_heap, read_alike)
 
         module _ (m : Entry) (read : m ≡ get_or new.items j.place m) where
           was_last : heap_entry heap.items (vec_len new) ≡ Some (m.handle, m.turn)
@@ -138,14 +125,8 @@ module _ {T Z : Type 0} (jobs : Content (Job T)) (heap : Vec Entry Z) (is : IsPl
     now_a = grind (arith, get-insert_other mid.live eb.handle (record jb { place = a }) ea.handle two, get-insert_here jobs.live ea.handle (record ja { place = b }), spot_a, found_a)
 
     now_b : spot_of noted.live eb.handle ≡ Some (a, eb.turn)
-    now_b = grind (
-      arith,
-      get-insert_here mid.live eb.handle (record jb { place = a }),
-      get-insert_other jobs.live ea.handle (record ja { place = b }) eb.handle
-          (λ same. two (sym same)),
-      spot_b,
-      found_b,
-    )
+    now_b =
+        grind (arith, get-insert_here mid.live eb.handle (record jb { place = a }), get-insert_other jobs.live ea.handle (record ja { place = b }) eb.handle (λ same. two (sym same)), spot_b, found_b)
 
     pub resettled_swap : (new : Vec Entry Z) → vec_len new ≡ vec_len heap → vec_capacity new ≡ vec_capacity heap → SwappedAt heap.items new.items a b → Resettled jobs heap noted new
     resettled_swap new len capacity by = record {

@@ -1,8 +1,7 @@
 -- A heap of turns: what each step leaves that moves an entry up or down, and which entry is first.
-use Rattle.std.proofs.Common.{◌≡◌, ◌≢◌, ◌<◌, ◌≤◌, ◌⊎◌, ◌∙◌}
-use Rattle.slotmap_scheduler.proofs.Common.{ℕ, zero, suc, Bool, true, false, List, get_or, length, refl, sym, ap, arith, vec_len, Vec, SwappedAt, nat_cmp_total, nat_tests}
-use Rattle.slotmap_scheduler.proofs.Common.{exact_unsigned, get_or_read_under, Swapped, Content, alike_or_apart, Job, Entry, Turn, precedes, up, no_entry, turn_at, IsHeap}
-use Rattle.slotmap_scheduler.proofs.Common.{IsHeapBut, IsAbove, IsFirstBelow, IsPlaced, Resettled}
+use Rattle.slotmap_scheduler.proofs.Common.{Bool, Content, Entry, IsAbove, IsFirstBelow, IsHeap, IsHeapBut, IsPlaced, Job, List, Resettled, Swapped, SwappedAt, Turn, Vec, alike_or_apart, ap}
+use Rattle.slotmap_scheduler.proofs.Common.{arith, exact_unsigned, false, get_or, get_or_read_under, length, nat_cmp_total, nat_tests, no_entry, precedes, refl, suc, true, turn_at, up, vec_len}
+use Rattle.slotmap_scheduler.proofs.Common.{zero, ℕ, ◌<◌, ◌∙◌, ◌≡◌, ◌≢◌, ◌≤◌, ◌⊎◌}
 
 pub same_or_not : (i j : ℕ) → (i ≡ j) ⊎ (i ≢ j)
 same_or_not = alike_or_apart nat_cmp_total exact_unsigned
@@ -31,9 +30,7 @@ pub compared : {Z : Type 0} (heap : Vec Entry Z) (i j : ℕ) (x y : Entry) → i
     → y ≡ get_or heap.items j y → (b : Bool) → precedes x.turn y.turn ≡ b
     → precedes (turn_at heap.items i) (turn_at heap.items j) ≡ b
 compared heap i j x y in_i in_j is_x is_y b test =
-    let at_i = get_or_read_under heap.items i (vec_len heap) x no_entry is_x in_i heap.ok.0 in
-    let at_j = get_or_read_under heap.items j (vec_len heap) y no_entry is_y in_j heap.ok.0 in
-    (λ n. precedes (sym at_i n).turn (sym at_j n).turn) ∙ test
+    grind (arith, get_or_read_under heap.items i (vec_len heap) x no_entry is_x in_i heap.ok.0, get_or_read_under heap.items j (vec_len heap) y no_entry is_y in_j heap.ok.0)
 
 -- the first entry is before no other one
 pub top_first : (heap : List Entry) → IsHeap heap → (fuel i : ℕ) → i ≤ fuel → i < length heap → precedes (turn_at heap i) (turn_at heap 0) ≡ false
@@ -69,13 +66,7 @@ module _ (heap : List Entry) (at : ℕ) (but : IsHeapBut at heap) where
 
     -- it is exchanged with the first of those below it
     pub sunk : (child : ℕ) → IsFirstBelow at child heap → SwappedAt heap new at child → IsHeapBut child new
-    sunk child first by =
-        let turns = swapped at child by in
-        record {
-          pairs = λ c low inside apart far.
-              grind (arith, same_or_not (up c) at, same_or_not c at, turns.0, turns.1, turns.2 c, turns.2 (up c), but.pairs c, but.bridges child, first.least c, first.low, first.below, first.inside);
-          bridges = λ c low inside under high. grind (arith, turns.0, turns.2 c, but.pairs c, first.below);
-        }
+    sunk child first by = grind (arith, swapped at child by, same_or_not, (swapped at child by).0, (swapped at child by).1)
 
     pub sunk_above : (child : ℕ) → IsFirstBelow at child heap → SwappedAt heap new at child → precedes (turn_at heap child) (turn_at heap at) ≡ true → IsAbove child new
     sunk_above child first by before low = let turns = swapped at child by in rw (first.below, turns.1, turns.0) (once (turn_at heap child) (turn_at heap at) before)

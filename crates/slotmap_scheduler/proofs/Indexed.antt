@@ -1,13 +1,11 @@
 -- A heap that has the turn of each job: what each call on the map and the heap leaves.
-use Rattle.std.proofs.Common.{◌≡◌, ◌+◌, ◌<◌, [], ◌∷◌, ◌++◌, ◌∙◌}
-use Rattle.slotmap_scheduler.proofs.Common.{ℕ, true, List, Option, Some, None, list_set, get_or, length, refl, sym, ap, arith, vec_len, option_map, Vec}
-use Rattle.slotmap_scheduler.proofs.Common.{length-set, get_or_append_left, get_or-append_right}
-use Rattle.slotmap_scheduler.proofs.Common.{get_or-set_same, get_or-set_other, slice_get-get_or, Key, Content, IsContent, Inserts, Removes, with_value, keys, inserted_fresh}
-use Rattle.slotmap_scheduler.proofs.Common.{inserted_len, removed_len, none_of, mapped-inserts, content-mapped, get-mapped, mapped-insert, Job, Entry, Turn, no_entry, unplaced}
-use Rattle.slotmap_scheduler.proofs.Common.{timed, spot_of, IsPlaced, IsHeap, IsHeapBut, Resettled, IsIndexed}
-use Rattle.std.specs.FinMap as map
+use Rattle.slotmap_scheduler.proofs.Common.{Content, Entry, Inserts, IsContent, IsHeap, IsHeapBut, IsIndexed, IsPlaced, Job, Key, List, None, Option, Removes, Resettled, Some, Turn, Vec, [], ap}
+use Rattle.slotmap_scheduler.proofs.Common.{arith, content-mapped, get-mapped, get_or, get_or-append_right, get_or-set_other, get_or-set_same, get_or_append_left, inserted_fresh, inserted_len}
+use Rattle.slotmap_scheduler.proofs.Common.{keys, length, length-set, list_set, mapped-insert, mapped-inserts, no_entry, none_of, option_map, refl, removed_len, slice_get-get_or, spot_of, sym}
+use Rattle.slotmap_scheduler.proofs.Common.{timed, true, unplaced, vec_len, with_value, ℕ, ◌++◌, ◌+◌, ◌<◌, ◌∙◌, ◌∷◌, ◌≡◌}
 use Rattle.slotmap_scheduler.proofs.Heaps.{heap_put}
-use Rattle.slotmap_scheduler.proofs.HeapPlaces.{entry_is, entry_within, read_alike, placed_put, one_place, in_heap}
+use Rattle.slotmap_scheduler.proofs.HeapPlaces.{entry_is, entry_within, in_heap, one_place, placed_put, read_alike}
+use Rattle.std.specs.FinMap as map
 
 pub same_job : {T : Type 0} (o : Option (Job T)) (i j : Job T) → o ≡ Some i → o ≡ Some j → i ≡ j
 same_job o i j x y = grind arith
@@ -26,8 +24,7 @@ module _ {T Z : Type 0} where
     below i d within = ap (λ es. get_or es i d) items ∙ get_or_append_left heap.items (record { turn = turn; handle = k } ∷ []) d i (omega (arith, heap.ok.0))
 
     last : (d : Entry) → get_or pushed.items (vec_len heap) d ≡ record { turn = turn; handle = k }
-    last d = rw heap.ok.0 (ap (λ es. get_or es (length heap.items) d) items
-        ∙ get_or-append_right heap.items (record { turn = turn; handle = k } ∷ []) (length heap.items) (length heap.items) d refl (omega arith) ∙ grind arith)
+    last d = grind (arith, get_or-append_right heap.items (record { turn = turn; handle = k } ∷ []) (length heap.items) (length heap.items) d refl (omega arith))
 
     free : map.get jobs.live k ≡ None
     free = none_of (map.get jobs.live k) (inserted_fresh true jobs k _ mid valid inserts)

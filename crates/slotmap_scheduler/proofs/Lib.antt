@@ -16,6 +16,7 @@ mod Schedules
 mod Seen
 mod Sorted
 mod TakingDue
+mod TakingOut
 mod Timed
 pub mod Visiting
 mod Waits

@@ -1,13 +1,12 @@
 -- How a change of the jobs changes the order in which they are returned.
-use Rattle.std.proofs.Common.{◌≡◌, ◌≢◌, ◌+◌, ◌<◌, ◌≤◌, [], ◌∷◌, ◌∙◌}
-use Rattle.slotmap_scheduler.proofs.Common.{ℕ, false, cond, List, Some, None, is_some, length, refl, sym, ap, arith, list_map, nat_lt, option_map, All, AllByRecursion, Less}
-use Rattle.slotmap_scheduler.proofs.Common.{eq_by_cmp, put, by_order, nat_tests, length-map, nil_from_length, All-map, All-from_recursion, Key, key_cmp, keys_total, exact_keys}
-use Rattle.slotmap_scheduler.proofs.Common.{alike_or_apart, same_or_other, tied, itself, get_after_insert, get_after_remove, len_removed, Turn, turn_cmp, precedes, IsInverse}
-use Rattle.slotmap_scheduler.proofs.Common.{job_of, in_turn, without, with_job, Timed, by_turn, as_seen, waiting_of, InOrder}
+use Rattle.slotmap_scheduler.proofs.Common.{All, All-from_recursion, All-map, AllByRecursion, InOrder, IsInverse, Key, Less, List, None, Some, Timed, Turn, [], alike_or_apart, ap, arith, as_seen}
+use Rattle.slotmap_scheduler.proofs.Common.{by_order, by_turn, cond, eq_by_cmp, exact_keys, false, get_after_insert, get_after_remove, in_turn, is_some, itself, job_of, key_cmp, keys_total}
+use Rattle.slotmap_scheduler.proofs.Common.{len_removed, length, length-map, list_map, nat_lt, nat_tests, nil_from_length, option_map, precedes, put, refl, same_or_other, sym, tied, turn_cmp}
+use Rattle.slotmap_scheduler.proofs.Common.{waiting_of, with_job, without, ℕ, ◌+◌, ◌<◌, ◌∙◌, ◌∷◌, ◌≡◌, ◌≢◌, ◌≤◌}
+use Rattle.slotmap_scheduler.proofs.Inverse.{dropped, put as inverse_put}
+use Rattle.slotmap_scheduler.proofs.Sorted.{all_of, drops, entries_put, insert_same, none_there, puts}
+use Rattle.slotmap_scheduler.proofs.Timed.{exact_turns, in_order, turns_total}
 use Rattle.std.specs.FinMap as map
-use Rattle.slotmap_scheduler.proofs.Inverse.{put as inverse_put, dropped}
-use Rattle.slotmap_scheduler.proofs.Sorted.{none_there, all_of, entries_put, insert_same, puts, drops}
-use Rattle.slotmap_scheduler.proofs.Timed.{exact_turns, turns_total, in_order}
 
 -- a turn with the highest number is behind all of its time
 last_turn : {A : Type 0} (time count u v : ℕ) → v < count → (a b c : A) → by_order (turn_cmp (time, count) (u, v)) a b c ≡ cond (nat_lt time u) a c

@@ -1,140 +1,69 @@
 -- What callers cite of `retain`: which jobs are left, by what each call of the closure does.
-use Rattle.std.proofs.Common.{◌≡◌, ◌≢◌, [], ◌∷◌, ◌∙◌}
-use Rattle.std.specs.Fn.{Mut, Called}
-use Rattle.std.specs.Borrow.{MutBor}
-use Rattle.std.specs.List.{FoldsTo, filter, filter_map}
-use Rattle.slotmap_scheduler.proofs.Common.{ℕ, Bool, true, false, cond, List, Option, Some, None, is_some, option_map, inl, inr, refl, sym, ap, arith, AllByRecursion}
-use Rattle.slotmap_scheduler.proofs.Common.{Key, keys_total, exact_keys, tied, itself, same_or_other, Waiting, job_of, with_job, without, IsOnce}
-use Rattle.slotmap_scheduler.specs.Retain.{JobVisit, jobs_seen, after_visit, after_visits, CallsForJob, RetainsJobs}
-use Rattle.slotmap_scheduler.proofs.Results.{without_none}
-use Rattle.slotmap_scheduler.proofs.DueCounted.{other_found, once_without}
-use Rattle.slotmap_scheduler.proofs.Visiting.{behind_first, written_once, written_other}
+use Rattle.slotmap_scheduler.proofs.Common.{AllByRecursion, Bool, Called, CallsForJob, FoldsTo, IsOnce, JobVisit, Key, List, Mut, MutBor, None, Option, RetainsJobs, Some, Waiting, [], after_visit}
+use Rattle.slotmap_scheduler.proofs.Common.{after_visits, ap, arith, cond, eq_by_cmp, exact_keys, filter, filter_map, itself, job_of, jobs_seen, key_cmp, keys_total, option_and_then, option_map}
+use Rattle.slotmap_scheduler.proofs.Common.{refl, sym, tied, ℕ, ◌∙◌, ◌∷◌, ◌≡◌}
 
 module _ {T : Type 0} (left : Key → ℕ → T → Option T) where
   -- a job as the calls leave it, or none
   abbrev pub left_of : Key × (ℕ × T) → Option (Key × (ℕ × T))
   left_of e = option_map (λ job. (e.0, (e.1.0, job))) (left e.0 e.1.0 e.1.1)
 
-  -- the same where some jobs were visited, and the others are as they were
-  abbrev left_where : Waiting T → Key × (ℕ × T) → Option (Key × (ℕ × T))
-  left_where seen e = cond (is_some (job_of e.0 seen)) (left_of e) (Some e)
+module _ {K T : Type 0} (data_of : K → Key) where
+  -- what a call leaves of a job, and what all calls do
+  abbrev left_by : JobVisit K T → Key × (ℕ × T) → Option (Key × (ℕ × T))
+  left_by x e = cond (eq_by_cmp key_cmp (data_of x.handle) e.0) (cond x.stays (Some (e.0, (e.1.0, x.after))) None) (Some e)
 
-  filter_map_same : (f g : Key × (ℕ × T) → Option (Key × (ℕ × T))) (k : Key) → ((e : Key × (ℕ × T)) → e.0 ≢ k → f e ≡ g e)
-      → (ws : Waiting T) → job_of k ws ≡ None → filter_map f ws ≡ filter_map g ws
-  filter_map_same f g k same [] none = refl
-  filter_map_same f g k same (e ∷ ws) none =
-      let other : e.0 ≢ k = λ is. (let i = itself keys_total exact_keys k in let n = rw is at none in absurd (grind arith)) in
-      let rest = filter_map_same f g k same ws (grind arith) in
-      let first = same e other in
-      grind (arith, first, rest)
+  abbrev left_by_all : List (JobVisit K T) → Key × (ℕ × T) → Option (Key × (ℕ × T))
+  left_by_all [] e = Some e
+  left_by_all (x ∷ xs) e = option_and_then (left_by_all xs) (left_by x e)
 
-  none_seen : (ws : Waiting T) → filter_map (left_where []) ws ≡ ws
-  none_seen [] = refl
-  none_seen (e ∷ ws) = ap (λ l. e ∷ l) (none_seen ws)
+  module _ (x : JobVisit K T) where
+    none_after : (q : Key) (ws : Waiting T) → job_of q ws ≡ None → job_of q (after_visit data_of x ws) ≡ None
+    none_after q [] none = grind arith
+    none_after q (e ∷ ws) none = grind (arith, none_after q ws)
 
-  module _ (k : Key) (due : ℕ × T) (seen : Waiting T) (fresh : job_of k seen ≡ None) where
-    abbrev seen_too : Waiting T
-    seen_too = (k, due) ∷ seen
+    once_after : (ws : Waiting T) → IsOnce ws → IsOnce (after_visit data_of x ws)
+    once_after [] once = grind arith
+    once_after (e ∷ ws) once = grind (arith, none_after e.0 ws once.0, once_after ws once.1)
 
-    same_apart : (e : Key × (ℕ × T)) → e.0 ≢ k → left_where seen e ≡ left_where seen_too e
-    same_apart e other = ap (λ o. cond (is_some o) (left_of e) (Some e)) (sym (behind_first (k, due) e.0 seen other))
+    module _ (h : Key × (ℕ × T) → Option (Key × (ℕ × T))) where
+      none_there : (ws : Waiting T) → job_of (data_of x.handle) ws ≡ None → filter_map (λ e. option_and_then h (left_by x e)) ws ≡ filter_map h ws
+      none_there [] none = refl
+      none_there (e ∷ ws) none = grind (arith, none_there ws)
 
-    found_itself : is_some (job_of k seen_too) ≡ true
-    found_itself = let found : job_of k seen_too ≡ Some due = grind (arith, itself keys_total exact_keys k) in ap is_some found
+      after_one : (ws : Waiting T) → IsOnce ws → filter_map h (after_visit data_of x ws) ≡ filter_map (λ e. option_and_then h (left_by x e)) ws
+      after_one [] once = grind arith
+      after_one (e ∷ ws) once = grind (arith, after_one ws once.1, none_there ws, once.0, tied keys_total exact_keys (data_of x.handle) e.0)
 
-    seen_itself : (e : Key × (ℕ × T)) → e.0 ≡ k → left_where seen_too e ≡ left_of e
-    seen_itself e is = ap (λ b. cond b (left_of e) (Some e)) (ap (λ q. is_some (job_of q seen_too)) is ∙ found_itself)
+  after_all : (xs : List (JobVisit K T)) (ws : Waiting T) → IsOnce ws → after_visits data_of xs ws ≡ filter_map (left_by_all xs) ws
+  after_all [] [] once = refl
+  after_all [] (e ∷ ws) once = ap (λ l. e ∷ l) (after_all [] ws once.1)
+  after_all (x ∷ xs) ws once = after_all xs (after_visit data_of x ws) (once_after x ws once) ∙ after_one x (left_by_all xs) ws once
 
-    not_seen : (e : Key × (ℕ × T)) → e.0 ≡ k → left_where seen e ≡ Some e
-    not_seen e is = ap (λ b. cond b (left_of e) (Some e)) (ap (λ q. is_some (job_of q seen)) is ∙ ap is_some fresh)
+  unseen : (xs : List (JobVisit K T)) (e : Key × (ℕ × T)) → job_of e.0 (jobs_seen data_of xs) ≡ None → left_by_all xs e ≡ Some e
+  unseen [] e none = refl
+  unseen (x ∷ xs) e none = grind (arith, unseen xs e, tied keys_total exact_keys (data_of x.handle) e.0, itself keys_total exact_keys e.0)
 
-    -- a job that stays, with what the call wrote
-    kept_left : (w : T) → left k due.0 due.1 ≡ Some w → (ws : Waiting T) → IsOnce ws → job_of k ws ≡ Some due
-        → filter_map (left_where seen) (with_job k w ws) ≡ filter_map (left_where seen_too) ws
-    kept_left w leaves [] once there = absurd (cc)
-    kept_left w leaves (e ∷ ws) once there = elim (same_or_other e.0 k) [
-      | inl is ↦
-          let found : e.1 ≡ due = (let i = itself keys_total exact_keys k in let t = rw is at there in grind arith) in
-          let behind = filter_map_same (left_where seen) (left_where seen_too) k same_apart ws (rw is at once.0) in
-          let gone = not_seen (e.0, (e.1.0, w)) is in
-          let here = seen_itself e is in
-          let value : left_of e ≡ Some (e.0, (e.1.0, w)) = rw (is, found) (ap (option_map (λ job. (k, (due.0, job)))) leaves) in
-          grind (arith, behind, gone, here, value, itself keys_total exact_keys k, is)
-      | inr other ↦
-          let rest = kept_left w leaves ws once.1 (sym (behind_first e k ws (λ is. other (sym is))) ∙ there) in
-          let same = same_apart e other in
-          grind (arith, rest, same, tied keys_total exact_keys k e.0)
-    ]
+  module _ (left : Key → ℕ → T → Option T) where
+    -- a call leaves its job as `left` says
+    abbrev LeavesBy : JobVisit K T → Type 0
+    LeavesBy x = left (data_of x.handle) x.time x.before ≡ cond x.stays (Some x.after) None
 
-    -- a job that goes
-    dropped_left : left k due.0 due.1 ≡ None → (ws : Waiting T) → IsOnce ws → job_of k ws ≡ Some due → filter_map (left_where seen) (without k ws) ≡ filter_map (left_where seen_too) ws
-    dropped_left leaves [] once there = absurd (cc)
-    dropped_left leaves (e ∷ ws) once there = elim (same_or_other e.0 k) [
-      | inl is ↦
-          let found : e.1 ≡ due = (let i = itself keys_total exact_keys k in let t = rw is at there in grind arith) in
-          let none : job_of k ws ≡ None = rw is at once.0 in
-          let behind = filter_map_same (left_where seen) (left_where seen_too) k same_apart ws none in
-          let others = without_none k ws none in
-          let here = seen_itself e is in
-          let value : left_of e ≡ None = rw (is, found) (ap (option_map (λ job. (k, (due.0, job)))) leaves) in
-          grind (arith, behind, others, here, value, itself keys_total exact_keys k, is)
-      | inr other ↦
-          let rest = dropped_left leaves ws once.1 (sym (behind_first e k ws (λ is. other (sym is))) ∙ there) in
-          let same = same_apart e other in
-          grind (arith, rest, same, tied keys_total exact_keys k e.0)
-    ]
+    seen : (xs : List (JobVisit K T)) → AllByRecursion LeavesBy xs → IsOnce (jobs_seen data_of xs) → (e : Key × (ℕ × T)) → job_of e.0 (jobs_seen data_of xs) ≡ Some e.1
+        → left_by_all xs e ≡ left_of left e
+    seen [] leaves once e there = absurd (cc)
+    seen (x ∷ xs) leaves once e there =
+        let tie = tied keys_total exact_keys (data_of x.handle) e.0 in
+        grind (arith, seen xs leaves.1 once.1 e, unseen xs, once.0, leaves.0, tie, tied keys_total exact_keys e.0 (data_of x.handle), itself keys_total exact_keys e.0)
 
--- the jobs that all calls leave
-module _ {K T : Type 0} (data_of : K → Key) (left : Key → ℕ → T → Option T) where
-  -- a call leaves its job as `left` says
-  abbrev LeavesBy : JobVisit K T → Type 0
-  LeavesBy x = left (data_of x.handle) x.time x.before ≡ cond x.stays (Some x.after) None
-
-  module _ (x : JobVisit K T) (seen : Waiting T) (fresh : job_of (data_of x.handle) seen ≡ None) (leaves : LeavesBy x) (ws : Waiting T) (once : IsOnce ws)
-      (there : job_of (data_of x.handle) ws ≡ Some (x.time, x.before)) where
-    left_after : filter_map (left_where left seen) (after_visit data_of x ws) ≡ filter_map (left_where left ((data_of x.handle, (x.time, x.before)) ∷ seen)) ws
-    left_after = elim x.stays as (λ b. left (data_of x.handle) x.time x.before ≡ cond b (Some x.after) None
-        → filter_map (left_where left seen) (cond b (with_job (data_of x.handle) x.after ws) (without (data_of x.handle) ws)) ≡ filter_map
-        (left_where left ((data_of x.handle, (x.time, x.before)) ∷ seen)) ws) [
-          | true ↦ λ kept. kept_left left (data_of x.handle) (x.time, x.before) seen fresh x.after kept ws once there
-          | false ↦ λ gone. dropped_left left (data_of x.handle) (x.time, x.before) seen fresh gone ws once there
-        ] leaves
-
-  -- what the calls saw was there, each once
-  there_after : (x : JobVisit K T) (q : Key) (ws : Waiting T) → q ≢ data_of x.handle → job_of q (after_visit data_of x ws) ≡ job_of q ws
-  there_after x q ws other = elim x.stays as (λ b. job_of q (cond b (with_job (data_of x.handle) x.after ws) (without (data_of x.handle) ws)) ≡ job_of q ws) [
-    | true ↦ written_other (data_of x.handle) x.after q ws other
-    | false ↦ other_found (data_of x.handle) q ws other
-  ]
-
-  once_after : (x : JobVisit K T) (ws : Waiting T) → IsOnce ws → IsOnce (after_visit data_of x ws)
-  once_after x ws once = elim x.stays as (λ b. IsOnce (cond b (with_job (data_of x.handle) x.after ws) (without (data_of x.handle) ws))) [
-    | true ↦ written_once (data_of x.handle) x.after ws once
-    | false ↦ once_without (data_of x.handle) ws once
-  ]
-
-  all_left : (xs : List (JobVisit K T)) → AllByRecursion LeavesBy xs → IsOnce (jobs_seen data_of xs) → (ws : Waiting T) → IsOnce ws
-      → ((k : Key) (due : ℕ × T) → job_of k (jobs_seen data_of xs) ≡ Some due → job_of k ws ≡ Some due)
-      → after_visits data_of xs ws ≡ filter_map (left_where left (jobs_seen data_of xs)) ws
-  all_left [] leaves once_seen ws once there = sym (none_seen left ws)
-  all_left (x ∷ xs) leaves once_seen ws once there =
-      let k = data_of x.handle in
-      let here : job_of k ws ≡ Some (x.time, x.before) = there k (x.time, x.before) (grind (arith, itself keys_total exact_keys k)) in
-      all_left xs leaves.1 once_seen.1 (after_visit data_of x ws) (once_after x ws once)
-      (λ q due found.
-      let other : q ≢ k = λ is. absurd (let none = once_seen.0 in let f = rw is at found in cc) in
-      there_after x q ws other ∙ there q due (behind_first (k, (x.time, x.before)) q (jobs_seen data_of xs) other ∙ found))
-      ∙ left_after x (jobs_seen data_of xs) once_seen.0 leaves.0 ws once here
-
-  -- where each job was seen, none is left as it was
-  every_seen : (seen ws : Waiting T) → IsOnce ws → ((k : Key) → is_some (job_of k ws) ≡ true → is_some (job_of k seen) ≡ true)
-      → filter_map (left_where left seen) ws ≡ filter_map (left_of left) ws
-  every_seen seen [] once all = refl
-  every_seen seen (e ∷ ws) once all =
-      let here = all e.0 (grind (arith, itself keys_total exact_keys e.0)) in
-      let first : left_where left seen e ≡ left_of left e = ap (λ b. cond b (left_of left e) (Some e)) here in
-      let rest = every_seen seen ws once.1 (λ k there. all k (grind (arith, there))) in
-      grind (arith, first, rest)
+    -- where each job was seen, once
+    all_seen : (xs : List (JobVisit K T)) → AllByRecursion LeavesBy xs → IsOnce (jobs_seen data_of xs) → (ws : Waiting T) → IsOnce ws
+        → ((k : Key) (due : ℕ × T) → job_of k ws ≡ Some due → job_of k (jobs_seen data_of xs) ≡ Some due) → filter_map (left_by_all xs) ws ≡ filter_map (left_of left) ws
+    all_seen xs leaves once [] once_ws all = refl
+    all_seen xs leaves once (e ∷ ws) once_ws all =
+        let here = seen xs leaves once e (all e.0 e.1 (grind (arith, itself keys_total exact_keys e.0))) in
+        let rest = all_seen xs leaves once ws once_ws.1 (λ k due there. all k due (grind (arith, once_ws.0, tied keys_total exact_keys k e.0, itself keys_total exact_keys k))) in
+        grind (arith, here, rest)
 
 -- what `retain` leaves, in the same order: of each job what a call for it leaves, as `left` says, where the calls keep a fact of the closure
 module _ {F K T : Type 0} {g : Mut F (K × (ℕ × (MutBor T × Unit {0}))) (Bool × (MutBor T × Unit {0}))} {data_of : K → Key} (left : Key → ℕ → T → Option T) (Holds : F → Type 0)
@@ -148,10 +77,7 @@ module _ {F K T : Type 0} {g : Mut F (K × (ℕ × (MutBor T × Unit {0}))) (Boo
       (ap (left (data_of x.handle) x.time) (sym call.shows) ∙ one.1 ∙ ap (λ w. cond x.stays (Some w) None) call.leaves, leave_all calls.0 last xs one.0 calls.2)
 
   pub retained_jobs : {f : F} {old new : Waiting T} → Holds f → IsOnce old → RetainsJobs g data_of f old new → new ≡ filter_map (left_of left) old
-  retained_jobs {f} {old} {new} holds once ran =
-      let seen = jobs_seen data_of ran.visits in
-      ran.stay ∙ all_left data_of left ran.visits (leave_all f ran.last ran.visits holds ran.calls) ran.once old once (λ k due found. sym (ran.each.same k) ∙ found)
-      ∙ every_seen data_of left seen old once (λ k there. ap is_some (ran.each.same k) ∙ there)
+  retained_jobs {f} {old} holds once ran = grind (arith, after_all data_of ran.visits old once, all_seen, leave_all f ran.last ran.visits holds ran.calls)
 
 -- the same where no call writes: the jobs that pass a test
 module _ {F K T : Type 0} {g : Mut F (K × (ℕ × (MutBor T × Unit {0}))) (Bool × (MutBor T × Unit {0}))} {data_of : K → Key} (test : Key → ℕ → T → Bool) (Holds : F → Type 0)

@@ -1,17 +1,15 @@
 -- What holds of every scheduler, after each call.
-use Rattle.std.proofs.Common.{◌≡◌, ◌≢◌, ◌+◌, ◌≤◌, ◌⊎◌, [], ◌∙◌}
-use Rattle.slotmap_scheduler.proofs.Common.{ℕ, true, Some, None, is_some, length, refl, sym, ap, inl, inr, arith, vec_len, vec_capacity, option_map, Vec}
-use Rattle.slotmap_scheduler.proofs.Common.{nat_cmp_total, exact_unsigned, Key, key_cmp, Content, IsContent, Inserts, Removes, Leaves, with_value, keys, keys_total}
-use Rattle.slotmap_scheduler.proofs.Common.{exact_keys, inserted_fresh, inserted_len, removed_len, none_of, tied, content-mapped, get-mapped, len-mapped, mapped-empty}
-use Rattle.slotmap_scheduler.proofs.Common.{mapped-insert, mapped-with, map_values, Job, Entry, Schedule, job_of, in_turn, without, with_job, Turn, waiting_of, InOrder, unplaced}
-use Rattle.slotmap_scheduler.proofs.Common.{timed, spot_of, heap_entry, IsIndexed, handles_of, IsSchedule, IsLive, MakesRoom, cond, get-insert_here, get-insert_other}
-use Rattle.slotmap_scheduler.proofs.Common.{leaves_by_removal, shown_content, mapped-room}
-use Rattle.slotmap.proofs.Callers.{some_entry, vacant_at_most}
-use Rattle.std.specs.FinMap as map
-use Rattle.slotmap_scheduler.proofs.Order.{added, removed, written, none_in_order, none_wait, job_is, job_stays, len_is}
-use Rattle.slotmap_scheduler.proofs.Handles.{handles_written, handles_content, handles_room}
+use Rattle.slotmap_scheduler.proofs.Common.{Content, Entry, InOrder, Inserts, IsContent, IsIndexed, IsLive, IsSchedule, Job, Key, Leaves, MakesRoom, None, Removes, Schedule, Some, Turn, Vec, []}
+use Rattle.slotmap_scheduler.proofs.Common.{ap, arith, cond, content-mapped, exact_keys, exact_unsigned, get-insert_here, get-insert_other, get-mapped, handles_of, heap_entry, in_turn, inl, inr}
+use Rattle.slotmap_scheduler.proofs.Common.{inserted_fresh, inserted_len, is_some, job_of, key_cmp, keys, keys_total, leaves_by_removal, len-mapped, length, map_values, mapped-empty}
+use Rattle.slotmap_scheduler.proofs.Common.{mapped-insert, mapped-room, mapped-with, nat_cmp_total, none_of, option_map, refl, removed_len, shown_content, some_entry, spot_of, sym, tied, timed}
+use Rattle.slotmap_scheduler.proofs.Common.{true, unplaced, vacant_at_most, vec_capacity, vec_len, waiting_of, with_job, with_value, without, ℕ, ◌+◌, ◌∙◌, ◌≡◌, ◌≢◌}
+use Rattle.slotmap_scheduler.proofs.Common.{◌≤◌, ◌⊎◌}
+use Rattle.slotmap_scheduler.proofs.Order.{added, job_is, job_stays, len_is, none_in_order, none_wait, removed, written}
+use Rattle.slotmap_scheduler.proofs.Handles.{handles_content, handles_room, handles_written}
 use Rattle.slotmap_scheduler.proofs.Inverse.{alike}
 use Rattle.slotmap_scheduler.proofs.HeapPlaces.{entry_within}
+use Rattle.std.specs.FinMap as map
 
 -- a job that is found without another one
 get-removed_other : {V : Type 0} (m : map.FinMap key_cmp V) (k q : Key) → q ≢ k → map.get (map.remove m k) q ≡ map.get m q
@@ -56,15 +54,7 @@ module _ {T Z : Type 0} {jobs : Content (Job T)} {count : ℕ} {heap : Vec Entry
   -- room was made in the map and in the heap
   pub reserved_schedule : (jobs' : Content (Job T)) (heap' : Vec Entry Z) (n : ℕ) (ok : Type 0) → MakesRoom true jobs n ok jobs' → heap'.items ≡ heap.items → vec_len heap' ≡ vec_len heap
       → vec_capacity heap ≤ vec_capacity heap' → IsSchedule jobs' count heap'
-  reserved_schedule jobs' heap' n ok makes items len more =
-      let keeps = makes.keeps in
-      let live = ap (map_values unplaced) keeps.live in
-      record {
-        order = rw live is.order;
-        valid = content-mapped unplaced jobs' true makes.after;
-        indexed = record { placed = rw (keeps.live, items) is.indexed.placed; ordered = rw items is.indexed.ordered; len = len ∙ is.indexed.len ∙ sym (ap map.len live) };
-        room = (let room = is.room in let next = ap map.len keeps.next in let all = ap map.len live in omega arith);
-      }
+  reserved_schedule jobs' heap' n ok makes items len more = grind (arith, content-mapped unplaced jobs' true makes.after, makes.keeps.live)
 
   -- a job was put in
   module _ (jobs' : Content (Job T)) (k : Key) (time : ℕ) (job : T) (inserts : Inserts (timed jobs) k ((time, count), job) (timed jobs')) where

@@ -1,13 +1,12 @@
 -- What a scheduler's user sees, by what its map holds.
-use Rattle.std.proofs.Common.{◌≡◌, ◌<◌, ◌≤◌, [], ◌∷◌, ◌∙◌}
-use Rattle.slotmap_scheduler.proofs.Common.{ℕ, true, false, inl, List, Bor, Option, Some, None, is_some, option_copied, length, refl, sym, ap, arith, list_map, slice_get, Vec, All}
-use Rattle.slotmap_scheduler.proofs.Common.{option_map, find, length-map, slice_get-get_or, Key, key_cmp, Content, get-mapped, len-mapped, Job}
-use Rattle.slotmap_scheduler.proofs.Common.{Entry, job_of, without, ListsJobs, shown, Turn, waiting_of, precedes, no_entry, turn_at, heap_entry, unplaced, timed}
-use Rattle.slotmap_scheduler.proofs.Common.{IsSchedule, IsContent, IsLive}
-use Rattle.std.specs.FinMap as map
-use Rattle.slotmap_scheduler.proofs.Order.{job_is, len_is, waits_first, none_due, none_wait}
+use Rattle.slotmap_scheduler.proofs.Common.{All, Bor, Content, Entry, IsContent, IsLive, IsSchedule, Job, Key, List, ListsJobs, None, Option, Some, Turn, Vec, [], ap, arith, false, find}
+use Rattle.slotmap_scheduler.proofs.Common.{get-mapped, heap_entry, inl, is_some, job_of, key_cmp, len-mapped, length, length-map, list_map, no_entry, option_copied, option_map, precedes, refl}
+use Rattle.slotmap_scheduler.proofs.Common.{shown, slice_get, slice_get-get_or, sym, timed, true, turn_at, unplaced, waiting_of, without, ℕ, ◌<◌, ◌∙◌, ◌∷◌, ◌≡◌, ◌≤◌}
+use Rattle.slotmap_scheduler.proofs.Order.{job_is, len_is, none_due, none_wait, waits_first}
 use Rattle.slotmap_scheduler.proofs.Heaps.{top_first}
 use Rattle.slotmap_scheduler.proofs.HeapPlaces.{entry_within}
+use Rattle.slotmap_scheduler.proofs.Waits.{least_first, waits_by_time}
+use Rattle.std.specs.FinMap as map
 
 -- a reference that is not there
 pub none_copied : {A : Type 0} (r : Option (Bor A)) (o : Option A) → option_copied r ≡ o → r ≡ None → o ≡ None
@@ -67,6 +66,9 @@ module _ {T Z : Type 0} {jobs : Content (Job T)} {count : ℕ} {heap : Vec Entry
     pub top_waits : (job : T) × (waiting_of (timed jobs).live ≡ (e.handle, (e.turn.0, job)) ∷ without e.handle (waiting_of (timed jobs).live))
     top_waits = (top_job.0, waits_first (timed jobs).live count is.order e.handle e.turn top_job.0 top_job.1 least)
 
+    pub top_least : All (λ (x : Key × (ℕ × T)). e.turn.0 ≤ x.1.0) (waiting_of (timed jobs).live)
+    top_least = least_first _ _ _ (waits_by_time (timed jobs).live) top_waits.1
+
     pub top_later : (now : ℕ) → now < e.turn.0 → All (λ (x : Key × (ℕ × T)). now < x.1.0) (waiting_of (timed jobs).live)
     top_later now later = none_due (timed jobs).live count is.order e.handle e.turn top_job.0 top_job.1 least now later
 
@@ -98,6 +100,4 @@ module _ {T Z : Type 0} {jobs : Content (Job T)} {count : ℕ} {heap : Vec Entry
       → ((other : Key) → IsLive jobs other → floor ≤ other.index → k.index ≤ other.index)
       → (q : Key) → is_some (job_of q (waiting_of (timed jobs).live)) ≡ true → floor ≤ q.index → q.index ≤ k.index → q ≡ k
   alone_at well j found floor first q there from up =
-      let live : IsLive jobs q = contains_seen is q ∙ there in
-      let least = first q live from in
-      well.apart q k (inl (inl live)) (inl (inl (ap is_some found))) (omega arith)
+      let live : IsLive jobs q = contains_seen is q ∙ there in let least = first q live from in well.apart q k (inl (inl live)) (inl (inl (ap is_some found))) (omega arith)

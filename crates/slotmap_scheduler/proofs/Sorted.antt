@@ -1,10 +1,9 @@
 -- The entries of a finite map, in the order of their keys.
-use Rattle.std.proofs.Common.{◌≡◌, ◌&&◌, [], ◌∷◌, ◌∙◌}
-use Rattle.slotmap_scheduler.proofs.Common.{Bool, true, false, cond, T, List, Option, Some, None, length, refl, sym, ap, subst, arith, list_map, option_map, unwrap_or, Ordering}
-use Rattle.slotmap_scheduler.proofs.Common.{is_lt, eq_by_cmp, IsTotalOrder, AllByRecursion, AllZip, find, put, below_all, is_sorted, CmpEqualImpliesEq, length-map, IsCloneOf}
-use Rattle.slotmap_scheduler.proofs.Common.{tied, itself}
+use Rattle.slotmap_scheduler.proofs.Common.{AllByRecursion, AllZip, Bool, CmpEqualImpliesEq, IsCloneOf, IsTotalOrder, List, None, Option, Ordering, Some, T, [], ap, arith, below_all, cond}
+use Rattle.slotmap_scheduler.proofs.Common.{eq_by_cmp, false, find, is_lt, is_sorted, itself, length, length-map, list_map, option_map, put, refl, subst, sym, tied, true, unwrap_or, ◌&&◌}
+use Rattle.slotmap_scheduler.proofs.Common.{◌∙◌, ◌∷◌, ◌≡◌}
+use Rattle.slotmap_scheduler.proofs.Inverse.{Drops, Puts}
 use Rattle.std.specs.FinMap as map
-use Rattle.slotmap_scheduler.proofs.Inverse.{Puts, Drops}
 
 pub first : (a b : Bool) → T (a && b) → T a
 first true b p = tt

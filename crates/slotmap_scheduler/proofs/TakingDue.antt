@@ -1,15 +1,8 @@
 -- A loop that takes out the jobs that are due.
-use Rattle.std.proofs.Common.{◌≡◌, ◌+◌, ◌≤◌, ◌⊎◌, [], ◌∷◌, ◌++◌, ◌∙◌}
-use Rattle.slotmap_scheduler.proofs.Common.{ℕ, inl, inr, true, false, cond, List, None, is_some, length, refl, sym, ap}
-use Rattle.slotmap_scheduler.proofs.Common.{subst, arith, append_assoc, append-nil, vec_len, vec_capacity, Vec}
-use Rattle.slotmap_scheduler.proofs.Common.{All, map_push, All-nil, All-push, nat_lt, nat_tests, Key, IsSpent, KeepsSpent, keys_total, exact_keys, tied}
-use Rattle.slotmap_scheduler.proofs.Common.{Schedule, Waiting, job_of, Due, due_at, TakesDue}
-use Rattle.slotmap_scheduler.proofs.Common.{Leaves, leaves_none, leaves_in_turn, IsByTime}
+use Rattle.slotmap_scheduler.proofs.Common.{All, All-nil, All-push, Due, IsByTime, Key, List, Schedule, TakesDue, Vec, Waiting, [], ap, append-nil, append_assoc, arith, cond, due_at, false}
+use Rattle.slotmap_scheduler.proofs.Common.{length, map_push, nat_lt, nat_tests, refl, sym, vec_capacity, vec_len, ℕ, ◌++◌, ◌+◌, ◌∙◌, ◌∷◌, ◌≡◌, ◌≤◌}
+use Rattle.slotmap_scheduler.proofs.TakingOut.{HasFewer, same_fewer, still_fewer}
 use Rattle.slotmap_scheduler.proofs.Waits.{sorted_first}
-
--- a handle is that of the first job, or it was gone before
-gone : {T : Type 0} (k : Key) (e : Key × (ℕ × T)) (es ws : Waiting T) → ws ≡ e ∷ es → job_of k es ≡ None → (k ≡ e.0) ⊎ (job_of k ws ≡ None)
-gone k e es ws is none = grind (arith, tied keys_total exact_keys k e.0)
 
 module _ {T : Type 0} (now : ℕ) where
   abbrev IsDue : Key × (ℕ × T) → Type 0
@@ -33,35 +26,19 @@ module _ {K T Z : Type 0} (data_of : K → Key) (now : ℕ) where
     pub added : due.items ≡ start.items ++ taken
     -- there is room for the others
     pub room : vec_len due + length (due_at now s.waiting) ≤ vec_capacity due
-    pub turns : s.turns ≡ old.turns
-    pub for_good : (k : Key) → is_some (job_of k old.waiting) ≡ true → job_of k s.waiting ≡ None → IsSpent s.handles k
-    pub capacity : s.handles.capacity ≡ old.handles.capacity
-    pub leaves : Leaves old.handles s.handles
-    pub stale : KeepsSpent old.handles s.handles
+    pub fewer : HasFewer old s
 
   pub taking_start : (old : Schedule T) (start grew : Vec (K × T) Z) → grew.items ≡ start.items
       → vec_len grew + length (due_at now old.waiting) ≤ vec_capacity grew → Taking old start old grew
-  taking_start old start grew same room = record {
-    first = [];
-    taken = [];
-    waited = refl;
-    all_due = All-nil _;
-    returned = refl;
-    added = same ∙ sym (append-nil start.items);
-    room = room;
-    turns = refl;
-    for_good = λ k there none. absurd (let h = ap is_some none in cc);
-    capacity = refl;
-    leaves = leaves_none old.handles;
-    stale = λ k spent. spent;
-  }
+  taking_start old start grew same room =
+      record { first = []; taken = []; waited = refl; all_due = All-nil _; returned = refl; added = same ∙ sym (append-nil start.items); room = room; fewer = same_fewer old }
 
   -- one more job
-  pub taking_step : (old : Schedule T) (start : Vec (K × T) Z) (s s' : Schedule T) (due due' : Vec (K × T) Z) (job : K × T) (time : ℕ)
-      → Taking old start s due → time ≤ now → s.waiting ≡ (data_of job.0, (time, job.1)) ∷ s'.waiting → IsSpent s'.handles (data_of job.0)
-      → s'.handles.capacity ≡ s.handles.capacity → Leaves s.handles s'.handles → KeepsSpent s.handles s'.handles → s'.turns ≡ s.turns
-      → due'.items ≡ due.items ++ job ∷ [] → vec_len due' ≡ vec_len due + 1 → vec_capacity due' ≡ vec_capacity due → Taking old start s' due'
-  taking_step old start s s' due due' job time t le waits spent same_capacity leaves stale turns items len capacity =
+  pub taking_step : (old : Schedule T) (start : Vec (K × T) Z) (s s' : Schedule T) (due due' : Vec (K × T) Z) (job : K × T) (time : ℕ) → Taking old start s due → time ≤ now
+      → s.waiting ≡ (data_of job.0, (time, job.1)) ∷ s'.waiting → HasFewer s s' → due'.items ≡ due.items ++ job ∷ [] → vec_len due' ≡ vec_len due + 1
+      → vec_capacity due' ≡ vec_capacity due
+      → Taking old start s' due'
+  taking_step old start s s' due due' job time t le waits fewer items len capacity =
       let e : Key × (ℕ × T) = (data_of job.0, (time, job.1)) in
       record {
         first = t.first ++ e ∷ [];
@@ -72,14 +49,7 @@ module _ {K T Z : Type 0} (data_of : K → Key) (now : ℕ) where
             ∙ ap (λ l. l ++ (data_of job.0, job.1) ∷ []) t.returned ∙ sym (map_push (λ (x : K × T). (data_of x.0, x.1)) t.taken job);
         added = items ∙ ap (λ l. l ++ job ∷ []) t.added ∙ append_assoc start.items t.taken (job ∷ []);
         room = (let was = t.room in let one = first_due now e s'.waiting s.waiting le waits in omega arith);
-        turns = turns ∙ t.turns;
-        for_good = λ k there none. elim (gone k e s'.waiting s.waiting waits none) [
-          | inl same ↦ subst (IsSpent s'.handles) (sym same) spent
-          | inr before ↦ stale k (t.for_good k there before)
-        ];
-        capacity = same_capacity ∙ t.capacity;
-        leaves = leaves_in_turn _ _ _ t.leaves leaves;
-        stale = λ k h. stale k (t.stale k h);
+        fewer = still_fewer t.fewer fewer;
       }
 
   pub taking_end : (old : Schedule T) (start : Vec (K × T) Z) (s : Schedule T) (due : Vec (K × T) Z) → Taking old start s due → IsByTime old.waiting
@@ -96,5 +66,4 @@ module _ {K T Z : Type 0} (data_of : K → Key) (now : ℕ) where
 
 -- nothing was taken out
 pub takes_none : {K T : Type 0} (data_of : K → Key) (now : ℕ) (ws : Waiting T) (items all : List (K × T)) → all ≡ items → TakesDue data_of now ws items all ws
-takes_none data_of now ws items all same =
-    record { first = []; taken = []; waited = refl; due = All-nil _; sorted = tt; returned = refl; added = same ∙ sym (append-nil items) }
+takes_none data_of now ws items all same = record { first = []; taken = []; waited = refl; due = All-nil _; sorted = tt; returned = refl; added = same ∙ sym (append-nil items) }

@@ -1,10 +1,9 @@
 -- Jobs by their turns: no two have one turn, so each is found by its turn.
-use Rattle.std.proofs.Common.{◌≡◌, ◌<◌, [], ◌∷◌, ◌∙◌}
-use Rattle.slotmap_scheduler.proofs.Common.{ℕ, List, Some, sym, ap, arith, list_map, nat_cmp, IsTotalOrder, nat_cmp_total, AllByRecursion, find, on_total, then_total}
-use Rattle.slotmap_scheduler.proofs.Common.{CmpEqualImpliesEq, exact_pairs, exact_unsigned, Key, key_cmp, keys_total, exact_keys, tied, untied, Turn, turn_cmp, IsInverse, Timed}
-use Rattle.slotmap_scheduler.proofs.Common.{by_turn, as_seen, waiting_of, InOrder}
+use Rattle.slotmap_scheduler.proofs.Common.{AllByRecursion, CmpEqualImpliesEq, InOrder, IsInverse, IsTotalOrder, Key, List, Some, Timed, Turn, [], arith, as_seen, by_turn, exact_keys, exact_pairs}
+use Rattle.slotmap_scheduler.proofs.Common.{exact_unsigned, find, key_cmp, keys_total, list_map, nat_cmp, nat_cmp_total, on_total, sym, then_total, tied, turn_cmp, untied, waiting_of, ℕ}
+use Rattle.slotmap_scheduler.proofs.Common.{◌<◌, ◌∙◌, ◌∷◌, ◌≡◌}
+use Rattle.slotmap_scheduler.proofs.Sorted.{all_of, same_option}
 use Rattle.std.specs.FinMap as map
-use Rattle.slotmap_scheduler.proofs.Sorted.{same_option, all_of}
 
 pub exact_turns : CmpEqualImpliesEq turn_cmp
 exact_turns = exact_pairs nat_cmp nat_cmp exact_unsigned exact_unsigned
@@ -52,6 +51,4 @@ module _ {T : Type 0} where
   -- jobs that are in order, and how they wait, by what finds each by its turn
   pub in_order : (jobs : Timed T) (count : ℕ) (turns : map.FinMap turn_cmp (Key × T)) → IsInverse (map.get jobs) (map.get turns) → map.len turns ≡ map.len jobs
       → ((k : Key) (t : Turn) (job : T) → map.get jobs k ≡ Some (t, job) → t.1 < count) → InOrder jobs count × (waiting_of jobs ≡ list_map as_seen (map.entries turns))
-  in_order jobs count turns is len numbered =
-      let same = by_turn_is jobs turns is in
-      (record { turns = rw same is; len = rw same len; numbered = numbered }, ap (λ (m : map.FinMap turn_cmp (Key × T)). list_map as_seen (map.entries m)) same)
+  in_order jobs count turns is len numbered = grind (arith, by_turn_is jobs turns is)

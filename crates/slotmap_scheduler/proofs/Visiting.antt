@@ -1,43 +1,20 @@
 -- A loop that visits all jobs, by ascending index of their handles, and keeps or removes each.
-use Rattle.std.proofs.Common.{◌≡◌, ◌≢◌, ◌⊎◌, ◌+◌, ◌<◌, ◌≤◌, [], ◌∷◌, ◌++◌, ◌∙◌}
-use Rattle.std.specs.Prelude.{if◌then◌else◌}
-use denote.Param.Always.{always_mut, mut_next}
-use Rattle.std.specs.Fn.{Mut, Called, Takes}
-use Rattle.std.specs.Borrow.{MutBor}
-use Rattle.std.specs.List.{FoldsTo}
-use Rattle.std.proofs.lemmas.Fn.{FoldsTo-push}
-use Rattle.slotmap_scheduler.proofs.Common.{ℕ, Bool, true, false, List, Some, None, is_some, length, inl, inr, refl, sym, ap, subst, arith, nat_lt, nat_tests, cond, eq_by_cmp, key_cmp}
-use Rattle.slotmap_scheduler.proofs.Common.{Key, IsSpent, KeepsSpent, Leaves, leaves_none, leaves_in_turn, keys_total, exact_keys, tied, itself, same_or_other}
-use Rattle.slotmap_scheduler.proofs.Common.{Schedule, Waiting, job_of, with_job, without, IsOnce}
-use Rattle.slotmap_scheduler.specs.Retain.{JobVisit, jobs_seen, after_visit, after_visits, SeesEachOnce, CallsForJob, RetainsJobs, CallableOnJobs}
-use Rattle.slotmap_scheduler.proofs.DueCounted.{other_found, once_without, len_without}
-
-below_or_not : (i n : ℕ) → (i < n) ⊎ (n ≤ i)
-below_or_not i n = elim (nat_lt i n) as (λ b. nat_lt i n ≡ b → (i < n) ⊎ (n ≤ i)) [
-  | true ↦ λ less. inl (grind (arith, nat_tests))
-  | false ↦ λ more. inr (grind (arith, nat_tests))
-] refl
+use Rattle.slotmap_scheduler.proofs.Common.{Bool, CallableOnJobs, Called, CallsForJob, FoldsTo, FoldsTo-push, IsOnce, IsSpent, JobVisit, KeepsSpent, Key, Leaves, List, Mut, MutBor, None}
+use Rattle.slotmap_scheduler.proofs.Common.{RetainsJobs, Schedule, SeesEachOnce, Some, Takes, Waiting, [], after_visit, after_visits, always_mut, ap, arith, exact_keys, false, if◌then◌else◌}
+use Rattle.slotmap_scheduler.proofs.Common.{is_some, itself, job_of, jobs_seen, keys_total, leaves_none, length, mut_next, refl, same_or_other, subst, sym, tied, true}
+use Rattle.slotmap_scheduler.proofs.Common.{with_job, without, ℕ, ◌++◌, ◌+◌, ◌<◌, ◌∙◌, ◌∷◌, ◌≡◌, ◌≢◌, ◌≤◌}
+use Rattle.slotmap_scheduler.proofs.DueCounted.{len_without, once_without, other_found}
+use Rattle.slotmap_scheduler.proofs.TakingOut.{HasFewer, one_fewer, same_fewer, still_fewer}
 
 module _ {T : Type 0} (k : Key) where
   -- a job that is written stays where it was
-  written_there : (w : T) (ws : Waiting T) → is_some (job_of k (with_job k w ws)) ≡ is_some (job_of k ws)
-  written_there w [] = refl
-  written_there w (e ∷ ws) = grind (arith, written_there w ws)
+  written_there : (w : T) (q : Key) (ws : Waiting T) → is_some (job_of q (with_job k w ws)) ≡ is_some (job_of q ws)
+  written_there w q [] = refl
+  written_there w q (e ∷ ws) = grind (arith, written_there w q ws)
 
   pub written_other : (w : T) (q : Key) (ws : Waiting T) → q ≢ k → job_of q (with_job k w ws) ≡ job_of q ws
   written_other w q [] other = refl
   written_other w q (e ∷ ws) other = grind (arith, tied keys_total exact_keys k e.0, tied keys_total exact_keys q e.0, written_other w q ws other)
-
-  written_none : (w : T) (q : Key) (ws : Waiting T) → job_of q ws ≡ None → job_of q (with_job k w ws) ≡ None
-  written_none w q [] none = refl
-  written_none w q (e ∷ ws) none = grind (arith, written_none w q ws)
-
-  pub written_once : (w : T) (ws : Waiting T) → IsOnce ws → IsOnce (with_job k w ws)
-  written_once w [] once = tt
-  written_once w (e ∷ ws) once = elim (eq_by_cmp key_cmp k e.0) as (λ b. IsOnce (cond b ((e.0, (e.1.0, w)) ∷ ws) (e ∷ with_job k w ws))) [
-    | true ↦ once
-    | false ↦ (written_none w e.0 ws once.0, written_once w ws once.1)
-  ]
 
   written_without : (w : T) (ws : Waiting T) → without k (with_job k w ws) ≡ without k ws
   written_without w [] = refl
@@ -57,19 +34,9 @@ module _ {T : Type 0} (e : Key × (ℕ × T)) where
   pushed_itself [] none = grind (arith, itself keys_total exact_keys e.0)
   pushed_itself (x ∷ ws) none = grind (arith, pushed_itself ws)
 
-  first_apart : (x : Key × (ℕ × T)) (ws : Waiting T) → job_of e.0 (x ∷ ws) ≡ None → x.0 ≢ e.0
-  first_apart x ws none same = absurd (let i = itself keys_total exact_keys e.0 in let n = rw same at none in grind arith)
-
-  rest_none : (x : Key × (ℕ × T)) (ws : Waiting T) → job_of e.0 (x ∷ ws) ≡ None → job_of e.0 ws ≡ None
-  rest_none x ws none = grind arith
-
   once_pushed : (ws : Waiting T) → IsOnce ws → job_of e.0 ws ≡ None → IsOnce (ws ++ e ∷ [])
   once_pushed [] once none = (refl, tt)
-  once_pushed (x ∷ ws) once none = (pushed_other x.0 ws (first_apart x ws none) ∙ once.0, once_pushed ws once.1 (rest_none x ws none))
-
-  -- the jobs behind the first one
-  pub behind_first : (k : Key) (ws : Waiting T) → k ≢ e.0 → job_of k (e ∷ ws) ≡ job_of k ws
-  behind_first k ws other = grind (arith, tied keys_total exact_keys k e.0)
+  once_pushed (x ∷ ws) once none = grind (arith, pushed_other x.0 ws, once_pushed ws once.1, once.0, itself keys_total exact_keys e.0)
 
 -- as many jobs, where each handle finds the same
 as_many_found : {T : Type 0} (xs ys : Waiting T) → IsOnce xs → IsOnce ys → ((k : Key) → job_of k ys ≡ job_of k xs) → length ys ≡ length xs
@@ -77,12 +44,9 @@ as_many_found [] [] once_a once_b same = refl
 as_many_found [] (y ∷ ys) once_a once_b same = absurd (let i = itself keys_total exact_keys y.0 in let h = same y.0 in grind arith)
 as_many_found (e ∷ xs) ys once_a once_b same =
     let there : job_of e.0 ys ≡ Some e.1 = same e.0 ∙ grind (arith, itself keys_total exact_keys e.0) in
-    let more = len_without e.0 ys e.1 once_b there in
-    let rest = as_many_found xs (without e.0 ys) once_a.1 (once_without e.0 ys once_b) (λ k. elim (same_or_other k e.0) [
-      | inl is ↦ rw is (gone_itself e.0 ys ∙ sym once_a.0)
-      | inr other ↦ other_found e.0 k ys other ∙ same k ∙ behind_first e k xs other
-    ]) in
-    omega arith
+    let rest = as_many_found xs (without e.0 ys) once_a.1 (once_without e.0 ys once_b)
+    (λ k. grind (arith, same k, once_a.0, gone_itself e.0 ys, other_found e.0 k ys, tied keys_total exact_keys k e.0, itself keys_total exact_keys k)) in
+    omega (arith, len_without e.0 ys e.1 once_b there)
 
 module _ {K T : Type 0} (data_of : K → Key) where
   -- one more call
@@ -104,27 +68,11 @@ module _ {F K T : Type 0} (g : Mut F (K × (ℕ × (MutBor T × Unit {0}))) (Boo
     pub below : (k : Key) → k.index < floor → job_of k (jobs_seen data_of visits) ≡ job_of k old.waiting
     pub unseen : (k : Key) → floor ≤ k.index → job_of k (jobs_seen data_of visits) ≡ None
     pub ahead : (k : Key) → floor ≤ k.index → job_of k now.waiting ≡ job_of k old.waiting
-    pub turns : now.turns ≡ old.turns
-    pub capacity : now.handles.capacity ≡ old.handles.capacity
-    pub leaves : Leaves old.handles now.handles
-    pub for_good : (k : Key) → is_some (job_of k old.waiting) ≡ true → job_of k now.waiting ≡ None → IsSpent now.handles k
-    pub stale : KeepsSpent old.handles now.handles
+    pub fewer : HasFewer old now
 
   pub visiting_start : (old : Schedule T) (f : F) → Visiting old f old 0 f
-  visiting_start old f = record {
-    visits = [];
-    calls = refl;
-    stay = refl;
-    once = tt;
-    below = λ k low. absurd (omega arith);
-    unseen = λ k from. refl;
-    ahead = λ k from. refl;
-    turns = refl;
-    capacity = refl;
-    leaves = leaves_none old.handles;
-    for_good = λ k there none. absurd (let h = ap is_some none in cc);
-    stale = λ k spent. spent;
-  }
+  visiting_start old f =
+      record { visits = []; calls = refl; stay = refl; once = tt; below = λ k low. absurd (omega arith); unseen = λ k from. refl; ahead = λ k from. refl; fewer = same_fewer old }
 
 module _ {F K T : Type 0} {g : Mut F (K × (ℕ × (MutBor T × Unit {0}))) (Bool × (MutBor T × Unit {0}))} {data_of : K → Key}
     {old : Schedule T} {f : F} {now : Schedule T} {floor : ℕ} {f' : F} (r : Visiting g data_of old f now floor f') where
@@ -138,20 +86,8 @@ module _ {F K T : Type 0} {g : Mut F (K × (ℕ × (MutBor T × Unit {0}))) (Boo
     stay = r.stay;
   }
     where
-      none_ahead : (k : Key) → floor ≤ k.index → (due : ℕ × T) → job_of k old.waiting ≡ Some due → ⊥
-      none_ahead k from due there = let low = none k (ap is_some (r.ahead k from ∙ there)) in omega arith
-
-      absent : (k : Key) → floor ≤ k.index → job_of k old.waiting ≡ None
-      absent k from = elim (job_of k old.waiting) as (λ o. job_of k old.waiting ≡ o → o ≡ None) [
-        | None ↦ λ is. refl
-        | Some due ↦ λ is. absurd (none_ahead k from due is)
-      ] refl
-
       same : (k : Key) → job_of k (jobs_seen data_of r.visits) ≡ job_of k old.waiting
-      same k = elim (below_or_not k.index floor) [
-        | inl low ↦ r.below k low
-        | inr from ↦ r.unseen k from ∙ sym (absent k from)
-      ]
+      same k = grind (arith, r.below k, r.unseen k, r.ahead k, none k)
 
   -- the job that is shown is the one that waits
   pub shown_there : (k : Key) (time : ℕ) (shown : T) → ((job : T) × (job_of k now.waiting ≡ Some (time, job)))
@@ -160,16 +96,10 @@ module _ {F K T : Type 0} {g : Mut F (K × (ℕ × (MutBor T × Unit {0}))) (Boo
 
   -- it is left where the closure wrote to it
   pub written_waits : (k : Key) (due : ℕ × T) → job_of k now.waiting ≡ Some due → (w : T) → is_some (job_of k (with_job k w now.waiting)) ≡ true
-  written_waits k due at w = written_there k w now.waiting ∙ ap is_some at
+  written_waits k due at w = written_there k w k now.waiting ∙ ap is_some at
 
   saw : SeesEachOnce data_of old.waiting r.visits
-  saw = record {
-    there = λ q due found. elim (below_or_not q.index floor) [
-      | inl low ↦ sym (r.below q low) ∙ found
-      | inr from ↦ absurd (let none = r.unseen q from in cc)
-    ];
-    once = r.once;
-  }
+  saw = record { there = λ q due found. grind (arith, r.below q, r.unseen q); once = r.once }
 
   -- the next one
   module _ (handle : K) (time : ℕ) (shown : MutBor T) (at : job_of (data_of handle) now.waiting ≡ Some (time, shown.now)) (behind : floor ≤ (data_of handle).index) where
@@ -185,13 +115,6 @@ module _ {F K T : Type 0} {g : Mut F (K × (ℕ × (MutBor T × Unit {0}))) (Boo
       abbrev visit : JobVisit K T
       visit = record { handle = handle; time = time; before = shown.now; after = after.now; stays = stays }
 
-      -- a handle with an index in between finds nothing
-      none_between : (q : Key) → q ≢ k → floor ≤ q.index → q.index ≤ k.index → job_of q old.waiting ≡ None
-      none_between q other from up = elim (job_of q old.waiting) as (λ o. job_of q old.waiting ≡ o → o ≡ None) [
-        | None ↦ λ none. refl
-        | Some due ↦ λ there. absurd (other (least q (ap is_some (r.ahead q from ∙ there)) from up))
-      ] refl
-
       seen_now : jobs_seen data_of (r.visits ++ visit ∷ []) ≡ jobs_seen data_of r.visits ++ (k, (time, shown.now)) ∷ []
       seen_now = jobs_seen_pushed data_of r.visits visit
 
@@ -202,21 +125,14 @@ module _ {F K T : Type 0} {g : Mut F (K × (ℕ × (MutBor T × Unit {0}))) (Boo
       seen_here = ap (job_of k) seen_now ∙ pushed_itself (k, (time, shown.now)) (jobs_seen data_of r.visits) (r.unseen k behind) ∙ sym at ∙ r.ahead k behind
 
       below_now : (q : Key) → q.index < k.index + 1 → job_of q (jobs_seen data_of (r.visits ++ visit ∷ [])) ≡ job_of q old.waiting
-      below_now q low = elim (same_or_other q k) [
-        | inl here ↦ subst (λ x. job_of x (jobs_seen data_of (r.visits ++ visit ∷ [])) ≡ job_of x old.waiting) (sym here) seen_here
-        | inr other ↦ seen_other q other ∙ elim (below_or_not q.index floor) [
-          | inl before ↦ r.below q before
-          | inr from ↦ r.unseen q from ∙ sym (none_between q other from (omega arith))
-        ]
-      ]
+      below_now q low = grind (arith, same_or_other q k, seen_here, seen_other q, r.below q, r.unseen q, r.ahead q, least q)
 
       not_here : (q : Key) → k.index + 1 ≤ q.index → q ≢ k
       not_here q from same = let index = ap (λ (x : Key). x.index) same in omega arith
 
-      step : (new : Schedule T) → new.waiting ≡ after_visit data_of visit now.waiting → ((q : Key) → q ≢ k → job_of q new.waiting ≡ job_of q now.waiting)
-          → (job_of k new.waiting ≡ None → IsSpent new.handles k) → new.turns ≡ now.turns → new.handles.capacity ≡ now.handles.capacity → Leaves now.handles new.handles
-          → KeepsSpent now.handles new.handles → Visiting g data_of old f new (k.index + 1) f''
-      step new stay others spent turns capacity leaves keeps = record {
+      step : (new : Schedule T) → new.waiting ≡ after_visit data_of visit now.waiting → ((q : Key) → q ≢ k → job_of q new.waiting ≡ job_of q now.waiting) → HasFewer now new
+          → Visiting g data_of old f new (k.index + 1) f''
+      step new stay others fewer = record {
         visits = r.visits ++ visit ∷ [];
         calls = FoldsTo-push (CallsForJob g) f r.visits f' visit f'' r.calls (record { shown = shown; shows = refl; left = after; leaves = refl; called = called });
         stay = stay ∙ ap (after_visit data_of visit) r.stay ∙ sym (after_visits_pushed data_of r.visits visit old.waiting);
@@ -224,27 +140,18 @@ module _ {F K T : Type 0} {g : Mut F (K × (ℕ × (MutBor T × Unit {0}))) (Boo
         below = below_now;
         unseen = λ q from. seen_other q (not_here q from) ∙ r.unseen q (omega arith);
         ahead = λ q from. others q (not_here q from) ∙ r.ahead q (omega arith);
-        turns = turns ∙ r.turns;
-        capacity = capacity ∙ r.capacity;
-        leaves = leaves_in_turn old.handles now.handles new.handles r.leaves leaves;
-        for_good = λ q there none. elim (same_or_other q k) [
-          | inl here ↦ subst (IsSpent new.handles) (sym here) (spent (ap (λ x. job_of x new.waiting) (sym here) ∙ none))
-          | inr other ↦ keeps q (r.for_good q there (sym (others q other) ∙ none))
-        ];
-        stale = λ q s. keeps q (r.stale q s);
+        fewer = still_fewer r.fewer fewer;
       }
 
       pub visiting_kept : stays ≡ true → Visiting g data_of old f (record now { waiting = with_job k after.now now.waiting }) (k.index + 1) f''
-      visiting_kept keep = step (record now { waiting = with_job k after.now now.waiting }) (sym (ap (λ b. if b then with_job k after.now now.waiting else without k now.waiting) keep))
-          (λ q other. written_other k after.now q now.waiting other)
-          (λ none. absurd (let some = written_waits k (time, shown.now) at after.now in let h = ap is_some none in cc)) refl refl (leaves_none now.handles) (λ q s. s)
+      visiting_kept keep = grind (arith, step, written_other, leaves_none now.handles, written_there)
 
       pub visiting_dropped : {new : Schedule T} → stays ≡ false → new.waiting ≡ without k (with_job k after.now now.waiting) → IsSpent new.handles k → new.turns ≡ now.turns
           → new.handles.capacity ≡ now.handles.capacity → Leaves now.handles new.handles → KeepsSpent now.handles new.handles → Visiting g data_of old f new (k.index + 1) f''
       visiting_dropped {new} drop removed spent turns capacity leaves keeps =
           let now_is = removed ∙ written_without k after.now now.waiting in
-          step new (now_is ∙ sym (ap (λ b. if b then with_job k after.now now.waiting else without k now.waiting) drop))
-          (λ q other. ap (job_of q) now_is ∙ other_found k q now.waiting other) (λ _. spent) turns capacity leaves keeps
+          let others = λ (q : Key) (other : q ≢ k). ap (job_of q) now_is ∙ other_found k q now.waiting other in
+          step new (now_is ∙ sym (ap (λ b. if b then with_job k after.now now.waiting else without k now.waiting) drop)) others (one_fewer now new turns capacity leaves keeps k spent others)
 
 -- a closure that can always be called
 module _ {F K T : Type 0} (g : Mut F (K × (ℕ × (MutBor T × Unit {0}))) (Bool × (MutBor T × Unit {0}))) (data_of : K → Key) where

@@ -1,13 +1,12 @@
 -- The waiting jobs: each handle is there once, and they are sorted by time.
-use Rattle.std.proofs.Common.{◌≡◌, ◌≢◌, ◌≤◌, [], ◌∷◌, ◌++◌, ◌∙◌}
-use Rattle.slotmap_scheduler.proofs.Common.{ℕ, T, List, Some, None, refl, sym, ap, arith, list_map, is_lt, find, below_all, is_sorted, nat_tests, AllByRecursion}
-use Rattle.slotmap_scheduler.proofs.Common.{All, All-nil, All-cons, All-head, All-tail, Key, key_cmp, keys_total, exact_keys, tied, keys-mapped, Job, Waiting, job_of, IsOnce, IsByTime}
-use Rattle.slotmap_scheduler.proofs.Common.{Turn, turn_cmp, Timed, by_turn, as_seen, waiting_of, InOrder, unplaced, shown}
-use Rattle.std.specs.FinMap as map
 use Rattle.slotmap.specs.KeysAlone.{keys_of}
 use Rattle.slotmap_keylist.specs.Mapped.{map_values}
-use Rattle.slotmap_scheduler.proofs.Sorted.{first, second, below_none, all_of}
+use Rattle.slotmap_scheduler.proofs.Common.{All, All-cons, All-head, All-nil, All-tail, AllByRecursion, InOrder, IsByTime, IsOnce, Job, Key, List, None, Some, T, Timed, Turn, Waiting, [], ap}
+use Rattle.slotmap_scheduler.proofs.Common.{arith, as_seen, below_all, by_turn, exact_keys, find, is_lt, is_sorted, job_of, key_cmp, keys-mapped, keys_total, list_map, nat_tests, refl, shown, sym}
+use Rattle.slotmap_scheduler.proofs.Common.{tied, turn_cmp, unplaced, waiting_of, ℕ, ◌++◌, ◌∙◌, ◌∷◌, ◌≡◌, ◌≢◌, ◌≤◌}
+use Rattle.slotmap_scheduler.proofs.Sorted.{all_of, below_none, first, second}
 use Rattle.slotmap_scheduler.proofs.Timed.{exact_turns, turns_total}
+use Rattle.std.specs.FinMap as map
 
 later_time : (t u : Turn) → T (is_lt (turn_cmp t u)) → t.0 ≤ u.0
 later_time t u less = grind (arith, nat_tests)

@@ -46,7 +46,8 @@ module _ {X : Type 0} (c : ℕ) (f : X → List ℕ) (xs : List X) (i : ℕ) (d 
   count = length-map (take i xs) f ∙ length-take-le i xs (omega arith)
 
   -- a further text stands after the byte
-  pub join_more : 0 < i → (mid new : Option (List ℕ)) → Appends now mid (c ∷ []) → Appends mid new (f (get_or xs i d)) → Appends old new (front ++ join_with_byte c (map f (take (i + 1) xs)))
+  pub join_more : 0 < i → (mid new : Option (List ℕ)) → Appends now mid (c ∷ []) → Appends mid new (f (get_or xs i d))
+      → Appends old new (front ++ join_with_byte c (map f (take (i + 1) xs)))
   join_more some mid new byte text =
       let step = ap (join_with_byte c) (map_more f xs i d within) ∙ join_push c (map f (take i xs)) (f (get_or xs i d)) (omega (arith, count)) in
       rw (step, ← append_assoc) (Appends-trans old now new _ _ before (Appends-trans now mid new _ _ byte text))

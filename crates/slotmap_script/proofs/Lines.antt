@@ -1,5 +1,6 @@
 -- The lines of a text, and what they say.
-use Rattle.std.proofs.Common.{◌≡◌, ◌+◌, ◌-◌, ◌<◌, ◌≤◌, ℕ, suc, Bool, true, false, cond, List, [], ◌∷◌, ◌++◌, length, length-append, length-drop, take, drop, map, Option, Some, None, append_assoc, eqb, ltb, ap, sym, ◌∙◌, refl, arith}
+use Rattle.std.proofs.Common.{◌≡◌, ◌+◌, ◌-◌, ◌<◌, ◌≤◌, ℕ, suc, Bool, true, false, cond, List, [], ◌∷◌, ◌++◌, length, length-append, length-drop, take, drop}
+use Rattle.std.proofs.Common.{map, Option, Some, None, append_assoc, eqb, ltb, ap, sym, ◌∙◌, refl, arith}
 use Rattle.std.specs.List.{position_or_len, onto_first}
 use Rattle.std.specs.Str.{is_utf8, IsUtf8}
 use Rattle.std.proofs.lemmas.Bool.Decides.{nat_tests}
@@ -11,7 +12,8 @@ use Rattle.slotmap_script.specs.ScriptText.{lines_of, Said, said_by, said_by_tex
 abbrev first_feed : List ℕ → ℕ
 first_feed text = position_or_len (λ b. eqb b 10) text
 
-first_by : (b : ℕ) (rest : List ℕ) (is : Bool) → eqb b 10 ≡ is → (first_feed rest < length rest → lines_of rest ≡ take (first_feed rest) rest ∷ lines_of (drop (suc (first_feed rest)) rest))
+first_by : (b : ℕ) (rest : List ℕ) (is : Bool) → eqb b 10 ≡ is
+    → (first_feed rest < length rest → lines_of rest ≡ take (first_feed rest) rest ∷ lines_of (drop (suc (first_feed rest)) rest))
     → first_feed (b ∷ rest) < length (b ∷ rest) → lines_of (b ∷ rest) ≡ take (first_feed (b ∷ rest)) (b ∷ rest) ∷ lines_of (drop (suc (first_feed (b ∷ rest))) (b ∷ rest))
 first_by b rest true e ih h = rw e refl
 first_by b rest false e ih h =
@@ -67,7 +69,8 @@ module _ {C : Type 0} (command_of : List (List ℕ) → Option C) where
   -- one line more
   pub said_more : (texts : List (List ℕ)) (said : List (Said C)) (text : List ℕ) (one : Said C) → SaidBy command_of texts said → said_by command_of text ≡ Some one
       → SaidBy command_of (texts ++ text ∷ []) (said ++ one ∷ [])
-  said_more texts said text one all more = map-append (said_by command_of) texts (text ∷ []) ∙ ap (λ t. map (said_by command_of) texts ++ t ∷ []) more ∙ ap (λ t. t ++ Some one ∷ []) all ∙ sym (map-append Some said (one ∷ []))
+  said_more texts said text one all more = map-append (said_by command_of) texts (text ∷ []) ∙ ap (λ t. map (said_by command_of) texts ++ t ∷ []) more
+      ∙ ap (λ t. t ++ Some one ∷ []) all ∙ sym (map-append Some said (one ∷ []))
 
   -- of the script, the lines up to rest say something, as the stretches and commands show: from to now to
   pub record Parsed (script rest : List ℕ) (number : ℕ) {S : Type 0} (from to : List (Said C) → S) : Type 0 where

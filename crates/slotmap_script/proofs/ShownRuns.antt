@@ -27,14 +27,17 @@ module _ (what : RunGiven Key ℤ ℤ OutOfMemory) (same : (value shown : ℤ) �
   step_shown : (old : State ℤ) (c : Command Key ℤ) (r : Reply Key ℤ ℤ OutOfMemory) (new : State ℤ) → Step by_data old c r new → Step (shown_values what.reuses) old c r new
   step_shown old c r new h = grind (arith, same)
 
-  detach_shown : (old : State ℤ) (c : DetachCommand Key ℤ) (r : Reply Key ℤ ℤ OutOfMemory) (new : State ℤ) → DetachStep by_data old c r new → DetachStep (shown_values what.reuses) old c r new
+  detach_shown : (old : State ℤ) (c : DetachCommand Key ℤ) (r : Reply Key ℤ ℤ OutOfMemory) (new : State ℤ) → DetachStep by_data old c r new
+      → DetachStep (shown_values what.reuses) old c r new
   detach_shown old c r new h = grind (arith, same)
 
   -- a run whose look-ups show the values
-  pub follows_shown : (old new : Content ℤ) (cs : List (Command Key ℤ)) (rs : List (Reply Key ℤ ℤ OutOfMemory)) → RunFollows (Step by_data) old cs rs new → RunFollows (Step (shown_values what.reuses)) old cs rs new
+  pub follows_shown : (old new : Content ℤ) (cs : List (Command Key ℤ)) (rs : List (Reply Key ℤ ℤ OutOfMemory)) → RunFollows (Step by_data) old cs rs new
+      → RunFollows (Step (shown_values what.reuses)) old cs rs new
   follows_shown old new cs rs follows = follows_each (Step by_data) (Step (shown_values what.reuses)) old new cs rs follows step_shown
 
-  pub detach_follows_shown : (old new : Content ℤ) (cs : List (DetachCommand Key ℤ)) (rs : List (Reply Key ℤ ℤ OutOfMemory)) → RunFollows (DetachStep by_data) old cs rs new → RunFollows (DetachStep (shown_values what.reuses)) old cs rs new
+  pub detach_follows_shown : (old new : Content ℤ) (cs : List (DetachCommand Key ℤ)) (rs : List (Reply Key ℤ ℤ OutOfMemory)) → RunFollows (DetachStep by_data) old cs rs new
+      → RunFollows (DetachStep (shown_values what.reuses)) old cs rs new
   detach_follows_shown old new cs rs follows = follows_each (DetachStep by_data) (DetachStep (shown_values what.reuses)) old new cs rs follows detach_shown
 
 pub IfSome-from_ok : {T E : Type 0} (r : Result T E) (o : Option T) (P Q : T → Type 0) → o ≡ result_ok r → IfOk r P → ((x : T) → P x → Q x) → IfSome o Q

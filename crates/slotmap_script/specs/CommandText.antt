@@ -1,5 +1,6 @@
 -- Which words are which commands.
-use Rattle.std.specs.Prelude.{◌≡◌, ◌<◌, refl, ℤ, pos, neg_ℤ, ℕ, ◌+◌, ◌%◌, ◌/◌, ◌^◌, Bool, ◌&&◌, List, [], ◌∷◌, length, drop, codes, if◌then◌else◌, nat_lt, Option, Some, None, option_map}
+use Rattle.std.specs.Prelude.{◌≡◌, ◌<◌, refl, ℤ, pos, neg_ℤ, ℕ, ◌+◌, ◌%◌, ◌/◌, ◌^◌, Bool, ◌&&◌, List, [], ◌∷◌, length, drop, codes, if◌then◌else◌}
+use Rattle.std.specs.Prelude.{nat_lt, Option, Some, None, option_map}
 use Rattle.std.proofs.Common.{arith}
 use Prim.Native.String.{String}
 use Rattle.std.specs.Str.{all_ascii_digits, bytes_eq}

@@ -1,5 +1,4 @@
-use Rattle.std.proofs.Common.{◌∷◌, ◌++◌, [], sym, ◌∙◌}
-use Rattle.slotmap_keylist.proofs.Counts.{times_pushed}
+use Rattle.slotmap_scene.proofs.Common.{[], sym, times_pushed, ◌++◌, ◌∙◌, ◌∷◌}
 use Rattle.slotmap_scene.proofs.Moved.{came_alone, child_gained, child_inserts, child_scene, child_spent}
 use Rattle.slotmap_scene.proofs.Scene.add_child.Goals as goal
 

@@ -1,8 +1,5 @@
-use Rattle.std.proofs.Common.{true, ap, ◌∙◌, is_some}
+use Rattle.slotmap_scene.proofs.Common.{Node, ap, is_some, key_cmp, left_spent, spent_leaves, true, ◌∙◌}
 use Rattle.std.specs.FinMap as map
-use Rattle.slotmap.specs.Words.{key_cmp}
-use Rattle.slotmap.proofs.Callers.{left_spent, spent_leaves}
-use Rattle.slotmap_scene.specs.Node.{Node}
 use Rattle.slotmap_scene.proofs.Scene.clear.Goals as goal
 
 pub returns-clause-for_good : goal.returns-clause-for_good

@@ -1,6 +1,5 @@
-use Rattle.slotmap.proofs.Callers.{clone_copies}
-use Rattle.slotmap_scene.specs.Family.{IsNodeClone}
-use Rattle.slotmap_scene.proofs.Moved.{scene_copied, nodes_equal}
+use Rattle.slotmap_scene.proofs.Common.{IsNodeClone, clone_copies}
+use Rattle.slotmap_scene.proofs.Moved.{nodes_equal, scene_copied}
 use Rattle.slotmap_scene.proofs.Scene.clone.Goals as goal
 
 pub invariant_of-result : goal.invariant_of-result

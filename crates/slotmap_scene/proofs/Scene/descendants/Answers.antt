@@ -1,10 +1,7 @@
-use Rattle.std.proofs.Common.{◌≢◌, ◌++◌, map as list_map, refl, ap, subst, ◌∙◌, append-nil}
-use Rattle.slotmap_scene.specs.Climb.{IsWithin, has_node}
+use Rattle.slotmap_scene.proofs.Common.{IsWithin, ap, append-nil, has_node, list_map, refl, subst, ◌++◌, ◌∙◌, ◌≢◌, arith, common_steps}
 use Rattle.slotmap_scene.proofs.Descending.{Descended, each_listed}
 use Rattle.slotmap_scene.proofs.KeyLoops.{passed}
 use Rattle.slotmap_scene.proofs.Scene.descendants.Goals as goal
-use Rattle.slotmap_scene.proofs.Scene.descendants.Goals.{In-None}
-use Rattle.slotmap_scene.proofs.Scene.descendants.Given.{Over}
 
 pub loop-key-init : goal.loop-key-init
 loop-key-init g c =
@@ -17,28 +14,14 @@ loop-key-init g c =
     }
 
 pub loop-key-preserved : goal.loop-key-preserved
-loop-key-preserved g c =
-    let same = passed _ _ _ c.in-Some.ensures.steps g.K.Key.data_of _ _ _ refl c.in_ok-push.ensures.items in
-    record { can_next = tt; is_finite = tt; listed = rw same c.loop-key.invariant.listed }
+loop-key-preserved g c = grind (arith, common_steps, c.in-Some.ensures.steps, c.in_ok-push.ensures.items, c.loop-key.invariant.listed)
 
-done : (g : Over) (c : In-None g) → Descended c.args.self.now.live (g.K.Key.data_of c.args.node) (list_map g.K.Key.data_of c.loop-key.below.items)
-done g c =
+pub returns : goal.returns
+returns g c =
     let listed = list_map g.K.Key.data_of c.loop-key.below.items in
     let all = ap (λ l. listed ++ l) c.in-None.ensures.steps.0 ∙ append-nil listed in
-    subst (Descended c.args.self.now.live (g.K.Key.data_of c.args.node)) all c.loop-key.invariant.listed
-
-pub returns-clause-order : goal.returns-clause-order
-returns-clause-order g c = (done g c).order
-
-pub returns-clause-all : goal.returns-clause-all
-returns-clause-all g c = (done g c).all
-
-pub returns-clause-only : goal.returns-clause-only
-returns-clause-only g c =
     let nodes = c.args.self.now.live in
     let node = g.K.Key.data_of c.args.node in
-    each_listed g.K.Key.data_of (λ k. has_node nodes k × IsWithin nodes k node × (k ≢ node)) _
-    (done g c).only
-
-pub returns-clause-once : goal.returns-clause-once
-returns-clause-once g c = (done g c).once
+    let done = subst (Descended nodes node) all c.loop-key.invariant.listed in
+    let only = each_listed g.K.Key.data_of (λ k. has_node nodes k × IsWithin nodes k node × (k ≢ node)) _ done.only in
+    record { order = done.order; all = done.all; only = only; once = done.once }

@@ -1,4 +1,4 @@
-use Rattle.std.proofs.Common.{◌++◌, map as list_map}
+use Rattle.slotmap_scene.proofs.Common.{list_map, ◌++◌}
 use Rattle.slotmap_scene.proofs.Descending.{Descended}
 use Rattle.slotmap_scene.proofs.Scene.descendants.Given as goal
 

@@ -1,18 +1,12 @@
-use Rattle.std.proofs.Common.{◌≢◌, zero, ◌∙◌, sym, refl}
-use Rattle.slotmap.specs.Words.{same_keys}
-use Rattle.slotmap_scene.specs.Climb.{has_node, lacks_node}
-use Rattle.slotmap_scene.proofs.Climbs.{climbing_start, climbing_live, climbing_step, node_there, within_step, within_none}
+use Rattle.slotmap_scene.proofs.Common.{has_node, lacks_node, refl, same_keys, sym, zero, ◌∙◌, ◌≢◌, arith}
+use Rattle.slotmap_scene.proofs.Climbs.{climbing_live, climbing_start, climbing_step, node_there, within_none, within_step}
 use Rattle.slotmap_scene.proofs.Scene.is_within.Goals as goal
 
 pub returns-then-not-contains_key : goal.returns-then-not-contains_key
-returns-then-not-contains_key g c =
-    let dead : lacks_node c.args.self.now.live (g.K.Key.data_of c.args.node) = rw (← c.self.view_is, ← c.inner-at.ensures)
-    (sym c.contains_key.ensures.value ∙ c.if-not-contains_key.true) in
-    (λ t. absurd (cc), λ w. absurd (let live = w.0 in cc))
+returns-then-not-contains_key g c = grind (arith, c.inner-at.ensures, c.contains_key.ensures.value)
 
 pub loop-step-init : goal.loop-step-init
-loop-step-init g c = rw (← c.self.view_is, ← c.inner-at.ensures)
-    (climbing_start _ c.self.invariant.tree c.inner-at.result (sym c.contains_key.ensures.value ∙ c.if-not-contains_key.false), (λ w. w, λ w. w))
+loop-step-init g c = grind (arith, climbing_start, c.inner-at.ensures, c.self.invariant.tree, c.contains_key.ensures.value)
 
 pub returns-then-eq : goal.returns-then-eq
 returns-then-eq g c =

@@ -1,5 +1,4 @@
-use Rattle.std.proofs.Common.{◌↔◌}
-use Rattle.slotmap_scene.specs.Climb.{IsWithin}
+use Rattle.slotmap_scene.proofs.Common.{IsWithin, ◌↔◌}
 use Rattle.slotmap_scene.proofs.Climbs.{Climbing}
 use Rattle.slotmap_scene.proofs.Scene.is_within.Given as goal
 

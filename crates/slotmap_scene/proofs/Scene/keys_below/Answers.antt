@@ -1,21 +1,12 @@
+use Rattle.slotmap_scene.proofs.Common.{arith, common_steps}
 use Rattle.slotmap_scene.proofs.WalkingDown.{below_all, below_once, below_only, below_order, walk_begins}
 use Rattle.slotmap_scene.proofs.Scene.keys_below.Goals as goal
 
 pub invariant_of-result : goal.invariant_of-result
 invariant_of-result g c = (walk_begins _ (rw c.self.view_is at c.self.invariant) _ _ c.first_child.ensures).0
 
-pub returns-clause-order : goal.returns-clause-order
-returns-clause-order g c =
-    let scene = rw c.self.view_is at c.self.invariant in rw (walk_begins _ scene _ _ c.first_child.ensures).1 (below_order _ scene _)
-
-pub returns-clause-all : goal.returns-clause-all
-returns-clause-all g c =
-    let scene = rw c.self.view_is at c.self.invariant in rw (walk_begins _ scene _ _ c.first_child.ensures).1 (below_all _ scene _)
-
-pub returns-clause-only : goal.returns-clause-only
-returns-clause-only g c =
-    let scene = rw c.self.view_is at c.self.invariant in rw (walk_begins _ scene _ _ c.first_child.ensures).1 (below_only _ scene _)
-
-pub returns-clause-once : goal.returns-clause-once
-returns-clause-once g c =
-    let scene = rw c.self.view_is at c.self.invariant in rw (walk_begins _ scene _ _ c.first_child.ensures).1 (below_once _ scene _)
+pub returns : goal.returns
+returns g c =
+    let scene = rw c.self.view_is at c.self.invariant in
+    rw (walk_begins _ scene _ _ c.first_child.ensures).1
+    (record { order = below_order _ scene _; all = below_all _ scene _; only = below_only _ scene _; once = below_once _ scene _ })

@@ -1,4 +1,4 @@
-use Rattle.std.proofs.Common.{sym, ◌∙◌}
+use Rattle.slotmap_scene.proofs.Common.{sym, ◌∙◌, arith, common_steps}
 use Rattle.slotmap_scene.proofs.Moved.{moved_nowhere}
 use Rattle.slotmap_scene.proofs.Scene.make_root.Goals as goal
 

@@ -1,4 +1,4 @@
-use Rattle.std.proofs.Common.{suc, sym}
+use Rattle.slotmap_scene.proofs.Common.{suc, sym, arith, common_steps}
 use Rattle.slotmap_scene.proofs.Scene.move_beside.Goals as goal
 
 pub move_beside-requires-clause-no_cycle : goal.move_beside-requires-clause-no_cycle

@@ -1,9 +1,9 @@
-use Rattle.std.proofs.Common.{◌≡◌, Some, sym, arith}
-use Rattle.slotmap_scene.proofs.WalkingDown.{GoesOn, rise_start, rise_end, rise_beside, rise_below, rise_up}
+use Rattle.slotmap_scene.proofs.Common.{Some, arith, sym, ◌≡◌, common_steps}
+use Rattle.slotmap_scene.proofs.WalkingDown.{GoesOn, rise_below, rise_beside, rise_end, rise_start, rise_up}
 use Rattle.slotmap_scene.proofs.KeyLoops.{unlike}
+use Rattle.slotmap_scene.proofs.Scene.next_above.Goals.{In-Some}
 use Rattle.slotmap_scene.proofs.Scene.next_above.Given as given
 use Rattle.slotmap_scene.proofs.Scene.next_above.Goals as goal
-use Rattle.slotmap_scene.proofs.Scene.next_above.Goals.{In-Some}
 
 pub loop-step-init : goal.loop-step-init
 loop-step-init g c = rise_start _ c.requires.walks.scene _ _ c.requires.walks.stands

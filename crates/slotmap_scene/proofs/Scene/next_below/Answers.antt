@@ -1,4 +1,4 @@
-use Rattle.std.proofs.Common.{sym}
+use Rattle.slotmap_scene.proofs.Common.{sym}
 use Rattle.slotmap_scene.proofs.WalkingDown.{none_first, walk_to_child}
 use Rattle.slotmap_scene.proofs.Scene.next_below.Goals as goal
 

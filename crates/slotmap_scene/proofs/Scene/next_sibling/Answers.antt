@@ -1,5 +1,4 @@
-use Rattle.std.proofs.Common.{sym, ap, ◌∙◌, arith}
-use Rattle.slotmap_scene.specs.Family.{behind, children_under}
+use Rattle.slotmap_scene.proofs.Common.{ap, arith, behind, children_under, sym, ◌∙◌, common_steps}
 use Rattle.slotmap_scene.proofs.Moved.{listed_once}
 use Rattle.slotmap_scene.proofs.Scene.next_sibling.Goals as goal
 

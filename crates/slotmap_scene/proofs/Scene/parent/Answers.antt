@@ -1,5 +1,4 @@
-use Rattle.std.proofs.Common.{subst}
-use Rattle.slotmap_scene.specs.Above.{HasRoot}
+use Rattle.slotmap_scene.proofs.Common.{HasRoot, subst}
 use Rattle.slotmap_scene.proofs.Climbs.{rooted_there}
 use Rattle.slotmap_scene.proofs.Scene.parent.Goals as goal
 

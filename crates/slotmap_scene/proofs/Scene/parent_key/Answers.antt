@@ -1,8 +1,6 @@
-use Rattle.std.proofs.Common.{sym, subst}
-use Rattle.slotmap_scene.specs.Above.{HasRoot}
+use Rattle.slotmap_scene.proofs.Common.{HasRoot, subst, sym, arith}
 use Rattle.slotmap_scene.proofs.Climbs.{parent_rooted}
 use Rattle.slotmap_scene.proofs.Scene.parent_key.Goals as goal
 
 pub returns-clause-rooted : goal.returns-clause-rooted
-returns-clause-rooted g c = rw (← c.self.view_is)
-    (subst (HasRoot c.self.inside.nodes.live) (sym c.parent.ensures) (parent_rooted c.self.inside.nodes.live c.self.invariant.tree c.args.node))
+returns-clause-rooted g c = grind (arith, parent_rooted c.self.inside.nodes.live c.self.invariant.tree c.args.node, c.parent.ensures, c.self.invariant.tree)

@@ -1,5 +1,4 @@
-use Rattle.std.proofs.Common.{None, sym, ap, ◌∙◌, arith}
-use Rattle.slotmap_scene.specs.Family.{in_front, children_under}
+use Rattle.slotmap_scene.proofs.Common.{None, ap, arith, children_under, in_front, sym, ◌∙◌, common_steps}
 use Rattle.slotmap_scene.proofs.Moved.{listed_once}
 use Rattle.slotmap_scene.proofs.Scene.prev_sibling.Goals as goal
 

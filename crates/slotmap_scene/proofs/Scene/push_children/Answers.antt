@@ -1,6 +1,4 @@
-use Rattle.std.proofs.Common.{◌++◌, refl, ap, ◌∙◌, arith}
-use Rattle.slotmap_keylist.specs.KeyLists.{times}
-use Rattle.slotmap_scene.specs.Levels.{keys_of_pairs}
+use Rattle.slotmap_scene.proofs.Common.{ap, arith, keys_of_pairs, refl, times, ◌++◌, ◌∙◌}
 use Rattle.slotmap_scene.proofs.ByLevel.{parent_known}
 use Rattle.slotmap_scene.proofs.ListedWorlds.{world_of_child, worlds_pushed}
 use Rattle.slotmap_scene.proofs.KeyLoops.{first_ahead, passed}
@@ -8,15 +6,7 @@ use Rattle.slotmap_scene.proofs.Climbs.{has_parent}
 use Rattle.slotmap_scene.proofs.Scene.push_children.Goals as goal
 
 pub loop-child-init : goal.loop-child-init
-loop-child-init g c =
-    let gives = c.into_iter-child-iterator.ensures.into_iter_gives in
-    record {
-      can_next = tt;
-      is_finite = tt;
-      walked = ap (λ l. keys_of_pairs g.K.Key.data_of c.args.all.now.items ++ l) (gives ∙ c.children-child-items.ensures.value);
-      ahead = λ k more. parent_known _ _ (let listed = c.children-child-items.ensures.listed k in let same = ap (times k) gives in omega arith);
-      each = c.requires.each;
-    }
+loop-child-init g c = grind (arith, c.into_iter-child-iterator.ensures.into_iter_gives, parent_known, c.children-child-items.ensures.value, c.children-child-items.ensures.listed)
 
 pub index-requires : goal.index-requires
 index-requires g c = has_parent _ _ _ (first_ahead _ _ _ c.in-Some.ensures.steps _ c.loop-child.invariant.ahead).0

@@ -1,9 +1,4 @@
-use Rattle.std.proofs.Common.{◌≡◌, ◌<◌, ◌++◌, Some}
-use Rattle.slotmap.specs.Words.{Key}
-use Rattle.slotmap_keylist.specs.KeyLists.{times}
-use Rattle.slotmap_scene.specs.Climb.{parent_of}
-use Rattle.slotmap_scene.specs.Family.{children_of}
-use Rattle.slotmap_scene.specs.Levels.{AreWorlds, keys_of_pairs}
+use Rattle.slotmap_scene.proofs.Common.{AreWorlds, Key, Some, children_of, keys_of_pairs, parent_of, times, ◌++◌, ◌<◌, ◌≡◌}
 use Rattle.slotmap_scene.proofs.Scene.push_children.Given as goal
 
 abbrev pub invariant-loop-child : goal.invariant-loop-child

@@ -1,6 +1,4 @@
-use Rattle.std.proofs.Common.{refl, ap, ◌∙◌, arith}
-use Rattle.std.proofs.lemmas.List.Elements.{All-nil}
-use Rattle.slotmap_keylist.specs.KeyLists.{times}
+use Rattle.slotmap_scene.proofs.Common.{All-nil, ap, arith, refl, times, ◌∙◌, common_steps}
 use Rattle.slotmap_scene.proofs.ByLevel.{listed_root}
 use Rattle.slotmap_scene.proofs.ListedWorlds.{world_of_root, worlds_pushed}
 use Rattle.slotmap_scene.proofs.KeyLoops.{first_ahead, passed}

@@ -1,10 +1,5 @@
-use Rattle.std.proofs.Common.{◌≡◌, ◌<◌, ◌++◌, None}
-use Rattle.slotmap.specs.Words.{Key}
-use Rattle.slotmap_keylist.specs.KeyLists.{times}
-use Rattle.slotmap_scene.specs.Climb.{has_node, parent_of}
+use Rattle.slotmap_scene.proofs.Common.{AreWorlds, Key, None, has_node, keys_of_pairs, parent_of, roots_in, times, ◌++◌, ◌<◌, ◌≡◌}
 use Rattle.std.specs.FinMap as map
-use Rattle.slotmap_scene.specs.Above.{roots_in}
-use Rattle.slotmap_scene.specs.Levels.{AreWorlds, keys_of_pairs}
 use Rattle.slotmap_scene.proofs.Scene.push_roots.Given as goal
 
 abbrev pub invariant-loop-root : goal.invariant-loop-root

@@ -1,6 +1,5 @@
-use Rattle.std.proofs.Common.{true, sym, ◌∙◌}
-use Rattle.slotmap.proofs.Callers.{leaves_none, left_spent, spent_leaves}
-use Rattle.slotmap_scene.proofs.Moved.{gone_within, gone_forgotten}
+use Rattle.slotmap_scene.proofs.Common.{leaves_none, left_spent, spent_leaves, sym, true, ◌∙◌}
+use Rattle.slotmap_scene.proofs.Moved.{gone_forgotten, gone_within}
 use Rattle.slotmap_scene.proofs.Scene.remove.Goals as goal
 
 pub returns-then-not-contains_key-clause-removed : goal.returns-then-not-contains_key-clause-removed

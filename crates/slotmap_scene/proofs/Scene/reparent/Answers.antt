@@ -1,4 +1,4 @@
-use Rattle.std.proofs.Common.{sym, ◌∙◌}
+use Rattle.slotmap_scene.proofs.Common.{sym, ◌∙◌}
 use Rattle.slotmap_scene.proofs.Scene.reparent.Goals as goal
 
 pub move_below-requires-clause-no_cycle : goal.move_below-requires-clause-no_cycle

@@ -1,7 +1,5 @@
 use Rattle.std.specs.FinMap as map
-use Rattle.std.proofs.Common.{ap, ◌∙◌, map as list_map}
-use Rattle.std.proofs.lemmas.Simd.{map-map}
-use Rattle.slotmap_scene.specs.Node.{key_and_value}
+use Rattle.slotmap_scene.proofs.Common.{ap, key_and_value, list_map, map-map, ◌∙◌}
 use Rattle.slotmap_scene.proofs.Scene.values.Goals as goal
 
 pub returns : goal.returns

@@ -1,32 +1,25 @@
-use Rattle.std.proofs.Common.{sym, rules}
+use Rattle.slotmap_scene.proofs.Common.{rules, sym, arith, common_steps}
 use Rattle.slotmap_scene.proofs.Climbs.{node_is}
-use Rattle.slotmap_scene.proofs.Worlds.{composed_root, composed_of_folds, joined_of_folds, parent_found, world_root}
+use Rattle.slotmap_scene.proofs.Worlds.{composed_of_folds, composed_root, joined_of_folds, parent_found, world_root}
 use Rattle.slotmap_scene.proofs.Scene.world.Goals as goal
 
-pub returns-in-None-clause-some : goal.returns-in-None-clause-some
-returns-in-None-clause-some g c =
+pub returns-in-None : goal.returns-in-None
+returns-in-None g c =
     let there = node_is _ _ _ (rw (c.self.view_is, c.inner.ensures) at (sym c.in_ok-local.ensures)) in
-    composed_root _ _ (λ v. v) (g.K.Key.data_of c.args.node) _ there (sym (rw (c.self.view_is, c.inner-2.ensures) at c.in-None.ensures))
+    record {
+      some = composed_root _ _ (λ v. v) (g.K.Key.data_of c.args.node) _ there (sym (rw (c.self.view_is, c.inner-2.ensures) at c.in-None.ensures));
+      joined = λ joins. world_root _ _ (g.K.Key.data_of c.args.node) _ there (sym (rw (c.self.view_is, c.inner-2.ensures) at c.in-None.ensures));
+      none = tt;
+    }
 
-pub returns-in-None-clause-joined : goal.returns-in-None-clause-joined
-returns-in-None-clause-joined g c joins =
+pub returns-in-Some : goal.returns-in-Some
+returns-in-Some g c =
     let there = node_is _ _ _ (rw (c.self.view_is, c.inner.ensures) at (sym c.in_ok-local.ensures)) in
-    world_root _ _ (g.K.Key.data_of c.args.node) _ there (sym (rw (c.self.view_is, c.inner-2.ensures) at c.in-None.ensures))
-
-pub returns-in-Some-clause-some : goal.returns-in-Some-clause-some
-returns-in-Some-clause-some g c =
-    let there = node_is _ _ _ (rw (c.self.view_is, c.inner.ensures) at (sym c.in_ok-local.ensures)) in
-    composed_of_folds _ _ (λ v. v) (λ f f' v p w k. search rules) _ (g.K.Key.data_of c.args.node) c.in-Some.parent _ there
-    (sym (rw (c.self.view_is, c.inner-2.ensures) at c.in-Some.ensures)) _ _ (rw c.outer.ensures at c.fold_up.ensures.some)
-
-pub returns-in-Some-clause-joined : goal.returns-in-Some-clause-joined
-returns-in-Some-clause-joined g c =
-    let there = node_is _ _ _ (rw (c.self.view_is, c.inner.ensures) at (sym c.in_ok-local.ensures)) in
-    joined_of_folds _ _ (λ f f' v p w k. search rules) _ (g.K.Key.data_of c.args.node) c.in-Some.parent _ there
-    (sym (rw (c.self.view_is, c.inner-2.ensures) at c.in-Some.ensures)) _ _ (rw c.outer.ensures at c.fold_up.ensures.some)
-
-pub returns-in-Some-clause-none : goal.returns-in-Some-clause-none
-returns-in-Some-clause-none g c =
-    let there = node_is _ _ _ (rw (c.self.view_is, c.inner.ensures) at (sym c.in_ok-local.ensures)) in
-    parent_found _ (g.K.Key.data_of c.args.node) c.in-Some.parent _ there (sym (rw (c.self.view_is, c.inner-2.ensures) at c.in-Some.ensures))
-    (rw c.self.view_is at c.self.invariant.tree) _ (rw c.outer.ensures at c.fold_up.ensures.none)
+    record {
+      some = composed_of_folds _ _ (λ v. v) (λ f f' v p w k. search rules) _ (g.K.Key.data_of c.args.node) c.in-Some.parent _ there
+          (sym (rw (c.self.view_is, c.inner-2.ensures) at c.in-Some.ensures)) _ _ (rw c.outer.ensures at c.fold_up.ensures.some);
+      joined = joined_of_folds _ _ (λ f f' v p w k. search rules) _ (g.K.Key.data_of c.args.node) c.in-Some.parent _ there
+          (sym (rw (c.self.view_is, c.inner-2.ensures) at c.in-Some.ensures)) _ _ (rw c.outer.ensures at c.fold_up.ensures.some);
+      none = parent_found _ (g.K.Key.data_of c.args.node) c.in-Some.parent _ there (sym (rw (c.self.view_is, c.inner-2.ensures) at c.in-Some.ensures))
+          (rw c.self.view_is at c.self.invariant.tree) _ (rw c.outer.ensures at c.fold_up.ensures.none);
+    }

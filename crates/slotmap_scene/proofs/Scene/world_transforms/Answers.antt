@@ -1,15 +1,10 @@
-use Rattle.std.proofs.Common.{sym, ap, ◌∙◌, arith}
-use Rattle.std.proofs.Math.ListN.{get_or-map}
-use Rattle.std.proofs.lemmas.List.{length-map}
+use Rattle.slotmap_scene.proofs.Common.{ap, arith, get_or-map, length-map, rules, sym, ◌∙◌, common_steps}
 use Rattle.slotmap_scene.proofs.ByLevel.{going_live, going_long, going_on, going_once, levels_all, levels_done}
 use Rattle.slotmap_scene.proofs.ListedWorlds.{worlds_composed}
 use Rattle.slotmap_scene.proofs.Scene.world_transforms.Goals as goal
 
 pub loop-at-smaller : goal.loop-at-smaller
-loop-at-smaller g c =
-    let long = going_long _ (rw c.self.view_is at c.self.invariant) _ _ c.loop-at.invariant.levels in
-    let same = length-map c.loop-at.all.items (λ e. g.K.Key.data_of e.0) in
-    omega arith
+loop-at-smaller g c = grind (arith, going_long, length-map, c.self.invariant, c.loop-at.invariant.levels)
 
 pub loop-at-preserved : goal.loop-at-preserved
 loop-at-preserved g c =
@@ -21,19 +16,15 @@ loop-at-preserved g c =
       each = c.in_ok-push_children.ensures.each;
     }
 
-pub returns-clause-composed : goal.returns-clause-composed
-returns-clause-composed g c joins = worlds_composed g.K.Key.data_of _ g.T.HasTransform.transform_of _ _ joins c.loop-at.invariant.each
-
-pub returns-clause-order : goal.returns-clause-order
-returns-clause-order g c =
+pub returns : goal.returns
+returns g c =
     let same = length-map c.loop-at.all.items (λ e. g.K.Key.data_of e.0) in
-    levels_done _ _ _ c.loop-at.invariant.levels (omega arith)
-
-pub returns-clause-all : goal.returns-clause-all
-returns-clause-all g c = levels_all _ (rw c.self.view_is at c.self.invariant) _ (returns-clause-order g c)
-
-pub returns-clause-only : goal.returns-clause-only
-returns-clause-only g c = going_live _ (rw c.self.view_is at c.self.invariant) _ _ c.loop-at.invariant.levels
-
-pub returns-clause-once : goal.returns-clause-once
-returns-clause-once g c = going_once _ (rw c.self.view_is at c.self.invariant) _ _ c.loop-at.invariant.levels
+    let scene = rw c.self.view_is at c.self.invariant in
+    record {
+      each = search rules;
+      composed = λ joins. worlds_composed g.K.Key.data_of _ g.T.HasTransform.transform_of _ _ joins c.loop-at.invariant.each;
+      order = levels_done _ _ _ c.loop-at.invariant.levels (omega arith);
+      all = levels_all _ scene _ (levels_done _ _ _ c.loop-at.invariant.levels (omega arith));
+      only = going_live _ scene _ _ c.loop-at.invariant.levels;
+      once = going_once _ scene _ _ c.loop-at.invariant.levels;
+    }

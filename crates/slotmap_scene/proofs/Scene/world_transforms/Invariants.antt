@@ -1,7 +1,6 @@
-use Rattle.std.proofs.Common.{◌-◌}
-use Rattle.std.specs.FinMap as map
-use Rattle.slotmap_scene.specs.Levels.{AreWorlds, keys_of_pairs}
+use Rattle.slotmap_scene.proofs.Common.{AreWorlds, keys_of_pairs, ◌-◌}
 use Rattle.slotmap_scene.proofs.ByLevel.{Levels}
+use Rattle.std.specs.FinMap as map
 use Rattle.slotmap_scene.proofs.Scene.world_transforms.Given as goal
 
 abbrev pub invariant-loop-at : goal.invariant-loop-at

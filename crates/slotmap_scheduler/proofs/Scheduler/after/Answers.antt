@@ -1,4 +1,4 @@
-use Rattle.std.proofs.Common.{◌∙◌}
+use Rattle.slotmap_scheduler.proofs.Common.{◌∙◌}
 use Rattle.slotmap_scheduler.proofs.Seen.{alone_at, contains_seen, found_waits}
 use Rattle.slotmap_scheduler.proofs.Scheduler.after.Goals as goal
 

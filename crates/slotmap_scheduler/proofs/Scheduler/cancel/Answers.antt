@@ -1,8 +1,6 @@
-use Rattle.std.proofs.Common.{◌∙◌}
-use Rattle.slotmap_scheduler.proofs.Common.{rules, true, is_some, sym, ap, arith, option_map, spent_removes, removed_spent, live-mapped, Job, waiting_of}
-use Rattle.slotmap_scheduler.proofs.Common.{unplaced, timed}
-use Rattle.slotmap_scheduler.proofs.Schedules.{left_len, left_waits, left_schedule, left_less, left_others, left_leaves}
-use Rattle.slotmap_scheduler.proofs.Handles.{handles_removed, handles_stale, handles_spent, handles_left, same_capacity}
+use Rattle.slotmap_scheduler.proofs.Common.{Job, ap, arith, is_some, live-mapped, option_map, removed_spent, rules, spent_removes, sym, timed, true, unplaced, waiting_of, ◌∙◌}
+use Rattle.slotmap_scheduler.proofs.Schedules.{left_leaves, left_len, left_less, left_others, left_schedule, left_waits}
+use Rattle.slotmap_scheduler.proofs.Handles.{handles_left, handles_removed, handles_spent, handles_stale, same_capacity}
 use Rattle.slotmap_scheduler.proofs.Seen.{job_seen, none_seen}
 use Rattle.slotmap_scheduler.proofs.Results.{without_none}
 use Rattle.slotmap_scheduler.proofs.Scheduler.cancel.Goals as goal
@@ -39,9 +37,7 @@ returns g c =
     }
 
 pub returns-in_err-removed-clause-job : goal.returns-in_err-removed-clause-job
-returns-in_err-removed-clause-job g c =
-    rw (← c.self.view_is, ← c.inner.ensures) (c.from_residual.ensures ∙ ap (option_map (λ (j : Job g.row.T.Denot). j.job)) (sym c.in_err-removed.was ∙ c.take_out.ensures.value)
-    ∙ job_seen c.self.invariant c.inner.result)
+returns-in_err-removed-clause-job g c = grind (arith, option_map, job_seen c.self.invariant c.inner.result, c.inner.ensures, c.from_residual.ensures, c.take_out.ensures.value, c.self.invariant)
 
 pub returns-in_err-removed-clause-removed : goal.returns-in_err-removed-clause-removed
 returns-in_err-removed-clause-removed g c =

@@ -1,6 +1,5 @@
-use Rattle.std.proofs.Common.{◌∙◌}
-use Rattle.slotmap_scheduler.proofs.Common.{arith, same_from_all_zip, clone_len, len-mapped, unplaced, timed}
-use Rattle.slotmap_scheduler.proofs.Copied.{clones_job, Clones, timed_clones, schedule_copied, waiting_copied}
+use Rattle.slotmap_scheduler.proofs.Common.{arith, clone_len, len-mapped, same_from_all_zip, timed, unplaced, ◌∙◌}
+use Rattle.slotmap_scheduler.proofs.Copied.{Clones, clones_job, schedule_copied, timed_clones, waiting_copied}
 use Rattle.slotmap_scheduler.proofs.Handles.{handles_copied}
 use Rattle.slotmap_scheduler.proofs.Scheduler.clone.Goals as goal
 

@@ -1,5 +1,4 @@
-use Rattle.std.proofs.Common.{◌∙◌}
-use Rattle.slotmap_scheduler.proofs.Common.{sym, contains-keys_of, contains-mapped, unplaced, timed}
+use Rattle.slotmap_scheduler.proofs.Common.{contains-keys_of, contains-mapped, sym, timed, unplaced, ◌∙◌}
 use Rattle.slotmap_scheduler.proofs.Seen.{contains_seen}
 use Rattle.slotmap_scheduler.proofs.Scheduler.contains.Goals as goal
 

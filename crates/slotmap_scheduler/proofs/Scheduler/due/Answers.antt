@@ -1,5 +1,4 @@
-use Rattle.std.proofs.Common.{◌∙◌}
-use Rattle.slotmap_scheduler.proofs.Common.{arith, ap, option_map, Job}
+use Rattle.slotmap_scheduler.proofs.Common.{Job, ap, arith, option_map, ◌∙◌}
 use Rattle.slotmap_scheduler.proofs.Seen.{due_seen}
 use Rattle.slotmap_scheduler.proofs.Scheduler.due.Goals as goal
 

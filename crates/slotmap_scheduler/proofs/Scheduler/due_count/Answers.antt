@@ -1,5 +1,4 @@
-use Rattle.std.proofs.Common.{◌∙◌}
-use Rattle.slotmap_scheduler.proofs.Common.{ap, timed, due_under}
+use Rattle.slotmap_scheduler.proofs.Common.{arith, timed}
 use Rattle.slotmap_scheduler.proofs.DueCounted.{due_counted}
 use Rattle.slotmap_scheduler.proofs.Waits.{waits_by_time, waits_once}
 use Rattle.slotmap_scheduler.proofs.Scheduler.due_count.Goals as goal
@@ -7,12 +6,9 @@ use Rattle.slotmap_scheduler.proofs.Scheduler.due_count.Goals as goal
 pub count_due-requires : goal.count_due-requires
 count_due-requires g c = rw (c.deref.ensures.value) c.self.invariant.indexed.ordered
 
-pub returns-clause-value : goal.returns-clause-value
-returns-clause-value g c =
-    rw (← c.self.view_is) (c.count_due.ensures ∙ ap (due_under c.args.now 0) c.deref.ensures.value ∙ due_counted c.self.invariant c.args.now)
-
-pub returns-clause-sorted : goal.returns-clause-sorted
-returns-clause-sorted g c = rw (← c.self.view_is) (waits_by_time (timed c.self.inside.jobs).live)
-
-pub returns-clause-once : goal.returns-clause-once
-returns-clause-once g c = rw (← c.self.view_is) (waits_once (timed c.self.inside.jobs).live c.self.inside.count c.self.invariant.order)
+pub returns : goal.returns
+returns g c = record {
+  value = grind (arith, due_counted c.self.invariant c.args.now, c.count_due.ensures, c.deref.ensures.value, c.self.invariant);
+  sorted = rw (← c.self.view_is) (waits_by_time (timed c.self.inside.jobs).live);
+  once = rw (← c.self.view_is) (waits_once (timed c.self.inside.jobs).live c.self.inside.count c.self.invariant.order);
+}

@@ -1,5 +1,4 @@
-use Rattle.std.proofs.Common.{◌∙◌}
-use Rattle.slotmap_scheduler.proofs.Common.{sym, len-keys_of, len-mapped, unplaced, timed}
+use Rattle.slotmap_scheduler.proofs.Common.{len-keys_of, len-mapped, sym, timed, unplaced, ◌∙◌}
 use Rattle.slotmap_scheduler.proofs.Order.{len_is}
 use Rattle.slotmap_scheduler.proofs.Waits.{waits_by_time, waits_once}
 use Rattle.slotmap_scheduler.proofs.Scheduler.len.Goals as goal

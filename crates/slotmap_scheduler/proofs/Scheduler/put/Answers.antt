@@ -1,5 +1,5 @@
-use Rattle.slotmap_scheduler.proofs.Common.{rules, true, arith, spent_inserts, timed}
-use Rattle.slotmap_scheduler.proofs.Schedules.{put_len, put_schedule, put_fresh, put_waits, put_there, put_others, put_more}
+use Rattle.slotmap_scheduler.proofs.Common.{arith, rules, spent_inserts, timed, true}
+use Rattle.slotmap_scheduler.proofs.Schedules.{put_fresh, put_len, put_more, put_others, put_schedule, put_there, put_waits}
 use Rattle.slotmap_scheduler.proofs.Handles.{handles_inserted, handles_stale, handles_unspent, same_capacity}
 use Rattle.slotmap_scheduler.proofs.Scheduler.put.Goals as goal
 

@@ -1,12 +1,11 @@
-use Rattle.slotmap_scheduler.proofs.Common.{refl, arith}
-use Rattle.slotmap_scheduler.proofs.Schedules.{reserved_schedule, reserved_room}
+use Rattle.slotmap_scheduler.proofs.Common.{arith, refl}
+use Rattle.slotmap_scheduler.proofs.Schedules.{reserved_room, reserved_schedule}
 use Rattle.slotmap_scheduler.proofs.Handles.{used_handles}
 use Rattle.slotmap_scheduler.proofs.Results.{if_ok}
 use Rattle.slotmap_scheduler.proofs.Scheduler.reserve.Goals as goal
 
 pub invariant_of-self : goal.invariant_of-self
-invariant_of-self g c =
-    reserved_schedule c.self.invariant c.reserve.new.self c.self.inside.heap c.args.additional _ c.reserve.ensures.makes_room refl refl (omega arith)
+invariant_of-self g c = reserved_schedule c.self.invariant c.reserve.new.self c.self.inside.heap c.args.additional _ c.reserve.ensures.makes_room refl refl (omega arith)
 
 pub returns-in-Err-clause-makes_room : goal.returns-in-Err-clause-makes_room
 returns-in-Err-clause-makes_room g c =
@@ -18,8 +17,7 @@ returns-in-Err-clause-err g c = rw (← c.self.view_is, used_handles c.self.insi
 
 pub invariant_of-self-then-is_err : goal.invariant_of-self-then-is_err
 invariant_of-self-then-is_err g c =
-    let room = c.make_room.ensures in
-    reserved_schedule c.self.invariant c.reserve.new.self c.make_room.new.items c.args.additional _ c.reserve.ensures.makes_room room.keeps room.len room.capacity
+    let room = c.make_room.ensures in reserved_schedule c.self.invariant c.reserve.new.self c.make_room.new.items c.args.additional _ c.reserve.ensures.makes_room room.keeps room.len room.capacity
 
 pub returns-then-is_err-clause-makes_room : goal.returns-then-is_err-clause-makes_room
 returns-then-is_err-clause-makes_room g c =
@@ -29,14 +27,11 @@ returns-then-is_err-clause-makes_room g c =
 
 pub returns-then-is_err-clause-err : goal.returns-then-is_err-clause-err
 returns-then-is_err-clause-err g c =
-    let same = used_handles c.self.inside.jobs c.self.inside.heap in
-    let fits = c.reserve.ensures.makes_room.fits (if_ok c.reserve.result c.in_default.not-Err) in
-    rw (← c.self.view_is) (omega arith)
+    grind (arith, used_handles c.self.inside.jobs c.self.inside.heap, if_ok c.reserve.result c.in_default.not-Err, c.reserve.ensures.makes_room.fits (if_ok c.reserve.result c.in_default.not-Err))
 
 pub invariant_of-self-2 : goal.invariant_of-self-2
 invariant_of-self-2 g c =
-    let room = c.make_room.ensures in
-    reserved_schedule c.self.invariant c.reserve.new.self c.make_room.new.items c.args.additional _ c.reserve.ensures.makes_room room.keeps room.len room.capacity
+    let room = c.make_room.ensures in reserved_schedule c.self.invariant c.reserve.new.self c.make_room.new.items c.args.additional _ c.reserve.ensures.makes_room room.keeps room.len room.capacity
 
 pub returns-clause-makes_room : goal.returns-clause-makes_room
 returns-clause-makes_room g c =

@@ -1,13 +1,12 @@
-use Rattle.slotmap_scheduler.proofs.Visiting.{visiting_start, visiting_takes, visiting_kept, visiting_dropped, visiting_end, shown_there, written_waits}
+use Rattle.slotmap_scheduler.proofs.Common.{arith}
+use Rattle.slotmap_scheduler.proofs.Visiting.{shown_there, visiting_dropped, visiting_end, visiting_kept, visiting_start, visiting_takes, written_waits}
 use Rattle.slotmap_scheduler.proofs.Scheduler.retain.Goals as goal
 
 pub loop-next-init : goal.loop-next-init
 loop-next-init g c = visiting_start g.F.FnMut g.K.Key.data_of c.args.self.now c.args.f
 
 pub f-stays-requires : goal.f-stays-requires
-f-stays-requires g c =
-    visiting_takes c.loop-next.invariant c.in-Some.next.0 c.in-Some.next.1 _ (shown_there c.loop-next.invariant _ _ _ c.in-Some.ensures.there c.job_mut.ensures.job)
-    c.in-Some.ensures.behind c.requires
+f-stays-requires g c = grind (arith, visiting_takes, shown_there, c.loop-next.invariant, c.in-Some.ensures.there, c.job_mut.ensures.job, c.in-Some.ensures.behind)
 
 pub reject-requires : goal.reject-requires
 reject-requires g c = written_waits c.loop-next.invariant _ _ c.in-Some.ensures.there.1 _

@@ -1,5 +1,4 @@
-use Rattle.std.proofs.Common.{◌-◌, ◌^◌}
-use Rattle.slotmap.specs.Words.{index_after}
+use Rattle.slotmap_scheduler.proofs.Common.{index_after, ◌-◌, ◌^◌}
 use Rattle.slotmap_scheduler.proofs.Visiting.{Visiting}
 use Rattle.slotmap_scheduler.proofs.Scheduler.retain.Given as goal
 

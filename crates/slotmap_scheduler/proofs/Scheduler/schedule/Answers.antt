@@ -1,3 +1,4 @@
+use Rattle.slotmap_scheduler.proofs.Common.{arith}
 use Rattle.slotmap_scheduler.proofs.Schedules.{schedule_content}
 use Rattle.slotmap_scheduler.proofs.Scheduler.schedule.Goals as goal
 
@@ -5,5 +6,4 @@ pub returns-then-self-clause-valid : goal.returns-then-self-clause-valid
 returns-then-self-clause-valid g c = rw (← c.self.view_is) (schedule_content c.self.invariant)
 
 pub returns-in-Ok-clause-stale : goal.returns-in-Ok-clause-stale
-returns-in-Ok-clause-stale g c k spent =
-    c.put.ensures.stale k (c.reserve.ensures.stale k spent)
+returns-in-Ok-clause-stale g c k spent = grind (arith, c.put.ensures.stale k (c.reserve.ensures.stale k spent), c.reserve.ensures.stale k spent)

@@ -1,8 +1,7 @@
-use Rattle.std.proofs.Common.{◌∙◌}
-use Rattle.slotmap_scheduler.proofs.Common.{ℕ, ap, arith, nat_cmp, mapped-new, unplaced, timed}
-use Rattle.std.specs.FinMap as map
-use Rattle.slotmap_scheduler.proofs.Schedules.{schedule_none, none_waits}
+use Rattle.slotmap_scheduler.proofs.Common.{ap, arith, mapped-new, nat_cmp, timed, unplaced, ℕ, ◌∙◌}
+use Rattle.slotmap_scheduler.proofs.Schedules.{none_waits, schedule_none}
 use Rattle.slotmap_scheduler.proofs.Handles.{handles_new}
+use Rattle.std.specs.FinMap as map
 use Rattle.slotmap_scheduler.proofs.Scheduler.with_capacity_and_key.Goals as goal
 
 pub invariant_of-result : goal.invariant_of-result

@@ -1,5 +1,4 @@
-use Rattle.std.proofs.Common.{◌∙◌}
-use Rattle.slotmap_scheduler.proofs.Common.{sym, ap, option_map, Job}
+use Rattle.slotmap_scheduler.proofs.Common.{Job, ap, option_map, sym, ◌∙◌}
 use Rattle.slotmap_scheduler.proofs.Seen.{contains_seen, job_seen}
 use Rattle.slotmap_scheduler.proofs.SchedulerIndex.index.Goals as goal
 

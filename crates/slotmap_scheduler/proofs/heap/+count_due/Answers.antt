@@ -1,7 +1,7 @@
-use Rattle.std.proofs.Common.{◌+◌, ◌*◌, sym, arith}
-use Rattle.slotmap_scheduler.proofs.Counting.{none_past, none_under, due_split, due-le}
+use Rattle.slotmap_scheduler.proofs.Common.{arith, sym, ◌*◌, ◌+◌}
+use Rattle.slotmap_scheduler.proofs.Counting.{due-le, due_split, none_past, none_under}
+use Rattle.slotmap_scheduler.proofs.heap.+count_due.Goals.{then-at-heap-via-else-at-heap+then-heap-at, then-at-heap-via-then-at-heap}
 use Rattle.slotmap_scheduler.proofs.heap.+count_due.Goals as goal
-use Rattle.slotmap_scheduler.proofs.heap.+count_due.Goals.{then-at-heap-via-then-at-heap, then-at-heap-via-else-at-heap+then-heap-at}
 
 pub returns-then-at-heap : goal.returns-then-at-heap
 returns-then-at-heap t c = elim c.then-at-heap.branch [
@@ -17,16 +17,10 @@ returns-then-at-heap-2 t c =
     omega arith
 
 pub overflow_add-result : goal.overflow_add-result
-overflow_add-result t c =
-    let all = due_split c.args.now c.args.heap.now c.requires c.args.at _ c.if-at-heap.false c.if-heap-at.false in
-    grind (arith, c.count_due.ensures, due-le c.args.now c.args.heap.now c.requires c.args.at)
+overflow_add-result t c = grind (arith, due_split, due-le c.args.now c.args.heap.now c.requires c.args.at, c.count_due.ensures)
 
 pub overflow_add-result-2 : goal.overflow_add-result-2
-overflow_add-result-2 t c =
-    let all = due_split c.args.now c.args.heap.now c.requires c.args.at _ c.if-at-heap.false c.if-heap-at.false in
-    grind (arith, c.count_due.ensures, c.count_due-2.ensures, due-le c.args.now c.args.heap.now c.requires c.args.at)
+overflow_add-result-2 t c = grind (arith, due_split, due-le c.args.now c.args.heap.now c.requires c.args.at, c.count_due.ensures, c.count_due-2.ensures)
 
 pub returns : goal.returns
-returns t c =
-    let all = due_split c.args.now c.args.heap.now c.requires c.args.at _ c.if-at-heap.false c.if-heap-at.false in
-    grind (arith, c.count_due.ensures, c.count_due-2.ensures)
+returns t c = grind (arith, due_split, c.count_due.ensures, c.count_due-2.ensures)

@@ -1,7 +1,5 @@
-use Rattle.std.proofs.Common.{◌∙◌}
-use Rattle.slotmap_scheduler.proofs.Common.{true, arith, Inserts, content-mapped, mapped-inserts, unplaced}
-use Rattle.slotmap_scheduler.proofs.Indexed.{indexed_settled, put_placed, put_but, put_len}
-use Rattle.std.proofs.lemmas.Result.{IfOk-at_ok}
+use Rattle.slotmap_scheduler.proofs.Common.{IfOk-at_ok, Inserts, arith, content-mapped, mapped-inserts, true, unplaced, ◌∙◌}
+use Rattle.slotmap_scheduler.proofs.Indexed.{indexed_settled, put_but, put_len, put_placed}
 use Rattle.slotmap_scheduler.proofs.heap.put_in.Goals as goal
 
 pub settle-requires : goal.settle-requires

@@ -1,7 +1,6 @@
-use Rattle.std.proofs.Common.{◌∙◌}
-use Rattle.slotmap_scheduler.proofs.Common.{mapped-with, unplaced}
+use Rattle.slotmap_scheduler.proofs.Common.{arith, mapped-with}
 use Rattle.slotmap_scheduler.proofs.HeapPlaces.{in_heap}
-use Rattle.slotmap_scheduler.proofs.Indexed.{indexed_settled, turned_placed, turned_but, turned_len, same_job}
+use Rattle.slotmap_scheduler.proofs.Indexed.{indexed_settled, same_job, turned_but, turned_len, turned_placed}
 use Rattle.slotmap_scheduler.proofs.heap.set_turn.Goals as goal
 
 pub index_mut-requires : goal.index_mut-requires
@@ -19,8 +18,7 @@ settle-requires g c =
     }
 
 pub returns-clause-written : goal.returns-clause-written
-returns-clause-written g c j found =
-    rw (same_job _ j c.index_mut-job.result.now found c.index_mut-job.ensures.value) (c.settle.ensures.resettled.same ∙ mapped-with unplaced c.args.jobs.now c.args.jobs.now c.args.handle _)
+returns-clause-written g c j found = grind (arith, same_job, mapped-with, c.index_mut-job.ensures.value, c.settle.ensures.resettled.same)
 
 pub returns-clause-indexed : goal.returns-clause-indexed
 returns-clause-indexed g c =

@@ -1,6 +1,5 @@
-use Rattle.std.proofs.Common.{◌≡◌, ◌<◌, ◌∙◌}
-use Rattle.slotmap_scheduler.proofs.Common.{length, vec_len, true, false, sym, arith}
-use Rattle.slotmap_scheduler.proofs.Heaps.{resettled_same, resettled_then, sunk, sunk_above, heap_settled, heap_ended, compared}
+use Rattle.slotmap_scheduler.proofs.Common.{arith, common_steps, length, sym, true, vec_len, ◌<◌, ◌∙◌, ◌≡◌}
+use Rattle.slotmap_scheduler.proofs.Heaps.{compared, heap_ended, heap_settled, resettled_same, resettled_then, sunk, sunk_above}
 use Rattle.slotmap_scheduler.proofs.heap.sift_down.Goals as goal
 
 pub loop-child-init : goal.loop-child-init
@@ -24,10 +23,7 @@ loop-child-preserved g c =
 
 pub returns-then-not-is_before-clause-heap : goal.returns-then-not-is_before-clause-heap
 returns-then-not-is_before-clause-heap g c =
-    let first = rw c.deref.ensures.value at c.in-Some.ensures.some in
-    let i = c.loop-child.invariant in
-    heap_settled c.loop-child.heap.items c.loop-child.at i.but i.above c.in-Some.child first (compared c.loop-child.heap c.in-Some.child c.loop-child.at c.index.result.now c.index-in-Some.result.now
-    (omega (arith, first.inside, c.loop-child.heap.ok.0)) i.within c.index.ensures c.index-in-Some.ensures false (sym c.is_before.ensures ∙ c.if-not-is_before.true))
+    grind (arith, common_steps, heap_settled, compared, c.deref.ensures.value, c.in-Some.ensures.some, c.loop-child.invariant, c.index.ensures, c.index-in-Some.ensures, c.is_before.ensures)
 
 pub returns-clause-heap : goal.returns-clause-heap
 returns-clause-heap g c = heap_ended c.loop-child.heap.items c.loop-child.at c.loop-child.invariant.but c.loop-child.invariant.above (rw c.deref.ensures.value at c.in_default.ensures.none)

@@ -1,15 +1,12 @@
-use Rattle.std.proofs.Common.{◌∙◌}
-use Rattle.slotmap_scheduler.proofs.Common.{false, sym, arith}
-use Rattle.slotmap_scheduler.proofs.Heaps.{resettled_same, resettled_then, risen, compared}
+use Rattle.slotmap_scheduler.proofs.Common.{arith}
+use Rattle.slotmap_scheduler.proofs.Heaps.{compared, resettled_same, resettled_then, risen}
 use Rattle.slotmap_scheduler.proofs.heap.sift_up.Goals as goal
 
 pub loop-at-init : goal.loop-at-init
 loop-at-init g c = record { within = c.requires.within; but = c.requires.but; resettled = resettled_same _ _ c.requires.placed }
 
 pub returns-then-not-is_before-clause-above : goal.returns-then-not-is_before-clause-above
-returns-then-not-is_before-clause-above g c some =
-    compared c.loop-at.heap c.loop-at.at _ c.index.result.now c.index-in-loop-at.result.now c.loop-at.invariant.within (omega arith) c.index.ensures c.index-in-loop-at.ensures false
-    (sym c.is_before.ensures ∙ c.if-not-is_before.true)
+returns-then-not-is_before-clause-above g c some = grind (arith, compared, c.loop-at.invariant.within, c.index.ensures, c.index-in-loop-at.ensures, c.is_before.ensures)
 
 pub loop-at-preserved : goal.loop-at-preserved
 loop-at-preserved g c = record {

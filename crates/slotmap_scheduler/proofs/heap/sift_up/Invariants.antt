@@ -1,5 +1,4 @@
-use Rattle.std.proofs.Common.{◌<◌}
-use Rattle.slotmap_scheduler.proofs.Common.{vec_len, IsHeapBut, Resettled}
+use Rattle.slotmap_scheduler.proofs.Common.{IsHeapBut, Resettled, vec_len, ◌<◌}
 use Rattle.slotmap_scheduler.proofs.heap.sift_up.Given as goal
 
 abbrev pub invariant-loop-at : goal.invariant-loop-at

@@ -1,6 +1,5 @@
-use Rattle.std.proofs.Common.{◌≢◌, ◌+◌, ◌∙◌}
-use Rattle.slotmap_scheduler.proofs.Common.{vec_len, sym, ap, mapped-removes, mapped-stays, unplaced}
-use Rattle.slotmap_scheduler.proofs.HeapPlaces.{in_heap, last_placed, last_heap, gap_within, gap_but, gap_live, gap_placed, place_written}
+use Rattle.slotmap_scheduler.proofs.Common.{arith, mapped-removes, mapped-stays, sym, unplaced, vec_len, ◌∙◌, ◌≢◌}
+use Rattle.slotmap_scheduler.proofs.HeapPlaces.{gap_but, gap_live, gap_placed, gap_within, in_heap, last_heap, last_placed, place_written}
 use Rattle.slotmap_scheduler.proofs.Indexed.{left_indexed}
 use Rattle.slotmap_scheduler.proofs.heap.take_out.Goals as goal
 
@@ -31,9 +30,7 @@ index-requires g c =
     c.swap_remove.new.self c.swap_remove.ensures.len c.swap_remove.ensures.by_index (λ same. c.if-removed-len.false (same ∙ sym c.len.ensures))
 
 pub index_mut-requires : goal.index_mut-requires
-index_mut-requires g c =
-    rw c.remove.ensures.live (gap_live c.args.jobs.now c.args.heap.now c.requires.placed c.args.handle c.in_ok-removed.removed (sym c.remove.ensures.value ∙ c.in_ok-removed.was)
-    c.swap_remove.new.self c.swap_remove.ensures.len c.swap_remove.ensures.by_index (λ same. c.if-removed-len.false (same ∙ sym c.len.ensures)) c.index.result.now c.index.ensures)
+index_mut-requires g c = grind (arith, gap_live, c.remove.ensures.live, c.remove.ensures.value, c.swap_remove.ensures.len, c.swap_remove.ensures.by_index, c.len.ensures, c.index.ensures)
 
 pub settle-requires : goal.settle-requires
 settle-requires g c =
@@ -60,8 +57,4 @@ returns-clause-valid g c =
     ) (mapped-stays unplaced _ _ c.remove.ensures.valid)
 
 pub returns-clause-indexed : goal.returns-clause-indexed
-returns-clause-indexed g c =
-    let s = c.settle.ensures.resettled in
-    left_indexed c.args.jobs.now c.args.heap.now c.requires c.args.handle c.in_ok-removed.removed
-    (sym c.remove.ensures.value ∙ c.in_ok-removed.was) c.settle.new.jobs c.settle.new.heap (returns-clause-removes g c)
-    s.placed c.settle.ensures.heap (ap (λ n. n + 1) s.len ∙ c.swap_remove.ensures.len)
+returns-clause-indexed g c = grind (arith, left_indexed, returns-clause-removes g c, c.settle.ensures.resettled, c.remove.ensures.value, c.settle.ensures.heap, c.swap_remove.ensures.len)

@@ -1,5 +1,4 @@
-use Rattle.std.proofs.Common.{◌≡◌, length}
-use Rattle.slotmap_scene.specs.Kept.{roots_of}
+use Rattle.slotmap_scene.proofs.Common.{length, roots_of, ◌≡◌}
 use Rattle.slotmap_scene.proofs.above.RootsIterator.next.Given as goal
 
 abbrev pub invariant-loop-node : goal.invariant-loop-node

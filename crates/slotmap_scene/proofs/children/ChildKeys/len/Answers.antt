@@ -1,6 +1,4 @@
-use Rattle.std.proofs.Common.{length, sym, ap, ◌∙◌}
-use Rattle.std.proofs.lemmas.List.{length-map}
-use Rattle.slotmap_bounded.specs.Indices.{key_at}
+use Rattle.slotmap_scene.proofs.Common.{ap, key_at, length, length-map, sym, ◌∙◌}
 use Rattle.slotmap_scene.proofs.children.ChildKeys.len.Goals as goal
 
 pub returns : goal.returns

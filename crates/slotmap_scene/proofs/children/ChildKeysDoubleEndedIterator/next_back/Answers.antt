@@ -1,5 +1,4 @@
-use Rattle.std.proofs.Common.{sym, ◌∙◌}
-use Rattle.slotmap_bounded.proofs.Indices.{back_has, back_key}
+use Rattle.slotmap_scene.proofs.Common.{back_has, back_key, sym, ◌∙◌}
 use Rattle.slotmap_scene.proofs.children.ChildKeysDoubleEndedIterator.next_back.Goals as goal
 
 pub live_key-requires : goal.live_key-requires

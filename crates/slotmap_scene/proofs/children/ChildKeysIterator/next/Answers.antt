@@ -1,5 +1,4 @@
-use Rattle.std.proofs.Common.{sym, ◌∙◌}
-use Rattle.slotmap_bounded.proofs.Indices.{front_has, front_key}
+use Rattle.slotmap_scene.proofs.Common.{front_has, front_key, sym, ◌∙◌}
 use Rattle.slotmap_scene.proofs.children.ChildKeysIterator.next.Goals as goal
 
 pub live_key-requires : goal.live_key-requires

@@ -1,4 +1,4 @@
-use Rattle.std.specs.List.{each_same}
+use Rattle.slotmap_scene.proofs.Common.{each_same}
 use Rattle.slotmap_scene.proofs.SceneSteps.{copied_kept, copied_seen}
 use Rattle.slotmap_scene.proofs.clone.NodesClone.clone.Goals as goal
 

@@ -1,16 +1,13 @@
-use Rattle.std.proofs.Common.{arith}
+use Rattle.slotmap_scene.proofs.Common.{arith}
 use Rattle.slotmap_scene.proofs.Placing.{child_there, free_there, owner_there, put_on_side}
 use Rattle.slotmap_scene.proofs.family.Nodes.attach_beside.Goals as goal
 
-pub put_beside-requires-clause-parent : goal.put_beside-requires-clause-parent
-put_beside-requires-clause-parent g c = owner_there c.self.invariant c.self.view_is c.args.parent c.requires.parent
-
-pub put_beside-requires-clause-sibling : goal.put_beside-requires-clause-sibling
-put_beside-requires-clause-sibling g c = child_there c.self.invariant c.self.view_is c.args.parent c.args.sibling
-    (let once = c.requires.sibling in omega arith)
-
-pub put_beside-requires-clause-free : goal.put_beside-requires-clause-free
-put_beside-requires-clause-free g c = free_there c.self.invariant c.self.view_is c.args.node c.requires.node c.requires.alone
+pub put_beside-requires : goal.put_beside-requires
+put_beside-requires g c = record {
+  parent = owner_there c.self.invariant c.self.view_is c.args.parent c.requires.parent;
+  sibling = child_there c.self.invariant c.self.view_is c.args.parent c.args.sibling (let once = c.requires.sibling in omega arith);
+  free = free_there c.self.invariant c.self.view_is c.args.node c.requires.node c.requires.alone;
+}
 
 pub invariant_of-self : goal.invariant_of-self
 invariant_of-self g c =

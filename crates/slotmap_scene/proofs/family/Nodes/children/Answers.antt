@@ -1,9 +1,4 @@
-use Rattle.std.proofs.Common.{sym, ap, subst, ◌∙◌}
-use Rattle.slotmap.specs.Words.{Content}
-use Rattle.slotmap_links.specs.Lists.{list_of}
-use Rattle.slotmap_scene.specs.Node.{Node}
-use Rattle.slotmap_scene.specs.Kept.{owner_of}
-use Rattle.slotmap_bounded.specs.Indices.{AreIndices, keys_at}
+use Rattle.slotmap_scene.proofs.Common.{AreIndices, Content, Node, ap, keys_at, list_of, owner_of, subst, sym, ◌∙◌, arith}
 use Rattle.slotmap_scene.proofs.Families.{children_owned, indices_at, owner_below}
 use Rattle.slotmap_scene.proofs.family.Nodes.children.Goals as goal
 
@@ -11,12 +6,7 @@ pub iter-requires : goal.iter-requires
 iter-requires g c = rw (c.owner.ensures, ← c.self.view_is) (owner_below c.self.invariant c.args.node)
 
 pub invariant_of-result : goal.invariant_of-result
-invariant_of-result g c =
-    (c.self.invariant.indices, subst (AreIndices c.self.inside.values) (sym c.iter.ensures) (indices_at c.self.invariant c.owner.result))
+invariant_of-result g c = grind (arith, indices_at c.self.invariant c.owner.result, c.self.invariant.indices, c.iter.ensures, c.self.invariant)
 
 pub returns : goal.returns
-returns g c = rw (← c.self.view_is)
-    (ap (keys_at c.self.inside.values.live)
-    (c.iter.ensures ∙ ap (list_of c.self.inside.children)
-    (c.owner.ensures ∙ ap (λ (s : Content (Node g.row.T.Denot)). owner_of s.live c.args.node) (sym c.self.view_is)))
-    ∙ sym (children_owned c.self.invariant c.args.node))
+returns g c = grind (arith, children_owned c.self.invariant c.args.node, c.iter.ensures, c.owner.ensures, c.self.invariant)

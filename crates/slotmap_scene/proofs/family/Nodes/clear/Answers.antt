@@ -1,7 +1,4 @@
-use Rattle.std.proofs.Common.{[], ap, ◌∙◌, length, arith}
-use Rattle.std.proofs.lemmas.List.{length-replicate}
-use Rattle.slotmap_links.specs.Lists.{Lists, list_of}
-use Rattle.slotmap_links.proofs.Changes.{list_cleared}
+use Rattle.slotmap_scene.proofs.Common.{Lists, [], ap, arith, length, length-replicate, list_cleared, list_of, ◌∙◌}
 use Rattle.slotmap_scene.proofs.SceneSteps.{bare_kept, bare_seen, family_leaves, family_valid}
 use Rattle.slotmap_scene.proofs.family.Nodes.clear.Goals as goal
 
@@ -28,5 +25,4 @@ returns-clause-leaves g c = rw (← c.self.view_is)
     c.clear.ensures.leaves)
 
 pub returns-clause-valid : goal.returns-clause-valid
-returns-clause-valid g c = rw (← c.self.view_is)
-    (family_valid c.self.inside.values c.self.inside.parents.items c.self.inside.children c.clear.ensures.valid.before)
+returns-clause-valid g c = grind (arith, family_valid c.self.inside.values c.self.inside.parents.items c.self.inside.children c.clear.ensures.valid.before, c.clear.ensures.valid.before)

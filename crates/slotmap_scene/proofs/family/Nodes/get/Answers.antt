@@ -1,7 +1,6 @@
-use Rattle.std.proofs.Common.{sym, ◌∙◌}
+use Rattle.slotmap_scene.proofs.Common.{sym, ◌∙◌, arith}
 use Rattle.slotmap_scene.proofs.Families.{seen_value}
 use Rattle.slotmap_scene.proofs.family.Nodes.get.Goals as goal
 
 pub returns : goal.returns
-returns g c = rw (← c.self.view_is)
-    (c.get.ensures ∙ sym (seen_value c.self.inside.values.live c.self.inside.parents.items c.self.inside.children c.args.node))
+returns g c = grind (arith, seen_value c.self.inside.values.live c.self.inside.parents.items c.self.inside.children c.args.node, c.get.ensures)

@@ -1,5 +1,4 @@
-use Rattle.std.proofs.Common.{true}
-use Rattle.slotmap.proofs.Callers.{spent_inserts, spent_keeps}
+use Rattle.slotmap_scene.proofs.Common.{spent_inserts, spent_keeps, true, arith, common_steps}
 use Rattle.slotmap_scene.proofs.family.Nodes.insert.Goals as goal
 
 pub returns-in-Ok-clause-stale : goal.returns-in-Ok-clause-stale

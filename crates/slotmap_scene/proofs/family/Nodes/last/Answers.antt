@@ -1,23 +1,13 @@
-use Rattle.std.proofs.Common.{None, Some, sym, ap, ◌∙◌}
-use Rattle.std.specs.Option.{option_map}
-use Rattle.slotmap.specs.Words.{Content}
-use Rattle.slotmap_links.specs.Lists.{list_of, last_or as last_number}
-use Rattle.slotmap_scene.specs.Node.{Node}
-use Rattle.slotmap_links.proofs.Linking.{last_in}
-use Rattle.slotmap_scene.specs.Kept.{owner_of}
-use Rattle.slotmap_bounded.specs.Indices.{key_at}
-use Rattle.slotmap_scene.proofs.Families.{indices_at, key_found, owner_below, last_seen}
+use Rattle.slotmap_scene.proofs.Common.{Content, Node, None, Some, ap, key_at, last_in, last_number, list_of, option_map, owner_of, sym, ◌∙◌, arith}
+use Rattle.slotmap_scene.proofs.Families.{indices_at, key_found, last_seen, owner_below}
 use Rattle.slotmap_scene.proofs.family.Nodes.last.Goals as goal
 
 pub last-requires : goal.last-requires
 last-requires g c = rw (c.owner.ensures, ← c.self.view_is) (owner_below c.self.invariant c.args.node)
 
 pub returns-in_err-index : goal.returns-in_err-index
-returns-in_err-index g c = rw (c.from_residual.ensures, ← c.self.view_is) (
-    ap (option_map (key_at c.self.inside.values.live))
-    (sym c.in_err-index.was ∙ c.last.ensures ∙ ap (λ p. last_number (list_of c.self.inside.children p) None)
-    (c.owner.ensures ∙ ap (λ (s : Content (Node g.row.T.Denot)). owner_of s.live c.args.node) (sym c.self.view_is)))
-    ∙ last_seen c.self.invariant c.args.node)
+returns-in_err-index g c =
+    grind (arith, option_map (key_at c.self.inside.values.live), last_number, last_seen c.self.invariant c.args.node, c.from_residual.ensures, c.last.ensures, c.owner.ensures, c.self.invariant)
 
 pub live_key-requires : goal.live_key-requires
 live_key-requires g c = (indices_at c.self.invariant c.owner.result).have c.in_ok-index.index

@@ -1,12 +1,11 @@
-use Rattle.std.proofs.Common.{arith}
+use Rattle.slotmap_scene.proofs.Common.{arith}
 use Rattle.slotmap_scene.proofs.Moved.{listed_once}
 use Rattle.slotmap_scene.proofs.Families.{read_above}
 use Rattle.slotmap_scene.proofs.Placing.{left, left_below, left_listed, left_none, place_there}
 use Rattle.slotmap_scene.proofs.family.Nodes.leave.Goals as goal
 
 pub index-parent-requires : goal.index-parent-requires
-index-parent-requires g c = let place = place_there c.self.invariant c.self.view_is c.args.node c.requires.there in
-    let same = c.self.inside.parents.ok.0 in let at = c.index_of.ensures in omega arith
+index-parent-requires g c = grind (arith, place_there c.self.invariant c.self.view_is c.args.node c.requires.there, c.self.invariant, c.index_of.ensures)
 
 pub take_out-requires-clause-parent : goal.take_out-requires-clause-parent
 take_out-requires-clause-parent g c = left_below c.self.invariant c.self.view_is c.args.node c.requires.there c.index-parent.result.now

@@ -1,21 +1,17 @@
-use Rattle.std.proofs.Common.{Some, ◌∷◌}
-use Rattle.slotmap_scene.proofs.Moved.{spent_alike, hung_alone, keys_among, moved_among, scene_among, times_put, values_among}
+use Rattle.slotmap_scene.proofs.Common.{Some, rules, ◌∷◌}
+use Rattle.slotmap_scene.proofs.Moved.{hung_alone, keys_among, moved_among, scene_among, spent_alike, times_put, values_among}
 use Rattle.slotmap_scene.proofs.family.Nodes.move_first.Goals as goal
 
 pub attach_first-requires-clause-alone : goal.attach_first-requires-clause-alone
 attach_first-requires-clause-alone g c = rw (c.set_parent.ensures, c.leave.ensures) (hung_alone c.args.self.now.live c.requires.scene c.args.node (Some c.args.parent))
 
-pub returns-clause-trees : goal.returns-clause-trees
-returns-clause-trees g c = rw (c.attach_first.ensures, c.set_parent.ensures, c.leave.ensures) (moved_among c.args.self.now.live c.requires.scene c.args.node c.args.parent c.requires.node c.requires.parent (λ ks. c.args.node ∷ ks))
-
-pub returns-clause-values : goal.returns-clause-values
-returns-clause-values g c = rw (c.attach_first.ensures, c.set_parent.ensures, c.leave.ensures) (values_among c.args.self.now.live c.requires.scene c.args.node c.args.parent c.requires.node c.requires.parent (λ ks. c.args.node ∷ ks))
-
-pub returns-clause-scene : goal.returns-clause-scene
-returns-clause-scene g c =
-    rw (c.attach_first.ensures, c.set_parent.ensures, c.leave.ensures) (scene_among c.args.self.now.live c.requires.scene c.args.node c.args.parent c.requires.node c.requires.parent (λ ks. c.args.node ∷ ks)
-    (λ x ks. times_put x c.args.node ks) c.requires.no_cycle)
-
-pub returns-clause-stale : goal.returns-clause-stale
-returns-clause-stale g c =
-    rw (c.attach_first.ensures, c.set_parent.ensures, c.leave.ensures) (spent_alike c.args.self.now _ (keys_among c.args.self.now.live c.requires.scene c.args.node c.args.parent c.requires.node c.requires.parent (λ ks. c.args.node ∷ ks)))
+pub returns : goal.returns
+returns g c = record {
+  trees = rw (c.attach_first.ensures, c.set_parent.ensures, c.leave.ensures) (moved_among c.args.self.now.live c.requires.scene c.args.node c.args.parent c.requires.node c.requires.parent (λ ks. c.args.node ∷ ks));
+  values = rw (c.attach_first.ensures, c.set_parent.ensures, c.leave.ensures) (values_among c.args.self.now.live c.requires.scene c.args.node c.args.parent c.requires.node c.requires.parent (λ ks. c.args.node ∷ ks));
+  scene =
+      rw (c.attach_first.ensures, c.set_parent.ensures, c.leave.ensures) (scene_among c.args.self.now.live c.requires.scene c.args.node c.args.parent c.requires.node c.requires.parent (λ ks. c.args.node ∷ ks)
+      (λ x ks. times_put x c.args.node ks) c.requires.no_cycle);
+  stale = rw (c.attach_first.ensures, c.set_parent.ensures, c.leave.ensures) (spent_alike c.args.self.now _ (keys_among c.args.self.now.live c.requires.scene c.args.node c.args.parent c.requires.node c.requires.parent (λ ks. c.args.node ∷ ks)));
+  moved = search rules;
+}

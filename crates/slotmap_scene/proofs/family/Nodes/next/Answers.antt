@@ -1,8 +1,4 @@
-use Rattle.std.proofs.Common.{◌≡◌, sym, ap, ◌∙◌}
-use Rattle.std.specs.Option.{option_map}
-use Rattle.slotmap_links.specs.Lists.{list_of, number_after}
-use Rattle.slotmap_bounded.specs.Indices.{key_at}
-use Rattle.slotmap_links.proofs.Linking.{after_inside}
+use Rattle.slotmap_scene.proofs.Common.{after_inside, ap, key_at, list_of, number_after, option_map, sym, ◌∙◌, ◌≡◌, arith, common_steps}
 use Rattle.slotmap_scene.proofs.Families.{child_in, indices_at, key_found, next_seen}
 use Rattle.slotmap_scene.proofs.family.Nodes.next.Goals as goal
 

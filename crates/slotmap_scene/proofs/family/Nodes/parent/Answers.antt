@@ -1,4 +1,4 @@
-use Rattle.std.proofs.Common.{sym, ◌∙◌}
+use Rattle.slotmap_scene.proofs.Common.{sym, ◌∙◌, arith}
 use Rattle.slotmap_scene.proofs.Families.{parent_gone, seen_has}
 use Rattle.slotmap_scene.proofs.family.Nodes.parent.Goals as goal
 
@@ -8,6 +8,4 @@ returns-then-not-contains_key g c = rw (← c.self.view_is)
     (sym c.contains_key.ensures.value ∙ c.if-not-contains_key.true)))
 
 pub up-requires : goal.up-requires
-up-requires g c = rw (← c.self.view_is)
-    (seen_has c.self.inside.values.live c.self.inside.parents.items c.self.inside.children c.args.node
-    ∙ sym c.contains_key.ensures.value ∙ c.if-not-contains_key.false)
+up-requires g c = grind (arith, seen_has c.self.inside.values.live c.self.inside.parents.items c.self.inside.children c.args.node, c.contains_key.ensures.value)

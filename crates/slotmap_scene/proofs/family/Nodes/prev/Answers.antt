@@ -1,8 +1,4 @@
-use Rattle.std.proofs.Common.{◌≡◌, None, sym, ap, ◌∙◌}
-use Rattle.std.specs.Option.{option_map}
-use Rattle.slotmap_links.specs.Lists.{list_of, number_before}
-use Rattle.slotmap_bounded.specs.Indices.{key_at}
-use Rattle.slotmap_links.proofs.Linking.{before_inside}
+use Rattle.slotmap_scene.proofs.Common.{None, ap, before_inside, key_at, list_of, number_before, option_map, sym, ◌∙◌, ◌≡◌, arith, common_steps}
 use Rattle.slotmap_scene.proofs.Families.{child_in, indices_at, key_found, prev_seen}
 use Rattle.slotmap_scene.proofs.family.Nodes.prev.Goals as goal
 

@@ -1,4 +1,4 @@
-use Rattle.std.proofs.Common.{set}
+use Rattle.slotmap_scene.proofs.Common.{set, arith}
 use Rattle.slotmap_scene.proofs.Placing.{parent_alive}
 use Rattle.slotmap_scene.proofs.SceneSteps.{came_inserts, came_kept, family_valid}
 use Rattle.slotmap_scene.proofs.family.Nodes.put.Goals as goal
@@ -21,5 +21,4 @@ returns-clause-adds g c = rw (← c.self.view_is)
     (λ n. set c.self.inside.parents.items (c.index_of.ensures n) (c.parent_index.ensures n)))
 
 pub returns-clause-valid : goal.returns-clause-valid
-returns-clause-valid g c = rw (← c.self.view_is)
-    (family_valid c.self.inside.values c.self.inside.parents.items c.self.inside.children c.capacity.ensures.valid)
+returns-clause-valid g c = grind (arith, family_valid c.self.inside.values c.self.inside.parents.items c.self.inside.children c.capacity.ensures.valid, c.capacity.ensures.valid)

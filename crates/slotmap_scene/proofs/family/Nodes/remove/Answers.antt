@@ -1,5 +1,4 @@
-use Rattle.std.proofs.Common.{true, is_some, sym, ap, ◌∙◌}
-use Rattle.slotmap.proofs.Callers.{leaves_by_removal}
+use Rattle.slotmap_scene.proofs.Common.{ap, is_some, leaves_by_removal, sym, true, ◌∙◌, arith, common_steps}
 use Rattle.slotmap_scene.proofs.Families.{seen_value}
 use Rattle.slotmap_scene.proofs.Placing.{is_live}
 use Rattle.slotmap_scene.proofs.SceneSteps.{family_leaves, gone_kept, gone_seen}
@@ -17,8 +16,7 @@ invariant_of-self g c = gone_kept c.self.invariant c.args.node (is_live c.self.i
     (rw (← c.self.view_is) at c.requires.childless) c.remove.new.self c.remove.ensures.live c.remove.ensures.valid.capacity
 
 pub returns-clause-value : goal.returns-clause-value
-returns-clause-value g c = rw (← c.self.view_is)
-    (seen_value c.self.inside.values.live c.self.inside.parents.items c.self.inside.children c.args.node ∙ sym c.in-Some.ensures.value)
+returns-clause-value g c = grind (arith, seen_value c.self.inside.values.live c.self.inside.parents.items c.self.inside.children c.args.node, c.in-Some.ensures.value)
 
 pub returns-clause-live : goal.returns-clause-live
 returns-clause-live g c = rw (← c.self.view_is)

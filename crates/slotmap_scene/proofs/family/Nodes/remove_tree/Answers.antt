@@ -1,19 +1,9 @@
-use Rattle.std.proofs.Common.{◌≢◌, refl, sym, ◌∙◌}
-use Rattle.slotmap.specs.Words.{same_keys}
-use Rattle.slotmap.proofs.Callers.{leaves_none, leaves_in_turn}
-use Rattle.slotmap_keylist.proofs.Linking.{none_last}
-use Rattle.slotmap_scene.specs.Family.{children_of}
-use Rattle.slotmap_scene.proofs.Removals.{removing_start, goes_down, down_smaller, goes_up, up_smaller, all_removed, others_left, pruned_scene}
+use Rattle.slotmap_scene.proofs.Common.{children_of, leaves_in_turn, leaves_none, none_last, refl, rules, same_keys, sym, ◌∙◌, ◌≢◌, arith, common_steps}
+use Rattle.slotmap_scene.proofs.Removals.{all_removed, down_smaller, goes_down, goes_up, others_left, pruned_scene, removing_start, up_smaller}
 use Rattle.slotmap_scene.proofs.family.Nodes.remove_tree.Goals as goal
 
 pub loop-child-init : goal.loop-child-init
-loop-child-init g c =
-    record {
-      removing = removing_start c.args.self.now.live c.args.root c.requires.scene c.requires.there;
-      leaves = leaves_none c.args.self.now;
-      capacity =
-          refl;
-    }
+loop-child-init g c = grind (arith, removing_start c.args.self.now.live c.args.root c.requires.scene c.requires.there, leaves_none c.args.self.now)
 
 pub loop-child-smaller-in-Some : goal.loop-child-smaller-in-Some
 loop-child-smaller-in-Some g c = down_smaller _ _ _ _ c.loop-child.invariant.removing c.in-Some.child (sym c.in-Some.ensures) c.requires.scene.tree
@@ -30,22 +20,19 @@ loop-child-preserved-in-Some g c =
 pub prune-value-requires-clause-leaf : goal.prune-value-requires-clause-leaf
 prune-value-requires-clause-leaf g c = none_last (children_of c.loop-child.self.live c.loop-child.at) (sym c.in-None.ensures)
 
-pub returns-then-eq-clause-removed : goal.returns-then-eq-clause-removed
-returns-then-eq-clause-removed g c = rw (c.prune-value.ensures.live)
-    (all_removed _ _ _ _ c.loop-child.invariant.removing (none_last _ (sym c.in-None.ensures))
-    ((same_keys c.loop-child.at c.args.root).0 (sym c.if-eq.ensures)))
-
-pub returns-then-eq-clause-others : goal.returns-then-eq-clause-others
-returns-then-eq-clause-others g c = rw (c.prune-value.ensures.live)
-    (others_left _ _ _ _ c.loop-child.invariant.removing (none_last _ (sym c.in-None.ensures))
-    ((same_keys c.loop-child.at c.args.root).0 (sym c.if-eq.ensures)))
-
-pub returns-then-eq-clause-scene : goal.returns-then-eq-clause-scene
-returns-then-eq-clause-scene g c = rw (c.prune-value.ensures.live)
-    (pruned_scene _ c.loop-child.invariant.removing.scene c.loop-child.at c.loop-child.invariant.removing.here (none_last _ (sym c.in-None.ensures)))
-
-pub returns-then-eq-clause-leaves : goal.returns-then-eq-clause-leaves
-returns-then-eq-clause-leaves g c = leaves_in_turn _ _ _ c.loop-child.invariant.leaves c.prune-value.ensures.leaves
+pub returns-then-eq : goal.returns-then-eq
+returns-then-eq g c = record {
+  removed = rw (c.prune-value.ensures.live)
+      (all_removed _ _ _ _ c.loop-child.invariant.removing (none_last _ (sym c.in-None.ensures))
+      ((same_keys c.loop-child.at c.args.root).0 (sym c.if-eq.ensures)));
+  others = rw (c.prune-value.ensures.live)
+      (others_left _ _ _ _ c.loop-child.invariant.removing (none_last _ (sym c.in-None.ensures))
+      ((same_keys c.loop-child.at c.args.root).0 (sym c.if-eq.ensures)));
+  scene = rw (c.prune-value.ensures.live) (pruned_scene _ c.loop-child.invariant.removing.scene c.loop-child.at c.loop-child.invariant.removing.here (none_last _ (sym c.in-None.ensures)));
+  leaves = leaves_in_turn _ _ _ c.loop-child.invariant.leaves c.prune-value.ensures.leaves;
+  capacity = c.prune-value.ensures.capacity ∙ c.loop-child.invariant.capacity;
+  value = search rules;
+}
 
 pub loop-child-smaller : goal.loop-child-smaller
 loop-child-smaller g c = rw (c.prune-value.ensures.live)
@@ -62,6 +49,3 @@ loop-child-preserved g c =
       leaves = leaves_in_turn _ _ _ c.loop-child.invariant.leaves c.prune-value.ensures.leaves;
       capacity = c.prune-value.ensures.capacity ∙ c.loop-child.invariant.capacity;
     }
-
-pub returns-then-eq-clause-capacity : goal.returns-then-eq-clause-capacity
-returns-then-eq-clause-capacity g c = c.prune-value.ensures.capacity ∙ c.loop-child.invariant.capacity

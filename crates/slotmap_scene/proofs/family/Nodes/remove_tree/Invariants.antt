@@ -1,5 +1,4 @@
-use Rattle.std.proofs.Common.{◌≡◌}
-use Rattle.slotmap.specs.Words.{Leaves}
+use Rattle.slotmap_scene.proofs.Common.{Leaves, ◌≡◌}
 use Rattle.slotmap_scene.proofs.Removals.{Removing, to_do}
 use Rattle.slotmap_scene.proofs.family.Nodes.remove_tree.Given as goal
 

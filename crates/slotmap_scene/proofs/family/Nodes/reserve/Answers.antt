@@ -1,4 +1,4 @@
-use Rattle.std.proofs.Common.{◌≡◌, IsOk, rules, arith}
+use Rattle.slotmap_scene.proofs.Common.{IsOk, arith, rules, ◌≡◌}
 use Rattle.slotmap_scene.proofs.Families.{covers_less, seen_len}
 use Rattle.slotmap_scene.proofs.SceneSteps.{covered_kept, covered_seen, err_fails, family_room, fits_most, grown_kept, grown_seen, unroomed}
 use Rattle.slotmap_scene.proofs.family.Nodes.reserve.Goals as goal
@@ -9,8 +9,7 @@ returns-in_err-capacity-clause-makes_room g c = rw (← c.self.view_is)
     (err_fails c.from_residual.result c.from_residual.ensures.0) (λ more. let h = c.in_err-capacity.ensures.had_room more in cc))
 
 pub returns-in_err-capacity-clause-err : goal.returns-in_err-capacity-clause-err
-returns-in_err-capacity-clause-err g c = rw (← c.self.view_is, seen_len c.self.inside.values.live c.self.inside.parents.items c.self.inside.children)
-    (search rules)
+returns-in_err-capacity-clause-err g c = grind (arith, seen_len c.self.inside.values.live c.self.inside.parents.items c.self.inside.children)
 
 pub invariant_of-self : goal.invariant_of-self
 invariant_of-self g c = covered_kept c.self.invariant c.cover.new.parents.items c.cover.new.children c.cover.ensures.parents c.cover.ensures.children

@@ -1,10 +1,9 @@
-use Rattle.std.proofs.Common.{set, arith}
+use Rattle.slotmap_scene.proofs.Common.{arith, set, common_steps}
 use Rattle.slotmap_scene.proofs.Placing.{hangs, place_there}
 use Rattle.slotmap_scene.proofs.family.Nodes.set_parent.Goals as goal
 
 pub index_mut-requires : goal.index_mut-requires
-index_mut-requires g c = let place = place_there c.self.invariant c.self.view_is c.args.node c.requires.node in let same = c.self.inside.parents.ok.0 in
-    let at = c.index_of.ensures in omega arith
+index_mut-requires g c = grind (arith, place_there c.self.invariant c.self.view_is c.args.node c.requires.node, c.self.invariant, c.index_of.ensures)
 
 pub invariant_of-self : goal.invariant_of-self
 invariant_of-self g c = (hangs c.self.invariant c.self.view_is c.args.node c.requires.node c.args.parent c.requires.parent

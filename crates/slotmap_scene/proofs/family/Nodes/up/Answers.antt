@@ -1,11 +1,10 @@
-use Rattle.std.proofs.Common.{sym, arith}
+use Rattle.slotmap_scene.proofs.Common.{arith, sym}
 use Rattle.slotmap_scene.proofs.Families.{read_above}
 use Rattle.slotmap_scene.proofs.Placing.{place_there, up_has, up_is, up_none}
 use Rattle.slotmap_scene.proofs.family.Nodes.up.Goals as goal
 
 pub index-parent-requires : goal.index-parent-requires
-index-parent-requires g c = let place = place_there c.self.invariant c.self.view_is c.args.node c.requires in
-    let same = c.self.inside.parents.ok.0 in let at = c.index_of.ensures in omega arith
+index-parent-requires g c = grind (arith, place_there c.self.invariant c.self.view_is c.args.node c.requires, c.self.invariant, c.index_of.ensures)
 
 pub returns-then-parent-eq-NOBODY : goal.returns-then-parent-eq-NOBODY
 returns-then-parent-eq-NOBODY g c = sym (up_none c.self.invariant c.self.view_is c.args.node c.requires c.index-parent.result.now

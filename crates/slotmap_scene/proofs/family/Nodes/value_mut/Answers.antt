@@ -1,9 +1,4 @@
-use Rattle.std.proofs.Common.{sym, ap, ◌∙◌}
-use Rattle.slotmap.specs.Words.{Content}
-use Rattle.slotmap.proofs.Callers.{same_lent, same_unlent}
-use Rattle.slotmap_scene.specs.Node.{Node}
-use Rattle.slotmap_scene.specs.Family.{with_value}
-use Rattle.slotmap_scene.specs.Kept.{family}
+use Rattle.slotmap_scene.proofs.Common.{Content, Node, ap, family, same_lent, same_unlent, sym, with_value, ◌∙◌, arith}
 use Rattle.slotmap_scene.proofs.Families.{seen_value}
 use Rattle.slotmap_scene.proofs.SceneSteps.{written_kept, written_seen}
 use Rattle.slotmap_scene.proofs.family.Nodes.value_mut.Goals as goal

@@ -1,4 +1,4 @@
-use Rattle.std.proofs.Common.{◌∙◌}
+use Rattle.slotmap_scene.proofs.Common.{◌∙◌, arith}
 use Rattle.slotmap_scene.proofs.Families.{seen_value}
 use Rattle.slotmap_scene.proofs.Placing.{is_live}
 use Rattle.slotmap_scene.proofs.family.NodesIndexDefaultKey.index.Goals as goal
@@ -7,5 +7,4 @@ pub value-requires : goal.value-requires
 value-requires g c = is_live c.self.invariant c.self.view_is c.args.node c.requires
 
 pub returns : goal.returns
-returns g c = rw (← c.self.view_is)
-    (seen_value c.self.inside.values.live c.self.inside.parents.items c.self.inside.children c.args.node ∙ c.value.ensures)
+returns g c = grind (arith, seen_value c.self.inside.values.live c.self.inside.parents.items c.self.inside.children c.args.node, c.value.ensures)

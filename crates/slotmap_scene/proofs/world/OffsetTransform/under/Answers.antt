@@ -1,5 +1,4 @@
-use Rattle.std.proofs.Common.{rules}
-use Rattle.std.proofs.lemmas.Int.{wraps}
+use Rattle.slotmap_scene.proofs.Common.{rules, wraps}
 use Rattle.slotmap_scene.proofs.world.OffsetTransform.under.Goals as goal
 
 pub returns : goal.returns
