@@ -1,17 +1,14 @@
 -- A list of slots is read into a list of positions and two packed lists.
 use Rattle.std.specs.FinMap as map
-use Rattle.std.proofs.Common.{◌≡◌, ◌+◌, ◌<◌, ◌≤◌, ◌%◌, ◌∷◌, ◌++◌, ℕ, zero, suc, Bool, true, false, List, [], length, slice_get, map as list_map, Option, None}
-use Rattle.slotmap_core.proofs.Common.{Key, Content, IsContent, gather, ReadsAs, start_live, live_slot, vacant_slot, retired_slot, start_next, start_retired}
-use Rattle.slotmap_core.proofs.Common.{start_stack, Accepts, RefusesStart, Some, is_some, refl, sym, ap, ◌∙◌, arith, nat_tests, length_push, length-map}
-use Rattle.slotmap_core.proofs.Common.{map_push, slice_get-map, slice_get_within, gather-push_put, gather-push_same, live_laws, some_is, live_in, found_within}
-use Rattle.slotmap_core.proofs.Common.{list_limit, none_from, live_fits, entries_none, reads_as, key}
+use Rattle.std.proofs.Common.{◌≡◌, ◌+◌, ◌<◌, ◌≤◌, ◌%◌, ◌∷◌, ◌++◌, map as list_map, ℕ, zero, suc, Bool, true, false, List, [], length, slice_get, Option, None}
+use Rattle.slotmap_core.proofs.Common.{vacant_slot, retired_slot, start_retired, RefusesStart, map_push, slice_get-map, slice_get_within, gather-push_put, gather-push_same, found_within, entries_none}
+use Rattle.slotmap_core.proofs.Common.{IsContent, start_live, live_slot, start_next, start_stack, ◌∙◌, nat_tests, length_push, length-map, live_laws, list_limit, none_from, live_fits, reads_as}
+use Rattle.slotmap_core.proofs.Common.{Key, Content, gather, ReadsAs, Accepts, Some, is_some, refl, sym, ap, arith, some_is, live_in, key}
 use Rattle.slotmap_core.specs.declared.serial.SlotRecord.{SlotRecord}
 use Rattle.slotmap_core.specs.declared.errors.SlotsError.{SlotsError}
 use Rattle.slotmap_core.specs.declared.errors.SlotsError.TheVariants.{TooMany, FirstNotEmpty, Inconsistent, Memory}
 use Rattle.slotmap_dense.specs.Packed.{IsPacked, IsSound, live_of, dense_of}
-use Rattle.slotmap_dense.proofs.PackedLemmas.{IsPacked-none, IsPacked-push, live-push}
-use Rattle.slotmap_dense.proofs.WellFormed.{same_keys}
-use Rattle.slotmap_dense.proofs.LastKeyLemmas.{keys_last}
+use Rattle.slotmap_dense.proofs.{PackedLemmas.IsPacked-none, PackedLemmas.IsPacked-push, PackedLemmas.live-push, WellFormed.same_keys, LastKeyLemmas.keys_last}
 
 -- what a list with one more record holds
 module _ {V : Type 0} (records : List (SlotRecord V)) (made : SlotRecord V) where

@@ -15,3 +15,4 @@ mod PositionLists
 mod LastKeyLemmas
 mod FromListLemmas
 mod RowLemmas
+mod Common

@@ -1,15 +1,11 @@
 -- Appending a pair, closing a gap and writing a value keep the pairs in step with the positions; and what they do to the
 -- live keys.
 use Rattle.std.specs.FinMap as map
-use Rattle.std.proofs.Common.{◌≡◌, ◌+◌, ◌-◌, ◌<◌, ◌≤◌, ◌⊎◌, ◌∷◌, ◌++◌}
-use Rattle.std.proofs.Common.{swap_remove, zip, ℕ, nat_le, cond, inl, inr, List, [], length, set, drop, slice_get, sym}
-use Rattle.slotmap_core.proofs.Common.{find, Key, key_cmp, IsListing, Option, Some, None, is_some, refl, ap, ◌∙◌, arith, cases_lt, nat_tests, gets}
-use Rattle.slotmap_core.proofs.Common.{slice_get_cases, slice_get_within, same_Some, length_push, length-drop, get_or-drop, length-zip, keys_total, exact_keys}
-use Rattle.slotmap_core.proofs.Common.{tied, itself, get_after_insert, get_after_remove, get_left, get_removed, len_inserted, len_removed, same_at}
-use Rattle.slotmap_core.proofs.Common.{get_inserted, get_other, slice_get-set_same, slice_get-set_other, slice_get_push, slice_get_push_other, at_push}
-use Rattle.slotmap_dense.specs.Dense.{put_beside}
-use Rattle.slotmap_dense.specs.Packed.{IsPacked, IsGapped, live_of, at_position}
-use Rattle.slotmap_dense.specs.Rest.{rest_of}
+use Rattle.std.proofs.Common.{◌≡◌, ◌+◌, ◌-◌, ◌<◌, ◌≤◌, ◌⊎◌, ◌∷◌, ◌++◌, swap_remove, zip, nat_le, cond, inl, inr, List, [], length, set, drop, slice_get, sym}
+use Rattle.slotmap_core.proofs.Common.{slice_get_cases, slice_get_within, length-zip, get_after_insert, get_after_remove, slice_get-set_same, slice_get-set_other, slice_get_push, slice_get_push_other}
+use Rattle.slotmap_core.proofs.Common.{IsListing, ◌∙◌, nat_tests, same_Some, length_push, length-drop, get_or-drop, keys_total, exact_keys, get_removed, len_inserted, len_removed, get_inserted}
+use Rattle.slotmap_core.proofs.Common.{find, Key, key_cmp, Option, Some, None, is_some, refl, ap, arith, cases_lt, gets, tied, itself, get_left, same_at, get_other, at_push, ℕ}
+use Rattle.slotmap_dense.specs.{Dense.put_beside, Packed.IsPacked, Packed.IsGapped, Packed.live_of, Packed.at_position, Rest.rest_of}
 use Rattle.slotmap_dense.proofs.SwapRemoveLemmas.{length-swap_remove, swap_remove_there, swap_remove_other, zip-push, find-there, find-absent, len-zip, put_beside-at}
 
 slice_get-drop : {X : Type 0} (n : ℕ) (xs : List X) (i : ℕ) → slice_get (drop n xs) i ≡ slice_get xs (n + i)

@@ -1,20 +1,14 @@
 -- What a pass over the pairs of a map is where they are held in another way, and what it leaves of the map.
 use Rattle.std.specs.FinMap as map
-use Rattle.std.proofs.Common.{◌≡◌, ◌+◌, ◌≤◌, ◌∷◌, ◌++◌, ◌<◌, option_map, ℕ, Bool, true, false, cond, inl, inr, List, [], append-nil, length, set, drop, get_or}
+use Rattle.std.proofs.Common.{◌≡◌, ◌+◌, ◌≤◌, ◌∷◌, ◌++◌, ◌<◌, arith, option_map, ℕ, Bool, true, false, cond, inl, inr, List, [], append-nil, length, set, drop, get_or}
 use Rattle.slotmap_core.specs.Words.{MutBor, Vec}
-use Rattle.slotmap_core.proofs.Common.{Mut, Called, FoldsTo, Content, Key, Visit, CallsAt, CallableOnEach, Leaves, with_items, map as list_map, Some, is_some}
-use Rattle.slotmap_core.proofs.Common.{slice_get, refl, sym, ap, subst, ◌∙◌, arith, FoldsTo-push, length-set, take_at, slice_get_read, slice_get-map}
-use Rattle.slotmap_core.proofs.Common.{slice_get-get_or, slice_get_within, remove-insert, Leaves-refl, Leaves-trans, Leaves-with_value, Leaves-removed}
-use Rattle.slotmap_core.proofs.Common.{same_live, CallsAt-called, Visits, Visits-start, Visits-call, Visits-rest, Visits-listed, Visits-stay}
+use Rattle.slotmap_core.proofs.Common.{CallableOnEach, map as list_map, slice_get, slice_get_read, slice_get-map, slice_get-get_or, slice_get_within, Leaves-with_value, Leaves-removed, CallsAt-called}
+use Rattle.slotmap_core.proofs.Common.{with_items, ◌∙◌, FoldsTo-push, length-set, remove-insert, Leaves-refl, Leaves-trans, Visits-start, Visits-call, Visits-rest, Visits-listed, Visits-stay}
+use Rattle.slotmap_core.proofs.Common.{Mut, Called, FoldsTo, Content, Key, Visit, CallsAt, Leaves, Some, is_some, refl, sym, ap, subst, take_at, same_live, Visits}
 use Rattle.slotmap_dense.specs.Pass.{Stage, stage, Holding, Calls, Stays, Rejects, Passes, MayPass, beside, packed_order}
-use Rattle.slotmap_dense.specs.Dense.{Dense, IsDense, with_value_of}
-use Rattle.slotmap_dense.specs.Packed.{IsSound, dense_of, at_position}
-use Rattle.slotmap_dense.specs.Retain.{RetainsPacked}
-use Rattle.slotmap_dense.specs.Rest.{rest_of, LeavesFrom}
-use Rattle.slotmap_dense.proofs.PackedLemmas.{get-packed}
-use Rattle.slotmap_dense.proofs.RestLemmas.{Comes-at, rest-start, rest-end}
-use Rattle.slotmap_dense.proofs.RetainLemmas.{SoFar, SoFar-start, SoFar-kept, SoFar-dropped}
-use Rattle.slotmap_dense.proofs.WellFormed.{IsSound-other, dense-written, IsDense-with_value}
+use Rattle.slotmap_dense.specs.{Dense.Dense, Dense.IsDense, Dense.with_value_of, Packed.IsSound, Packed.dense_of, Packed.at_position, Retain.RetainsPacked, Rest.rest_of, Rest.LeavesFrom}
+use Rattle.slotmap_dense.proofs.{PackedLemmas.get-packed, RetainLemmas.SoFar-start, RetainLemmas.SoFar-dropped, WellFormed.IsSound-other, WellFormed.dense-written, WellFormed.IsDense-with_value}
+use Rattle.slotmap_dense.proofs.{RestLemmas.Comes-at, RestLemmas.rest-start, RestLemmas.rest-end, RetainLemmas.SoFar, RetainLemmas.SoFar-kept}
 
 -- what is held in one way is held in another too
 pub record Lifts {D E K V : Type 0} (a : Holding D K V) (b : Holding E K V) (lift : D → E) (Holds : D → Type 0) : Type 0 where

@@ -1,11 +1,9 @@
 -- A dense map written as a list of slots: the list of its positions, with each position replaced by the value there.
-use Rattle.std.proofs.Common.{◌≡◌, ◌+◌, ◌<◌, ℕ, true, List, length, slice_get, map as list_map, Option, None, Some, IfSome, option_map, refl, ap, ◌∙◌, arith}
-use Rattle.slotmap_core.proofs.Common.{Key, Content, Writes, empty_slot, length-map, slice_get-map, slice_get_within, in_contents, odd_of, written-accepted}
-use Rattle.slotmap_core.proofs.Common.{written-contents, key}
+use Rattle.std.proofs.Common.{◌≡◌, ◌+◌, ◌<◌, map as list_map, ℕ, true, List, length, slice_get, Option, None, Some, IfSome, option_map, refl, ap, ◌∙◌, arith}
+use Rattle.slotmap_core.proofs.Common.{Key, Content, Writes, empty_slot, length-map, slice_get-map, slice_get_within, in_contents, odd_of, written-accepted, written-contents, key}
 use Rattle.slotmap_core.specs.declared.serial.SlotRecord.{SlotRecord}
 use Rattle.slotmap_dense.specs.Packed.{IsSound, dense_of, with_packed_value}
-use Rattle.slotmap_dense.proofs.PackedLemmas.{get-packed, position_cases, value_there}
-use Rattle.slotmap_dense.proofs.WellFormed.{same_keys}
+use Rattle.slotmap_dense.proofs.{PackedLemmas.get-packed, PackedLemmas.position_cases, PackedLemmas.value_there, WellFormed.same_keys}
 
 module _ {V : Type 0} (slots : Content ℕ) (keys : List Key) (values : List V) (sound : IsSound slots keys values) (list : List (SlotRecord ℕ)) (writes : Writes slots list) where
   -- a position in the list is that of a value

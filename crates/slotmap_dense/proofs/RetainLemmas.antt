@@ -1,8 +1,7 @@
 -- What the calls of a closure did so far to the packed order and to the stack.
-use Rattle.std.proofs.Common.{◌≡◌, ◌+◌, ◌∷◌, ◌++◌, swap_remove, ℕ, true, false, cond, List, [], append_assoc, append-nil, Some, option_map, slice_get, refl}
-use Rattle.slotmap_core.proofs.Common.{Key, Visit, pushed, pushed_all, arith}
-use Rattle.slotmap_dense.specs.Dense.{Dense}
-use Rattle.slotmap_dense.specs.Retain.{dropped, PacksBy}
+use Rattle.std.proofs.Common.{◌≡◌, ◌+◌, ◌∷◌, ◌++◌, swap_remove, arith, ℕ, true, false, cond, List, [], append_assoc, append-nil, Some, option_map, slice_get, refl}
+use Rattle.slotmap_core.proofs.Common.{Key, Visit, pushed, pushed_all}
+use Rattle.slotmap_dense.specs.{Dense.Dense, Retain.dropped, Retain.PacksBy}
 use Rattle.slotmap_dense.proofs.FromBackLemmas.{none_pushed, pushed_on}
 
 module _ {K V : Type 0} (data_of : K → Key) where

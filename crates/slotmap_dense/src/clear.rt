@@ -50,10 +50,7 @@ impl<K: Key, V: Drop> DenseSlotMap<K, V> {
         ensures valid { IsDense self.now }
     {
         self.note_valid();
-        out.reserve(self.keys.len())?;
-        for index in 0..self.keys.len() {
-            out.push_reserved(self.keys[index]);
-        }
+        out.extend_from_slice(&self.keys)?;
         Ok(())
     }
 

@@ -1,8 +1,6 @@
 -- A step with some closures is a step with closures that may do anything.
+use Rattle.slotmap_run.proofs.Common.{Command, DetachCommand, Reply}
 use Rattle.slotmap_core.proofs.Common.{State, RunGiven, any_closures, Step, DetachStep, arith}
-use Rattle.slotmap_core.specs.declared.commands.Command.{Command}
-use Rattle.slotmap_core.specs.declared.commands.DetachCommand.{DetachCommand}
-use Rattle.slotmap_core.specs.declared.commands.Reply.{Reply}
 
 module _ {K V R E : Type 0} (given : RunGiven K V R E) where
   abbrev pub freed : RunGiven K V R E

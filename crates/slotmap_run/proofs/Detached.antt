@@ -1,24 +1,17 @@
 -- No later insert returns a detached key, and it can be reattached.
 use Rattle.std.specs.FinSet as set
-use Rattle.std.proofs.Common.{◌≡◌, ◌⊎◌, List, Some, true, false, arith}
-use Rattle.slotmap_core.proofs.Common.{State, RunGiven, DetachStep, DetachedNotReissued, DetachedReattaches, ReattachBinds, Spares}
-use Rattle.slotmap_core.proofs.Common.{keys_total, exact_keys, itself}
-use Rattle.slotmap_core.specs.declared.commands.DetachCommand.{DetachCommand}
-use Rattle.slotmap_core.specs.declared.commands.DetachCommand.TheVariants as detaching
-use Rattle.slotmap_core.specs.declared.commands.Reply.{Reply}
-use Rattle.slotmap_core.specs.declared.commands.Reply.TheVariants as reply
-use Rattle.slotmap_run.proofs.MapChanges.{changes}
-use Rattle.slotmap_run.proofs.Laws.{IsGood, good_stays, told_new, weaker}
-use Rattle.slotmap_run.proofs.StepCases.{detach_machine, detached_stays}
+use Rattle.slotmap_run.proofs.Common.{◌≡◌, ◌⊎◌, DetachCommand, Reply}
+use Rattle.slotmap_core.proofs.Common.{State, RunGiven, DetachStep, DetachedNotReissued, DetachedReattaches, ReattachBinds, Spares, keys_total, exact_keys, itself, List, Some, true, false, arith}
 use Rattle.slotmap_run.proofs.Runs.{run_split, run_keeps, run_keeps_by}
-use Rattle.slotmap_run.proofs.NewRuns.{RunsWell}
+use Rattle.slotmap_run.proofs.{MapChanges.changes, Laws.IsGood, Laws.good_stays, Laws.told_new, Laws.weaker, StepCases.detach_machine, StepCases.detached_stays, NewRuns.RunsWell}
+use Rattle.slotmap_core.specs.declared.commands.DetachCommand.TheVariants as detaching
+use Rattle.slotmap_core.specs.declared.commands.Reply.TheVariants as reply
 
 module _ {K V R E : Type 0} (given : RunGiven K V R E) where
   pub detached_not_reissued : (commands : List (DetachCommand K V)) (replies : List (Reply K V R E)) → RunsWell (DetachStep given) commands replies
       → DetachedNotReissued given.data_of commands replies
   detached_not_reissued commands replies well cs ds rs ss key v e is js =
-      let good = run_keeps (DetachStep given) IsGood (good_stays (detach_machine given)) cs rs well.first in
-      grind (arith, run_split (DetachStep given) cs rs, good, weaker, told_new (detach_machine given) ds ss)
+      grind (arith, run_split (DetachStep given) cs rs, (run_keeps (DetachStep given) IsGood (good_stays (detach_machine given)) cs rs well.first), weaker, told_new (detach_machine given) ds ss)
 
   answered : (old : State V) (key : K) (w : V) (answer : Reply K V R E) (new : State V) → set.contains old.detached (given.data_of key) ≡ true
       → DetachStep given old (detaching.Reattach key w) answer new → (answer ≡ reply.Done) ⊎ ((given.reuses ≡ false) × (answer ≡ reply.Memory (Some w)))

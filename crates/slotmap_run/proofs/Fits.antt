@@ -2,12 +2,10 @@
 use Rattle.std.specs.FinMap as map
 use Rattle.std.specs.FinSet as set
 use Rattle.std.proofs.Common.{◌≡◌, ◌≢◌, ◌+◌, ◌^◌, ◌<◌, nat_cmp, ℕ, Bool, inl, sym, ap, ◌∙◌, arith}
-use Rattle.slotmap_core.proofs.Common.{Key, key_cmp, Content, IsContent, Stands, used, most, IsNew, Inserts, State, IsIssued, StandsIn, Fresh, after_insert}
-use Rattle.slotmap_core.proofs.Common.{retired, Fits, Lasts, keys_total, exact_keys, itself, in_inserted, offer_free, free, places_grow, new_stands}
-use Rattle.slotmap_core.proofs.Common.{inserted_stands, inserted_vacant, in_retired}
+use Rattle.slotmap_core.proofs.Common.{IsContent, IsNew, IsIssued, after_insert, keys_total, exact_keys, in_inserted, offer_free, places_grow, new_stands, inserted_stands, inserted_vacant, in_retired}
+use Rattle.slotmap_core.proofs.Common.{Key, key_cmp, Content, Stands, used, most, Inserts, State, StandsIn, Fresh, retired, Fits, Lasts, itself, free}
+use Rattle.slotmap_run.proofs.{MapChanges.changes, OtherSteps.Moves}
 use Rattle.slotmap_core.specs.Machine as machine
-use Rattle.slotmap_run.proofs.MapChanges.{changes}
-use Rattle.slotmap_run.proofs.OtherSteps.{Moves}
 
 module _ {V : Type 0} (s : State V) (c : Content V) (fits : Fits s c) where
   pub stands_of : (k : Key) → StandsIn s k → Stands c k

@@ -1,8 +1,7 @@
 -- What is known of keys holds in a state of the machine.
 use Rattle.std.specs.FinMap as map
-use Rattle.std.proofs.Common.{◌≡◌, Option, Some, None, is_some, true, arith}
-use Rattle.slotmap_core.proofs.Common.{Key, key_cmp, State, empty_state}
-use Rattle.slotmap_core.specs.Told.{Knowledge, unknown, not_live, is_live, has, known_from}
+use Rattle.slotmap_run.proofs.Common.{◌≡◌, Knowledge, unknown, not_live, is_live, has, known_from}
+use Rattle.slotmap_core.proofs.Common.{Key, key_cmp, State, empty_state, Option, Some, None, is_some, true, arith}
 
 module _ {V : Type 0} where
   -- what is known of a key holds of its value in a map

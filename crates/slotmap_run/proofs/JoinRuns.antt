@@ -1,13 +1,11 @@
 -- Calls of two joined maps, one after another, are a run of the joined machine.
 use Rattle.std.specs.FinMap as map
 use Rattle.std.specs.FinSet as set
-use Rattle.std.proofs.Common.{◌≡◌, ◌+◌, ◌^◌, ◌∷◌, Result, IfOk, OnErr, ℕ, List, [], length, refl, ◌∙◌, subst, arith}
-use Rattle.slotmap_core.proofs.Common.{Key, Content, places, IsNew, State, empty_state, Fits, Lasts, Pairs, Joined, RunsBeside, Dictionary}
-use Rattle.slotmap_core.proofs.Common.{WithDictionary, RunsByDictionary, unused, Run, IfOk-weaker, on_err_weaker, new_stands}
-use Rattle.slotmap_run.proofs.Fits.{new_fits, new_lasts}
-use Rattle.slotmap_run.proofs.Runs.{run_keeps}
-use Rattle.slotmap_run.specs.Ties.{joined, told_by, Known, JoinFollows, JoinServed}
+use Rattle.slotmap_run.proofs.Common.{◌≡◌, ◌+◌, ◌^◌, ◌∷◌, joined, told_by, Known, JoinFollows, JoinServed}
+use Rattle.slotmap_core.proofs.Common.{Content, places, IsNew, empty_state, Joined, RunsBeside, Dictionary, WithDictionary, RunsByDictionary, unused, IfOk-weaker, on_err_weaker, new_stands, ◌∙◌}
+use Rattle.slotmap_core.proofs.Common.{Key, State, Fits, Lasts, Pairs, Run, Result, IfOk, OnErr, ℕ, List, [], length, refl, subst, arith}
 use Rattle.slotmap_run.specs.declared.joined.Beside.{Beside}
+use Rattle.slotmap_run.proofs.{Fits.new_fits, Fits.new_lasts, Runs.run_keeps}
 
 is_new : {V : Type 0} (old : Content V) → places old ≡ 0 → IsNew old
 is_new old no_places = grind (arith, map.empty_of_len old.live, set.empty_of_len old.detached, set.empty_of_len old.retired, map.empty_of_len old.next)
@@ -41,10 +39,7 @@ module _ {M S K V W C R : Type 0} (data_of : K → Key) (content : M → Content
   runs_beside : (cs : List C) (rs : List R) (old new : Beside M S K) → Run Served old cs rs new → (s : State V) → Fits s (content old.primary.now)
       → (t : State V) × Run Step (at s old) cs rs (at t new) × Fits t (content new.primary.now)
   runs_beside [] [] old new e s fits = (s, rw e refl, rw e fits)
-  runs_beside (c ∷ cs) (r ∷ rs) old new h s fits =
-      let step = h.1.follows.step s fits in
-      let rest = runs_beside cs rs h.0 new h.2 step.0 step.2 in
-      (rest.0, (at step.0 h.0, step.1, rest.1), rest.2)
+  runs_beside (c ∷ cs) (r ∷ rs) old new h s fits = let step = h.1.follows.step s fits in let rest = runs_beside cs rs h.0 new h.2 step.0 step.2 in (rest.0, (at step.0 h.0, step.1, rest.1), rest.2)
   runs_beside _ _ old new h s fits = absurd h
 
   -- and their replies are the dictionary's, if all is known

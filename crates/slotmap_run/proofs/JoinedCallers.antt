@@ -1,26 +1,18 @@
 -- What a joined run finds, by positions: for callers, who know commands and replies by index.
-use Rattle.std.proofs.Common.{◌≡◌, ◌≢◌, ℕ, zero, suc, ◌+◌, ◌-◌, ◌<◌, List, [], ◌∷◌, ◌++◌, length, take, drop, slice_get, Some, None, Option, ◌⊎◌, inl, inr}
-use Rattle.std.proofs.Common.{refl, sym, ap, ◌∙◌, subst, arith}
+use Rattle.slotmap_run.proofs.Common.{◌≡◌, ◌≢◌, ◌∷◌, ◌⊎◌, after_insert, JoinedGiven, JoinedDetachStep, JoinedCommand, JoinedDetachCommand, JoinedReply, keys_total, exact_keys}
+use Rattle.slotmap_run.proofs.Common.{◌+◌, ◌-◌, ◌<◌, ◌++◌, StandsIn, IsIssued, Fresh, Key, LooksAt, Joined, named, StepPut, itself}
 use Rattle.std.specs.List.{AllByRecursion, AllZip}
-use Rattle.std.specs.FinMap as map
-use Rattle.slotmap_core.specs.Machine.{StandsIn, IsIssued, Fresh, after_insert}
-use Rattle.slotmap_core.specs.Key.{Key}
 use Rattle.slotmap_core.specs.Run.{Run}
-use Rattle.slotmap_core.specs.SecondaryStep.{LooksAt}
 use Rattle.slotmap_core.specs.SecondaryLaw.{Shows}
-use Rattle.slotmap_core.specs.Joined.{Joined, JoinedGiven, JoinedDetachStep, named, StepPut}
 use Rattle.slotmap_core.specs.Dictionary.{WithDictionary, DictionaryStep, DetachDictionaryStep, after_put, after_take, unused}
-use Rattle.slotmap_core.specs.declared.joined.JoinedCommand.{JoinedCommand}
-use Rattle.slotmap_core.specs.declared.joined.JoinedCommand.TheVariants as command
-use Rattle.slotmap_core.specs.declared.joined.JoinedDetachCommand.{JoinedDetachCommand}
-use Rattle.slotmap_core.specs.declared.joined.JoinedDetachCommand.TheVariants as detaching
-use Rattle.slotmap_core.specs.declared.joined.JoinedReply.{JoinedReply}
-use Rattle.slotmap_core.specs.declared.joined.JoinedReply.TheVariants as reply
-use Rattle.slotmap_core.proofs.General.KeyLemmas.{keys_total, exact_keys, itself}
 use Rattle.slotmap_core.proofs.General.Maps.{get_inserted, get_other, get_left, in_inserted}
 use Rattle.slotmap_core.proofs.General.Positions.{split_at_two, stands_before, stands_between, at_in_first, at_in_part, zipped_by_positions}
-use Rattle.slotmap_run.proofs.Runs.{run_split, run_keeps_by}
-use Rattle.slotmap_run.proofs.MapChanges.{changes}
+use Rattle.slotmap_core.proofs.Common.{ℕ, zero, suc, List, [], length, take, drop, slice_get, Some, None, Option, inl, inr, refl, sym, ap, ◌∙◌, subst, arith}
+use Rattle.slotmap_run.proofs.{Runs.run_split, Runs.run_keeps_by, MapChanges.changes}
+use Rattle.std.specs.FinMap as map
+use Rattle.slotmap_core.specs.declared.joined.JoinedCommand.TheVariants as command
+use Rattle.slotmap_core.specs.declared.joined.JoinedDetachCommand.TheVariants as detaching
+use Rattle.slotmap_core.specs.declared.joined.JoinedReply.TheVariants as reply
 
 pub named_more : {K : Type 0} (keys : List K) (k : K) (n : ℕ) (q : K) → named keys n ≡ Some q → named (keys ++ k ∷ []) n ≡ Some q
 named_more keys k zero q h = absurd (cc)

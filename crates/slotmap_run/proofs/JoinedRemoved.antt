@@ -1,27 +1,16 @@
 -- A key that a joined run removed from the primary map is gone for good: the law of both joined runs.
-use Rattle.std.proofs.Common.{◌≡◌, ℕ, List, [], ◌∷◌, Option, Some, None, refl, ap, ◌∙◌, subst, arith}
-use Rattle.slotmap_core.proofs.Common.{Content, State, DetachStep, Run, Starts, AllZip, Joined, named, RunsBeside}
-use Rattle.slotmap_core.specs.Joined.{JoinedGiven, JoinedStep, JoinedDetachStep, StepRemove, StepDetach, StepReattach}
+use Rattle.slotmap_run.proofs.Common.{◌≡◌, JoinedGiven, JoinedStep, JoinedDetachStep, StepRemove, StepDetach, StepReattach, DetachCommand, Plain, JoinedCommand, JoinedDetachCommand, JoinedReply}
+use Rattle.slotmap_run.proofs.Common.{◌∷◌, Detach, Reattach, Reply}
+use Rattle.slotmap_core.proofs.Common.{Content, State, DetachStep, Run, Starts, AllZip, Joined, named, RunsBeside, ℕ, List, [], Option, Some, None, refl, ap, ◌∙◌, subst, arith}
 use Rattle.slotmap_core.specs.JoinedLaw.{JoinedFindsNothing, JoinedRemovedForGood}
 use Rattle.slotmap_core.specs.Secondary.{Pairs}
-use Rattle.slotmap_core.specs.declared.commands.Command.TheVariants as first
-use Rattle.slotmap_core.specs.declared.commands.DetachCommand.{DetachCommand}
-use Rattle.slotmap_core.specs.declared.commands.DetachCommand.TheVariants.{Plain, Detach, Reattach}
-use Rattle.slotmap_core.specs.declared.commands.Reply.{Reply}
-use Rattle.slotmap_core.specs.declared.commands.Reply.TheVariants as first_reply
-use Rattle.slotmap_core.specs.declared.joined.JoinedCommand.{JoinedCommand}
-use Rattle.slotmap_core.specs.declared.joined.JoinedCommand.TheVariants as command
-use Rattle.slotmap_core.specs.declared.joined.JoinedDetachCommand.{JoinedDetachCommand}
-use Rattle.slotmap_core.specs.declared.joined.JoinedDetachCommand.TheVariants as detaching
-use Rattle.slotmap_core.specs.declared.joined.JoinedReply.{JoinedReply}
-use Rattle.slotmap_core.specs.declared.joined.JoinedReply.TheVariants as reply
 use Rattle.slotmap_run.proofs.Laws.{Gone, IsGood, good_stays, gone_stays}
-use Rattle.slotmap_run.proofs.LostKeys.{fits_good}
-use Rattle.slotmap_run.proofs.StepCases.{detach_machine}
-use Rattle.slotmap_run.proofs.RemovedKeys.{removes_gone}
-use Rattle.slotmap_run.proofs.Joins.{closed}
-use Rattle.slotmap_run.proofs.JoinedCallers.{still_named}
-use Rattle.slotmap_run.proofs.Runs.{run_split, run_keeps}
+use Rattle.slotmap_run.proofs.{LostKeys.fits_good, StepCases.detach_machine, RemovedKeys.removes_gone, Joins.closed, JoinedCallers.still_named, Runs.run_split, Runs.run_keeps}
+use Rattle.slotmap_core.specs.declared.commands.Command.TheVariants as first
+use Rattle.slotmap_core.specs.declared.commands.Reply.TheVariants as first_reply
+use Rattle.slotmap_core.specs.declared.joined.JoinedCommand.TheVariants as command
+use Rattle.slotmap_core.specs.declared.joined.JoinedDetachCommand.TheVariants as detaching
+use Rattle.slotmap_core.specs.declared.joined.JoinedReply.TheVariants as reply
 
 module _ {K V W R : Type 0} (given : JoinedGiven K W R) where
   -- what each step of the primary map's machine keeps, each joined step keeps
@@ -105,13 +94,11 @@ pub joined_removed_for_good : {K V W R : Type 0} (given : JoinedGiven K W R) (ol
     (replies : List (JoinedReply K V W R))
     → Starts given.reuses old → RunsBeside (JoinedStep given) old beside commands replies new after → JoinedRemovedForGood detaching.Plain commands replies
 joined_removed_for_good given old new beside after commands replies starts run =
-    let ran = run starts.state starts.fits in
-    removed_in_run given detaching.Plain commands replies _ ran.0 ran.1 (fits_good given.reuses starts.state old starts.valid starts.fits)
+    let ran = run starts.state starts.fits in removed_in_run given detaching.Plain commands replies _ ran.0 ran.1 (fits_good given.reuses starts.state old starts.valid starts.fits)
 
 -- and of `run_joined_detaching`
 pub joined_detach_removed_for_good : {K V W R : Type 0} (given : JoinedGiven K W R) (old new : Content V) (beside after : Pairs W) (commands : List (JoinedDetachCommand V W))
     (replies : List (JoinedReply K V W R))
     → Starts given.reuses old → RunsBeside (JoinedDetachStep given) old beside commands replies new after → JoinedRemovedForGood (λ c. c) commands replies
 joined_detach_removed_for_good given old new beside after commands replies starts run =
-    let ran = run starts.state starts.fits in
-    removed_in_run given (λ c. c) commands replies _ ran.0 ran.1 (fits_good given.reuses starts.state old starts.valid starts.fits)
+    let ran = run starts.state starts.fits in removed_in_run given (λ c. c) commands replies _ ran.0 ran.1 (fits_good given.reuses starts.state old starts.valid starts.fits)

@@ -1,36 +1,20 @@
 -- What a call of one of two joined maps does is a step of the joined machine.
 use Rattle.std.specs.FinMap as map
-use Rattle.std.proofs.Common.{◌≡◌, ◌+◌, ◌^◌, ◌∷◌, ◌++◌, slice_get, Result, Ok, Err, OnSome, IfNone, OnOk, IfErr, IsErr, ℕ, zero, suc, List, [], Option, Some}
-use Rattle.slotmap_core.proofs.Common.{Key, Content, IsContent, Inserts, Keeps, Removes, Detaches, Reattaches, RunGiven as First, State, IsIssued, StandsIn, Fits}
-use Rattle.slotmap_core.proofs.Common.{Lasts, Follows as FollowsFirst, reply_keys, Pairs, get, put, remove, RefusesPut, LooksAt, Joined, named, Dictionary}
-use Rattle.slotmap_core.proofs.Common.{WithDictionary, noted, RepliesByDictionary, DictionaryStep, DetachDictionaryStep, MayGrow, Refuses, RefusesReattach}
-use Rattle.slotmap_core.proofs.Common.{None, inl, inr, refl, sym, ap, ◌∙◌, same_Some}
-use Rattle.slotmap_core.specs.Step as first_step
-use Rattle.slotmap_core.specs.Joined.{JoinedGiven, JoinedStep, JoinedDetachStep}
-use Rattle.slotmap_core.specs.declared.errors.ReattachError.{ReattachError}
-use Rattle.slotmap_core.specs.declared.errors.ReattachError.TheVariants as again
-use Rattle.slotmap_core.specs.declared.errors.InsertError.TheVariants.{Full, Memory}
-use Rattle.slotmap_core.specs.declared.commands.Command.{Command}
+use Rattle.slotmap_run.proofs.Common.{JoinedGiven, JoinedStep, JoinedDetachStep, ReattachError, DetachCommand, JoinedCommand, JoinedDetachCommand, JoinedReply, joined_reattach_reply_of, JoinFollows}
+use Rattle.slotmap_run.proofs.Common.{◌≡◌, ◌+◌, ◌^◌, ◌∷◌, ◌++◌, Full, Memory, Command, Plain, Detach, Reattach, Reply, Served, joined, told_by, Known}
+use Rattle.slotmap_core.proofs.Common.{Reattaches, RunGiven as First, Follows as FollowsFirst, reply_keys, WithDictionary, RepliesByDictionary, DictionaryStep, DetachDictionaryStep, RefusesReattach}
+use Rattle.slotmap_core.proofs.Common.{Content, IsContent, Inserts, Removes, Detaches, IsIssued, StandsIn, remove, RefusesPut, LooksAt, Dictionary, MayGrow, Refuses, ◌∙◌, same_Some, slice_get}
+use Rattle.slotmap_core.proofs.Common.{Key, Keeps, State, Fits, Lasts, Pairs, get, put, Joined, named, noted, None, inl, refl, ap, Result, OnSome, IfNone, OnOk, IfErr, IsErr, zero, List, Option, Some}
+use Rattle.slotmap_core.proofs.Common.{inr, sym, Ok, Err, ℕ, suc, []}
 use Rattle.slotmap_core.specs.declared.commands.Command.TheVariants.{Insert, Remove}
-use Rattle.slotmap_core.specs.declared.commands.DetachCommand.{DetachCommand}
-use Rattle.slotmap_core.specs.declared.commands.DetachCommand.TheVariants.{Plain, Detach, Reattach}
-use Rattle.slotmap_core.specs.declared.commands.Reply.{Reply}
+use Rattle.slotmap_run.proofs.{StepCases.detach_cases, Laws.Shrinks, KnownKeys.fewer, KnownKeys.one_more, KnownKeys.puts, KnownKeys.takes, OtherSteps.keeps, Fits.stands_of}
+use Rattle.slotmap_core.specs.Step as first_step
+use Rattle.slotmap_core.specs.declared.errors.ReattachError.TheVariants as again
 use Rattle.slotmap_core.specs.declared.commands.Reply.TheVariants as first_reply
-use Rattle.slotmap_core.specs.declared.joined.JoinedCommand.{JoinedCommand}
 use Rattle.slotmap_core.specs.declared.joined.JoinedCommand.TheVariants as command
-use Rattle.slotmap_core.specs.declared.joined.JoinedDetachCommand.{JoinedDetachCommand}
-use Rattle.slotmap_core.specs.declared.joined.JoinedReply.{JoinedReply}
 use Rattle.slotmap_core.specs.declared.joined.JoinedDetachCommand.TheVariants as detaching
 use Rattle.slotmap_core.specs.declared.joined.JoinedReply.TheVariants as reply
-use Rattle.slotmap_run.proofs.StepCases.{detach_cases}
-use Rattle.slotmap_run.proofs.Laws.{Shrinks}
-use Rattle.slotmap_run.proofs.KnownKeys.{fewer, one_more, puts, takes}
-use Rattle.slotmap_run.proofs.OtherSteps.{keeps}
-use Rattle.slotmap_run.proofs.Fits.{stands_of}
 use Rattle.slotmap_run.proofs.Steps as first
-use Rattle.slotmap_run.specs.Order.{Served}
-use Rattle.slotmap_run.specs.Replies.{joined_reattach_reply_of}
-use Rattle.slotmap_run.specs.Ties.{joined, told_by, Known, JoinFollows}
 
 -- calls of the primary map
 

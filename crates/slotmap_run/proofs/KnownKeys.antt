@@ -1,16 +1,10 @@
 -- What is known of two joined maps stays known when a call changes one of them.
 use Rattle.std.specs.FinMap as map
-use Rattle.std.proofs.Common.{◌≡◌, ◌≢◌, ◌^◌, ◌<◌, ◌≤◌, ◌∷◌, ◌++◌, ◌⊎◌, slice_get, ℕ, zero, suc, List, [], Some, Bool, false, inl, inr, refl, sym}
-use Rattle.std.proofs.Common.{◌∙◌, arith}
-use Rattle.slotmap_core.proofs.Common.{Key, Content, IsContent, Stands, State, Fresh, IsIssued, after_insert, Fits, Lasts, Pairs, is_null, get, put, remove}
-use Rattle.slotmap_core.proofs.Common.{Dictionary, rules, common_steps, keys_total, exact_keys, same_or_other, itself, get_inserted, get_other, get_removed}
-use Rattle.slotmap_core.proofs.Common.{get_left, stands_after_put, newest_put, newer_stays, stands_after_remove, removed_gone, others_stay}
-use Rattle.slotmap_core.specs.declared.commands.Reply.{Reply}
-use Rattle.slotmap_run.proofs.MapChanges.{changes}
-use Rattle.slotmap_run.proofs.Fits.{stands_of, held_of}
-use Rattle.slotmap_run.proofs.Laws.{Shrinks}
-use Rattle.slotmap_run.proofs.UsedCounts.{bound_held}
-use Rattle.slotmap_run.specs.Ties.{Known}
+use Rattle.slotmap_run.proofs.Common.{◌≡◌, ◌≢◌, ◌^◌, ◌<◌, ◌≤◌, ◌∷◌, ◌++◌, ◌⊎◌, Reply, Known}
+use Rattle.slotmap_core.proofs.Common.{after_insert, Dictionary, common_steps, same_or_other, get_inserted, get_removed, stands_after_put, newer_stays, stands_after_remove, removed_gone, others_stay}
+use Rattle.slotmap_core.proofs.Common.{Content, IsContent, Stands, State, Fresh, IsIssued, Fits, is_null, remove, keys_total, exact_keys, itself, get_other, get_left, newest_put, slice_get, ◌∙◌}
+use Rattle.slotmap_core.proofs.Common.{Key, Lasts, Pairs, get, put, rules, ℕ, zero, suc, List, [], Some, Bool, false, inl, inr, refl, sym, arith}
+use Rattle.slotmap_run.proofs.{MapChanges.changes, Fits.stands_of, Fits.held_of, Laws.Shrinks, UsedCounts.bound_held}
 
 -- one more key in a list
 pushed_key : {K : Type 0} (keys : List K) (k : K) (i : ℕ) (q : K) → slice_get (keys ++ k ∷ []) i ≡ Some q → (q ≡ k) ⊎ (slice_get keys i ≡ Some q)
@@ -31,8 +25,7 @@ module _ {K V W : Type 0} (data_of : K → Key) (old new : Content V) (m : Pairs
     none_found = grind (arith, common_steps, known.stored (data_of key).index, known.written (data_of key), fresh.newer)
 
     pub one_more : Lasts (2 ^ 31) new → Known data_of t d new m (keys ++ key ∷ [])
-    one_more lasts =
-        grind (arith, changes, itself keys_total exact_keys (data_of key), pushed_key keys key, bound_held s (data_of key) v, none_found, stands_of s old fits)
+    one_more lasts = grind (arith, changes, itself keys_total exact_keys (data_of key), pushed_key keys key, bound_held s (data_of key) v, none_found, stands_of s old fits)
 
 -- the secondary map changes
 module _ {K V W : Type 0} (data_of : K → Key) (reuses : Bool) (old : Content V) (ok : IsContent reuses old) (m : Pairs W) (keys : List K) (s : State V) (fits : Fits s old) (d : Dictionary W)

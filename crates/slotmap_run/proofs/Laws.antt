@@ -1,16 +1,11 @@
 -- What follows from a run of a machine alone.
 use Rattle.std.specs.FinMap as map
 use Rattle.std.specs.FinSet as set
-use Rattle.std.proofs.Common.{◌≡◌, ◌≢◌, ◌+◌, ◌≤◌, ◌∷◌, ◌⊎◌, List, [], length, true, false, inl, inr, refl, ap, arith}
-use Rattle.slotmap_core.proofs.Common.{IsDistinct, AllByRecursion, eq_by_cmp, Key, key_cmp, most, State, IsIssued, StandsIn, Fresh, after_insert, empty_state}
-use Rattle.slotmap_core.proofs.Common.{retired, Run, Unretiring, RunGiven, reply_keys, keys_told, NoKeyTwice, keys_total, exact_keys, itself, in_retired}
-use Rattle.slotmap_core.specs.Machine.{in_use}
+use Rattle.slotmap_run.proofs.Common.{◌≡◌, ◌≢◌, ◌+◌, ◌≤◌, ◌∷◌, ◌⊎◌, in_use, Command, Reply}
+use Rattle.slotmap_core.proofs.Common.{IsDistinct, AllByRecursion, eq_by_cmp, IsIssued, after_insert, empty_state, Unretiring, reply_keys, keys_told, NoKeyTwice, keys_total, exact_keys, in_retired}
+use Rattle.slotmap_core.proofs.Common.{Key, key_cmp, most, State, StandsIn, Fresh, retired, Run, RunGiven, itself, List, [], length, true, false, inl, inr, refl, ap, arith}
+use Rattle.slotmap_run.proofs.{Runs.run_keeps, MapChanges.changes, UsedCounts.IsApart, UsedCounts.bound_held, UsedCounts.no_more_used, UsedCounts.one_more_used}
 use Rattle.slotmap_core.specs.Step as plain
-use Rattle.slotmap_core.specs.declared.commands.Command.{Command}
-use Rattle.slotmap_core.specs.declared.commands.Reply.{Reply}
-use Rattle.slotmap_run.proofs.Runs.{run_keeps}
-use Rattle.slotmap_run.proofs.MapChanges.{changes}
-use Rattle.slotmap_run.proofs.UsedCounts.{IsApart, bound_held, no_more_used, one_more_used}
 
 pub weaker : {A : Type 0} {P Q : A → Type 0} → ((x : A) → P x → Q x) → (xs : List A) → AllByRecursion P xs → AllByRecursion Q xs
 weaker f [] h = tt

@@ -1,20 +1,15 @@
 -- What a run takes out for good, by its states and its closures, and by positions: for callers, who know what the map held
 -- before, or which keys `keep` rejects.
 use Rattle.std.specs.FinMap as map
-use Rattle.std.proofs.Common.{◌≡◌, ◌⊎◌, ℕ, ◌+◌, ◌-◌, ◌<◌, Bool, List, ◌∷◌, ◌++◌, length, slice_get, Some, true, false, sym, ap, ◌∙◌, subst, arith}
-use Rattle.slotmap_core.proofs.Common.{Key, Content, IsContent, State, RunGiven, Run, RunFollows, Fits, Starts, IsLive}
-use Rattle.slotmap_core.specs.Law.{ShowsLive, ShowsNotLive, LeavesAttached, FindsNothing}
-use Rattle.slotmap_core.specs.declared.commands.Command.TheVariants as command
-use Rattle.slotmap_core.specs.declared.commands.DetachCommand.{DetachCommand}
-use Rattle.slotmap_core.specs.declared.commands.DetachCommand.TheVariants as detaching
-use Rattle.slotmap_core.specs.declared.commands.Reply.{Reply}
+use Rattle.slotmap_run.proofs.Common.{◌≡◌, ◌⊎◌, ◌+◌, ◌-◌, ◌<◌, ◌∷◌, ◌++◌, ShowsLive, ShowsNotLive, LeavesAttached, FindsNothing, DetachCommand, Reply}
+use Rattle.slotmap_core.proofs.Common.{Key, Content, IsContent, State, RunGiven, Run, RunFollows, Fits, Starts, IsLive, ℕ, Bool, List, length, slice_get, Some, true, false, ◌∙◌, subst, arith}
+use Rattle.slotmap_core.proofs.Common.{sym, ap}
 use Rattle.slotmap_core.proofs.General.Positions.{split_at, stands_after, before_in, zipped_at, zipped_by_positions}
 use Rattle.slotmap_core.proofs.ForCallers.RemovalCallers.{StaysAttached}
-use Rattle.slotmap_run.proofs.Fits.{used_same}
-use Rattle.slotmap_run.proofs.Laws.{IsGood, good_stays}
-use Rattle.slotmap_run.proofs.StepCases.{detach_machine}
-use Rattle.slotmap_run.proofs.Runs.{run_split, run_keeps_by}
 use Rattle.slotmap_run.proofs.RemovedKeys.{Attached, live_attached, attached_gone, attached_stays, shown_live, shown_not_live, not_live_attached, rejected_not_live, StepOf, all_good, none_found}
+use Rattle.slotmap_run.proofs.{Fits.used_same, Laws.IsGood, Laws.good_stays, StepCases.detach_machine, Runs.run_split, Runs.run_keeps_by}
+use Rattle.slotmap_core.specs.declared.commands.Command.TheVariants as command
+use Rattle.slotmap_core.specs.declared.commands.DetachCommand.TheVariants as detaching
 
 -- a state that fits a map keeps all laws
 pub fits_good : {V : Type 0} (reuses : Bool) (s : State V) (c : Content V) → IsContent reuses c → Fits s c → IsGood s

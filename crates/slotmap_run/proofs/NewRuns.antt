@@ -1,14 +1,10 @@
 -- Calls that are each a step of the machine are a run of it, from a state of which its laws hold.
 use Rattle.std.specs.FinSet as set
-use Rattle.std.proofs.Common.{◌≡◌, ◌+◌, ◌<◌, ◌^◌, ◌++◌, Result, IfOk, Bool, List, length, ◌∙◌, arith}
-use Rattle.slotmap_core.proofs.Common.{Content, IsContent, IsNew, State, empty_state, retired, Run, Unretiring, Follows, Starts, RunFollows, RunsAnew}
-use Rattle.slotmap_core.proofs.Common.{Key, Continues, IfOk-weaker}
-use Rattle.slotmap_core.specs.Told.{Knowledge, not_live, known_from}
-use Rattle.slotmap_run.proofs.HoldsIn.{HoldsIn, holds_from, holds_at_first}
-use Rattle.slotmap_run.proofs.StateOf.{first_state, first_fits, first_good}
-use Rattle.slotmap_run.proofs.Fits.{new_fits, new_lasts}
-use Rattle.slotmap_run.proofs.Runs.{run_seen, runs_follow, goes_on, goes_on_anew}
-use Rattle.slotmap_run.proofs.Laws.{IsGood, empty_good}
+use Rattle.slotmap_run.proofs.Common.{◌≡◌, ◌+◌, ◌<◌, ◌^◌, ◌++◌, Knowledge, not_live, known_from}
+use Rattle.slotmap_core.proofs.Common.{Content, IsContent, IsNew, State, empty_state, retired, Unretiring, Follows, Starts, RunFollows, RunsAnew, Continues, IfOk-weaker, Result, length, ◌∙◌}
+use Rattle.slotmap_core.proofs.Common.{Run, Key, IfOk, Bool, List, arith}
+use Rattle.slotmap_run.proofs.{HoldsIn.HoldsIn, HoldsIn.holds_from, HoldsIn.holds_at_first, StateOf.first_state, StateOf.first_fits, StateOf.first_good, Runs.runs_follow, Runs.goes_on_anew}
+use Rattle.slotmap_run.proofs.{Fits.new_fits, Fits.new_lasts, Runs.run_seen, Runs.goes_on, Laws.IsGood, Laws.empty_good}
 
 pub starts : {V : Type 0} (reuses : Bool) (c : Content V) → IsContent reuses c → Starts reuses c
 starts reuses c ok = record { valid = ok; state = first_state reuses c ok; fits = first_fits reuses c ok }
@@ -26,8 +22,7 @@ module _ {V C R : Type 0} (Step : State V → C → R → State V → Type 0) (c
 
   well_from : (reuses : Bool) (old new : Content V) → IsContent reuses old → RunFollows Step old cs rs new → RunsWell
   well_from reuses old new ok follows =
-      let run = follows.run (first_state reuses old ok) (first_fits reuses old ok) in
-      record { first = first_state reuses old ok; good = first_good reuses old ok; last = run.0; run = run.1 }
+      let run = follows.run (first_state reuses old ok) (first_fits reuses old ok) in record { first = first_state reuses old ok; good = first_good reuses old ok; last = run.0; run = run.1 }
 
 -- a machine whose closures may do anything beside one with closures, and what follows from their runs
 pub record IsLawful {V C R : Type 0} (Step Any : State V → C → R → State V → Type 0) (Laws AnyLaws : (Key → Knowledge V) → List C → List R → Type 0) : Type 0 where
@@ -37,7 +32,8 @@ pub record IsLawful {V C R : Type 0} (Step Any : State V → C → R → State V
   -- if nothing is retired at the end, nothing ever was
   pub unretired : (cs : List C) (rs : List R) (s t : State V) → Run Step s cs rs t → retired t ≡ set.empty → Run (Unretiring Step) s cs rs t
 
-module _ {V C R : Type 0} {Step Any : State V → C → R → State V → Type 0} {Laws AnyLaws : (Key → Knowledge V) → List C → List R → Type 0} (machine : IsLawful Step Any Laws AnyLaws) (cs : List C) (rs : List R) where
+module _ {V C R : Type 0} {Step Any : State V → C → R → State V → Type 0} {Laws AnyLaws : (Key → Knowledge V) → List C → List R → Type 0}
+    (machine : IsLawful Step Any Laws AnyLaws) (cs : List C) (rs : List R) where
   follows_freely : (old new : Content V) → RunFollows Step old cs rs new → RunFollows Any old cs rs new
   follows_freely old new follows = record {
     run = λ s fits. let run = follows.run s fits in (run.0, run_seen Step Any (λ s. s) machine.freely cs rs s run.0 run.1, run.2);

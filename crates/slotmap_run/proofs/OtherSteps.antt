@@ -1,11 +1,9 @@
 -- After any other call than an insert on a content that a state fits, the machine's next state fits the new content.
 use Rattle.std.specs.FinSet as set
 use Rattle.std.proofs.Common.{◌≡◌, ◌+◌, ◌≤◌, ℕ, Bool, inl, arith}
-use Rattle.slotmap_core.proofs.Common.{Key, Content, IsContent, Stands, IsLive, places, Keeps, Removes, Replaces, Leaves, Detaches, Reattaches, State}
-use Rattle.slotmap_core.proofs.Common.{after_remove, after_replace, after_reserve, after_detach, after_reattach, retired, Fits, Lasts, common_steps, keys_total}
-use Rattle.slotmap_core.proofs.Common.{exact_keys, Vacates, same_vacant, kept_stands, replaced_stands, detached_stands, reattached_stands, removed_stands}
-use Rattle.slotmap_core.proofs.Common.{removed_vacant, left_stands, left_vacant, in_retired, kept_places, replaced_places, detached_places, reattached_places}
-use Rattle.slotmap_core.proofs.Common.{removed_places}
+use Rattle.slotmap_core.proofs.Common.{Stands, after_reattach, replaced_stands, detached_stands, reattached_stands, removed_stands, removed_vacant, replaced_places, detached_places, reattached_places}
+use Rattle.slotmap_core.proofs.Common.{Content, after_remove, after_replace, after_reserve, after_detach, common_steps, same_vacant, kept_stands, left_stands, left_vacant, kept_places, removed_places}
+use Rattle.slotmap_core.proofs.Common.{Key, IsContent, IsLive, places, Keeps, Removes, Replaces, Leaves, Detaches, Reattaches, State, retired, Fits, Lasts, keys_total, exact_keys, Vacates, in_retired}
 use Rattle.slotmap_run.proofs.MapChanges.{changes}
 
 -- the state after one that fits old fits new; and if no slot is retired in n + 1 calls from old, none is in n calls from new

@@ -1,14 +1,8 @@
 -- What a reserve promised is kept.
-use Rattle.std.proofs.Common.{◌≡◌, ◌+◌, ◌≤◌, List, arith}
-use Rattle.slotmap_core.proofs.Common.{State, most, RunGiven, Step, DetachStep, NeedsRoom, DetachNeedsRoom, IsRefusal, ReserveHolds}
-use Rattle.slotmap_core.specs.Machine.{in_use}
-use Rattle.slotmap_core.specs.declared.commands.Command.{Command}
-use Rattle.slotmap_core.specs.declared.commands.DetachCommand.{DetachCommand}
+use Rattle.slotmap_run.proofs.Common.{◌≡◌, ◌+◌, ◌≤◌, in_use, Command, DetachCommand, Reply}
+use Rattle.slotmap_core.proofs.Common.{State, most, RunGiven, Step, DetachStep, NeedsRoom, DetachNeedsRoom, IsRefusal, ReserveHolds, List, arith}
+use Rattle.slotmap_run.proofs.{Laws.IsMachine, Laws.IsGood, Laws.good_stays, Laws.still_promised, Runs.run_split, Runs.run_keeps, NewRuns.RunsWell}
 use Rattle.slotmap_core.specs.declared.commands.DetachCommand.TheVariants as detaching
-use Rattle.slotmap_core.specs.declared.commands.Reply.{Reply}
-use Rattle.slotmap_run.proofs.Laws.{IsMachine, IsGood, good_stays, still_promised}
-use Rattle.slotmap_run.proofs.Runs.{run_split, run_keeps}
-use Rattle.slotmap_run.proofs.NewRuns.{RunsWell}
 
 module _ {K V R E : Type 0} (given : RunGiven K V R E) where
   -- if what is owed is within the limit, an insert or a reattach fails only if nothing is owed

@@ -1,15 +1,10 @@
 -- Each reply agrees with what the replies before it tell.
 use Rattle.std.specs.FinMap as map
-use Rattle.std.proofs.Common.{List, [], ◌∷◌, map as list_map, arith}
-use Rattle.slotmap_core.proofs.Common.{Key, key_cmp, State, RunGiven, DetachStep, Run}
-use Rattle.slotmap_core.specs.Told.{Knowledge, told, Reads, ReadsWhatWasPut}
+use Rattle.slotmap_run.proofs.Common.{◌∷◌, list_map, Knowledge, told, Reads, ReadsWhatWasPut, DetachCommand, Reply}
+use Rattle.slotmap_core.proofs.Common.{Key, key_cmp, State, RunGiven, DetachStep, Run, List, [], arith}
+use Rattle.slotmap_run.proofs.{HoldsIn.Holds, HoldsIn.HoldsIn, MapChanges.changes, RemovedKeys.StepOf}
 use Rattle.slotmap_core.specs.declared.commands.Command.TheVariants as command
-use Rattle.slotmap_core.specs.declared.commands.DetachCommand.{DetachCommand}
 use Rattle.slotmap_core.specs.declared.commands.DetachCommand.TheVariants as detaching
-use Rattle.slotmap_core.specs.declared.commands.Reply.{Reply}
-use Rattle.slotmap_run.proofs.HoldsIn.{Holds, HoldsIn}
-use Rattle.slotmap_run.proofs.MapChanges.{changes}
-use Rattle.slotmap_run.proofs.RemovedKeys.{StepOf}
 
 module _ {K V R E : Type 0} (given : RunGiven K V R E) (k : Key) (known : Knowledge V) where
   -- after a step holds what is known then

@@ -1,19 +1,13 @@
 -- A key that was removed is gone, and no later command finds it.
 use Rattle.std.specs.FinMap as map
 use Rattle.std.specs.FinSet as set
-use Rattle.std.proofs.Common.{◌≡◌, Bool, List, [], ◌∷◌, true, false, sym, arith}
-use Rattle.slotmap_core.proofs.Common.{Key, key_cmp, State, IsIssued, RunGiven, DetachStep, Run, AllZip, RemovedForGood, keys_total, exact_keys, itself}
-use Rattle.slotmap_core.specs.Law.{GoneForGood, ShowsLive, ShowsNotLive, RemovesKey, LeavesAttached, FindsNothing}
-use Rattle.slotmap_core.specs.declared.commands.Command.TheVariants as command
-use Rattle.slotmap_core.specs.declared.commands.DetachCommand.{DetachCommand}
-use Rattle.slotmap_core.specs.declared.commands.DetachCommand.TheVariants as detaching
-use Rattle.slotmap_core.specs.declared.commands.Reply.{Reply}
+use Rattle.slotmap_run.proofs.Common.{◌≡◌, ◌∷◌, GoneForGood, ShowsLive, ShowsNotLive, RemovesKey, LeavesAttached, FindsNothing, DetachCommand, Reply}
 use Rattle.std.proofs.lemmas.Slice.Zip.{AllZip-long}
-use Rattle.slotmap_run.proofs.MapChanges.{changes}
+use Rattle.slotmap_core.proofs.Common.{Key, key_cmp, State, IsIssued, RunGiven, DetachStep, Run, AllZip, RemovedForGood, keys_total, exact_keys, itself, Bool, List, [], true, false, sym, arith}
 use Rattle.slotmap_run.proofs.Laws.{Gone, IsGood, good_stays, gone_stays, not_issued}
-use Rattle.slotmap_run.proofs.StepCases.{detach_machine}
-use Rattle.slotmap_run.proofs.Runs.{run_split, run_keeps, run_keeps_by}
-use Rattle.slotmap_run.proofs.NewRuns.{RunsWell}
+use Rattle.slotmap_run.proofs.{MapChanges.changes, StepCases.detach_machine, Runs.run_split, Runs.run_keeps, Runs.run_keeps_by, NewRuns.RunsWell}
+use Rattle.slotmap_core.specs.declared.commands.Command.TheVariants as command
+use Rattle.slotmap_core.specs.declared.commands.DetachCommand.TheVariants as detaching
 
 module _ {V : Type 0} where
   -- k was returned, and isn't detached

@@ -1,25 +1,12 @@
 -- The laws of the two machines, and calls on maps as a run on the contents of the maps.
-use Rattle.std.proofs.Common.{◌≡◌, Result, IfOk, List, Bool, true, is_some, subst}
-use Rattle.std.proofs.lemmas.List.{map-id}
-use Rattle.slotmap_core.proofs.Common.{Key, Content, IsContent, IsNew, State, RunGiven, any_closures, Step, DetachStep, Run, Follows, Laws, DetachLaws, LastFreedFirst}
-use Rattle.slotmap_core.proofs.Common.{NeedsRoom, DetachNeedsRoom, no_places, IfOk-weaker}
-use Rattle.slotmap_core.specs.declared.commands.Command.{Command}
-use Rattle.slotmap_core.specs.declared.commands.DetachCommand.{DetachCommand}
-use Rattle.slotmap_core.specs.declared.commands.DetachCommand.TheVariants as detaching
-use Rattle.slotmap_core.specs.declared.commands.Reply.{Reply}
-use Rattle.slotmap_core.specs.Told.{Knowledge, ReadsWhatWasPut}
-use Rattle.slotmap_run.specs.Order.{Served, StartsNew}
-use Rattle.slotmap_run.proofs.HoldsIn.{HoldsIn}
-use Rattle.slotmap_run.proofs.NewRuns.{RunsWell, IsLawful, RanIfOk, ran_if_ok, RanAnewIfOk, anew_if_ok}
-use Rattle.slotmap_run.proofs.AnyClosures.{freed, freely, detach_freely}
-use Rattle.slotmap_run.proofs.StepCases.{plain_machine, detach_machine}
+use Rattle.slotmap_run.proofs.Common.{◌≡◌, map-id, Command, DetachCommand, Reply, Knowledge, ReadsWhatWasPut, Served, StartsNew}
+use Rattle.slotmap_core.proofs.Common.{Content, IsContent, RunGiven, any_closures, DetachStep, Follows, DetachLaws, LastFreedFirst, NeedsRoom, DetachNeedsRoom, no_places, IfOk-weaker, Result, is_some}
+use Rattle.slotmap_core.proofs.Common.{Key, IsNew, State, Step, Run, Laws, IfOk, List, Bool, true, subst}
 use Rattle.slotmap_run.proofs.Detached.{detached_not_reissued, detached_reattaches, reattach_binds}
-use Rattle.slotmap_run.proofs.RemovedKeys.{removed_for_good, gone_for_good}
-use Rattle.slotmap_run.proofs.ReadsPut.{reads_what_was_put}
-use Rattle.slotmap_run.proofs.Laws.{told_new, unretired}
-use Rattle.slotmap_run.proofs.Orders.{lifo_new, lifo_run}
-use Rattle.slotmap_run.proofs.Promised.{plain_refused, detach_refused, reserve_holds}
-use Rattle.slotmap_run.proofs.Runs.{run_seen}
+use Rattle.slotmap_run.proofs.{AnyClosures.detach_freely, StepCases.plain_machine, StepCases.detach_machine, RemovedKeys.removed_for_good, RemovedKeys.gone_for_good, ReadsPut.reads_what_was_put}
+use Rattle.slotmap_run.proofs.{HoldsIn.HoldsIn, NewRuns.ran_if_ok, NewRuns.RanAnewIfOk, NewRuns.anew_if_ok, AnyClosures.freely, Promised.plain_refused, Promised.detach_refused, Promised.reserve_holds}
+use Rattle.slotmap_run.proofs.{NewRuns.RunsWell, NewRuns.IsLawful, NewRuns.RanIfOk, AnyClosures.freed, Laws.told_new, Laws.unretired, Orders.lifo_new, Orders.lifo_run, Runs.run_seen}
+use Rattle.slotmap_core.specs.declared.commands.DetachCommand.TheVariants as detaching
 
 module _ {K V R E : Type 0} (given : RunGiven K V R E) where
   laws : (commands : List (Command K V)) (replies : List (Reply K V R E)) (well : RunsWell (Step given) commands replies)

@@ -1,35 +1,28 @@
 -- What the calls of a map ensure is a step of the machine.
 use Rattle.std.specs.FinMap as map
 use Rattle.std.specs.FinSet as set
-use Rattle.std.proofs.Common.{◌≡◌, ◌≢◌, ◌+◌, ◌≤◌, ◌∷◌, ◌++◌, map as list_map, MatchOption, IsSomeAnd, OnSome, IfNone, option_copied, ℕ, List, [], Vec, Global}
+use Rattle.slotmap_run.proofs.Common.{◌≡◌, ◌≢◌, ◌≤◌, ◌∷◌, MatchOption, DetachCommand, ReattachError, insert_reply_of, insert_with_reply_of, reserve_reply_of, reattach_reply_of}
+use Rattle.slotmap_run.proofs.Common.{◌+◌, ◌++◌, list_map, IsSomeAnd, Command, Reply, Full, Memory, Served, IsLifo}
 use Rattle.slotmap_core.specs.Words.{Bor, MutBor}
-use Rattle.slotmap_core.proofs.Common.{Mut, Key, key_cmp, Content, IsContent, IsLive, used, most, IsListing, IsKeyListing, Inserts, Keeps, Removes, Replaces}
-use Rattle.slotmap_core.proofs.Common.{Leaves, Detaches, Reattaches, with_value, MayGrow, MakesRoom, LacksRoom, Refuses, RefusesWith, RefusesCapacity}
-use Rattle.slotmap_core.proofs.Common.{RefusesReattach, Visit, CallsAt, RetainsBy, RunGiven, State, Fresh, after_insert, MayLackMemory, MayLackRoom, Step}
-use Rattle.slotmap_core.proofs.Common.{DetachStep, Fits, Follows, Lifo, IsBasic, stack_reply, after_command, IsRefusal, reply_keys, Result, Ok, Err, IfOk, OnOk}
-use Rattle.slotmap_core.proofs.Common.{IfErr, OnErr, IsErr, IsOk, Option, Some, None, Bool, false, refl, sym, ap, ◌∙◌, subst, arith, is_some, none_of, false_of}
-use Rattle.slotmap_core.proofs.Common.{retained_none, retained_at}
-use Rattle.slotmap_core.specs.Machine as machine
-use Rattle.slotmap_core.specs.declared.commands.Command.{Command}
-use Rattle.slotmap_core.specs.declared.commands.Command.TheVariants as command
-use Rattle.slotmap_core.specs.declared.commands.DetachCommand.{DetachCommand}
-use Rattle.slotmap_core.specs.declared.commands.DetachCommand.TheVariants as detaching
-use Rattle.slotmap_core.specs.declared.commands.Reply.{Reply}
-use Rattle.slotmap_core.specs.declared.commands.Reply.TheVariants as reply
+use Rattle.slotmap_core.proofs.Common.{IsKeyListing, RefusesWith, RefusesCapacity, RefusesReattach, after_insert, MayLackMemory, MayLackRoom, stack_reply, after_command, retained_none, option_copied}
+use Rattle.slotmap_core.proofs.Common.{IsContent, IsListing, Replaces, Detaches, Reattaches, with_value, MakesRoom, LacksRoom, RetainsBy, DetachStep, IsRefusal, reply_keys, Ok, ◌∙◌, retained_at}
+use Rattle.slotmap_core.proofs.Common.{key_cmp, Content, IsLive, Inserts, Removes, Leaves, MayGrow, Refuses, CallsAt, RunGiven, Follows, IsBasic, Result, Option, is_some, none_of, false_of, OnSome}
+use Rattle.slotmap_core.proofs.Common.{used, most, Keeps, Visit, State, Fresh, Step, Fits, Lifo, IfOk, OnOk, IfErr, OnErr, IsErr, IsOk, Some, None, Bool, false, refl, ap, subst, arith, IfNone, Global}
+use Rattle.slotmap_core.proofs.Common.{Mut, Key, Err, sym, ℕ, List, [], Vec}
 use Rattle.slotmap_core.specs.declared.errors.InsertError.{InsertError}
-use Rattle.slotmap_core.specs.declared.errors.InsertError.TheVariants.{Full, Memory}
 use Rattle.slotmap_core.specs.declared.errors.TryInsertError.{TryInsertError}
-use Rattle.slotmap_core.specs.declared.errors.TryInsertError.TheVariants as with_key
 use Rattle.slotmap_core.specs.declared.errors.ReserveError.{ReserveError}
-use Rattle.slotmap_core.specs.declared.errors.ReserveError.TheVariants as capacity
-use Rattle.slotmap_core.specs.declared.errors.ReattachError.{ReattachError}
-use Rattle.slotmap_core.specs.declared.errors.ReattachError.TheVariants as again
 use Rattle.slotmap_core.specs.declared.errors.OutOfMemory.{OutOfMemory}
 use Rattle.slotmap_run.proofs.Fits.{used_same, below, offer_fresh, inserts_fresh, inserts as inserts_moves}
 use Rattle.slotmap_run.proofs.OtherSteps.{Moves, keeps, promises, replaces, detaches, reattaches, removes, leaves}
-use Rattle.slotmap_run.specs.Order.{Served, IsLifo}
-use Rattle.slotmap_run.specs.Replies.{insert_reply_of, insert_with_reply_of, reserve_reply_of, reattach_reply_of}
 use Rattle.slotmap_run.proofs.Orders.{lifo_inserts, lifo_keeps, lifo_removes, lifo_detaches, lifo_reattaches}
+use Rattle.slotmap_core.specs.Machine as machine
+use Rattle.slotmap_core.specs.declared.commands.Command.TheVariants as command
+use Rattle.slotmap_core.specs.declared.commands.DetachCommand.TheVariants as detaching
+use Rattle.slotmap_core.specs.declared.commands.Reply.TheVariants as reply
+use Rattle.slotmap_core.specs.declared.errors.TryInsertError.TheVariants as with_key
+use Rattle.slotmap_core.specs.declared.errors.ReserveError.TheVariants as capacity
+use Rattle.slotmap_core.specs.declared.errors.ReattachError.TheVariants as again
 
 pub keeps_itself : {V : Type 0} (c : Content V) → Keeps c c
 keeps_itself c = grind arith

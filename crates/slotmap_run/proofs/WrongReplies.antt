@@ -1,15 +1,8 @@
 -- Wrong replies that the laws of a run refuse, with nothing known but the laws: no machine, no map.
-use Rattle.std.proofs.Common.{◌≡◌, ◌≢◌, List, [], ◌∷◌, Some, None, Option, Ok, arith}
+use Rattle.slotmap_run.proofs.Common.{◌≡◌, ◌≢◌, ◌∷◌, DetachCommand, Reply, Key, NoKeyTwice, not_live, ReadsWhatWasPut, Plain, keys_total, exact_keys, itself, tied}
+use Rattle.slotmap_core.proofs.Common.{IsDistinct, List, [], Some, None, Option, Ok, arith}
 use Rattle.slotmap_core.specs.declared.commands.Command.TheVariants as command
-use Rattle.slotmap_core.specs.declared.commands.DetachCommand.{DetachCommand}
-use Rattle.slotmap_core.specs.declared.commands.Reply.{Reply}
-use Rattle.slotmap_core.specs.Key.{Key}
-use Rattle.slotmap_core.specs.Law.{NoKeyTwice}
-use Rattle.slotmap_core.specs.Told.{not_live, ReadsWhatWasPut}
-use Rattle.slotmap_core.specs.declared.commands.DetachCommand.TheVariants.{Plain}
 use Rattle.slotmap_core.specs.declared.commands.Reply.TheVariants as reply
-use Rattle.slotmap_core.proofs.Common.{IsDistinct}
-use Rattle.slotmap_core.proofs.General.KeyLemmas.{keys_total, exact_keys, itself, tied}
 
 module _ {K V R : Type 0} (E : Type 0) (data_of : K → Key) (looks : V → R → Type 0) where
   -- a new map's replies keep this law

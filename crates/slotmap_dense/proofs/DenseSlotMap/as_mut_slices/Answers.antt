@@ -1,6 +1,4 @@
-use Rattle.slotmap_core.proofs.Common.{common_steps, arith, refl, rules}
-use Rattle.slotmap_dense.proofs.WellFormed.{IsSound-other}
-use Rattle.slotmap_dense.proofs.SettledLemmas.{lent, well_formed}
+use Rattle.slotmap_dense.proofs.Common.{common_steps, arith, refl, rules, IsSound-other, lent, well_formed}
 use Rattle.slotmap_dense.proofs.DenseSlotMap.as_mut_slices.Goals as goal
 
 pub returns : goal.returns

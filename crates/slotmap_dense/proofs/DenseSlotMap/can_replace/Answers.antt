@@ -1,5 +1,4 @@
-use Rattle.slotmap_core.proofs.Common.{arith, CanReplace-next, refuses_key}
-use Rattle.slotmap_dense.specs.Dense.{value_of}
+use Rattle.slotmap_dense.proofs.Common.{arith, CanReplace-next, refuses_key, value_of}
 use Rattle.std.proofs.lemmas.Grind.{common_steps}
 use Rattle.slotmap_dense.proofs.DenseSlotMap.can_replace.Goals as goal
 

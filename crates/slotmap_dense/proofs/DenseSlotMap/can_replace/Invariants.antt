@@ -1,5 +1,4 @@
-use Rattle.slotmap_core.proofs.Common.{take, map as map_list}
-use Rattle.slotmap_dense.specs.Dense.{value_of}
+use Rattle.slotmap_dense.proofs.Common.{take, map_list, value_of}
 use Rattle.slotmap_core.specs.Several.{CanReplace}
 use Rattle.slotmap_dense.proofs.DenseSlotMap.can_replace.Given as goal
 

@@ -1,5 +1,4 @@
-use Rattle.slotmap_dense.proofs.FromBackLemmas.{Taken-start, Taken-next}
-use Rattle.std.proofs.Common.{arith}
+use Rattle.slotmap_dense.proofs.Common.{Taken-start, Taken-next, arith}
 use Rattle.std.proofs.lemmas.Grind.{common_steps}
 use Rattle.slotmap_dense.proofs.DenseSlotMap.clear.Goals as goal
 

@@ -1,8 +1,4 @@
-use Rattle.std.proofs.Common.{◌≡◌, ◌∙◌, map as list_map, ap}
-use Rattle.slotmap_core.proofs.Common.{IsCopy, clone_copies, zip_length}
-use Rattle.slotmap_dense.proofs.CloneLemmas.{dense-clones, same_order}
-use Rattle.slotmap_dense.proofs.WellFormed.{IsSound-other}
-use Rattle.slotmap_dense.proofs.SettledLemmas.{dense_valid}
+use Rattle.slotmap_dense.proofs.Common.{◌≡◌, list_map, IsCopy, clone_copies, zip_length, ◌∙◌, ap, dense-clones, same_order, IsSound-other, dense_valid}
 use Rattle.slotmap_dense.proofs.DenseSlotMap.clone.Goals.{In_ok-clone}
 use Rattle.slotmap_dense.proofs.DenseSlotMap.clone.Goals as goal
 

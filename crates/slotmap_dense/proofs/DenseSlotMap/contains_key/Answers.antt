@@ -1,5 +1,4 @@
-use Rattle.slotmap_core.proofs.Common.{sym, ◌∙◌}
-use Rattle.slotmap_dense.proofs.SettledLemmas.{contains, well_formed}
+use Rattle.slotmap_dense.proofs.Common.{sym, ◌∙◌, contains, well_formed}
 use Rattle.slotmap_dense.proofs.DenseSlotMap.contains_key.Goals as goal
 
 pub returns-clause-value : goal.returns-clause-value

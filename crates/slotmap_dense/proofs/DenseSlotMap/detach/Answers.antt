@@ -1,7 +1,5 @@
 use Rattle.std.specs.FinMap as map
-use Rattle.std.proofs.Common.{◌≡◌, Some, sym, ap, ◌∙◌}
-use Rattle.slotmap_dense.proofs.PackedLemmas.{IsGapped-removed}
-use Rattle.slotmap_dense.proofs.SettledLemmas.{absent, unchanged, Closed, closed}
+use Rattle.slotmap_dense.proofs.Common.{◌≡◌, IsGapped-removed, absent, unchanged, Closed, closed, Some, sym, ap, ◌∙◌}
 use Rattle.slotmap_dense.proofs.DenseSlotMap.detach.Goals.{After-close_gap}
 use Rattle.slotmap_dense.proofs.DenseSlotMap.detach.Goals as goal
 

@@ -1,7 +1,5 @@
-use Rattle.slotmap_core.proofs.Common.{loan_along, lists_along}
-use Rattle.slotmap_dense.specs.Dense.{EmptiesDense}
+use Rattle.slotmap_dense.proofs.Common.{loan_along, lists_along, EmptiesDense, drained_from_back}
 use Rattle.slotmap_dense.specs.Drain.{dense_drain_loan, dense_drain_live, DenseDrainSteps}
-use Rattle.slotmap_dense.proofs.DrainLemmas.{drained_from_back}
 use Rattle.slotmap_dense.proofs.DenseSlotMap.drain.Goals as goal
 
 pub returns-clause-stays : goal.returns-clause-stays

@@ -1,11 +1,5 @@
-use Rattle.std.proofs.Common.{◌≡◌, length, map as list_map, min, vec_capacity, refl, ap, ◌∙◌}
-use Rattle.slotmap_core.proofs.Common.{with_items}
-use Rattle.slotmap_dense.specs.Pass.{Passes, stage, beside, packed_order}
-use Rattle.slotmap_dense.proofs.PassLemmas.{items-whole, passes-lift, may-lift, Lifts-values}
-use Rattle.slotmap_dense.specs.Packed.{dense_of, IsSound}
-use Rattle.slotmap_dense.proofs.WellFormed.{IsSound-other}
-use Rattle.slotmap_dense.proofs.SettledLemmas.{stays-valid}
-use Rattle.std.proofs.Common.{arith}
+use Rattle.slotmap_dense.proofs.Common.{◌≡◌, list_map, with_items, vec_capacity, ◌∙◌, packed_order, items-whole, passes-lift, may-lift, Lifts-values, dense_of, IsSound-other, stays-valid}
+use Rattle.slotmap_dense.proofs.Common.{length, min, refl, ap, arith, Passes, stage, beside, IsSound}
 use Rattle.std.proofs.lemmas.Grind.{common_steps}
 use Rattle.slotmap_dense.proofs.DenseSlotMap.first_rejected.Goals as goal
 

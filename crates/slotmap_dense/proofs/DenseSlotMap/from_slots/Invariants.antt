@@ -1,6 +1,4 @@
-use Rattle.std.proofs.Common.{◌≡◌, ◌+◌, ◌≤◌, ◌++◌, length, map as list_map, vec_len, vec_capacity}
-use Rattle.slotmap_core.proofs.Common.{into_iter_items, into_iter_len}
-use Rattle.slotmap_dense.proofs.FromListLemmas.{AreSplit}
+use Rattle.slotmap_dense.proofs.Common.{◌≡◌, ◌+◌, ◌≤◌, ◌++◌, list_map, into_iter_items, into_iter_len, length, vec_len, vec_capacity, AreSplit}
 use Rattle.slotmap_dense.proofs.DenseSlotMap.from_slots.Given as goal
 
 -- what was made of the records that were read so far

@@ -1,5 +1,4 @@
-use Rattle.slotmap_core.proofs.Common.{Some, option_copied, sym, ap, ◌∙◌, arith, same_read}
-use Rattle.slotmap_dense.proofs.SettledLemmas.{well_formed, absent, present}
+use Rattle.slotmap_dense.proofs.Common.{Some, option_copied, sym, ap, ◌∙◌, arith, same_read, well_formed, absent, present}
 use Rattle.slotmap_dense.proofs.DenseSlotMap.get.Goals as goal
 
 pub returns-in_err-position-clause-value : goal.returns-in_err-position-clause-value

@@ -1,5 +1,4 @@
-use Rattle.slotmap_core.proofs.Common.{Some, sym, ap, ◌∙◌, arith, same_read}
-use Rattle.slotmap_dense.proofs.SettledLemmas.{well_formed, contains, present}
+use Rattle.slotmap_dense.proofs.Common.{Some, sym, ap, ◌∙◌, arith, same_read, well_formed, contains, present}
 use Rattle.slotmap_dense.proofs.DenseSlotMap.get_unchecked.Goals as goal
 
 pub get_unchecked-position-requires : goal.get_unchecked-position-requires

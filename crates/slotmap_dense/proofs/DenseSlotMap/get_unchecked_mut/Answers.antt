@@ -1,6 +1,4 @@
-use Rattle.slotmap_core.proofs.Common.{Some, refl, sym, ap, ◌∙◌, arith, length-set, same_read}
-use Rattle.slotmap_dense.proofs.SettledLemmas.{well_formed, contains, present}
-use Rattle.slotmap_dense.proofs.WellFormed.{IsSound-other, dense-written}
+use Rattle.slotmap_dense.proofs.Common.{Some, refl, sym, ap, ◌∙◌, arith, length-set, same_read, well_formed, contains, present, IsSound-other, dense-written}
 use Rattle.slotmap_dense.proofs.DenseSlotMap.get_unchecked_mut.Goals as goal
 
 pub get_unchecked-requires : goal.get_unchecked-requires

@@ -1,6 +1,4 @@
-use Rattle.slotmap_core.proofs.Common.{refl, common_steps, arith, sym, rules, length-map}
-use Rattle.slotmap_dense.proofs.WellFormed.{IsSound-other}
-use Rattle.slotmap_dense.proofs.SettledLemmas.{lent, well_formed}
+use Rattle.slotmap_dense.proofs.Common.{refl, common_steps, arith, sym, rules, length-map, IsSound-other, lent, well_formed}
 use Rattle.slotmap_dense.proofs.DenseSlotMap.iter_mut.Goals as goal
 
 pub returns : goal.returns

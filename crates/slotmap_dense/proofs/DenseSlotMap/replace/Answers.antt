@@ -1,5 +1,4 @@
-use Rattle.slotmap_core.proofs.Common.{option_copied_mut, is_some, refl, ap, sym, ◌∙◌}
-use Rattle.slotmap_dense.proofs.WellFormed.{IsDense-with_value}
+use Rattle.slotmap_dense.proofs.Common.{option_copied_mut, is_some, refl, ap, sym, ◌∙◌, IsDense-with_value}
 use Rattle.slotmap_dense.proofs.DenseSlotMap.replace.Goals as goal
 
 pub returns-in-Some-clause-valid : goal.returns-in-Some-clause-valid

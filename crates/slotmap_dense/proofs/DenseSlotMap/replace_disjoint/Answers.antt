@@ -1,6 +1,4 @@
-use Rattle.slotmap_core.proofs.Common.{subst, arith, common_steps, key_there, key_exchanged}
-use Rattle.slotmap_dense.specs.Dense.{IsDense}
-use Rattle.slotmap_dense.proofs.WellFormed.{dense_written}
+use Rattle.slotmap_dense.proofs.Common.{subst, arith, common_steps, key_there, key_exchanged, IsDense, dense_written}
 use Rattle.slotmap_dense.proofs.DenseSlotMap.replace_disjoint.Goals as goal
 
 pub swap_value-requires : goal.swap_value-requires

@@ -1,6 +1,5 @@
-use Rattle.std.proofs.Common.{◌≡◌, map as map_list}
-use Rattle.slotmap_core.proofs.Common.{Exchanged}
-use Rattle.slotmap_dense.specs.Dense.{IsDense, value_of, with_value_of}
+use Rattle.slotmap_dense.proofs.Common.{◌≡◌, Exchanged, IsDense, value_of, with_value_of}
+use Rattle.std.proofs.Common.{map as map_list}
 use Rattle.slotmap_dense.proofs.DenseSlotMap.replace_disjoint.Given as goal
 
 abbrev pub invariant-loop-i : goal.invariant-loop-i

@@ -1,6 +1,4 @@
-use Rattle.slotmap_core.proofs.Common.{refl, arith, rules}
-use Rattle.slotmap_dense.proofs.WellFormed.{IsSound-other}
-use Rattle.slotmap_dense.proofs.SettledLemmas.{used_is, makes-room}
+use Rattle.slotmap_dense.proofs.Common.{refl, arith, rules, IsSound-other, used_is, makes-room}
 use Rattle.slotmap_dense.proofs.DenseSlotMap.reserve.Goals as goal
 
 pub returns-in_err-make_room_in_slots-clause-makes_room : goal.returns-in_err-make_room_in_slots-clause-makes_room

@@ -1,7 +1,4 @@
-use Rattle.std.proofs.Common.{◌≡◌, ◌<◌, ◌≤◌, length, ap, arith}
-use Rattle.slotmap_dense.specs.Pass.{stage}
-use Rattle.slotmap_dense.proofs.PassLemmas.{Going-start, Going-may, Going-rejected, Rejected-stands, Going-dropped, Ended, Going-end}
-use Rattle.slotmap_dense.proofs.FromBackLemmas.{len_keys}
+use Rattle.slotmap_dense.proofs.Common.{◌≡◌, ◌<◌, ◌≤◌, stage, Going-start, Going-may, Going-rejected, Rejected-stands, Going-dropped, Ended, Going-end, len_keys, length, ap, arith}
 use Rattle.slotmap_dense.proofs.DenseSlotMap.retain.Goals.{After-len}
 use Rattle.slotmap_dense.proofs.DenseSlotMap.retain.Goals as goal
 

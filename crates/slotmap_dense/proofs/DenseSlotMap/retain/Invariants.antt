@@ -1,6 +1,4 @@
-use Rattle.std.proofs.Common.{◌≤◌, length}
-use Rattle.slotmap_dense.specs.Pass.{stage}
-use Rattle.slotmap_dense.proofs.PassLemmas.{Going}
+use Rattle.slotmap_dense.proofs.Common.{◌≤◌, stage, Going, length}
 use Rattle.slotmap_dense.proofs.DenseSlotMap.retain.Given as goal
 
 abbrev pub invariant-loop-position : goal.invariant-loop-position

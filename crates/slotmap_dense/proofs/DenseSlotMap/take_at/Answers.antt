@@ -1,7 +1,4 @@
-use Rattle.slotmap_core.proofs.Common.{slice_get, is_some, sym, ap, ◌∙◌, same_Some}
-use Rattle.slotmap_dense.proofs.SwapRemoveLemmas.{length-swap_remove}
-use Rattle.slotmap_dense.proofs.PackedLemmas.{IsGapped-removed}
-use Rattle.slotmap_dense.proofs.SettledLemmas.{read_at, Closed, closed}
+use Rattle.slotmap_dense.proofs.Common.{slice_get, is_some, sym, ap, ◌∙◌, same_Some, length-swap_remove, IsGapped-removed, read_at, Closed, closed}
 use Rattle.slotmap_dense.proofs.DenseSlotMap.take_at.Goals.{After-close_gap}
 use Rattle.slotmap_dense.proofs.DenseSlotMap.take_at.Goals as goal
 

@@ -1,9 +1,7 @@
-use Rattle.slotmap_core.proofs.Common.{append-nil, map as list_map, length, is_some, refl, ap, subst, ◌∙◌}
-use Rattle.slotmap_dense.specs.Packed.{IsSound}
-use Rattle.slotmap_dense.proofs.SettledLemmas.{stays-valid, last_key, Closed, popped}
-use Rattle.slotmap_dense.proofs.DenseSlotMap.take_last.Goals.{After-take_last}
-use Rattle.std.proofs.Common.{arith}
+use Rattle.slotmap_dense.proofs.Common.{append-nil, length, is_some, refl, ap, subst, ◌∙◌, arith, IsSound, stays-valid, last_key, Closed, popped}
 use Rattle.std.proofs.lemmas.Grind.{common_steps}
+use Rattle.slotmap_core.proofs.Common.{map as list_map}
+use Rattle.slotmap_dense.proofs.DenseSlotMap.take_last.Goals.{After-take_last}
 use Rattle.slotmap_dense.proofs.DenseSlotMap.take_last.Goals as goal
 
 pub returns-in_err-key-clause-valid : goal.returns-in_err-key-clause-valid

@@ -1,6 +1,4 @@
-use Rattle.std.proofs.Common.{◌+◌, ◌≤◌, take, map as list_map, vec_len, vec_capacity}
-use Rattle.slotmap_core.proofs.Common.{AreRecordClones}
-use Rattle.slotmap_dense.specs.Packed.{with_packed_value}
+use Rattle.slotmap_dense.proofs.Common.{◌+◌, ◌≤◌, list_map, AreRecordClones, take, vec_len, vec_capacity, with_packed_value}
 use Rattle.slotmap_dense.proofs.DenseSlotMap.to_slots.Given as goal
 
 abbrev pub invariant-loop-index : goal.invariant-loop-index

@@ -1,6 +1,4 @@
-use Rattle.slotmap_core.proofs.Common.{refl, arith, common_steps, rules}
-use Rattle.slotmap_dense.proofs.WellFormed.{IsSound-other}
-use Rattle.slotmap_dense.proofs.SettledLemmas.{lent, well_formed}
+use Rattle.slotmap_dense.proofs.Common.{refl, arith, common_steps, rules, IsSound-other, lent, well_formed}
 use Rattle.slotmap_dense.proofs.DenseSlotMap.values_as_mut_slice.Goals as goal
 
 pub returns : goal.returns

@@ -1,6 +1,5 @@
-use Rattle.slotmap_core.proofs.Common.{sym, ◌∙◌, from_front}
+use Rattle.slotmap_dense.proofs.Common.{sym, ◌∙◌, from_front, lent, well_formed}
 use Rattle.slotmap_dense.specs.IterMut.{values_mut_rest, values_mut_steps}
-use Rattle.slotmap_dense.proofs.SettledLemmas.{lent, well_formed}
 use Rattle.slotmap_dense.proofs.DenseSlotMap.values_mut.Goals as goal
 
 pub returns : goal.returns

@@ -1,6 +1,4 @@
-use Rattle.std.proofs.Common.{arith}
-use Rattle.slotmap_core.proofs.Common.{slice_get_read, common_steps}
-use Rattle.slotmap_dense.proofs.SwapRemoveLemmas.{slice_get-left, slice_get-right, set-cut, set-cut_back}
+use Rattle.slotmap_dense.proofs.Common.{slice_get_read, common_steps, arith, slice_get-left, slice_get-right, set-cut, set-cut_back}
 use Rattle.slotmap_dense.proofs.access.two_of.Goals as goal
 
 pub returns-then-first-second : goal.returns-then-first-second

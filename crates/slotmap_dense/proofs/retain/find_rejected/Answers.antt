@@ -1,7 +1,5 @@
-use Rattle.std.proofs.Common.{◌∷◌, ◌++◌, ◌≡◌, [], inl, inr, length, map as list_map, refl, sym, ap, ◌∙◌, arith}
-use Rattle.slotmap_core.proofs.Common.{FoldsTo-push, length-map, length-set}
-use Rattle.slotmap_dense.specs.Pass.{Stays, stage, beside}
-use Rattle.slotmap_dense.proofs.PassLemmas.{shows-read, calls-read}
+use Rattle.slotmap_dense.proofs.Common.{◌∷◌, ◌++◌, ◌≡◌, list_map, FoldsTo-push, length-map, length-set, length, refl, ◌∙◌, arith, Stays, stage, beside, shows-read, calls-read}
+use Rattle.slotmap_dense.proofs.Common.{[], inl, inr, sym, ap}
 use Rattle.slotmap_dense.proofs.retain.find_rejected.Goals as goal
 
 pub loop-position-init : goal.loop-position-init

@@ -1,6 +1,4 @@
-use Rattle.std.proofs.Common.{◌≡◌, List, length, map as list_map}
-use Rattle.slotmap_core.proofs.Common.{FoldsTo, Visit}
-use Rattle.slotmap_dense.specs.Pass.{Stays, stage, beside}
+use Rattle.slotmap_dense.proofs.Common.{◌≡◌, list_map, FoldsTo, Visit, List, length, Stays, stage, beside}
 use Rattle.slotmap_dense.proofs.retain.find_rejected.Given as goal
 
 abbrev pub invariant-loop-position : goal.invariant-loop-position

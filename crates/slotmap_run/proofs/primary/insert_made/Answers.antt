@@ -1,8 +1,5 @@
-use Rattle.slotmap_core.proofs.Common.{rules}
+use Rattle.slotmap_core.proofs.Common.{rules, arith, common_steps}
 use Rattle.slotmap_run.proofs.primary.insert_made.Goals as goal
 
-pub returns-clause-ok : goal.returns-clause-ok
-returns-clause-ok g c = search rules
-
-pub returns-clause-err : goal.returns-clause-err
-returns-clause-err g c = search rules
+pub returns : goal.returns
+returns g c = record { ok = search rules; err = search rules; valid = grind (arith, common_steps) }

@@ -1,5 +1,4 @@
-use Rattle.slotmap_core.proofs.Common.{refl, is_some, ap, arith, keys_total, exact_keys, len_removed}
-use Rattle.slotmap_dense.proofs.DrainLemmas.{EmptiesDense-first}
+use Rattle.slotmap_dense.proofs.Common.{refl, is_some, ap, arith, keys_total, exact_keys, len_removed, EmptiesDense-first}
 use Rattle.slotmap_dense.proofs.drain.DrainIterator.next.Goals as goal
 
 pub returns-in-Some-clause-steps : goal.returns-in-Some-clause-steps

@@ -1,5 +1,4 @@
-use Rattle.slotmap_core.proofs.Common.{common_steps, arith}
-use Rattle.slotmap_dense.proofs.PackedLemmas.{listed}
+use Rattle.slotmap_dense.proofs.Common.{common_steps, arith, listed}
 use Rattle.slotmap_dense.proofs.into_iter.DenseSlotMapIntoIterator.into_iter.Goals as goal
 
 pub returns : goal.returns

@@ -1,6 +1,4 @@
-use Rattle.std.proofs.Common.{◌≡◌, rules, sym}
-use Rattle.slotmap_core.proofs.Common.{same_from_all_zip, pairs_equal}
-use Rattle.slotmap_dense.proofs.CloneLemmas.{pairs-clones}
+use Rattle.slotmap_dense.proofs.Common.{◌≡◌, same_from_all_zip, pairs_equal, rules, sym, pairs-clones}
 use Rattle.slotmap_dense.proofs.into_iter.IntoIter.clone.Goals as goal
 
 pub invariant_of-result : goal.invariant_of-result

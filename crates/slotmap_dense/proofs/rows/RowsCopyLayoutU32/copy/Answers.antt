@@ -1,6 +1,4 @@
-use Rattle.slotmap_core.proofs.Common.{length, refl, ap, ◌∙◌, arith, length-map}
-use Rattle.slotmap_dense.specs.Rows.{slot_of_row, slots_of_rows}
-use Rattle.slotmap_dense.proofs.RowLemmas.{clones-self}
+use Rattle.slotmap_dense.proofs.Common.{length, refl, ap, ◌∙◌, arith, length-map, slot_of_row, slots_of_rows, clones-self}
 use Rattle.slotmap_dense.proofs.rows.RowsCopyLayoutU32.copy.Goals as goal
 
 pub returns-clause-clones : goal.returns-clause-clones

@@ -1,5 +1,4 @@
-use Rattle.slotmap_core.proofs.Common.{common_steps, arith}
-use Rattle.slotmap_dense.proofs.RowLemmas.{row-payload, row-with_payload}
+use Rattle.slotmap_dense.proofs.Common.{common_steps, arith, row-payload, row-with_payload}
 use Rattle.slotmap_dense.proofs.rows.RowsLayoutU32.payload_mut.Goals as goal
 
 pub returns : goal.returns

@@ -1,6 +1,4 @@
-use Rattle.std.proofs.Common.{◌+◌, length, ap, arith}
-use Rattle.slotmap_core.proofs.Common.{length-map}
-use Rattle.slotmap_dense.specs.Rows.{slot_of_row}
+use Rattle.slotmap_dense.proofs.Common.{◌+◌, length-map, length, ap, arith, slot_of_row}
 use Rattle.slotmap_dense.proofs.rows.RowsLayoutU32.reserve.Goals as goal
 
 pub returns-clause-room : goal.returns-clause-room

@@ -1,12 +1,9 @@
 use Rattle.slotmap_core.proofs.Common.{refl}
-use Rattle.slotmap_run.proofs.Joins.{detached, reattach_served, detaches_no_key, reattaches_no_key}
-use Rattle.slotmap_run.proofs.JoinRuns.{served}
+use Rattle.slotmap_run.proofs.{Joins.detached, Joins.reattach_served, Joins.detaches_no_key, Joins.reattaches_no_key, JoinRuns.served}
 use Rattle.slotmap_run.proofs.joined.GivenLookServesBesideJoinedDetachCommandJoinedReply.serve.Goals as goal
 
 pub returns-in-Plain-clause-step : goal.returns-in-Plain-clause-step
-returns-in-Plain-clause-step g c =
-    let step = c.serve.ensures.step in
-    rw c.in-Plain.is (served (record { step = step.follows.step; lasts = step.follows.lasts }) step.same_primary step.same_secondary)
+returns-in-Plain-clause-step g c = let step = c.serve.ensures.step in rw c.in-Plain.is (served (record { step = step.follows.step; lasts = step.follows.lasts }) step.same_primary step.same_secondary)
 
 pub returns-in-Some-clause-step : goal.returns-in-Some-clause-step
 returns-in-Some-clause-step g c =
