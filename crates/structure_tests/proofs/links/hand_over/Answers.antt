@@ -15,6 +15,8 @@ returns c =
     let t = c.take_out.new.self in
     let there : c.args.to < length t.lists = rw (c.take_out.ensures, owners_stay) c.requires.to in
     record {
-      left = ap (λ s. list_of s c.args.from) c.put_last.ensures ∙ list_other t c.args.to _ c.args.from (λ e. c.requires.apart (sym e)) ∙ ap (λ s. list_of s c.args.from) c.take_out.ensures ∙ list_now s c.args.from _ c.requires.from;
-      came = ap (λ s. list_of s c.args.to) c.put_last.ensures ∙ list_now t c.args.to _ there ∙ ap (λ l. l ++ c.args.member ∷ []) (ap (λ s. list_of s c.args.to) c.take_out.ensures ∙ list_other s c.args.from _ c.args.to c.requires.apart);
+      left = ap (λ s. list_of s c.args.from) c.put_last.ensures ∙ list_other t c.args.to _ c.args.from (λ e. c.requires.apart (sym e))
+          ∙ ap (λ s. list_of s c.args.from) c.take_out.ensures ∙ list_now s c.args.from _ c.requires.from;
+      came = ap (λ s. list_of s c.args.to) c.put_last.ensures ∙ list_now t c.args.to _ there
+          ∙ ap (λ l. l ++ c.args.member ∷ []) (ap (λ s. list_of s c.args.to) c.take_out.ensures ∙ list_other s c.args.from _ c.args.to c.requires.apart);
     }
