@@ -2,7 +2,7 @@
 use Rattle.std.proofs.Common.{◌≡◌, ℕ, ◌&&◌, ◌||◌, ◌⊎◌, Bool, not, sym, ap, ◌∙◌, inl, inr, arith}
 use Rattle.std.specs.FinMap as map
 use Rattle.std.specs.FinSet as set
-use Rattle.slotmap.specs.Words.{Key, key_cmp, Content, IsContent, Stands, IsRetired, Inserts, Removes, Keeps, Leaves, MakesRoom, is_last}
+use Rattle.slotmap.specs.Words.{Key, key_cmp, Content, IsContent, IsSpent, Stands, IsRetired, Inserts, Removes, Keeps, Leaves, MakesRoom, is_last}
 use Rattle.slotmap_keylist.specs.Mapped.{with_live}
 
 -- a content with other live values under the same keys
@@ -12,6 +12,13 @@ module _ {V W : Type 0} (c : Content V) (m : map.FinMap key_cmp W) (same : (q : 
     | inl stands ↦ inl (elim stands [ inl live ↦ inl (sym (same k) ∙ live) | inr detached ↦ inr detached ])
     | inr retired ↦ inr retired
   ]
+
+  pub shown_spent : (k : Key) → IsSpent c k → IsSpent (with_live c m) k
+  shown_spent k spent = record {
+    within = omega (arith, spent.within);
+    vacant = spent.vacant;
+    stands = λ u there at. spent.stands u (elim there [ inl live ↦ inl (sym (same u) ∙ live) | inr detached ↦ inr detached ]) at;
+  }
 
   pub shown_content : (reuses : Bool) → IsContent reuses c → IsContent reuses (with_live c m)
   shown_content reuses well = record {
