@@ -21,10 +21,8 @@ module _ {V : Type 0} (c : Content V) (well : IsContent true c) (k : Key) (live 
   same_len = map.len-insert keys_total c.live k v ∙ ap (λ b. cond b (map.len c.live) (map.len c.live + 1)) live
 
   written_valid : IsContent true (with_value c k v)
-  written_valid =
-      let lists = λ (stack : List ℕ) (is : c.stack ≡ Some stack). (well.stacked stack is).lists in
-      let once = λ (stack : List ℕ) (is : c.stack ≡ Some stack). (well.stacked stack is).once in
-      let top = λ (stack : List ℕ) (is : c.stack ≡ Some stack). (well.stacked stack is).top in
+  written_valid = let lists = λ (stack : List ℕ) (is : c.stack ≡ Some stack). (well.stacked stack is).lists in
+      let once = λ (stack : List ℕ) (is : c.stack ≡ Some stack). (well.stacked stack is).once in let top = λ (stack : List ℕ) (is : c.stack ≡ Some stack). (well.stacked stack is).top in
       grind (arith, same_live, same_len, lists, once, top)
 
 module _ {V : Type 0} (c : Content V) (room capacity : ℕ) (is : IsBounded c room capacity) where
@@ -51,9 +49,7 @@ module _ {V : Type 0} (c : Content V) (room capacity : ℕ) (is : IsBounded c ro
 module _ {V : Type 0} (c : Content V) (room capacity : ℕ) (is : IsBounded c room capacity) where
   -- a value is written
   pub written : (k : Key) → IsLive c k → (v : V) → IsBounded (with_value c k v) room capacity
-  written k live v =
-      let len = same_len c is.valid k live v in
-      record { valid = written_valid c is.valid k live v; vacant = is.vacant; fits = is.fits; exact = (omega (arith, is.exact)) }
+  written k live v = let len = same_len c is.valid k live v in record { valid = written_valid c is.valid k live v; vacant = is.vacant; fits = is.fits; exact = (omega (arith, is.exact)) }
 
   -- a value comes
   module _ (k : Key) (v : V) (new : Content V) (inserts : Inserts c k v new) where
@@ -74,12 +70,7 @@ module _ {V : Type 0} (c : Content V) (room capacity : ℕ) (is : IsBounded c ro
         ]
 
     pub inserted : 0 < room → IsContent true new → IsBounded new (room - 1) capacity
-    inserted some valid = record {
-      valid = valid;
-      vacant = vacant_less some;
-      fits = omega (arith, inserts.room, is.fits);
-      exact = omega (arith, used_more, is.exact);
-    }
+    inserted some valid = record { valid = valid; vacant = vacant_less some; fits = omega (arith, inserts.room, is.fits); exact = omega (arith, used_more, is.exact) }
 
     pub inserts_bounded : 0 < room → Inserts (bounded c room capacity) k v (bounded new (room - 1) capacity)
     inserts_bounded some = record {
@@ -134,14 +125,7 @@ module _ {V : Type 0} (c : Content V) (room capacity : ℕ) (is : IsBounded c ro
     ] refl
 
     pub removes_bounded : Removes (bounded c room capacity) k (bounded new (room + (if is_last k then 0 else 1)) capacity)
-    removes_bounded = record {
-      live = removes.live;
-      detached = removes.detached;
-      retired = removes.retired;
-      next = removes.next;
-      stack = removes.stack;
-      room = omega arith;
-    }
+    removes_bounded = record { live = removes.live; detached = removes.detached; retired = removes.retired; next = removes.next; stack = removes.stack; room = omega arith }
 
   -- room is there, is made, or can't be made
   pub had_room : (n : ℕ) (ok : Type 0) → ok → n ≤ room → MakesRoom true (bounded c room capacity) n ok (bounded c room capacity)
@@ -175,12 +159,7 @@ module _ {V : Type 0} (c : Content V) (room capacity : ℕ) (is : IsBounded c ro
     same_used = omega (arith, ap map.len makes.keeps.live, ap set.len makes.keeps.detached, ap set.len makes.keeps.retired)
 
     pub made : ok → IsBounded new n (capacity - room + n)
-    made done = record {
-      valid = makes.after;
-      vacant = omega (arith, ap map.len makes.keeps.next, is.vacant);
-      fits = makes.room done;
-      exact = omega (arith, same_used, is.exact);
-    }
+    made done = record { valid = makes.after; vacant = omega (arith, ap map.len makes.keeps.next, is.vacant); fits = makes.room done; exact = omega (arith, same_used, is.exact) }
 
     refused : IsBounded new room capacity
     refused = record {

@@ -1,6 +1,6 @@
 -- The keys of a content by their indices, and lists of keys by those of indices.
-use Rattle.std.proofs.Common.{◌≡◌, ◌≢◌, ℕ, ◌<◌, ◌≤◌, Bool, true, false, cond, not, if◌then◌else◌, nat_eq, Option, Some, None, IfSome}
-use Rattle.std.proofs.Common.{IfNone, List, [], ◌∷◌, ◌++◌, is_some, unwrap_or, refl, sym, ap, ◌∙◌, inl, inr, arith, eq-eqb, eqb-true}
+use Rattle.std.proofs.Common.{◌≡◌, ◌≢◌, ℕ, ◌<◌, ◌≤◌, Bool, true, false, cond, not, if◌then◌else◌, nat_eq, Option, Some, None, IfSome, IfNone, List, [], ◌∷◌}
+use Rattle.std.proofs.Common.{◌++◌, is_some, unwrap_or, refl, sym, ap, ◌∙◌, inl, inr, arith, eq-eqb, eqb-true}
 use Rattle.std.specs.Option.{option_map}
 use Rattle.std.specs.List.{find, list_any}
 use Rattle.std.specs.Ordering.{eq_by_cmp}
@@ -11,8 +11,7 @@ use Rattle.slotmap.proofs.Callers.{exact_keys, get-insert_other, itself, keys_to
 use Rattle.slotmap_keylist.specs.KeyLists.{is_key, last_or, same, times, without}
 use Rattle.slotmap_keylist.proofs.Counts.{is_itself, is_other, one_other, times_first}
 use Rattle.slotmap_links.specs.Lists.{times as often, without as without_number, first_or, last_or as last_number}
-use Rattle.slotmap_links.proofs.Counts.{times_first as often_first, times_joined as often_joined, one_itself as number_itself, is_other as other_number}
-use Rattle.slotmap_links.proofs.Counts.{same as same_number}
+use Rattle.slotmap_links.proofs.Counts.{times_first as often_first, times_joined as often_joined, one_itself as number_itself, is_other as other_number, same as same_number}
 use Rattle.slotmap_bounded.specs.Indices.{AreApart, AreIndices, HasKey, HaveIndices, found_at, key_at, keys_at}
 
 -- the first key that passes a test is in the list, and where one passes it there is a first
@@ -31,8 +30,7 @@ module _ {T : Type 0} (m : map.FinMap key_cmp T) where
 
   -- and each live key is found
   pub found_only : AreApart m → (k : Key) → map.contains_key m k ≡ true → found_at m k.index ≡ Some k
-  found_only apart k live = by (found_at m k.index) refl
-      (some_found (λ q. nat_eq q.index k.index) (map.keys m) k (eq-eqb k.index k.index refl) (sym (map.contains_key-keys m k) ∙ live))
+  found_only apart k live = by (found_at m k.index) refl (some_found (λ q. nat_eq q.index k.index) (map.keys m) k (eq-eqb k.index k.index refl) (sym (map.contains_key-keys m k) ∙ live))
     where
       by : (o : Option Key) → found_at m k.index ≡ o → is_some o ≡ true → o ≡ Some k
       by None is some = absurd (cc)
@@ -134,8 +132,7 @@ module _ {T : Type 0} {c : Content T} (indices : HaveIndices c) where
   -- how often a key is among those with these indices
   pub times_key : (is : List ℕ) → AreIndices c is → (k : Key) → IsLive c k → times k (keys_at c.live is) ≡ often k.index is
   times_key [] all k live = refl
-  times_key (i ∷ is) all k live =
-      let alike : same (key_at c.live i) k ≡ same_number i k.index = ap (λ b. if b then 1 else 0) (same_at i (first_index all) k live) in
+  times_key (i ∷ is) all k live = let alike : same (key_at c.live i) k ≡ same_number i k.index = ap (λ b. if b then 1 else 0) (same_at i (first_index all) k live) in
       omega (arith, times_first k (key_at c.live i) (keys_at c.live is), often_first k.index i is, times_key is (later_indices all) k live)
 
   pub no_key : (is : List ℕ) → AreIndices c is → (k : Key) → map.contains_key c.live k ≡ false → times k (keys_at c.live is) ≡ 0
@@ -165,11 +162,9 @@ module _ {T : Type 0} {c : Content T} (indices : HaveIndices c) where
 
     pub keys_same : (is : List ℕ) → AreIndices c is → ((k : Key) → IsLive c k → 0 < often k.index is → IsLive d k) → keys_at d.live is ≡ keys_at c.live is
     keys_same [] all still = refl
-    keys_same (i ∷ is) all still =
-        let has = first_index all in
+    keys_same (i ∷ is) all still = let has = first_index all in
         let one = found_same i has (still has.0 has.1 (omega (arith, often_first has.0.index i is, ap (λ n. same_number i n) has.2, number_itself i))) in
-        let rest = keys_same is (later_indices all) (λ k of_c more. still k of_c (omega (arith, often_first k.index i is))) in
-        λ n. unwrap_or (one n) null_key ∷ rest n
+        let rest = keys_same is (later_indices all) (λ k of_c more. still k of_c (omega (arith, often_first k.index i is))) in λ n. unwrap_or (one n) null_key ∷ rest n
 
     -- it may lack one of them
     pub keys_without : (k : Key) → IsLive c k → ((q : Key) → IsLive c q → q ≢ k → IsLive d q) → (is : List ℕ) → AreIndices c is

@@ -2,7 +2,7 @@
 use Rattle.std.proofs.Common.{◌≡◌, ℕ, ◌&&◌, ◌||◌, ◌⊎◌, Bool, not, sym, ap, ◌∙◌, inl, inr, arith}
 use Rattle.std.specs.FinMap as map
 use Rattle.std.specs.FinSet as set
-use Rattle.slotmap.specs.Words.{Key, key_cmp, Content, IsContent, IsSpent, KeepsSpent, Stands, IsRetired, Inserts, Removes, Keeps, Leaves, MakesRoom, is_last}
+use Rattle.slotmap.specs.Words.{Key, key_cmp, Content, IsContent, IsSpent, Stands, IsRetired, Inserts, Removes, Keeps, Leaves, MakesRoom, is_last}
 use Rattle.slotmap_keylist.specs.Mapped.{with_live}
 
 -- a content with other live values under the same keys
@@ -18,13 +18,6 @@ module _ {V W : Type 0} (c : Content V) (m : map.FinMap key_cmp W) (same : (q : 
     within = omega (arith, spent.within);
     vacant = spent.vacant;
     stands = λ u there at. spent.stands u (elim there [ inl live ↦ inl (sym (same u) ∙ live) | inr detached ↦ inr detached ]) at;
-  }
-
-  pub spent_shown : (k : Key) → IsSpent (with_live c m) k → IsSpent c k
-  spent_shown k spent = record {
-    within = omega (arith, spent.within);
-    vacant = spent.vacant;
-    stands = λ u there at. spent.stands u (elim there [ inl live ↦ inl (same u ∙ live) | inr detached ↦ inr detached ]) at;
   }
 
   pub shown_content : (reuses : Bool) → IsContent reuses c → IsContent reuses (with_live c m)
@@ -51,9 +44,6 @@ module _ {V W : Type 0} (c : Content V) (m : map.FinMap key_cmp W) (same : (q : 
 module _ {V W : Type 0} (old new : Content V) (was now : map.FinMap key_cmp W)
     (same_was : (q : Key) → map.contains_key was q ≡ map.contains_key old.live q) (len_was : map.len was ≡ map.len old.live)
     (same_now : (q : Key) → map.contains_key now q ≡ map.contains_key new.live q) (len_now : map.len now ≡ map.len new.live) where
-  pub shown_keeps_spent : KeepsSpent old new → KeepsSpent (with_live old was) (with_live new now)
-  shown_keeps_spent keeps k spent = shown_spent new now same_now len_now k (keeps k (spent_shown old was same_was len_was k spent))
-
   shown_left : (k : Key) → (map.contains_key old.live k && not (map.contains_key new.live k)) ≡ (map.contains_key was k && not (map.contains_key now k))
   shown_left k = ap (λ b. b && not (map.contains_key new.live k)) (sym (same_was k)) ∙ ap (λ b. map.contains_key was k && not b) (sym (same_now k))
 
@@ -83,25 +73,10 @@ module _ {V W : Type 0} (old new : Content V) (was now : map.FinMap key_cmp W)
   }
 
   pub shown_removes : (k : Key) → now ≡ map.remove was k → Removes old k new → Removes (with_live old was) k (with_live new now)
-  shown_removes k live removes = record {
-    live = live;
-    detached = removes.detached;
-    retired = removes.retired;
-    next = removes.next;
-    stack = removes.stack;
-    room = removes.room;
-  }
+  shown_removes k live removes = record { live = live; detached = removes.detached; retired = removes.retired; next = removes.next; stack = removes.stack; room = removes.room }
 
   pub shown_keeps : now ≡ was → Keeps old new → Keeps (with_live old was) (with_live new now)
-  shown_keeps live keeps = record {
-    live = live;
-    detached = keeps.detached;
-    retired = keeps.retired;
-    next = keeps.next;
-    offer = keeps.offer;
-    stack = keeps.stack;
-    room = keeps.room;
-  }
+  shown_keeps live keeps = record { live = live; detached = keeps.detached; retired = keeps.retired; next = keeps.next; offer = keeps.offer; stack = keeps.stack; room = keeps.room }
 
   pub shown_makes_room : now ≡ was → (reuses : Bool) (n : ℕ) (ok : Type 0) → MakesRoom reuses old n ok new → MakesRoom reuses (with_live old was) n ok (with_live new now)
   shown_makes_room live reuses n ok makes = record {

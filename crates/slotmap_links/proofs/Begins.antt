@@ -39,9 +39,8 @@ module _ (ends : List Ends) (links : List Link) (kept : AreKept ends links) (s :
 
   pub tail_value : (k : ℕ) → IsIn s p k → follow (link_at links) (length links) (unless_nobody k) ≡ numbers_from k (list_of s p)
   unfolding tail_begins
-  tail_value k inside =
-      let st = member_stands ends links kept s seen p k inside in
-      tail_is (link_at links) (length links) (unless_nobody k) (tail_begins k inside) ∙ sym (ap (numbers_from k) st.is ∙ from_there k st.before st.after st.not_before)
+  tail_value k inside = let st = member_stands ends links kept s seen p k inside in tail_is (link_at links) (length links) (unless_nobody k) (tail_begins k inside)
+      ∙ sym (ap (numbers_from k) st.is ∙ from_there k st.before st.after st.not_before)
 
   pub tail_below : (k : ℕ) → IsIn s p k → AreBelow (length links) (follow (link_at links) (length links) (unless_nobody k))
   unfolding tail_begins

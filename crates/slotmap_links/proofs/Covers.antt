@@ -74,10 +74,7 @@ module _ (ends : List Ends) (links : List Link) (kept : AreKept ends links) (n :
     kept_members = kept_along ends ends links more_links (λ q. refl) (λ q. ap neighbours (read_padded links (n - length links) q no_link)) kept (omega (arith, long)) (omega (arith, long, kept.few))
 
     seen_members_more : lists_by ends more_links ≡ with_members (lists_by ends links) n
-    seen_members_more = λ i. record {
-      lists = list_map (λ e. followed (λ q. neighbours (read_padded links (n - length links) q no_link i)) (bounds e)) ends;
-      members = long i;
-    }
+    seen_members_more = λ i. record { lists = list_map (λ e. followed (λ q. neighbours (read_padded links (n - length links) q no_link i)) (bounds e)) ends; members = long i }
 
 -- what `resize` leaves of the ends, and of the links
 module _ (ends : List Ends) (links : List Link) (kept : AreKept ends links) (n len : ℕ) where

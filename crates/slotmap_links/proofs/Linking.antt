@@ -1,6 +1,6 @@
 -- Lists that are kept as links: a walk along them, and what a number that is put in or taken out does to them. For the structures.
 use Rattle.std.proofs.Common.{ℕ, nat_eq, ◌≡◌, ◌≢◌, ◌⊎◌, ◌+◌, ◌<◌, ◌≤◌, Option, Some, None, List, [], ◌∷◌, ◌++◌, length, cond}
-use Rattle.std.proofs.Common.{true, false, not, refl, sym, ap, ◌∙◌, inl, inr, arith, append_assoc, append-nil}
+use Rattle.std.proofs.Common.{not, refl, sym, ap, ◌∙◌, inl, inr, arith, append_assoc, append-nil}
 use Rattle.std.proofs.Math.Nat.{eq-zero-or-pos}
 use Rattle.std.proofs.lemmas.Bool.Decides.{nat_tests}
 use Rattle.std.proofs.lemmas.List.Elements.{filter-append}
@@ -70,19 +70,17 @@ split_at k (q ∷ ks) more = elim (same_or_other q k) [
 
 -- without a number that is in it once, a list is these two parts
 pub without_split : (k : ℕ) (before after : List ℕ) → times k (before ++ k ∷ after) ≤ 1 → without k (before ++ k ∷ after) ≡ before ++ after
-without_split k before after once =
-    let sum = in_midst before k after in
+without_split k before after once = let sum = in_midst before k after in
     let gone : without k (k ∷ after) ≡ without k after = ap (λ b. cond (not b) (k ∷ without k after) (without k after)) (is_itself k) in
-    filter-append (λ q. not (nat_eq q k)) before (k ∷ after) ∙ ap (λ l. without k before ++ l) gone
-    ∙ ap (λ l. l ++ without k after) (without_none k before (omega arith)) ∙ ap (λ l. before ++ l) (without_none k after (omega arith))
+    filter-append (λ q. not (nat_eq q k)) before (k ∷ after) ∙ ap (λ l. without k before ++ l) gone ∙ ap (λ l. l ++ without k after) (without_none k before (omega arith))
+    ∙ ap (λ l. before ++ l) (without_none k after (omega arith))
 
 -- lists that are kept as links
 module _ {ends : ℕ → Bounds} {link : ℕ → Neighbours} {lists : ℕ → List ℕ} (linked : AreLinked ends link lists) where
   -- from a place in a list, the links lead to what is behind it
   pub follow_is : (p : ℕ) (before after : List ℕ) → lists p ≡ before ++ after → follow link (length after) (first_or after None) ≡ after
   follow_is p before [] is = refl
-  follow_is p before (k ∷ after) is =
-      ap (λ (l : Neighbours). k ∷ follow link (length after) l.next) (linked.links_are p before k after is)
+  follow_is p before (k ∷ after) is = ap (λ (l : Neighbours). k ∷ follow link (length after) l.next) (linked.links_are p before k after is)
       ∙ ap (λ l. k ∷ l) (follow_is p (before ++ k ∷ []) after (is ∙ sym (append_assoc before (k ∷ []) after)))
 
   -- and from the ends of a list, to all of it
@@ -185,10 +183,8 @@ module _ {ends : ℕ → Bounds} {link : ℕ → Neighbours} {lists : ℕ → Li
       let sum = sym (ap (times k) is ∙ times_joined k before after) ∙ none p in
       linked_now apart p k before [] after is (omega arith) (omega arith) (λ q _. none q) (k ∷ []) link' relinks (alone_between own) listed where
         alone_between : link' k ≡ link_between before after → (b : List ℕ) (x : ℕ) (a : List ℕ) → k ∷ [] ≡ b ++ x ∷ a → link' x ≡ link_between (before ++ b) (a ++ after)
-        alone_between own [] x a at =
-            let key : x ≡ k = (cc) in
-            let rest : a ≡ [] = (cc) in
-            ap link' key ∙ own ∙ ap (λ b. link_between b after) (sym (append-nil before)) ∙ ap (λ l. link_between (before ++ []) (l ++ after)) (sym rest)
+        alone_between own [] x a at = let key : x ≡ k = (cc) in let rest : a ≡ [] = (cc) in ap link' key ∙ own ∙ ap (λ b. link_between b after) (sym (append-nil before))
+            ∙ ap (λ l. link_between (before ++ []) (l ++ after)) (sym rest)
         alone_between own (q ∷ b) x a at = absurd (cons_not_nil b x a (cc))
 
   -- a number is taken out of a list

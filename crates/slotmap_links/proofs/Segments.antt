@@ -19,8 +19,7 @@ at_back (k ∷ ks) = elim (at_back ks) [
 follow_ahead : (link : ℕ → Neighbours) (before ahead after : List ℕ) → ((b : List ℕ) (k : ℕ) (a : List ℕ) → before ++ (ahead ++ after) ≡ b ++ k ∷ a → link k ≡ link_between b a)
     → follow link (length ahead) (first_or (ahead ++ after) None) ≡ ahead
 follow_ahead link before [] after links = refl
-follow_ahead link before (k ∷ ks) after links =
-    ap (λ (l : Neighbours). k ∷ follow link (length ks) l.next) (links before k (ks ++ after) refl)
+follow_ahead link before (k ∷ ks) after links = ap (λ (l : Neighbours). k ∷ follow link (length ks) l.next) (links before k (ks ++ after) refl)
     ∙ ap (λ l. k ∷ l) (follow_ahead link (before ++ k ∷ []) ks after (λ b x a is. links b x a (sym (append_assoc before (k ∷ []) (ks ++ after)) ∙ is)))
 
 -- the whole list is left at the beginning
@@ -81,11 +80,9 @@ module _ (link : ℕ → Neighbours) (left : ℕ) (first last : Option ℕ) (s :
       by : (ks : List ℕ) → s.ahead ≡ ks → (k : ℕ) × (first ≡ Some k) × IsSegment link (left - 1) (link k).next last
           × (follow link left first ≡ k ∷ follow link (left - 1) (link k).next)
       by [] is = absurd (omega (arith, s.left_is ∙ ap length is))
-      by (k ∷ es) is =
-          let r = front_by k es is in
-          let rest : follow link (left - 1) (link k).next ≡ es = ap (λ n. follow link n (link k).next) r.left_is ∙ ap (follow link (length es)) r.first_is
-          ∙ follow_ahead link r.before es r.after r.links_are in
-          (k, s.first_is ∙ ap (λ l. first_or (l ++ s.after) None) is, r, segment_is ∙ is ∙ ap (λ l. k ∷ l) (sym rest))
+      by (k ∷ es) is = let r = front_by k es is in let rest : follow link (left - 1) (link k).next ≡ es = ap (λ n. follow link n (link k).next) r.left_is
+          ∙ ap (follow link (length es)) r.first_is
+          ∙ follow_ahead link r.before es r.after r.links_are in (k, s.first_is ∙ ap (λ l. first_or (l ++ s.after) None) is, r, segment_is ∙ is ∙ ap (λ l. k ∷ l) (sym rest))
 
   segment_back : 0 < left → (k : ℕ) × (last ≡ Some k) × IsSegment link (left - 1) first (link k).prev × (follow link left first ≡ follow link (left - 1) first ++ k ∷ [])
   unfolding back_by
@@ -107,8 +104,7 @@ module _ (link : ℕ → Neighbours) (most : ℕ) (first : Option ℕ) (t : IsTa
   follow_tail zero before [] links few = refl
   follow_tail zero before (k ∷ ks) links few = absurd (omega arith)
   follow_tail (suc n) before [] links few = refl
-  follow_tail (suc n) before (k ∷ ks) links few =
-      ap (λ (l : Neighbours). k ∷ follow link n l.next) (links before k ks refl)
+  follow_tail (suc n) before (k ∷ ks) links few = ap (λ (l : Neighbours). k ∷ follow link n l.next) (links before k ks refl)
       ∙ ap (λ l. k ∷ l) (follow_tail n (before ++ k ∷ []) ks (λ b x a is. links b x a (sym (append_assoc before (k ∷ []) ks) ∙ is)) (omega arith))
 
   pub tail_is : follow link most first ≡ t.ahead
@@ -128,10 +124,8 @@ module _ (link : ℕ → Neighbours) (most : ℕ) (first : Option ℕ) (t : IsTa
 
       by : (ks : List ℕ) → t.ahead ≡ ks → IsTail link most (link k).next × (follow link most first ≡ k ∷ follow link most (link k).next)
       by [] is = absurd (let h = sym some ∙ t.first_is ∙ ap (λ l. first_or l None) is in cc)
-      by (q ∷ ks) is =
-          let same : q ≡ k = (let h = sym (t.first_is ∙ ap (λ l. first_or l None) is) ∙ some in cc) in
-          let r = rest ks (is ∙ ap (λ x. x ∷ ks) same) in
-          (r.0, tail_is ∙ is ∙ ap (λ x. x ∷ ks) same ∙ ap (λ l. k ∷ l) (sym r.1))
+      by (q ∷ ks) is = let same : q ≡ k = (let h = sym (t.first_is ∙ ap (λ l. first_or l None) is) ∙ some in cc) in
+          let r = rest ks (is ∙ ap (λ x. x ∷ ks) same) in (r.0, tail_is ∙ is ∙ ap (λ x. x ∷ ks) same ∙ ap (λ l. k ∷ l) (sym r.1))
 
 -- what stands for a number is that number
 number_is : (n k : ℕ) → unless_nobody n ≡ Some k → n ≡ k

@@ -11,7 +11,5 @@ loop-index-preserved g c = let so_far = c.loop-index.invariant in record {
 }
 
 pub returns-clause-empty : goal.returns-clause-empty
-returns-clause-empty g c =
-    let same = c.loop-index.invariant.leaves.same_places in
-    let within = c.capacity-index-end.ensures.places in
+returns-clause-empty g c = let same = c.loop-index.invariant.leaves.same_places in let within = c.capacity-index-end.ensures.places in
     none_live c.loop-index.self c.loop-index.index c.loop-index.invariant.stays.after (omega (arith, same, within, c.loop-index-test.false)) c.loop-index.invariant.above

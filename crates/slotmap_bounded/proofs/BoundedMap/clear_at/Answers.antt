@@ -1,6 +1,5 @@
-use Rattle.std.proofs.Common.{true}
+use Rattle.std.proofs.Common.{true, ap, is_some, ◌∙◌}
 use Rattle.slotmap.proofs.Callers.{leaves_by_removal, of_some}
-use Rattle.std.proofs.Common.{ap, is_some, ◌∙◌}
 use Rattle.slotmap_bounded.proofs.BoundedMap.clear_at.Goals as goal
 
 pub returns-in-Some-clause-leaves : goal.returns-in-Some-clause-leaves

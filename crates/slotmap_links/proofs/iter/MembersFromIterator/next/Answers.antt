@@ -4,8 +4,7 @@ use Rattle.slotmap_links.proofs.Segments.{step_below, tail_front, tail_rest}
 use Rattle.slotmap_links.proofs.iter.MembersFromIterator.next.Goals as goal
 
 pub link_of-requires : goal.link_of-requires
-link_of-requires c =
-    let n = length c.self.inside.links.now in
+link_of-requires c = let n = length c.self.inside.links.now in
     step_below (link_at c.self.inside.links.now) n n (unless_nobody c.self.inside.at) c.self.invariant.0 c.self.invariant.1 c.in_ok-member.member (sym c.option_of.ensures ∙ c.in_ok-member.was)
 
 pub invariant_of-self : goal.invariant_of-self
@@ -21,6 +20,4 @@ returns-clause-steps c =
     rw (← c.self.view_is, c.link_of.ensures) step.1
 
 pub returns-clause-goes : goal.returns-clause-goes
-returns-clause-goes c =
-    let long = ap length (returns-clause-steps c) in
-    record { on = λ _. (tt, tt, omega (arith, long)); keeps = tt; rests = λ _. tt }
+returns-clause-goes c = let long = ap length (returns-clause-steps c) in record { on = λ _. (tt, tt, omega (arith, long)); keeps = tt; rests = λ _. tt }
