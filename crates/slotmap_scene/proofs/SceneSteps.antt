@@ -1,11 +1,11 @@
 -- What a call makes of the nodes of a scene, as a whole: nodes come or go, more places are made, a value is written, or all is copied.
 use Rattle.slotmap_scene.proofs.Common.{AreCovered, Content, CoversMore, Err, HasKey, HaveIndices, HoldsMore, HoldsNodes, IfSome, Inserts, IsCloneBy, IsCloneOf, IsContent, IsErr, IsIn, IsLive}
 use Rattle.slotmap_scene.proofs.Common.{IsNodeClone, IsOk, Key, Leaves, List, Lists, MakesRoom, Node, Nodes, None, Ok, OnOk, Option, Result, Some, [], ap, arith, capacity_with, changed_here}
-use Rattle.slotmap_scene.proofs.Common.{changed_other, child, children_of, clone_live, cond, exact_keys, false, family, found_at, found_live, get-insert_here, get-insert_other, get_or-set_other}
-use Rattle.slotmap_scene.proofs.Common.{get_or-set_same, grown, if◌then◌else◌, indices_inserted, indices_still, inl, inr, inserted_fresh, is_ok, is_some, key_cmp, keys, keys_at, keys_total}
-use Rattle.slotmap_scene.proofs.Common.{length, length-append, length-replicate, length-set, list_of, live-insert_still, most, nat_lt, nat_tests, node_at, nodes_by, often, option_map, parent_at}
-use Rattle.slotmap_scene.proofs.Common.{parent_index, parent_of, refl, replicate, same_or_other, set, shown_content, shown_inserts, shown_leaves, shown_makes_room, subst, suc, sym, take, take_all}
-use Rattle.slotmap_scene.proofs.Common.{times, true, used, with_value, zero, ℕ, ◌++◌, ◌+◌, ◌-◌, ◌<◌, ◌∙◌, ◌∷◌, ◌≡◌, ◌≢◌, ◌≤◌, ◌⊎◌, common_steps}
+use Rattle.slotmap_scene.proofs.Common.{changed_other, child, children_of, clone_live, exact_keys, false, family, found_at, found_live, get-insert_here, get-insert_other, get_or-set_other}
+use Rattle.slotmap_scene.proofs.Common.{get_or-set_same, if◌then◌else◌, indices_inserted, indices_still, inl, inr, inserted_fresh, is_ok, is_some, key_cmp, keys, keys_at, keys_total, length}
+use Rattle.slotmap_scene.proofs.Common.{length-append, length-replicate, length-set, list_of, live-insert_still, most, node_at, nodes_by, often, option_map, parent_at, parent_index, parent_of}
+use Rattle.slotmap_scene.proofs.Common.{refl, replicate, same_or_other, set, shown_content, shown_inserts, shown_leaves, shown_makes_room, subst, suc, sym, take, take_all, times, true, used}
+use Rattle.slotmap_scene.proofs.Common.{with_value, zero, ℕ, ◌++◌, ◌+◌, ◌-◌, ◌<◌, ◌∙◌, ◌∷◌, ◌≡◌, ◌≢◌, ◌≤◌, ◌⊎◌}
 use Rattle.slotmap_scene.proofs.Families.{above_still, children_live, covers_less, get_alike, get_along, kept_along, kept_still, list_none, node_along, node_still, nowhere, parent_live, seen_get}
 use Rattle.slotmap_scene.proofs.Families.{seen_has, seen_len, written_found, written_has}
 use Rattle.std.specs.FinMap as map
@@ -128,8 +128,7 @@ module _ {V : Type 0} {c : Content V} {parents : List ℕ} {children : Lists} (k
     grown_indices = indices_still kept.indices d (λ k live. sym (same_live k) ∙ live) more
 
     pub grown_kept : AreCovered d.capacity parents' children' → HoldsNodes d parents' children'
-    grown_kept covered = kept_along kept d grown_indices parents' children' (λ q live. same_live q ∙ live) grows.lists
-        (λ q live. sym (same_live q) ∙ live) holds.same covered grows.disjoint
+    grown_kept covered = kept_along kept d grown_indices parents' children' (λ q live. same_live q ∙ live) grows.lists (λ q live. sym (same_live q) ∙ live) holds.same covered grows.disjoint
 
     pub grown_seen : nodes_by d.live parents' children' ≡ nodes
     grown_seen = map.same_map keys_total exact_keys _ _ (λ q. get_alike kept d grown_indices parents' children' q (ap (λ m. map.get m q) same)
@@ -139,8 +138,7 @@ module _ {V : Type 0} {c : Content V} {parents : List ℕ} {children : Lists} (k
   -- places are made, and no room
   module _ (parents' : List ℕ) (children' : Lists) (holds : HoldsMore parents parents') (covers : CoversMore children children') where
     pub covered_kept : HoldsNodes c parents' children'
-    covered_kept = grown_kept c refl (omega arith) parents' children' holds covers
-        (covers_still c.capacity parents parents' children children' kept.covered holds covers)
+    covered_kept = grown_kept c refl (omega arith) parents' children' holds covers (covers_still c.capacity parents parents' children children' kept.covered holds covers)
 
     pub covered_seen : IsContent true c → (n : ℕ) (ok : Type 0) → (ok → ⊥) → (n ≤ c.room → ⊥)
         → MakesRoom true (family c parents children) n ok (family c parents' children')
@@ -168,8 +166,7 @@ module _ {V : Type 0} {c : Content V} {parents : List ℕ} {children : Lists} (k
     came_other q other = ap (λ m. map.get m q) inserts.live ∙ get-insert_other c.live k v q other
 
     no_other : (q : Key) → IsLive c q → q.index ≢ k.index
-    no_other q live at = let one : q ≡ k = after.apart q k (inl (inl (stays q live))) (inl (inl here)) at in
-        let f = ap (map.contains_key c.live) (sym one) ∙ live in let gone = fresh in cc
+    no_other q live at = let one : q ≡ k = after.apart q k (inl (inl (stays q live))) (inl (inl here)) at in let f = ap (map.contains_key c.live) (sym one) ∙ live in let gone = fresh in cc
 
     came_indices : HaveIndices d
     came_indices = indices_inserted kept.indices k v d inserts after capacity within
