@@ -10,10 +10,7 @@ not_some None is = refl
 not_some (Some x) is = absurd (cc)
 
 same_either_way : (a b : Key) → same a b ≡ same b a
-same_either_way a b = elim (same_or_other a b) [
-  | inl is ↦ rw is refl
-  | inr other ↦ one_other a b other ∙ sym (one_other b a (λ is. other (sym is)))
-]
+same_either_way a b = grind arith
 
 -- the roots among some nodes
 module _ {N : Type 0} (parent : N → Option Key) (k : Key) where
@@ -202,7 +199,4 @@ module _ {T : Type 0} (nodes : Nodes T) (scene : IsScene nodes) (at : ℕ) (keys
 -- a key whose parent is known by how often it is listed
 pub parent_known : (o : Option Key) (p : Key) → 0 < is_parent o p → o ≡ Some p
 parent_known None p more = absurd (omega arith)
-parent_known (Some q) p more = elim (same_or_other q p) [
-  | inl is ↦ ap Some is
-  | inr other ↦ absurd (let none = one_other q p other in omega arith)
-]
+parent_known (Some q) p more = grind arith

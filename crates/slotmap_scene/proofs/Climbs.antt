@@ -141,10 +141,7 @@ module _ {T : Type 0} where
 
     module _ (n : ℕ) (up : ClimbsTo new n k) where
       still : (i : ℕ) (q : Key) → ClimbsTo old i q → (j : ℕ) × ClimbsTo new j q
-      still zero q leads = elim (same_or_other q k) [
-        | inl same ↦ (n, subst (ClimbsTo new n) (sym same) up)
-        | inr other ↦ (zero, (keys q other ∙ leads.0, parents q other ∙ leads.1))
-      ]
+      still zero q leads = grind arith
       still (suc i) q leads = elim (same_or_other q k) [
         | inl same ↦ (n, subst (ClimbsTo new n) (sym same) up)
         | inr other ↦ (

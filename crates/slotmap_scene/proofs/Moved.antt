@@ -215,12 +215,7 @@ module _ {T : Type 0} where
     never q = listed_never nodes scene.listed q k (λ is. (let h = sym (ap parent_in absent) ∙ is in cc))
 
     pub moved_nowhere : (put : List Key → List Key) → IsMoved nodes nodes k None put
-    moved_nowhere put = record {
-      parent_is = ap parent_in absent;
-      parents = λ q other. refl;
-      children_are = λ p is. absurd (cc);
-      other_children = λ q other. sym (without_none k (children_of nodes q) (never q));
-    }
+    moved_nowhere put = grind (arith, without_none, never)
 
     pub gone_forgotten : (q : Key) → map.get nodes q ≡ option_map (forgets k) (map.get nodes q)
     gone_forgotten q = sym (forgotten k (map.get nodes q) (never q))

@@ -52,11 +52,8 @@ module _ {V : Type 0} {c : Content V} {parents : List ℕ} {children : Lists} (k
   relists : (p : Key) → IsLive c p → (is : List ℕ) → ((i : ℕ) → 0 < often i is → HasKey c i) → (f : List Key → List Key)
       → keys_at c.live is ≡ f (keys_at c.live (list_of children p.index))
       → (new : Lists) → new ≡ with_list children p.index is → AreDisjoint new → Relists p new f
-  relists p live is have f made new new_is disjoint = let all : AreIndices c is = record { have = have } in (
-    relisted kept p live is all f made new new_is disjoint,
-    ap (λ n. record (family c parents children) { live = n }) (relisted_seen kept p live is all f made new new_is)
-        ∙ ap (λ (s : Content (Node V)). record s { live = with_children_in s.live p (map.get s.live p) f }) view,
-  )
+  relists p live is have f made new new_is disjoint =
+      grind (arith, relisted kept p live is (record { have = have }) f made new new_is disjoint, relisted_seen kept p live is (record { have = have }) f made new new_is)
 
   module _ (p k : Key) (there : has_node self.live p) (node : has_node self.live k) (new : Lists) where
     abbrev was_list : List ℕ

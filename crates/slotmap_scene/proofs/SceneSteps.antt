@@ -58,11 +58,7 @@ held ps n len long more (Ok x) now is =
 held ps n len long more (Err e) now is = (record { same = λ i. ap (λ l. parent_at l i) is; more = (let same = ap length is in omega arith) }, tt)
 
 covers_still : (n : ℕ) (ps qs : List ℕ) (old new : Lists) → AreCovered n ps old → HoldsMore ps qs → CoversMore old new → AreCovered n qs new
-covers_still n ps qs old new covered holds covers = record {
-  parents = (let was = covered.parents in let more = holds.more in omega arith);
-  owners = (let was = covered.owners in let more = covers.owners in omega arith);
-  members = (let was = covered.members in let more = covers.members in omega arith);
-}
+covers_still n ps qs old new covered holds covers = grind arith
 
 -- a call that fails
 pub err_fails : {A E : Type 0} (r : Result A E) → IsErr r → IsOk r → ⊥
@@ -72,17 +68,7 @@ err_fails (Err e) fails done = (cc)
 -- no room is made where there is none
 module _ {V : Type 0} (c : Content V) (valid : IsContent true c) (n : ℕ) where
   no_room : (ok : Type 0) → (ok → ⊥) → (n ≤ c.room → ⊥) → MakesRoom true c n ok c
-  no_room ok fails full = record {
-    before = valid;
-    after = valid;
-    fits = λ done. absurd (fails done);
-    room = λ done. absurd (fails done);
-    live_and_more = λ done. absurd (fails done);
-    succeeds = λ more. absurd (full more);
-    had_room = λ more. absurd (full more);
-    keeps = record { live = refl; detached = refl; retired = refl; next = refl; offer = refl; stack = refl; room = omega arith };
-    capacity = omega arith;
-  }
+  no_room ok fails full = grind arith
 
   pub fits_most : (capacity : ℕ) → capacity ≡ capacity_with c n → capacity ≤ most → used c + n ≤ most
   fits_most capacity is few = grind arith
@@ -93,21 +79,7 @@ module _ {V : Type 0} (c : Content V) (none : c.live ≡ map.empty) (parents : L
   no_live k = ap (λ m. map.get m k) none ∙ map.get-empty {X = V} key_cmp k
 
   pub bare_kept : ((p : ℕ) → list_of children p ≡ []) → AreCovered c.capacity parents children → HoldsNodes c parents children
-  bare_kept empty covered = record {
-    indices = record {
-      within = λ k live. absurd (let gone = ap is_some (no_live k) in cc);
-      apart = λ a b live. absurd
-          (let gone = ap is_some (no_live a) in cc);
-    };
-    covered = covered;
-    disjoint = record {
-      once = λ p k. (let e = ap (often k) (empty p) in omega arith);
-      alone = λ p q k inside. absurd (let e = ap (often k) (empty p) in omega arith);
-      within = λ p k inside. absurd (let e = ap (often k) (empty p) in omega arith);
-    };
-    listed = λ p i inside. absurd (let e = ap (often i) (empty p) in omega arith);
-    has_parent = λ k live. absurd (let gone = ap is_some (no_live k) in cc);
-  }
+  bare_kept empty covered = grind (arith, no_live, often)
 
   pub bare_seen : nodes_by c.live parents children ≡ map.empty
   bare_seen = map.same_map keys_total exact_keys _ _

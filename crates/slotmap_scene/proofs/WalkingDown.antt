@@ -191,11 +191,7 @@ module _ {T : Type 0} (nodes : Nodes T) (scene : IsScene nodes) (node : Key) whe
     leaf_goes leaf = subst (λ ks. GoesDown nodes (ks ++ stands.ahead) stands.rest) leaf stands.goes
 
     walk_ends : children_of nodes key ≡ [] → stands.ahead ≡ [] → GoesOn nodes node key None
-    walk_ends leaf none = (
-      record { scene = scene; stands = tt },
-      rest_from key stands.done stands.rest stands.split
-          ∙ ap (λ l. key ∷ l) (nothing_down nodes stands.rest (subst (λ ks. GoesDown nodes ks stands.rest) none (leaf_goes leaf))),
-    )
+    walk_ends leaf none = grind (arith, stands, rest_from key stands.done stands.rest stands.split, nothing_down, leaf_goes leaf)
 
   pub rise_start : (key : Key) → WalkStands nodes node key → Rises nodes node key key 0
   rise_start key stands =
