@@ -53,7 +53,7 @@ module _ {V W : Type 0} (f : Key → V → W) where
 
 pub covers_less : (n m : ℕ) (ps : List ℕ) (ls : Lists) → AreCovered n ps ls → m ≤ n → AreCovered m ps ls
 covers_less n m ps ls covered less =
-    record { parents = (let was = covered.parents in omega arith); owners = (let was = covered.owners in omega arith); members = (let was = covered.members in omega arith); }
+    record { parents = (let was = covered.parents in omega arith); owners = (let was = covered.owners in omega arith); members = (let was = covered.members in omega arith) }
 
 -- the parent that is written, by its index
 pub written_has : {V : Type 0} (c : Content V) (o : Option Key) → IfSome o (IsLive c) → (parent_index o ≡ 0) ⊎ HasKey c (parent_index o)

@@ -1,4 +1,4 @@
-use Rattle.slotmap_scene.proofs.Common.{refl, sym, ◌∙◌, arith}
+use Rattle.slotmap_scene.proofs.Common.{arith, refl, sym}
 use Rattle.slotmap_scene.proofs.Climbs.{climbing_live, climbing_start, climbing_step, node_is}
 use Rattle.slotmap_scene.proofs.Worlds.{folding_end, folding_start, folding_step, folding_takes}
 use Rattle.slotmap_scene.proofs.Scene.fold_up.Goals as goal

@@ -1,4 +1,4 @@
-use Rattle.slotmap_scene.proofs.Common.{Some, rules, ◌∷◌, arith}
+use Rattle.slotmap_scene.proofs.Common.{Some, rules, ◌∷◌}
 use Rattle.slotmap_scene.proofs.Moved.{hung_alone, keys_among, moved_among, scene_among, spent_alike, times_put, values_among}
 use Rattle.slotmap_scene.proofs.family.Nodes.move_first.Goals as goal
 

@@ -1,4 +1,4 @@
-use Rattle.slotmap_scene.proofs.Common.{Content, Node, ap, family, same_lent, same_unlent, sym, with_value, ◌∙◌, arith}
+use Rattle.slotmap_scene.proofs.Common.{Content, Node, ap, arith, family, same_lent, same_unlent, sym, with_value, ◌∙◌}
 use Rattle.slotmap_scene.proofs.Families.{seen_value}
 use Rattle.slotmap_scene.proofs.SceneSteps.{written_kept, written_seen}
 use Rattle.slotmap_scene.proofs.family.Nodes.value_mut.Goals as goal
