@@ -1,4 +1,4 @@
-use Rattle.slotmap_scheduler.proofs.Common.{Job, Schedule, ap, option_map, same_lent, same_unlent, sym, with_job, ◌∙◌, arith}
+use Rattle.slotmap_scheduler.proofs.Common.{Job, Schedule, ap, arith, option_map, same_lent, same_unlent, sym, with_job, ◌∙◌}
 use Rattle.slotmap_scheduler.proofs.Seen.{job_seen}
 use Rattle.slotmap_scheduler.proofs.Schedules.{written_schedule, written_seen}
 use Rattle.slotmap_scheduler.proofs.Scheduler.get_mut.Goals as goal
