@@ -1,5 +1,6 @@
 -- That a list of what is found is no longer than the list of what was looked up.
-use Rattle.slotmap_entities.proofs.Common.{List, None, Option, Some, [], arith, cons_option, filter_map, length, suc, ℕ, ◌∷◌, ◌≤◌}
+use Rattle.std.proofs.Common.{ℕ, suc, ◌≤◌, Option, Some, None, List, [], ◌∷◌, length, arith}
+use Rattle.std.specs.List.{filter_map, cons_option}
 
 module _ {X Y : Type 0} (h : X → Option Y) where
   one_more : (o : Option Y) (ys : List Y) (n : ℕ) → length ys ≤ n → length (cons_option o ys) ≤ suc n

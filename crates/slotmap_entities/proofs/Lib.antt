@@ -1,5 +1,4 @@
 pub mod Callers
-mod Common
 mod Fewer
 mod LiveOnly
 mod Spawned

@@ -1,6 +1,9 @@
 -- That only entities have components: what a call does to that.
-use Rattle.slotmap_entities.proofs.Common.{Bool, Content, IsBeside, Key, OnlyLive, Pairs, contains_key, false, inl, inr, live-remove_other, same_or_other, true, ◌≡◌, ◌≢◌, ◌⊎◌}
+use Rattle.std.proofs.Common.{◌≡◌, ◌≢◌, ◌⊎◌, Bool, true, false, inl, inr}
 use Rattle.std.specs.FinMap as map
+use Rattle.slotmap.specs.Words.{Key, Content, IsBeside, Pairs, contains_key}
+use Rattle.slotmap.proofs.Callers.{same_or_other, live-remove_other}
+use Rattle.slotmap_entities.specs.World.{OnlyLive}
 
 module _ {E : Type 0} (c : Content E) (has : Key → Bool) (only : OnlyLive c has) where
   -- the table of one kind has no more

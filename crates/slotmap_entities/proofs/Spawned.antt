@@ -1,6 +1,7 @@
 -- What stays live, what stays spent, and which index the key has, where an entity is spawned.
-use Rattle.slotmap_entities.proofs.Common.{Content, Err, IfOk, Inserts, IsContent, IsLive, IsOk, Keeps, KeepsSpent, Key, Ok, OnErr, OnOk, Result, ap, arith, false, get-insert_here, inl, inr}
-use Rattle.slotmap_entities.proofs.Common.{is_some, live-insert_still, most, places, spent_inserts, spent_keeps, used, ◌+◌, ◌<◌, ◌≤◌}
+use Rattle.std.proofs.Common.{◌+◌, ◌<◌, ◌≤◌, Result, Ok, Err, IsOk, IfOk, OnOk, OnErr, false, inl, inr, is_some, ap, arith}
+use Rattle.slotmap.specs.Words.{Key, Content, IsContent, Inserts, IsLive, Keeps, KeepsSpent, most, places, used}
+use Rattle.slotmap.proofs.Callers.{get-insert_here, live-insert_still, spent_inserts, spent_keeps}
 
 -- the next key is at most one behind all slots, and within the limit
 pub offer_index : {E : Type 0} (c : Content E) → IsContent false c → used c < most → (c.offer.index ≤ places c + 1) × (c.offer.index ≤ most)

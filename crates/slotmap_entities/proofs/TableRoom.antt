@@ -1,6 +1,8 @@
 -- How many components a table holds once one was put.
-use Rattle.slotmap_entities.proofs.Common.{Err, Key, Ok, OnErr, OnOk, Pairs, Result, arith, contains_key, nat_cmp_total, put, true, ◌+◌, ◌≡◌, ◌≤◌}
+use Rattle.std.proofs.Common.{◌≡◌, ◌+◌, ◌≤◌, Result, Ok, Err, OnOk, OnErr, true, arith}
 use Rattle.std.specs.FinMap as map
+use Rattle.std.specs.Cmp.{nat_cmp_total}
+use Rattle.slotmap.specs.Words.{Key, Pairs, contains_key, put}
 
 module _ {V : Type 0} where
   put_one : (m : Pairs V) (k : Key) (v : V) → map.len (put m k v) ≤ map.len m + 1

@@ -1,8 +1,8 @@
 -- The nodes of a scene, level by level from the roots down.
-use Rattle.slotmap_scene.proofs.Common.{ClimbsTo, GoesByLevel, IsScene, Key, List, Node, Nodes, None, Option, Some, [], ap, append_assoc, arith, children_of, children_of_each, cond, exact_keys}
-use Rattle.slotmap_scene.proofs.Common.{false, find, get_or, has_node, inl, inr, is_parent, is_some, itself, key_cmp, keys_once, keys_total, length, list_map, no_more_than, one_itself, one_other}
-use Rattle.slotmap_scene.proofs.Common.{parent_in, parent_of, refl, roots_by, roots_in, same, same_or_other, suc, sym, take, take-append-le, take_all, take_more, tied, times, times_first}
-use Rattle.slotmap_scene.proofs.Common.{times_joined, true, zero, ℕ, ◌++◌, ◌+◌, ◌<◌, ◌∙◌, ◌∷◌, ◌≡◌, ◌≢◌, ◌≤◌, common_steps}
+use Rattle.slotmap_scene.proofs.Common.{ClimbsTo, GoesByLevel, IsScene, Key, List, Node, Nodes, None, Option, Some, [], ap, append-nil, append_assoc, arith, children_of, children_of_each}
+use Rattle.slotmap_scene.proofs.Common.{exact_keys, false, find, get_or, has_node, inl, inr, is_parent, is_some, itself, key_cmp, keys_once, keys_total, length, list_map, no_more_than, one_itself}
+use Rattle.slotmap_scene.proofs.Common.{one_other, parent_in, parent_of, refl, roots_by, roots_in, same, same_or_other, suc, sym, take, take-append-le, take_all, take_more, tied, times}
+use Rattle.slotmap_scene.proofs.Common.{times_first, times_joined, true, zero, ℕ, ◌++◌, ◌+◌, ◌<◌, ◌∙◌, ◌∷◌, ◌≡◌, ◌≢◌, ◌≤◌}
 use Rattle.std.specs.FinMap as map
 
 not_some : {A : Type 0} (o : Option A) → is_some o ≡ false → o ≡ None
@@ -10,10 +10,7 @@ not_some None is = refl
 not_some (Some x) is = absurd (cc)
 
 same_either_way : (a b : Key) → same a b ≡ same b a
-same_either_way a b = elim (same_or_other a b) [
-  | inl is ↦ rw is refl
-  | inr other ↦ one_other a b other ∙ sym (one_other b a (λ is. other (sym is)))
-]
+same_either_way a b = grind arith
 
 -- the roots among some nodes
 module _ {N : Type 0} (parent : N → Option Key) (k : Key) where
@@ -81,9 +78,7 @@ module _ {T : Type 0} (nodes : Nodes T) where
 
   pub listed_root : (k : Key) → 0 < times k roots → has_node nodes k × (parent_of nodes k ≡ None)
   listed_root k more =
-      let is = root_is (λ (n : Node T). n.parent) k (map.entries nodes) (keys_once nodes k) more in
-      let there = map.get-entries nodes k ∙ is.1 in
-      (ap is_some there, ap parent_in there ∙ is.2)
+      let is = root_is (λ (n : Node T). n.parent) k (map.entries nodes) (keys_once nodes k) more in let there = map.get-entries nodes k ∙ is.1 in (ap is_some there, ap parent_in there ∙ is.2)
 
   root_listed : (k : Key) → has_node nodes k → parent_of nodes k ≡ None → 0 < times k roots
   root_listed k live root = by (map.get nodes k) refl
@@ -163,11 +158,7 @@ module _ {T : Type 0} (nodes : Nodes T) (scene : IsScene nodes) where
 -- one more node whose children are listed
 each_pushed : {T : Type 0} (nodes : Nodes T) (ks : List Key) (k : Key)
     → children_of_each nodes (ks ++ k ∷ []) ≡ children_of_each nodes ks ++ children_of nodes k
-each_pushed nodes [] k = append_nil_of (children_of nodes k)
-  where
-    append_nil_of : (xs : List Key) → xs ++ [] ≡ xs
-    append_nil_of [] = refl
-    append_nil_of (x ∷ xs) = ap (λ l. x ∷ l) (append_nil_of xs)
+each_pushed nodes [] k = append-nil (children_of nodes k)
 each_pushed nodes (q ∷ ks) k = grind (arith, each_pushed nodes ks k, append_assoc (children_of nodes q) (children_of_each nodes ks) (children_of nodes k))
 
 part_of_keys : (k : Key) (i : ℕ) (ks : List Key) → times k (take i ks) ≤ times k ks
@@ -208,7 +199,4 @@ module _ {T : Type 0} (nodes : Nodes T) (scene : IsScene nodes) (at : ℕ) (keys
 -- a key whose parent is known by how often it is listed
 pub parent_known : (o : Option Key) (p : Key) → 0 < is_parent o p → o ≡ Some p
 parent_known None p more = absurd (omega arith)
-parent_known (Some q) p more = elim (same_or_other q p) [
-  | inl is ↦ ap Some is
-  | inr other ↦ absurd (let none = one_other q p other in omega arith)
-]
+parent_known (Some q) p more = grind arith

@@ -1,7 +1,7 @@
 -- The way up from each node: where it ends, what a change of the nodes does to it, and the keys that an iterator yields on it.
 use Rattle.slotmap_scene.proofs.Common.{ClimbsTo, GoesUp, HasRoot, IsTree, IsWithin, Key, Node, Nodes, None, Option, Some, StepsTo, [], ap, arith, children_in, children_of, exact_keys, has_node}
 use Rattle.slotmap_scene.proofs.Common.{inl, inr, is_some, keys_total, keys_up, left_in, len_removed, option_map, parent_in, parent_of, refl, same_Some, same_or_other, some_entry, subst, suc, sym}
-use Rattle.slotmap_scene.proofs.Common.{true, value_of, zero, ℕ, ◌+◌, ◌<◌, ◌↔◌, ◌∙◌, ◌∷◌, ◌≡◌, ◌≢◌, ◌≤◌, common_steps}
+use Rattle.slotmap_scene.proofs.Common.{true, value_of, zero, ℕ, ◌+◌, ◌<◌, ◌↔◌, ◌∙◌, ◌∷◌, ◌≡◌, ◌≢◌, ◌≤◌}
 use Rattle.std.specs.FinMap as map
 
 module _ {T : Type 0} where
@@ -14,10 +14,7 @@ module _ {T : Type 0} where
   one_way nodes zero zero k a b = refl
   one_way nodes zero (suc m) k a b = absurd (let h = sym a.1 ∙ b.1.1 in cc)
   one_way nodes (suc n) zero k a b = absurd (let h = sym b.1 ∙ a.1.1 in cc)
-  one_way nodes (suc n) (suc m) k a b =
-      let h = sym a.1.1 ∙ b.1.1 in
-      let same : a.0 ≡ b.0 = cc in
-      ap suc (one_way nodes n m b.0 (subst (ClimbsTo nodes n) same a.1.2) b.1.2)
+  one_way nodes (suc n) (suc m) k a b = let h = sym a.1.1 ∙ b.1.1 in let same : a.0 ≡ b.0 = cc in ap suc (one_way nodes n m b.0 (subst (ClimbsTo nodes n) same a.1.2) b.1.2)
 
   -- the nodes of a way are distinct, so it has no more than there are
   abbrev OnWay : Nodes T → Nodes T → ℕ → Key → Type 0
@@ -110,8 +107,7 @@ module _ {T : Type 0} where
       -- whether it is within another node, which isn't here, is up to the parent
       pub within_step : (p other : Key) → at ≢ other → node.parent ≡ Some p → (IsWithin nodes from other ↔ IsWithin nodes at other)
           → IsWithin nodes from other ↔ IsWithin nodes p other
-      within_step p other apart is same =
-          let up = within_up nodes at p other (ap parent_in there ∙ is) apart in (λ w. up.0 (same.0 w), λ w. same.1 (up.1 w))
+      within_step p other apart is same = let up = within_up nodes at p other (ap parent_in there ∙ is) apart in (λ w. up.0 (same.0 w), λ w. same.1 (up.1 w))
 
       pub within_none : (other : Key) → at ≢ other → node.parent ≡ None → (IsWithin nodes from other ↔ IsWithin nodes at other)
           → IsWithin nodes from other → ⊥
@@ -145,10 +141,7 @@ module _ {T : Type 0} where
 
     module _ (n : ℕ) (up : ClimbsTo new n k) where
       still : (i : ℕ) (q : Key) → ClimbsTo old i q → (j : ℕ) × ClimbsTo new j q
-      still zero q leads = elim (same_or_other q k) [
-        | inl same ↦ (n, subst (ClimbsTo new n) (sym same) up)
-        | inr other ↦ (zero, (keys q other ∙ leads.0, parents q other ∙ leads.1))
-      ]
+      still zero q leads = grind arith
       still (suc i) q leads = elim (same_or_other q k) [
         | inl same ↦ (n, subst (ClimbsTo new n) (sym same) up)
         | inr other ↦ (
@@ -175,19 +168,13 @@ module _ {T : Type 0} where
 
   -- the parent of a node is there
   pub parent_there : (nodes : Nodes T) → IsTree nodes → (k p : Key) → parent_of nodes k ≡ Some p → has_node nodes p
-  parent_there nodes tree k p is =
-      let up = tree k (has_parent nodes k p is) in
-      let next = next_up nodes up.0 k p up.1 is in
-      leads_live nodes next.0 p next.1.1
+  parent_there nodes tree k p is = let up = tree k (has_parent nodes k p is) in let next = next_up nodes up.0 k p up.1 is in leads_live nodes next.0 p next.1.1
 
   -- no node is above itself
   steps_sum : (nodes : Nodes T) (n j m : ℕ) (k other : Key) → ClimbsTo nodes n k → StepsTo nodes j k other → ClimbsTo nodes m other → n ≡ j + m
   steps_sum nodes n zero m k other up same up_other = one_way nodes n m k up (subst (ClimbsTo nodes m) (sym same) up_other) ∙ omega arith
   steps_sum nodes n (suc j) m k other up steps up_other =
-      let next = next_up nodes n k steps.0 up steps.1.0 in
-      let sum = steps_sum nodes next.0 j m steps.0 other next.1.1 steps.1.1 up_other in
-      let one = next.1.0 in
-      omega arith
+      let next = next_up nodes n k steps.0 up steps.1.0 in let sum = steps_sum nodes next.0 j m steps.0 other next.1.1 steps.1.1 up_other in let one = next.1.0 in omega arith
 
   none_above : (nodes : Nodes T) (k p : Key) → parent_of nodes k ≡ Some p → HasRoot nodes (Some p) → IsWithin nodes p k → ⊥
   none_above nodes k p is up within = grind (arith, steps_sum nodes up.0 within.0 (suc up.0) p k up.1 within.1 (p, (has_parent nodes k p is, is, up.1)), has_parent nodes k p is, up.1)

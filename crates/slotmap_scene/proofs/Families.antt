@@ -1,7 +1,7 @@
 -- What is seen of the values, the parents and the children of a scene together, and what a change of one of them shows.
 use Rattle.slotmap_scene.specs.Kept.{nodes_by}
 use Rattle.slotmap_scene.proofs.Common.{AreCovered, AreDisjoint, AreIndices, Bool, Content, HasKey, HaveIndices, HoldsNodes, IfNone, IfSome, IsFree, IsIn, IsLive, Key, List, Lists, Node, Nodes}
-use Rattle.slotmap_scene.proofs.Common.{None, Option, Some, T, [], ap, arith, behind, below_all, by_live, changed_gives, changed_keeps, changed_other, children_in, children_of, cond, common_steps}
+use Rattle.slotmap_scene.proofs.Common.{None, Option, Some, T, [], ap, arith, behind, below_all, by_live, changed_gives, changed_keeps, changed_other, children_in, children_of, common_steps, cond}
 use Rattle.slotmap_scene.proofs.Common.{eq-zero-or-pos, eq_by_cmp, eqb-true, exact_keys, false, find, first_key, first_or, found_at, found_has, found_is, found_key, found_live, found_same}
 use Rattle.slotmap_scene.proofs.Common.{found_zero, get_or, get_or-set_other, get_or-set_same, get_or_default, in_front, inl, inr, is_lt, is_some, is_sorted, key_and_value, key_at, key_cmp}
 use Rattle.slotmap_scene.proofs.Common.{key_live, keys_at, keys_same, keys_total, last_key, last_number, last_or, length, length-map, length-set, list_map, list_now, list_of, list_other, nat_eq}
@@ -52,11 +52,8 @@ module _ {V W : Type 0} (f : Key → V → W) where
   keys-made (e ∷ es) = ap (λ ks. e.0 ∷ ks) (keys-made es)
 
 pub covers_less : (n m : ℕ) (ps : List ℕ) (ls : Lists) → AreCovered n ps ls → m ≤ n → AreCovered m ps ls
-covers_less n m ps ls covered less = record {
-  parents = (let was = covered.parents in omega arith);
-  owners = (let was = covered.owners in omega arith);
-  members = (let was = covered.members in omega arith);
-}
+covers_less n m ps ls covered less =
+    record { parents = (let was = covered.parents in omega arith); owners = (let was = covered.owners in omega arith); members = (let was = covered.members in omega arith) }
 
 -- the parent that is written, by its index
 pub written_has : {V : Type 0} (c : Content V) (o : Option Key) → IfSome o (IsLive c) → (parent_index o ≡ 0) ⊎ HasKey c (parent_index o)
@@ -89,8 +86,7 @@ module _ {V : Type 0} (live : map.FinMap key_cmp V) (parents : List ℕ) (childr
   seen_has k = ap is_some (seen_get k) ∙ some-mapped (node_at live parents children k) (map.get live k)
 
   pub seen_len : map.len seen ≡ map.len live
-  seen_len = map.len-entries seen ∙ ap length seen_entries ∙ length-map (map.entries live) (made (node_at live parents children))
-      ∙ sym (map.len-entries live)
+  seen_len = map.len-entries seen ∙ ap length seen_entries ∙ length-map (map.entries live) (made (node_at live parents children)) ∙ sym (map.len-entries live)
 
   pub seen_keys : map.keys seen ≡ map.keys live
   seen_keys = ap (list_map (λ (e : Key × Node V). e.0)) seen_entries ∙ keys-made (node_at live parents children) (map.entries live)
@@ -249,8 +245,7 @@ module _ {V : Type 0} {c : Content V} {parents : List ℕ} {children : Lists} (k
     inside = child_in p k more
 
     pub next_seen : option_map (key_at c.live) (number_after k.index (list_of children p.index)) ≡ behind k (children_of nodes p)
-    next_seen = sym (ap (behind k) (children_live c.live parents children p inside.0)
-        ∙ key_after kept.indices k inside.1 (list_of children p.index) (indices_at p.index))
+    next_seen = sym (ap (behind k) (children_live c.live parents children p inside.0) ∙ key_after kept.indices k inside.1 (list_of children p.index) (indices_at p.index))
 
     pub prev_seen : option_map (key_at c.live) (number_before None k.index (list_of children p.index)) ≡ in_front None k (children_of nodes p)
     prev_seen = grind (arith, children_live c.live parents children p inside.0, key_ahead kept.indices k inside.1 (list_of children p.index) (indices_at p.index) None, indices_at p.index)

@@ -9,10 +9,8 @@ unlike a b at_x at_y test same = let is = (same_keys a b).1 (at_x ∙ same ∙ s
 module _ (it rest : List Key) (k : Key) (is : it ≡ k ∷ rest) where
   -- what holds of each key that is ahead holds of the first one, and of those behind it
   pub first_ahead : (P : Key → Type 0) → ((q : Key) → 0 < times q it → P q) → P k × ((q : Key) → 0 < times q rest → P q)
-  first_ahead P all = (
-    all k (let t = ap (times k) is ∙ times_first k k rest in let one = one_itself k in omega arith),
-    λ q more. all q (let t = ap (times q) is ∙ times_first q k rest in omega arith),
-  )
+  first_ahead P all =
+      (all k (let t = ap (times k) is ∙ times_first k k rest in let one = one_itself k in omega arith), λ q more. all q (let t = ap (times q) is ∙ times_first q k rest in omega arith))
 
   -- another key that is ahead is behind the first one
   pub others_ahead : (q : Key) → k ≢ q → 0 < times q it → 0 < times q rest

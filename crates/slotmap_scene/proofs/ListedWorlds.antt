@@ -1,6 +1,6 @@
 -- A list of nodes, each with its transform in the coordinates of its root.
-use Rattle.slotmap_scene.proofs.Common.{All, All-head, All-push, All-tail, All-weaker, AreWorlds, IsComposed, IsPathFrom, IsWorldOf, Joins, Key, List, Nodes, None, Some, [], ap, arith, has_node}
-use Rattle.slotmap_scene.proofs.Common.{inl, inr, keys_of_pairs, one_other, parent_of, refl, same_or_other, subst, sym, times, times_first, value_of, ◌++◌, ◌<◌, ◌∷◌, ◌≡◌}
+use Rattle.slotmap_scene.proofs.Common.{All, All-head, All-push, All-tail, AreWorlds, IsComposed, IsPathFrom, IsWorldOf, Joins, Key, List, Nodes, None, Some, [], ap, arith, has_node, inl, inr}
+use Rattle.slotmap_scene.proofs.Common.{keys_of_pairs, one_other, parent_of, same_or_other, subst, sym, times, times_first, value_of, ◌++◌, ◌<◌, ◌∷◌, ◌≡◌}
 use Rattle.slotmap_scene.proofs.Worlds.{one_world_of, path_live, world_composed}
 
 -- the transforms on the way down
@@ -9,12 +9,8 @@ module _ {T W : Type 0} (nodes : Nodes T) (under : W → W → W) (of : T → W)
   world_of_root root = grind arith
 
   pub world_of_child : (p : Key) (w : W) → parent_of nodes k ≡ Some p → IsWorldOf under of nodes p w → IsWorldOf under of nodes k (under (of v) w)
-  world_of_child p w up world = record {
-    own = v;
-    above = world.own ∷ world.above;
-    path = (own, subst (λ q. IsPathFrom nodes q (world.own ∷ world.above)) (sym up) world.path);
-    made = ap (under (of v)) world.made;
-  }
+  world_of_child p w up world =
+      record { own = v; above = world.own ∷ world.above; path = (own, subst (λ q. IsPathFrom nodes q (world.own ∷ world.above)) (sym up) world.path); made = ap (under (of v)) world.made }
 
 module _ {K T W : Type 0} (data_of : K → Key) (under : W → W → W) (of : T → W) (nodes : Nodes T) where
   abbrev IsPlaced : K × W → Type 0
@@ -47,5 +43,4 @@ module _ {K T W : Type 0} (data_of : K → Key) (under : W → W → W) (of : T 
 
     pub each_world : (pairs : List (K × W)) → AreWorlds data_of under of nodes pairs
         → ((q : Key) → has_node nodes q → 0 < times q (keys_of_pairs data_of pairs)) → All (λ e. P e.1) pairs → P w
-    each_world pairs worlds all holds =
-        listed_world pairs worlds holds (all k (path_live nodes k (world.own ∷ world.above) world.path))
+    each_world pairs worlds all holds = listed_world pairs worlds holds (all k (path_live nodes k (world.own ∷ world.above) world.path))

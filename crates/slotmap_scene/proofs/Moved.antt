@@ -5,7 +5,7 @@ use Rattle.slotmap_scene.proofs.Common.{changed_gives, changed_here, changed_kee
 use Rattle.slotmap_scene.proofs.Common.{get-insert_other, has_node, inl, inr, is_key, is_parent, is_some, key_cmp, keys_total, lacks_node, leaves_by_write, leaves_none, len_alike, none_of}
 use Rattle.slotmap_scene.proofs.Common.{one_itself, one_other, option_map, parent_in, parent_of, placed, refl, same, same_or_other, shown_spent, subst, suc, sym, times, times_first, times_gone}
 use Rattle.slotmap_scene.proofs.Common.{times_pushed, times_without, true, value_of, with_children_in, with_children_of, with_parent, with_value, without, without_child, without_none, zero, ℕ}
-use Rattle.slotmap_scene.proofs.Common.{◌++◌, ◌+◌, ◌<◌, ◌∙◌, ◌∷◌, ◌≡◌, ◌≢◌, ◌≤◌, common_steps}
+use Rattle.slotmap_scene.proofs.Common.{◌++◌, ◌+◌, ◌<◌, ◌∙◌, ◌∷◌, ◌≡◌, ◌≢◌, ◌≤◌}
 use Rattle.slotmap_scene.proofs.Climbs.{parent_there, tree_moved, tree_same}
 use Rattle.std.specs.FinMap as map
 
@@ -37,12 +37,11 @@ module _ {T : Type 0} where
     listed_parent p k more = by_parent (parent_of nodes k) p (parent_of nodes k ≡ Some p) (λ is. is) (λ other. absurd (let none = listed_never p k other in omega arith))
 
   -- the same trees, of other values
-  scene_alike : (old new : Nodes T) → ((q : Key) → map.contains_key new q ≡ map.contains_key old q) → ((q : Key) → parent_of new q ≡ parent_of old q) → ((q : Key) → children_of new q ≡ children_of old q)
+  scene_alike : (old new : Nodes T) → ((q : Key) → map.contains_key new q ≡ map.contains_key old q) → ((q : Key) → parent_of new q ≡ parent_of old q)
+      → ((q : Key) → children_of new q ≡ children_of old q)
       → IsScene old → IsScene new
-  scene_alike old new keys parents children scene = record {
-    tree = tree_same old new keys parents scene.tree;
-    listed = λ p k. ap (times k) (children p) ∙ scene.listed p k ∙ ap (λ o. is_parent o p) (sym (parents k));
-  }
+  scene_alike old new keys parents children scene =
+      record { tree = tree_same old new keys parents scene.tree; listed = λ p k. ap (times k) (children p) ∙ scene.listed p k ∙ ap (λ o. is_parent o p) (sym (parents k)) }
 
   pub scene_with_value : (nodes : Nodes T) (k : Key) (v : T) → IsScene nodes → IsScene (with_value nodes k v)
   scene_with_value nodes k v = scene_alike nodes (with_value nodes k v)
@@ -68,7 +67,8 @@ module _ {T : Type 0} where
       | inr other ↦ listed_still p x other ∙ scene.listed p x ∙ ap (λ o. is_parent o p) (sym (moved.parents x other))
     ]
 
-    scene_moved : ((q : Key) → q ≢ k → map.contains_key new q ≡ map.contains_key old q) → has_node new k → ((p : Key) → parent ≡ Some p → has_node old p × (IsWithin old p k → ⊥)) → IsScene new
+    scene_moved : ((q : Key) → q ≢ k → map.contains_key new q ≡ map.contains_key old q) → has_node new k
+        → ((p : Key) → parent ≡ Some p → has_node old p × (IsWithin old p k → ⊥)) → IsScene new
     scene_moved keys live above = record { tree = tree_moved old new k keys moved.parents parent live moved.parent_is above scene.tree; listed = moved_listed }
 
 -- a copy has the same trees
@@ -103,7 +103,8 @@ module _ {T : Type 0} where
     abbrev fill : Node T → Node T
     fill n = record n { children = f n.children }
 
-    filled_keeps : {X : Type 0} (P : Option (Node T) → X) → ((n : Node T) → P (Some (fill n)) ≡ P (Some n)) → (o : Option Key) (q : Key) → P (map.get (with_children_of nodes o f) q) ≡ P (map.get nodes q)
+    filled_keeps : {X : Type 0} (P : Option (Node T) → X) → ((n : Node T) → P (Some (fill n)) ≡ P (Some n)) → (o : Option Key) (q : Key)
+        → P (map.get (with_children_of nodes o f) q) ≡ P (map.get nodes q)
     filled_keeps P keeps None q = refl
     filled_keeps P keeps (Some p) q = changed_keeps nodes p fill P keeps q
 
@@ -112,7 +113,8 @@ module _ {T : Type 0} where
     filled_other (Some p) q other = changed_other nodes p fill q (λ same. other (ap Some (sym same)))
 
   -- a node that has lost a child, and one that never had it
-  forgot : {X : Type 0} (k : Key) (P : Option (Node T) → X) (f : X → X) → P None ≡ f (P None) → ((n : Node T) → P (Some (forgets k n)) ≡ f (P (Some n))) → (o : Option (Node T)) → P (option_map (forgets k) o) ≡ f (P o)
+  forgot : {X : Type 0} (k : Key) (P : Option (Node T) → X) (f : X → X) → P None ≡ f (P None) → ((n : Node T) → P (Some (forgets k n)) ≡ f (P (Some n))) → (o : Option (Node T))
+      → P (option_map (forgets k) o) ≡ f (P o)
   forgot k P f none some None = none
   forgot k P f none some (Some n) = some n
 
@@ -121,14 +123,15 @@ module _ {T : Type 0} where
   forgotten k (Some n) none = ap (λ l. Some (record n { children = l })) (without_none k n.children none)
 
   -- a node leaves the children of its parent
-  module _ (nodes : Nodes T) (scene : IsScene nodes) (k : Key) where
+  module _ {nodes : Nodes T} (scene : IsScene nodes) (k : Key) where
     abbrev left : Nodes T
     left = without_child nodes (parent_of nodes k) k
 
     pub left_get : (q : Key) → map.get left q ≡ option_map (forgets k) (map.get nodes q)
     left_get q = grind (arith, by_parent, option_map (forgets k) (map.get nodes q), changed_here nodes q (forgets k), filled_other, forgotten, listed_never)
 
-    pub left_of : {X : Type 0} (P : Option (Node T) → X) (f : X → X) → P None ≡ f (P None) → ((n : Node T) → P (Some (forgets k n)) ≡ f (P (Some n))) → (q : Key) → P (map.get left q) ≡ f (P (map.get nodes q))
+    pub left_of : {X : Type 0} (P : Option (Node T) → X) (f : X → X) → P None ≡ f (P None) → ((n : Node T) → P (Some (forgets k n)) ≡ f (P (Some n))) → (q : Key)
+        → P (map.get left q) ≡ f (P (map.get nodes q))
     left_of P f none some q = ap P (left_get q) ∙ forgot k P f none some (map.get nodes q)
 
     -- and has this parent
@@ -212,12 +215,7 @@ module _ {T : Type 0} where
     never q = listed_never nodes scene.listed q k (λ is. (let h = sym (ap parent_in absent) ∙ is in cc))
 
     pub moved_nowhere : (put : List Key → List Key) → IsMoved nodes nodes k None put
-    moved_nowhere put = record {
-      parent_is = ap parent_in absent;
-      parents = λ q other. refl;
-      children_are = λ p is. absurd (cc);
-      other_children = λ q other. sym (without_none k (children_of nodes q) (never q));
-    }
+    moved_nowhere put = grind (arith, without_none, never)
 
     pub gone_forgotten : (q : Key) → map.get nodes q ≡ option_map (forgets k) (map.get nodes q)
     gone_forgotten q = sym (forgotten k (map.get nodes q) (never q))
@@ -280,13 +278,16 @@ changed_later m k p v f apart = map.same_map keys_total exact_keys _ _ (λ q. el
 ])
 
 -- by the clauses of a call that adds a root, whatever it returns
-pub root_added : {T E : Type 0} (old new : Content (Node T)) → IsScene old.live → (v : T) (result : Result Key E) → IfOk result (λ k. Inserts old k (child None v) new) → IfOk result (λ k. lacks_node old.live k)
+pub root_added : {T E : Type 0} (old new : Content (Node T)) → IsScene old.live → (v : T) (result : Result Key E) → IfOk result (λ k. Inserts old k (child None v) new)
+    → IfOk result (λ k. lacks_node old.live k)
     → OnErr result (Keeps old new) → IsScene new.live
-root_added old new scene v (Ok k) inserts fresh keeps = subst IsScene (sym inserts.live) (came_scene old.live scene k fresh None (λ p is. absurd (cc)) v (λ ks. ks ++ k ∷ []) (λ x ks. times_pushed x ks k))
+root_added old new scene v (Ok k) inserts fresh keeps =
+    subst IsScene (sym inserts.live) (came_scene old.live scene k fresh None (λ p is. absurd (cc)) v (λ ks. ks ++ k ∷ []) (λ x ks. times_pushed x ks k))
 root_added old new scene v (Err e) inserts fresh keeps = subst IsScene (sym keeps.live) scene
 
 -- a node came that has a parent
-module _ {T : Type 0} (old mid : Content (Node T)) (scene : IsScene old.live) (k p : Key) (v : T) (fresh : lacks_node old.live k) (there : has_node old.live p) (came : Inserts old k (child (Some p) v) mid) where
+module _ {T : Type 0} {old mid : Content (Node T)} {k p : Key} {v : T} (scene : IsScene old.live) (fresh : lacks_node old.live k) (there : has_node old.live p)
+    (came : Inserts old k (child (Some p) v) mid) where
   parent_apart : p ≢ k
   parent_apart same = let live = subst (has_node old.live) same there in cc
 
@@ -307,14 +308,16 @@ module _ {T : Type 0} (old mid : Content (Node T)) (scene : IsScene old.live) (k
   came_sibling s own = ap (λ o. times s (children_in o)) (came_get p parent_apart) ∙ listed_once old.live scene.listed p s own
 
   -- and is put among the children of its parent
-  module _ (new : Content (Node T)) (f : List Key → List Key) (put : new ≡ record mid { live = with_children_in mid.live p (map.get mid.live p) f }) where
+  module _ {new : Content (Node T)} (f : List Key → List Key) (put : new ≡ record mid { live = with_children_in mid.live p (map.get mid.live p) f }) where
     child_live : new.live ≡ map.insert (with_children_in old.live p (map.get old.live p) f) k (child (Some p) v)
-    child_live = ap (λ c. c.live) put ∙ ap (λ m. with_children_in m p (map.get m p) f) came.live ∙ changed_later old.live k p (child (Some p) v) (λ n. record n { children = f n.children }) parent_apart
+    child_live = ap (λ c. c.live) put ∙ ap (λ m. with_children_in m p (map.get m p) f) came.live
+        ∙ changed_later old.live k p (child (Some p) v) (λ n. record n { children = f n.children }) parent_apart
 
     pub child_inserts : Inserts (record old { live = with_children_in old.live p (map.get old.live p) f }) k (child (Some p) v) new
     child_inserts = record {
       offered = came.offered;
-      below_limit = (let below = came.below_limit in let same = len_alike (with_children_in old.live p (map.get old.live p) f) old.live (filled_keeps old.live f is_some (λ n. refl) (Some p)) in omega arith);
+      below_limit = (let below = came.below_limit in let same = len_alike (with_children_in old.live p (map.get old.live p) f) old.live (filled_keeps old.live f is_some (λ n. refl) (Some p)) in
+          omega arith);
       live = child_live;
       detached = ap (λ c. c.detached) put ∙ came.detached;
       retired = ap (λ c. c.retired) put ∙ came.retired;
@@ -324,7 +327,8 @@ module _ {T : Type 0} (old mid : Content (Node T)) (scene : IsScene old.live) (k
     }
 
     pub child_gained : IsNewChild old.live new.live k p v (f (children_of old.live p))
-    child_gained = subst (λ m. IsNewChild old.live m k p v (f (children_of old.live p))) (sym child_live) (came_child old.live scene k fresh (Some p) (λ q is. subst (has_node old.live) (cc) there) v f p refl)
+    child_gained = subst (λ m. IsNewChild old.live m k p v (f (children_of old.live p))) (sym child_live)
+        (came_child old.live scene k fresh (Some p) (λ q is. subst (has_node old.live) (cc) there) v f p refl)
 
     pub child_scene : ((x : Key) (ks : List Key) → times x (f ks) ≡ times x ks + same k x) → IsScene new.live
     child_scene more = subst IsScene (sym child_live) (came_scene old.live scene k fresh (Some p) (λ q is. subst (has_node old.live) (cc) there) v f more)

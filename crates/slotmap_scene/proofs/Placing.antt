@@ -3,7 +3,7 @@ use Rattle.slotmap_scene.proofs.Common.{After, AreDisjoint, AreIndices, Before, 
 use Rattle.slotmap_scene.proofs.Common.{Some, [], ap, arith, children_of, cond, false, family, has_node, inl, inr, key_at, key_at_live, keys_at, keys_without, length, list_of, map-append, nat_eq}
 use Rattle.slotmap_scene.proofs.Common.{number_other, often, often_first, often_gone, often_joined, often_without, parent_at, parent_index, parent_of, placed, put_before, put_behind, put_on}
 use Rattle.slotmap_scene.proofs.Common.{same_number, same_or_other_number, set, subst, sym, times, true, with_children_in, with_list, with_parent, without, without_child, without_number, ℕ}
-use Rattle.slotmap_scene.proofs.Common.{◌++◌, ◌+◌, ◌<◌, ◌∙◌, ◌∷◌, ◌≡◌, ◌≢◌, ◌≤◌, common_steps}
+use Rattle.slotmap_scene.proofs.Common.{◌++◌, ◌+◌, ◌<◌, ◌∙◌, ◌∷◌, ◌≡◌, ◌≢◌, ◌≤◌}
 use Rattle.slotmap_scene.proofs.Indices.{key_beside}
 use Rattle.slotmap_scene.proofs.Families.{above_has, above_none, child_in, has_place, hung, hung_seen, indices_at, is_free, relisted, relisted_seen, seen_has}
 use Rattle.std.specs.FinMap as map
@@ -52,11 +52,8 @@ module _ {V : Type 0} {c : Content V} {parents : List ℕ} {children : Lists} (k
   relists : (p : Key) → IsLive c p → (is : List ℕ) → ((i : ℕ) → 0 < often i is → HasKey c i) → (f : List Key → List Key)
       → keys_at c.live is ≡ f (keys_at c.live (list_of children p.index))
       → (new : Lists) → new ≡ with_list children p.index is → AreDisjoint new → Relists p new f
-  relists p live is have f made new new_is disjoint = let all : AreIndices c is = record { have = have } in (
-    relisted kept p live is all f made new new_is disjoint,
-    ap (λ n. record (family c parents children) { live = n }) (relisted_seen kept p live is all f made new new_is)
-        ∙ ap (λ (s : Content (Node V)). record s { live = with_children_in s.live p (map.get s.live p) f }) view,
-  )
+  relists p live is have f made new new_is disjoint =
+      grind (arith, relisted kept p live is (record { have = have }) f made new new_is disjoint, relisted_seen kept p live is (record { have = have }) f made new new_is)
 
   module _ (p k : Key) (there : has_node self.live p) (node : has_node self.live k) (new : Lists) where
     abbrev was_list : List ℕ

@@ -39,16 +39,17 @@ module _ {T : Type 0} (nodes : Nodes T) (scene : IsScene nodes) (k : Key) (live 
   pruned = map.remove left k
 
   pruned_len : map.len pruned + 1 ≡ map.len nodes
-  pruned_len = len_removed keys_total exact_keys left k (left_of nodes scene k is_some (λ b. b) refl (λ n. refl) k ∙ live) ∙ len_alike left nodes (left_of nodes scene k is_some (λ b. b) refl (λ n. refl))
+  pruned_len = len_removed keys_total exact_keys left k (left_of scene k is_some (λ b. b) refl (λ n. refl) k ∙ live) ∙ len_alike left nodes (left_of scene k is_some (λ b. b) refl (λ n. refl))
 
   pruned_here : map.get pruned k ≡ None
   pruned_here = grind (arith, keys)
 
   pruned_get : (q : Key) → q ≢ k → map.get pruned q ≡ option_map (forgets k) (map.get nodes q)
-  pruned_get q other = (let kept : map.get pruned q ≡ map.get left q = grind (arith, keys) in kept) ∙ left_get nodes scene k q
+  pruned_get q other = (let kept : map.get pruned q ≡ map.get left q = grind (arith, keys) in kept) ∙ left_get scene k q
 
-  pruned_of : {X : Type 0} (P : Option (Node T) → X) (f : X → X) → P None ≡ f (P None) → ((n : Node T) → P (Some (forgets k n)) ≡ f (P (Some n))) → (q : Key) → q ≢ k → P (map.get pruned q) ≡ f (P (map.get nodes q))
-  pruned_of P f none some q other = (let kept : map.get pruned q ≡ map.get left q = grind (arith, keys) in ap P kept) ∙ left_of nodes scene k P f none some q
+  pruned_of : {X : Type 0} (P : Option (Node T) → X) (f : X → X) → P None ≡ f (P None) → ((n : Node T) → P (Some (forgets k n)) ≡ f (P (Some n))) → (q : Key) → q ≢ k
+      → P (map.get pruned q) ≡ f (P (map.get nodes q))
+  pruned_of P f none some q other = (let kept : map.get pruned q ≡ map.get left q = grind (arith, keys) in ap P kept) ∙ left_of scene k P f none some q
 
   -- no node has it as its parent
   pub childless : (q : Key) → parent_of nodes q ≡ Some k → ⊥

@@ -1,11 +1,11 @@
 -- What a call makes of the nodes of a scene, as a whole: nodes come or go, more places are made, a value is written, or all is copied.
 use Rattle.slotmap_scene.proofs.Common.{AreCovered, Content, CoversMore, Err, HasKey, HaveIndices, HoldsMore, HoldsNodes, IfSome, Inserts, IsCloneBy, IsCloneOf, IsContent, IsErr, IsIn, IsLive}
 use Rattle.slotmap_scene.proofs.Common.{IsNodeClone, IsOk, Key, Leaves, List, Lists, MakesRoom, Node, Nodes, None, Ok, OnOk, Option, Result, Some, [], ap, arith, capacity_with, changed_here}
-use Rattle.slotmap_scene.proofs.Common.{changed_other, child, children_of, clone_live, cond, exact_keys, false, family, found_at, found_live, get-insert_here, get-insert_other, get_or-set_other}
-use Rattle.slotmap_scene.proofs.Common.{get_or-set_same, grown, if◌then◌else◌, indices_inserted, indices_still, inl, inr, inserted_fresh, is_ok, is_some, key_cmp, keys, keys_at, keys_total}
-use Rattle.slotmap_scene.proofs.Common.{length, length-append, length-replicate, length-set, list_of, live-insert_still, most, nat_lt, nat_tests, node_at, nodes_by, often, option_map, parent_at}
-use Rattle.slotmap_scene.proofs.Common.{parent_index, parent_of, refl, replicate, same_or_other, set, shown_content, shown_inserts, shown_leaves, shown_makes_room, subst, suc, sym, take, take_all}
-use Rattle.slotmap_scene.proofs.Common.{times, true, used, with_value, zero, ℕ, ◌++◌, ◌+◌, ◌-◌, ◌<◌, ◌∙◌, ◌∷◌, ◌≡◌, ◌≢◌, ◌≤◌, ◌⊎◌, common_steps}
+use Rattle.slotmap_scene.proofs.Common.{changed_other, child, children_of, clone_live, exact_keys, false, family, found_at, found_live, get-insert_here, get-insert_other, get_or-set_other}
+use Rattle.slotmap_scene.proofs.Common.{get_or-set_same, if◌then◌else◌, indices_inserted, indices_still, inl, inr, inserted_fresh, is_ok, is_some, key_cmp, keys, keys_at, keys_total, length}
+use Rattle.slotmap_scene.proofs.Common.{length-append, length-replicate, length-set, list_of, live-insert_still, most, node_at, nodes_by, often, option_map, parent_at, parent_index, parent_of}
+use Rattle.slotmap_scene.proofs.Common.{refl, replicate, same_or_other, set, shown_content, shown_inserts, shown_leaves, shown_makes_room, subst, suc, sym, take, take_all, times, true, used}
+use Rattle.slotmap_scene.proofs.Common.{with_value, zero, ℕ, ◌++◌, ◌+◌, ◌-◌, ◌<◌, ◌∙◌, ◌∷◌, ◌≡◌, ◌≢◌, ◌≤◌, ◌⊎◌}
 use Rattle.slotmap_scene.proofs.Families.{above_still, children_live, covers_less, get_alike, get_along, kept_along, kept_still, list_none, node_along, node_still, nowhere, parent_live, seen_get}
 use Rattle.slotmap_scene.proofs.Families.{seen_has, seen_len, written_found, written_has}
 use Rattle.std.specs.FinMap as map
@@ -58,11 +58,7 @@ held ps n len long more (Ok x) now is =
 held ps n len long more (Err e) now is = (record { same = λ i. ap (λ l. parent_at l i) is; more = (let same = ap length is in omega arith) }, tt)
 
 covers_still : (n : ℕ) (ps qs : List ℕ) (old new : Lists) → AreCovered n ps old → HoldsMore ps qs → CoversMore old new → AreCovered n qs new
-covers_still n ps qs old new covered holds covers = record {
-  parents = (let was = covered.parents in let more = holds.more in omega arith);
-  owners = (let was = covered.owners in let more = covers.owners in omega arith);
-  members = (let was = covered.members in let more = covers.members in omega arith);
-}
+covers_still n ps qs old new covered holds covers = grind arith
 
 -- a call that fails
 pub err_fails : {A E : Type 0} (r : Result A E) → IsErr r → IsOk r → ⊥
@@ -72,17 +68,7 @@ err_fails (Err e) fails done = (cc)
 -- no room is made where there is none
 module _ {V : Type 0} (c : Content V) (valid : IsContent true c) (n : ℕ) where
   no_room : (ok : Type 0) → (ok → ⊥) → (n ≤ c.room → ⊥) → MakesRoom true c n ok c
-  no_room ok fails full = record {
-    before = valid;
-    after = valid;
-    fits = λ done. absurd (fails done);
-    room = λ done. absurd (fails done);
-    live_and_more = λ done. absurd (fails done);
-    succeeds = λ more. absurd (full more);
-    had_room = λ more. absurd (full more);
-    keeps = record { live = refl; detached = refl; retired = refl; next = refl; offer = refl; stack = refl; room = omega arith };
-    capacity = omega arith;
-  }
+  no_room ok fails full = grind arith
 
   pub fits_most : (capacity : ℕ) → capacity ≡ capacity_with c n → capacity ≤ most → used c + n ≤ most
   fits_most capacity is few = grind arith
@@ -93,21 +79,7 @@ module _ {V : Type 0} (c : Content V) (none : c.live ≡ map.empty) (parents : L
   no_live k = ap (λ m. map.get m k) none ∙ map.get-empty {X = V} key_cmp k
 
   pub bare_kept : ((p : ℕ) → list_of children p ≡ []) → AreCovered c.capacity parents children → HoldsNodes c parents children
-  bare_kept empty covered = record {
-    indices = record {
-      within = λ k live. absurd (let gone = ap is_some (no_live k) in cc);
-      apart = λ a b live. absurd
-          (let gone = ap is_some (no_live a) in cc);
-    };
-    covered = covered;
-    disjoint = record {
-      once = λ p k. (let e = ap (often k) (empty p) in omega arith);
-      alone = λ p q k inside. absurd (let e = ap (often k) (empty p) in omega arith);
-      within = λ p k inside. absurd (let e = ap (often k) (empty p) in omega arith);
-    };
-    listed = λ p i inside. absurd (let e = ap (often i) (empty p) in omega arith);
-    has_parent = λ k live. absurd (let gone = ap is_some (no_live k) in cc);
-  }
+  bare_kept empty covered = grind (arith, no_live, often)
 
   pub bare_seen : nodes_by c.live parents children ≡ map.empty
   bare_seen = map.same_map keys_total exact_keys _ _
@@ -128,8 +100,7 @@ module _ {V : Type 0} {c : Content V} {parents : List ℕ} {children : Lists} (k
     grown_indices = indices_still kept.indices d (λ k live. sym (same_live k) ∙ live) more
 
     pub grown_kept : AreCovered d.capacity parents' children' → HoldsNodes d parents' children'
-    grown_kept covered = kept_along kept d grown_indices parents' children' (λ q live. same_live q ∙ live) grows.lists
-        (λ q live. sym (same_live q) ∙ live) holds.same covered grows.disjoint
+    grown_kept covered = kept_along kept d grown_indices parents' children' (λ q live. same_live q ∙ live) grows.lists (λ q live. sym (same_live q) ∙ live) holds.same covered grows.disjoint
 
     pub grown_seen : nodes_by d.live parents' children' ≡ nodes
     grown_seen = map.same_map keys_total exact_keys _ _ (λ q. get_alike kept d grown_indices parents' children' q (ap (λ m. map.get m q) same)
@@ -139,8 +110,7 @@ module _ {V : Type 0} {c : Content V} {parents : List ℕ} {children : Lists} (k
   -- places are made, and no room
   module _ (parents' : List ℕ) (children' : Lists) (holds : HoldsMore parents parents') (covers : CoversMore children children') where
     pub covered_kept : HoldsNodes c parents' children'
-    covered_kept = grown_kept c refl (omega arith) parents' children' holds covers
-        (covers_still c.capacity parents parents' children children' kept.covered holds covers)
+    covered_kept = grown_kept c refl (omega arith) parents' children' holds covers (covers_still c.capacity parents parents' children children' kept.covered holds covers)
 
     pub covered_seen : IsContent true c → (n : ℕ) (ok : Type 0) → (ok → ⊥) → (n ≤ c.room → ⊥)
         → MakesRoom true (family c parents children) n ok (family c parents' children')
@@ -168,8 +138,7 @@ module _ {V : Type 0} {c : Content V} {parents : List ℕ} {children : Lists} (k
     came_other q other = ap (λ m. map.get m q) inserts.live ∙ get-insert_other c.live k v q other
 
     no_other : (q : Key) → IsLive c q → q.index ≢ k.index
-    no_other q live at = let one : q ≡ k = after.apart q k (inl (inl (stays q live))) (inl (inl here)) at in
-        let f = ap (map.contains_key c.live) (sym one) ∙ live in let gone = fresh in cc
+    no_other q live at = let one : q ≡ k = after.apart q k (inl (inl (stays q live))) (inl (inl here)) at in let f = ap (map.contains_key c.live) (sym one) ∙ live in let gone = fresh in cc
 
     came_indices : HaveIndices d
     came_indices = indices_inserted kept.indices k v d inserts after capacity within

@@ -1,5 +1,5 @@
 -- A walk through all that is below a node, from sibling to sibling and from the last one up.
-use Rattle.slotmap_scene.proofs.Common.{AreAhead, GoesDown, IsScene, IsWithin, Key, List, Node, Nodes, None, Option, Some, StepsTo, WalkStands, WalksBelow, [], all_below, ap, append-nil, common_steps}
+use Rattle.slotmap_scene.proofs.Common.{AreAhead, GoesDown, IsScene, IsWithin, Key, List, Node, Nodes, None, Option, Some, StepsTo, WalkStands, WalksBelow, [], all_below, ap, append-nil}
 use Rattle.slotmap_scene.proofs.Common.{append_assoc, arith, behind, children_of, children_under, cond, first_or, has_node, is_itself, is_other, keys_down, keys_from, length, length-append}
 use Rattle.slotmap_scene.proofs.Common.{one_itself, parent_in, parent_of, refl, same, siblings_of, subst, suc, sym, times, times_first, times_joined, zero, ℕ, ◌++◌, ◌+◌, ◌<◌}
 use Rattle.slotmap_scene.proofs.Common.{◌∙◌, ◌∷◌, ◌≡◌, ◌≢◌, ◌≤◌}
@@ -155,9 +155,7 @@ module _ {T : Type 0} (nodes : Nodes T) (scene : IsScene nodes) (node : Key) whe
   -- at the node nothing is ahead
   ahead_end : (n : ℕ) (at : Key) (ahead : List Key) → at ≡ node → AreAhead nodes node n at ahead → ahead ≡ []
   ahead_end zero at ahead here is = is.1
-  ahead_end (suc n) at ahead here is =
-      let steps = steps_ahead (suc n) at ahead is in
-      absurd (no_cycle nodes scene.tree node steps.0 (ap (parent_of nodes) (sym here) ∙ steps.1.0) (n, steps.1.1))
+  ahead_end (suc n) at ahead here is = let steps = steps_ahead (suc n) at ahead is in absurd (no_cycle nodes scene.tree node steps.0 (ap (parent_of nodes) (sym here) ∙ steps.1.0) (n, steps.1.1))
 
   -- a step of the walk, to the first of the keys that are ahead now
   module _ (key : Key) (stands : WalkStands nodes node key) where
@@ -193,11 +191,7 @@ module _ {T : Type 0} (nodes : Nodes T) (scene : IsScene nodes) (node : Key) whe
     leaf_goes leaf = subst (λ ks. GoesDown nodes (ks ++ stands.ahead) stands.rest) leaf stands.goes
 
     walk_ends : children_of nodes key ≡ [] → stands.ahead ≡ [] → GoesOn nodes node key None
-    walk_ends leaf none = (
-      record { scene = scene; stands = tt },
-      rest_from key stands.done stands.rest stands.split
-          ∙ ap (λ l. key ∷ l) (nothing_down nodes stands.rest (subst (λ ks. GoesDown nodes ks stands.rest) none (leaf_goes leaf))),
-    )
+    walk_ends leaf none = grind (arith, stands, rest_from key stands.done stands.rest stands.split, nothing_down, leaf_goes leaf)
 
   pub rise_start : (key : Key) → WalkStands nodes node key → Rises nodes node key key 0
   rise_start key stands =

@@ -1,8 +1,8 @@
 -- What a fold of the values on the way up comes to.
 use Rattle.slotmap_scene.proofs.Common.{Bor, CallableUp, CallsAt, ClimbsTo, FoldsTo, FoldsTo-push, FoldsUp, IfNone, IfSome, IsComposed, IsMoved, IsNewChild, IsPathFrom, IsPathUp, IsTree, IsWithin}
-use Rattle.slotmap_scene.proofs.Common.{IsWorld, IsWorldOf, Joins, Key, List, Mut, Node, Nodes, None, Option, Some, Takes, [], ap, append_assoc, child, fold, get-insert_here, has_node, inl, inr}
-use Rattle.slotmap_scene.proofs.Common.{is_some, lacks_node, list_map, option_map, parent_in, parent_of, refl, same_or_other, subst, suc, sym, true, value_of, world_along, zero, ℕ, ◌++◌, arith}
-use Rattle.slotmap_scene.proofs.Common.{◌∙◌, ◌∷◌, ◌≡◌, ◌≢◌, common_steps}
+use Rattle.slotmap_scene.proofs.Common.{IsWorld, IsWorldOf, Joins, Key, List, Mut, Node, Nodes, None, Option, Some, Takes, [], ap, append_assoc, arith, child, fold, get-insert_here, has_node}
+use Rattle.slotmap_scene.proofs.Common.{is_some, lacks_node, list_map, option_map, parent_in, parent_of, refl, subst, suc, sym, true, value_of, world_along, zero, ℕ, ◌++◌, ◌∙◌}
+use Rattle.slotmap_scene.proofs.Common.{◌∷◌, ◌≡◌, ◌≢◌}
 use Rattle.slotmap_scene.proofs.Climbs.{parent_there}
 use Rattle.std.specs.FinMap as map
 
@@ -37,10 +37,7 @@ module _ {T : Type 0} (nodes : Nodes T) where
   one_path None (v ∷ vs) b x y = absurd x
   one_path (Some k) [] b x y = absurd x
   one_path (Some k) (v ∷ vs) [] x y = absurd y
-  one_path (Some k) (v ∷ vs) (w ∷ ws) x y =
-      let h = sym x.0 ∙ y.0 in
-      let same : v ≡ w = cc in
-      λ i. same i ∷ one_path (parent_of nodes k) vs ws x.1 y.1 i
+  one_path (Some k) (v ∷ vs) (w ∷ ws) x y = let h = sym x.0 ∙ y.0 in let same : v ≡ w = cc in λ i. same i ∷ one_path (parent_of nodes k) vs ws x.1 y.1 i
 
   -- and so one value in the coordinates of the root
   pub one_world : (under : T → T → T) (k : Key) (v w : T) → IsWorld under nodes k v → IsWorld under nodes k w → v ≡ w
@@ -58,12 +55,8 @@ module _ {T : Type 0} (nodes : Nodes T) where
   -- any other node is where its own value says, under its parent
   pub world_child : (under : T → T → T) (k p : Key) (node : Node T) (w : T) → map.get nodes k ≡ Some node → node.parent ≡ Some p
       → IsWorld under nodes p w → IsWorld under nodes k (under node.value w)
-  world_child under k p node w there up world = record {
-    own = node.value;
-    above = world.own ∷ world.above;
-    path = child_path k p node there up (world.own ∷ world.above) world.path;
-    made = ap (under node.value) world.made;
-  }
+  world_child under k p node w there up world =
+      record { own = node.value; above = world.own ∷ world.above; path = child_path k p node there up (world.own ∷ world.above) world.path; made = ap (under node.value) world.made }
 
   -- what `world` returns, where it is known by these two
   pub world_is : (under : T → T → T) (k : Key) (w : T) (result : Option T) → IsWorld under nodes k w
@@ -93,9 +86,7 @@ module _ {T : Type 0} (nodes : Nodes T) where
   path_of : (n : ℕ) (k : Key) → ClimbsTo nodes n k → (v : T) × (above : List T) × IsPathUp nodes k (v ∷ above)
   path_of zero k leads = let own = live_value k leads.0 in (own.0, [], (own.1, subst (λ p. IsPathFrom nodes p []) (sym leads.1) tt))
   path_of (suc n) k leads =
-      let own = live_value k leads.1.0 in
-      let up = path_of n leads.0 leads.1.2 in
-      (own.0, up.0 ∷ up.1, (own.1, subst (λ p. IsPathFrom nodes p (up.0 ∷ up.1)) (sym leads.1.1) up.2))
+      let own = live_value k leads.1.0 in let up = path_of n leads.0 leads.1.2 in (own.0, up.0 ∷ up.1, (own.1, subst (λ p. IsPathFrom nodes p (up.0 ∷ up.1)) (sym leads.1.1) up.2))
 
 -- what a loop up from a node knows at another one: the values below it, and the calls for these
 module _ {F A T : Type 0} (g : Mut F (A × (Bor T × Unit {0})) A) (nodes : Nodes T) where
@@ -128,30 +119,20 @@ module _ {F A T : Type 0} (g : Mut F (A × (Bor T × Unit {0})) A) (nodes : Node
       }
 
       pub folding_end : node.parent ≡ None → FoldsUp g nodes from f₀ start next
-      folding_end is = record {
-        values = folding.below ++ node.value ∷ [];
-        path = folding.path (node.value ∷ []) (root_path nodes at node there is);
-        last = f';
-        calls = folded_here;
-      }
+      folding_end is = record { values = folding.below ++ node.value ∷ []; path = folding.path (node.value ∷ []) (root_path nodes at node there is); last = f'; calls = folded_here }
 
 -- a fold by the closure that puts what there is so far under the transform of the next value
 module _ {F T W : Type 0} (g : Mut F (W × (Bor T × Unit {0})) W) (under : W → W → W) (of : T → W)
     (puts : (f f' : F) (v : W) (p : T) (w : W) → CallsAt g (f, v) p (f', w) → w ≡ under v (of p)) where
   folded : (above : List T) (f last : F) (v w : W) → FoldsTo (CallsAt g) (f, v) above (last, w) → w ≡ fold (λ so_far p. under so_far (of p)) v above
   folded [] f last v w calls = sym (ap (λ s. s.1) calls)
-  folded (p ∷ above) f last v w calls =
-      folded above calls.0.0 last calls.0.1 w calls.2 ∙ ap (λ x. fold (λ so_far q. under so_far (of q)) x above) (puts f calls.0.0 v p calls.0.1 calls.1)
+  folded (p ∷ above) f last v w calls = folded above calls.0.0 last calls.0.1 w calls.2 ∙ ap (λ x. fold (λ so_far q. under so_far (of q)) x above) (puts f calls.0.0 v p calls.0.1 calls.1)
 
   module _ (nodes : Nodes T) (k p : Key) (node : Node T) (there : map.get nodes k ≡ Some node) (up : node.parent ≡ Some p) where
     pub composed_of_folds : (f : F) (result : Option W) → IfSome result (FoldsUp g nodes p f (of node.value)) → IfSome result (IsComposed under of nodes k)
     composed_of_folds f None folds = tt
-    composed_of_folds f (Some w) folds = record {
-      own = node.value;
-      above = folds.values;
-      path = child_path nodes k p node there up folds.values folds.path;
-      made = folded folds.values f folds.last (of node.value) w folds.calls;
-    }
+    composed_of_folds f (Some w) folds =
+        record { own = node.value; above = folds.values; path = child_path nodes k p node there up folds.values folds.path; made = folded folds.values f folds.last (of node.value) w folds.calls }
 
 -- a root is where its own transform says
 pub composed_root : {T W : Type 0} (nodes : Nodes T) (under : W → W → W) (of : T → W) (k : Key) (node : Node T)
@@ -162,20 +143,15 @@ composed_root nodes under of k node there top = record { own = node.value; above
 pub joined_world : {T : Type 0} (nodes : Nodes T) (under : T → T → T) (k : Key) (result : Option T)
     → IfSome result (IsComposed under (λ v. v) nodes k) → Joins under → IfSome result (IsWorld under nodes k)
 joined_world nodes under k None composed joins = tt
-joined_world nodes under k (Some w) composed joins = record {
-  own = composed.own;
-  above = composed.above;
-  path = composed.path;
-  made = composed.made ∙ fold_world under joins composed.own composed.above;
-}
+joined_world nodes under k (Some w) composed joins =
+    record { own = composed.own; above = composed.above; path = composed.path; made = composed.made ∙ fold_world under joins composed.own composed.above }
 
 pub joined_of_folds : {F T : Type 0} (g : Mut F (T × (Bor T × Unit {0})) T) (under : T → T → T)
     → ((f f' : F) (v p w : T) → CallsAt g (f, v) p (f', w) → w ≡ under v p)
     → (nodes : Nodes T) (k p : Key) (node : Node T) → map.get nodes k ≡ Some node → node.parent ≡ Some p → (f : F) (result : Option T)
     → IfSome result (FoldsUp g nodes p f node.value)
     → Joins under → IfSome result (IsWorld under nodes k)
-joined_of_folds g under puts nodes k p node there up f result folds =
-    joined_world nodes under k result (composed_of_folds g under (λ v. v) puts nodes k p node there up f result folds)
+joined_of_folds g under puts nodes k p node there up f result folds = joined_world nodes under k result (composed_of_folds g under (λ v. v) puts nodes k p node there up f result folds)
 
 -- a fold of the transforms that the values have
 fold_of : {T W : Type 0} (under : W → W → W) (of : T → W) (v : W) (above : List T)
@@ -230,12 +206,8 @@ module _ {T : Type 0} (old new : Nodes T) (k : Key) (values : (q : Key) → has_
   module _ (under : T → T → T) (v : T) (p : Key) (w : T) (here : value_of new k ≡ Some v) (up : parent_of new k ≡ Some p)
       (world : IsWorld under old p w) where
     under_parent : IsPathFrom new (Some p) (world.own ∷ world.above) → IsWorld under new k (under v w)
-    under_parent path = record {
-      own = v;
-      above = world.own ∷ world.above;
-      path = (here, subst (λ q. IsPathFrom new q (world.own ∷ world.above)) (sym up) path);
-      made = ap (under v) world.made;
-    }
+    under_parent path =
+        record { own = v; above = world.own ∷ world.above; path = (here, subst (λ q. IsPathFrom new q (world.own ∷ world.above)) (sym up) path); made = ap (under v) world.made }
 
     world_below : (IsWithin old p k → ⊥) → IsWorld under new k (under v w)
     world_below out = under_parent (path_kept (λ q. IsWithin old q k → ⊥) (λ q outside live same. outside (zero, same))

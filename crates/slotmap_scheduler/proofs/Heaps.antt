@@ -74,10 +74,7 @@ module _ (heap : List Entry) (at : ℕ) (but : IsHeapBut at heap) where
 module _ (old new : List Entry) (ordered : IsHeap old) where
   -- an entry has another turn, or is new at the end
   pub heap_put : (at : ℕ) → ((i : ℕ) → i < length new → i ≢ at → (i < length old) × (get_or new i no_entry ≡ get_or old i no_entry)) → IsHeapBut at new
-  heap_put at same = record {
-    pairs = λ c low inside apart far. grind (arith, same c, same (up c), ordered c);
-    bridges = λ c low inside below high. grind (arith, same c, same (up at), ordered c, ordered at, across (turn_at old (up at)) (turn_at old at) (turn_at old c));
-  }
+  heap_put at same = grind (arith, across)
 
   -- the last entry has left
   pub heap_left : length new ≤ length old → ((i : ℕ) → i < length new → get_or new i no_entry ≡ get_or old i no_entry) → IsHeap new

@@ -1,4 +1,5 @@
-use Rattle.slotmap_entities.proofs.Common.{clone_live, sym, ◌∙◌}
+use Rattle.std.proofs.Common.{sym, ◌∙◌}
+use Rattle.slotmap.proofs.Callers.{clone_live}
 use Rattle.slotmap_entities.proofs.World.clone.Goals as goal
 
 pub invariant_of-result : goal.invariant_of-result

@@ -1,4 +1,5 @@
-use Rattle.slotmap_entities.proofs.Common.{beside_bound, sym}
+use Rattle.std.proofs.Common.{sym}
+use Rattle.slotmap.proofs.Callers.{beside_bound}
 use Rattle.slotmap_entities.proofs.LiveOnly.{own_beside, table_live}
 use Rattle.slotmap_entities.proofs.World.component_mut.Goals as goal
 

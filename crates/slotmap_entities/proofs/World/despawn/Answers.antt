@@ -1,4 +1,5 @@
-use Rattle.slotmap_entities.proofs.Common.{ap, false, is_some, leaves_by_removal, leaves_none, remove_spent-dense, spent_remove-dense, sym, ◌∙◌}
+use Rattle.std.proofs.Common.{false, is_some, sym, ap, ◌∙◌}
+use Rattle.slotmap.proofs.Callers.{leaves_none, leaves_by_removal, remove_spent-dense, spent_remove-dense}
 use Rattle.slotmap_entities.proofs.LiveOnly.{removed_live}
 use Rattle.slotmap_entities.proofs.World.despawn.Goals as goal
 

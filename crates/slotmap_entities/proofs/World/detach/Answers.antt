@@ -1,4 +1,4 @@
-use Rattle.slotmap_entities.proofs.Common.{beside_taken, get-remove_other, removed_gone}
+use Rattle.slotmap.proofs.Callers.{removed_gone, get-remove_other, beside_taken}
 use Rattle.slotmap_entities.proofs.LiveOnly.{own_beside, table_live}
 use Rattle.slotmap_entities.proofs.World.detach.Goals as goal
 

@@ -1,4 +1,7 @@
-use Rattle.slotmap_entities.proofs.Common.{World, ap, same_lent, with_value_of}
+use Rattle.std.proofs.Common.{ap}
+use Rattle.slotmap.specs.Words.{with_value_of}
+use Rattle.slotmap.proofs.Callers.{same_lent}
+use Rattle.slotmap_entities.specs.World.{World}
 use Rattle.slotmap_entities.proofs.World.get_mut.Goals as goal
 
 pub returns-in-Some : goal.returns-in-Some

@@ -1,4 +1,5 @@
-use Rattle.slotmap_entities.proofs.Common.{arith, beside_put, get-put_live, get-put_other, sym, ◌+◌, ◌∙◌}
+use Rattle.std.proofs.Common.{◌+◌, sym, ◌∙◌, arith}
+use Rattle.slotmap.proofs.Callers.{beside_put, get-put_live, get-put_other}
 use Rattle.slotmap_entities.proofs.components.attach.Goals as goal
 
 pub returns-in-Ok-clause-there : goal.returns-in-Ok-clause-there

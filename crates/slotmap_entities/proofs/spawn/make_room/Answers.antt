@@ -1,4 +1,4 @@
-use Rattle.slotmap_entities.proofs.Common.{ap, arith, ◌∙◌, ◌≡◌}
+use Rattle.std.proofs.Common.{◌≡◌, ap, ◌∙◌, arith}
 use Rattle.slotmap_entities.proofs.Spawned.{offer_index}
 use Rattle.slotmap_entities.proofs.TableCount.{beside_count}
 use Rattle.slotmap_entities.proofs.spawn.make_room.Goals as goal

@@ -1,4 +1,4 @@
-use Rattle.slotmap_entities.proofs.Common.{ap, ◌+◌, ◌∙◌}
+use Rattle.std.proofs.Common.{◌+◌, ap, ◌∙◌}
 use Rattle.slotmap_entities.proofs.LiveOnly.{own_beside, table_live}
 use Rattle.slotmap_entities.proofs.Spawned.{inserted_live, kept_still, when_ok}
 use Rattle.slotmap_entities.proofs.spawn_both.spawn_with_both.Goals as goal

@@ -6,4 +6,5 @@ pub invariant_of-result : goal.invariant_of-result
 invariant_of-result g c = scene_copied g.T.Clone.is_clone c.self.inside.nodes _ c.in_ok-clone.ensures.cases c.self.invariant
 
 pub returns-clause-copies_if_clones_equal : goal.returns-clause-copies_if_clones_equal
-returns-clause-copies_if_clones_equal g c same = rw (← c.self.view_is) (clone_copies (IsNodeClone g.T.Clone.is_clone) c.self.inside.nodes _ c.in_ok-clone.ensures.cases (nodes_equal g.T.Clone.is_clone same))
+returns-clause-copies_if_clones_equal g c same =
+    rw (← c.self.view_is) (clone_copies (IsNodeClone g.T.Clone.is_clone) c.self.inside.nodes _ c.in_ok-clone.ensures.cases (nodes_equal g.T.Clone.is_clone same))

@@ -1,4 +1,4 @@
-use Rattle.slotmap_scene.proofs.Common.{sym, ◌∙◌, arith}
+use Rattle.slotmap_scene.proofs.Common.{arith}
 use Rattle.slotmap_scene.proofs.Climbs.{climbing_end, climbing_live, climbing_start, climbing_step, node_there}
 use Rattle.slotmap_scene.proofs.Scene.depth.Goals as goal
 

@@ -1,6 +1,5 @@
-use Rattle.slotmap_scene.proofs.Common.{IsWithin, ap, append-nil, has_node, list_map, refl, subst, ◌++◌, ◌∙◌, ◌≢◌, arith, common_steps}
+use Rattle.slotmap_scene.proofs.Common.{IsWithin, ap, append-nil, arith, common_steps, has_node, list_map, subst, ◌++◌, ◌∙◌, ◌≢◌}
 use Rattle.slotmap_scene.proofs.Descending.{Descended, each_listed}
-use Rattle.slotmap_scene.proofs.KeyLoops.{passed}
 use Rattle.slotmap_scene.proofs.Scene.descendants.Goals as goal
 
 pub loop-key-init : goal.loop-key-init

@@ -1,14 +1,10 @@
-use Rattle.slotmap_scene.proofs.Common.{refl, sym, ◌∙◌, arith, common_steps}
+use Rattle.slotmap_scene.proofs.Common.{arith, refl, sym}
 use Rattle.slotmap_scene.proofs.Climbs.{climbing_live, climbing_start, climbing_step, node_is}
 use Rattle.slotmap_scene.proofs.Worlds.{folding_end, folding_start, folding_step, folding_takes}
 use Rattle.slotmap_scene.proofs.Scene.fold_up.Goals as goal
 
 pub loop-step-init : goal.loop-step-init
-loop-step-init g c = record {
-  climbing = rw (← c.self.view_is, ← c.inner-at.ensures)
-      (climbing_start _ c.self.invariant.tree c.inner-at.result (sym c.contains_key.ensures.value ∙ c.if-not-contains_key.false));
-  folding = rw (← c.inner-at.ensures) (folding_start _ _ _ _ _);
-}
+loop-step-init g c = grind (arith, climbing_start, folding_start, c.inner-at.ensures, c.self.invariant.tree, c.contains_key.ensures.value)
 
 pub returns-in-None-clause-some : goal.returns-in-None-clause-some
 returns-in-None-clause-some g c =

@@ -1,4 +1,4 @@
-use Rattle.slotmap_scene.proofs.Common.{HasRoot, Some, ap, parent_of, same_keys, subst, sym, ◌∙◌, ◌≡◌, arith}
+use Rattle.slotmap_scene.proofs.Common.{arith}
 use Rattle.slotmap_scene.proofs.Climbs.{apart_beside}
 use Rattle.slotmap_scene.proofs.Scene.is_below.Goals as goal
 

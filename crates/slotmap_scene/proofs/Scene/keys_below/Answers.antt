@@ -1,4 +1,3 @@
-use Rattle.slotmap_scene.proofs.Common.{arith, common_steps}
 use Rattle.slotmap_scene.proofs.WalkingDown.{below_all, below_once, below_only, below_order, walk_begins}
 use Rattle.slotmap_scene.proofs.Scene.keys_below.Goals as goal
 

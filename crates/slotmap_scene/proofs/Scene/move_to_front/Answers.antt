@@ -1,4 +1,4 @@
-use Rattle.slotmap_scene.proofs.Common.{ap, parent_of, sym, ◌∙◌, arith}
+use Rattle.slotmap_scene.proofs.Common.{arith}
 use Rattle.slotmap_scene.proofs.Climbs.{no_cycle}
 use Rattle.slotmap_scene.proofs.Scene.move_to_front.Goals as goal
 

@@ -1,4 +1,4 @@
-use Rattle.slotmap_scene.proofs.Common.{ap, arith, behind, children_under, sym, ◌∙◌, common_steps}
+use Rattle.slotmap_scene.proofs.Common.{ap, arith, behind, children_under, sym, ◌∙◌}
 use Rattle.slotmap_scene.proofs.Moved.{listed_once}
 use Rattle.slotmap_scene.proofs.Scene.next_sibling.Goals as goal
 

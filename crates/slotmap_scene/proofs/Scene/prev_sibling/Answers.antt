@@ -1,4 +1,4 @@
-use Rattle.slotmap_scene.proofs.Common.{None, ap, arith, children_under, in_front, sym, ◌∙◌, common_steps}
+use Rattle.slotmap_scene.proofs.Common.{None, ap, arith, children_under, in_front, sym, ◌∙◌}
 use Rattle.slotmap_scene.proofs.Moved.{listed_once}
 use Rattle.slotmap_scene.proofs.Scene.prev_sibling.Goals as goal
 

@@ -1,4 +1,4 @@
-use Rattle.slotmap_scene.proofs.Common.{ap, arith, keys_of_pairs, refl, times, ◌++◌, ◌∙◌}
+use Rattle.slotmap_scene.proofs.Common.{arith, refl, ◌∙◌}
 use Rattle.slotmap_scene.proofs.ByLevel.{parent_known}
 use Rattle.slotmap_scene.proofs.ListedWorlds.{world_of_child, worlds_pushed}
 use Rattle.slotmap_scene.proofs.KeyLoops.{first_ahead, passed}

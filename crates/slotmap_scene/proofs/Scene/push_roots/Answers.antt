@@ -1,4 +1,4 @@
-use Rattle.slotmap_scene.proofs.Common.{All-nil, ap, arith, refl, times, ◌∙◌, common_steps}
+use Rattle.slotmap_scene.proofs.Common.{All-nil, ap, arith, refl, times, ◌∙◌}
 use Rattle.slotmap_scene.proofs.ByLevel.{listed_root}
 use Rattle.slotmap_scene.proofs.ListedWorlds.{world_of_root, worlds_pushed}
 use Rattle.slotmap_scene.proofs.KeyLoops.{first_ahead, passed}

@@ -1,4 +1,4 @@
-use Rattle.slotmap_scene.proofs.Common.{Some, rules, sym, arith, common_steps}
+use Rattle.slotmap_scene.proofs.Common.{Some, arith, rules, sym}
 use Rattle.slotmap_scene.proofs.Climbs.{node_is}
 use Rattle.slotmap_scene.proofs.Worlds.{composed_of_folds, composed_root, joined_transform, parent_found}
 use Rattle.slotmap_scene.proofs.Scene.world_transform.Goals as goal

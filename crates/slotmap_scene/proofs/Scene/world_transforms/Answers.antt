@@ -1,4 +1,4 @@
-use Rattle.slotmap_scene.proofs.Common.{ap, arith, get_or-map, length-map, rules, sym, ◌∙◌, common_steps}
+use Rattle.slotmap_scene.proofs.Common.{ap, arith, get_or-map, length-map, rules, sym, ◌∙◌}
 use Rattle.slotmap_scene.proofs.ByLevel.{going_live, going_long, going_on, going_once, levels_all, levels_done}
 use Rattle.slotmap_scene.proofs.ListedWorlds.{worlds_composed}
 use Rattle.slotmap_scene.proofs.Scene.world_transforms.Goals as goal

@@ -1,4 +1,4 @@
-use Rattle.slotmap_scene.proofs.Common.{covered, arith, common_steps}
+use Rattle.slotmap_scene.proofs.Common.{covered}
 use Rattle.slotmap_scene.proofs.links.cover_children.Goals as goal
 
 pub returns-clause-grows : goal.returns-clause-grows

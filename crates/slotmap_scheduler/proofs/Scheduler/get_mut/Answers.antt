@@ -1,4 +1,4 @@
-use Rattle.slotmap_scheduler.proofs.Common.{Job, Schedule, ap, option_map, same_lent, same_unlent, sym, with_job, ◌∙◌}
+use Rattle.slotmap_scheduler.proofs.Common.{Job, Schedule, ap, arith, option_map, same_lent, same_unlent, sym, with_job, ◌∙◌}
 use Rattle.slotmap_scheduler.proofs.Seen.{job_seen}
 use Rattle.slotmap_scheduler.proofs.Schedules.{written_schedule, written_seen}
 use Rattle.slotmap_scheduler.proofs.Scheduler.get_mut.Goals as goal
@@ -18,10 +18,4 @@ returns-in-Some g c = (
 )
 
 pub returns-in-None : goal.returns-in-None
-returns-in-None g c = (
-  same_unlent _ _ c.self.view_is,
-  record {
-    writes_back = tt;
-    value = rw (← c.self.view_is, ← c.inner.ensures) (ap (option_map (λ (j : Job g.row.T.Denot). j.job)) c.in-None.ensures.value ∙ job_seen c.self.invariant c.inner.result);
-  },
-)
+returns-in-None g c = grind (arith, same_unlent, option_map, job_seen c.self.invariant c.inner.result, c.inner.ensures, c.in-None.ensures.value, c.self.invariant)

@@ -1,4 +1,6 @@
-use Rattle.slotmap_entities.proofs.Common.{both_found_by, get, length, ◌≡◌}
+use Rattle.std.proofs.Common.{◌≡◌, length}
+use Rattle.slotmap.specs.Words.{get}
+use Rattle.slotmap_entities.specs.World.{both_found_by}
 use Rattle.slotmap_entities.proofs.join.WithBothIterator.next.Given as goal
 
 -- the keys that were passed lack a component

@@ -1,4 +1,6 @@
-use Rattle.slotmap_entities.proofs.Common.{get, length, three_found_by, ◌≡◌}
+use Rattle.std.proofs.Common.{◌≡◌, length}
+use Rattle.slotmap.specs.Words.{get}
+use Rattle.slotmap_entities.specs.World.{three_found_by}
 use Rattle.slotmap_entities.proofs.join_three.WithThreeIterator.next.Given as goal
 
 -- the keys that were passed lack a component

@@ -1,4 +1,6 @@
-use Rattle.slotmap_entities.proofs.Common.{contains_key, found_without, get, length, ◌≡◌}
+use Rattle.std.proofs.Common.{◌≡◌, length}
+use Rattle.slotmap.specs.Words.{contains_key, get}
+use Rattle.slotmap_entities.specs.World.{found_without}
 use Rattle.slotmap_entities.proofs.join_without.WithWithoutIterator.next.Given as goal
 
 -- the keys that were passed lack the one component, or have the other

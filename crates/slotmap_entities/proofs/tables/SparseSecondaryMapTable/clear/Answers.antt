@@ -1,4 +1,4 @@
-use Rattle.slotmap_entities.proofs.Common.{ap, arith, nat_cmp, ℕ, ◌∙◌}
+use Rattle.std.proofs.Common.{ℕ, ap, arith, ◌∙◌, nat_cmp}
 use Rattle.std.specs.FinMap as map
 use Rattle.slotmap_entities.proofs.tables.SparseSecondaryMapTable.clear.Goals as goal
 

@@ -1,4 +1,4 @@
-use Rattle.slotmap_entities.proofs.Common.{arith}
+use Rattle.std.proofs.Common.{arith}
 use Rattle.slotmap_entities.proofs.TableRoom.{none_more, one_more}
 use Rattle.slotmap_entities.proofs.tables.SparseSecondaryMapTable.insert.Goals as goal
 

@@ -1,4 +1,4 @@
-use Rattle.slotmap_scene.proofs.Common.{all_below, ap, keys_from, option_map, sym, ◌∙◌, arith}
+use Rattle.slotmap_scene.proofs.Common.{arith, option_map}
 use Rattle.slotmap_scene.proofs.below.KeysBelowIterator.next.Goals as goal
 
 pub returns-clause-steps : goal.returns-clause-steps

@@ -9,9 +9,7 @@ put_last-requires-clause-free g c = free_there c.self.invariant c.self.view_is c
 
 pub invariant_of-self : goal.invariant_of-self
 invariant_of-self g c =
-    (put_at_end c.self.invariant c.self.view_is c.args.parent c.args.node c.requires.parent c.requires.node c.put_last.new.children c.put_last.ensures.list
-    c.put_last.ensures.disjoint).0
+    (put_at_end c.self.invariant c.self.view_is c.args.parent c.args.node c.requires.parent c.requires.node c.put_last.new.children c.put_last.ensures.list c.put_last.ensures.disjoint).0
 
 pub returns : goal.returns
-returns g c = (put_at_end c.self.invariant c.self.view_is c.args.parent c.args.node c.requires.parent c.requires.node c.put_last.new.children
-    c.put_last.ensures.list c.put_last.ensures.disjoint).1
+returns g c = (put_at_end c.self.invariant c.self.view_is c.args.parent c.args.node c.requires.parent c.requires.node c.put_last.new.children c.put_last.ensures.list c.put_last.ensures.disjoint).1

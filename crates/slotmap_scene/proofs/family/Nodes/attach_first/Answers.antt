@@ -9,8 +9,7 @@ put_first-requires-clause-free g c = free_there c.self.invariant c.self.view_is 
 
 pub invariant_of-self : goal.invariant_of-self
 invariant_of-self g c =
-    (put_in_front c.self.invariant c.self.view_is c.args.parent c.args.node c.requires.parent c.requires.node c.put_first.new.children
-    c.put_first.ensures.list c.put_first.ensures.disjoint).0
+    (put_in_front c.self.invariant c.self.view_is c.args.parent c.args.node c.requires.parent c.requires.node c.put_first.new.children c.put_first.ensures.list c.put_first.ensures.disjoint).0
 
 pub returns : goal.returns
 returns g c = (put_in_front c.self.invariant c.self.view_is c.args.parent c.args.node c.requires.parent c.requires.node c.put_first.new.children

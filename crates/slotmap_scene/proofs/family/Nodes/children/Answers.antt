@@ -1,4 +1,4 @@
-use Rattle.slotmap_scene.proofs.Common.{AreIndices, Content, Node, ap, keys_at, list_of, owner_of, subst, sym, ◌∙◌, arith}
+use Rattle.slotmap_scene.proofs.Common.{arith}
 use Rattle.slotmap_scene.proofs.Families.{children_owned, indices_at, owner_below}
 use Rattle.slotmap_scene.proofs.family.Nodes.children.Goals as goal
 

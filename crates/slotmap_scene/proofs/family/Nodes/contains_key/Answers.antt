@@ -1,4 +1,4 @@
-use Rattle.slotmap_scene.proofs.Common.{sym, ◌∙◌, arith}
+use Rattle.slotmap_scene.proofs.Common.{arith}
 use Rattle.slotmap_scene.proofs.Families.{seen_has}
 use Rattle.slotmap_scene.proofs.SceneSteps.{family_valid}
 use Rattle.slotmap_scene.proofs.family.Nodes.contains_key.Goals as goal

@@ -1,4 +1,4 @@
-use Rattle.slotmap_scene.proofs.Common.{Content, Node, None, Some, ap, first_in, first_or, key_at, list_of, option_map, owner_of, sym, ◌∙◌, arith}
+use Rattle.slotmap_scene.proofs.Common.{Content, Node, None, Some, ap, arith, first_in, first_or, key_at, list_of, option_map, owner_of, sym, ◌∙◌}
 use Rattle.slotmap_scene.proofs.Families.{first_seen, indices_at, key_found, owner_below}
 use Rattle.slotmap_scene.proofs.family.Nodes.first.Goals as goal
 

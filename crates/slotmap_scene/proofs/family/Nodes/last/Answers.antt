@@ -1,4 +1,4 @@
-use Rattle.slotmap_scene.proofs.Common.{Content, Node, None, Some, ap, key_at, last_in, last_number, list_of, option_map, owner_of, sym, ◌∙◌, arith}
+use Rattle.slotmap_scene.proofs.Common.{Content, Node, None, Some, ap, arith, key_at, last_in, last_number, list_of, option_map, owner_of, sym, ◌∙◌}
 use Rattle.slotmap_scene.proofs.Families.{indices_at, key_found, last_seen, owner_below}
 use Rattle.slotmap_scene.proofs.family.Nodes.last.Goals as goal
 

@@ -1,11 +1,10 @@
-use Rattle.slotmap_scene.proofs.Common.{after_inside, ap, key_at, list_of, number_after, option_map, sym, ◌∙◌, ◌≡◌, arith, common_steps}
+use Rattle.slotmap_scene.proofs.Common.{after_inside, ap, key_at, list_of, number_after, option_map, sym, ◌∙◌, ◌≡◌}
 use Rattle.slotmap_scene.proofs.Families.{child_in, indices_at, key_found, next_seen}
 use Rattle.slotmap_scene.proofs.family.Nodes.next.Goals as goal
 
 pub returns-then-not-contains_key : goal.returns-then-not-contains_key
-returns-then-not-contains_key g c = rw (← c.self.view_is)
-    (λ p more. absurd (let live = (child_in c.self.invariant p c.args.node more).1 in
-    let none = (sym c.contains_key.ensures.value ∙ c.if-not-contains_key.true) in cc))
+returns-then-not-contains_key g c =
+    rw (← c.self.view_is) (λ p more. absurd (let live = (child_in c.self.invariant p c.args.node more).1 in let none = (sym c.contains_key.ensures.value ∙ c.if-not-contains_key.true) in cc))
 
 pub returns-in_err-next : goal.returns-in_err-next
 returns-in_err-next g c = rw (c.from_residual.ensures, ← c.self.view_is) (λ p more.

@@ -1,4 +1,4 @@
-use Rattle.slotmap_scene.proofs.Common.{ap, cond, sym, ◌∙◌, arith}
+use Rattle.slotmap_scene.proofs.Common.{arith}
 use Rattle.slotmap_scene.proofs.Families.{seen_has}
 use Rattle.slotmap_scene.proofs.family.Nodes.owner.Goals as goal
 

@@ -1,4 +1,4 @@
-use Rattle.slotmap_scene.proofs.Common.{sym, ◌∙◌, arith}
+use Rattle.slotmap_scene.proofs.Common.{arith, sym, ◌∙◌}
 use Rattle.slotmap_scene.proofs.Families.{parent_gone, seen_has}
 use Rattle.slotmap_scene.proofs.family.Nodes.parent.Goals as goal
 

@@ -5,20 +5,20 @@ use Rattle.slotmap_scene.proofs.family.Nodes.prune.Goals as goal
 
 pub remove-requires : goal.remove-requires
 remove-requires g c = record {
-  there = rw (c.leave.ensures) (left_of c.args.self.now.live c.requires.scene c.args.node is_some (λ b. b) refl (λ n. refl) c.args.node ∙ c.requires.there);
+  there = rw (c.leave.ensures) (left_of c.requires.scene c.args.node is_some (λ b. b) refl (λ n. refl) c.args.node ∙ c.requires.there);
   leaf = rw (c.leave.ensures)
-      (left_of c.args.self.now.live c.requires.scene c.args.node children_in (without c.args.node) refl (λ n. refl) c.args.node
+      (left_of c.requires.scene c.args.node children_in (without c.args.node) refl (λ n. refl) c.args.node
       ∙ ap (without c.args.node) c.requires.leaf);
   alone = λ q. (let k = c.args.node in
-      rw (c.leave.ensures) (ap (times k) (left_of c.args.self.now.live c.requires.scene k children_in (without k) refl (λ n. refl) q)
+      rw (c.leave.ensures) (ap (times k) (left_of c.requires.scene k children_in (without k) refl (λ n. refl) q)
       ∙ times_gone k (children_of c.args.self.now.live q)));
   childless = λ q is. childless c.args.self.now.live c.requires.scene c.args.node c.requires.there c.requires.leaf q
-      (sym (left_of c.args.self.now.live c.requires.scene c.args.node parent_in (λ o. o) refl (λ n. refl) q) ∙ (rw c.leave.ensures at is));
+      (sym (left_of c.requires.scene c.args.node parent_in (λ o. o) refl (λ n. refl) q) ∙ (rw c.leave.ensures at is));
 }
 
 pub returns : goal.returns
 returns g c = record {
-  value = sym (left_of c.args.self.now.live c.requires.scene c.args.node (option_map (λ n. n.value)) (λ o. o) refl (λ n. refl) c.args.node) ∙ (rw c.leave.ensures at c.remove.ensures.value);
+  value = sym (left_of c.requires.scene c.args.node (option_map (λ n. n.value)) (λ o. o) refl (λ n. refl) c.args.node) ∙ (rw c.leave.ensures at c.remove.ensures.value);
   leaves = leaves_in_turn _ _ _ (rw c.leave.ensures (leaves_filled c.args.self.now (parent_of c.args.self.now.live c.args.node) (without c.args.node))) c.remove.ensures.leaves;
   live = search rules;
   capacity = search rules;

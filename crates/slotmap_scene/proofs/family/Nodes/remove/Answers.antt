@@ -1,14 +1,11 @@
-use Rattle.slotmap_scene.proofs.Common.{ap, is_some, leaves_by_removal, sym, true, ◌∙◌, arith, common_steps}
+use Rattle.slotmap_scene.proofs.Common.{ap, arith, is_some, leaves_by_removal, sym, true}
 use Rattle.slotmap_scene.proofs.Families.{seen_value}
 use Rattle.slotmap_scene.proofs.Placing.{is_live}
 use Rattle.slotmap_scene.proofs.SceneSteps.{family_leaves, gone_kept, gone_seen}
 use Rattle.slotmap_scene.proofs.family.Nodes.remove.Goals as goal
 
 pub unreachable-requires : goal.unreachable-requires
-unreachable-requires g c =
-    let live = is_live c.self.invariant c.self.view_is c.args.node c.requires.there in
-    let none = ap is_some c.in_default.ensures.value in
-    absurd (cc)
+unreachable-requires g c = let live = is_live c.self.invariant c.self.view_is c.args.node c.requires.there in let none = ap is_some c.in_default.ensures.value in absurd (cc)
 
 pub invariant_of-self : goal.invariant_of-self
 invariant_of-self g c = gone_kept c.self.invariant c.args.node (is_live c.self.invariant c.self.view_is c.args.node c.requires.there)

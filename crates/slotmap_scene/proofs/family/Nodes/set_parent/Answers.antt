@@ -1,4 +1,4 @@
-use Rattle.slotmap_scene.proofs.Common.{arith, set, common_steps}
+use Rattle.slotmap_scene.proofs.Common.{arith, set}
 use Rattle.slotmap_scene.proofs.Placing.{hangs, place_there}
 use Rattle.slotmap_scene.proofs.family.Nodes.set_parent.Goals as goal
 

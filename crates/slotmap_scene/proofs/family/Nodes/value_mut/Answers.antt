@@ -1,4 +1,4 @@
-use Rattle.slotmap_scene.proofs.Common.{Content, Node, ap, family, same_lent, same_unlent, sym, with_value, ◌∙◌, arith}
+use Rattle.slotmap_scene.proofs.Common.{Content, Node, ap, arith, family, same_lent, same_unlent, sym, with_value, ◌∙◌}
 use Rattle.slotmap_scene.proofs.Families.{seen_value}
 use Rattle.slotmap_scene.proofs.SceneSteps.{written_kept, written_seen}
 use Rattle.slotmap_scene.proofs.family.Nodes.value_mut.Goals as goal
@@ -20,11 +20,4 @@ returns-in-Some g c =
     )
 
 pub returns-in-None : goal.returns-in-None
-returns-in-None g c = (
-  same_unlent _ _ c.self.view_is,
-  record {
-    writes_back = tt;
-    value = rw (← c.self.view_is)
-        (c.in-None.ensures.value ∙ sym (seen_value c.self.inside.values.live c.self.inside.parents.items c.self.inside.children c.args.node));
-  },
-)
+returns-in-None g c = grind (arith, same_unlent, seen_value c.self.inside.values.live c.self.inside.parents.items c.self.inside.children c.args.node, c.in-None.ensures.value)

@@ -1,4 +1,4 @@
-use Rattle.slotmap_scene.proofs.Common.{ap, list_cleared, list_of, ◌∙◌, arith}
+use Rattle.slotmap_scene.proofs.Common.{ap, list_cleared, list_of, ◌∙◌}
 use Rattle.slotmap_scene.proofs.SceneSteps.{bare_kept, bare_seen}
 use Rattle.slotmap_scene.proofs.family.Nodes.with_capacity.Goals as goal
 
