@@ -46,8 +46,7 @@ module _ {V : Type 0} where
 
   -- if no key is in the list, the map is empty
   pub none_left : (d : Dense V) → IsDense d → d.keys ≡ [] → (d.content.live ≡ map.empty) × IsEmpty d
-  none_left d well none =
-      (sym (rw none at well.listed.all), record { keys = none; values = nil_from_length d.values (well.same_length ∙ ap length none) })
+  none_left d well none = (sym (rw none at well.listed.all), record { keys = none; values = nil_from_length d.values (well.same_length ∙ ap length none) })
 
   -- as many keys are live as are in the list
   pub len_keys : (d : Dense V) → IsDense d → length d.keys ≡ map.len d.content.live

@@ -128,9 +128,7 @@ module _ {V : Type 0} (records : List (SlotRecord V)) (positions : List (SlotRec
   pub refuses-positions : (e : SlotsError) → RefusesStart positions limit e → RefusesStart records limit e
   refuses-positions TooMany refused = absurd (omega (arith, refused, accepted-positions.short))
   refuses-positions FirstNotEmpty refused = absurd (refused.1 accepted-positions.first_empty)
-  refuses-positions (Inconsistent i) refused =
-      let here = refused.2.here in
-      absurd (here.2 (accepted-positions.consistent i here.0 (slice_get_within positions i here.0 here.1) here.1))
+  refuses-positions (Inconsistent i) refused = let here = refused.2.here in absurd (here.2 (accepted-positions.consistent i here.0 (slice_get_within positions i here.0 here.1) here.1))
   refuses-positions Memory refused = accepted
 
   module _ (slots : Content ℕ) (reads : ReadsAs true positions slots) where

@@ -12,8 +12,7 @@ offer_key c well below = grind (arith, well.offers below, well.vacancies c.offer
 
 -- a new key isn't live, and a detached key isn't either
 pub new_not_live : {V : Type 0} (c d : Content V) (k : Key) (v : V) → IsContent true c → Inserts c k v d → map.get c.live k ≡ None
-new_not_live c d k v well ins =
-    rw ins.offered (none_of (map.get c.live c.offer) (false_of (map.contains_key c.live c.offer) (λ there. offer_unused c well ins.below_limit (inl (inl there)))))
+new_not_live c d k v well ins = rw ins.offered (none_of (map.get c.live c.offer) (false_of (map.contains_key c.live c.offer) (λ there. offer_unused c well ins.below_limit (inl (inl there)))))
 
 pub kept_not_live : {reuses : Bool} {V : Type 0} (c : Content V) (k : Key) → IsContent reuses c → IsDetached c k → map.get c.live k ≡ None
 kept_not_live c k well kept = none_of (map.get c.live k) (false_of (map.contains_key c.live k) (λ there. well.not_live_and_detached k there kept))

@@ -11,5 +11,4 @@ pub record SameKeys {A B : Type 0} (a : map.FinMap key_cmp A) (b : map.FinMap ke
 
 pub IsContent-over : {V : Type 0} (c : Content ℕ) (live : map.FinMap key_cmp V) → SameKeys live c.live → (room capacity : ℕ) → IsContent true c
     → room ≤ c.room → map.len live + room ≤ capacity → IsContent false (over c live room capacity)
-IsContent-over c live same room capacity well less holds =
-    IsContent-with_live true false c live same.each same.all room capacity well (omega (arith, well.room_fits)) (λ is. absurd (cc)) holds
+IsContent-over c live same room capacity well less holds = IsContent-with_live true false c live same.each same.all room capacity well (omega (arith, well.room_fits)) (λ is. absurd (cc)) holds

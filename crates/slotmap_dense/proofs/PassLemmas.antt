@@ -28,9 +28,7 @@ module _ {F D E K V : Type 0} (a : Holding D K V) (b : Holding E K V) (lift : D 
   kept-lift : (xs : List (Visit K V)) (s t : Stage F D) → Holds s.held → FoldsTo (Stays a g) s xs t → FoldsTo (Stays b g) (lifted s) xs (lifted t) × Holds t.held
   kept-lift [] s t holds run = (ap lifted run, subst (λ u. Holds u.held) run holds)
   kept-lift (x ∷ xs) s t holds run =
-      let one = calls-lift s run.0 x holds run.1.calls in
-      let rest = kept-lift xs run.0 t one.1 run.2 in
-      ((lifted run.0, record { calls = one.0; stays = run.1.stays; on = run.1.on }, rest.0), rest.1)
+      let one = calls-lift s run.0 x holds run.1.calls in let rest = kept-lift xs run.0 t one.1 run.2 in ((lifted run.0, record { calls = one.0; stays = run.1.stays; on = run.1.on }, rest.0), rest.1)
 
   pub passes-lift : (s t : Stage F D) → Holds s.held → Passes a g s t → Passes b g (lifted s) (lifted t) × Holds t.held
   passes-lift s t holds passes =
@@ -74,8 +72,7 @@ module _ {K V : Type 0} (data_of : K → Key) where
       → shown.now ≡ get_or values p v → Called g f (key, (shown, tt)) (stays, (left, tt)) f'
       → Calls (beside data_of (list_map data_of keys)) g (stage p values f) (record { key = key; before = shown.now; after = left.now; stays = stays }) (stage q (set values p left.now) f')
   calls-read g keys v {values} {p} {q} {key} within same key_is is called =
-      let shows = shows-read keys values p key v within same key_is in
-      record { shows = (shows.0, shows.1 ∙ ap Some (sym is)); written = refl; called = CallsAt-called g called }
+      let shows = shows-read keys values p key v within same key_is in record { shows = (shows.0, shows.1 ∙ ap Some (sym is)); written = refl; called = CallsAt-called g called }
 
   -- the values beside the keys of a map are those of the map
   pub Lifts-values : (slots : Content ℕ) (keys : List Key) (spare : ℕ)

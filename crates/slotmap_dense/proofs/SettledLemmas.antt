@@ -94,8 +94,7 @@ module _ {K V : Type 0} (data_of : K → Key) (m : Inside K V) {now : Dense V} (
     -- a call that succeeded, with one pair more
     pub may-grow : (refused : Type 0) → (refused → ⊥) → IsSound slots' (list_map data_of keys'.items) values'.items → slots'.capacity ≡ m.slots.capacity
         → vec_capacity m.keys ≤ vec_capacity keys' → vec_capacity m.values ≤ vec_capacity values' → StayInRoom → GrowsDense now refused new
-    may-grow refused never sound' slots_same keys_more values_more stay =
-        let same = in_place slots_same stay in grind (arith, well_formed, dense_valid, unchanged, same)
+    may-grow refused never sound' slots_same keys_more values_more stay = grind (arith, well_formed, dense_valid, unchanged, (in_place slots_same stay))
 
     keeps : Keeps m.slots slots' → keys'.items ≡ m.keys.items → values'.items ≡ m.values.items → now.content.room ≤ new.content.room → Keeps now.content new.content
     keeps same keys_same values_same more = grind arith
@@ -103,8 +102,7 @@ module _ {K V : Type 0} (data_of : K → Key) (m : Inside K V) {now : Dense V} (
     -- a call that failed: the vectors may have more room, and nothing else changed
     pub refused-grow : (refused : Type 0) → slots' ≡ m.slots → keys'.items ≡ m.keys.items → values'.items ≡ m.values.items
         → vec_capacity m.keys ≤ vec_capacity keys' → vec_capacity m.values ≤ vec_capacity values' → StayInRoom → GrowsDense now refused new
-    refused-grow refused slots_same keys_same values_same keys_more values_more stay =
-        let same = in_place (ap (λ c. c.capacity) slots_same) stay in grind (arith, well_formed, dense_valid, unchanged, keeps, same)
+    refused-grow refused slots_same keys_same values_same keys_more values_more stay = grind (arith, well_formed, dense_valid, unchanged, keeps, (in_place (ap (λ c. c.capacity) slots_same) stay))
 
     -- the pair of k was taken out of position i, and the last pair moved there; so the slots, with k removed or detached, changed for that one
     pub record Closed (k : Key) (i : ℕ) (v : V) (left : Content ℕ) : Type 0 where

@@ -29,15 +29,13 @@ module _ {X : Type 0} where
 
   -- the last element is at the position, and the others before the last are where they were
   pub swap_remove_there : (xs : List X) (i : ℕ) (d : X) → i + 1 < length xs → slice_get (swap_remove xs i d) i ≡ slice_get xs (length xs - 1)
-  swap_remove_there xs i d inside =
-      grind (arith, gets, slice_get-take (length xs - 1) (set xs i (get_or xs (length xs - 1) d)) i, slice_get-set_same xs i)
+  swap_remove_there xs i d inside = grind (arith, gets, slice_get-take (length xs - 1) (set xs i (get_or xs (length xs - 1) d)) i, slice_get-set_same xs i)
 
   pub swap_remove_other : (xs : List X) (i : ℕ) (d : X) (j : ℕ) → j ≢ i → j + 1 < length xs → slice_get (swap_remove xs i d) j ≡ slice_get xs j
   swap_remove_other xs i d j other inside = grind (arith, slice_get-take (length xs - 1) (set xs i (get_or xs (length xs - 1) d)) j, slice_get-set_other xs i j)
 
 pub map-swap_remove : {X Y : Type 0} (f : X → Y) (xs : List X) (i : ℕ) (d : X) (e : Y) → i < length xs → list_map f (swap_remove xs i d) ≡ swap_remove (list_map f xs) i e
-map-swap_remove f xs i d e inside =
-    grind (arith, length-map xs f, take-map f (length xs - 1), map-set f xs i, get_or-map f xs (length xs - 1) d e)
+map-swap_remove f xs i d e inside = grind (arith, length-map xs f, take-map f (length xs - 1), map-set f xs i, get_or-map f xs (length xs - 1) d e)
 
 pub zip-push : {X Y : Type 0} (xs : List X) (ys : List Y) (x : X) (y : Y) → length ys ≡ length xs → zip (xs ++ x ∷ []) (ys ++ y ∷ []) ≡ zip xs ys ++ (x, y) ∷ []
 zip-push [] ys x y same = rw (nil_from_length ys same)
@@ -51,8 +49,7 @@ module _ {V : Type 0} where
   find-there [] vs i k alone at_k = absurd (cc)
   find-there (q ∷ ks) [] i k alone at_k = refl
   find-there (q ∷ ks) (w ∷ vs) zero k alone at_k = grind (arith, itself keys_total exact_keys k)
-  find-there (q ∷ ks) (w ∷ vs) (suc i) k alone at_k =
-      grind (arith, alone 0, tied keys_total exact_keys k q, find-there ks vs i k (λ j there. omega (arith, alone (suc j) there)) at_k)
+  find-there (q ∷ ks) (w ∷ vs) (suc i) k alone at_k = grind (arith, alone 0, tied keys_total exact_keys k q, find-there ks vs i k (λ j there. omega (arith, alone (suc j) there)) at_k)
 
   pub find-absent : (ks : List Key) (vs : List V) (k : Key) → ((j : ℕ) → slice_get ks j ≡ Some k → ⊥) → find key_cmp k (zip ks vs) ≡ None
   find-absent [] vs k absent = refl
@@ -84,10 +81,8 @@ module _ {V : Type 0} where
       → slice_get ks i ≡ Some k → put_beside ks vs k v ≡ set vs i v
   put_beside-at [] vs i k v alone at_k = absurd (cc)
   put_beside-at (q ∷ ks) [] i k v alone at_k = refl
-  put_beside-at (q ∷ ks) (w ∷ vs) zero k v alone at_k =
-      grind (arith, itself keys_total exact_keys k, put_beside-absent ks vs k v (λ j there. absurd (omega (arith, alone (suc j) there))))
-  put_beside-at (q ∷ ks) (w ∷ vs) (suc i) k v alone at_k =
-      grind (arith, alone 0, tied keys_total exact_keys q k, put_beside-at ks vs i k v (λ j there. omega (arith, alone (suc j) there)) at_k)
+  put_beside-at (q ∷ ks) (w ∷ vs) zero k v alone at_k = grind (arith, itself keys_total exact_keys k, put_beside-absent ks vs k v (λ j there. absurd (omega (arith, alone (suc j) there))))
+  put_beside-at (q ∷ ks) (w ∷ vs) (suc i) k v alone at_k = grind (arith, alone 0, tied keys_total exact_keys q k, put_beside-at ks vs i k v (λ j there. omega (arith, alone (suc j) there)) at_k)
 
   pub length-put_beside : (ks : List Key) (vs : List V) (k : Key) (v : V) → length (put_beside ks vs k v) ≡ length vs
   length-put_beside [] vs k v = refl

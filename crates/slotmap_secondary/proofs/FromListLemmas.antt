@@ -1,9 +1,8 @@
 -- What a map holds that is read from a list of slots.
 use Rattle.std.specs.FinMap as map
-use Rattle.std.proofs.Common.{◌≡◌, ◌+◌, ◌∷◌, ◌++◌, nat_cmp, ℕ, List, [], length, map as list_map, slice_get, Option, None, Some, option_map, sym}
-use Rattle.slotmap_core.proofs.Common.{keyed, start_live, slot_pair, Accepts, AllFitBelow, refl, ap, ◌∙◌, arith, slice_get_within}
-use Rattle.slotmap_core.proofs.Common.{slice_get_past, slice_get-map, length-map, map_push, nat_cmp_total, exact_unsigned, len_inserted, mapped}
-use Rattle.slotmap_core.proofs.Common.{side_list_limit, gather-push_put, contents_by_place}
+use Rattle.std.proofs.Common.{◌≡◌, ◌+◌, ◌∷◌, ◌++◌, map as list_map, refl, ap, ◌∙◌, arith, nat_cmp, ℕ, List, [], length, slice_get, Option, None, Some, option_map, sym}
+use Rattle.slotmap_core.proofs.Common.{AllFitBelow, slice_get_within, slice_get_past, slice_get-map, nat_cmp_total, exact_unsigned, len_inserted, side_list_limit, gather-push_put, contents_by_place}
+use Rattle.slotmap_core.proofs.Common.{keyed, start_live, slot_pair, Accepts, length-map, map_push, mapped}
 use Rattle.slotmap_core.specs.declared.serial.SlotRecord.{SlotRecord}
 use Rattle.slotmap_secondary.specs.Slots.{Slot, Vacant, Occupied, pair_at, entry_in, pairs_of, IsSlotAt, IsSound}
 use Rattle.slotmap_secondary.proofs.SlotLemmas.{laws, entry_fits, get-pairs, pairs-push}

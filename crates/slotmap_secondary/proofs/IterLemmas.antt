@@ -1,10 +1,8 @@
 -- What an iterator over the slots of a map visits.
 use Rattle.std.specs.FinMap as map
-use Rattle.std.proofs.Common.{◌≡◌, ◌+◌, ◌<◌, ◌∷◌, nat_cmp, ℕ, suc, T, List, [], length, slice_get, map as list_map, Some, refl, sym, ap, ◌∙◌, arith}
-use Rattle.slotmap_core.proofs.Common.{below_all, is_sorted, keyed, keyed_entry, gather, nat_tests, nat_cmp_total, length-map, exact_unsigned, entries-keyed}
-use Rattle.slotmap_core.proofs.Common.{len-keyed}
-use Rattle.slotmap_secondary.specs.Slots.{Slot, entry_in, pairs_of, IsSlotAt, IsSound}
-use Rattle.slotmap_secondary.specs.Iter.{pairs_from, values_in, AreKeys, IsIter}
+use Rattle.std.proofs.Common.{◌≡◌, ◌+◌, ◌<◌, ◌∷◌, map as list_map, nat_cmp, ℕ, suc, T, List, [], length, slice_get, Some, refl, sym, ap, ◌∙◌, arith}
+use Rattle.slotmap_core.proofs.Common.{below_all, is_sorted, keyed, keyed_entry, gather, nat_tests, nat_cmp_total, length-map, exact_unsigned, entries-keyed, len-keyed}
+use Rattle.slotmap_secondary.specs.{Slots.Slot, Slots.entry_in, Slots.pairs_of, Slots.IsSlotAt, Slots.IsSound, Iter.pairs_from, Iter.values_in, Iter.AreKeys, Iter.IsIter}
 
 module _ {V : Type 0} where
   abbrev entries_from : ℕ → List (Slot V) → List (ℕ × (ℕ × V))
@@ -55,8 +53,7 @@ module _ {V : Type 0} where
 
   keys-from : (i : ℕ) (slots : List (Slot V)) → ((j : ℕ) (s : Slot V) → slice_get slots j ≡ Some s → IsSlotAt (i + j) s) → AreKeys i slots
   keys-from i [] each = tt
-  keys-from i (s ∷ rest) each =
-      grind (arith, each 0 s refl, keys-from (i + 1) rest (λ j s there. let shift : i + suc j ≡ i + 1 + j = omega arith in rw (← shift) (each (suc j) s there)))
+  keys-from i (s ∷ rest) each = grind (arith, each 0 s refl, keys-from (i + 1) rest (λ j s there. let shift : i + suc j ≡ i + 1 + j = omega arith in rw (← shift) (each (suc j) s there)))
 
   pub IsIter-start : (slots : List (Slot V)) (len : ℕ) → IsSound slots len → IsIter slots 0 len
   IsIter-start slots len sound = grind (arith, len-pairs, keys-from)

@@ -1,8 +1,7 @@
 -- What the clones of the entries of a hash map hold.
 use Rattle.std.specs.FinMap as map
 use Rattle.std.proofs.Common.{◌≡◌, ◌∷◌, ℕ, cond, true, false, nat_eq, List, [], Option, None, Some, refl, sym, subst, ◌∙◌}
-use Rattle.slotmap_core.proofs.Common.{nat_cmp_total, AllZip, IsDistinct, lookup, keys_of, ClonesEqual, Pairs, IsSecondary, HasClones, exact_unsigned}
-use Rattle.slotmap_core.proofs.Common.{IsPairClone, HasClones-by_index}
+use Rattle.slotmap_core.proofs.Common.{nat_cmp_total, AllZip, IsDistinct, lookup, keys_of, ClonesEqual, Pairs, IsSecondary, HasClones, exact_unsigned, IsPairClone, HasClones-by_index}
 use Rattle.slotmap_sparse.specs.Entries.{pairs_of, IsSound}
 use Rattle.slotmap_sparse.proofs.EntriesLemmas.{get-pairs}
 
@@ -19,9 +18,7 @@ module _ {V : Type 0} (is_clone : V → V → Type 0) where
 
   module _ (m copy : Pairs V) (each : (i : ℕ) → IsPairClone is_clone (map.get m i) (map.get copy i)) where
     pub IsSecondary-cloned : IsSecondary m → IsSecondary copy
-    IsSecondary-cloned valid i p at =
-        let from = pair_from (map.get m i) p (subst (λ o. IsPairClone is_clone (map.get m i) o) at (each i)) in
-        rw from.2 (valid i from.0 from.1)
+    IsSecondary-cloned valid i p at = let from = pair_from (map.get m i) p (subst (λ o. IsPairClone is_clone (map.get m i) o) at (each i)) in rw from.2 (valid i from.0 from.1)
 
     pub pairs_equal : ClonesEqual is_clone → copy ≡ m
     pairs_equal equal = map.same_map nat_cmp_total exact_unsigned _ _ (λ i. pair_equal equal (map.get m i) (map.get copy i) (each i))

@@ -1,8 +1,7 @@
 -- What the steps of a drain leave.
 use Rattle.std.specs.FinMap as map
 use Rattle.slotmap_core.proofs.Common.{MakesProgress, Key, Option, Some, None, is_some, ap, arith, len_taken}
-use Rattle.slotmap_sparse.specs.declared.drain.Drain.{Drain}
-use Rattle.slotmap_sparse.specs.Drain.{TakesPair, drain_count}
+use Rattle.slotmap_sparse.specs.{declared.drain.Drain.Drain, Drain.TakesPair, Drain.drain_count}
 
 module _ {K V S Z : Type 0} (data_of : K → Key) where
   -- a step leaves fewer pairs
@@ -10,5 +9,4 @@ module _ {K V S Z : Type 0} (data_of : K → Key) where
       → MakesProgress can drain_count old item new
   Drain-goes can always old new None taken = record { on = λ _. tt; keeps = tt; rests = λ finite. finite }
   Drain-goes can always old new (Some item) taken =
-      let fewer = len_taken old.map.now.pairs (data_of item.0) (ap is_some taken.0) in
-      record { on = λ finite. (always new, finite, omega (arith, fewer, ap map.len taken.1)); keeps = always new; rests = λ _. tt }
+      record { on = λ finite. (always new, finite, omega (arith, (len_taken old.map.now.pairs (data_of item.0) (ap is_some taken.0)), ap map.len taken.1)); keeps = always new; rests = λ _. tt }

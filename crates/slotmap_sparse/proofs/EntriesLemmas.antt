@@ -1,14 +1,11 @@
 -- The entries of a hash map as a finite map.
 use Rattle.std.specs.FinMap as map
-use Rattle.std.proofs.Common.{◌≢◌, ◌≡◌, ◌+◌, ◌∷◌, ◌≤◌, HashMap, hash_map_len, ne_eqb, eq-eqb, ℕ, true, false, cond, nat_eq, List, [], length, Option, Some, sym}
-use Rattle.slotmap_core.proofs.Common.{option_copied_mut, eq_by_cmp, nat_cmp_total, unsigned_tied, nat_eq_equiv, IsDistinct, find, spare, WritesThrough, lookup}
-use Rattle.slotmap_core.proofs.Common.{keys_of, Key, IsKey, Pairs, IsSecondary, is_null, bind, put, get, contains_key, value_at, None, is_some, refl, ap, subst}
-use Rattle.slotmap_core.proofs.Common.{◌∙◌, nat_cmp, arith, inl, inr, MutBor, Result, Ok, OnOk, exact_unsigned, lookup-none, none_past_head, len_inserted}
-use Rattle.slotmap_core.proofs.Common.{get_after_insert, insert_same, get_here, IsSecondary-empty, IsSecondary-bind, IsSecondary-put, IsSecondary-remove}
-use Rattle.slotmap_core.proofs.Common.{same_version, not_null_at, put_at}
-use Rattle.slotmap_sparse.specs.Content.{SparseContent, IsSparseContent, sparse_with_value, room}
-use Rattle.slotmap_sparse.specs.Found.{put_over}
-use Rattle.slotmap_sparse.specs.Entries.{pairs_of, content_of, IsSound}
+use Rattle.std.proofs.Common.{◌≢◌, ◌≡◌, ◌+◌, ◌∷◌, ◌≤◌, HashMap, hash_map_len, is_some, subst, ◌∙◌, nat_cmp, MutBor, Result, ne_eqb, eq-eqb, nat_eq, length, Option}
+use Rattle.std.proofs.Common.{None, refl, ap, arith, inl, inr, Ok, OnOk, ℕ, true, false, cond, List, [], Some, sym}
+use Rattle.slotmap_core.proofs.Common.{option_copied_mut, nat_cmp_total, exact_unsigned, none_past_head, get_after_insert, IsSecondary-empty, IsSecondary-bind, IsSecondary-put, IsSecondary-remove}
+use Rattle.slotmap_core.proofs.Common.{eq_by_cmp, unsigned_tied, nat_eq_equiv, IsDistinct, WritesThrough, IsSecondary, contains_key, lookup-none, len_inserted, insert_same, same_version, not_null_at}
+use Rattle.slotmap_core.proofs.Common.{find, spare, lookup, keys_of, Key, IsKey, Pairs, is_null, bind, put, get, value_at, get_here, put_at}
+use Rattle.slotmap_sparse.specs.{Content.SparseContent, Content.IsSparseContent, Content.sparse_with_value, Content.room, Found.put_over, Entries.pairs_of, Entries.content_of, Entries.IsSound}
 
 turned : (k q : ℕ) → nat_eq k q ≡ eq_by_cmp nat_cmp q k
 turned k q = nat_eq_equiv.symm k q ∙ sym (unsigned_tied q k)
@@ -135,8 +132,7 @@ module _ {V : Type 0} where
   module _ {S : Type 0} (m n : HashMap ℕ (ℕ × V) S) (sound : IsSound m.entries) (i : ℕ) (p : ℕ × V) (stood : lookup (nat_eq i) m.entries ≡ Some p)
       (written : WritesThrough nat_eq (nat_eq i) m p n) where
     pairs_kept : pairs_of n.entries ≡ pairs_of m.entries
-    pairs_kept =
-        pairs_put m.entries n.entries i p (written.3 (ap is_some stood)).0 ∙ insert_same nat_cmp_total exact_unsigned (pairs_of m.entries) i p (get-pairs m.entries i ∙ stood)
+    pairs_kept = pairs_put m.entries n.entries i p (written.3 (ap is_some stood)).0 ∙ insert_same nat_cmp_total exact_unsigned (pairs_of m.entries) i p (get-pairs m.entries i ∙ stood)
 
     pub IsSound-kept : IsSound n.entries
     IsSound-kept = IsSound-same m.entries n.entries sound written.4 pairs_kept

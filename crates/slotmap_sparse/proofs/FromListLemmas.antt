@@ -1,10 +1,9 @@
 -- How many slots a map is written as, and what a map holds that reads a list slot by slot.
 use Rattle.std.specs.FinMap as map
 use Rattle.std.specs.FinSet as set
-use Rattle.std.proofs.Common.{◌≡◌, ◌+◌, ◌-◌, ◌<◌, ◌≤◌, ◌^◌, ◌⊎◌, ◌∷◌, ◌++◌, ℕ, true, List, [], length, slice_get, None, is_some, eq-eqb, refl}
-use Rattle.slotmap_core.proofs.Common.{nat_cmp_total, Key, key_cmp, IsKeyListing, Pairs, contains_key, keyed, slot_pair, ap, ◌∙◌, arith, exact_unsigned}
-use Rattle.slotmap_core.proofs.Common.{slice_get_past, keys_total, exact_keys, tied, untied, contains-keyed, get_here, some_is, item_after_insert}
-use Rattle.slotmap_core.proofs.Common.{item_inserted, item_still, slice_get_push, slice_get_push_other}
+use Rattle.std.proofs.Common.{◌≡◌, ◌+◌, ◌-◌, ◌<◌, ◌≤◌, ◌^◌, ◌⊎◌, ◌∷◌, ◌++◌, arith, ℕ, true, List, [], length, slice_get, None, is_some, eq-eqb, refl}
+use Rattle.slotmap_core.proofs.Common.{nat_cmp_total, IsKeyListing, exact_unsigned, slice_get_past, keys_total, contains-keyed, item_after_insert, item_inserted, slice_get_push, slice_get_push_other}
+use Rattle.slotmap_core.proofs.Common.{Key, key_cmp, Pairs, contains_key, keyed, slot_pair, ap, ◌∙◌, exact_keys, tied, untied, get_here, some_is, item_still}
 use Rattle.slotmap_core.specs.declared.serial.SlotRecord.{SlotRecord}
 use Rattle.slotmap_sparse.specs.Written.{ReachesLargest, with_slot}
 

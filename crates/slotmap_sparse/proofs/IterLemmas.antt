@@ -1,11 +1,10 @@
 -- The entries of a hash map as keys with their values.
 use Rattle.std.specs.FinMap as map
 use Rattle.std.proofs.Common.{◌≡◌, ◌∷◌, ℕ, true, false, cond, nat_eq, eqb-true, List, [], length, Some, None, refl, sym, ap, ◌∙◌, nat_cmp, arith}
-use Rattle.slotmap_core.proofs.Common.{YieldsFirstBy, IsDistinct, AllByRecursion, nat_eq_equiv, unsigned_tied, find, lookup, keys_of, Key, key_cmp, IsListing}
-use Rattle.slotmap_core.proofs.Common.{IsKeyListing, Pairs, IsSecondary, keyed_entry, keyed, contains_key, value_at, length-map, same_Some, lookup-none}
-use Rattle.slotmap_core.proofs.Common.{none_past_head, lookup_head, keys_total, exact_keys, tie_parts, get-keyed, contains-keyed, len-keyed, item_inserted}
-use Rattle.slotmap_sparse.specs.Entries.{pairs_of, IsSound}
-use Rattle.slotmap_sparse.specs.Iter.{key_pairs, IsOfKey, AreOfKeys}
+use Rattle.slotmap_core.proofs.Common.{YieldsFirstBy, AllByRecursion, nat_eq_equiv, unsigned_tied, IsKeyListing, IsSecondary, keyed_entry, contains_key, none_past_head, contains-keyed, item_inserted}
+use Rattle.slotmap_core.proofs.Common.{IsDistinct, keys_of, Key, key_cmp, IsListing, value_at, length-map, same_Some, lookup-none, lookup_head, keys_total, exact_keys, tie_parts, get-keyed, len-keyed}
+use Rattle.slotmap_core.proofs.Common.{find, lookup, Pairs, keyed}
+use Rattle.slotmap_sparse.specs.{Entries.pairs_of, Entries.IsSound, Iter.key_pairs, Iter.IsOfKey, Iter.AreOfKeys}
 use Rattle.slotmap_sparse.proofs.EntriesLemmas.{get-pairs, len-pairs}
 
 module _ {X : Type 0} where

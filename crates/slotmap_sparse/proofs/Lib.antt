@@ -8,3 +8,4 @@ mod EqualLemmas
 mod FromListLemmas
 mod CloneLemmas
 mod WrittenLemmas
+mod Common

@@ -2,13 +2,10 @@
 use Rattle.std.specs.FinMap as map
 use Rattle.std.proofs.Common.{◌≡◌, ◌+◌, ◌∷◌, ◌++◌, ℕ, Bool, cond, nat_eq, List, [], length, Some, None, is_some, refl, sym, ap, subst, ◌∙◌, arith}
 use Rattle.slotmap_core.specs.Words.{MutBor}
-use Rattle.slotmap_core.proofs.Common.{nat_eq_equiv, Mut, FoldsTo, IsDistinct, keys_of, RetainsPairs, SomeCallAtPair, Key, IsKey, key_cmp}
-use Rattle.slotmap_core.proofs.Common.{IsListingBut, with_entries, Visit, CallsAt, RetainsBy, MayCome, seen, kept, Pairs, keyed, keyed_entry, value_at}
-use Rattle.slotmap_core.proofs.Common.{lookup_head, key_from-odd, get-keyed, Visits-rest}
-use Rattle.slotmap_sparse.specs.Entries.{pairs_of, IsSound, VisitsPair}
-use Rattle.slotmap_sparse.specs.Iter.{key_pairs, IsOfKey, AreOfKeys}
-use Rattle.slotmap_sparse.proofs.EntriesLemmas.{get-pairs}
-use Rattle.slotmap_sparse.proofs.IterLemmas.{listing, of_keys}
+use Rattle.slotmap_core.proofs.Common.{nat_eq_equiv, IsDistinct, RetainsPairs, SomeCallAtPair, IsListingBut, with_entries, RetainsBy, keyed_entry, lookup_head, key_from-odd, get-keyed, Visits-rest}
+use Rattle.slotmap_core.proofs.Common.{Mut, FoldsTo, keys_of, Key, IsKey, key_cmp, Visit, CallsAt, MayCome, seen, kept, Pairs, keyed, value_at}
+use Rattle.slotmap_sparse.specs.{Entries.pairs_of, Entries.IsSound, Entries.VisitsPair, Iter.key_pairs, Iter.IsOfKey, Iter.AreOfKeys}
+use Rattle.slotmap_sparse.proofs.{EntriesLemmas.get-pairs, IterLemmas.listing, IterLemmas.of_keys}
 
 module _ {V : Type 0} where
   -- two parts of a list of entries, and what is known of each
@@ -89,8 +86,7 @@ module _ {F G K V : Type 0} (g : Mut F (K × (MutBor V × Unit {0})) (Bool × (M
 
   pub visited : ShowsEach → (c : G) (es left : List (ℕ × (ℕ × V))) → AreOfKeys es → RetainsPairs T c es left → Visited c es left
   visited shows c [] left of run =
-      let none = subst (λ (x : List (ℕ × (ℕ × V))). AreOfKeys x) (sym run) tt in
-      record { visits = []; last = state c; calls = refl; saw = refl; stay = ap key_pairs (sym run); of = none }
+      record { visits = []; last = state c; calls = refl; saw = refl; stay = ap key_pairs (sym run); of = (subst (λ (x : List (ℕ × (ℕ × V))). AreOfKeys x) (sym run) tt) }
   visited shows c (e ∷ es) left of run =
       let b = run.0 in
       let w = run.1 in

@@ -1,9 +1,8 @@
 -- The list that a map is written as, with clones of its values.
 use Rattle.std.specs.FinMap as map
-use Rattle.std.proofs.Common.{◌≡◌, ◌<◌, ◌≤◌, ◌∷◌, ◌++◌, ℕ, cond, true, false, nat_eq, eqb-true, eq-eqb, ne_eqb, List, [], None}
-use Rattle.slotmap_core.proofs.Common.{nat_cmp_total, unsigned_tied, ClonesEqual, IsCloneOf, start_live, Key, Pairs, IsSecondary, get, keyed, record_of_pair}
-use Rattle.slotmap_core.proofs.Common.{length, slice_get, Option, Some, refl, sym, ap, subst, ◌∙◌, nat_cmp, arith, length_push, slice_get_push}
-use Rattle.slotmap_core.proofs.Common.{slice_get_push_other, get-keyed, none_of, some_is, IsPairClone, HasClones-by_index, contents_written}
+use Rattle.std.proofs.Common.{◌≡◌, ◌<◌, ◌≤◌, ◌∷◌, ◌++◌, sym, ap, subst, ◌∙◌, nat_cmp, arith, ℕ, cond, true, false, nat_eq, eqb-true, eq-eqb, ne_eqb, List, [], None}
+use Rattle.slotmap_core.proofs.Common.{nat_cmp_total, unsigned_tied, ClonesEqual, IsSecondary, record_of_pair, length_push, slice_get_push, slice_get_push_other, HasClones-by_index, contents_written}
+use Rattle.slotmap_core.proofs.Common.{IsCloneOf, start_live, Key, Pairs, get, keyed, length, slice_get, Option, Some, refl, get-keyed, none_of, some_is, IsPairClone}
 use Rattle.slotmap_core.specs.declared.serial.SlotRecord.{SlotRecord}
 use Rattle.slotmap_sparse.specs.Written.{ReachesLargest, WritesSparse, WritesSparseClones, IsCloneSlot}
 use Rattle.slotmap_sparse.proofs.CloneLemmas.{IsSecondary-cloned, pairs_equal}
@@ -83,8 +82,7 @@ module _ {V : Type 0} (is_clone : V → V → Type 0) (m : Pairs V) where
     contents_copy valid = contents_written slots done.copy (IsSecondary-cloned is_clone m done.copy each_index valid) copy_within done.each
 
     pub contents_clones : IsSecondary m → (k : Key) → IsCloneOf is_clone (get m k) (map.get (start_live slots) k)
-    contents_clones valid k =
-        subst (IsCloneOf is_clone (get m k)) (sym (ap (λ c. map.get c k) (contents_copy valid) ∙ get-keyed done.copy k)) (HasClones-by_index is_clone m done.copy each_index k)
+    contents_clones valid k = subst (IsCloneOf is_clone (get m k)) (sym (ap (λ c. map.get c k) (contents_copy valid) ∙ get-keyed done.copy k)) (HasClones-by_index is_clone m done.copy each_index k)
 
     -- if clones equal their values, the list is that of the map itself
     pub writes_equal : ClonesEqual is_clone → WritesSparse m slots

@@ -20,8 +20,7 @@ returns-clause-clones g c =
 
 pub returns-clause-order : goal.returns-clause-order
 returns-clause-order g c =
-    let at = (goal.at.returns-clause-order g c).In_ok-clone in
-    rw (← c.self.view_is) (record { keys = ap (list_map g.K.Key.data_of) (same_keys g at); values = c.in_ok-clone.ensures.cases.0 })
+    rw (← c.self.view_is) (record { keys = ap (list_map g.K.Key.data_of) (same_keys g (goal.at.returns-clause-order g c).In_ok-clone); values = c.in_ok-clone.ensures.cases.0 })
 
 pub returns-clause-copies_if_clones_equal : goal.returns-clause-copies_if_clones_equal
 returns-clause-copies_if_clones_equal g c = clone_copies _ _ _ (returns-clause-clones g c)

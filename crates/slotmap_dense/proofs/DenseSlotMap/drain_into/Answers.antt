@@ -32,26 +32,19 @@ loop-pair-preserved g c =
       room = omega (arith, at.invariant.room, ap length takes.2, length_push c.take_last.new.self.keys key, c.push_reserved.ensures.len, c.push_reserved.ensures.capacity);
     }
 
-pub returns-clause-ok : goal.returns-clause-ok
-returns-clause-ok g c = grind (arith, common_steps, none_left, IsListingBut-done)
-
-pub returns-clause-in_order : goal.returns-clause-in_order
-returns-clause-in_order g c = grind (arith, common_steps, none_left, append-nil, map-append)
+pub returns : goal.returns
+returns g c = record {
+  ok = grind (arith, common_steps, none_left, IsListingBut-done);
+  in_order = grind (arith, common_steps, none_left, append-nil, map-append);
+  empty = grind (arith, common_steps, none_left);
+  leaves = grind (arith, common_steps);
+  order = grind (arith, common_steps, append-nil);
+  unchanged = grind (arith, common_steps);
+  valid = grind (arith, common_steps);
+}
 
 pub push_reserved-requires : goal.push_reserved-requires
 push_reserved-requires g c = grind (arith, common_steps)
 
 pub loop-pair-smaller : goal.loop-pair-smaller
 loop-pair-smaller g c = grind (arith, common_steps)
-
-pub returns-clause-empty : goal.returns-clause-empty
-returns-clause-empty g c = grind (arith, common_steps, none_left)
-
-pub returns-clause-order : goal.returns-clause-order
-returns-clause-order g c = grind (arith, common_steps, append-nil)
-
-pub returns-clause-leaves : goal.returns-clause-leaves
-returns-clause-leaves g c = grind (arith, common_steps)
-
-pub returns-clause-valid : goal.returns-clause-valid
-returns-clause-valid g c = grind (arith, common_steps)

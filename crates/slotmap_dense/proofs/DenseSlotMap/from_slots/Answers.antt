@@ -88,8 +88,7 @@ returns-in_err-slots-clause-err g c = grind (arith, common_steps, refuses-positi
 
 pub invariant_of-result : goal.invariant_of-result
 invariant_of-result g c =
-    let at = goal.at.invariant_of-result g c in
-    IsSound-split _ _ _ _ (split_all g at.In-None) list_limit (accepted g at.In_ok-check_slots) c.in_ok-slots.slots c.in_ok-slots.ensures.reads
+    let at = goal.at.invariant_of-result g c in IsSound-split _ _ _ _ (split_all g at.In-None) list_limit (accepted g at.In_ok-check_slots) c.in_ok-slots.slots c.in_ok-slots.ensures.reads
 
 pub returns-clause-valid : goal.returns-clause-valid
 returns-clause-valid g c = dense_valid g.K.Key.data_of c.in_ok-slots.slots c.loop-slot.keys c.loop-slot.values (invariant_of-result g c)

@@ -8,8 +8,7 @@ returns-in_err-position-clause-value g c =
 
 pub index-requires : goal.index-requires
 index-requires g c =
-    let found = present _ c.self.inside c.self.view_is c.self.invariant c.data.result _ (sym c.get.ensures.value ∙ ap option_copied c.in_ok-position.was) in
-    omega (arith, found.inside, c.self.inside.values.ok.0)
+    omega (arith, (present _ c.self.inside c.self.view_is c.self.invariant c.data.result _ (sym c.get.ensures.value ∙ ap option_copied c.in_ok-position.was)).inside, c.self.inside.values.ok.0)
 
 pub returns-clause-value : goal.returns-clause-value
 returns-clause-value g c =

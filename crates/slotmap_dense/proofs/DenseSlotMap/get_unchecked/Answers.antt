@@ -5,8 +5,7 @@ pub get_unchecked-position-requires : goal.get_unchecked-position-requires
 get_unchecked-position-requires g c = rw (c.data.ensures.value, ← contains _ c.self.inside c.self.view_is c.self.invariant (g.K.Key.data_of c.args.key)) c.requires
 
 pub index-requires : goal.index-requires
-index-requires g c =
-    let found = present _ c.self.inside c.self.view_is c.self.invariant c.data.result _ c.get_unchecked-position.ensures.value in omega (arith, found.inside, c.self.inside.values.ok.0)
+index-requires g c = omega (arith, (present _ c.self.inside c.self.view_is c.self.invariant c.data.result _ c.get_unchecked-position.ensures.value).inside, c.self.inside.values.ok.0)
 
 pub returns-clause-value : goal.returns-clause-value
 returns-clause-value g c =

@@ -5,8 +5,7 @@ pub get_unchecked-requires : goal.get_unchecked-requires
 get_unchecked-requires g c = rw (c.data.ensures.value, ← contains _ c.self.inside c.self.view_is c.self.invariant (g.K.Key.data_of c.args.key)) c.requires
 
 pub index_mut-requires : goal.index_mut-requires
-index_mut-requires g c =
-    let found = present _ c.self.inside c.self.view_is c.self.invariant c.data.result _ c.get_unchecked.ensures.value in omega (arith, found.inside, c.self.inside.values.ok.0)
+index_mut-requires g c = omega (arith, (present _ c.self.inside c.self.view_is c.self.invariant c.data.result _ c.get_unchecked.ensures.value).inside, c.self.inside.values.ok.0)
 
 pub invariant_of-self-lent : goal.invariant_of-self-lent
 invariant_of-self-lent g c w = IsSound-other _ _ _ _ _ c.self.invariant c.self.invariant.well refl (length-set c.self.inside.values.items c.get_unchecked.result.now w)

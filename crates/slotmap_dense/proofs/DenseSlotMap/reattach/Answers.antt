@@ -4,8 +4,7 @@ use Rattle.slotmap_dense.proofs.{MoveLemmas.kept_not_live, DenseSlotMap.reattach
 use Rattle.slotmap_dense.proofs.DenseSlotMap.reattach.Goals as goal
 
 pub returns-then-not-is_detached-clause-valid : goal.returns-then-not-is_detached-clause-valid
-returns-then-not-is_detached-clause-valid g c =
-    let well = well_formed _ c.self.inside c.self.view_is c.self.invariant in search rules
+returns-then-not-is_detached-clause-valid g c = let well = well_formed _ c.self.inside c.self.view_is c.self.invariant in search rules
 
 pub returns-then-is_err-clause-valid : goal.returns-then-is_err-clause-valid
 returns-then-is_err-clause-valid g c =
@@ -35,8 +34,7 @@ grown g c =
 
 pub invariant_of-self-2 : goal.invariant_of-self-2
 invariant_of-self-2 g c =
-    let rea = rw c.data-data.ensures.value at c.reattach.ensures.reattaches in
-    (grown g (goal.at.invariant_of-self-2 g c).After-push_reserved-2).sound_after rea.live c.reattach.ensures.valid.after
+    let rea = rw c.data-data.ensures.value at c.reattach.ensures.reattaches in (grown g (goal.at.invariant_of-self-2 g c).After-push_reserved-2).sound_after rea.live c.reattach.ensures.valid.after
 
 pub returns-clause-ok : goal.returns-clause-ok
 returns-clause-ok g c = (grown g (goal.at.returns-clause-ok g c).After-push_reserved-2).reattaches (rw c.data-data.ensures.value at c.reattach.ensures.reattaches)

@@ -40,9 +40,7 @@ returns-clause-makes_room g c =
     c.in_ok-make_room_in_slots.ensures.makes_room keys.keeps values.keeps keys.capacity values.capacity _ (λ _. (refl, keys.ok, values.ok)) (grind arith) (grind arith)
 
 pub invariant_of-self : goal.invariant_of-self
-invariant_of-self g c =
-    let room = c.in_err-make_room_in_slots.ensures.makes_room in
-    IsSound-other _ _ _ _ _ c.self.invariant room.after room.keeps.live refl
+invariant_of-self g c = let room = c.in_err-make_room_in_slots.ensures.makes_room in IsSound-other _ _ _ _ _ c.self.invariant room.after room.keeps.live refl
 
 pub invariant_of-self-2 : goal.invariant_of-self-2
 invariant_of-self-2 g c =
@@ -51,8 +49,7 @@ invariant_of-self-2 g c =
 
 pub invariant_of-self-in_err-make_room_in : goal.invariant_of-self-in_err-make_room_in
 invariant_of-self-in_err-make_room_in g c =
-    let room = c.in_ok-make_room_in_slots.ensures.makes_room in
-    rw c.in_err-make_room_in.ensures.keeps (IsSound-other _ _ _ _ _ c.self.invariant room.after room.keeps.live refl)
+    let room = c.in_ok-make_room_in_slots.ensures.makes_room in rw c.in_err-make_room_in.ensures.keeps (IsSound-other _ _ _ _ _ c.self.invariant room.after room.keeps.live refl)
 
 pub invariant_of-self-in_err-make_room_in-2 : goal.invariant_of-self-in_err-make_room_in-2
 invariant_of-self-in_err-make_room_in-2 g c =

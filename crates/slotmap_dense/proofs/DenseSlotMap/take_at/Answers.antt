@@ -7,8 +7,7 @@ take-requires g c = rw c.data.ensures.value (ap is_some (read_at _ c.self.inside
 
 pub close_gap-requires-clause-gapped : goal.close_gap-requires-clause-gapped
 close_gap-requires-clause-gapped g c =
-    rw (c.take.ensures.removes.live, c.data.ensures.value)
-    (IsGapped-removed _ _ c.self.invariant.packed _ _ (read_at _ c.self.inside c.self.view_is c.self.invariant _ _ c.requires c.index.ensures))
+    rw (c.take.ensures.removes.live, c.data.ensures.value) (IsGapped-removed _ _ c.self.invariant.packed _ _ (read_at _ c.self.inside c.self.view_is c.self.invariant _ _ c.requires c.index.ensures))
 
 closes : (g : _) (c : After-close_gap g) → Closed g.K.Key.data_of c.self.inside c.self.view_is c.self.invariant c.close_gap.new.slots c.close_gap.new.keys
     c.close_gap.new.values (g.K.Key.data_of c.index.result.now) c.args.position c.close_gap.result c.take.new.self
@@ -30,9 +29,7 @@ returns-clause-leaves g c = λ k stands.
     rw (same_Some _ _ (sym stands ∙ stood)) leaves
 
 pub returns-clause-fewer : goal.returns-clause-fewer
-returns-clause-fewer g c =
-    let leaves = (closes g (goal.at.returns-clause-fewer g c).After-close_gap).leaves (rw c.data.ensures.value at c.take.ensures.removes) in
-    rw leaves.keys (length-swap_remove _ _ _ c.requires)
+returns-clause-fewer g c = rw ((closes g (goal.at.returns-clause-fewer g c).After-close_gap).leaves (rw c.data.ensures.value at c.take.ensures.removes)).keys (length-swap_remove _ _ _ c.requires)
 
 pub returns-clause-valid : goal.returns-clause-valid
 returns-clause-valid g c = (closes g (goal.at.returns-clause-valid g c).After-close_gap).valid c.take.ensures.valid.capacity

@@ -2,9 +2,7 @@ use Rattle.slotmap_dense.proofs.Common.{refl, arith, common_steps, rules, IsSoun
 use Rattle.slotmap_dense.proofs.DenseSlotMap.values_as_mut_slice.Goals as goal
 
 pub returns : goal.returns
-returns g c =
-    let valid = well_formed _ c.self.inside c.self.view_is c.self.invariant in
-    ((refl, lent _ c.self.inside c.self.view_is c.self.invariant), search rules)
+returns g c = let valid = well_formed _ c.self.inside c.self.view_is c.self.invariant in ((refl, lent _ c.self.inside c.self.view_is c.self.invariant), search rules)
 
 pub invariant_of-self-lent : goal.invariant_of-self-lent
 invariant_of-self-lent g c w = IsSound-other _ _ _ _ _ c.self.invariant c.self.invariant.well refl (grind (arith, common_steps))

@@ -1,7 +1,4 @@
-use Rattle.slotmap_core.proofs.Common.{common_steps}
-use Rattle.std.proofs.Common.{◌≡◌, length, sym, ap, ◌∙◌, arith}
-use Rattle.slotmap_secondary.proofs.SlotLemmas.{count, valid}
-use Rattle.slotmap_secondary.proofs.PutAfterLastLemmas.{IsSound-append, content-append}
+use Rattle.slotmap_secondary.proofs.Common.{common_steps, length, sym, ap, ◌∙◌, arith, ◌≡◌, count, valid, IsSound-append, content-append}
 use Rattle.slotmap_secondary.proofs.SecondaryMap.append.Goals as goal
 
 pub overflow_add-self : goal.overflow_add-self

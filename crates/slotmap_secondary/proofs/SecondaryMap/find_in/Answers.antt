@@ -1,6 +1,4 @@
-use Rattle.slotmap_core.proofs.Common.{common_steps}
-use Rattle.std.proofs.Common.{arith}
-use Rattle.slotmap_secondary.proofs.ReadLemmas.{marked-read, at-read, entry-at}
+use Rattle.slotmap_secondary.proofs.Common.{common_steps, arith, marked-read, at-read, entry-at}
 use Rattle.slotmap_secondary.proofs.SecondaryMap.find_in.Goals as goal
 
 pub find-requires-clause-marked : goal.find-requires-clause-marked

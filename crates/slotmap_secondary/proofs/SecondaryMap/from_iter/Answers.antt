@@ -1,5 +1,4 @@
-use Rattle.std.proofs.Common.{◌≡◌, [], Option, Some, None, IfSome, inl, inr, refl}
-use Rattle.slotmap_core.proofs.Common.{Pairs, AllPut, subst}
+use Rattle.slotmap_secondary.proofs.Common.{◌≡◌, Pairs, AllPut, subst, [], Option, Some, None, IfSome, inl, inr, refl}
 use Rattle.slotmap_secondary.proofs.SecondaryMap.from_iter.Goals as goal
 
 if_some : {X : Type 0} (P : X → Type 0) (o : Option X) → ((x : X) → o ≡ Some x → P x) → IfSome o P
@@ -8,14 +7,7 @@ if_some P (Some x) holds = holds x refl
 
 pub returns-in_default-clause-err : goal.returns-in_default-clause-err
 returns-in_default-clause-err g c =
-    if_some _ c.next.result (λ pair is. (
-      c.into_iter.result,
-      [],
-      c.next.new.self,
-      c.into_iter.ensures.into_iter_gives,
-      (c.into_iter.result, refl, rw is at c.next.ensures.steps),
-      inl refl,
-    ))
+    if_some _ c.next.result (λ pair is. (c.into_iter.result, [], c.next.new.self, c.into_iter.ensures.into_iter_gives, (c.into_iter.result, refl, rw is at c.next.ensures.steps), inl refl))
 
 pub returns-in-Err-clause-err : goal.returns-in-Err-clause-err
 returns-in-Err-clause-err g c =

@@ -1,6 +1,4 @@
-use Rattle.slotmap_core.proofs.Common.{sym, ap, ◌∙◌, arith, is_some, option_map, slice_get_within}
-use Rattle.slotmap_secondary.specs.Slots.{pair_in}
-use Rattle.slotmap_secondary.proofs.ReadLemmas.{here, same_read}
+use Rattle.slotmap_secondary.proofs.Common.{sym, ap, ◌∙◌, arith, is_some, option_map, slice_get_within, pair_in, here, same_read}
 use Rattle.slotmap_secondary.proofs.SecondaryMap.get_unchecked.Goals as goal
 
 pub index-requires : goal.index-requires

@@ -1,5 +1,4 @@
-use Rattle.std.proofs.Common.{◌≡◌, length}
-use Rattle.slotmap_core.proofs.Common.{same_entries, are_equal}
+use Rattle.slotmap_secondary.proofs.Common.{◌≡◌, same_entries, are_equal, length}
 use Rattle.slotmap_secondary.proofs.SecondaryMap.is_same.Given as goal
 
 abbrev pub invariant-loop-key : goal.invariant-loop-key

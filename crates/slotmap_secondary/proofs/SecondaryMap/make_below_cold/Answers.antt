@@ -1,5 +1,4 @@
-use Rattle.slotmap_core.proofs.Common.{arith, common_steps}
-use Rattle.slotmap_secondary.proofs.SlotLemmas.{IsSound-push, pairs-push}
+use Rattle.slotmap_secondary.proofs.Common.{arith, common_steps, IsSound-push, pairs-push}
 use Rattle.slotmap_secondary.proofs.SecondaryMap.make_below_cold.Goals as goal
 
 pub loop-self-preserved : goal.loop-self-preserved

@@ -1,5 +1,4 @@
-use Rattle.std.proofs.Common.{◌≡◌, ◌-◌, ◌<◌, ◌≤◌, vec_capacity, vec_len}
-use Rattle.slotmap_secondary.specs.Slots.{pairs_of, IsSound}
+use Rattle.slotmap_secondary.proofs.Common.{◌≡◌, ◌-◌, ◌<◌, ◌≤◌, pairs_of, IsSound, vec_capacity, vec_len}
 use Rattle.slotmap_secondary.proofs.SecondaryMap.make_below_cold.Given as goal
 
 abbrev pub invariant-loop-self : goal.invariant-loop-self

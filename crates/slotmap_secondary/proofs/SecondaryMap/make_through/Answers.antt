@@ -1,5 +1,4 @@
-use Rattle.slotmap_core.proofs.Common.{arith, common_steps}
-use Rattle.slotmap_secondary.proofs.SlotLemmas.{IsSound-push, pairs-push}
+use Rattle.slotmap_secondary.proofs.Common.{arith, common_steps, IsSound-push, pairs-push}
 use Rattle.slotmap_secondary.proofs.SecondaryMap.make_through.Goals as goal
 
 pub invariant_of-self : goal.invariant_of-self

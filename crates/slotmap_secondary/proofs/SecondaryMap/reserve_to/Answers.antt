@@ -1,14 +1,9 @@
-use Rattle.slotmap_core.proofs.Common.{arith}
-use Rattle.slotmap_secondary.specs.Slots.{IsSound}
-use Rattle.slotmap_secondary.proofs.SlotLemmas.{valid}
-use Rattle.slotmap_secondary.proofs.WellFormed.{well_formed}
+use Rattle.slotmap_secondary.proofs.Common.{arith, IsSound, valid, well_formed}
 use Rattle.slotmap_secondary.proofs.SecondaryMap.reserve_to.Goals as goal
 
 pub returns-in_ok-reserve-clause-valid : goal.returns-in_ok-reserve-clause-valid
 returns-in_ok-reserve-clause-valid g c =
-    let v = c.reserve.new.self in
-    let sound : IsSound v.items c.self.inside.len = rw (c.reserve.ensures.items) c.self.invariant in
-    valid _ _ sound _ (omega (arith, v.ok.0, v.ok.1))
+    let v = c.reserve.new.self in let sound : IsSound v.items c.self.inside.len = rw (c.reserve.ensures.items) c.self.invariant in valid _ _ sound _ (omega (arith, v.ok.0, v.ok.1))
 
 pub invariant_of-self : goal.invariant_of-self
 invariant_of-self g c = rw c.reserve.ensures.items c.self.invariant

@@ -1,8 +1,5 @@
-use Rattle.std.proofs.Common.{◌≡◌, set, slice_get, Some, refl, sym, ap, subst, ◌∙◌, arith}
-use Rattle.slotmap_core.proofs.Common.{Key, get, set-get_or, length-set}
-use Rattle.slotmap_secondary.specs.declared.slot.Slot.TheVariants.{Vacant, Occupied}
-use Rattle.slotmap_secondary.proofs.SlotLemmas.{IsSound-clear, content-clear, some_left, valid}
-use Rattle.slotmap_secondary.proofs.ReadLemmas.{there_read, stands, key-here}
+use Rattle.slotmap_secondary.proofs.Common.{◌≡◌, set-get_or, length-set, slice_get, ap, subst, ◌∙◌, Vacant, Occupied, IsSound-clear, content-clear, some_left, there_read, stands, key-here}
+use Rattle.slotmap_secondary.proofs.Common.{Key, get, set, Some, refl, sym, arith, valid}
 use Rattle.slotmap_secondary.proofs.SecondaryMap.take_at.Goals.{In-Occupied}
 use Rattle.slotmap_secondary.proofs.SecondaryMap.take_at.Goals as goal
 
@@ -31,9 +28,7 @@ key_there : (g : _) (c : In-Occupied g) → slice_get c.self.inside.slots.items 
 key_there g c = grind (arith, there_read c.self.inside.slots.items c.args.index)
 
 pub overflow_sub-self : goal.overflow_sub-self
-overflow_sub-self g c =
-    let there = key_there g (goal.at.overflow_sub-self g c).In-Occupied in
-    some_left _ _ c.self.invariant (record { index = c.args.index; version = c.in-Occupied.version }) _ there
+overflow_sub-self g c = some_left _ _ c.self.invariant (record { index = c.args.index; version = c.in-Occupied.version }) _ (key_there g (goal.at.overflow_sub-self g c).In-Occupied)
 
 pub invariant_of-self-in-Occupied : goal.invariant_of-self-in-Occupied
 invariant_of-self-in-Occupied g c =
@@ -41,9 +36,7 @@ invariant_of-self-in-Occupied g c =
     rw (c.replace.ensures.after) (IsSound-clear _ _ c.self.invariant (record { index = c.args.index; version = c.in-Occupied.version }) _ there)
 
 pub exact-requires : goal.exact-requires
-exact-requires g c =
-    let there = key_there g (goal.at.exact-requires g c).In-Occupied in
-    (key-here _ _ (ap (λ m. m.pairs) c.self.view_is) c.args.index _ c.self.invariant _ _ there).0
+exact-requires g c = (key-here _ _ (ap (λ m. m.pairs) c.self.view_is) c.args.index _ c.self.invariant _ _ (key_there g (goal.at.exact-requires g c).In-Occupied)).0
 
 pub returns-in-Occupied-clause-takes : goal.returns-in-Occupied-clause-takes
 returns-in-Occupied-clause-takes g c =

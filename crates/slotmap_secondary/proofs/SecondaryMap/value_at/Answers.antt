@@ -1,8 +1,5 @@
-use Rattle.slotmap_core.proofs.Common.{value_at, refl, sym, ap, ◌∙◌, arith, eq-eqb, is_some, cond, Some, None, slice_get_within}
-use Rattle.slotmap_secondary.specs.Slots.{pair_in}
-use Rattle.slotmap_secondary.proofs.SlotLemmas.{IsSound-again, content-write}
-use Rattle.slotmap_secondary.proofs.ReadLemmas.{here, same_read, same_value}
-use Rattle.slotmap_secondary.proofs.WellFormed.{well_formed}
+use Rattle.slotmap_secondary.proofs.Common.{value_at, refl, ◌∙◌, arith, eq-eqb, is_some, cond, Some, slice_get_within, pair_in, IsSound-again, content-write, same_read, same_value, well_formed}
+use Rattle.slotmap_secondary.proofs.Common.{sym, ap, None, here}
 use Rattle.slotmap_secondary.proofs.SecondaryMap.value_at.Goals as goal
 
 pub index_mut-requires : goal.index_mut-requires

@@ -1,5 +1,4 @@
-use Rattle.slotmap_core.proofs.Common.{refl, listing-entries}
-use Rattle.slotmap_secondary.proofs.IterLemmas.{values-slots, counted-values}
+use Rattle.slotmap_secondary.proofs.Common.{refl, listing-entries, values-slots, counted-values}
 use Rattle.slotmap_secondary.proofs.SecondaryMap.values.Goals as goal
 
 pub invariant_of-result : goal.invariant_of-result

@@ -1,6 +1,4 @@
-use Rattle.std.proofs.Common.{refl, ap, subst, ◌∙◌, arith}
-use Rattle.slotmap_core.proofs.Common.{IsKey, common_steps}
-use Rattle.slotmap_sparse.proofs.EntriesLemmas.{found_pair, IsSound-added, pairs_put, same_len, well_formed}
+use Rattle.slotmap_sparse.proofs.Common.{IsKey, common_steps, refl, ap, subst, ◌∙◌, arith, found_pair, IsSound-added, pairs_put, same_len, well_formed}
 use Rattle.slotmap_sparse.proofs.SparseSecondaryMap.add.Goals as goal
 
 pub invariant_of-self : goal.invariant_of-self

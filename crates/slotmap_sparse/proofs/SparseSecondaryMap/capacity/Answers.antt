@@ -1,9 +1,6 @@
-use Rattle.slotmap_core.proofs.Common.{arith}
-use Rattle.slotmap_sparse.proofs.EntriesLemmas.{well_formed}
+use Rattle.slotmap_core.proofs.Common.{common_steps}
+use Rattle.slotmap_sparse.proofs.Common.{arith, well_formed}
 use Rattle.slotmap_sparse.proofs.SparseSecondaryMap.capacity.Goals as goal
 
-pub returns-clause-fits : goal.returns-clause-fits
-returns-clause-fits g c = grind (arith, well_formed c.self.inside.slots)
-
-pub returns-clause-valid : goal.returns-clause-valid
-returns-clause-valid g c = well_formed c.self.inside.slots _ c.self.view_is c.self.invariant
+pub returns : goal.returns
+returns g c = record { value = grind (arith, common_steps); fits = grind (arith, well_formed c.self.inside.slots); valid = well_formed c.self.inside.slots _ c.self.view_is c.self.invariant }

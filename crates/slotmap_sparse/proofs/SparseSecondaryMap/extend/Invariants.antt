@@ -1,6 +1,4 @@
-use Rattle.std.proofs.Common.{◌≤◌}
-use Rattle.slotmap_core.proofs.Common.{AllPut}
-use Rattle.slotmap_sparse.specs.Content.{IsSparseContent}
+use Rattle.slotmap_sparse.proofs.Common.{◌≤◌, AllPut, IsSparseContent}
 use Rattle.slotmap_sparse.proofs.SparseSecondaryMap.extend.Given as goal
 
 abbrev pub invariant-loop-key : goal.invariant-loop-key

@@ -1,7 +1,6 @@
 use Rattle.std.specs.FinMap as map
-use Rattle.slotmap_core.proofs.Common.{side_list_limit, Accepts, refl, subst, arith, length_push, slice_get_within, contents_by_place, Taking-next}
-use Rattle.slotmap_core.proofs.Common.{Taking-here, Taking-end, common_steps}
-use Rattle.slotmap_sparse.proofs.FromListLemmas.{Read, Read-absent, Read-slot}
+use Rattle.slotmap_sparse.proofs.Common.{side_list_limit, Accepts, subst, length_push, slice_get_within, contents_by_place, Taking-next, Taking-here, Taking-end, common_steps, Read-absent, Read-slot}
+use Rattle.slotmap_sparse.proofs.Common.{refl, arith, Read}
 use Rattle.slotmap_sparse.proofs.SparseSecondaryMap.from_slots_with_hasher.Goals as goal
 
 pub loop-slot-init : goal.loop-slot-init

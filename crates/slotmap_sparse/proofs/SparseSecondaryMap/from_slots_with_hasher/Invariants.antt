@@ -1,7 +1,4 @@
-use Rattle.std.proofs.Common.{◌≡◌, length}
-use Rattle.slotmap_core.proofs.Common.{OwnedIter}
-use Rattle.slotmap_sparse.specs.Content.{IsSparseContent}
-use Rattle.slotmap_sparse.proofs.FromListLemmas.{Read}
+use Rattle.slotmap_sparse.proofs.Common.{◌≡◌, OwnedIter, length, IsSparseContent, Read}
 use Rattle.slotmap_sparse.proofs.SparseSecondaryMap.from_slots_with_hasher.Given as goal
 
 abbrev pub invariant-loop-slot : goal.invariant-loop-slot

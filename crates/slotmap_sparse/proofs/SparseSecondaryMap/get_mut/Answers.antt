@@ -1,8 +1,6 @@
-use Rattle.std.proofs.Common.{◌≡◌, None, is_some, sym, ap, ◌∙◌}
-use Rattle.slotmap_core.proofs.Common.{option_copied_mut, value_at}
+use Rattle.slotmap_sparse.proofs.Common.{◌≡◌, option_copied_mut, is_some, ◌∙◌, content_of, stands_at, found_none, well_formed, IsSound-through, content-through, IsSound-kept, content_kept}
+use Rattle.slotmap_sparse.proofs.Common.{value_at, None, sym, ap, found_own}
 use mathlib.Core.Logic.{inl, inr}
-use Rattle.slotmap_sparse.specs.Entries.{content_of}
-use Rattle.slotmap_sparse.proofs.EntriesLemmas.{stands_at, found_own, found_none, well_formed, IsSound-through, content-through, IsSound-kept, content_kept}
 use Rattle.slotmap_sparse.proofs.SparseSecondaryMap.get_mut.Goals as goal
 
 pub returns-in_default : goal.returns-in_default

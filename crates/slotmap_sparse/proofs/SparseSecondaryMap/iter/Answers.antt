@@ -1,6 +1,4 @@
-use Rattle.slotmap_sparse.proofs.EntriesLemmas.{well_formed}
-use Rattle.slotmap_sparse.proofs.IterLemmas.{of_keys, listing}
-use Rattle.slotmap_core.proofs.Common.{ap}
+use Rattle.slotmap_sparse.proofs.Common.{well_formed, of_keys, listing, ap}
 use Rattle.slotmap_sparse.proofs.SparseSecondaryMap.iter.Goals as goal
 
 pub invariant_of-result : goal.invariant_of-result

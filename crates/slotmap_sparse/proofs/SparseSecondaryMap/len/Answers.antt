@@ -1,5 +1,4 @@
-use Rattle.slotmap_core.proofs.Common.{sym, ap, ◌∙◌}
-use Rattle.slotmap_sparse.proofs.EntriesLemmas.{same_len, well_formed}
+use Rattle.slotmap_sparse.proofs.Common.{sym, ap, ◌∙◌, same_len, well_formed}
 use Rattle.slotmap_sparse.proofs.SparseSecondaryMap.len.Goals as goal
 
 pub returns-clause-value : goal.returns-clause-value

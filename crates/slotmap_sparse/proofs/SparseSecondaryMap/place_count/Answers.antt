@@ -1,6 +1,4 @@
-use Rattle.std.proofs.Common.{◌+◌, ap, subst, ◌∙◌, arith}
-use Rattle.slotmap_core.proofs.Common.{Key}
-use Rattle.slotmap_sparse.proofs.FromListLemmas.{Counts, Counts-start, Counts-less, Counts-more, Counts-end}
+use Rattle.slotmap_sparse.proofs.Common.{◌+◌, Key, ap, subst, ◌∙◌, arith, Counts, Counts-start, Counts-less, Counts-more, Counts-end}
 use Rattle.slotmap_sparse.proofs.SparseSecondaryMap.place_count.Goals as goal
 
 pub loop-key-init : goal.loop-key-init

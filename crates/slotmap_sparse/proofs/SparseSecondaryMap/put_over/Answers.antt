@@ -1,9 +1,7 @@
 use Rattle.std.specs.FinMap as map
-use Rattle.slotmap_core.proofs.Common.{WritesThrough, option_copied_mut, IsKey, value_at, nat_eq, refl, sym, ap, subst, ◌∙◌, common_steps, arith}
-use Rattle.slotmap_sparse.specs.Content.{IsSparseContent}
-use Rattle.slotmap_sparse.specs.Entries.{content_of}
+use Rattle.slotmap_sparse.proofs.Common.{WritesThrough, option_copied_mut, value_at, nat_eq, ◌∙◌, common_steps, IsSparseContent, content_of, found_pair, well_formed, IsSound-over, content_over}
+use Rattle.slotmap_sparse.proofs.Common.{IsKey, refl, sym, ap, subst, arith}
 use Rattle.slotmap_sparse.specs.Found.{put_over}
-use Rattle.slotmap_sparse.proofs.EntriesLemmas.{found_pair, well_formed, IsSound-over, content_over}
 use Rattle.slotmap_sparse.proofs.SparseSecondaryMap.put_over.Goals as goal
 
 pub returns-in_default-clause-absent : goal.returns-in_default-clause-absent
@@ -12,9 +10,7 @@ returns-in_default-clause-absent g c =
     sym (found_pair _ _ (ap (λ m. m.pairs) c.self.view_is) _ ∙ ap (map.get c.args.self.now.pairs) at) ∙ sym c.get_mut.ensures.value ∙ ap option_copied_mut c.in_default.is
 
 pub returns-in_default-clause-valid : goal.returns-in_default-clause-valid
-returns-in_default-clause-valid g c =
-    let same = c.get_mut.follows.holds-at-none in
-    subst (λ m. IsSparseContent (content_of m)) (sym same) (well_formed c.self.inside.slots _ refl c.self.invariant)
+returns-in_default-clause-valid g c = subst (λ m. IsSparseContent (content_of m)) (sym c.get_mut.follows.holds-at-none) (well_formed c.self.inside.slots _ refl c.self.invariant)
 
 pub invariant_of-self-2 : goal.invariant_of-self-2
 invariant_of-self-2 g c =

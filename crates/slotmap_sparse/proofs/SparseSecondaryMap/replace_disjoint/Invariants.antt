@@ -1,5 +1,4 @@
-use Rattle.slotmap_core.proofs.Common.{map as map_list, Exchanging}
-use Rattle.slotmap_sparse.specs.Content.{IsSparseContent}
+use Rattle.slotmap_sparse.proofs.Common.{map_list, Exchanging, IsSparseContent}
 use Rattle.slotmap_sparse.proofs.SparseSecondaryMap.replace_disjoint.Given as goal
 
 abbrev pub invariant-loop-i : goal.invariant-loop-i

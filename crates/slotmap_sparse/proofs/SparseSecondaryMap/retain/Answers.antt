@@ -1,9 +1,6 @@
 use Rattle.std.specs.FinMap as map
-use Rattle.std.proofs.Common.{◌≡◌, ℕ, List, Some, refl, sym, ap, subst, ◌∙◌}
-use Rattle.slotmap_core.proofs.Common.{Key, key_from, keyed, MayCome, key_from-odd}
-use Rattle.slotmap_sparse.specs.Entries.{pairs_of, IsSound}
-use Rattle.slotmap_sparse.proofs.EntriesLemmas.{more_room, well_formed}
-use Rattle.slotmap_sparse.proofs.IterLemmas.{of_keys, valid_from}
+use Rattle.slotmap_sparse.proofs.Common.{◌≡◌, Key, key_from, keyed, MayCome, key_from-odd, List, Some, refl, ap, subst, ◌∙◌, pairs_of, IsSound, more_room, well_formed, of_keys, valid_from}
+use Rattle.slotmap_sparse.proofs.Common.{ℕ, sym}
 use Rattle.slotmap_sparse.proofs.RetainLemmas.{visited, comes_to, shown_at, retains_by}
 use Rattle.slotmap_sparse.proofs.SparseSecondaryMap.retain.Goals as goal
 

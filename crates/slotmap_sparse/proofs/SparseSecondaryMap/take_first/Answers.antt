@@ -1,5 +1,4 @@
-use Rattle.slotmap_core.proofs.Common.{refl}
-use Rattle.slotmap_sparse.proofs.IterLemmas.{listed_key, listed_none}
+use Rattle.slotmap_sparse.proofs.Common.{refl, listed_key, listed_none}
 use Rattle.slotmap_sparse.proofs.SparseSecondaryMap.take_first.Goals as goal
 
 pub returns-in_default-clause-takes : goal.returns-in_default-clause-takes

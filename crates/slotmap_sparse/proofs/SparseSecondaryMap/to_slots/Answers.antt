@@ -1,8 +1,7 @@
+use Rattle.slotmap_core.proofs.Common.{common_steps}
 use Rattle.std.specs.FinMap as map
-use Rattle.std.proofs.Common.{◌+◌, length, sym, ap, subst, ◌∙◌, arith}
-use Rattle.slotmap_core.proofs.Common.{length_push}
+use Rattle.slotmap_sparse.proofs.Common.{◌+◌, length_push, length, sym, ap, subst, ◌∙◌, arith, Copies-start, Copies-push, writes_clones, contents_clones, writes_equal, contents_equal}
 use Rattle.slotmap_sparse.specs.Written.{ReachesLargest, IsCloneSlot}
-use Rattle.slotmap_sparse.proofs.WrittenLemmas.{Copies-start, Copies-push, writes_clones, contents_clones, writes_equal, contents_equal}
 use Rattle.slotmap_sparse.proofs.SparseSecondaryMap.to_slots.Goals.{After-loop-index}
 use Rattle.slotmap_sparse.proofs.SparseSecondaryMap.to_slots.Goals as goal
 
@@ -25,14 +24,11 @@ loop-index-preserved g c =
 reaches : (g : _) (c : After-loop-index g) → ReachesLargest c.args.self.now.pairs (length c.loop-index.slots.items)
 reaches g c = subst (ReachesLargest c.args.self.now.pairs) (omega (arith, c.loop-index.invariant.long, c.loop-index-test.false)) c.place_count-count.ensures.count
 
-pub returns-clause-writes : goal.returns-clause-writes
-returns-clause-writes g c = writes_clones g.V.Clone.is_clone _ _ c.loop-index.invariant.copied (reaches g c) c.place_count-count.ensures.valid.keys
-
-pub returns-clause-contents : goal.returns-clause-contents
-returns-clause-contents g c = contents_clones g.V.Clone.is_clone _ _ c.loop-index.invariant.copied (reaches g c) c.place_count-count.ensures.valid.keys
-
-pub returns-clause-writes_if_clones_equal : goal.returns-clause-writes_if_clones_equal
-returns-clause-writes_if_clones_equal g c = writes_equal g.V.Clone.is_clone _ _ c.loop-index.invariant.copied (reaches g c)
-
-pub returns-clause-contents_if_clones_equal : goal.returns-clause-contents_if_clones_equal
-returns-clause-contents_if_clones_equal g c = λ equal. contents_equal g.V.Clone.is_clone _ _ c.loop-index.invariant.copied (reaches g c) equal c.place_count-count.ensures.valid.keys
+pub returns : goal.returns
+returns g c = record {
+  writes = writes_clones g.V.Clone.is_clone _ _ c.loop-index.invariant.copied (reaches g c) c.place_count-count.ensures.valid.keys;
+  contents = contents_clones g.V.Clone.is_clone _ _ c.loop-index.invariant.copied (reaches g c) c.place_count-count.ensures.valid.keys;
+  writes_if_clones_equal = writes_equal g.V.Clone.is_clone _ _ c.loop-index.invariant.copied (reaches g c);
+  contents_if_clones_equal = λ equal. contents_equal g.V.Clone.is_clone _ _ c.loop-index.invariant.copied (reaches g c) equal c.place_count-count.ensures.valid.keys;
+  valid = grind (arith, common_steps);
+}

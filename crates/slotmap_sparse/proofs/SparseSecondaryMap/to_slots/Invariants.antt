@@ -1,5 +1,4 @@
-use Rattle.std.proofs.Common.{◌≡◌, ◌≤◌, ◌+◌, length, vec_len, vec_capacity}
-use Rattle.slotmap_sparse.proofs.WrittenLemmas.{Copies}
+use Rattle.slotmap_sparse.proofs.Common.{◌≡◌, ◌≤◌, ◌+◌, Copies, length, vec_len, vec_capacity}
 use Rattle.slotmap_sparse.proofs.SparseSecondaryMap.to_slots.Given as goal
 
 abbrev pub invariant-loop-index : goal.invariant-loop-index

@@ -1,6 +1,4 @@
-use Rattle.std.proofs.Common.{arith}
-use Rattle.slotmap_core.proofs.Common.{common_steps}
-use Rattle.slotmap_sparse.proofs.EntryLemmas.{vacant_nothing, in_place_outdated, leaves_empty}
+use Rattle.slotmap_sparse.proofs.Common.{common_steps, arith, vacant_nothing, in_place_outdated, leaves_empty}
 use Rattle.slotmap_sparse.proofs.SparseSecondaryMap.try_entry.Goals as goal
 
 pub returns : goal.returns

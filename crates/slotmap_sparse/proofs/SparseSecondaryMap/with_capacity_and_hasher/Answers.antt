@@ -1,5 +1,4 @@
-use Rattle.slotmap_core.proofs.Common.{refl}
-use Rattle.slotmap_sparse.proofs.EntriesLemmas.{IsSound-empty, well_formed}
+use Rattle.slotmap_sparse.proofs.Common.{refl, IsSound-empty, well_formed}
 use Rattle.slotmap_sparse.proofs.SparseSecondaryMap.with_capacity_and_hasher.Goals as goal
 
 pub invariant_of-result : goal.invariant_of-result

@@ -3,8 +3,7 @@ use Rattle.slotmap_dense.proofs.drain.DrainIterator.next.Goals as goal
 
 pub returns-in-Some-clause-steps : goal.returns-in-Some-clause-steps
 returns-in-Some-clause-steps g c =
-    let takes = c.in-Some.ensures.takes in
-    (takes, (refl, λ end. EmptiesDense-first g.K.Key.data_of _ _ end c.in-Some.pair c.in-Some.ensures.valid.before takes c.in-Some.ensures.valid.capacity))
+    let takes = c.in-Some.ensures.takes in (takes, (refl, λ end. EmptiesDense-first g.K.Key.data_of _ _ end c.in-Some.pair c.in-Some.ensures.valid.before takes c.in-Some.ensures.valid.capacity))
 
 pub returns-in-Some-clause-goes : goal.returns-in-Some-clause-goes
 returns-in-Some-clause-goes g c =

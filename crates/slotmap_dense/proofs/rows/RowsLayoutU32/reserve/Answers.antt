@@ -9,5 +9,4 @@ returns-clause-room c =
     (omega (arith, len, length-map m.rows.items slot_of_row, c.in_ok-reserve.ensures.ok, m.rows.ok.0))
 
 pub returns-clause-grows : goal.returns-clause-grows
-returns-clause-grows c =
-    rw (← c.self.view_is) (c.fit_count-self-inside.ensures.greatest c.self.inside.capacity c.self.invariant.0 (omega (arith, c.self.invariant.1, c.reserve.ensures.capacity)))
+returns-clause-grows c = rw (← c.self.view_is) (c.fit_count-self-inside.ensures.greatest c.self.inside.capacity c.self.invariant.0 (omega (arith, c.self.invariant.1, c.reserve.ensures.capacity)))

@@ -1,5 +1,4 @@
-use Rattle.std.proofs.Common.{◌≡◌, ◌+◌, length}
-use Rattle.slotmap_secondary.specs.Iter.{values_in}
+use Rattle.slotmap_secondary.proofs.Common.{◌≡◌, ◌+◌, values_in, length}
 use Rattle.slotmap_secondary.proofs.iter.ValuesIterator.next.Given as goal
 
 -- only vacant slots were skipped

@@ -1,5 +1,4 @@
-use Rattle.slotmap_core.proofs.Common.{sym, ◌∙◌}
-use Rattle.slotmap_secondary.proofs.ReadLemmas.{entry-same}
+use Rattle.slotmap_secondary.proofs.Common.{sym, ◌∙◌, entry-same}
 use Rattle.slotmap_secondary.proofs.slot.Slot.find.Goals as goal
 
 pub returns-then-stored-version : goal.returns-then-stored-version

@@ -1,5 +1,4 @@
-use Rattle.slotmap_core.proofs.Common.{refl}
-use Rattle.slotmap_sparse.proofs.EntryLemmas.{IsWritten-own}
+use Rattle.slotmap_sparse.proofs.Common.{refl, IsWritten-own}
 use Rattle.slotmap_sparse.proofs.entry.OccupiedEntry.get_mut.Goals as goal
 
 pub returns : goal.returns

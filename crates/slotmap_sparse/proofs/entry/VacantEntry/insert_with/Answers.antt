@@ -1,5 +1,4 @@
-use Rattle.slotmap_core.proofs.Common.{contains_key, arith, in_own, bind_twice, lent_is, common_steps}
-use Rattle.slotmap_sparse.proofs.EntriesLemmas.{of_ok}
+use Rattle.slotmap_sparse.proofs.Common.{contains_key, arith, in_own, bind_twice, lent_is, common_steps, of_ok}
 use Rattle.slotmap_sparse.proofs.entry.VacantEntry.insert_with.Goals as goal
 
 pub get_unchecked_mut-requires : goal.get_unchecked_mut-requires

@@ -1,5 +1,4 @@
-use Rattle.std.proofs.Common.{◌≡◌, ◌↔◌, true, ap, sym, subst, ◌∙◌}
-use Rattle.slotmap_core.proofs.Common.{AreEqual}
+use Rattle.slotmap_sparse.proofs.Common.{◌≡◌, ◌↔◌, AreEqual, true, ap, sym, subst, ◌∙◌}
 use Rattle.slotmap_sparse.proofs.EqualLemmas.{equal_as, equal_maps}
 use Rattle.slotmap_sparse.proofs.equal.SparseSecondaryMapPartialEq.eq.Goals as goal
 

@@ -1,5 +1,4 @@
-use Rattle.slotmap_core.proofs.Common.{ap}
-use Rattle.slotmap_sparse.proofs.IterLemmas.{of_keys, listing}
+use Rattle.slotmap_sparse.proofs.Common.{ap, of_keys, listing}
 use Rattle.slotmap_sparse.proofs.into_iter.SparseSecondaryMapIntoIterator.into_iter.Goals as goal
 
 pub invariant_of-result : goal.invariant_of-result
