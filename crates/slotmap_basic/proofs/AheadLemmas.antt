@@ -1,18 +1,14 @@
 -- What a loop over the live keys of a map knows of those ahead of it.
-use Rattle.std.proofs.Common.{◌≡◌, ◌+◌, ◌%◌, ◌^◌, ◌<◌, ◌≤◌, ◌↔◌}
-use Rattle.std.proofs.Common.{ℕ, true, List, length, get_or, Some, is_some, slice_get, option_map, refl, sym, ap, ◌∙◌, arith}
-use Rattle.slotmap_core.proofs.Common.{Key, Content, IsContent, IsLive, places, key, Removes, with_value, length-map, slice_get-map}
-use Rattle.slotmap_core.proofs.Common.{get_or_from_slice_get, slice_get-get_or, keys_total, get-remove_other, same_live, removed_places}
 use native.Mathlib.Decide.{dec_lt}
-use Rattle.std.specs.FinMap as map
-use Rattle.slotmap_basic.specs.Ahead.{KnowsLiveKeys}
-use Rattle.slotmap_basic.specs.Columns.{AllEven, IsNextOdd, versions_of, NoneLive}
-use Rattle.slotmap_basic.specs.Odds.{IsAhead}
+use Rattle.std.proofs.Common.{◌≡◌, ◌+◌, ◌%◌, ◌^◌, ◌<◌, ◌≤◌, ◌↔◌, true, List, length, get_or, Some, is_some, slice_get, option_map, refl, sym, ap, ◌∙◌, arith}
+use Rattle.slotmap_core.proofs.Common.{Key, Content, IsContent, with_value, length-map, slice_get-map, get_or_from_slice_get, slice_get-get_or, keys_total, get-remove_other, same_live, removed_places}
+use Rattle.slotmap_core.proofs.Common.{IsLive, places, key, Removes, ℕ}
 use Rattle.slotmap_slots.specs.Slot.{Slot, version_at, AreSlotsOf}
-use Rattle.slotmap_basic.specs.declared.columns.odds.OddCursor.{OddCursor}
-use Rattle.slotmap_basic.proofs.OddsLemmas.{odd_within, ahead_same}
+use Rattle.slotmap_basic.specs.{Ahead.KnowsLiveKeys, Columns.AllEven, Columns.IsNextOdd, Columns.versions_of, Columns.NoneLive, Odds.IsAhead, declared.columns.odds.OddCursor.OddCursor}
 use Rattle.slotmap_slots.proofs.SlotLemmas.{live_slot, get-live_slot}
 use Rattle.slotmap_slots.proofs.SettledLemmas.{settled_valid, settled_places, settled_fits, settled_present}
+use Rattle.slotmap_basic.proofs.OddsLemmas.{odd_within, ahead_same}
+use Rattle.std.specs.FinMap as map
 
 module _ {P : Type 0} (c new : Content P) (cursor : OddCursor) (of : KnowsLiveKeys c cursor) where
   -- the same keys are live from the loop's index on
@@ -72,14 +68,11 @@ module _ {P : Type 0} {slots : List (Slot P)} {now : Content P} (shows : AreSlot
   -- where a key is live the version is odd
   odd_there : (k : Key) → IsLive now k → get_or (versions_of slots) k.index 0 % 2 ≡ 1
   odd_there k is_live =
-      ap (λ x. x % 2) (get_or_from_slice_get (versions_of slots) k.index _ 0 (version-at slots k.index ∙ live_version k is_live))
-      ∙ (settled_present shows.settled shows.content k is_live).odd
+      ap (λ x. x % 2) (get_or_from_slice_get (versions_of slots) k.index _ 0 (version-at slots k.index ∙ live_version k is_live)) ∙ (settled_present shows.settled shows.content k is_live).odd
 
   -- and where it is odd a key is live
   live_there : (i : ℕ) → get_or (versions_of slots) i 0 % 2 ≡ 1 → (k : Key) × IsLive now k × (k.index ≡ i)
-  live_there i odd =
-      let read = slice_get-get_or (versions_of slots) i 0 (odd_within _ i odd) in
-      (_, live_at_odd i _ (sym (version-at slots i) ∙ read) odd, refl)
+  live_there i odd = (_, live_at_odd i _ (sym (version-at slots i) ∙ (slice_get-get_or (versions_of slots) i 0 (odd_within _ i odd))) odd, refl)
 
   pub cursor_of_slots : (cursor : OddCursor) → IsAhead (versions_of slots) cursor.run_end cursor.end cursor.index cursor.bits → KnowsLiveKeys now cursor
   cursor_of_slots cursor ahead = record {

@@ -1,12 +1,11 @@
 -- Three vectors as one list of slots.
-use Rattle.std.proofs.Common.{◌≡◌, ◌<◌, ◌%◌, ◌∷◌, ◌++◌}
-use Rattle.std.proofs.Common.{ℕ, zero, suc, List, [], length, set, slice_get, get_or, Option, Some, IsSome, refl, sym, ap, ◌↔◌, Bool, IsTrue}
+use Rattle.std.proofs.Common.{◌≡◌, ◌<◌, ◌%◌, ◌∷◌, ◌++◌, ◌↔◌, IsTrue, ℕ, zero, suc, List, [], length, set, slice_get, get_or, Option, Some, IsSome, refl, sym, ap, Bool}
 use Rattle.slotmap_core.proofs.Common.{option_and_then, subst, ◌∙◌, arith, get_or_default_zero, slice_get_read, same_Some}
 use Rattle.slotmap_slots.specs.Slot.{SlotList, version_at, usage_at, next_at, next_of, payload_at, with_payload}
 use Rattle.slotmap_slots.specs.declared.layout.Use.{Use}
 use Rattle.slotmap_slots.specs.declared.layout.Use.TheVariants.{InUse, Detached}
-use Rattle.slotmap_basic.specs.Columns.{zip_slots, IsColumns, versions_of, uses_of}
 use Rattle.slotmap_slots.specs.Numbers.{use_of}
+use Rattle.slotmap_basic.specs.Columns.{zip_slots, IsColumns, versions_of, uses_of}
 use Rattle.slotmap_basic.proofs.NumberLemmas.{free_is, uses-length, uses-at, uses-set, uses-put, uses-push}
 
 module _ {P : Type 0} where

@@ -5,3 +5,4 @@ mod OddsLemmas
 mod AheadLemmas
 mod PairsLemmas
 mod IterClones
+mod Common

@@ -1,12 +1,11 @@
 -- Chunks of versions, whose odd ones are bits.
-use Rattle.std.proofs.Common.{◌≡◌, ◌≢◌, ◌+◌, ◌-◌, ◌*◌, ◌/◌, ◌%◌, ◌^◌, ◌<◌, ◌≤◌, ℕ, zero, suc, List, cond, eqb, length, get_or, slice_get, Some, sym, ap}
-use Rattle.slotmap_core.proofs.Common.{bit_at, ◌∙◌, arith, w64, bit_and, bit_or, min, max, subst, bit_at-zero, bit_at-suc, bit_at_lowest, bit_at_and}
-use Rattle.slotmap_core.proofs.Common.{bit_at_set_same, bit_at_set_other, bit_at_ones, get_or_from_slice_get, slice_get_within, found_within}
 use native.Mathlib.Decide.{dec_lt}
+use Rattle.std.proofs.Common.{◌≡◌, ◌≢◌, ◌+◌, ◌-◌, ◌*◌, ◌/◌, ◌%◌, ◌^◌, ◌<◌, ◌≤◌, ℕ, zero, suc, List, cond, eqb, length, get_or, slice_get, Some, sym, ap}
+use Rattle.slotmap_core.proofs.Common.{arith, bit_at-zero, bit_at-suc, bit_at_lowest, bit_at_and, bit_at_set_same, bit_at_set_other, bit_at_ones, get_or_from_slice_get, slice_get_within, found_within}
+use Rattle.slotmap_core.proofs.Common.{bit_at, ◌∙◌, w64, bit_and, bit_or, min, max, subst}
 use lib.Bits.{and_mask}
 use lib.ListN.{get_or-eq_default}
-use Rattle.slotmap_basic.specs.Columns.{AllEven, IsNextOdd}
-use Rattle.slotmap_basic.specs.Odds.{AreOdd, AllOdd, IsRun, IsFound, HasOdds, IsAhead}
+use Rattle.slotmap_basic.specs.{Columns.AllEven, Columns.IsNextOdd, Odds.AreOdd, Odds.AllOdd, Odds.IsRun, Odds.IsFound, Odds.HasOdds, Odds.IsAhead}
 
 -- ---- a lane
 not_zero : (r : ℕ) → r < 2 → 1 - cond {A = ℕ} (eqb r 0) 1 0 ≡ r
@@ -55,11 +54,7 @@ above_even n lane half rest (suc k) on = bit_at-suc (n - 1) k ∙ ap (λ m. bit_
 
 one_less : (n lane : ℕ) → bit_at n lane ≡ 1 → ((k : ℕ) → k < lane → bit_at n k ≡ 0) → OneLess n lane
 one_less n zero set below =
-    let odd : n % 2 ≡ 1 = sym (bit_at_lowest n) ∙ set in
-    record {
-      clear = bit_at_lowest (n - 1) ∙ (let even : (n - 1) % 2 ≡ 0 = omega arith in even);
-      above = λ k on. above_odd n odd k on;
-    }
+    let odd : n % 2 ≡ 1 = sym (bit_at_lowest n) ∙ set in record { clear = bit_at_lowest (n - 1) ∙ (let even : (n - 1) % 2 ≡ 0 = omega arith in even); above = λ k on. above_odd n odd k on }
 one_less n (suc lane) set below =
     let even : n % 2 ≡ 0 = sym (bit_at_lowest n) ∙ below 0 (omega arith) in
     let half : (n - 1) / 2 ≡ n / 2 - 1 = half_less n even (has_bit n (suc lane) set) in
@@ -90,9 +85,7 @@ module _ (versions : List ℕ) (end index bits : ℕ) (has : HasOdds versions en
   -- a version of the chunk is even where its bit is not set
   even_at : (i v : ℕ) → index ≤ i → end ≤ i + 64 → i < end → slice_get versions i ≡ Some v → ((k : ℕ) → i + 64 ≡ end + k → bit_at bits k ≡ 0) → v % 2 ≡ 0
   even_at i v from on below at clear =
-      let k = i + 64 - end in
-      let e : i + 64 ≡ end + k = omega arith in
-      ap (λ x. x % 2) (sym (get_or_from_slice_get versions i v 0 at)) ∙ sym (has.odd i k (omega arith) e from) ∙ clear k e
+      let k = i + 64 - end in let e : i + 64 ≡ end + k = omega arith in ap (λ x. x % 2) (sym (get_or_from_slice_get versions i v 0 at)) ∙ sym (has.odd i k (omega arith) e from) ∙ clear k e
 
   module _ (lane : ℕ) (bound : lane < 64) (set : bit_at bits lane ≡ 1) (below : (k : ℕ) → k < lane → bit_at bits k ≡ 0) where
     -- the version's index doesn't fall below 0
@@ -191,10 +184,7 @@ module _ (versions : List ℕ) (at start end : ℕ) (run : IsRun versions at sta
 -- a chunk of odd versions alone
 module _ (versions : List ℕ) (end index : ℕ) (on : index + 64 ≤ end) (has : HasOdds versions end index (2 ^ 64 - 1)) where
   full_odd : (i : ℕ) → end ≤ i + 64 → i < end → get_or versions i 0 % 2 ≡ 1
-  full_odd i from to =
-      let k = i + 64 - end in
-      let e : i + 64 ≡ end + k = omega arith in
-      sym (has.odd i k (omega arith) e (omega arith)) ∙ bit_at_ones 64 k (omega arith)
+  full_odd i from to = let k = i + 64 - end in let e : i + 64 ≡ end + k = omega arith in sym (has.odd i k (omega arith) e (omega arith)) ∙ bit_at_ones 64 k (omega arith)
 
   pub full_run : IsRun versions index (end - 64) end
   full_run = record { on = omega arith; some = omega arith; passed = λ i v from below at. has.before i v from (omega arith) at; odd = λ i from to. full_odd i (omega arith) to }

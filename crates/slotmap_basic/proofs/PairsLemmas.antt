@@ -1,18 +1,15 @@
 -- What an iterator over the vectors of slots yields.
-use Rattle.std.proofs.Common.{◌≡◌, ◌+◌, ◌-◌, ◌<◌, ◌≤◌, ◌%◌, ◌^◌, ◌∷◌, ◌↔◌, ℕ, zero, suc, List, [], length, set, drop, slice_get}
-use Rattle.std.proofs.Common.{get_or, Option, Some, None, ap, map as list_map}
-use Rattle.slotmap_core.proofs.Common.{IsKey, Content, Vacant, live, IsSome, refl, sym, subst, ◌∙◌, arith, same_Some, slice_get_within, get_or_from_slice_get}
-use Rattle.slotmap_core.proofs.Common.{length-set, drop_more, drop_all, drop-set-lt, slice_get-set_other, found_within, key, entries_from, entries-live, length-map}
 use native.Mathlib.Decide.{dec_lt}
-use Rattle.std.specs.FinMap as map
-use Rattle.slotmap_basic.specs.Columns.{zip_slots, versions_of, AllEven, IsNextOdd}
-use Rattle.slotmap_basic.specs.Odds.{AllOdd}
+use Rattle.std.proofs.Common.{◌≡◌, ◌+◌, ◌-◌, ◌<◌, ◌≤◌, ◌%◌, ◌^◌, ◌∷◌, ◌↔◌, map as list_map, length, set, drop, slice_get, get_or, Option, Some, None, ap}
+use Rattle.slotmap_core.proofs.Common.{◌∙◌, slice_get_within, get_or_from_slice_get, length-set, drop_all, drop-set-lt, slice_get-set_other, found_within, entries_from, entries-live, length-map}
+use Rattle.slotmap_core.proofs.Common.{IsKey, Content, Vacant, live, IsSome, refl, sym, subst, arith, same_Some, drop_more, key, ℕ, zero, suc, List, []}
 use Rattle.slotmap_slots.specs.Slot.{Slot, IsSlot, IsSound, AreSlotsOf, vacancies, place_by, places_of}
 use Rattle.slotmap_slots.specs.declared.layout.Use.{Use}
 use Rattle.slotmap_slots.specs.declared.layout.Use.TheVariants.{InUse, Free, Detached, Retired}
-use Rattle.slotmap_basic.specs.Iter.{pairs_from, pairs_left, IsIter}
-use Rattle.slotmap_basic.proofs.ColumnLemmas.{zip-length, zip-at}
+use Rattle.slotmap_basic.specs.{Columns.zip_slots, Columns.versions_of, Columns.AllEven, Columns.IsNextOdd, Odds.AllOdd, Iter.pairs_from, Iter.pairs_left, Iter.IsIter}
 use Rattle.slotmap_slots.proofs.SlotLemmas.{slots_fit}
+use Rattle.slotmap_basic.proofs.ColumnLemmas.{zip-length, zip-at}
+use Rattle.std.specs.FinMap as map
 
 module _ {V : Type 0} where
   -- the pairs are the entries of the places
@@ -20,8 +17,7 @@ module _ {V : Type 0} where
       → ((j : ℕ) (s : Slot V) → slice_get (zip_slots vs ls xs) j ≡ Some s → IsSlot s)
       → pairs_from i vs xs ≡ entries_from i (places_of (zip_slots vs ls xs))
   pairs-places i [] ls xs same_l same_x each = refl
-  pairs-places i (v ∷ vs) (InUse ∷ ls) (Some x ∷ xs) same_l same_x each =
-      ap (λ es. (key i v, x) ∷ es) (pairs-places (i + 1) vs ls xs (omega arith) (omega arith) (λ j. each (suc j)))
+  pairs-places i (v ∷ vs) (InUse ∷ ls) (Some x ∷ xs) same_l same_x each = ap (λ es. (key i v, x) ∷ es) (pairs-places (i + 1) vs ls xs (omega arith) (omega arith) (λ j. each (suc j)))
   pairs-places i (v ∷ vs) (l ∷ ls) (Some x ∷ xs) same_l same_x each = let wrong = (each 0 (record { version = v; usage = l; payload = Some x }) refl).in_use.0 refl in absurd (cc)
   pairs-places i (v ∷ vs) (l ∷ ls) (None ∷ xs) same_l same_x each = pairs-places (i + 1) vs ls xs (omega arith) (omega arith) (λ j. each (suc j))
   pairs-places i (v ∷ vs) ls xs same_l same_x each = absurd (omega arith)

@@ -76,5 +76,4 @@ module _ {F K V : Type 0} (g : Mut F (K × (MutBor V × Unit {0})) (Bool × (Mut
 
       pub Going-dropped : x.stays ≡ false → (new : Content V) → Removes (with_value now k x.after) k new → new.capacity ≡ now.capacity → IsContent true new → Going new (k.index + 1) f'
       Going-dropped stays new removes capacity well_new =
-          one_more new (Swept-removed old (with_value now k x.after) new k.index k written still_live refl removes capacity well_new)
-          (rw stays (removes.live ∙ remove-insert now.live k x.after))
+          one_more new (Swept-removed old (with_value now k x.after) new k.index k written still_live refl removes capacity well_new) (rw stays (removes.live ∙ remove-insert now.live k x.after))

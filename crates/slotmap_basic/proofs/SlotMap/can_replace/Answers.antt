@@ -1,5 +1,4 @@
-use Rattle.slotmap_core.specs.Words.{value_of}
-use Rattle.slotmap_core.proofs.Common.{arith, common_steps, CanReplace-next, refuses_key}
+use Rattle.slotmap_basic.proofs.Common.{value_of, arith, common_steps, CanReplace-next, refuses_key}
 use Rattle.slotmap_basic.proofs.SlotMap.can_replace.Goals as goal
 
 pub returns-then-not-contains_key-clause-which : goal.returns-then-not-contains_key-clause-which

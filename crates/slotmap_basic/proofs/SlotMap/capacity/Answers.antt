@@ -1,6 +1,4 @@
-use Rattle.std.proofs.Common.{ap, arith}
-use Rattle.slotmap_slots.specs.Slot.{AreSlotsOf}
-use Rattle.slotmap_basic.proofs.AheadLemmas.{count_of_slots}
+use Rattle.slotmap_basic.proofs.Common.{AreSlotsOf, count_of_slots, ap, arith}
 use Rattle.slotmap_basic.proofs.SlotMap.capacity.Goals as goal
 
 pub returns-clause-places : goal.returns-clause-places

@@ -1,7 +1,6 @@
 use Rattle.std.specs.FinMap as map
-use Rattle.slotmap_core.proofs.Common.{true, refl, sym, ap, ◌∙◌, inl, arith, keys_total, exact_keys, in_after_remove, removed_places, alone_at}
-use Rattle.slotmap_core.proofs.Common.{NoneBelow-removed, none_live, get-remove_other, Swept-start, Swept-to, Swept-removed}
-use Rattle.slotmap_basic.proofs.AheadLemmas.{cursor_removed}
+use Rattle.slotmap_basic.proofs.Common.{◌∙◌, keys_total, exact_keys, in_after_remove, removed_places, NoneBelow-removed, none_live, get-remove_other, Swept-start, Swept-removed, cursor_removed}
+use Rattle.slotmap_basic.proofs.Common.{true, refl, sym, ap, inl, arith, alone_at, Swept-to}
 use Rattle.slotmap_basic.proofs.SlotMap.clear_from.Goals as goal
 
 pub loop-key-init : goal.loop-key-init
@@ -44,6 +43,4 @@ loop-key-smaller g c =
     rw c.in-Some.ensures.on (omega (arith, within.1, found.1))
 
 pub returns-clause-empty : goal.returns-clause-empty
-returns-clause-empty g c = λ none.
-    let at = c.loop-key in
-    none_live at.self.live (λ q there. absurd (omega (arith, c.in_default.ensures.none q there, at.invariant.above none q there)))
+returns-clause-empty g c = λ none. let at = c.loop-key in none_live at.self.live (λ q there. absurd (omega (arith, c.in_default.ensures.none q there, at.invariant.above none q there)))

@@ -1,7 +1,5 @@
 use Rattle.std.specs.FinMap as map
-use Rattle.std.proofs.Common.{◌≡◌, ◌<◌, ◌≤◌, ◌+◌, ◌-◌, true}
-use Rattle.slotmap_core.proofs.Common.{Key, IsLive, places, NoneBelow, Swept}
-use Rattle.slotmap_basic.specs.Ahead.{KnowsLiveKeys}
+use Rattle.slotmap_basic.proofs.Common.{◌≡◌, ◌<◌, ◌≤◌, ◌+◌, ◌-◌, Key, IsLive, places, NoneBelow, Swept, true, KnowsLiveKeys}
 use Rattle.slotmap_basic.proofs.SlotMap.clear_from.Given as goal
 
 abbrev pub invariant-loop-key : goal.invariant-loop-key

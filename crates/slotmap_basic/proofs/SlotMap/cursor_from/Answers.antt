@@ -1,11 +1,6 @@
 use Rattle.std.specs.FinMap as map
-use Rattle.std.proofs.Common.{◌≡◌, length, sym, ◌∙◌}
-use Rattle.slotmap_core.proofs.Common.{inl, ap, arith}
-use Rattle.slotmap_slots.specs.Slot.{AreSlotsOf}
-use Rattle.slotmap_basic.specs.Columns.{versions_of}
-use Rattle.slotmap_basic.proofs.AheadLemmas.{cursor_of_slots, valid_of_slots, count_of_slots, versions-length}
-use Rattle.slotmap_basic.proofs.ColumnLemmas.{zip-length}
-use Rattle.slotmap_basic.proofs.PairsLemmas.{full_slots}
+use Rattle.slotmap_basic.proofs.Common.{◌≡◌, inl, ap, arith, length, ◌∙◌, AreSlotsOf, versions_of, cursor_of_slots, valid_of_slots, count_of_slots, versions-length, zip-length, full_slots}
+use Rattle.slotmap_basic.proofs.Common.{sym}
 use Rattle.slotmap_basic.proofs.SlotMap.cursor_from.Goals.{After-of_slots}
 use Rattle.slotmap_basic.proofs.SlotMap.cursor_from.Goals as goal
 
@@ -13,9 +8,7 @@ shows : (g : _) (c : After-of_slots g) → AreSlotsOf c.layout.result.now.slots 
 shows g c = rw c.self.view_is at c.layout.ensures
 
 count : (g : _) (c : After-of_slots g) → length c.layout.result.now.slots ≡ length c.as_slices.result.1.now
-count g c =
-    let parts = c.as_slices.ensures in
-    ap length (sym parts.3) ∙ zip-length c.as_slices.result.0.now parts.0 c.as_slices.result.1.now parts.1 parts.2 ∙ sym parts.2
+count g c = let parts = c.as_slices.ensures in ap length (sym parts.3) ∙ zip-length c.as_slices.result.0.now parts.0 c.as_slices.result.1.now parts.1 parts.2 ∙ sym parts.2
 
 pub returns-clause-cursor : goal.returns-clause-cursor
 returns-clause-cursor g c =

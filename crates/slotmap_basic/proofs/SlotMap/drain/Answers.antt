@@ -1,5 +1,4 @@
-use Rattle.slotmap_core.proofs.Common.{EmptiesByIndex, loan_along, lists_along, in_order_along}
-use Rattle.slotmap_basic.specs.Drain.{drain_loan, drain_live, DrainSteps}
+use Rattle.slotmap_basic.proofs.Common.{EmptiesByIndex, loan_along, lists_along, in_order_along, drain_loan, drain_live, DrainSteps}
 use Rattle.slotmap_basic.proofs.SlotMap.drain.Goals as goal
 
 pub returns-clause-stays : goal.returns-clause-stays

@@ -1,7 +1,6 @@
 use Rattle.std.specs.FinMap as map
-use Rattle.std.proofs.Common.{◌∷◌, ◌++◌, [], length, map as list_map, refl, sym, ap, ◌∙◌, append_assoc, append-nil, arith}
-use Rattle.slotmap_core.proofs.Common.{map-append, none_live, entries_none, Swept-start, Swept-to, Swept-removed, first_entry, above_next}
-use Rattle.slotmap_basic.proofs.AheadLemmas.{cursor_removed}
+use Rattle.slotmap_basic.proofs.Common.{◌∷◌, map-append, none_live, entries_none, Swept-start, Swept-removed, first_entry, above_next, ◌∙◌, append_assoc, append-nil, arith, cursor_removed}
+use Rattle.slotmap_basic.proofs.Common.{◌++◌, list_map, Swept-to, [], length, refl, sym, ap}
 use Rattle.slotmap_basic.proofs.SlotMap.drain_into.Goals as goal
 
 pub loop-key-init : goal.loop-key-init
@@ -46,9 +45,7 @@ loop-key-preserved g c =
     }
 
 pub returns-clause-empty : goal.returns-clause-empty
-returns-clause-empty g c =
-    let at = c.loop-key in
-    none_live at.self.live (λ q there. absurd (omega (arith, c.in_default.ensures.none q there, at.invariant.above q there)))
+returns-clause-empty g c = let at = c.loop-key in none_live at.self.live (λ q there. absurd (omega (arith, c.in_default.ensures.none q there, at.invariant.above q there)))
 
 pub returns-clause-ok : goal.returns-clause-ok
 returns-clause-ok g c =

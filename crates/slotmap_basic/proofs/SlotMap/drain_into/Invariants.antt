@@ -1,7 +1,5 @@
 use Rattle.std.specs.FinMap as map
-use Rattle.std.proofs.Common.{◌≡◌, ◌+◌, ◌-◌, ◌≤◌, ◌++◌, true, List, length, map as list_map, vec_len, vec_capacity}
-use Rattle.slotmap_core.proofs.Common.{places, NoneBelow, Swept}
-use Rattle.slotmap_basic.specs.Ahead.{KnowsLiveKeys}
+use Rattle.slotmap_basic.proofs.Common.{◌≡◌, ◌+◌, ◌-◌, ◌≤◌, ◌++◌, list_map, places, NoneBelow, Swept, true, List, length, vec_len, vec_capacity, KnowsLiveKeys}
 use Rattle.slotmap_basic.proofs.SlotMap.drain_into.Given as goal
 
 abbrev pub invariant-loop-key : goal.invariant-loop-key

@@ -1,6 +1,4 @@
-use Rattle.std.proofs.Common.{◌≡◌, ◌%◌, refl, inl, arith}
-use Rattle.slotmap_slots.specs.Slot.{AreSlotsOf}
-use Rattle.slotmap_basic.proofs.AheadLemmas.{live_at_odd, valid_of_slots, live_version, count_of_slots}
+use Rattle.slotmap_basic.proofs.Common.{◌≡◌, ◌%◌, AreSlotsOf, live_at_odd, valid_of_slots, live_version, count_of_slots, refl, inl, arith}
 use Rattle.slotmap_basic.proofs.SlotMap.live_at.Goals.{After-layout-columns, After-from}
 use Rattle.slotmap_basic.proofs.SlotMap.live_at.Goals as goal
 

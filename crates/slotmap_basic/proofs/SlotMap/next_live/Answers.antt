@@ -1,8 +1,5 @@
-use Rattle.std.proofs.Common.{◌≡◌, ◌<◌, inl, arith}
-use Rattle.slotmap_core.proofs.Common.{Key, IsLive, if_none}
-use native.Mathlib.Decide.{dec_lt}
-use Rattle.slotmap_slots.specs.Slot.{AreSlotsOf}
-use Rattle.slotmap_basic.proofs.AheadLemmas.{cursor_of_slots, ahead_of_slots, none_odd, odd_at, versions-length, valid_of_slots, count_of_slots, slots_below_limit, live_at_odd, passed_over}
+use Rattle.slotmap_basic.proofs.Common.{◌≡◌, AreSlotsOf, cursor_of_slots, ahead_of_slots, none_odd, versions-length, valid_of_slots, count_of_slots, slots_below_limit, live_at_odd, passed_over}
+use Rattle.slotmap_basic.proofs.Common.{◌<◌, Key, IsLive, if_none, inl, arith, dec_lt, odd_at}
 use Rattle.slotmap_basic.proofs.SlotMap.next_live.Goals.{After-layout-columns, After-version-version, After-from, In_err-index}
 use Rattle.slotmap_basic.proofs.SlotMap.next_live.Goals as goal
 
@@ -14,8 +11,7 @@ next_odd-requires g c = ahead_of_slots (shows g (goal.at.next_odd-requires g c).
 
 -- the version that is read is odd, so its key is live
 found : (g : _) (c : After-version-version g) → IsLive c.args.self.now (record { index = c.in_ok-index.index; version = c.version-version.result })
-found g c =
-    live_at_odd (shows g (goal.at.After-version-version g c).After-layout-columns) _ _ c.version-version.ensures (odd_at _ _ _ _ c.version-version.ensures c.in_ok-index.ensures.next)
+found g c = live_at_odd (shows g (goal.at.After-version-version g c).After-layout-columns) _ _ c.version-version.ensures (odd_at _ _ _ _ c.version-version.ensures c.in_ok-index.ensures.next)
 
 key_is : (g : _) (c : After-from g) → g.K.Key.data_of c.from.result ≡ record { index = c.in_ok-index.index; version = c.version-version.result }
 key_is g c = grind arith

@@ -1,7 +1,4 @@
-use Rattle.std.proofs.Common.{◌≡◌, ap, sym, ◌∙◌}
-use Rattle.slotmap_core.proofs.Common.{inl, arith, same_Some}
-use Rattle.slotmap_slots.specs.Slot.{AreSlotsOf, version_at}
-use Rattle.slotmap_basic.proofs.AheadLemmas.{valid_of_slots, count_of_slots, live_version}
+use Rattle.slotmap_basic.proofs.Common.{◌≡◌, inl, arith, same_Some, ap, sym, ◌∙◌, AreSlotsOf, version_at, valid_of_slots, count_of_slots, live_version}
 use Rattle.slotmap_basic.proofs.SlotMap.reject.Goals.{After-layout, After-version-version}
 use Rattle.slotmap_basic.proofs.SlotMap.reject.Goals as goal
 
@@ -19,15 +16,11 @@ version_is g c =
 
 pub version-version-requires : goal.version-version-requires
 version-version-requires g c =
-    let at = (goal.at.version-version-requires g c).After-layout in
-    omega (arith, index_is g at, (valid_of_slots (shows g at)).within _ (inl (inl c.requires)), count_of_slots (shows g at))
+    let at = (goal.at.version-version-requires g c).After-layout in omega (arith, index_is g at, (valid_of_slots (shows g at)).within _ (inl (inl c.requires)), count_of_slots (shows g at))
 
 pub exact-requires : goal.exact-requires
 exact-requires g c =
-    let at = (goal.at.exact-requires g c).After-version-version in
-    rw (index_is g (goal.at.exact-requires g c).After-layout, version_is g at) (rw c.data.ensures.value at c.data.ensures.valid)
+    let at = (goal.at.exact-requires g c).After-version-version in rw (index_is g (goal.at.exact-requires g c).After-layout, version_is g at) (rw c.data.ensures.value at c.data.ensures.valid)
 
 pub take-requires : goal.take-requires
-take-requires g c =
-    let at = (goal.at.take-requires g c).After-version-version in
-    rw (c.exact.ensures, index_is g (goal.at.take-requires g c).After-layout, version_is g at, c.self.view_is) c.requires
+take-requires g c = rw (c.exact.ensures, index_is g (goal.at.take-requires g c).After-layout, version_is g (goal.at.take-requires g c).After-version-version, c.self.view_is) c.requires

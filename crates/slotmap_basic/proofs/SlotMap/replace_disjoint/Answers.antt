@@ -1,5 +1,4 @@
-use Rattle.slotmap_core.proofs.Common.{is_some, true, ap, arith, IsContent-with_value, content_written, capacity-with_values}
-use Rattle.slotmap_core.proofs.Common.{key_there, key_exchanged, common_steps}
+use Rattle.slotmap_basic.proofs.Common.{is_some, true, ap, arith, IsContent-with_value, content_written, capacity-with_values, key_there, key_exchanged, common_steps}
 use Rattle.slotmap_basic.proofs.SlotMap.replace_disjoint.Goals as goal
 
 pub swap_value-requires : goal.swap_value-requires

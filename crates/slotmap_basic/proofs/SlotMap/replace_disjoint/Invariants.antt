@@ -1,5 +1,4 @@
-use Rattle.slotmap_core.specs.Words.{value_of}
-use Rattle.slotmap_core.proofs.Common.{IsContent, with_value, map as map_list, true, Exchanged}
+use Rattle.slotmap_basic.proofs.Common.{value_of, IsContent, with_value, map_list, true, Exchanged}
 use Rattle.slotmap_basic.proofs.SlotMap.replace_disjoint.Given as goal
 
 abbrev pub invariant-loop-i : goal.invariant-loop-i

@@ -1,6 +1,5 @@
-use Rattle.slotmap_core.proofs.Common.{IsContent, IsLive, with_value, true, ◌∙◌, arith, same_live, CallsAt-called}
-use Rattle.slotmap_basic.proofs.AheadLemmas.{cursor_removed, cursor_written}
-use Rattle.slotmap_basic.proofs.RetainLemmas.{Going-start, Going-may, Going-end, Going-kept, Going-dropped}
+use Rattle.slotmap_basic.proofs.Common.{IsContent, with_value, true, ◌∙◌, same_live, CallsAt-called, cursor_removed, cursor_written, Going-start, Going-may, Going-end, Going-kept, Going-dropped}
+use Rattle.slotmap_basic.proofs.Common.{IsLive, arith}
 use Rattle.slotmap_basic.proofs.SlotMap.retain.Goals.{After-cursor_from-cursor, After-f-stays}
 use Rattle.slotmap_basic.proofs.SlotMap.retain.Goals as goal
 
@@ -17,9 +16,7 @@ loop-key-init g c =
     }
 
 pub f-stays-requires : goal.f-stays-requires
-f-stays-requires g c =
-    let at = c.loop-key in
-    Going-may g.F.FnMut g.K.Key.data_of c.args.self.now c.args.f at.invariant.going c.requires c.in-Some.key _ c.in-Some.ensures.live.1 c.get_unchecked_mut.ensures.value
+f-stays-requires g c = Going-may g.F.FnMut g.K.Key.data_of c.args.self.now c.args.f c.loop-key.invariant.going c.requires c.in-Some.key _ c.in-Some.ensures.live.1 c.get_unchecked_mut.ensures.value
 
 -- the key is live until it is removed
 still : (g : _) (c : After-f-stays g) → IsLive (with_value c.loop-key.self (g.K.Key.data_of c.in-Some.key) c.f-stays.new.arg3) (g.K.Key.data_of c.in-Some.key)

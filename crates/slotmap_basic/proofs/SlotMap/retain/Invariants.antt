@@ -1,7 +1,4 @@
-use Rattle.std.proofs.Common.{◌+◌, ◌-◌}
-use Rattle.slotmap_core.proofs.Common.{places}
-use Rattle.slotmap_basic.specs.Ahead.{KnowsLiveKeys}
-use Rattle.slotmap_basic.proofs.RetainLemmas.{Going}
+use Rattle.slotmap_basic.proofs.Common.{◌+◌, ◌-◌, places, KnowsLiveKeys, Going}
 use Rattle.slotmap_basic.proofs.SlotMap.retain.Given as goal
 
 abbrev pub invariant-loop-key : goal.invariant-loop-key

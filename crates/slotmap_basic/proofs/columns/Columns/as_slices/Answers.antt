@@ -1,5 +1,4 @@
-use Rattle.slotmap_core.proofs.Common.{common_steps, arith}
-use Rattle.slotmap_basic.proofs.NumberLemmas.{uses-length}
+use Rattle.slotmap_basic.proofs.Common.{common_steps, arith, uses-length}
 use Rattle.slotmap_basic.proofs.columns.Columns.as_slices.Goals as goal
 
 pub returns : goal.returns

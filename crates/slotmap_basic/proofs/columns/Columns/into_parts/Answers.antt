@@ -1,6 +1,4 @@
-use Rattle.slotmap_core.proofs.Common.{ap}
-use Rattle.slotmap_basic.specs.Columns.{uses_of}
-use Rattle.slotmap_basic.proofs.NumberLemmas.{uses-length}
+use Rattle.slotmap_basic.proofs.Common.{ap, uses_of, uses-length}
 use Rattle.slotmap_basic.proofs.columns.Columns.into_parts.Goals as goal
 
 pub returns : goal.returns

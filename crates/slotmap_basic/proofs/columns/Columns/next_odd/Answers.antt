@@ -1,6 +1,4 @@
-use Rattle.std.proofs.Common.{◌≡◌, ◌∙◌, sym}
-use Rattle.slotmap_basic.specs.Columns.{versions_of}
-use Rattle.slotmap_basic.proofs.ColumnLemmas.{slot_list-versions}
+use Rattle.slotmap_basic.proofs.Common.{◌≡◌, versions_of, slot_list-versions, ◌∙◌, sym}
 use Rattle.slotmap_basic.proofs.columns.Columns.next_odd.Goals.{After-deref}
 use Rattle.slotmap_basic.proofs.columns.Columns.next_odd.Goals as goal
 

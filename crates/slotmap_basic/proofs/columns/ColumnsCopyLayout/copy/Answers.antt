@@ -1,9 +1,4 @@
-use Rattle.std.proofs.Common.{◌≡◌, length, ap, ◌∙◌, arith}
-use Rattle.slotmap_core.proofs.Common.{AllZip, IsCloneOf, zip_length}
-use Rattle.slotmap_basic.specs.Columns.{uses_of}
-use Rattle.slotmap_basic.proofs.ColumnLemmas.{zip-length}
-use Rattle.slotmap_basic.proofs.NumberLemmas.{uses-length}
-use Rattle.slotmap_basic.proofs.IterClones.{option_clones, zip-clones}
+use Rattle.slotmap_basic.proofs.Common.{◌≡◌, AllZip, IsCloneOf, zip_length, length, ap, ◌∙◌, arith, uses_of, zip-length, uses-length, option_clones, zip-clones}
 use Rattle.slotmap_basic.proofs.columns.ColumnsCopyLayout.copy.Goals as goal
 
 pub returns-clause-clones : goal.returns-clause-clones

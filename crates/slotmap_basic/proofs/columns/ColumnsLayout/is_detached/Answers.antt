@@ -1,6 +1,4 @@
-use Rattle.std.proofs.Common.{◌≡◌, ◌<◌, length, get_or, arith}
-use Rattle.slotmap_core.proofs.Common.{common_steps}
-use Rattle.slotmap_basic.proofs.ColumnLemmas.{detached_at, slot_list-length}
+use Rattle.slotmap_basic.proofs.Common.{◌≡◌, ◌<◌, common_steps, length, get_or, arith, detached_at, slot_list-length}
 use Rattle.slotmap_basic.proofs.columns.ColumnsLayout.is_detached.Goals as goal
 
 pub returns : goal.returns

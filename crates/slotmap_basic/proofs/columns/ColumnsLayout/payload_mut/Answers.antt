@@ -1,5 +1,4 @@
-use Rattle.slotmap_core.proofs.Common.{refl, arith}
-use Rattle.slotmap_basic.proofs.ColumnLemmas.{slot_list, slot_list-known, zip-with_payload}
+use Rattle.slotmap_basic.proofs.Common.{refl, arith, slot_list, slot_list-known, zip-with_payload}
 use Rattle.slotmap_basic.proofs.columns.ColumnsLayout.payload_mut.Goals as goal
 
 pub returns : goal.returns

@@ -1,6 +1,4 @@
-use Rattle.slotmap_core.proofs.Common.{common_steps, arith}
-use Rattle.slotmap_basic.proofs.ColumnLemmas.{slot_list, slot_list-push}
-use Rattle.slotmap_basic.proofs.NumberLemmas.{usage-empty}
+use Rattle.slotmap_basic.proofs.Common.{common_steps, arith, slot_list, slot_list-push, usage-empty}
 use Rattle.slotmap_basic.proofs.columns.ColumnsLayout.push_empty.Goals as goal
 
 pub returns-clause-pushed : goal.returns-clause-pushed

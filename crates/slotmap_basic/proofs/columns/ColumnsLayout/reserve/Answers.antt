@@ -1,5 +1,4 @@
-use Rattle.std.proofs.Common.{◌+◌, length, arith}
-use Rattle.slotmap_basic.proofs.ColumnLemmas.{slot_list-length}
+use Rattle.slotmap_basic.proofs.Common.{◌+◌, slot_list-length, length, arith}
 use Rattle.slotmap_basic.proofs.columns.ColumnsLayout.reserve.Goals as goal
 
 pub returns-clause-room : goal.returns-clause-room

@@ -1,5 +1,4 @@
-use Rattle.slotmap_core.proofs.Common.{arith}
-use Rattle.slotmap_basic.proofs.ColumnLemmas.{slot_list}
+use Rattle.slotmap_basic.proofs.Common.{arith, slot_list}
 use Rattle.slotmap_basic.proofs.columns.ColumnsLayout.take.Goals as goal
 
 pub index_mut-requires : goal.index_mut-requires

@@ -1,7 +1,4 @@
-use Rattle.std.proofs.Common.{◌≢◌, ◌-◌, ◌^◌, subst, arith}
-use Rattle.slotmap_basic.specs.Columns.{AllEven}
-use Rattle.slotmap_basic.specs.Odds.{HasOdds}
-use Rattle.slotmap_basic.proofs.OddsLemmas.{behind_run, none_left, passed_to, next_from, run_first, run_ahead, odds_refill}
+use Rattle.slotmap_basic.proofs.Common.{◌≢◌, ◌-◌, ◌^◌, AllEven, HasOdds, behind_run, none_left, passed_to, next_from, run_first, run_ahead, odds_refill, subst, arith}
 use Rattle.slotmap_basic.proofs.columns.odds.at_next.Goals.{After-look_ahead-end}
 use Rattle.slotmap_basic.proofs.columns.odds.at_next.Goals as goal
 
@@ -24,8 +21,7 @@ pub returns-then-bits-clause-ahead : goal.returns-then-bits-clause-ahead
 returns-then-bits-clause-ahead c = rw c.max-index.ensures (run_ahead _ _ _ _ (c.look_ahead-end.ensures.run c.if-bits.true))
 
 pub returns-then-bits-eq0-clause-none : goal.returns-then-bits-eq0-clause-none
-returns-then-bits-eq0-clause-none c =
-    passed_to _ _ _ _ (passed (goal.at.returns-then-bits-eq0-clause-none c).After-look_ahead-end) (c.look_ahead-end.ensures.none c.if-bits-eq0.true)
+returns-then-bits-eq0-clause-none c = passed_to _ _ _ _ (passed (goal.at.returns-then-bits-eq0-clause-none c).After-look_ahead-end) (c.look_ahead-end.ensures.none c.if-bits-eq0.true)
 
 pub take_lowest-requires-2-clause-cursor : goal.take_lowest-requires-2-clause-cursor
 take_lowest-requires-2-clause-cursor c = chunk (goal.at.take_lowest-requires-2-clause-cursor c).After-look_ahead-end c.if-bits-eq0.false c.if-bits.false

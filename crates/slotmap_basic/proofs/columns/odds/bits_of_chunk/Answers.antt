@@ -1,5 +1,4 @@
-use Rattle.std.proofs.Common.{◌≡◌, ◌+◌, ◌%◌, get_or, ap, ◌∙◌, arith}
-use Rattle.slotmap_core.proofs.Common.{get_or-chunk}
+use Rattle.slotmap_basic.proofs.Common.{◌≡◌, ◌+◌, ◌%◌, get_or-chunk, get_or, ap, ◌∙◌, arith}
 use Rattle.slotmap_basic.proofs.columns.odds.bits_of_chunk.Goals as goal
 
 pub returns : goal.returns

@@ -1,6 +1,4 @@
-use Rattle.slotmap_core.proofs.Common.{common_steps}
-use Rattle.std.proofs.Common.{arith}
-use Rattle.slotmap_basic.proofs.OddsLemmas.{below_odd, below_even}
+use Rattle.slotmap_basic.proofs.Common.{common_steps, arith, below_odd, below_even}
 use Rattle.slotmap_basic.proofs.columns.odds.bits_of_tail.Goals as goal
 
 pub loop-lane-preserved : goal.loop-lane-preserved

@@ -1,5 +1,4 @@
-use Rattle.std.proofs.Common.{◌+◌, ◌-◌, ◌≤◌, length}
-use Rattle.slotmap_basic.proofs.OddsLemmas.{Below}
+use Rattle.slotmap_basic.proofs.Common.{◌+◌, ◌-◌, ◌≤◌, Below, length}
 use Rattle.slotmap_basic.proofs.columns.odds.bits_of_tail.Given as goal
 
 abbrev pub invariant-loop-lane : goal.invariant-loop-lane

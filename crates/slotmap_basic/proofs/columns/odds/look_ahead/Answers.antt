@@ -1,7 +1,4 @@
-use Rattle.slotmap_core.proofs.Common.{common_steps}
-use Rattle.std.proofs.Common.{◌≡◌, ◌+◌, ◌-◌, max, refl, subst, arith}
-use Rattle.slotmap_basic.specs.Odds.{HasOdds, IsRun}
-use Rattle.slotmap_basic.proofs.OddsLemmas.{odds_start, odds_refill, odds_last, full_run}
+use Rattle.slotmap_basic.proofs.Common.{common_steps, max, refl, subst, arith, ◌≡◌, ◌+◌, ◌-◌, HasOdds, IsRun, odds_start, odds_refill, odds_last, full_run}
 use Rattle.slotmap_basic.proofs.columns.odds.look_ahead.Goals as goal
 
 pub returns-then-at-versions : goal.returns-then-at-versions

@@ -1,5 +1,4 @@
-use Rattle.slotmap_core.proofs.Common.{arith}
-use Rattle.slotmap_basic.proofs.OddsLemmas.{AllOdd-on}
+use Rattle.slotmap_basic.proofs.Common.{arith, AllOdd-on}
 use Rattle.slotmap_basic.proofs.columns.odds.near_run.Goals as goal
 
 pub loop-run-init : goal.loop-run-init

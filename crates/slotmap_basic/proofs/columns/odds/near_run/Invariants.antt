@@ -1,5 +1,4 @@
-use Rattle.std.proofs.Common.{◌≤◌, ◌+◌, ◌-◌, ◌*◌, ◌/◌, length}
-use Rattle.slotmap_basic.specs.Odds.{AllOdd}
+use Rattle.slotmap_basic.proofs.Common.{◌≤◌, ◌+◌, ◌-◌, ◌*◌, ◌/◌, AllOdd, length}
 use Rattle.slotmap_basic.proofs.columns.odds.near_run.Given as goal
 
 abbrev pub invariant-loop-run : goal.invariant-loop-run

@@ -1,6 +1,4 @@
-use Rattle.std.proofs.Common.{◌+◌, arith}
-use native.Mathlib.Decide.{dec_lt}
-use Rattle.slotmap_basic.proofs.OddsLemmas.{even_chunk}
+use Rattle.slotmap_basic.proofs.Common.{◌+◌, dec_lt, even_chunk, arith}
 use Rattle.slotmap_basic.proofs.columns.odds.next_chunk.Goals as goal
 
 pub loop-at-preserved : goal.loop-at-preserved

@@ -1,5 +1,4 @@
-use Rattle.std.proofs.Common.{◌-◌, ◌≤◌, length}
-use Rattle.slotmap_basic.specs.Columns.{AllEven}
+use Rattle.slotmap_basic.proofs.Common.{◌-◌, ◌≤◌, AllEven, length}
 use Rattle.slotmap_basic.proofs.columns.odds.next_chunk.Given as goal
 
 abbrev pub invariant-loop-at : goal.invariant-loop-at

@@ -1,5 +1,4 @@
-use Rattle.std.proofs.Common.{◌≡◌, ◌+◌, ◌-◌, refl, arith}
-use Rattle.slotmap_basic.proofs.OddsLemmas.{odds_on, odds_next, odds_step}
+use Rattle.slotmap_basic.proofs.Common.{◌≡◌, ◌+◌, ◌-◌, odds_on, odds_next, odds_step, refl, arith}
 use Rattle.slotmap_basic.proofs.columns.odds.take_lowest.Goals as goal
 
 pub returns : goal.returns

@@ -1,5 +1,4 @@
-use Rattle.slotmap_core.proofs.Common.{arith, common_steps}
-use Rattle.slotmap_basic.proofs.OddsLemmas.{lowest_gone, others_kept}
+use Rattle.slotmap_basic.proofs.Common.{arith, common_steps, lowest_gone, others_kept}
 use Rattle.slotmap_basic.proofs.columns.odds.without_lowest.Goals as goal
 
 pub returns : goal.returns

@@ -1,8 +1,6 @@
 use Rattle.std.specs.FinMap as map
-use Rattle.std.proofs.Common.{◌∷◌, refl, sym, ap, ◌∙◌, arith}
-use Rattle.slotmap_core.proofs.Common.{NoneBelow, keys_total, exact_keys, len_removed, none_live, Empties-first, first_entry, above_next}
-use Rattle.slotmap_basic.proofs.AheadLemmas.{cursor_removed}
-use Rattle.slotmap_basic.specs.Drain.{DrainCanStep}
+use Rattle.slotmap_basic.proofs.Common.{◌∷◌, NoneBelow, keys_total, exact_keys, len_removed, none_live, Empties-first, first_entry, above_next, ◌∙◌, arith, cursor_removed, DrainCanStep}
+use Rattle.slotmap_basic.proofs.Common.{refl, sym, ap}
 use Rattle.slotmap_basic.proofs.drain.DrainIterator.next.Goals as goal
 
 later : (g : _) (c : goal.After-take_live g) → NoneBelow c.take_live.new.self.live c.next_live.new.cursor.index

@@ -1,20 +1,14 @@
-use Rattle.std.proofs.Common.{◌≡◌, [], length, ap, arith}
-use Rattle.slotmap_core.proofs.Common.{same_Some, slice_get_within, same_read}
-use Rattle.slotmap_basic.specs.Iter.{IsIter, pairs_left}
-use Rattle.slotmap_basic.proofs.PairsLemmas.{Next, next_on, some_left, ends_at, IsIter-taken, left-taken}
+use Rattle.slotmap_basic.proofs.Common.{◌≡◌, same_Some, slice_get_within, same_read, [], length, ap, arith, IsIter, pairs_left, Next, next_on, some_left, ends_at, IsIter-taken, left-taken}
 use Rattle.slotmap_basic.proofs.columns.pairs.SlotIntoIterIterator.next.Goals.{In_ok-index, In_err-index}
 use Rattle.slotmap_basic.proofs.columns.pairs.SlotIntoIterIterator.next.Goals as goal
 
 next : (g : _) (c : In_ok-index g) → Next c.self.inside.versions.items c.self.inside.payloads.items c.self.inside.cursor.index c.self.inside.left c.in_ok-index.index
-next g c =
-    next_on c.self.invariant.0 c.deref.ensures.value c.in_ok-index.ensures.next (omega (arith, c.in_ok-index.ensures.ahead.behind.within, c.in_ok-index.ensures.on))
+next g c = next_on c.self.invariant.0 c.deref.ensures.value c.in_ok-index.ensures.next (omega (arith, c.in_ok-index.ensures.ahead.behind.within, c.in_ok-index.ensures.on))
 
 ended : (g : _) (c : In_err-index g) → (pairs_left c.self.inside.cursor.index c.self.inside.versions.items c.self.inside.payloads.items ≡ [])
     × IsIter c.self.inside.versions.items c.self.inside.payloads.items c.next.new.self.index c.self.inside.left
     × (pairs_left c.next.new.self.index c.self.inside.versions.items c.self.inside.payloads.items ≡ [])
-ended g c =
-    ends_at c.self.invariant.0 c.deref.ensures.value (omega (arith, c.self.invariant.1.behind.within, ap length c.deref.ensures.value)) c.in_err-index.ensures.none
-    c.in_err-index.ensures.end
+ended g c = ends_at c.self.invariant.0 c.deref.ensures.value (omega (arith, c.self.invariant.1.behind.within, ap length c.deref.ensures.value)) c.in_err-index.ensures.none c.in_err-index.ensures.end
 
 pub invariant_of-self : goal.invariant_of-self
 invariant_of-self g c = ((ended g (goal.at.invariant_of-self g c).In_err-index).1, rw c.deref.ensures.value at c.in_err-index.ensures.ahead)
@@ -40,9 +34,7 @@ pub sure-payload-requires : goal.sure-payload-requires
 sure-payload-requires g c = grind (arith, next g (goal.at.sure-payload-requires g c).In_ok-index, same_read)
 
 pub invariant_of-self-2 : goal.invariant_of-self-2
-invariant_of-self-2 g c =
-    let n = next g (goal.at.invariant_of-self-2 g c).In_ok-index in
-    (rw c.in_ok-index.ensures.on (IsIter-taken _ _ _ _ _ n.iter_on), rw c.deref.ensures.value at c.in_ok-index.ensures.ahead)
+invariant_of-self-2 g c = (rw c.in_ok-index.ensures.on (IsIter-taken _ _ _ _ _ (next g (goal.at.invariant_of-self-2 g c).In_ok-index).iter_on), rw c.deref.ensures.value at c.in_ok-index.ensures.ahead)
 
 pub returns-clause-steps : goal.returns-clause-steps
 returns-clause-steps g c = grind (arith, next g (goal.at.returns-clause-steps g c).In_ok-index, same_read, same_Some, left-taken, c.in_ok-index.ensures.on)
@@ -52,5 +44,4 @@ returns-clause-goes g c = grind (arith, returns-clause-steps)
 
 pub overflow_cast-index : goal.overflow_cast-index
 overflow_cast-index g c =
-    let there = (next g (goal.at.overflow_cast-index g c).In_ok-index).version_there in
-    omega (arith, c.self.invariant.0.fits, slice_get_within c.self.inside.versions.items c.in_ok-index.index _ there)
+    omega (arith, c.self.invariant.0.fits, slice_get_within c.self.inside.versions.items c.in_ok-index.index _ (next g (goal.at.overflow_cast-index g c).In_ok-index).version_there)

@@ -1,7 +1,4 @@
-use Rattle.std.proofs.Common.{◌≡◌, [], refl, sym, ◌∙◌, arith}
-use Rattle.slotmap_core.proofs.Common.{same_Some, slice_get_within, same_read}
-use Rattle.slotmap_basic.specs.Iter.{IsIter, pairs_left}
-use Rattle.slotmap_basic.proofs.PairsLemmas.{Next, next_on, some_left, ends_at}
+use Rattle.slotmap_basic.proofs.Common.{◌≡◌, same_Some, slice_get_within, same_read, [], refl, sym, ◌∙◌, arith, IsIter, pairs_left, Next, next_on, some_left, ends_at}
 use Rattle.slotmap_basic.proofs.columns.pairs.SlotIterIterator.next.Goals.{In_ok-index, In_err-index}
 use Rattle.slotmap_basic.proofs.columns.pairs.SlotIterIterator.next.Goals as goal
 
@@ -26,8 +23,7 @@ pub version_in-version-requires : goal.version_in-version-requires
 version_in-version-requires g c = slice_get_within c.self.inside.versions.now c.in_ok-index.index _ (next g (goal.at.version_in-version-requires g c).In_ok-index).version_there
 
 pub exact-key-requires : goal.exact-key-requires
-exact-key-requires g c =
-    let n = next g (goal.at.exact-key-requires g c).In_ok-index in n.is_key _ (same_Some _ _ (sym c.version_in-version.ensures ∙ n.version_there)) c.version_in-version.type_inv
+exact-key-requires g c = let n = next g (goal.at.exact-key-requires g c).In_ok-index in n.is_key _ (same_Some _ _ (sym c.version_in-version.ensures ∙ n.version_there)) c.version_in-version.type_inv
 
 pub sure-payload-requires : goal.sure-payload-requires
 sure-payload-requires g c = grind (arith, next g (goal.at.sure-payload-requires g c).In_ok-index, same_read)
@@ -45,6 +41,4 @@ pub bounds-self-inside-index : goal.bounds-self-inside-index
 bounds-self-inside-index g c = slice_get_within c.self.inside.payloads.now c.in_ok-index.index _ (next g (goal.at.bounds-self-inside-index g c).In_ok-index).value_there
 
 pub overflow_cast-index : goal.overflow_cast-index
-overflow_cast-index g c =
-    let there = (next g (goal.at.overflow_cast-index g c).In_ok-index).version_there in
-    omega (arith, c.self.invariant.0.fits, slice_get_within c.self.inside.versions.now c.in_ok-index.index _ there)
+overflow_cast-index g c = omega (arith, c.self.invariant.0.fits, slice_get_within c.self.inside.versions.now c.in_ok-index.index _ (next g (goal.at.overflow_cast-index g c).In_ok-index).version_there)
