@@ -1,15 +1,10 @@
 -- Lists that agree with one another for one more element, and what one element of an array is read as.
-use Rattle.std.proofs.Common.{◌≡◌, ◌+◌, ◌<◌, ◌∷◌, ◌++◌, ℕ, suc, drop-cons, add-one, List, [], length, get_or, take, drop, map, Result, Ok, Err, IsOk, IfOk, inr}
-use Rattle.slotmap_core.proofs.Common.{AllZip, Option, Some, sym, ap, ◌∙◌, arith, take_more, map_more, map_push, map-append, take-append-drop, all_zipped_more}
-use Rattle.slotmap_core.specs.declared.serial.SlotRecord.{SlotRecord}
-use Rattle.serde_json.specs.Data.{Data, array, Items}
-use Rattle.serde_json.specs.Find.{as_array}
-use Rattle.serde_json.specs.View.{view, items_of, items_view}
-use Rattle.serde_json.specs.declared.value.Value.{Value}
-use Rattle.slotmap_json.specs.Json.{version_member, value_member, ok_map, slot_json, IsSlotJson, ReadsSlot, ReadsAll, HasElements, IsRefused}
-use Rattle.slotmap_core.specs.declared.errors.JsonError.{JsonError}
-use Rattle.slotmap_core.specs.declared.errors.JsonError.TheVariants.{Shape, Memory}
+use Rattle.slotmap_json.proofs.Common.{◌≡◌, ◌∷◌, ◌∙◌, map-append, take-append-drop, all_zipped_more, SlotRecord, items_view, version_member, value_member, IsSlotJson, HasElements}
+use Rattle.slotmap_json.proofs.Common.{◌+◌, ◌<◌, ◌++◌, AllZip, take_more, map_more, map_push, drop-cons, add-one, as_array, items_of, slot_json, ReadsSlot, ReadsAll, IsRefused, JsonError}
+use Rattle.slotmap_json.proofs.Common.{Option, Some, sym, ap, arith, ℕ, suc, List, [], length, get_or, take, drop, map, Result, Ok, Err, IsOk, IfOk, inr, view, ok_map, Shape, Memory}
 use Rattle.slotmap_core.specs.declared.errors.OutOfMemory.{OutOfMemory}
+use Rattle.serde_json.specs.Data.{Data, array, Items}
+use Rattle.serde_json.specs.declared.value.Value.{Value}
 
 -- one more element of xs agrees with one more value
 pub goes_further : {A : Type 0} (R : A → Data → Type 0) (xs : List A) (before after : List Value) (i : ℕ) (x : A) (y : Value) → i < length xs

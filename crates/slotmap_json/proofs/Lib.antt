@@ -1,2 +1,3 @@
 mod JsonLemmas
 pub mod RoundTrips
+mod Common

@@ -1,14 +1,8 @@
 -- What was written as JSON is read back: for callers, who write keys and lists of slots, and read them again.
-use Rattle.std.proofs.Common.{◌≡◌, ◌<◌, ◌^◌, ◌∷◌, ◌++◌, ◌⊎◌, ℕ, List, [], Result, Ok, Err, Option, Some, None, option_map, Bool, inl, inr, refl, sym, ap, ◌∙◌}
-use Rattle.slotmap_core.proofs.Common.{result_ok, AllZip, AllByRecursion, Key, IsKey, key_from, Content, IsContent, ReadsAs, Writes, Restores, subst, arith}
-use Rattle.slotmap_core.proofs.Common.{nat_tests}
-use Rattle.slotmap_core.specs.declared.serial.SlotRecord.{SlotRecord}
+use Rattle.slotmap_json.proofs.Common.{◌≡◌, ◌<◌, ◌∷◌, ◌⊎◌, result_ok, AllByRecursion, IsContent, nat_tests, option_map, ◌∙◌, SlotRecord, JsonError, IsSlotJson, IsSlotsJson}
+use Rattle.slotmap_json.proofs.Common.{◌^◌, ◌++◌, key_from, Content, ReadsAs, Restores, as_array, items_of, key_json, read_key, slot_json, ReadsSlot, ReadsAll, IsReadAs, IsRefused, ReadsBack}
+use Rattle.slotmap_json.proofs.Common.{AllZip, Key, IsKey, Writes, subst, arith, ℕ, List, [], Result, Ok, Err, Option, Some, None, Bool, inl, inr, refl, sym, ap, Shape, Memory, as_u32, ok_map}
 use Rattle.serde_json.specs.Data.{Data, null, array}
-use Rattle.serde_json.specs.Find.{as_array}
-use Rattle.serde_json.specs.View.{items_of}
-use Rattle.slotmap_core.specs.declared.errors.JsonError.{JsonError}
-use Rattle.slotmap_core.specs.declared.errors.JsonError.TheVariants.{Shape, Memory}
-use Rattle.slotmap_json.specs.Json.{key_json, read_key, as_u32, ok_map, slot_json, IsSlotJson, IsSlotsJson, ReadsSlot, ReadsAll, IsReadAs, IsRefused, ReadsBack}
 
 fits_or_not : (n : ℕ) → (as_u32 n ≡ Some n) ⊎ (as_u32 n ≡ None)
 fits_or_not n = grind arith
@@ -27,14 +21,11 @@ key_read_back k is = rw (fits k.index is.index_fits, fits k.version is.version_f
 pub key_returned : {K : Type 0} (data_of : K → Key) (injective : (a b : K) → data_of a ≡ data_of b → a ≡ b) (key : K) (d : Data) (read : Result K JsonError)
     → IsKey (data_of key) → d ≡ key_json (data_of key) → option_map data_of (result_ok read) ≡ read_key d → read ≡ Ok key
 key_returned data_of injective key d read is written reads =
-    let same : option_map data_of (result_ok read) ≡ Some (data_of key) = reads ∙ ap read_key written ∙ key_read_back (data_of key) is in
-    grind (arith, injective, same)
+    let same : option_map data_of (result_ok read) ≡ Some (data_of key) = reads ∙ ap read_key written ∙ key_read_back (data_of key) is in grind (arith, injective, same)
 
 items_same : (ds es : List Data) → array (items_of ds) ≡ array (items_of es) → ds ≡ es
 items_same [] [] h = refl
-items_same (d ∷ ds) (e ∷ es) h =
-    let rest = items_same ds es (cc) in
-    cc
+items_same (d ∷ ds) (e ∷ es) h = let rest = items_same ds es (cc) in cc
 items_same [] (e ∷ es) h = absurd (cc)
 items_same (d ∷ ds) [] h = absurd (cc)
 
@@ -74,10 +65,7 @@ module _ {V : Type 0} (gives : V → Data → Type 0) (reads : Data → Result V
 
   slots_again : (slots read : List (SlotRecord V)) (ds : List Data) → AllZip (IsSlotJson gives) slots ds → ReadsAll reads ds read → read ≡ slots
   slots_again [] [] [] are reading = refl
-  slots_again (s ∷ slots) (r ∷ read) (d ∷ ds) are reading =
-      let first = slot_again s.value s.version r d are.0 reading.0 in
-      let rest = slots_again slots read ds are.1 reading.1 in
-      cc
+  slots_again (s ∷ slots) (r ∷ read) (d ∷ ds) are reading = let first = slot_again s.value s.version r d are.0 reading.0 in let rest = slots_again slots read ds are.1 reading.1 in cc
   slots_again _ _ _ are reading = absurd (grind arith)
 
   -- a list of slots that was written as JSON is read back
@@ -98,8 +86,7 @@ module _ {V : Type 0} (gives : V → Data → Type 0) (reads : Data → Result V
   slots_not_refused slots d Memory less written refused = refl
   slots_not_refused slots d Shape less written (inl none) = absurd (let not : as_array (array (items_of written.0)) ≡ None = rw written.1 at none in cc)
   slots_not_refused slots d Shape less written (inr has) =
-      let same = items_same written.0 (has.0 ++ has.1 ∷ has.2) (sym written.1 ∙ has.3) in
-      absurd (none_refused slots has.0 has.2 has.1 Shape less (rw same at written.2) has.5)
+      absurd (none_refused slots has.0 has.2 has.1 Shape less (rw (items_same written.0 (has.0 ++ has.1 ∷ has.2) (sym written.1 ∙ has.3)) at written.2) has.5)
 
   -- a map that is made of them has the live keys and values of the map that was written; what was detached is gone
   pub map_read_back : {any reuses : Bool} (old new : Content V) (slots read : List (SlotRecord V)) (d : Data)

@@ -1,7 +1,4 @@
-use Rattle.std.proofs.Common.{◌≡◌, Ok, Err, Some, refl, sym, rules}
-use Rattle.slotmap_core.proofs.Common.{says_at}
-use Rattle.serde_json.specs.View.{view}
-use Rattle.slotmap_json.specs.Json.{ReadsJson, ok_map}
+use Rattle.slotmap_json.proofs.Common.{◌≡◌, says_at, Ok, Err, Some, refl, sym, rules, view, ReadsJson, ok_map}
 use Rattle.slotmap_json.proofs.JsonLemmas.{reads_value}
 use Rattle.slotmap_json.proofs.slot_from_value.Goals as goal
 

@@ -1,6 +1,4 @@
-use Rattle.slotmap_core.proofs.Common.{refl, says_at}
-use Rattle.serde_json.specs.View.{view}
-use Rattle.slotmap_json.specs.Json.{GivesJson}
+use Rattle.slotmap_json.proofs.Common.{refl, says_at, view, GivesJson}
 use Rattle.slotmap_json.proofs.JsonLemmas.{slot_json_given}
 use Rattle.slotmap_json.proofs.slot_to_value.Goals as goal
 

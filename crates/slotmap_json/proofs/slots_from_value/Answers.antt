@@ -1,8 +1,4 @@
-use Rattle.std.proofs.Common.{◌≡◌, ◌∙◌, Some, Err, ap, rules, arith}
-use Rattle.slotmap_core.proofs.Common.{common_steps}
-use Rattle.serde_json.specs.View.{view, items_view}
-use Rattle.slotmap_json.specs.Json.{ReadsJson}
-use Rattle.slotmap_core.specs.declared.errors.JsonError.TheVariants.{Memory}
+use Rattle.slotmap_json.proofs.Common.{◌≡◌, common_steps, ◌∙◌, Some, Err, ap, rules, arith, view, items_view, ReadsJson, Memory}
 use Rattle.slotmap_json.proofs.JsonLemmas.{some_asked, has_elements, reads_further, refuses_at}
 use Rattle.slotmap_json.proofs.slots_from_value.Goals as goal
 

@@ -1,6 +1,4 @@
-use Rattle.slotmap_core.proofs.Common.{AllZip, take, map}
-use Rattle.serde_json.specs.View.{view}
-use Rattle.slotmap_json.specs.Json.{GivesJson, IsSlotJson}
+use Rattle.slotmap_json.proofs.Common.{AllZip, take, map, view, GivesJson, IsSlotJson}
 use Rattle.slotmap_json.proofs.slots_to_value.Given as goal
 
 abbrev pub invariant-loop-slot : goal.invariant-loop-slot
