@@ -1,12 +1,10 @@
 -- What a primary map with clones of another's values has in common with it.
 -- For the crates of maps and callers.
 use Rattle.std.proofs.Common.{◌≡◌, ℕ, ◌+◌, ◌≤◌, Bool, true, List, [], ◌∷◌, Option, Some, refl, ap, subst, arith}
+use Rattle.slotmap_core.specs.Words.{ClonesEqual, AreClones, IsCloneOf, Content, IsContent, used, places, most, IsCopy, IsCloneBy, Key, key_cmp}
+use Rattle.slotmap_core.proofs.{General.KeyLemmas.keys_total, General.KeyLemmas.exact_keys, General.Maps.same_len, Places.PlaceClones.clone_is_some}
 use Rattle.std.specs.FinMap as map
 use Rattle.std.specs.FinSet as set
-use Rattle.slotmap_core.specs.Words.{ClonesEqual, AreClones, IsCloneOf, Content, IsContent, used, places, most, IsCopy, IsCloneBy, Key, key_cmp}
-use Rattle.slotmap_core.proofs.General.KeyLemmas.{keys_total, exact_keys}
-use Rattle.slotmap_core.proofs.General.Maps.{same_len}
-use Rattle.slotmap_core.proofs.Places.PlaceClones.{clone_is_some}
 
 -- where clones equal their values, so do those that may be missing
 pub same_clone : {V : Type 0} (is_clone : V → V → Type 0) → ClonesEqual is_clone → (o copy : Option V) → IsCloneOf is_clone o copy → copy ≡ o

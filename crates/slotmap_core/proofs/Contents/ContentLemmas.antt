@@ -1,16 +1,15 @@
 -- Well-formed places and stack, as the content of a primary map.
 -- For the crates of maps.
-use Rattle.std.proofs.Common.{◌≡◌, ◌⊎◌, ◌↔◌, inl, inr, ℕ, ◌+◌, ◌<◌, ◌≤◌, Bool, true, nat_eq, List, [], ◌∷◌, length, slice_get, Option, None}
-use Rattle.std.proofs.Common.{Some, refl, sym, ap, subst, arith, eq-eqb}
+use Rattle.std.proofs.Common.{◌≡◌, ◌⊎◌, ◌↔◌, inl, ◌+◌, ◌<◌, ◌≤◌, Bool, true, nat_eq, List, ◌∷◌, length, slice_get, Option, None, Some, refl, subst, arith, eq-eqb}
+use Rattle.std.proofs.Common.{inr, ℕ, [], sym, ap}
 use Rattle.std.proofs.lemmas.Option.{slice_get_within, same_Some}
+use Rattle.slotmap_core.specs.Words.{list_any, last_version, MakesRoom, Content, IsContent, IsStack, IsLive, with_value, Detached, Retired, detached, StackMap, content_of_places, IsVersion, IsStacked}
+use Rattle.slotmap_core.specs.Words.{Key, Uses, places, Place, Live, Vacant, live, next, offer, IsOn}
+use Rattle.slotmap_core.proofs.Places.PlacesLemmas.{key, get-live, contains-detached, retired_at, get-next_at, vacant_at, total}
+use Rattle.slotmap_core.proofs.{General.KeyLemmas.keys_total, General.KeyLemmas.nat_tests, Contents.LeaveLemmas.same_live}
 use Rattle.std.specs.FinMap as map
 use Rattle.std.specs.FinSet as set
-use Rattle.slotmap_core.specs.Words.{list_any, Key, last_version, MakesRoom, Content, IsContent, IsStack, IsLive, Uses, places, with_value, Place, Live}
-use Rattle.slotmap_core.specs.Words.{Detached, Vacant, Retired, live, detached, next, StackMap, content_of_places, offer, IsOn, IsVersion, IsStacked}
-use Rattle.slotmap_core.proofs.Places.PlacesLemmas.{key, get-live, contains-detached, retired_at, get-next_at, vacant_at, total}
 pub use Rattle.slotmap_core.proofs.General.Maps.{some_is}
-use Rattle.slotmap_core.proofs.General.KeyLemmas.{keys_total, nat_tests}
-use Rattle.slotmap_core.proofs.Contents.LeaveLemmas.{same_live}
 
 on_list : (vs : List ℕ) (i : ℕ) → IsOn vs i ↔ (list_any (λ y. nat_eq y i) vs ≡ true)
 on_list [] i = grind arith
@@ -70,9 +69,7 @@ module _ {V : Type 0} (m : StackMap V) (stacked : IsStacked m.places m.vacant) w
       offers : (vs : List ℕ) → m.vacant ≡ vs → (map.get (next m.places) (offer m.places m.vacant).index ≡ Some (offer m.places m.vacant).version)
           ⊎ ((map.len (next m.places) ≡ 0) × ((offer m.places m.vacant).index ≡ places (content_of_places m) + 1) × ((offer m.places m.vacant).version ≡ 1))
       offers [] is = rw is (inr (omega (arith, stacked.counted, ap length is), sym places_all, refl))
-      offers (i ∷ rest) is =
-          let at = stacked.listed i (subst (λ vs. IsOn vs i) (sym is) (inl refl)) in
-          rw (is, at.1.1) (inl (get-next_at m.places i at.1.0 at.0 at.1.1))
+      offers (i ∷ rest) is = let at = stacked.listed i (subst (λ vs. IsOn vs i) (sym is) (inl refl)) in rw (is, at.1.1) (inl (get-next_at m.places i at.1.0 at.0 at.1.1))
 
       is_stack : (stack : List ℕ) → m.vacant ≡ stack → IsStack (content_of_places m) stack
       is_stack stack is = grind (arith, set.contains-from_list_nat, on_list stack, get-next_at, vacant_slot_at)

@@ -20,8 +20,7 @@ module _ {D A : Type 0} (Steps : D → Option A → D → Type 0) where
   pub loan_along : {C E : Type 0} (loan : D → MutBor C) (Ends : C → E → Type 0) → ((a b : D) (item : A) → Steps a (Some item) b → KeepsLoan loan Ends a b)
       → (first : D) → KeepsAlong Steps (KeepsLoan loan Ends) first
   loan_along loan Ends keeps =
-      kept_along (KeepsLoan loan Ends) (λ d. (refl, λ end ends. ends))
-      (λ a b c item step rest. let kept = keeps a b item step in (rest.0 ∙ kept.0, λ end ends. kept.1 end (rest.1 end ends)))
+      kept_along (KeepsLoan loan Ends) (λ d. (refl, λ end ends. ends)) (λ a b c item step rest. let kept = keeps a b item step in (rest.0 ∙ kept.0, λ end ends. kept.1 end (rest.1 end ends)))
 
 module _ {D K V : Type 0} (data_of : K → Key) (live : D → map.FinMap key_cmp V) (Steps : D → Option (K × V) → D → Type 0) where
   -- where each step takes out a live pair, the pairs that were yielded and those that are left are those of the map

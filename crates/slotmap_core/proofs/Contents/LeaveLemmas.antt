@@ -1,13 +1,12 @@
 -- Keys are removed, one after the other.
 -- For the crates of maps and callers.
 use Rattle.std.proofs.Common.{◌≡◌, ◌≤◌, Bool, true, false, cond, not, ◌&&◌, inl, inr, None, is_some, refl, sym, ap, ◌∙◌, arith}
-use Rattle.std.specs.FinMap as map
-use Rattle.std.specs.FinSet as set
 use Rattle.slotmap_core.specs.Words.{eq_by_cmp, Key, next_version, key_cmp, Content, IsContent, IsLive, Removes, Leaves, Keeps, has_left, with_value}
 use Rattle.slotmap_core.proofs.General.KeyLemmas.{keys_total, exact_keys, tied, itself, nat_cmp_total, exact_unsigned}
-use Rattle.slotmap_core.proofs.Places.PlaceCount.{removed_places}
-use Rattle.slotmap_core.proofs.Contents.Retired.{in_freed, len_freed}
 use Rattle.slotmap_core.proofs.General.Maps.{of_and, of_not, not_of, get_inserted, in_after_remove}
+use Rattle.slotmap_core.proofs.{Places.PlaceCount.removed_places, Contents.Retired.in_freed, Contents.Retired.len_freed}
+use Rattle.std.specs.FinMap as map
+use Rattle.std.specs.FinSet as set
 
 module _ {V : Type 0} where
   pub was_live : (old new : Content V) (k : Key) → has_left old new k ≡ true → IsLive old k

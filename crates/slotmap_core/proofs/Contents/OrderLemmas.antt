@@ -1,19 +1,13 @@
 -- The order in which places are freed.
 -- For the crates of maps.
 use Rattle.std.proofs.Common.{arith, ◌≡◌, ℕ, ◌<◌, Bool, true, cond, not, List, [], ◌∷◌, ◌++◌, map as list_map, Some, None, refl, sym, ap, ◌∙◌, option_map, nat_cmp}
-use Rattle.std.specs.declared.cmp.Ordering.TheVariants.{Less, Greater}
-use Rattle.std.specs.FinMap as map
-use Rattle.std.specs.FinMap.Entries.{put}
-use Rattle.std.proofs.lemmas.List.{map-append, nil_from_length}
-use Rattle.std.proofs.lemmas.Iterator.Adapters.{option_map_id}
-use Rattle.slotmap_core.specs.Words.{eq_by_cmp, ordering_then, nat_cmp_is, list_any, Key, key_cmp, Content, IsLive, Removes, has_left, with_value, pushed}
-use Rattle.slotmap_core.specs.Words.{pushed_all, keys_left, FreesByIndex}
+use Rattle.std.proofs.{lemmas.List.map-append, lemmas.List.nil_from_length, lemmas.Iterator.Adapters.option_map_id}
+use Rattle.std.specs.{declared.cmp.Ordering.TheVariants.Less, declared.cmp.Ordering.TheVariants.Greater, FinMap.Entries.put}
+use Rattle.slotmap_core.specs.Words.{eq_by_cmp, ordering_then, nat_cmp_is, list_any, Key, key_cmp, Content, IsLive, Removes, has_left, with_value, pushed, pushed_all, keys_left, FreesByIndex}
 use Rattle.slotmap_core.proofs.General.KeyLemmas.{keys_total, exact_keys, tied, itself}
-use Rattle.slotmap_core.proofs.General.Maps.{insert_same, or_right}
-use Rattle.slotmap_core.proofs.Contents.ContentLemmas.{some_is}
 use Rattle.slotmap_core.proofs.Contents.LeaveLemmas.{was_live, is_gone, same_live, live-removed_at, live_no_more}
-use Rattle.slotmap_core.proofs.Contents.IndexLemmas.{none_live}
-use Rattle.slotmap_core.proofs.General.ListingLemmas.{insert-remove}
+use Rattle.slotmap_core.proofs.{General.Maps.insert_same, General.Maps.or_right, Contents.ContentLemmas.some_is, Contents.IndexLemmas.none_live, General.ListingLemmas.insert-remove}
+use Rattle.std.specs.FinMap as map
 
 pub pushed_all_push : (stack : List ℕ) (ks : List Key) (k : Key) → pushed_all stack (ks ++ k ∷ []) ≡ pushed (pushed_all stack ks) k
 pushed_all_push stack [] k = refl
@@ -37,15 +31,13 @@ module _ {V : Type 0} where
   pub put_last : (k : Key) (v : V) (es : List (Key × V))
       → ((q : Key) → list_any (eq_by_cmp key_cmp q) (list_map (λ e. e.0) es) ≡ true → key_cmp k q ≡ Greater) → put key_cmp k v es ≡ es ++ (k, v) ∷ []
   put_last k v [] above = refl
-  put_last k v (e ∷ es) above =
-      grind (arith, itself keys_total exact_keys e.0, put_last k v es (λ q there. above q (or_right (eq_by_cmp key_cmp q e.0) _ there)))
+  put_last k v (e ∷ es) above = grind (arith, itself keys_total exact_keys e.0, put_last k v es (λ q there. above q (or_right (eq_by_cmp key_cmp q e.0) _ there)))
 
   -- an entry whose key is the smallest is the first
   pub entries_first : (m : map.FinMap key_cmp V) (k : Key) (v : V) → map.get m k ≡ Some v
       → ((q : Key) → map.contains_key (map.remove m k) q ≡ true → k.index < q.index) → map.entries m ≡ (k, v) ∷ map.entries (map.remove m k)
   entries_first m k v found below =
-      let again = insert_same keys_total exact_keys m k v found in
-      grind (arith, insert-remove, again, map.entries-insert keys_total (map.remove m k) k v, put_first, map.contains_key-keys (map.remove m k))
+      grind (arith, insert-remove, (insert_same keys_total exact_keys m k v found), map.entries-insert keys_total (map.remove m k) k v, put_first, map.contains_key-keys (map.remove m k))
 
   -- an empty map has no entry
   pub entries_none : map.entries (map.empty {X = V} {R = key_cmp}) ≡ []

@@ -1,12 +1,11 @@
 -- Which keys were live or detached before a call, and which vacant indices it leaves.
 -- For runs.
 use Rattle.std.proofs.Common.{◌≡◌, ◌≢◌, ◌⊎◌, inl, inr, sym, ⊎_elim, arith, ℕ, Some}
+use Rattle.slotmap_core.specs.Words.{Key, next_version, Content, Stands, IsLive, IsNew, Inserts, Keeps, Removes, Replaces, Leaves, Detaches, Reattaches}
+use Rattle.slotmap_core.proofs.General.Maps.{of_and, get_after_remove, in_after_insert, in_after_remove, item_after_insert, item_after_remove}
+use Rattle.slotmap_core.proofs.{General.KeyLemmas.keys_total, General.KeyLemmas.exact_keys, General.KeyLemmas.nat_cmp_total, General.KeyLemmas.exact_unsigned, Contents.Retired.in_freed}
 use Rattle.std.specs.FinMap as map
 use Rattle.std.specs.FinSet as set
-use Rattle.slotmap_core.specs.Words.{Key, next_version, Content, Stands, IsLive, IsNew, Inserts, Keeps, Removes, Replaces, Leaves, Detaches, Reattaches}
-use Rattle.slotmap_core.proofs.General.KeyLemmas.{keys_total, exact_keys, nat_cmp_total, exact_unsigned}
-use Rattle.slotmap_core.proofs.General.Maps.{of_and, get_after_remove, in_after_insert, in_after_remove, item_after_insert, item_after_remove}
-use Rattle.slotmap_core.proofs.Contents.Retired.{in_freed}
 
 module _ {V : Type 0} (old new : Content V) where
   -- each vacant index was vacant before with the same version, or follows a live key

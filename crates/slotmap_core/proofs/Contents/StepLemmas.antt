@@ -2,14 +2,12 @@
 -- For the crates of maps.
 use Rattle.std.proofs.Common.{◌≡◌, ◌≢◌, inl, ◌+◌, ◌<◌, ◌≤◌, ◌∷◌, ◌++◌, set, sym, ap, ◌∙◌, arith, eqb-true, eq-eqb, ℕ, cond, List, [], length, drop}
 use Rattle.std.proofs.lemmas.List.{length-set, length_push}
-use Rattle.slotmap_core.specs.Words.{Key, last_version, most, Inserts, Removes, Detaches, Reattaches, Keeps, with_value, left_by, Place, Live, Detached}
-use Rattle.slotmap_core.specs.Words.{Vacant, live, is_detached_at, StackMap, content_of_places, offer, used_places, vacant_version, filled, removed}
-use Rattle.slotmap_core.specs.Words.{detached_at, put_at, IsStacked, slice_get, Some, is_some, refl}
-use Rattle.slotmap_core.proofs.Places.PlacesLemmas.{key, vacancy, live-set, live-push, detached-set, detached-push_live, retired-set, retired-push_live}
-use Rattle.slotmap_core.proofs.Places.PlacesLemmas.{next-set, next-push_live, next-remove_past, len-next-set, contains-detached, total}
-use Rattle.slotmap_core.proofs.General.ListingLemmas.{insert-remove}
-use Rattle.slotmap_core.proofs.General.GatherLemmas.{slice_get-set_other}
+use Rattle.slotmap_core.specs.Words.{last_version, Detaches, Reattaches, Keeps, with_value, Detached, is_detached_at, content_of_places, used_places, vacant_version, detached_at, IsStacked, slice_get}
+use Rattle.slotmap_core.specs.Words.{Key, most, Inserts, Removes, left_by, Place, Live, Vacant, live, StackMap, offer, filled, removed, put_at, Some, is_some, refl}
+use Rattle.slotmap_core.proofs.Places.PlacesLemmas.{key, live-push, detached-set, detached-push_live, retired-set, retired-push_live, next-push_live, next-remove_past, len-next-set, contains-detached}
+use Rattle.slotmap_core.proofs.Places.PlacesLemmas.{vacancy, live-set, next-set, total}
 use Rattle.slotmap_core.proofs.Places.StackLemmas.{not_on, not_first, IsStacked-pushed}
+use Rattle.slotmap_core.proofs.{General.ListingLemmas.insert-remove, General.GatherLemmas.slice_get-set_other}
 
 -- how many places no insert can use, after a change of one
 taken-set : {V : Type 0} (ps : List (Place V)) (vs : List ℕ) (i : ℕ) (old new : Place V) → IsStacked ps vs → 0 < i → slice_get ps i ≡ Some old

@@ -1,14 +1,12 @@
 -- An iteration by ascending index that removes keys.
 -- For the crates of maps.
 use Rattle.std.proofs.Common.{◌≡◌, ◌≢◌, ℕ, ◌+◌, ◌<◌, ◌≤◌, Bool, true, Some, is_some, ◌∷◌, refl, sym, ap, ◌∙◌, arith}
-use Rattle.std.specs.FinMap as map
 use Rattle.slotmap_core.specs.Words.{Key, Content, IsContent, IsLive, Removes, Leaves, EmptiesByIndex, has_left, with_value, FreesByIndex, NoneBelow}
-use Rattle.slotmap_core.proofs.General.KeyLemmas.{keys_total, exact_keys, tied}
-use Rattle.slotmap_core.proofs.General.Maps.{in_after_remove}
 use Rattle.slotmap_core.proofs.Contents.IndexLemmas.{from_index, get_from, in_from, from_index-jump, from_index-take, alone_at, NoneBelow-removed}
-use Rattle.slotmap_core.proofs.Contents.ContentLemmas.{IsContent-with_value}
 use Rattle.slotmap_core.proofs.Contents.LeaveLemmas.{live-removed_at, same_live, Leaves-refl, Leaves-trans, Leaves-with_value, Leaves-removes, Leaves-removed}
 use Rattle.slotmap_core.proofs.Contents.OrderLemmas.{FreesByIndex-start, FreesByIndex-with_value, FreesByIndex-removed, FreesByIndex-first, entries_first}
+use Rattle.slotmap_core.proofs.{General.KeyLemmas.keys_total, General.KeyLemmas.exact_keys, General.KeyLemmas.tied, General.Maps.in_after_remove, Contents.ContentLemmas.IsContent-with_value}
+use Rattle.std.specs.FinMap as map
 
 module _ {V : Type 0} where
   -- on the way to now, keys below the index were removed, by ascending index
@@ -40,8 +38,7 @@ module _ {V : Type 0} where
   pub Swept-removed : {reuses : Bool} (old now new : Content V) (i : ℕ) (k : Key) → Swept reuses old now i → IsLive now k → k.index ≡ i
       → Removes now k new → new.capacity ≡ now.capacity → IsContent reuses new → Swept reuses old new (i + 1)
   Swept-removed {reuses} old now new i k swept is_live at removes capacity well =
-      let leaves = Leaves-removed reuses now swept.well k is_live new removes old swept.leaves in
-      grind (arith, leaves, FreesByIndex-removed, live-removed_at now new k removes, tied keys_total exact_keys)
+      grind (arith, (Leaves-removed reuses now swept.well k is_live new removes old swept.leaves), FreesByIndex-removed, live-removed_at now new k removes, tied keys_total exact_keys)
 
   -- what the rest ends as once the first key is removed, the whole ends as
   pub Empties-first : {reuses : Bool} (a b end : Content V) (k : Key) → IsContent reuses a → IsLive a k → Removes a k b → b.capacity ≡ a.capacity

@@ -1,12 +1,11 @@
 -- Calls after which a map holds what it held before.
 -- For the crates of maps and callers.
 use Rattle.std.proofs.Common.{◌≡◌, ◌<◌, Bool, false, arith}
+use Rattle.slotmap_core.specs.Words.{Key, key_cmp, Content, IsContent, IsLive, Uses, used, most, Inserts, Removes, Detaches, Reattaches}
+use Rattle.slotmap_core.proofs.General.ListingLemmas.{insert-remove, remove-insert}
+use Rattle.slotmap_core.proofs.{General.KeyLemmas.keys_total, General.KeyLemmas.exact_keys, General.KeyLemmas.tied, General.MapLaws.remove_absent}
 use Rattle.std.specs.FinMap as map
 use Rattle.std.specs.FinSet as set
-use Rattle.slotmap_core.specs.Words.{Key, key_cmp, Content, IsContent, IsLive, Uses, used, most, Inserts, Removes, Detaches, Reattaches}
-use Rattle.slotmap_core.proofs.General.KeyLemmas.{keys_total, exact_keys, tied}
-use Rattle.slotmap_core.proofs.General.ListingLemmas.{insert-remove, remove-insert}
-use Rattle.slotmap_core.proofs.General.MapLaws.{remove_absent}
 
 pub remove-insert_item : (s : set.FinSet key_cmp) (k : Key) → set.contains s k ≡ false → set.remove (set.insert s k) k ≡ s
 remove-insert_item s k none = set.same_set keys_total exact_keys _ _ (λ q. grind (arith, set.contains-remove keys_total, set.contains-insert keys_total, tied keys_total exact_keys q k))

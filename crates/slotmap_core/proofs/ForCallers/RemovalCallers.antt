@@ -1,26 +1,20 @@
 -- A removed key is found by no later command, by positions.
 -- For callers.
-use Rattle.std.proofs.Common.{◌≡◌, ℕ, zero, suc, ◌+◌, ◌-◌, ◌<◌, List, [], ◌∷◌, length, slice_get, Some, None, Option, option_map, true, refl, sym, ap, ◌∙◌}
-use Rattle.std.proofs.Common.{arith, map as list_map}
+use Rattle.std.proofs.Common.{◌≡◌, ℕ, zero, suc, ◌+◌, ◌-◌, ◌<◌, List, ◌∷◌, length, slice_get, Some, None, Option, option_map, true, refl, ◌∙◌, arith, map as list_map}
+use Rattle.std.proofs.Common.{[], sym, ap}
 use Rattle.std.proofs.lemmas.Option.{slice_get-map}
-use Rattle.std.specs.FinMap as map
-use Rattle.slotmap_core.specs.Key.{Key, key_cmp}
 use Rattle.slotmap_core.specs.Law.{RemovedForGood, GoneForGood, ShowsLive, ShowsNotLive, RemovesKey, LeavesAttached, FindsNothing}
-use Rattle.slotmap_core.specs.JoinedLaw.{JoinedRemovedForGood, JoinedFindsNothing}
-use Rattle.slotmap_core.specs.declared.commands.Command.{Command}
+use Rattle.slotmap_core.specs.{Key.Key, Key.key_cmp, declared.commands.DetachCommand.DetachCommand, declared.joined.JoinedDetachCommand.JoinedDetachCommand, declared.joined.JoinedReply.JoinedReply}
+use Rattle.slotmap_core.specs.{JoinedLaw.JoinedRemovedForGood, JoinedLaw.JoinedFindsNothing, declared.commands.Command.Command, declared.commands.Reply.Reply}
+use Rattle.slotmap_core.proofs.General.Positions.{split_at, split_at_two, stands_between, stands_after, stands_past, zipped_at, zipped_by_positions}
+use Rattle.slotmap_core.proofs.{General.KeyLemmas.keys_total, General.KeyLemmas.exact_keys, General.Maps.in_inserted}
+use Rattle.std.specs.FinMap as map
 use Rattle.slotmap_core.specs.declared.commands.Command.TheVariants as command
-use Rattle.slotmap_core.specs.declared.commands.DetachCommand.{DetachCommand}
 use Rattle.slotmap_core.specs.declared.commands.DetachCommand.TheVariants as detaching
-use Rattle.slotmap_core.specs.declared.commands.Reply.{Reply}
 use Rattle.slotmap_core.specs.declared.commands.Reply.TheVariants as reply
 use Rattle.slotmap_core.specs.declared.joined.JoinedCommand.TheVariants as joined
-use Rattle.slotmap_core.specs.declared.joined.JoinedDetachCommand.{JoinedDetachCommand}
 use Rattle.slotmap_core.specs.declared.joined.JoinedDetachCommand.TheVariants as joined_detaching
-use Rattle.slotmap_core.specs.declared.joined.JoinedReply.{JoinedReply}
 use Rattle.slotmap_core.specs.declared.joined.JoinedReply.TheVariants as joined_reply
-use Rattle.slotmap_core.proofs.General.KeyLemmas.{keys_total, exact_keys}
-use Rattle.slotmap_core.proofs.General.Maps.{in_inserted}
-use Rattle.slotmap_core.proofs.General.Positions.{split_at, split_at_two, stands_between, stands_after, stands_past, zipped_at, zipped_by_positions}
 
 module _ {K V R E C : Type 0} (data_of : K → Key) (of : C → DetachCommand K V) (commands : List C) (replies : List (Reply K V R E)) (k : Key) where
   -- once the command at one position removed k, the command at a later one doesn't find it

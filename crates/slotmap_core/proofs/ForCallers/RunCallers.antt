@@ -1,20 +1,15 @@
 -- What the laws of a run say of replies by their positions: for callers, who know commands and replies by index.
 -- For callers.
-use Rattle.std.proofs.Common.{◌≡◌, ◌≢◌, ℕ, zero, suc, ◌+◌, ◌-◌, ◌<◌, ◌≤◌, List, [], ◌∷◌, ◌++◌, length, take, drop, slice_get, Some, Ok, Bool, true, false}
-use Rattle.std.proofs.Common.{◌⊎◌, refl, sym, ap, ◌∙◌, arith}
-use Rattle.std.specs.List.{IsDistinct, AllByRecursion, AllZip}
-use Rattle.std.specs.Ordering.{eq_by_cmp}
-use Rattle.slotmap_core.specs.Key.{Key, key_cmp}
+use Rattle.std.proofs.Common.{◌≡◌, ◌≢◌, ℕ, zero, ◌+◌, ◌-◌, ◌<◌, ◌≤◌, List, ◌∷◌, ◌++◌, length, take, drop, slice_get, Some, false, ◌⊎◌, ◌∙◌, arith}
+use Rattle.std.proofs.Common.{suc, [], Ok, Bool, true, refl, sym, ap}
+use Rattle.std.specs.{List.IsDistinct, List.AllByRecursion, List.AllZip, Ordering.eq_by_cmp}
 use Rattle.slotmap_core.specs.Law.{reply_keys, keys_told, NoKeyTwice, ReserveHolds, IsRefusal, Spares, DetachedNotReissued, DetachedReattaches, ReattachBinds}
-use Rattle.slotmap_core.specs.Run.{Run}
-use Rattle.slotmap_core.specs.declared.commands.Command.{Command}
-use Rattle.slotmap_core.specs.declared.commands.Command.TheVariants as command
-use Rattle.slotmap_core.specs.declared.commands.DetachCommand.{DetachCommand}
-use Rattle.slotmap_core.specs.declared.commands.DetachCommand.TheVariants as detaching
-use Rattle.slotmap_core.specs.declared.commands.Reply.{Reply}
-use Rattle.slotmap_core.specs.declared.commands.Reply.TheVariants as reply
+use Rattle.slotmap_core.specs.{Key.Key, Key.key_cmp, Run.Run, declared.commands.Command.Command, declared.commands.DetachCommand.DetachCommand, declared.commands.Reply.Reply}
 use Rattle.slotmap_core.proofs.General.KeyLemmas.{keys_total, exact_keys, untied}
 use Rattle.slotmap_core.proofs.General.Positions.{split_at, split_at_two, split_at_pair, stands_between, at_seam, at_in_part, zipped_by_positions}
+use Rattle.slotmap_core.specs.declared.commands.Command.TheVariants as command
+use Rattle.slotmap_core.specs.declared.commands.DetachCommand.TheVariants as detaching
+use Rattle.slotmap_core.specs.declared.commands.Reply.TheVariants as reply
 
 module _ {S C R : Type 0} (Step : S → C → R → S → Type 0) where
   -- a run has as many replies as commands
@@ -63,8 +58,7 @@ module _ {K V R E : Type 0} (data_of : K → Key) where
       let is : r ≡ reply.Key a = cc in
       let others = distinct_head (eq_by_cmp key_cmp) (data_of a) (keys_told data_of rs) (rw is at law) in
       untied keys_total exact_keys (data_of a) (data_of b) (told_at (λ q. eq_by_cmp key_cmp (data_of a) q ≡ false) rs j b others g)
-  earlier_differs (r ∷ rs) (suc i) (suc j) a b law less h g =
-      grind (arith, earlier_differs rs i j a b (distinct_right (eq_by_cmp key_cmp) (reply_keys data_of r) (keys_told data_of rs) law))
+  earlier_differs (r ∷ rs) (suc i) (suc j) a b law less h g = grind (arith, earlier_differs rs i j a b (distinct_right (eq_by_cmp key_cmp) (reply_keys data_of r) (keys_told data_of rs) law))
 
   -- the keys in the replies at two positions differ
   pub keys_differ : (replies : List (Reply K V R E)) (i j : ℕ) (a b : K) → NoKeyTwice data_of replies → i < j
@@ -132,8 +126,7 @@ module _ {K V R E : Type 0} (data_of : K → Key) (commands : List (DetachComman
   pub detached_bound : (i j : ℕ) (key : K) (v w : V) (answer : Reply K V R E) → DetachedReattaches data_of true commands replies → i < j → StaysDetached i j key
       → slice_get commands i ≡ Some (detaching.Detach key) → slice_get commands j ≡ Some (detaching.Reattach key w)
       → slice_get replies i ≡ Some (reply.Taken (Some v)) → slice_get replies j ≡ Some answer → answer ≡ reply.Done
-  detached_bound i j key v w answer law less stays detaches reattaches taken answers =
-      grind (arith, detached_bound_or_memory true i j key v w answer law less stays detaches reattaches taken answers)
+  detached_bound i j key v w answer law less stays detaches reattaches taken answers = grind (arith, detached_bound_or_memory true i j key v w answer law less stays detaches reattaches taken answers)
 
 -- once the Reattach of a key to a value succeeds, a Replace of it by the next command returns that value
 pub bound_value : {K V R E : Type 0} (commands : List (DetachCommand K V)) (replies : List (Reply K V R E)) (i : ℕ) (key : K) (w u : V) (answer : Reply K V R E) → ReattachBinds commands replies

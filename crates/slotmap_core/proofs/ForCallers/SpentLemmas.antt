@@ -1,17 +1,15 @@
 -- Which keys are spent after a call: those that were, and each live key that was removed.
 -- For callers.
 use Rattle.std.proofs.Common.{⊎_elim, ◌≡◌, ◌≢◌, ◌⊎◌, inl, inr, ◌∷◌, ap, ◌∙◌, arith, ℕ, Bool, false, Option, None, Some, OnSome, IfNone, Result, Ok, Err, IfOk}
-use Rattle.std.specs.FinMap as map
-use Rattle.std.specs.FinSet as set
 use Rattle.std.proofs.lemmas.List.Elements.{All-head, All-tail}
-use Rattle.slotmap_core.specs.Words.{All, Key, key_cmp, next_version, Content, IsContent, IsLive, IsDetached, Stands, places, StaysValid, MayGrow, IsCopy}
-use Rattle.slotmap_core.specs.Words.{IsCloneBy, CanReplace, with_values, IsSpent, KeepsSpent, Inserts, Removes, Detaches, Reattaches, Keeps, Leaves}
-use Rattle.slotmap_core.specs.Words.{with_value, Restores, IsErr, List, is_some, refl}
-use Rattle.slotmap_core.proofs.Contents.CloneLemmas.{clone_places}
+use Rattle.slotmap_core.specs.Words.{All, key_cmp, next_version, Content, IsContent, IsDetached, StaysValid, IsCloneBy, CanReplace, with_values, KeepsSpent, Detaches, Reattaches, with_value, Restores}
+use Rattle.slotmap_core.specs.Words.{Key, IsLive, Stands, places, MayGrow, IsCopy, IsSpent, Inserts, Removes, Keeps, Leaves, IsErr, List, is_some, refl}
 use Rattle.slotmap_core.proofs.Contents.LeaveLemmas.{Leaves-refl, Leaves-keeps, Leaves-with_value, Leaves-trans, Leaves-removes, was_live, same_live, live_no_more}
-use Rattle.slotmap_core.proofs.General.Maps.{false_of, none_of}
 use Rattle.slotmap_core.proofs.Places.PlaceCount.{places_grow, detached_places, reattached_places}
 use Rattle.slotmap_core.proofs.Contents.StandsLemmas.{inserted_stands, inserted_vacant, detached_stands, reattached_stands, left_stands}
+use Rattle.slotmap_core.proofs.{Contents.CloneLemmas.clone_places, General.Maps.false_of, General.Maps.none_of}
+use Rattle.std.specs.FinMap as map
+use Rattle.std.specs.FinSet as set
 
 module _ {V : Type 0} where
   -- what is spent is neither live nor detached

@@ -1,17 +1,12 @@
 -- What was put under a key is found, by positions, if no command in between writes the key or takes it out.
 -- For callers.
-use Rattle.std.proofs.Common.{◌≡◌, ◌≢◌, ℕ, zero, suc, ◌+◌, ◌-◌, ◌<◌, List, [], ◌∷◌, take, drop, slice_get, Some, Ok, true}
-use Rattle.std.proofs.Common.{refl, ap, ◌∙◌, arith}
+use Rattle.std.proofs.Common.{◌≡◌, ◌≢◌, ℕ, zero, suc, ◌+◌, ◌-◌, ◌<◌, List, [], ◌∷◌, take, drop, slice_get, Some, Ok, true, refl, ap, ◌∙◌, arith}
 use Rattle.std.specs.List.{AllByRecursion}
-use Rattle.slotmap_core.specs.Key.{Key}
-use Rattle.slotmap_core.specs.Told.{Knowledge, has, told, Reads, ReadsWhatWasPut}
+use Rattle.slotmap_core.specs.{Key.Key, Told.Knowledge, Told.has, Told.told, Told.Reads, Told.ReadsWhatWasPut, declared.commands.DetachCommand.DetachCommand, declared.commands.Reply.Reply}
+use Rattle.slotmap_core.proofs.{General.KeyLemmas.keys_total, General.KeyLemmas.exact_keys, General.KeyLemmas.itself, General.KeyLemmas.tied, General.Positions.at_in_part}
 use Rattle.slotmap_core.specs.declared.commands.Command.TheVariants as command
-use Rattle.slotmap_core.specs.declared.commands.DetachCommand.{DetachCommand}
 use Rattle.slotmap_core.specs.declared.commands.DetachCommand.TheVariants as detaching
-use Rattle.slotmap_core.specs.declared.commands.Reply.{Reply}
 use Rattle.slotmap_core.specs.declared.commands.Reply.TheVariants as reply
-use Rattle.slotmap_core.proofs.General.KeyLemmas.{keys_total, exact_keys, itself, tied}
-use Rattle.slotmap_core.proofs.General.Positions.{at_in_part}
 
 module _ {K V : Type 0} (data_of : K → Key) (k : Key) where
   -- the command neither writes k nor takes it out, whatever its reply
@@ -33,8 +28,7 @@ module _ {K V : Type 0} (data_of : K → Key) (k : Key) where
   -- the same of commands that are written out
   pub stays_put : (commands : List (DetachCommand K V)) (i j : ℕ) → AllByRecursion (LeavesAlone data_of k) (take (j - (i + 1)) (drop (i + 1) commands)) → StaysPut commands i j
   stays_put commands i j all n b more less is_b =
-      let at : i + 1 + (n - (i + 1)) ≡ n = omega arith in
-      at_in_part (LeavesAlone data_of k) (i + 1) (j - (i + 1)) (n - (i + 1)) commands b all (omega arith) (ap (slice_get commands) at ∙ is_b)
+      let at : i + 1 + (n - (i + 1)) ≡ n = omega arith in at_in_part (LeavesAlone data_of k) (i + 1) (j - (i + 1)) (n - (i + 1)) commands b all (omega arith) (ap (slice_get commands) at ∙ is_b)
 
 module _ {K V R E : Type 0} (data_of : K → Key) (k : Key) where
   -- the command binds k to v: an Insert that returns k, a Replace of it that finds it, a Reattach of it that succeeds
@@ -57,7 +51,8 @@ module _ {K V R E : Type 0} (data_of : K → Key) (k : Key) where
     put_told : (known : Knowledge V) → Puts v c r → told data_of k c r known ≡ has v
     put_told known puts = grind (arith, itself keys_total exact_keys k)
 
-    still_known : (looks : V → R → Type 0) (known : Key → Knowledge V) → known k ≡ has v → LeavesAlone data_of k c → Reads data_of looks known c r → told data_of k c r (known k) ≡ has v
+    still_known : (looks : V → R → Type 0) (known : Key → Knowledge V) → known k ≡ has v → LeavesAlone data_of k c → Reads data_of looks known c r
+        → told data_of k c r (known k) ≡ has v
     still_known looks known is alone reads = grind (arith, is, tied keys_total exact_keys)
 
     known_found : (looks : V → R → Type 0) (known : Key → Knowledge V) → known k ≡ has v → Reads data_of looks known c r → Finds looks v c r
@@ -70,10 +65,7 @@ module _ {K V R E : Type 0} (data_of : K → Key) (looks : V → R → Type 0) (
         → slice_get cs j ≡ Some d → slice_get rs j ≡ Some answer → Finds data_of k looks v d answer
     known_read j start [] rs law is alone h g = absurd (cc)
     known_read j start (b ∷ bs) [] law is alone h g = absurd (cc)
-    known_read zero start (b ∷ bs) (q ∷ qs) law is alone h g =
-        let here : b ≡ d = cc in
-        let said : q ≡ answer = cc in
-        known_found data_of k v d answer looks start is (rw (here, said) at law.0)
+    known_read zero start (b ∷ bs) (q ∷ qs) law is alone h g = let here : b ≡ d = cc in let said : q ≡ answer = cc in known_found data_of k v d answer looks start is (rw (here, said) at law.0)
     known_read (suc j) start (b ∷ bs) (q ∷ qs) law is alone h g =
         known_read j (λ other. told data_of other b q (start other)) bs qs law.1
         (still_known data_of k v b q looks start is (alone 0 b (omega arith) refl) law.0) (λ n x less. alone (suc n) x (omega arith)) h g
@@ -92,4 +84,4 @@ module _ {K V R E : Type 0} (data_of : K → Key) (looks : V → R → Type 0) (
       known_read d answer j (λ other. told data_of other b q (start other)) bs qs law.1 (rw (here, said) (put_told data_of k v c r (start k) puts))
       (λ n x inside. stays (suc n) x (omega arith) (omega arith)) is_d is_answer
   put_found start (b ∷ bs) (q ∷ qs) (suc i) (suc j) c d r answer law less stays is_c is_r puts is_d is_answer =
-      put_found (λ other. told data_of other b q (start other)) bs qs i j c d r answer law.1 (omega arith) (λ n x more inside. stays (suc n) x (omega arith) (omega arith)) is_c is_r puts is_d is_answer
+      put_found (λ u. told data_of u b q (start u)) bs qs i j c d r answer law.1 (omega arith) (λ n x more inside. stays (suc n) x (omega arith) (omega arith)) is_c is_r puts is_d is_answer

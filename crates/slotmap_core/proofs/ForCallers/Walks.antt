@@ -1,11 +1,10 @@
 -- A loop over a map: the pairs ahead of it, and those that it passed.
 -- For callers.
 use Rattle.std.proofs.Common.{◌≡◌, List, [], ◌∷◌, Some, ◌⊎◌, inl, arith}
-use Rattle.std.specs.FinMap as map
 use Rattle.std.proofs.lemmas.List.Elements.{All-head, All-tail}
 use Rattle.slotmap_core.specs.Words.{All, Contains, Key, key_cmp, IsListing}
-use Rattle.slotmap_core.proofs.General.KeyLemmas.{keys_total, exact_keys}
-use Rattle.slotmap_core.proofs.General.ListingLemmas.{all_live, listed}
+use Rattle.slotmap_core.proofs.{General.KeyLemmas.keys_total, General.KeyLemmas.exact_keys, General.ListingLemmas.all_live, General.ListingLemmas.listed}
+use Rattle.std.specs.FinMap as map
 
 module _ {V : Type 0} where
   -- each pair of the map is still ahead, or was passed with this fact

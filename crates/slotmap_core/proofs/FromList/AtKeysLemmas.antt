@@ -1,15 +1,13 @@
 -- What a list of slots says at each key and at each index.
 -- For the crates of maps.
 use Rattle.std.proofs.lemmas.Bool.Decides.{nat_tests}
+use Rattle.std.proofs.Common.{◌≡◌, ◌≢◌, ◌+◌, ◌%◌, ◌<◌, sym, ap, ◌∙◌, arith, ℕ, Bool, true, List, slice_get, Option, Some, is_some}
+use Rattle.slotmap_core.specs.Words.{Key, last_version, gather, is_vacant_version, last_issued, live_slot, vacant_slot, retired_slot, issued_slot, start_live, start_next, start_retired, start_issued}
+use Rattle.slotmap_core.specs.declared.serial.SlotRecord.{SlotRecord}
+use Rattle.slotmap_core.proofs.General.MapLaws.{live_laws, detached_laws, next_laws, is_marked}
+use Rattle.slotmap_core.proofs.{General.GatherLemmas.IsFinite, General.GatherLemmas.get-gather, Places.PlacesLemmas.key}
 use Rattle.std.specs.FinMap as map
 use Rattle.std.specs.FinSet as set
-use Rattle.std.proofs.Common.{◌≡◌, ◌≢◌, ◌+◌, ◌%◌, ◌<◌, sym, ap, ◌∙◌, arith, ℕ, Bool, true, List, slice_get, Option, Some, is_some}
-use Rattle.slotmap_core.specs.Words.{Key, last_version, gather, is_vacant_version, last_issued, live_slot, vacant_slot, retired_slot, issued_slot, start_live}
-use Rattle.slotmap_core.specs.Words.{start_next, start_retired, start_issued}
-use Rattle.slotmap_core.specs.declared.serial.SlotRecord.{SlotRecord}
-use Rattle.slotmap_core.proofs.General.GatherLemmas.{IsFinite, get-gather}
-use Rattle.slotmap_core.proofs.General.MapLaws.{live_laws, detached_laws, next_laws, is_marked}
-use Rattle.slotmap_core.proofs.Places.PlacesLemmas.{key}
 
 -- the element behind what a gathered map has at a key, and the converse
 module _ {P K X M : Type 0} {same_key : K → K → Bool} {empty : M} {get : M → K → Option X} {put : M → K × X → M} {remove : M → K → M} {len : M → ℕ}

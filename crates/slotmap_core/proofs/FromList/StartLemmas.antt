@@ -1,16 +1,12 @@
 -- The content of a map whose places come from the slots of an accepted list.
 -- For the crates of maps.
-use Rattle.std.proofs.lemmas.Bool.Decides.{nat_tests}
-use Rattle.std.proofs.lemmas.List.{length-map, map-append}
-use Rattle.std.proofs.lemmas.Option.{slice_get-map, slice_get_within}
+use Rattle.std.proofs.Common.{◌≡◌, ◌≢◌, ◌+◌, ◌%◌, ◌<◌, ◌∷◌, ◌++◌, refl, ap, arith, ℕ, suc, List, [], length, map as list_map, slice_get, Option, None}
+use Rattle.std.proofs.{lemmas.Bool.Decides.nat_tests, lemmas.List.length-map, lemmas.List.map-append, lemmas.Option.slice_get-map, lemmas.Option.slice_get_within}
+use Rattle.slotmap_core.specs.Words.{vacant_slot, retired_slot, start_live, start_next, start_retired, place_of_record, start_places, detached_entry, retired_entry, IsConsistent, AllConsistentBelow}
+use Rattle.slotmap_core.specs.Words.{Some, is_some, key_cmp, live_slot, gather, Place, Vacant, live_entry, next_entry, live, detached, next, Accepts}
+use Rattle.slotmap_core.specs.{declared.serial.SlotRecord.SlotRecord, Places.retired}
 use Rattle.std.specs.FinMap as map
 use Rattle.std.specs.FinSet as set
-use Rattle.std.proofs.Common.{◌≡◌, ◌≢◌, ◌+◌, ◌%◌, ◌<◌, ◌∷◌, ◌++◌, refl, ap, arith, ℕ, suc, List, [], length, map as list_map, slice_get, Option, None}
-use Rattle.slotmap_core.specs.Words.{Some, is_some, key_cmp, live_slot, vacant_slot, retired_slot, start_live, start_next, start_retired, place_of_record}
-use Rattle.slotmap_core.specs.Words.{start_places, gather, Place, Vacant, live_entry, detached_entry, retired_entry, next_entry, live, detached, next}
-use Rattle.slotmap_core.specs.Words.{IsConsistent, AllConsistentBelow, Accepts}
-use Rattle.slotmap_core.specs.declared.serial.SlotRecord.{SlotRecord}
-use Rattle.slotmap_core.specs.Places.{retired}
 
 module _ {V : Type 0} (slot : SlotRecord V) (consistent : IsConsistent slot) where
   pub odd_of : (v : V) → slot.value ≡ Some v → slot.version % 2 ≡ 1
@@ -30,14 +26,12 @@ module _ {V E M : Type 0} (empty : M) (put : M → E → M) (entry : ℕ → Pla
       → gather empty put entry i (list_map place_of_record slots) ≡ gather empty put slot_entry i slots
   gather-places i [] positive each = refl
   gather-places i (slot ∷ slots) positive each =
-      let later = gather-places (i + 1) slots (omega arith) (λ j other below. each (suc j) other (omega arith)) in
-      rw (alike i slot positive (each 0 slot (omega arith) refl), later)
+      rw (alike i slot positive (each 0 slot (omega arith) refl), (gather-places (i + 1) slots (omega arith) (λ j other below. each (suc j) other (omega arith))))
 
   gather-start_places : entry 0 (Vacant 1) ≡ None → ((slot : SlotRecord V) → slot.version % 2 ≡ 0 → slot_entry 0 slot ≡ None)
       → (slots : List (SlotRecord V)) (limit : ℕ) → Accepts slots limit → gather empty put entry 0 (start_places slots) ≡ gather empty put slot_entry 0 slots
   gather-start_places no_place no_slot [] limit accepted = refl
-  gather-start_places no_place no_slot (first ∷ rest) limit accepted =
-      grind (arith, gather-places 1 rest (omega arith) (λ j slot below. accepted.consistent (suc j) slot (omega arith)))
+  gather-start_places no_place no_slot (first ∷ rest) limit accepted = grind (arith, gather-places 1 rest (omega arith) (λ j slot below. accepted.consistent (suc j) slot (omega arith)))
 
 module _ {V : Type 0} where
   pub consistent_at : (slots : List (SlotRecord V)) (limit : ℕ) → Accepts slots limit → (i : ℕ) (slot : SlotRecord V) → slice_get slots i ≡ Some slot → IsConsistent slot

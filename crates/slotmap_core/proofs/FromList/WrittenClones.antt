@@ -1,16 +1,13 @@
 -- A list of slots with clones of the values of a map: it is the list of a copy.
 -- For the crates of maps.
 use Rattle.std.proofs.lemmas.Option.{same_Some}
-use Rattle.std.specs.FinMap as map
 use Rattle.std.proofs.Common.{◌≡◌, ◌-◌, refl, sym, ap, ◌∙◌, arith, ℕ, Bool, true, List, slice_get, Option, Some, is_some}
-use Rattle.slotmap_core.specs.Words.{ClonesEqual, IsCloneOf, Content, IsContent, start_live, IsCloneBy, Key, Writes, WritesClones, IsRecordClone}
-use Rattle.slotmap_core.specs.Words.{AreRecordClones, filled_slot, empty_slot}
+use Rattle.slotmap_core.specs.Words.{ClonesEqual, IsCloneOf, Content, IsContent, start_live, IsCloneBy, Key, Writes, WritesClones, IsRecordClone, AreRecordClones, filled_slot, empty_slot}
 use Rattle.slotmap_core.specs.declared.serial.SlotRecord.{SlotRecord}
 use Rattle.slotmap_core.proofs.Contents.CloneLemmas.{clone_places, clone_copies, IsContent-clone_same}
-use Rattle.slotmap_core.proofs.FromList.AtKeysLemmas.{live_in, in_contents}
 use Rattle.slotmap_core.proofs.General.ListLemmas.{zip_length, zip_left, zip_right}
-use Rattle.slotmap_core.proofs.General.Maps.{some_is}
-use Rattle.slotmap_core.proofs.FromList.WrittenLemmas.{written-contents}
+use Rattle.slotmap_core.proofs.{FromList.AtKeysLemmas.live_in, FromList.AtKeysLemmas.in_contents, General.Maps.some_is, FromList.WrittenLemmas.written-contents}
+use Rattle.std.specs.FinMap as map
 
 module _ {V : Type 0} (is_clone : V → V → Type 0) where
   -- a slot and a clone of it
@@ -36,8 +33,7 @@ module _ {V : Type 0} (is_clone : V → V → Type 0) (reuses : Bool) (c : Conte
 
   -- the list has no other key
   no_other : (k : Key) (w : V) → map.get (start_live copies) k ≡ Some w → is_some (map.get c.live k) ≡ true
-  no_other k w got =
-      grind (arith, live_in, zip_left (IsRecordClone is_clone) slots copies all k.index, written-contents reuses c valid slots writes, in_contents slots k.index)
+  no_other k w got = grind (arith, live_in, zip_left (IsRecordClone is_clone) slots copies all k.index, written-contents reuses c valid slots writes, in_contents slots k.index)
 
   value_clone : (k : Key) (o : Option V) → map.get c.live k ≡ o → IsCloneOf is_clone o (map.get (start_live copies) k)
   value_clone k o is = grind (arith, no_other, live_clone)

@@ -1,22 +1,17 @@
 -- The list that a map is written as: from its places, that it is accepted, and what is read from it.
 -- For the crates of maps.
-use Rattle.std.proofs.lemmas.List.{length-map, same_lists}
-use Rattle.std.proofs.lemmas.Option.{slice_get-map, slice_get_within, slice_get-get_or}
-use Rattle.std.specs.FinMap as map
-use Rattle.std.specs.FinSet as set
 use Rattle.std.proofs.Common.{◌≡◌, ◌≢◌, ◌⊎◌, inl, inr, ◌+◌, ◌-◌, ◌%◌, ◌<◌, ◌≤◌, sym, ap, ◌∙◌, arith, eq-eqb, refl, ℕ, Bool, true, false, List, length}
-use Rattle.slotmap_core.specs.Words.{Key, IsKey, is_last, last_version, next_version, Content, IsContent, IsDetached, IsRetired, IsVacant, Uses, places}
-use Rattle.slotmap_core.specs.Words.{start_live, StartsFrom, Place, Live, Detached, Vacant, Retired, live, detached, next, retired_entry, Accepts, StackMap}
-use Rattle.slotmap_core.specs.Words.{content_of_places, IsStacked, following_version, filled_slot, empty_slot, Writes, Restores, record_of, records_of}
-use Rattle.slotmap_core.specs.Words.{read_slots, Some, slice_get, is_some, get_or}
-use Rattle.slotmap_core.specs.declared.serial.SlotRecord.{SlotRecord}
-use Rattle.slotmap_core.specs.Places.{retired}
-use Rattle.slotmap_core.proofs.Contents.ContentLemmas.{some_is}
+use Rattle.std.proofs.{lemmas.List.length-map, lemmas.List.same_lists, lemmas.Option.slice_get-map, lemmas.Option.slice_get_within, lemmas.Option.slice_get-get_or}
+use Rattle.slotmap_core.specs.Words.{last_version, next_version, IsDetached, IsVacant, start_live, StartsFrom, retired_entry, content_of_places, following_version, filled_slot, empty_slot, records_of}
+use Rattle.slotmap_core.specs.Words.{is_last, Content, IsContent, IsRetired, places, Detached, Retired, detached, Accepts, StackMap, IsStacked, Restores, record_of, read_slots, slice_get, is_some}
+use Rattle.slotmap_core.specs.Words.{Key, IsKey, Uses, Place, Live, Vacant, live, next, Writes, Some, get_or}
+use Rattle.slotmap_core.specs.{declared.serial.SlotRecord.SlotRecord, Places.retired}
 use Rattle.slotmap_core.proofs.FromList.AtKeysLemmas.{gathers, live_in, in_contents, next_in, in_start_next, retired_in, in_start_retired}
 use Rattle.slotmap_core.proofs.General.KeyLemmas.{exact_keys, keys_total, nat_tests}
-use Rattle.slotmap_core.proofs.General.MapLaws.{detached_laws, is_marked}
-use Rattle.slotmap_core.proofs.FromList.StartLemmas.{consistent_at}
 use Rattle.slotmap_core.proofs.Places.PlacesLemmas.{key, get-live, get-live_at, get-next_at, vacant_at, retired_at, contains-detached, total, retired_fits}
+use Rattle.slotmap_core.proofs.{Contents.ContentLemmas.some_is, General.MapLaws.detached_laws, General.MapLaws.is_marked, FromList.StartLemmas.consistent_at}
+use Rattle.std.specs.FinMap as map
+use Rattle.std.specs.FinSet as set
 
 module _ {V : Type 0} where
   -- the last key of a retired place is retired
@@ -81,11 +76,9 @@ module _ {V : Type 0} (reuses : Bool) (c : Content V) (valid : IsContent reuses 
   module _ (read : Content V) (starts : StartsFrom slots read) where
     where_next : (i v : ℕ) → (map.get c.next i ≡ Some v) ⊎ ((k : Key) × IsDetached c k × (is_last k ≡ false) × (k.index ≡ i) × (next_version k ≡ v))
         → map.get read.next i ≡ Some v
-    where_next i v (inl got) =
-        rw starts.next (grind (arith, in_start_next slots i _ (writes.vacant i v got), valid.vacant i (ap is_some got), valid.had_keys i v got, valid.vacancies i v got))
+    where_next i v (inl got) = rw starts.next (grind (arith, in_start_next slots i _ (writes.vacant i v got), valid.vacant i (ap is_some got), valid.had_keys i v got, valid.vacancies i v got))
     where_next i v (inr (k, is, other, here, follows)) =
-        let uses : Uses c k = inl (inr is) in
-        rw (starts.next, ← here) (grind (arith, nat_tests, in_start_next slots k.index _ (writes.detached k is), valid.within k uses, valid.keys k uses))
+        let uses : Uses c k = inl (inr is) in rw (starts.next, ← here) (grind (arith, nat_tests, in_start_next slots k.index _ (writes.detached k is), valid.within k uses, valid.keys k uses))
 
     -- a map that is read from such a list has the same live keys, and the detached ones are gone
     pub written-restores : Restores c read
@@ -110,5 +103,4 @@ module _ {V : Type 0} (slots : List (SlotRecord V)) (limit : ℕ) (accepted : Ac
 
   pub written-again : again ≡ read_slots slots
   written-again =
-      same_lists again (read_slots slots) (grind (arith, accepted.first_empty))
-      (λ i d within. grind (arith, slot_again i, slice_get-get_or again i d, slice_get-get_or (read_slots slots) i d))
+      same_lists again (read_slots slots) (grind (arith, accepted.first_empty)) (λ i d within. grind (arith, slot_again i, slice_get-get_or again i d, slice_get-get_or (read_slots slots) i d))

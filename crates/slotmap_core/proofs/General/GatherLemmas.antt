@@ -1,9 +1,8 @@
 -- What a gathered map or set has at each key, and how a change of one element changes it.
 -- For the crates of maps.
 use Rattle.std.proofs.Common.{◌≡◌, ◌≢◌, ◌⊎◌, ◌+◌, ◌<◌, ◌∷◌, ◌++◌, set, arith, ℕ, zero, suc, Bool, true, cond, List, [], length, slice_get, Option, None, Some}
-use Rattle.std.proofs.lemmas.Grind.{common_steps}
-use Rattle.std.proofs.lemmas.List.{length-set, get_or-set_same, get_or-set_other}
 use Rattle.std.proofs.lemmas.Option.{gets, slice_get_cases, slice_get-get_or, slice_get_within, slice_get_past}
+use Rattle.std.proofs.{lemmas.Grind.common_steps, lemmas.List.length-set, lemmas.List.get_or-set_same, lemmas.List.get_or-set_other}
 use Rattle.slotmap_core.specs.Words.{AllZip, add, gather, is_some, refl}
 
 -- the laws of a finite map, by its look-ups
@@ -82,9 +81,7 @@ module _ {P K X M : Type 0} {same_key : K → K → Bool} {empty : M} {get : M �
   -- the old element's entry is removed, and the new one's is added
   pub gather-set : (ps : List P) (i : ℕ) (old new : P) → slice_get ps i ≡ Some old
       → gather empty put entry 0 (set ps i new) ≡ add put (entry i new) (add (λ m e. remove m e.0) (entry i old) (gather empty put entry 0 ps))
-  gather-set ps i old new found =
-      laws.same _ _ (λ q.
-      grind (arith, get-gather_set ps i old new q found, without i old (gather empty put entry 0 ps) q, pick_other i new q))
+  gather-set ps i old new found = laws.same _ _ (λ q. grind (arith, get-gather_set ps i old new q found, without i old (gather empty put entry 0 ps) q, pick_other i new q))
 
   -- the new element's entry is added, if none was there, or one of the same key
   pub gather-set_put : (ps : List P) (i : ℕ) (old new : P) (e : K × X) → slice_get ps i ≡ Some old → entry i new ≡ Some e
@@ -98,8 +95,7 @@ module _ {P K X M : Type 0} {same_key : K → K → Bool} {empty : M} {get : M �
 
   -- one more element at the end
   pub gather-push : (ps : List P) (new : P) → gather empty put entry 0 (ps ++ new ∷ []) ≡ add put (entry (length ps) new) (gather empty put entry 0 ps)
-  gather-push ps new =
-      laws.same _ _ (λ q. grind (arith, get-gather ps q, get-gather (ps ++ new ∷ []) q, slice_get_push ps new, slice_get_push_other, slice_get_past, pick_other))
+  gather-push ps new = laws.same _ _ (λ q. grind (arith, get-gather ps q, get-gather (ps ++ new ∷ []) q, slice_get_push ps new, slice_get_push_other, slice_get_past, pick_other))
 
   pub gather-push_put : (ps : List P) (new : P) (e : K × X) → entry (length ps) new ≡ Some e → gather empty put entry 0 (ps ++ new ∷ []) ≡ put (gather empty put entry 0 ps) e
   gather-push_put ps new e gives = rw gives at (gather-push ps new)

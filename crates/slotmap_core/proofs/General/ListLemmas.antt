@@ -1,9 +1,8 @@
 -- Elements of a list by their index.
 -- For the crates of maps.
 use Rattle.std.proofs.Common.{◌≡◌, ◌≢◌, ◌+◌, ◌<◌, ◌∷◌, ◌++◌, sym, ap, ◌∙◌, arith, ℕ, zero, suc, option_map, List, [], length, take, drop, slice_get, get_or}
-use Rattle.std.proofs.lemmas.List.Elements.{all_zip_more}
 use Rattle.std.proofs.lemmas.Option.{slice_get_within, slice_get_cases, slice_get_read, get_or_from_slice_get}
-use Rattle.std.proofs.lemmas.Slice.Zip.{AllZip-left, AllZip-right}
+use Rattle.std.proofs.{lemmas.List.Elements.all_zip_more, lemmas.Slice.Zip.AllZip-left, lemmas.Slice.Zip.AllZip-right}
 use Rattle.slotmap_core.specs.Words.{AllZip, Option, Some, None, IfNone, Result, IsOk, IsErr, refl}
 -- as many elements are in both of two lists that are related one by one
 pub use Rattle.std.proofs.lemmas.Slice.Zip.{AllZip-long as zip_length}
@@ -55,5 +54,4 @@ zip_self R itself (x ∷ xs) = (itself x, zip_self R itself xs)
 -- a loop that makes an element for the next one
 pub zip_next : {A : Type 0} (R : A → A → Type 0) (xs ys : List A) (i : ℕ) (x y : A) → AllZip R (take i xs) ys → slice_get xs i ≡ Some x → R x y
     → AllZip R (take (i + 1) xs) (ys ++ y ∷ [])
-zip_next R xs ys i x y all found next =
-    all_zip_more R xs ys i x y (slice_get_within xs i x found) (sym (get_or_from_slice_get xs i x x found)) all next
+zip_next R xs ys i x y all found next = all_zip_more R xs ys i x y (slice_get_within xs i x found) (sym (get_or_from_slice_get xs i x x found)) all next

@@ -1,14 +1,12 @@
 -- Listings that grow by one entry at a time, and what a listing says of each key.
 -- For the crates of maps.
-use Rattle.std.proofs.Common.{◌≡◌, ℕ, zero, suc, ◌+◌, ◌<◌, ◌≤◌, true, false, List, [], ◌∷◌, ◌++◌, length, get_or, map as list_map, Some, None, inl, inr, refl}
-use Rattle.std.proofs.Common.{sym, ap, ◌∙◌, arith}
-use Rattle.std.proofs.lemmas.Bool.{cases_Bool}
+use Rattle.std.proofs.Common.{◌≡◌, ℕ, zero, suc, ◌+◌, ◌<◌, ◌≤◌, true, false, List, ◌∷◌, ◌++◌, length, get_or, map as list_map, Some, None, inl, refl, ◌∙◌, arith}
+use Rattle.std.proofs.Common.{[], inr, sym, ap}
+use Rattle.std.proofs.{lemmas.Bool.cases_Bool, lemmas.List.length_push, lemmas.List.length-map}
+use Rattle.slotmap_core.specs.Words.{All, Contains, option_or, eq_by_cmp, find, is_some-find, Key, key_cmp, IsListing, IsKeyListing, IsListingBut, with_entries}
+use Rattle.slotmap_core.proofs.{General.KeyLemmas.keys_total, General.KeyLemmas.exact_keys, General.KeyLemmas.tied, General.KeyLemmas.itself, General.Maps.insert_same, General.Maps.len_removed}
 use Rattle.std.specs.FinMap as map
 use Rattle.std.specs.FinSet as set
-use Rattle.std.proofs.lemmas.List.{length_push, length-map}
-use Rattle.slotmap_core.specs.Words.{All, Contains, option_or, eq_by_cmp, find, is_some-find, Key, key_cmp, IsListing, IsKeyListing, IsListingBut, with_entries}
-use Rattle.slotmap_core.proofs.General.KeyLemmas.{keys_total, exact_keys, tied, itself}
-use Rattle.slotmap_core.proofs.General.Maps.{insert_same, len_removed}
 
 module _ {V : Type 0} where
   pub get-with_entries : (m : map.FinMap key_cmp V) (es : List (Key × V)) (q : Key) → map.get (with_entries m es) q ≡ option_or (find key_cmp q es) (map.get m q)
@@ -74,8 +72,7 @@ module _ {V : Type 0} where
   -- an entry that was removed before is listed first
   pub IsListingBut-first : (m rest : map.FinMap key_cmp V) (es : List (Key × V)) (k : Key) (v : V) → map.get m k ≡ Some v
       → IsListingBut (map.remove m k) es rest → IsListingBut m ((k, v) ∷ es) rest
-  IsListingBut-first m rest es k v found listing =
-      grind (arith, insert-remove, insert_same keys_total exact_keys m k v found, len_removed keys_total exact_keys m k)
+  IsListingBut-first m rest es k v found listing = grind (arith, insert-remove, insert_same keys_total exact_keys m k v found, len_removed keys_total exact_keys m k)
 
   pub IsListingBut-done : (m : map.FinMap key_cmp V) (es : List (Key × V)) → IsListingBut m es map.empty → IsListing m es
   IsListingBut-done m es listing = grind (arith, with_entries-empty es, map.len-empty key_cmp V)
@@ -105,8 +102,7 @@ module _ {V : Type 0} where
       → i < length es → find key_cmp (get_or es i d).0 es ≡ Some (get_or es i d).1
   found_at [] i d once within = absurd (omega arith)
   found_at (e ∷ es) zero d once within = rw (itself keys_total exact_keys e.0)
-  found_at (e ∷ es) (suc i) d once within =
-      grind (arith, fresh_first map.empty e es once, found_at es i d, get-with_entries map.empty es e.0, tied keys_total exact_keys (get_or es i d).0 e.0)
+  found_at (e ∷ es) (suc i) d once within = grind (arith, fresh_first map.empty e es once, found_at es i d, get-with_entries map.empty es e.0, tied keys_total exact_keys (get_or es i d).0 e.0)
 
   -- what is in a listing is a live key with its value
   pub all_live : (m : map.FinMap key_cmp V) (es : List (Key × V)) → IsListing m es → All (λ e. map.get m e.0 ≡ Some e.1) es

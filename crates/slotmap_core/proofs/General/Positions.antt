@@ -1,11 +1,8 @@
 -- Lists cut at positions: what stands before an element, between two of them and after.
 -- For runs.
 use Rattle.std.proofs.Common.{◌≡◌, ◌+◌, ◌<◌, ◌∷◌, ◌++◌, sym, ap, ◌∙◌, append_assoc, length-append, arith, ℕ, zero, suc, List, [], length, take, drop}
-use Rattle.std.proofs.lemmas.Grind.{common_steps}
-use Rattle.std.proofs.lemmas.List.{nil_from_length}
-use Rattle.std.proofs.lemmas.List.Elements.{All-from_recursion}
 use Rattle.std.proofs.lemmas.Option.{slice_get_within, get_or_from_slice_get}
-use Rattle.std.proofs.lemmas.Slice.Zip.{AllZip-left}
+use Rattle.std.proofs.{lemmas.Grind.common_steps, lemmas.List.nil_from_length, lemmas.List.Elements.All-from_recursion, lemmas.Slice.Zip.AllZip-left}
 use Rattle.slotmap_core.specs.Words.{AllByRecursion, AllZip, slice_get, Some, refl}
 
 module _ {X : Type 0} where
@@ -22,9 +19,7 @@ module _ {X : Type 0} where
   pub split_at : (xs : List X) (i : ℕ) (x : X) → slice_get xs i ≡ Some x → SplitsAt xs i x
   split_at [] i x h = absurd (cc)
   split_at (z ∷ zs) zero x h = record { before = []; after = zs; is = ap (λ y. y ∷ zs) (some_injective _ _ h); at = refl }
-  split_at (z ∷ zs) (suc i) x h =
-      let rest = split_at zs i x h in
-      record { before = z ∷ rest.before; after = rest.after; is = ap (λ l. z ∷ l) rest.is; at = omega (arith, rest.at) }
+  split_at (z ∷ zs) (suc i) x h = let rest = split_at zs i x h in record { before = z ∷ rest.before; after = rest.after; is = ap (λ l. z ∷ l) rest.is; at = omega (arith, rest.at) }
 
   -- x stands at position i, and y at the later position j
   pub record SplitsAtTwo (xs : List X) (i j : ℕ) (x y : X) : Type 0 where
@@ -96,8 +91,7 @@ module _ {X : Type 0} where
 pub at_in_part : {X : Type 0} (P : X → Type 0) (start size n : ℕ) (xs : List X) (x : X) → AllByRecursion P (take size (drop start xs)) → n < size
     → slice_get xs (start + n) ≡ Some x → P x
 at_in_part P start size n xs x all less h =
-    let at = get_or_from_slice_get xs (start + n) x x h in
-    grind (arith, common_steps, All-from_recursion P (take size (drop start xs)) all n x, slice_get_within xs (start + n) x h, at)
+    grind (arith, common_steps, All-from_recursion P (take size (drop start xs)) all n x, slice_get_within xs (start + n) x h, (get_or_from_slice_get xs (start + n) x x h))
 
 pub at_in_first : {X : Type 0} (P : X → Type 0) (size n : ℕ) (xs : List X) (x : X) → AllByRecursion P (take size xs) → n < size → slice_get xs n ≡ Some x → P x
 at_in_first P size n xs x all less h = at_in_part P 0 size n xs x all less (let same : 0 + n ≡ n = omega arith in rw same h)

@@ -2,14 +2,11 @@
 -- For the crates of maps.
 use Rattle.std.proofs.Common.{◌≡◌, ℕ, List, [], ◌∷◌, length, slice_get, Option, Some, is_some, ap, arith}
 use Rattle.std.proofs.lemmas.Slice.Zip.{AllZip-left, AllZip-right}
+use Rattle.slotmap_core.specs.{Words.IsCloneOf, Words.IsPlaceClone, Words.ArePlaceClones, Words.detached_entry, Words.retired_entry, Words.next_entry, Words.content_of_places, Words.HasVersion}
+use Rattle.slotmap_core.specs.{Words.IsCloneBy, Words.Key, Words.Place, Words.Vacant, Words.live, Words.detached, Words.next, Words.offer, Words.IsStacked, Places.retired}
+use Rattle.slotmap_core.proofs.{General.GatherLemmas.gather-agree, General.ListLemmas.zip_length, General.ListLemmas.zip_left, General.ListLemmas.zip_right, Places.PlacesLemmas.get-live}
 use Rattle.std.specs.FinMap as map
 use Rattle.std.specs.FinSet as set
-use Rattle.slotmap_core.specs.Words.{IsCloneOf, IsCloneBy, Key, IsPlaceClone, ArePlaceClones, Place, Vacant, detached_entry, retired_entry, next_entry, live}
-use Rattle.slotmap_core.specs.Words.{detached, next, content_of_places, offer, HasVersion, IsStacked}
-use Rattle.slotmap_core.specs.Places.{retired}
-use Rattle.slotmap_core.proofs.General.GatherLemmas.{gather-agree}
-use Rattle.slotmap_core.proofs.General.ListLemmas.{zip_length, zip_left, zip_right}
-use Rattle.slotmap_core.proofs.Places.PlacesLemmas.{get-live}
 
 -- a clone is there where a value is
 pub clone_is_some : {V : Type 0} (is_clone : V → V → Type 0) (o copy : Option V) → IsCloneOf is_clone o copy → is_some copy ≡ is_some o

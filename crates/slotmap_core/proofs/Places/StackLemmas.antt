@@ -1,13 +1,12 @@
 -- Each change of one place keeps the places and the stack well formed.
 -- For the crates of maps.
-use Rattle.std.proofs.Common.{◌≡◌, ◌≢◌, ◌⊎◌, inl, inr, ℕ, ◌+◌, ◌^◌, ◌<◌, List, [], ◌∷◌, ◌++◌, length, set, slice_get, Some, is_some, cond, refl, sym, ap}
-use Rattle.std.proofs.Common.{subst, ◌∙◌, arith, ⊎_elim}
-use Rattle.std.proofs.lemmas.Option.{slice_get_within, same_Some}
-use Rattle.std.proofs.lemmas.List.{length-set, length_push}
-use Rattle.std.specs.FinMap as map
+use Rattle.std.proofs.Common.{◌≡◌, ◌≢◌, ◌⊎◌, ◌+◌, ◌^◌, ◌<◌, List, ◌∷◌, ◌++◌, length, slice_get, Some, is_some, cond, refl, subst, ◌∙◌, arith, ⊎_elim}
+use Rattle.std.proofs.Common.{inl, inr, ℕ, [], set, sym, ap}
+use Rattle.std.proofs.{lemmas.Option.slice_get_within, lemmas.Option.same_Some, lemmas.List.length-set, lemmas.List.length_push}
 use Rattle.slotmap_core.specs.Words.{nat_cmp, key_cmp, Place, Live, Vacant, live, used_places, IsOn, IsOnce, IsVersion, HasVersion, IsStacked}
 use Rattle.slotmap_core.proofs.General.GatherLemmas.{slice_get-set_same, slice_get-set_other, slice_get_push_other, at_push}
 use Rattle.slotmap_core.proofs.Places.PlacesLemmas.{vacancy, no_vacancy, len-next-set, next-push_live, sentinel_alone, total}
+use Rattle.std.specs.FinMap as map
 
 module _ {V : Type 0} (ps : List (Place V)) (vs : List ℕ) (stacked : IsStacked ps vs) where
   -- a place that isn't vacant isn't on the stack
@@ -22,8 +21,7 @@ module _ {V : Type 0} (ps : List (Place V)) (vs : List ℕ) (stacked : IsStacked
       → length ws + cond (is_some (vacancy i old)) 1 0 ≡ length vs + cond (is_some (vacancy i new)) 1 0
       → ((j : ℕ) → IsOn ws j → ((j ≡ i) × ((n : ℕ) × (new ≡ Vacant n))) ⊎ ((j ≢ i) × IsOn vs j))
       → ((j : ℕ) → j ≢ i → IsOn vs j → IsOn ws j) → ((n : ℕ) → new ≡ Vacant n → IsOn ws i × (1 < n)) → IsStacked (set ps i new) ws
-  IsStacked-set i old new found positive good ws once count on off here =
-      grind (arith, slice_get-set_other, length-set, slice_get-set_same, slice_get_within, len-next-set)
+  IsStacked-set i old new found positive good ws once count on off here = grind (arith, slice_get-set_other, length-set, slice_get-set_same, slice_get_within, len-next-set)
 
   -- a place with a key turns into another one, or is retired
   pub IsStacked-kept : (i : ℕ) (old new : Place V) → slice_get ps i ≡ Some old → ((n : ℕ) → old ≢ Vacant n) → ((n : ℕ) → new ≢ Vacant n) → HasVersion new

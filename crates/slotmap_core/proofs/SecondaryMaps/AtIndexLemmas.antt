@@ -1,14 +1,12 @@
 -- What is at the index of a key in a secondary map, what a change leaves there, and that only keys are in it.
 -- For the crates of maps, runs and callers.
 use Rattle.std.proofs.Common.{◌≡◌, ◌≢◌, ◌+◌, ◌-◌, ◌^◌, ◌<◌, eqb-true, eq-eqb, if◌then◌else◌, sym, ap, ◌∙◌, inl, inr, arith, ℕ, true, false, nat_eq, Option}
-use Rattle.std.proofs.lemmas.Grind.{common_steps}
-use Rattle.std.proofs.lemmas.Map.Lookups.{exact_unsigned}
-use Rattle.std.proofs.lemmas.Option.{same_Some}
-use Rattle.std.specs.FinMap as map
-use Rattle.slotmap_core.specs.Words.{nat_cmp_total, Key, IsKey, null_key, is_older, Pairs, is_null, no_entry, occupied, vacant, entry_at, value_at, has_entry}
-use Rattle.slotmap_core.specs.Words.{entry, get, contains_key, bind, put, remove, IsSecondary, Some, None, is_some, refl, nat_cmp}
+use Rattle.std.proofs.{lemmas.Grind.common_steps, lemmas.Map.Lookups.exact_unsigned, lemmas.Option.same_Some}
+use Rattle.slotmap_core.specs.Words.{nat_cmp_total, IsKey, null_key, is_older, is_null, no_entry, occupied, vacant, entry_at, value_at, has_entry, contains_key, remove, IsSecondary, is_some, nat_cmp}
+use Rattle.slotmap_core.specs.Words.{Key, Pairs, entry, get, bind, put, Some, None, refl}
 use Rattle.slotmap_core.proofs.General.Maps.{false_of, none_of, some_is, get_other, get_left, get_removed, get_after_insert, get_after_remove, insert_same, insert_twice, remove_inserted, len_removed}
 use Rattle.slotmap_core.proofs.SecondaryMaps.SecondaryLemmas.{not_null, get_bound}
+use Rattle.std.specs.FinMap as map
 
 pub IsSecondary-empty : {V : Type 0} → IsSecondary {V = V} map.empty
 IsSecondary-empty {V} i p h = let none = map.get-empty {X = ℕ × V} nat_cmp i in absurd (cc)
@@ -103,8 +101,7 @@ module _ {V : Type 0} where
 
       pub others_bound : (v : V) (q : Key) → q ≢ k → get (bind m k v) q ≡ get m q
       others_bound v =
-          others_find (bind m k v) (get_other nat_cmp_total exact_unsigned m k.index (k.version, v))
-          (λ w apart. other_version (map.get (bind m k v) k.index) k.version w apart (in_own v))
+          others_find (bind m k v) (get_other nat_cmp_total exact_unsigned m k.index (k.version, v)) (λ w apart. other_version (map.get (bind m k v) k.index) k.version w apart (in_own v))
 
     -- each other key finds the same as before
     pub others_stay : (q : Key) → q ≢ k → get (remove m k) q ≡ get m q

@@ -1,16 +1,14 @@
 -- A secondary map by its keys: its look-ups, and what each change makes of it.
 -- For the crates of maps and callers.
 use Rattle.std.proofs.Common.{◌≡◌, ◌≢◌, ◌&&◌, T, ◌∷◌, sym, ap, ◌∙◌, is_eq, arith, ℕ, Bool, true, List, [], length, map as list_map, None, is_some}
-use Rattle.std.specs.declared.cmp.Ordering.{Ordering}
 use Rattle.std.proofs.lemmas.List.{length-map}
-use Rattle.std.specs.FinMap as map
-use Rattle.slotmap_core.specs.Words.{ordering_then, nat_cmp_total, nat_eq_equiv, unsigned_tied, find, below_all, is_sorted, Key, key_cmp, Pairs, value_at}
-use Rattle.slotmap_core.specs.Words.{get, contains_key, bind, remove, keyed_entry, keyed, refl, nat_cmp, is_lt}
-use Rattle.slotmap_core.proofs.General.KeyLemmas.{keys_total, exact_keys, tied, exact_unsigned}
-use Rattle.slotmap_core.proofs.General.Maps.{get_inserted, get_removed, get_other, get_left, same_at}
-use Rattle.slotmap_core.proofs.SecondaryMaps.SecondaryLemmas.{get_bound}
+use Rattle.std.specs.declared.cmp.Ordering.{Ordering}
+use Rattle.slotmap_core.specs.Words.{ordering_then, nat_cmp_total, nat_eq_equiv, unsigned_tied, find, below_all, is_sorted, key_cmp, Pairs, value_at, contains_key, remove, keyed_entry, keyed, nat_cmp}
+use Rattle.slotmap_core.specs.Words.{Key, get, bind, refl, is_lt}
 use Rattle.slotmap_core.proofs.SecondaryMaps.AtIndexLemmas.{pair_of, same_version, others_bound, removed_gone, others_stay}
-use Rattle.slotmap_core.proofs.Several.SeveralLemmas.{WriteLaws}
+use Rattle.slotmap_core.proofs.{General.KeyLemmas.keys_total, General.KeyLemmas.exact_keys, General.KeyLemmas.exact_unsigned, SecondaryMaps.SecondaryLemmas.get_bound, Several.SeveralLemmas.WriteLaws}
+use Rattle.slotmap_core.proofs.{General.KeyLemmas.tied, General.Maps.get_inserted, General.Maps.get_removed, General.Maps.get_other, General.Maps.get_left, General.Maps.same_at}
+use Rattle.std.specs.FinMap as map
 
 pub both : (a b : Bool) → T a → T b → T (a && b)
 both a b p q = grind arith
@@ -43,8 +41,7 @@ module _ {V : Type 0} where
 
   find-keyed : (k : Key) (es : List (ℕ × (ℕ × V))) → T (is_sorted nat_cmp es) → find key_cmp k (list_map keyed_entry es) ≡ value_at k.version (find nat_cmp k.index es)
   find-keyed k [] h = refl
-  find-keyed k (e ∷ es) h =
-      grind (arith, missed k es, tied nat_cmp_total exact_unsigned k.index e.0, first, second, tie_parts, nat_eq_equiv.symm, unsigned_tied, find-keyed k es)
+  find-keyed k (e ∷ es) h = grind (arith, missed k es, tied nat_cmp_total exact_unsigned k.index e.0, first, second, tie_parts, nat_eq_equiv.symm, unsigned_tied, find-keyed k es)
 
   -- a key finds the same in it as in the map
   pub get-keyed : (m : Pairs V) (k : Key) → map.get (keyed m) k ≡ get m k

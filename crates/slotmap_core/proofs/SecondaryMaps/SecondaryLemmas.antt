@@ -2,10 +2,9 @@
 -- For the crates of maps.
 use Rattle.std.proofs.Common.{◌≡◌, ℕ, Option, Some, None, true, false, cond, eqb-true, eq-eqb, refl, ap, ◌∙◌, arith}
 use Rattle.std.proofs.lemmas.Map.Lookups.{exact_unsigned}
-use Rattle.std.specs.FinMap as map
-use Rattle.slotmap_core.specs.Words.{nat_cmp_total, Key, null_key, Pairs, Entry, IsSecondary, is_null, no_entry, occupied, vacant, entry_at, value_at}
-use Rattle.slotmap_core.specs.Words.{has_entry, entry, get, bind, put}
+use Rattle.slotmap_core.specs.Words.{nat_cmp_total, Key, null_key, Pairs, Entry, IsSecondary, is_null, no_entry, occupied, vacant, entry_at, value_at, has_entry, entry, get, bind, put}
 use Rattle.slotmap_core.proofs.General.Maps.{get_inserted}
+use Rattle.std.specs.FinMap as map
 
 module _ {V : Type 0} where
   -- the value of an entry

@@ -33,8 +33,7 @@ module _ {K V : Type 0} (data_of : K → Key) (old : map.FinMap key_cmp V) where
       → i ≤ (data_of x.key).index → ((q : Key) → map.contains_key now q ≡ true → i ≤ q.index → (data_of x.key).index ≤ q.index)
       → map.get now (data_of x.key) ≡ Some x.before
       → Visits data_of old (xs ++ x ∷ []) (from_index ((data_of x.key).index + 1) old) (cond x.stays (map.insert now (data_of x.key) x.after) (map.remove now (data_of x.key)))
-  Keyed-next alone xs i now x visits on next found =
-      Keyed-at alone xs (data_of x.key).index now x (Keyed-jump xs i (data_of x.key).index now visits on next) refl found
+  Keyed-next alone xs i now x visits on next found = Keyed-at alone xs (data_of x.key).index now x (Keyed-jump xs i (data_of x.key).index now visits on next) refl found
 
   -- an entry that wasn't visited yet is as it was
   pub Keyed-same : (xs : List (Visit K V)) (i : ℕ) (now : map.FinMap key_cmp V) → Visits data_of old xs (from_index i old) now → (k : Key) → i ≤ k.index → map.get old k ≡ map.get now k

@@ -1,14 +1,13 @@
 -- What `retain` leaves of each entry, by what each call of its closure does.
 -- For runs and callers.
-use Rattle.std.proofs.Common.{inl, inr, ◌≡◌, ◌≢◌, ℕ, suc, ◌+◌, Bool, true, false, cond, List, [], ◌∷◌, length, Option, Some, None, is_some, refl, sym, ap}
-use Rattle.std.proofs.Common.{subst, ◌∙◌, arith}
+use Rattle.std.proofs.Common.{inl, inr, ◌≡◌, ◌≢◌, ℕ, suc, ◌+◌, Bool, true, false, cond, List, [], ◌∷◌, length, Option, Some, None, is_some, refl, sym, subst, ◌∙◌, arith}
+use Rattle.std.proofs.Common.{ap}
 use Rattle.std.proofs.lemmas.Option.{same_Some}
-use Rattle.std.specs.FinMap as map
 use Rattle.slotmap_core.specs.Words.{Mut, Called, MutBor, FoldsTo, option_and_then, find, Key, key_cmp, with_entries, Visit, CallsAt, RetainsBy, seen, kept}
 use Rattle.slotmap_core.proofs.General.KeyLemmas.{keys_total, exact_keys, tied, itself, same_or_other}
-use Rattle.slotmap_core.proofs.General.Maps.{none_of, len_inserted}
 use Rattle.slotmap_core.proofs.General.ListingLemmas.{with_entries-empty, fresh_first, IsListingBut-listing}
-use Rattle.slotmap_core.proofs.Several.VisitLemmas.{unkept}
+use Rattle.slotmap_core.proofs.{General.Maps.none_of, General.Maps.len_inserted, Several.VisitLemmas.unkept}
+use Rattle.std.specs.FinMap as map
 
 -- what a visit leaves of its entry
 abbrev pub left_by : {K V : Type 0} → Visit K V → Option V
@@ -106,8 +105,7 @@ module _ {F K V : Type 0} (g : Mut F (K × (MutBor V × Unit {0})) (Bool × (Mut
       → Holds calls stay f → Called g f (key, (shown, tt)) (stays, (after, tt)) f' → Holds (calls + 1) (stay + cond stays 1 0) f') where
     along : (calls stay : ℕ) (f last : F) (xs : List (Visit K V)) → Holds calls stay f → FoldsTo (CallsAt g) f xs last → Holds (calls + length xs) (stay + length (kept data_of xs)) last
     along calls stay f last [] holds ran = subst (λ f. Holds (calls + 0) (stay + 0) f) ran (subst (λ n. Holds n (stay + 0) f) (omega arith) (subst (λ n. Holds calls n f) (omega arith) holds))
-    along calls stay f last (x ∷ xs) holds ran =
-        grind (arith, along (calls + 1) (stay + cond x.stays 1 0) ran.0 last xs, each calls stay f ran.0 x.key ran.1.shown ran.1.left x.stays)
+    along calls stay f last (x ∷ xs) holds ran = grind (arith, along (calls + 1) (stay + cond x.stays 1 0) ran.0 last xs, each calls stay f ran.0 x.key ran.1.shown ran.1.left x.stays)
 
   -- if each call keeps a fact about the number of calls, the number of entries that stay, and the closure's state, the fact
   -- holds at the end

@@ -1,13 +1,11 @@
 -- What an iteration leaves of a map, if it calls a closure for each entry and keeps or drops the entry.
 -- For the crates of maps, runs and callers.
 use Rattle.std.proofs.Common.{◌≡◌, Bool, cond, List, [], ◌∷◌, ◌++◌, append-nil, Some, None, is_some, refl, ap, subst, ◌∙◌, arith}
+use Rattle.slotmap_core.specs.Words.{Mut, Called, Takes, FoldsTo, MutBor, find, Key, key_cmp, IsListing, IsListingBut, with_entries, Visit, CallsAt, CallableOnEach, seen, kept}
+use Rattle.slotmap_core.proofs.General.ListingLemmas.{with_entries_push, with_entries-empty, insert-with_entries, remove-with_entries, unlisted_where_same, IsListingBut-start, IsListingBut-take}
+use Rattle.slotmap_core.proofs.General.ListingLemmas.{get-with_entries, insert-remove, unlisted, IsListingBut-done}
 use denote.Param.Always.{always_mut, mut_next}
 use Rattle.std.specs.FinMap as map
-use Rattle.slotmap_core.specs.Words.{Mut, Called, Takes, FoldsTo, MutBor, find, Key, key_cmp, IsListing, IsListingBut, with_entries, Visit, CallsAt}
-use Rattle.slotmap_core.specs.Words.{CallableOnEach, seen, kept}
-use Rattle.slotmap_core.proofs.General.ListingLemmas.{get-with_entries, with_entries_push, with_entries-empty, insert-remove, insert-with_entries}
-use Rattle.slotmap_core.proofs.General.ListingLemmas.{remove-with_entries, unlisted, unlisted_where_same, IsListingBut-start, IsListingBut-take}
-use Rattle.slotmap_core.proofs.General.ListingLemmas.{IsListingBut-done}
 
 -- what a call saw and left, as a visit
 pub CallsAt-called : {F K V : Type 0} (g : Mut F (K × (MutBor V × Unit {0})) (Bool × (MutBor V × Unit {0}))) {f f' : F} {key : K}
