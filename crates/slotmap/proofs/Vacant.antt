@@ -25,7 +25,8 @@ len-subset (suc n) s t len within =
     let some = some_item s n (set.items s) refl len in
     let a = item_removed s some.0 some.1 in
     let b = item_removed t some.0 (within some.0 some.1) in
-    let rest = len-subset n (set.remove s some.0) (set.remove t some.0) (omega arith) (λ q there. grind (arith, set.contains-remove keys_total s some.0 q, set.contains-remove keys_total t some.0 q, within q)) in
+    let rest = len-subset n (set.remove s some.0) (set.remove t some.0) (omega arith)
+    (λ q there. grind (arith, set.contains-remove keys_total s some.0 q, set.contains-remove keys_total t some.0 q, within q)) in
     omega arith
 
 module _ {V : Type 0} (old new : Content V) where

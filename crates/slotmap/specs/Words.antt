@@ -7,7 +7,8 @@ pub use Rattle.slotmap_core.specs.declared.commands.Reply.TheVariants.{Drained a
 pub use Rattle.slotmap_core.specs.declared.joined.JoinedReply.TheVariants.{Key as JoinedKey, Full as JoinedFull, Memory as JoinedMemory, Taken as JoinedTaken, Old as JoinedOld, NoRoom as JoinedNoRoom}
 pub use Rattle.slotmap_core.specs.declared.joined.JoinedReply.TheVariants.{Looked as JoinedLooked, TakenSecond as JoinedTakenSecond, Done as JoinedDone, NotDetached as JoinedNotDetached}
 pub use Rattle.slotmap_core.specs.declared.joined.JoinedReply.TheVariants.{NoKey as JoinedNoKey, NoKeyFirst as JoinedNoKeyFirst, NoKeySecond as JoinedNoKeySecond}
-pub use Rattle.slotmap_core.specs.declared.secondary.SecondaryReply.TheVariants.{Old as SideOld, Memory as SideMemory, Looked as SideLooked, Flag as SideFlag, Taken as SideTaken, Entry as SideEntry, Len as SideLen}
+pub use Rattle.slotmap_core.specs.declared.secondary.SecondaryReply.TheVariants.{Old as SideOld, Memory as SideMemory, Looked as SideLooked, Flag as SideFlag, Taken as SideTaken, Entry as SideEntry}
+pub use Rattle.slotmap_core.specs.declared.secondary.SecondaryReply.TheVariants.{Len as SideLen}
 -- a plain command as one of a list in which keys can be detached: what makes it, for the laws that speak of both kinds of lists
 pub use Rattle.slotmap_core.specs.declared.commands.DetachCommand.TheVariants.{Plain as PlainCommand}
 pub use Rattle.slotmap_core.specs.declared.commands.Command.TheVariants.{Get as GetCommand, Remove as RemoveCommand}
