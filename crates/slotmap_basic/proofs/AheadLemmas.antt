@@ -4,7 +4,9 @@ use Rattle.std.proofs.Common.{◌≡◌, ◌+◌, ◌%◌, ◌^◌, ◌<◌, ◌
 use Rattle.slotmap_core.proofs.Common.{Key, Content, IsContent, with_value, length-map, slice_get-map, get_or_from_slice_get, slice_get-get_or, keys_total, get-remove_other, same_live, removed_places}
 use Rattle.slotmap_core.proofs.Common.{IsLive, places, key, Removes, ℕ}
 use Rattle.slotmap_slots.specs.Slot.{Slot, version_at, AreSlotsOf}
-use Rattle.slotmap_basic.specs.{Ahead.KnowsLiveKeys, Columns.AllEven, Columns.IsNextOdd, Columns.versions_of, Columns.NoneLive, Odds.IsAhead, declared.columns.odds.OddCursor.OddCursor}
+use Rattle.slotmap_basic.specs.{Ahead.KnowsLiveKeys, Odds.IsAhead}
+use Rattle.slotmap_basic.specs.Columns.{AllEven, IsNextOdd, versions_of, NoneLive}
+use Rattle.slotmap_basic.specs.declared.columns.odds.OddCursor.{OddCursor}
 use Rattle.slotmap_slots.proofs.SlotLemmas.{live_slot, get-live_slot}
 use Rattle.slotmap_slots.proofs.SettledLemmas.{settled_valid, settled_places, settled_fits, settled_present}
 use Rattle.slotmap_basic.proofs.OddsLemmas.{odd_within, ahead_same}

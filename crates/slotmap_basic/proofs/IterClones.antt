@@ -3,7 +3,8 @@ use Rattle.std.proofs.Common.{◌+◌, ◌∷◌, ℕ, List, [], drop, Option, N
 use Rattle.slotmap_core.proofs.Common.{AllZip, IsCloneOf, AreClones, zip_length, zip_left, zip_drop, clone_is_some}
 use Rattle.slotmap_slots.specs.Slot.{AreSlotClones}
 use Rattle.slotmap_slots.specs.declared.layout.Use.{Use}
-use Rattle.slotmap_basic.specs.{Columns.zip_slots, Iter.pairs_from, Iter.pairs_left, Iter.IsIter}
+use Rattle.slotmap_basic.specs.Columns.{zip_slots}
+use Rattle.slotmap_basic.specs.Iter.{pairs_from, pairs_left, IsIter}
 
 -- clones of optional values, as the impl of `Clone` for them says it
 pub option_clones : {V : Type 0} (is_clone : V → V → Type 0) (R : Option V → Option V → Type 0) → ((w : V) → R None (Some w) → ⊥) → ((v : V) → R (Some v) None → ⊥)

@@ -3,9 +3,10 @@ use native.Mathlib.Decide.{dec_lt}
 use Rattle.std.proofs.Common.{◌≡◌, ◌≢◌, ◌+◌, ◌-◌, ◌*◌, ◌/◌, ◌%◌, ◌^◌, ◌<◌, ◌≤◌, ℕ, zero, suc, List, cond, eqb, length, get_or, slice_get, Some, sym, ap}
 use Rattle.slotmap_core.proofs.Common.{arith, bit_at-zero, bit_at-suc, bit_at_lowest, bit_at_and, bit_at_set_same, bit_at_set_other, bit_at_ones, get_or_from_slice_get, slice_get_within, found_within}
 use Rattle.slotmap_core.proofs.Common.{bit_at, ◌∙◌, w64, bit_and, bit_or, min, max, subst}
+use Rattle.slotmap_basic.specs.Columns.{AllEven, IsNextOdd}
+use Rattle.slotmap_basic.specs.Odds.{AreOdd, AllOdd, IsRun, IsFound, HasOdds, IsAhead}
 use lib.Bits.{and_mask}
 use lib.ListN.{get_or-eq_default}
-use Rattle.slotmap_basic.specs.{Columns.AllEven, Columns.IsNextOdd, Odds.AreOdd, Odds.AllOdd, Odds.IsRun, Odds.IsFound, Odds.HasOdds, Odds.IsAhead}
 
 -- ---- a lane
 not_zero : (r : ℕ) → r < 2 → 1 - cond {A = ℕ} (eqb r 0) 1 0 ≡ r

@@ -6,7 +6,9 @@ use Rattle.slotmap_core.proofs.Common.{IsKey, Content, Vacant, live, IsSome, ref
 use Rattle.slotmap_slots.specs.Slot.{Slot, IsSlot, IsSound, AreSlotsOf, vacancies, place_by, places_of}
 use Rattle.slotmap_slots.specs.declared.layout.Use.{Use}
 use Rattle.slotmap_slots.specs.declared.layout.Use.TheVariants.{InUse, Free, Detached, Retired}
-use Rattle.slotmap_basic.specs.{Columns.zip_slots, Columns.versions_of, Columns.AllEven, Columns.IsNextOdd, Odds.AllOdd, Iter.pairs_from, Iter.pairs_left, Iter.IsIter}
+use Rattle.slotmap_basic.specs.Columns.{zip_slots, versions_of, AllEven, IsNextOdd}
+use Rattle.slotmap_basic.specs.Odds.{AllOdd}
+use Rattle.slotmap_basic.specs.Iter.{pairs_from, pairs_left, IsIter}
 use Rattle.slotmap_slots.proofs.SlotLemmas.{slots_fit}
 use Rattle.slotmap_basic.proofs.ColumnLemmas.{zip-length, zip-at}
 use Rattle.std.specs.FinMap as map

@@ -3,9 +3,9 @@ use Rattle.std.specs.FinMap as map
 use Rattle.std.proofs.Common.{◌≡◌, ◌+◌, ◌<◌, ◌≤◌, ◌∷◌, ◌++◌, ℕ, Bool, true, false, cond, inl, List, [], Some, is_some, refl, sym, ap, subst, ◌∙◌, arith}
 use Rattle.slotmap_core.proofs.Contents.IndexLemmas.{from_index-jump}
 use Rattle.slotmap_core.specs.Words.{MutBor}
-use Rattle.slotmap_core.proofs.Common.{Mut, Takes, FoldsTo, Key, Content, IsContent, IsLive, Visit, CallsAt, CallableOnEach, RetainsBy, Removes, with_value}
-use Rattle.slotmap_core.proofs.Common.{FoldsTo-push, from_index, from_index-start, NoneBelow, key_cmp, same_live, Swept, Swept-start, Swept-on, Swept-next, Swept-removed, IsNextLive, remove-insert}
-use Rattle.slotmap_core.proofs.Common.{Keyed-from_start, Keyed-next, Keyed-same, Keyed-may_come, Keyed-done, Visits, Visits-listed, Visits-stay}
+use Rattle.slotmap_core.proofs.Common.{Mut, Takes, FoldsTo, Key, Content, IsContent, IsLive, Visit, CallsAt, CallableOnEach, RetainsBy, Removes, with_value, FoldsTo-push, from_index, from_index-start}
+use Rattle.slotmap_core.proofs.Common.{NoneBelow, key_cmp, same_live, Swept, Swept-start, Swept-on, Swept-next, Swept-removed, IsNextLive, remove-insert, Keyed-from_start, Keyed-next, Keyed-same}
+use Rattle.slotmap_core.proofs.Common.{Keyed-may_come, Keyed-done, Visits, Visits-listed, Visits-stay}
 
 -- if no key is below an index, the part from it on is the map
 pub from_index-all : {V : Type 0} (i : ℕ) (m : map.FinMap key_cmp V) → NoneBelow m i → from_index i m ≡ m

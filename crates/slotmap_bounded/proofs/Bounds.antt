@@ -1,13 +1,12 @@
 -- A content with another room: what each call of the map does to it.
-use Rattle.std.proofs.Common.{◌≡◌, ℕ, ◌+◌, ◌-◌, ◌<◌, ◌≤◌, ◌∙◌, true, false, List, Option, Some, None, subst, cond, if◌then◌else◌}
-use Rattle.std.proofs.Common.{is_some, inl, inr, refl, sym, ap, arith}
-use Rattle.std.specs.FinMap as map
-use Rattle.std.specs.FinSet as set
-use Rattle.std.specs.Ordering.{nat_cmp}
-use Rattle.std.specs.Cmp.{nat_cmp_total}
+use Rattle.std.proofs.Common.{◌≡◌, ℕ, ◌+◌, ◌-◌, ◌<◌, ◌≤◌, ◌∙◌, true, false, List, Option, Some, None, subst, cond, if◌then◌else◌, is_some, inl, inr, refl, sym}
+use Rattle.std.proofs.Common.{ap, arith}
+use Rattle.std.specs.{Ordering.nat_cmp, Cmp.nat_cmp_total}
 use Rattle.slotmap.specs.Words.{Key, key_cmp, Content, IsContent, IsLive, IsNew, Inserts, Removes, MakesRoom, StaysValid, IsCloneBy, IsCloneOf, is_last, places, used, with_value}
 use Rattle.slotmap.proofs.Callers.{clone_len, inserted_len, get-insert_here, leaves_by_removal, len_removed, keys_total, exact_keys, same_or_other, get-insert_other}
 use Rattle.slotmap_bounded.specs.Bounded.{IsBounded, bounded}
+use Rattle.std.specs.FinMap as map
+use Rattle.std.specs.FinSet as set
 
 -- a write keeps a content well formed
 module _ {V : Type 0} (c : Content V) (well : IsContent true c) (k : Key) (live : IsLive c k) (v : V) where

@@ -1,10 +1,7 @@
 -- The keys of a content by their indices, and lists of keys by those of indices.
 use Rattle.std.proofs.Common.{◌≡◌, ◌≢◌, ℕ, ◌<◌, ◌≤◌, Bool, true, false, cond, not, if◌then◌else◌, nat_eq, Option, Some, None, IfSome, IfNone, List, [], ◌∷◌}
 use Rattle.std.proofs.Common.{◌++◌, is_some, unwrap_or, refl, sym, ap, ◌∙◌, inl, inr, arith, eq-eqb, eqb-true}
-use Rattle.std.specs.Option.{option_map}
-use Rattle.std.specs.List.{find, list_any}
-use Rattle.std.specs.Ordering.{eq_by_cmp}
-use Rattle.std.specs.FinMap as map
+use Rattle.std.specs.{Option.option_map, List.find, List.list_any, Ordering.eq_by_cmp}
 use Rattle.std.proofs.lemmas.List.{map-append}
 use Rattle.slotmap.specs.Words.{Key, key_cmp, Content, Inserts, IsContent, IsLive, null_key}
 use Rattle.slotmap.proofs.Callers.{exact_keys, get-insert_other, itself, keys_total, same_or_other, tied}
@@ -13,6 +10,7 @@ use Rattle.slotmap_keylist.proofs.Counts.{is_itself, is_other, one_other, times_
 use Rattle.slotmap_links.specs.Lists.{times as often, without as without_number, first_or, last_or as last_number}
 use Rattle.slotmap_links.proofs.Counts.{times_first as often_first, times_joined as often_joined, one_itself as number_itself, is_other as other_number, same as same_number}
 use Rattle.slotmap_bounded.specs.Indices.{AreApart, AreIndices, HasKey, HaveIndices, found_at, key_at, keys_at}
+use Rattle.std.specs.FinMap as map
 
 -- the first key that passes a test is in the list, and where one passes it there is a first
 first_found : (p : Key → Bool) (ks : List Key) (k : Key) → find p ks ≡ Some k → (p k ≡ true) × (list_any (eq_by_cmp key_cmp k) ks ≡ true)

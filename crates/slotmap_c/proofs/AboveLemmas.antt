@@ -1,9 +1,9 @@
 -- The keys of an index above a number: one step of `list_after`, and its end. For this crate alone.
 use Rattle.std.proofs.Common.{◌≡◌, ℕ, ◌+◌, ◌<◌, ◌≤◌, [], ◌∷◌, Some, true, refl, sym, ap, subst, ◌∙◌, arith}
-use Rattle.std.specs.FinMap as map
 use Rattle.slotmap_core.proofs.Common.{Content, Key, key_cmp, IsContent, IsLive, from_index, from_index-end, in_from, alone_at, entries_first, entries_none, is_some}
 use Rattle.slotmap_core.proofs.Contents.IndexLemmas.{get_from, from_index-jump, from_index-take}
 use Rattle.slotmap_c.specs.Calls.{above}
+use Rattle.std.specs.FinMap as map
 
 module _ (c : Content ℕ) (i : ℕ) where
   -- the first of these keys, and those above it

@@ -2,12 +2,12 @@
 use Rattle.std.specs.FinMap as map
 use Rattle.std.specs.FinSet as set
 use Rattle.std.proofs.Common.{◌≡◌, ℕ, Bool, false, not, None, length, min, is_some, refl, sym, subst, ap, ◌∙◌, inr, arith}
-use lib.Dec.{T}
 use Rattle.slotmap_core.proofs.Common.{Content, Key, key_cmp, IsLive, keys_total, exact_keys}
 use Rattle.slotmap_c.proofs.AboveLemmas.{none_above}
 use Rattle.slotmap_c.specs.Calls.{FindSays, ReattachSays, NextSays, above}
 use Rattle.slotmap_c.specs.Held.{nothing}
 use Rattle.slotmap_c.specs.Status.{not_live, not_detached, no_more}
+use lib.Dec.{T}
 
 module _ (m : Content ℕ) (is : m ≡ nothing) where
   found : (k : Key) → map.get m.live k ≡ None

@@ -1,13 +1,11 @@
 -- What a closed handle of a side table reads as, and which keys a put leaves out. For this crate alone.
 use Rattle.std.specs.FinMap as map
 use Rattle.std.proofs.Common.{◌≡◌, ℕ, Bool, true, false, not, Option, Some, None, is_some, nat_cmp, if◌then◌else◌, refl, sym, subst, ap, ◌∙◌, arith}
-use lib.Dec.{T}
 use Rattle.slotmap_core.specs.Words.{Key, Pairs, ffi, get, contains_key, put, remove, entry, has_entry, value_at}
-use Rattle.slotmap_core.proofs.SecondaryMaps.SecondaryLemmas.{put_bound}
-use Rattle.slotmap_core.proofs.SecondaryMaps.AtIndexLemmas.{in_own}
+use Rattle.slotmap_core.proofs.SecondaryMaps.{SecondaryLemmas.put_bound, AtIndexLemmas.in_own}
 use Rattle.slotmap_secondary.specs.Content.{SideContent}
-use Rattle.slotmap_c.specs.Side.{no_side}
-use Rattle.slotmap_c.specs.SideCalls.{numbered}
+use Rattle.slotmap_c.specs.{Side.no_side, SideCalls.numbered}
+use lib.Dec.{T}
 
 module _ (s : SideContent ℕ) (is : s ≡ no_side) where
   pub no_value : (k : Key) → get s.pairs k ≡ None

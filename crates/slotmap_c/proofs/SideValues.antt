@@ -1,5 +1,7 @@
 -- How the handle of a side table lies in the machine, as `Values` has it of a map's. Assumes `Logic`.
 use Rattle.std.proofs.Common.{◌≡◌, List, [], ◌∷◌, ◌++◌, refl, subst}
+use Rattle.slotmap_c.proofs.Values.{word}
+use Rattle.slotmap_c.specs.Side.{side_held}
 use seplogic.Ra.Ura.{Ura}
 use mir.Val.{Val, vstruct, of_list}
 use types.Logic.{Logic}
@@ -10,8 +12,6 @@ use denote.RawPtr.{ptr_val}
 use denote.Steps.{nothing}
 use denote.Struct.Struct.{within}
 use denote.Struct.Owning.{shape}
-use Rattle.slotmap_c.proofs.Values.{word}
-use Rattle.slotmap_c.specs.Side.{side_held}
 use Rattle.slotmap_c.specs.contracts.side.handle.SideHandle as handle
 
 abbrev pub SideRow : RattleType

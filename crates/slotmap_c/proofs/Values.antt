@@ -6,6 +6,11 @@
 --     unboxed_out, unboxed_in         a box that was taken apart is its pair, the block and the allocator
 --     tuple_out                       so is the tuple that the library takes it apart into
 use Rattle.std.proofs.Common.{◌≡◌, List, [], ◌∷◌, ◌++◌, refl, ap, subst, lit<}
+use Rattle.core.specs.declared.alloc.Allocator.{Ghosts}
+use Rattle.std_alloc.specs.Box.Ownership.{box_owns}
+use Rattle.core.specs.Ptr.{points_to}
+use Rattle.std.proofs.GlobalToken.{dealloc_token-Testable}
+use Rattle.slotmap_c.specs.Held.{held, may_free}
 use mathlib.Core.Bool.{Bool, true, false, ◌&&◌}
 use lib.Dec.{T}
 use seplogic.Ra.Ura.{Ura}
@@ -27,11 +32,6 @@ use denote.Steps.{nothing, peeks, only}
 use denote.Struct.Struct.{within}
 use denote.Struct.Owning.{shape}
 use denote.Struct.Tuple.{Tuple}
-use Rattle.core.specs.declared.alloc.Allocator.{Ghosts}
-use Rattle.std_alloc.specs.Box.Ownership.{box_owns}
-use Rattle.core.specs.Ptr.{points_to}
-use Rattle.std.proofs.GlobalToken.{dealloc_token-Testable}
-use Rattle.slotmap_c.specs.Held.{held, may_free}
 use Rattle.slotmap_c.specs.contracts.handle.Handle as handle
 use Rattle.slotmap_c.specs.contracts.unboxed.Unboxed as unboxed
 

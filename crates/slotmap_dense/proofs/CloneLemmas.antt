@@ -2,7 +2,8 @@
 use Rattle.std.specs.FinMap as map
 use Rattle.std.proofs.Common.{◌∷◌, zip, ℕ, zero, suc, List, [], slice_get, Option, None, Some, refl}
 use Rattle.slotmap_core.proofs.Common.{AllZip, ClonesEqual, IsCloneOf, AreClones, Content, IsCopy, IsCloneBy, Key, same_from_all_zip}
-use Rattle.slotmap_dense.specs.{Dense.Dense, Dense.SameOrder, Dense.ClonesInOrder, Packed.IsPacked, Packed.dense_of, Packed.at_position}
+use Rattle.slotmap_dense.specs.Dense.{Dense, SameOrder, ClonesInOrder}
+use Rattle.slotmap_dense.specs.Packed.{IsPacked, dense_of, at_position}
 use Rattle.slotmap_dense.proofs.PackedLemmas.{get-packed}
 
 module _ {V : Type 0} (is_clone : V → V → Type 0) where

@@ -8,7 +8,8 @@ use Rattle.slotmap_core.specs.declared.serial.SlotRecord.{SlotRecord}
 use Rattle.slotmap_core.specs.declared.errors.SlotsError.{SlotsError}
 use Rattle.slotmap_core.specs.declared.errors.SlotsError.TheVariants.{TooMany, FirstNotEmpty, Inconsistent, Memory}
 use Rattle.slotmap_dense.specs.Packed.{IsPacked, IsSound, live_of, dense_of}
-use Rattle.slotmap_dense.proofs.{PackedLemmas.IsPacked-none, PackedLemmas.IsPacked-push, PackedLemmas.live-push, WellFormed.same_keys, LastKeyLemmas.keys_last}
+use Rattle.slotmap_dense.proofs.PackedLemmas.{IsPacked-none, IsPacked-push, live-push}
+use Rattle.slotmap_dense.proofs.{WellFormed.same_keys, LastKeyLemmas.keys_last}
 
 -- what a list with one more record holds
 module _ {V : Type 0} (records : List (SlotRecord V)) (made : SlotRecord V) where

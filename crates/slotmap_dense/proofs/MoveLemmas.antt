@@ -4,7 +4,8 @@ use Rattle.std.proofs.Common.{◌≡◌, ◌<◌, ◌≤◌, ◌∷◌, ◌++◌
 use Rattle.slotmap_core.proofs.Common.{Key, IsKey, Content, IsContent, IsDetached, Inserts, Removes, Detaches, Reattaches, length_push, slice_get_within, common_steps, offer_unused, none_of, false_of}
 use Rattle.slotmap_core.proofs.Common.{used, most}
 use Rattle.slotmap_dense.specs.Packed.{IsPacked, IsSound, live_of, dense_of}
-use Rattle.slotmap_dense.proofs.{SwapRemoveLemmas.length-swap_remove, PackedLemmas.live-push, PackedLemmas.rest-closed, PackedLemmas.IsPacked-push, WellFormed.same_keys}
+use Rattle.slotmap_dense.proofs.{SwapRemoveLemmas.length-swap_remove, WellFormed.same_keys}
+use Rattle.slotmap_dense.proofs.PackedLemmas.{live-push, rest-closed, IsPacked-push}
 
 -- if the map isn't full, the offer is a key
 pub offer_key : {reuses : Bool} {V : Type 0} (c : Content V) → IsContent reuses c → used c < most → IsKey c.offer

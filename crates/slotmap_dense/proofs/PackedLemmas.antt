@@ -5,7 +5,8 @@ use Rattle.std.proofs.Common.{◌≡◌, ◌+◌, ◌-◌, ◌<◌, ◌≤◌, �
 use Rattle.slotmap_core.proofs.Common.{slice_get_cases, slice_get_within, length-zip, get_after_insert, get_after_remove, slice_get-set_same, slice_get-set_other, slice_get_push, slice_get_push_other}
 use Rattle.slotmap_core.proofs.Common.{IsListing, ◌∙◌, nat_tests, same_Some, length_push, length-drop, get_or-drop, keys_total, exact_keys, get_removed, len_inserted, len_removed, get_inserted}
 use Rattle.slotmap_core.proofs.Common.{find, Key, key_cmp, Option, Some, None, is_some, refl, ap, arith, cases_lt, gets, tied, itself, get_left, same_at, get_other, at_push, ℕ}
-use Rattle.slotmap_dense.specs.{Dense.put_beside, Packed.IsPacked, Packed.IsGapped, Packed.live_of, Packed.at_position, Rest.rest_of}
+use Rattle.slotmap_dense.specs.{Dense.put_beside, Rest.rest_of}
+use Rattle.slotmap_dense.specs.Packed.{IsPacked, IsGapped, live_of, at_position}
 use Rattle.slotmap_dense.proofs.SwapRemoveLemmas.{length-swap_remove, swap_remove_there, swap_remove_other, zip-push, find-there, find-absent, len-zip, put_beside-at}
 
 slice_get-drop : {X : Type 0} (n : ℕ) (xs : List X) (i : ℕ) → slice_get (drop n xs) i ≡ slice_get xs (n + i)

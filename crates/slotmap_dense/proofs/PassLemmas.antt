@@ -6,9 +6,13 @@ use Rattle.slotmap_core.proofs.Common.{CallableOnEach, map as list_map, slice_ge
 use Rattle.slotmap_core.proofs.Common.{with_items, ◌∙◌, FoldsTo-push, length-set, remove-insert, Leaves-refl, Leaves-trans, Visits-start, Visits-call, Visits-rest, Visits-listed, Visits-stay}
 use Rattle.slotmap_core.proofs.Common.{Mut, Called, FoldsTo, Content, Key, Visit, CallsAt, Leaves, Some, is_some, refl, sym, ap, subst, take_at, same_live, Visits}
 use Rattle.slotmap_dense.specs.Pass.{Stage, stage, Holding, Calls, Stays, Rejects, Passes, MayPass, beside, packed_order}
-use Rattle.slotmap_dense.specs.{Dense.Dense, Dense.IsDense, Dense.with_value_of, Packed.IsSound, Packed.dense_of, Packed.at_position, Retain.RetainsPacked, Rest.rest_of, Rest.LeavesFrom}
-use Rattle.slotmap_dense.proofs.{PackedLemmas.get-packed, RetainLemmas.SoFar-start, RetainLemmas.SoFar-dropped, WellFormed.IsSound-other, WellFormed.dense-written, WellFormed.IsDense-with_value}
-use Rattle.slotmap_dense.proofs.{RestLemmas.Comes-at, RestLemmas.rest-start, RestLemmas.rest-end, RetainLemmas.SoFar, RetainLemmas.SoFar-kept}
+use Rattle.slotmap_dense.specs.Dense.{Dense, IsDense, with_value_of}
+use Rattle.slotmap_dense.specs.Packed.{IsSound, dense_of, at_position}
+use Rattle.slotmap_dense.specs.{Retain.RetainsPacked, Rest.rest_of, Rest.LeavesFrom}
+use Rattle.slotmap_dense.proofs.PackedLemmas.{get-packed}
+use Rattle.slotmap_dense.proofs.RetainLemmas.{SoFar-start, SoFar-dropped, SoFar, SoFar-kept}
+use Rattle.slotmap_dense.proofs.WellFormed.{IsSound-other, dense-written, IsDense-with_value}
+use Rattle.slotmap_dense.proofs.RestLemmas.{Comes-at, rest-start, rest-end}
 
 -- what is held in one way is held in another too
 pub record Lifts {D E K V : Type 0} (a : Holding D K V) (b : Holding E K V) (lift : D → E) (Holds : D → Type 0) : Type 0 where

@@ -3,7 +3,8 @@ use Rattle.std.proofs.Common.{◌≡◌, ◌+◌, ◌<◌, map as list_map, ℕ,
 use Rattle.slotmap_core.proofs.Common.{Key, Content, Writes, empty_slot, length-map, slice_get-map, slice_get_within, in_contents, odd_of, written-accepted, written-contents, key}
 use Rattle.slotmap_core.specs.declared.serial.SlotRecord.{SlotRecord}
 use Rattle.slotmap_dense.specs.Packed.{IsSound, dense_of, with_packed_value}
-use Rattle.slotmap_dense.proofs.{PackedLemmas.get-packed, PackedLemmas.position_cases, PackedLemmas.value_there, WellFormed.same_keys}
+use Rattle.slotmap_dense.proofs.PackedLemmas.{get-packed, position_cases, value_there}
+use Rattle.slotmap_dense.proofs.WellFormed.{same_keys}
 
 module _ {V : Type 0} (slots : Content ℕ) (keys : List Key) (values : List V) (sound : IsSound slots keys values) (list : List (SlotRecord ℕ)) (writes : Writes slots list) where
   -- a position in the list is that of a value

@@ -2,7 +2,8 @@
 use Rattle.std.specs.FinMap as map
 use Rattle.std.proofs.Common.{◌≡◌, ◌+◌, ◌≤◌, ℕ, List, length, set, drop, slice_get, Some, is_some, sym, ap, ◌∙◌, arith}
 use Rattle.slotmap_core.proofs.Common.{Content, Key, nat_tests, drop_all, slice_get-set_other, keys_total, exact_keys, get_left, get_removed, same_at}
-use Rattle.slotmap_dense.specs.{Dense.Dense, Dense.IsDense, Packed.IsSound, Packed.live_of, Packed.dense_of, Rest.rest_of, Rest.Comes}
+use Rattle.slotmap_dense.specs.{Dense.Dense, Dense.IsDense, Rest.rest_of, Rest.Comes}
+use Rattle.slotmap_dense.specs.Packed.{IsSound, live_of, dense_of}
 use Rattle.slotmap_dense.proofs.PackedLemmas.{position_cases, put-there, get-rest, value_there}
 
 module _ {V : Type 0} (slots : Content ℕ) (keys : List Key) (values : List V) (sound : IsSound slots keys values) (p : ℕ) (k : Key) (stands : slice_get keys p ≡ Some k) where

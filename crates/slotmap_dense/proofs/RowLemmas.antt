@@ -2,7 +2,8 @@
 use Rattle.std.proofs.Common.{◌≡◌, ◌%◌, ◌==◌, ◌∷◌, Option, ℕ, zero, suc, cond, Bool, true, false, List, [], set, get_or, Some, None, IsSome, refl, sym, ap, ◌∙◌}
 use Rattle.slotmap_core.proofs.Common.{map-set, IsCloneOf, zip_self}
 use Rattle.slotmap_slots.specs.Slot.{Slot, payload_at, with_payload, IsSlotClone, AreSlotClones}
-use Rattle.slotmap_dense.specs.{Rows.slot_of_row, Rows.slots_of_rows, Rows.payload_of, declared.rows.Row.Row}
+use Rattle.slotmap_dense.specs.Rows.{slot_of_row, slots_of_rows, payload_of}
+use Rattle.slotmap_dense.specs.declared.rows.Row.{Row}
 
 -- a row with a payload has an odd version
 odd_row : (b : Bool) (n : ℕ) → IsSome (cond b (Some n) None) → b ≡ true

@@ -4,8 +4,11 @@ use Rattle.std.proofs.Common.{◌≡◌, ◌+◌, ◌<◌, ◌≤◌, ◌∷◌,
 use Rattle.slotmap_core.specs.Words.{Vec}
 use Rattle.slotmap_core.proofs.Common.{MakesRoom as SlotsMakeRoom, Detaches, map as list_map, vec_capacity, length_push, slice_get_within, slice_get_read, slice_get-map, slice_get_push, remove_absent}
 use Rattle.slotmap_core.proofs.Common.{with_items, Key, Content, IsContent, used, Keeps, Inserts, Removes, Reattaches, vec_len, refl, sym, ap, subst, length-map, map-append, keys_total, exact_keys}
-use Rattle.slotmap_dense.specs.{declared.DenseSlotMap.TheInside.Inside, Dense.IsDense, Dense.ClosesGap, Dense.with_values_in, Call.StaysDense, Call.GrowsDense, Call.MakesDenseRoom, Packed.at_position}
-use Rattle.slotmap_dense.specs.{Dense.Dense, Rest.rest_of, Rest.LeavesFrom, Packed.IsPacked, Packed.IsSound, Packed.dense_of, Packed.live_of}
+use Rattle.slotmap_dense.specs.declared.DenseSlotMap.TheInside.{Inside}
+use Rattle.slotmap_dense.specs.Dense.{IsDense, ClosesGap, with_values_in, Dense}
+use Rattle.slotmap_dense.specs.Call.{StaysDense, GrowsDense, MakesDenseRoom}
+use Rattle.slotmap_dense.specs.Packed.{at_position, IsPacked, IsSound, dense_of, live_of}
+use Rattle.slotmap_dense.specs.Rest.{rest_of, LeavesFrom}
 use Rattle.slotmap_dense.proofs.PackedLemmas.{IsPacked-cut, IsGapped-removed, get-packed, rest-closed, value_there}
 use Rattle.slotmap_dense.proofs.WellFormed.{dense_well, same_keys, IsSound-other}
 use Rattle.slotmap_dense.proofs.MoveLemmas.{swap_remove_last, IsSound-appended, inserts-dense, reattaches-dense, IsSound-closed, removes-dense, detaches-dense}

@@ -1,5 +1,6 @@
 -- The elements of a list after `swap_remove`, and the entries of two parallel lists.
-use Rattle.std.proofs.{lemmas.List.get_or-map, Common.◌≡◌, Common.◌≢◌, Common.◌+◌, Common.◌-◌, Common.◌<◌, Common.◌∷◌, Common.◌++◌, Common.swap_remove, Common.zip}
+use Rattle.std.proofs.lemmas.List.{get_or-map}
+use Rattle.std.proofs.Common.{◌≡◌, ◌≢◌, ◌+◌, ◌-◌, ◌<◌, ◌∷◌, ◌++◌, swap_remove, zip}
 use Rattle.slotmap_core.proofs.Common.{map as list_map, arith, common_steps, slice_get_cases, nil_from_length, set-append_left, set-append_right, slice_get-set_same, slice_get-set_other, len_inserted}
 use Rattle.slotmap_core.proofs.Common.{eq_by_cmp, key_cmp, slice_get, length-set, length-take, get_or-take, map-set, take-map, length-map, keys_total, exact_keys, itself, option_map, length, get_or}
 use Rattle.slotmap_core.proofs.Common.{find, Key, None, refl, ap, gets, tied, ℕ, zero, suc, cond, List, [], set, take, Some}

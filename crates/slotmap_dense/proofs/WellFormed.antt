@@ -2,7 +2,8 @@
 use Rattle.std.specs.FinMap as map
 use Rattle.std.proofs.Common.{◌≡◌, ◌-◌, ◌≤◌, zip, ℕ, min, true, false, [], Some, List, length, set, refl, ◌∙◌, arith}
 use Rattle.slotmap_core.proofs.Common.{Key, Content, IsContent, IsLive, keys_total, exact_keys, tied, IsContent-with_value, get_inserted, get_other, WriteLaws, length-zip}
-use Rattle.slotmap_dense.specs.{Dense.Dense, Dense.IsDense, Dense.value_of, Dense.with_value_of, Dense.put_beside, Packed.IsSound, Packed.dense_of, Packed.live_of}
+use Rattle.slotmap_dense.specs.Dense.{Dense, IsDense, value_of, with_value_of, put_beside}
+use Rattle.slotmap_dense.specs.Packed.{IsSound, dense_of, live_of}
 use Rattle.slotmap_dense.proofs.PackedLemmas.{contains-packed, len-live, listed, live-written, put-there, IsPacked-none}
 use Rattle.slotmap_dense.proofs.{SwapRemoveLemmas.find-beside, SwapRemoveLemmas.length-put_beside, OverLemmas.SameKeys, OverLemmas.IsContent-over}
 

@@ -1,16 +1,14 @@
 -- What callers of a world cite: loops over the positions of its keys, which change components or remove entities on their way.
-use Rattle.std.proofs.Common.{◌≡◌, ◌≢◌, ◌⊎◌, ℕ, zero, suc, ◌+◌, ◌-◌, ◌<◌, ◌≤◌, true, false, Some, List}
-use Rattle.std.proofs.Common.{Option, None, IfSome, IfNone, swap_remove}
-use Rattle.std.proofs.lemmas.Grind.{common_steps}
-use Rattle.std.proofs.Common.{[], ◌∷◌, length, zip, slice_get, get_or, map as list_map, inl, inr, refl, sym, ap, ◌∙◌, arith}
-use Rattle.std.specs.FinMap as map
+use Rattle.std.proofs.Common.{◌≡◌, ◌≢◌, ◌⊎◌, ℕ, zero, suc, ◌+◌, ◌-◌, ◌<◌, ◌≤◌, true, false, Some, List, Option, None, IfSome, IfNone, swap_remove, [], ◌∷◌}
+use Rattle.std.proofs.Common.{length, zip, slice_get, get_or, map as list_map, inl, inr, refl, sym, ap, ◌∙◌, arith}
+use Rattle.std.proofs.lemmas.{Grind.common_steps, List.length-map}
 use Rattle.slotmap.specs.Words.{Key, key_cmp, ClosesGap, Dense, IsDense, IsLive}
 use Rattle.std.specs.Option.{option_map}
 use Rattle.std.proofs.lemmas.Option.{slice_get-get_or, slice_get-map, slice_get_within}
-use Rattle.std.proofs.lemmas.List.{length-map}
 use Rattle.std.proofs.lemmas.Slice.Zip.{length-zip}
 use Rattle.slotmap_entities.specs.World.{World}
 use Rattle.slotmap.proofs.Callers.{keys_total, exact_keys, tied, alike_or_apart, get_after_remove, live-remove_other}
+use Rattle.std.specs.FinMap as map
 
 module _ {V : Type 0} where
   fewer : (es : List (Key × V)) → map.len (map.from_entries {R = key_cmp} es) ≤ length es

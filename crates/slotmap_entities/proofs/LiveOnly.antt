@@ -1,9 +1,9 @@
 -- That only entities have components: what a call does to that.
 use Rattle.std.proofs.Common.{◌≡◌, ◌≢◌, ◌⊎◌, Bool, true, false, inl, inr}
-use Rattle.std.specs.FinMap as map
 use Rattle.slotmap.specs.Words.{Key, Content, IsBeside, Pairs, contains_key}
 use Rattle.slotmap.proofs.Callers.{same_or_other, live-remove_other}
 use Rattle.slotmap_entities.specs.World.{OnlyLive}
+use Rattle.std.specs.FinMap as map
 
 module _ {E : Type 0} (c : Content E) (has : Key → Bool) (only : OnlyLive c has) where
   -- the table of one kind has no more

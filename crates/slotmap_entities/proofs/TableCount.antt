@@ -1,12 +1,11 @@
 -- A table beside a map has at most as many components as the map has live keys.
 use Rattle.std.proofs.Common.{◌≡◌, ℕ, zero, suc, ◌≤◌, Some, true, List, [], ◌∷◌, length, refl, ap, ◌∙◌, is_some, arith}
-use Rattle.std.specs.FinMap as map
-use Rattle.std.specs.Cmp.{nat_cmp_total}
-use Rattle.std.specs.Ordering.{nat_cmp}
+use Rattle.std.specs.{Cmp.nat_cmp_total, Ordering.nat_cmp}
 use Rattle.std.proofs.lemmas.Map.Lookups.{exact_unsigned}
 use Rattle.slotmap.specs.Words.{Key, key_cmp, Content, IsBeside, Pairs}
 use Rattle.std.proofs.lemmas.Bool.Decides.{nat_tests}
 use Rattle.slotmap.proofs.Callers.{keys_total, exact_keys, get_after_remove, left_in, len_removed}
+use Rattle.std.specs.FinMap as map
 
 first_found : {V : Type 0} (m : Pairs V) (e : ℕ × (ℕ × V)) (es : List (ℕ × (ℕ × V))) → map.entries m ≡ e ∷ es → map.get m e.0 ≡ Some e.1
 first_found m e es is = map.get-entries m e.0 ∙ ap (map.find nat_cmp e.0) is ∙ grind (arith, nat_tests)

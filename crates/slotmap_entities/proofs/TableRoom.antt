@@ -1,8 +1,8 @@
 -- How many components a table holds once one was put.
 use Rattle.std.proofs.Common.{◌≡◌, ◌+◌, ◌≤◌, Result, Ok, Err, OnOk, OnErr, true, arith}
-use Rattle.std.specs.FinMap as map
 use Rattle.std.specs.Cmp.{nat_cmp_total}
 use Rattle.slotmap.specs.Words.{Key, Pairs, contains_key, put}
+use Rattle.std.specs.FinMap as map
 
 module _ {V : Type 0} where
   put_one : (m : Pairs V) (k : Key) (v : V) → map.len (put m k v) ≤ map.len m + 1

@@ -4,8 +4,8 @@ use Rattle.slotmap_graph.proofs.Common.{ℕ, zero, suc, true, false, Option, Som
 use Rattle.slotmap_graph.proofs.Common.{Key, IsBeside, Pairs, get, contains_key, same_or_other, secondary, same_Some, no_more_than, Edges, Seen, from, AllLed, AreSeen, HasEdge, LeadsBy, marked}
 use Rattle.slotmap_graph.proofs.Common.{ClosesCycle, ComesFromLeft, IsLeft, SeenEdge, times, times_pushed, one_other, subst, IsLive}
 use Rattle.std.specs.Prelude.{IsSome}
-use Rattle.std.specs.FinMap as map
 use Rattle.slotmap_graph.proofs.Searches.{are_none, listed_once, listed_seen, unseen_unlisted}
+use Rattle.std.specs.FinMap as map
 
 -- what holds of the keys of a list, and of one more
 pub each_pushed : (P : Key → Type 0) (ks : List Key) (y : Key) → ((x : Key) → 0 < times x ks → P x) → P y → (x : Key) → 0 < times x (ks ++ y ∷ []) → P x

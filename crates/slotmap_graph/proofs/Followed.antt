@@ -1,11 +1,11 @@
 -- The ends of the edges of a list, one after the other.
 use Rattle.std.proofs.Common.{◌≡◌, ◌+◌, ◌<◌, ◌≤◌, ◌∷◌, ◌++◌, ◌∙◌}
-use Rattle.slotmap_graph.proofs.Common.{ℕ, suc, true, false, cond, Option, Some, None, is_some, List, [], length, get_or, take, option_map, refl, sym, ap, arith}
-use Rattle.slotmap_graph.proofs.Common.{append-nil, append_assoc, nat_eq, option_or, cons_option, find, fold, same_Some, take_more, take_all, take-append-le}
-use Rattle.slotmap_graph.proofs.Common.{filter_map-append, find-append, fold-append, Key, is_key, times, one_itself, times_first, times_joined, SeenEdge, Edges}
-use Rattle.slotmap_graph.proofs.Common.{ListsEdges, from, to, GoesOn, HasEdge, IsBreadthFirst, arrives_at, ends_along, entries_along, first_or, goes_to, marked, MatchOption}
-use Rattle.std.specs.FinMap as map
+use Rattle.slotmap_graph.proofs.Common.{ℕ, suc, true, false, cond, Option, Some, None, is_some, List, [], length, get_or, take, option_map, refl, sym, ap, arith, append-nil, append_assoc, nat_eq}
+use Rattle.slotmap_graph.proofs.Common.{option_or, cons_option, find, fold, same_Some, take_more, take_all, take-append-le, filter_map-append, find-append, fold-append, Key, is_key, times, one_itself}
+use Rattle.slotmap_graph.proofs.Common.{times_first, times_joined, SeenEdge, Edges, ListsEdges, from, to, GoesOn, HasEdge, IsBreadthFirst, arrives_at, ends_along, entries_along, first_or, goes_to}
+use Rattle.slotmap_graph.proofs.Common.{marked, MatchOption}
 use Rattle.slotmap_graph.proofs.Adjacent.{listed_edge}
+use Rattle.std.specs.FinMap as map
 
 -- a walk along a list: what was passed, and what is ahead
 pub walked_on : (passed ahead rest all : List Key) (x : Key) → passed ++ ahead ≡ all → ahead ≡ x ∷ rest → (passed ++ x ∷ []) ++ rest ≡ all

@@ -5,10 +5,10 @@ use Rattle.slotmap_graph.proofs.Common.{Key, key_cmp, Content, IsContent, IsLive
 use Rattle.slotmap_graph.proofs.Common.{get-put_live, get-put_other, leaves_none, leaves_by_removal, inserted_fresh, live-insert_still, is_key, times, without, is_itself, is_other, times_first}
 use Rattle.slotmap_graph.proofs.Common.{one_itself, Lists, AreDisjoint, list_of, often, SeenEdge, Edges, IsJoined, ListsEdges, PutsAlone, SameEdges, edges_at, from, to, touches, HaveIndices}
 use Rattle.slotmap_graph.proofs.Common.{IsThreaded, IsGraph, CoversMore, by_node, IsFree, PutsBehind, with_list, ClonesEqual, IsCloneBy, IsCloneOf, clones_edge, clone_live}
-use Rattle.std.specs.FinMap as map
 use Rattle.slotmap_graph.proofs.Adjacent.{absent_unlisted, listed_edge, none_listed, nothing_listed}
 use Rattle.slotmap_bounded.proofs.Indices.{indices_inserted, indices_still}
 use Rattle.slotmap_graph.proofs.Threaded.{at_none, empty_at, lists, other_nodes, put_free, put_seen, put_threaded, same_seen, threaded_along}
+use Rattle.std.specs.FinMap as map
 
 pub puts_alone : {N V : Type 0} (nodes : Content N) (m : Pairs V) (k : Key) → IsBeside nodes m → IsLive nodes k → IsContent true nodes → PutsAlone m k
 puts_alone nodes m k beside live well = record { here = get-put_live true nodes well m beside k live; others = get-put_other true nodes well m beside k live }

@@ -1,10 +1,10 @@
 -- What is at each of several indices: an edge, and the one after it.
 use Rattle.std.proofs.Common.{◌≡◌, ◌∷◌, ◌∙◌}
-use Rattle.slotmap_graph.proofs.Common.{ℕ, true, false, cond, nat_eq, Some, None, Option, List, [], refl, ap, Key, Content, IsLive}
-use Rattle.slotmap_graph.proofs.Common.{cons_option, is_some, length, suc, first_or, key_after, number_after, option_map, AreIndices, HaveIndices, key_at, keys_at}
+use Rattle.slotmap_graph.proofs.Common.{ℕ, true, false, cond, nat_eq, Some, None, Option, List, [], refl, ap, Key, Content, IsLive, cons_option, is_some, length, suc, first_or, key_after}
+use Rattle.slotmap_graph.proofs.Common.{number_after, option_map, AreIndices, HaveIndices, key_at, keys_at}
 use Rattle.std.specs.List.{filter_map}
-use Rattle.std.specs.FinMap as map
 use Rattle.slotmap_bounded.proofs.Indices.{first_index, first_key, key_is, later_indices, same_at}
+use Rattle.std.specs.FinMap as map
 
 module _ {V : Type 0} {c : Content V} (indices : HaveIndices c) where
   -- as many entries as indices

@@ -2,8 +2,8 @@
 use Rattle.std.proofs.Common.{◌≡◌, ◌≢◌, ◌⊎◌, ◌∙◌}
 use Rattle.slotmap_graph.proofs.Common.{⊎_elim, Bool, true, false, Option, Some, None, not, cond, List, is_some, refl, sym, ap, inl, inr, arith, option_and_then, filter, Key, Content, IsSpent}
 use Rattle.slotmap_graph.proofs.Common.{KeepsSpent, keys, same_or_other, is_key, without, is_other, filter_less, filter_all, SeenEdge, Edges, touches, avoids, ListsEdges}
-use Rattle.std.specs.FinMap as map
 use Rattle.slotmap_graph.proofs.Adjacent.{listed_edge}
+use Rattle.std.specs.FinMap as map
 
 -- this edge touched the node, and is gone for good
 pub record IsTaken {E : Type 0} (node : Key) (old now : Content (SeenEdge E)) (k : Key) : Type 0 where

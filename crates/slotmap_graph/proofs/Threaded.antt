@@ -6,13 +6,12 @@ use Rattle.slotmap_graph.proofs.Common.{is_itself, is_other, one_itself, one_oth
 use Rattle.slotmap_graph.proofs.Common.{owners_stay, list_without, pushed_here, pushed_still, pushed_was, with_list, list_of, Lists, IsIn, IsFree, AreDisjoint, SeenEdge, Edges, edges_at, ends_at}
 use Rattle.slotmap_graph.proofs.Common.{ListsEdges, key_after, key_at, number_after, option_and_then, PutsBehind, SameEdges, AreIndices, HaveIndices, IsThreaded, keys_at, eq-zero-or-pos}
 use Rattle.slotmap_graph.specs.Threads.{by_node}
-use Rattle.slotmap_graph.proofs.Adjacent.{listed_edge}
-use Rattle.slotmap_graph.proofs.Indices.{after_at}
+use Rattle.slotmap_graph.proofs.{Adjacent.listed_edge, Indices.after_at}
 use Rattle.slotmap_links.proofs.Linking.{after_inside}
 use Rattle.slotmap_bounded.proofs.Indices.{by_live, indices_still, key_at_live, keys_same, keys_without, no_key, some_is, times_key}
 use Rattle.std.specs.Ordering.{eq_by_cmp}
-use Rattle.std.specs.FinMap as map
 use Rattle.std.specs.FinMap.Entries.{find, below_all, is_sorted}
+use Rattle.std.specs.FinMap as map
 
 -- a map with what f makes of each key
 module _ {V W : Type 0} (f : Key → W) where

@@ -5,9 +5,8 @@ use Rattle.slotmap_graph.proofs.Common.{inl, inr, arith, eq-zero-or-pos, take-ap
 use Rattle.slotmap_graph.proofs.Common.{one_other, times_first, times_there, times_pushed, times_joined, behind_split, no_more_than, cut_at, split_at, in_midst, cons_not_nil, Seen, SeenEdge, Edges}
 use Rattle.slotmap_graph.proofs.Common.{ByNode, IsJoined, edges_at, ends_at, from, to, GoesOn, LeadsBy, GoesForward, HasCycle, edges_out, passed_of, Sorting, Counting, ComesFromLeft, IsLeft, key_live}
 use Rattle.slotmap_graph.proofs.Common.{key_there, contains_key, is_some}
+use Rattle.slotmap_graph.proofs.{Adjacent.listed_edge, Adjacent.edge_listed, Followed.next_seen, Followed.taken}
 use Rattle.std.specs.FinMap as map
-use Rattle.slotmap_graph.proofs.Adjacent.{listed_edge, edge_listed}
-use Rattle.slotmap_graph.proofs.Followed.{next_seen, taken}
 
 same_turned : (a b : Key) → same a b ≡ same b a
 same_turned a b = elim (same_or_other a b) [

@@ -1,12 +1,12 @@
 -- A content without its values, which is one with the same value for each: what each change of a map does to it.
 use Rattle.std.proofs.Common.{◌≡◌, ℕ, true, Option, Some, None, is_some, refl, sym, ap, ◌∙◌, arith}
-use Rattle.std.specs.FinMap as map
 use Rattle.slotmap.specs.Words.{Key, key_cmp, Content, IsContent, IsLive, IsSpent, KeepsSpent, IsNew, Inserts, Removes, Keeps, Leaves, MakesRoom, IsCopy, IsCloneBy, without_values, with_value, used}
 use Rattle.slotmap.specs.KeysAlone.{keys_of}
 use Rattle.slotmap.proofs.Callers.{clone_copies, contains-keys_of, len-keys_of, spent_alone, alone_spent, keeps_spent_alone, spent_finds_nothing, inserted_not_spent}
 use Rattle.slotmap_keylist.specs.Mapped.{map_values}
 use Rattle.slotmap_keylist.proofs.Mapped.{mapped-new, mapped-inserts, mapped-removes, mapped-keeps, mapped-leaves, mapped-room, mapped-clones, mapped-written, get-mapped, len-mapped, some-mapped}
 use Rattle.slotmap_keylist.proofs.Mapped.{is_mapped}
+use Rattle.std.specs.FinMap as map
 
 same_units : (a b : Option (Unit {0})) → is_some a ≡ is_some b → a ≡ b
 same_units None None is = refl

@@ -1,10 +1,10 @@
 -- What is under each key of a map in which one value is changed.
 use Rattle.std.proofs.Common.{◌≡◌, ◌≢◌, true, Option, Some, None, is_some, refl, ap, ◌∙◌, inl, inr}
 use Rattle.std.specs.Option.{option_map}
-use Rattle.std.specs.FinMap as map
 use Rattle.slotmap.specs.Words.{Key, key_cmp}
 use Rattle.slotmap.proofs.Callers.{get-insert_here, get-insert_other, same_or_other}
 use Rattle.slotmap_keylist.specs.Changed.{changed, changed_in}
+use Rattle.std.specs.FinMap as map
 
 module _ {V : Type 0} (m : map.FinMap key_cmp V) (k : Key) (f : V → V) where
   other_in : (o : Option V) (q : Key) → q ≢ k → map.get (changed_in m k o f) q ≡ map.get m q

@@ -1,13 +1,12 @@
 -- The keys of a finite map, each once.
 use Rattle.std.proofs.Common.{◌≡◌, ◌<◌, ◌≤◌, true, List, [], ◌∷◌, map as list_map, is_lt, refl, sym, ap, ◌∙◌, inl, inr, arith}
-use Rattle.std.specs.FinMap as map
-use Rattle.std.specs.List.{list_any}
-use Rattle.std.specs.Ordering.{eq_by_cmp}
+use Rattle.std.specs.{List.list_any, Ordering.eq_by_cmp}
 use Rattle.std.specs.FinMap.Entries.{below_all, is_sorted}
 use Rattle.slotmap.specs.Words.{Key, key_cmp, same_keys}
 use Rattle.slotmap.proofs.Callers.{same_or_other, keys_total, exact_keys, itself, tied}
 use Rattle.slotmap_keylist.specs.KeyLists.{times}
 use Rattle.slotmap_keylist.proofs.Counts.{one_itself, one_other, times_first}
+use Rattle.std.specs.FinMap as map
 
 -- a list in order has no key twice
 below_none : {V : Type 0} (k : Key) (es : List (Key × V)) → below_all key_cmp k es ≡ true → times k (list_map (λ e. e.0) es) ≡ 0

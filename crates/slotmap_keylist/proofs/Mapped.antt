@@ -1,15 +1,14 @@
 -- A map, or a content, with another value for each of its values: what each change of a map does to it.
-use Rattle.std.proofs.Common.{◌≡◌, ◌&&◌, ℕ, T, Bool, true, false, cond, is_lt, Option, Some, None, is_some, List, [], ◌∷◌, length}
-use Rattle.std.proofs.Common.{map as list_map, refl, sym, ap, ◌∙◌, subst, inl, inr, arith}
-use Rattle.std.specs.Option.{option_map}
-use Rattle.std.specs.Ordering.{eq_by_cmp}
-use Rattle.std.specs.FinMap as map
+use Rattle.std.proofs.Common.{◌≡◌, ◌&&◌, ℕ, T, Bool, true, false, cond, is_lt, Option, Some, None, is_some, List, [], ◌∷◌, length, map as list_map, refl, sym, ap, ◌∙◌, subst}
+use Rattle.std.proofs.Common.{inl, inr, arith}
+use Rattle.std.specs.{Option.option_map, Ordering.eq_by_cmp}
 use Rattle.std.specs.FinMap.Entries.{find, below_all, is_sorted}
 use Rattle.std.proofs.lemmas.List.{length-map}
 use Rattle.slotmap.specs.Words.{Key, key_cmp, Content, IsContent, IsLive, IsNew, Inserts, Removes, Keeps, Leaves, MakesRoom, StaysValid, IsCloneOf, IsCloneBy, with_value, used, places}
 use Rattle.slotmap.proofs.Callers.{keys_total, exact_keys, same_or_other, get-insert_here, get-insert_other}
 use Rattle.slotmap_keylist.specs.Mapped.{map_values, map_content}
 use Rattle.slotmap_keylist.proofs.Shown.{shown_content, shown_inserts, shown_removes, shown_keeps, shown_leaves, shown_makes_room}
+use Rattle.std.specs.FinMap as map
 
 module _ {V W : Type 0} (f : V → W) where
   abbrev changed : Key × V → Key × W

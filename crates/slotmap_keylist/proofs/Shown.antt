@@ -1,9 +1,9 @@
 -- What is known of a content, and of how a call changes it, where it has other live values under the same keys.
 use Rattle.std.proofs.Common.{◌≡◌, ℕ, ◌&&◌, ◌||◌, ◌⊎◌, Bool, not, sym, ap, ◌∙◌, inl, inr, arith}
-use Rattle.std.specs.FinMap as map
-use Rattle.std.specs.FinSet as set
 use Rattle.slotmap.specs.Words.{Key, key_cmp, Content, IsContent, IsSpent, Stands, IsRetired, Inserts, Removes, Keeps, Leaves, MakesRoom, is_last}
 use Rattle.slotmap_keylist.specs.Mapped.{with_live}
+use Rattle.std.specs.FinMap as map
+use Rattle.std.specs.FinSet as set
 
 -- a content with other live values under the same keys
 module _ {V W : Type 0} (c : Content V) (m : map.FinMap key_cmp W) (same : (q : Key) → map.contains_key m q ≡ map.contains_key c.live q) (len : map.len m ≡ map.len c.live) where

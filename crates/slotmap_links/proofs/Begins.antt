@@ -5,11 +5,8 @@ use Rattle.slotmap_links.specs.Lists.{Lists, times, list_of, IsIn, numbers_from}
 use Rattle.slotmap_links.specs.Linked.{Bounds, follow}
 use Rattle.slotmap_links.specs.Segment.{AreBelow, IsSegment, IsTail}
 use Rattle.slotmap_links.specs.Kept.{link_at, listed, lists_by, bounds, unless_nobody, no_ends, AreKept}
-use Rattle.slotmap_links.specs.declared.Ends.{Ends}
-use Rattle.slotmap_links.specs.declared.Link.{Link}
-use Rattle.slotmap_links.proofs.Counts.{is_itself, times_joined}
-use Rattle.slotmap_links.proofs.KeptLists.{list_fits}
-use Rattle.slotmap_links.proofs.Segments.{segment_start, tail_is}
+use Rattle.slotmap_links.specs.declared.{Ends.Ends, Link.Link}
+use Rattle.slotmap_links.proofs.{Counts.is_itself, Counts.times_joined, KeptLists.list_fits, Segments.segment_start, Segments.tail_is}
 use Rattle.slotmap_links.proofs.SeenLists.{list_here, member_stands, not_first, not_later, owner_here, somebody_is}
 
 -- the numbers from a number on

@@ -3,8 +3,7 @@ use Rattle.std.proofs.Common.{◌≡◌, ◌≢◌, ℕ, ◌<◌, ◌-◌, List,
 use Rattle.std.proofs.Math.Nat.{eq-zero-or-pos}
 use Rattle.std.proofs.lemmas.List.{length-set, get_or-set_same, get_or-set_other}
 use Rattle.slotmap_links.specs.Lists.{Lists, times, list_of, with_list, with_owners, IsFree, IsIn, AreDisjoint, without}
-use Rattle.slotmap_links.proofs.Counts.{same_or_other, times_gone}
-use Rattle.slotmap_links.proofs.Covers.{read_padded}
+use Rattle.slotmap_links.proofs.{Counts.same_or_other, Counts.times_gone, Covers.read_padded}
 
 -- where the list of p is another one, all others stay
 module _ (s : Lists) (p : ℕ) (ks : List ℕ) where

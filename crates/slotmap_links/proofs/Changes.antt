@@ -1,6 +1,6 @@
 -- What callers cite: what is in each list once a member was put behind the others, or was taken out.
-use Rattle.std.proofs.Common.{◌≡◌, ℕ, ◌+◌, ◌-◌, ◌<◌, ◌≤◌, ◌⊎◌, List, [], ◌∷◌, ◌++◌, length, length-append, replicate, max, zero, suc}
-use Rattle.std.proofs.Common.{refl, sym, ap, subst, ◌∙◌, inl, inr, arith, Result, Ok, Err, OnOk, OnErr}
+use Rattle.std.proofs.Common.{◌≡◌, ℕ, ◌+◌, ◌-◌, ◌<◌, ◌≤◌, ◌⊎◌, List, [], ◌∷◌, ◌++◌, length, length-append, replicate, max, zero, suc, refl, sym, ap, subst}
+use Rattle.std.proofs.Common.{◌∙◌, inl, inr, arith, Result, Ok, Err, OnOk, OnErr}
 use Rattle.std.proofs.Math.Nat.{eq-zero-or-pos}
 use Rattle.slotmap_links.specs.Lists.{Lists, times, list_of, with_list, with_owners, with_members, IsIn, AreDisjoint, CoversMore, without}
 use Rattle.slotmap_links.proofs.Counts.{same, same_or_other, one_itself, one_other, times_first, times_joined, without_none}

@@ -1,16 +1,13 @@
 -- More owners, or more numbers that may be members: the lists stay, and new ones are empty.
-use Rattle.std.proofs.Common.{◌≡◌, ℕ, ◌-◌, ◌<◌, ◌≤◌, ◌⊎◌, Result, Ok, Err, OnOk, is_ok, if◌then◌else◌, max, map as list_map, List, []}
-use Rattle.std.proofs.Common.{◌∷◌, ◌++◌, length, get_or, take, replicate, zero, suc, refl, sym, ap, subst, ◌∙◌, inl, inr, arith, length-append}
-use Rattle.std.proofs.Math.ListN.{get_or-append, get_or-eq_default}
-use Rattle.std.proofs.Math.Seq.{get_or-append_right}
+use Rattle.std.proofs.Common.{◌≡◌, ℕ, ◌-◌, ◌<◌, ◌≤◌, ◌⊎◌, Result, Ok, Err, OnOk, is_ok, if◌then◌else◌, max, map as list_map, List, [], ◌∷◌, ◌++◌, length}
+use Rattle.std.proofs.Common.{get_or, take, replicate, zero, suc, refl, sym, ap, subst, ◌∙◌, inl, inr, arith, length-append}
+use Rattle.std.proofs.Math.{ListN.get_or-append, ListN.get_or-eq_default, Seq.get_or-append_right}
 use Rattle.std.proofs.lemmas.List.{map-append, length-replicate, take_all, get_or-replicate}
 use Rattle.slotmap_links.specs.Lists.{Lists, times, with_owners, with_members}
 use Rattle.slotmap_links.specs.Linked.{followed}
 use Rattle.slotmap_links.specs.Kept.{bounds_at, link_at, listed, lists_by, bounds, neighbours, nobody, no_ends, no_link, AreKept}
-use Rattle.slotmap_links.specs.declared.Ends.{Ends}
-use Rattle.slotmap_links.specs.declared.Link.{Link}
-use Rattle.slotmap_links.proofs.KeptLists.{kept_empty, seen_owners}
-use Rattle.slotmap_links.proofs.Splicing.{linked_along}
+use Rattle.slotmap_links.specs.declared.{Ends.Ends, Link.Link}
+use Rattle.slotmap_links.proofs.{KeptLists.kept_empty, KeptLists.seen_owners, Splicing.linked_along}
 
 pub below_or_past : (a b : ℕ) → (a < b) ⊎ (b ≤ a)
 below_or_past a b = search arith

@@ -5,10 +5,8 @@ use Rattle.std.proofs.lemmas.List.{length-map, length-set, get_or-set_same, get_
 use Rattle.slotmap_links.specs.Lists.{times, list_of, with_list, AreDisjoint}
 use Rattle.slotmap_links.specs.Linked.{ends_of, followed}
 use Rattle.slotmap_links.specs.Kept.{link_at, listed, lists_by, bounds, nobody, no_ends, AreKept, Relists}
-use Rattle.slotmap_links.specs.declared.Ends.{Ends}
-use Rattle.slotmap_links.specs.declared.Link.{Link}
-use Rattle.slotmap_links.proofs.Counts.{same_or_other, few_below}
-use Rattle.slotmap_links.proofs.Linking.{cons_not_nil}
+use Rattle.slotmap_links.specs.declared.{Ends.Ends, Link.Link}
+use Rattle.slotmap_links.proofs.{Counts.same_or_other, Counts.few_below, Linking.cons_not_nil}
 
 module _ (ends : List Ends) (links : List Link) where
   -- the list that the user sees

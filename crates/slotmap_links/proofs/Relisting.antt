@@ -1,13 +1,12 @@
 -- One list is another one now: what holds of all of them then.
-use Rattle.std.proofs.Common.{◌≡◌, ◌≢◌, ℕ, ◌+◌, ◌-◌, ◌<◌, ◌≤◌, Some, None, cond, nat_eq, List, [], ◌∷◌, ◌++◌, length, refl, sym}
-use Rattle.std.proofs.Common.{ap, ◌∙◌, inl, inr, arith}
+use Rattle.std.proofs.Common.{◌≡◌, ◌≢◌, ℕ, ◌+◌, ◌-◌, ◌<◌, ◌≤◌, Some, None, cond, nat_eq, List, [], ◌∷◌, ◌++◌, length, refl, sym, ap, ◌∙◌, inl, inr}
+use Rattle.std.proofs.Common.{arith}
 use Rattle.std.proofs.Math.Nat.{eq-zero-or-pos}
 use Rattle.slotmap_links.specs.Lists.{times, first_or, last_or}
 use Rattle.slotmap_links.specs.Linked.{Neighbours, ends_of, link_between, AreLinked, AreApart, IsListed}
 use Rattle.slotmap_links.specs.Splice.{with_next, with_prev, own}
 use Rattle.slotmap_links.specs.Kept.{bounds_at, link_at, listed, AreKept, Relists}
-use Rattle.slotmap_links.specs.declared.Ends.{Ends}
-use Rattle.slotmap_links.specs.declared.Link.{Link}
+use Rattle.slotmap_links.specs.declared.{Ends.Ends, Link.Link}
 use Rattle.slotmap_links.proofs.Counts.{same, same_or_other, is_itself, is_other, one_itself, one_other, times_first, times_joined}
 use Rattle.slotmap_links.proofs.Linking.{followed_is, in_midst, linked_put, linked_taken}
 use Rattle.slotmap_links.proofs.Splicing.{spliced, spliced_own, two_neighbours, ends_put, ends_taken, linked_self}

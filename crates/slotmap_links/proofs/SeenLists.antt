@@ -1,14 +1,13 @@
 -- What the two vectors say of the lists that the user sees.
-use Rattle.std.proofs.Common.{◌≡◌, ℕ, ◌<◌, false, Option, Some, None, cond, nat_eq, List, [], ◌∷◌, ◌++◌, length, get_or, refl, sym, ap, subst}
-use Rattle.std.proofs.Common.{◌∙◌, arith, append_assoc, append-nil}
+use Rattle.std.proofs.Common.{◌≡◌, ℕ, ◌<◌, false, Option, Some, None, cond, nat_eq, List, [], ◌∷◌, ◌++◌, length, get_or, refl, sym, ap, subst, ◌∙◌, arith, append_assoc}
+use Rattle.std.proofs.Common.{append-nil}
 use Rattle.std.specs.Vec.{with_items}
 use Rattle.std.specs.declared.vec.Vec.{Vec}
 use Rattle.std.proofs.lemmas.List.{get_or_default, with_items_is}
 use Rattle.slotmap_links.specs.Lists.{Lists, times, first_or, last_or, list_of, with_list, IsFree, IsIn, without, number_after, number_before, put_before, put_behind}
 use Rattle.slotmap_links.specs.Linked.{Bounds, Neighbours}
 use Rattle.slotmap_links.specs.Kept.{listed, lists_by, bounds, neighbours, unless_nobody, no_ends, no_link, AreKept, Relists, IsGap}
-use Rattle.slotmap_links.specs.declared.Ends.{Ends}
-use Rattle.slotmap_links.specs.declared.Link.{Link}
+use Rattle.slotmap_links.specs.declared.{Ends.Ends, Link.Link}
 use Rattle.slotmap_links.proofs.Counts.{is_itself, is_other, one_itself, times_first}
 use Rattle.slotmap_links.proofs.KeptLists.{seen_list, seen_owners, seen_relisted}
 use Rattle.slotmap_links.proofs.Linking.{in_midst, last_or-append, split_at}

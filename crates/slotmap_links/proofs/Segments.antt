@@ -1,10 +1,9 @@
 -- Steps of an iterator along the links of a list, from either end.
-use Rattle.std.proofs.Common.{◌≡◌, ℕ, zero, suc, true, false, cond, nat_eq, ◌-◌, ◌<◌, ◌≤◌, ◌⊎◌, Option, Some, None, List, [], ◌∷◌}
-use Rattle.std.proofs.Common.{◌++◌, length, inl, inr, refl, sym, ap, subst, ◌∙◌, arith, append_assoc, append-nil, length-append}
-use Rattle.slotmap_links.specs.Lists.{first_or, last_or}
+use Rattle.std.proofs.Common.{◌≡◌, ℕ, zero, suc, true, false, cond, nat_eq, ◌-◌, ◌<◌, ◌≤◌, ◌⊎◌, Option, Some, None, List, [], ◌∷◌, ◌++◌, length, inl, inr, refl}
+use Rattle.std.proofs.Common.{sym, ap, subst, ◌∙◌, arith, append_assoc, append-nil, length-append}
+use Rattle.slotmap_links.specs.{Lists.first_or, Lists.last_or, Kept.nobody, Kept.unless_nobody}
 use Rattle.slotmap_links.specs.Linked.{Bounds, Neighbours, link_between, follow, AreLinked}
 use Rattle.slotmap_links.specs.Segment.{AreBelow, IsSegment, IsTail}
-use Rattle.slotmap_links.specs.Kept.{nobody, unless_nobody}
 use Rattle.slotmap_links.proofs.Counts.{one_itself, times_first, times_joined}
 use Rattle.slotmap_links.proofs.Linking.{last_or-append}
 

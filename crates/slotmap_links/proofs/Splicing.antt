@@ -1,6 +1,6 @@
 -- A number that is put into a list that is kept as links, or taken out of it: what is written makes the links of the new list.
-use Rattle.std.proofs.Common.{ℕ, ◌≡◌, ◌≢◌, ◌+◌, ◌-◌, ◌≤◌, Option, Some, None, List, [], ◌∷◌, ◌++◌, length, cond, refl, sym, ap}
-use Rattle.std.proofs.Common.{subst, ◌∙◌, arith, append-nil, length-append}
+use Rattle.std.proofs.Common.{ℕ, ◌≡◌, ◌≢◌, ◌+◌, ◌-◌, ◌≤◌, Option, Some, None, List, [], ◌∷◌, ◌++◌, length, cond, refl, sym, ap, subst, ◌∙◌, arith}
+use Rattle.std.proofs.Common.{append-nil, length-append}
 use Rattle.slotmap_links.specs.Lists.{times, first_or, last_or}
 use Rattle.slotmap_links.specs.Linked.{Bounds, Neighbours, ends_of, followed, AreLinked, Relinks}
 use Rattle.slotmap_links.specs.Splice.{with_next, with_prev, own}

@@ -1,13 +1,12 @@
 -- What the two functions that change links write: it makes the new list.
-use Rattle.std.proofs.Common.{◌≡◌, ◌≢◌, ℕ, ◌+◌, ◌-◌, ◌<◌, ◌≤◌, Option, Some, None, IfSome, cond, nat_eq, List, [], ◌∷◌, ◌++◌}
-use Rattle.std.proofs.Common.{length, get_or, set, refl, sym, ap, ◌∙◌, inl, inr, arith, append_assoc, length-append}
+use Rattle.std.proofs.Common.{◌≡◌, ◌≢◌, ℕ, ◌+◌, ◌-◌, ◌<◌, ◌≤◌, Option, Some, None, IfSome, cond, nat_eq, List, [], ◌∷◌, ◌++◌, length, get_or, set, refl, sym}
+use Rattle.std.proofs.Common.{ap, ◌∙◌, inl, inr, arith, append_assoc, length-append}
 use Rattle.std.proofs.lemmas.List.{length-set, get_or-set_same, get_or-set_other, get_or_default}
 use Rattle.slotmap_links.specs.Lists.{times, first_or, last_or, without}
 use Rattle.slotmap_links.specs.Linked.{Bounds, Neighbours, link_between}
 use Rattle.slotmap_links.specs.Splice.{with_next, with_prev, own}
 use Rattle.slotmap_links.specs.Kept.{bounds_at, link_at, listed, bounds, neighbours, nobody, unless_nobody, no_ends, no_link, AreKept, Relists, IsGap}
-use Rattle.slotmap_links.specs.declared.Ends.{Ends}
-use Rattle.slotmap_links.specs.declared.Link.{Link}
+use Rattle.slotmap_links.specs.declared.{Ends.Ends, Link.Link}
 use Rattle.slotmap_links.proofs.Counts.{same, same_or_other, is_itself, is_other, one_itself, one_other, times_first, times_joined, few_below}
 use Rattle.slotmap_links.proofs.Linking.{first_in, last_in, split_at, without_split}
 use Rattle.slotmap_links.proofs.Relisting.{relists_put, relists_taken}

@@ -1,20 +1,19 @@
 -- The live key with an index, and elements by the indices of their keys.
-use Rattle.std.proofs.Common.{◌≡◌, ◌≢◌, ℕ, ◌<◌, ◌≤◌, true, List, [], ◌∷◌, ◌++◌, length, Option, Some, None, IfSome}
-use Rattle.std.proofs.Common.{IfNone, is_some, inl, inr, refl, sym, ap, subst, ◌∙◌, arith}
-use Rattle.std.specs.List.{cons_option}
-use Rattle.std.specs.Option.{option_map}
-use Rattle.std.specs.FinMap as map
+use Rattle.std.proofs.Common.{◌≡◌, ◌≢◌, ℕ, ◌<◌, ◌≤◌, true, List, [], ◌∷◌, ◌++◌, length, Option, Some, None, IfSome, IfNone, is_some, inl, inr, refl, sym, ap, subst}
+use Rattle.std.proofs.Common.{◌∙◌, arith}
+use Rattle.std.specs.{List.cons_option, Option.option_map}
 use Rattle.std.proofs.lemmas.List.Elements.{filter_map-append}
 use Rattle.slotmap.specs.Words.{Key, key_cmp, Content, IsContent, IsLive}
 use Rattle.slotmap.proofs.Callers.{same_or_other}
-use Rattle.slotmap_links.specs.Lists as numbers
 use Rattle.slotmap_links.specs.Lists.{times}
 use Rattle.slotmap_links.proofs.Counts.{same, times_first, times_joined, one_itself}
 use Rattle.slotmap_bounded.specs.Indices.{AreApart, found_at}
 use Rattle.slotmap_bounded.proofs.Indices.{found_only, found_there, some_is}
 use Rattle.slotmap_list.specs.Sequence.{first_or, last_or}
-use Rattle.slotmap_list.proofs.Elements as keys
 use Rattle.slotmap_list.specs.Kept.{with_value, at_index, elements_at, key_there, AreLiveIndices}
+use Rattle.std.specs.FinMap as map
+use Rattle.slotmap_links.specs.Lists as numbers
+use Rattle.slotmap_list.proofs.Elements as keys
 
 module _ {T : Type 0} (m : map.FinMap key_cmp T) where
   with_value_is : (o : Option Key) (e : Key × T) → with_value m o ≡ Some e → (o ≡ Some e.0) × (map.get m e.0 ≡ Some e.1)

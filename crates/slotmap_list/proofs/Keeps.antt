@@ -1,12 +1,10 @@
 -- What each change of the map and of the links leaves of a list.
-use Rattle.std.proofs.Common.{◌≡◌, ◌≢◌, ℕ, zero, suc, ◌+◌, ◌<◌, ◌≤◌, true, cond, List, [], ◌∷◌, ◌++◌, length, Option, Some, None}
-use Rattle.std.proofs.Common.{is_some, inl, inr, refl, sym, ap, subst, ◌∙◌, arith}
-use Rattle.std.specs.FinMap as map
+use Rattle.std.proofs.Common.{◌≡◌, ◌≢◌, ℕ, zero, suc, ◌+◌, ◌<◌, ◌≤◌, true, cond, List, [], ◌∷◌, ◌++◌, length, Option, Some, None, is_some, inl, inr, refl, sym}
+use Rattle.std.proofs.Common.{ap, subst, ◌∙◌, arith}
 use Rattle.std.proofs.Math.ListN.{get_or-eq_default}
 use Rattle.slotmap.specs.Words.{Key, key_cmp, Content, IsContent, IsLive, Inserts, Removes, Keeps, IsCloneBy, IsCloneOf, AreClones, ClonesEqual, IsNew, without_values, with_value}
 use Rattle.slotmap.proofs.Callers.{keys_total, exact_keys, tied, itself, get-insert_here, get-insert_other, live-insert_still, same_or_other, clone_live}
 use Rattle.slotmap_keylist.proofs.Alone.{alone-written}
-use Rattle.slotmap_links.specs.Lists as numbers
 use Rattle.slotmap_links.specs.Lists.{Lists, list_of, with_list, times, IsFree}
 use Rattle.slotmap_links.proofs.Callers.{list_now, owners_stay}
 use Rattle.slotmap_links.proofs.Counts.{same, same_or_other as same_or_not, one_itself, one_other, times_first, times_joined, times_gone}
@@ -19,6 +17,8 @@ use Rattle.slotmap_list.proofs.Elements.{with_value-split}
 use Rattle.slotmap_list.proofs.Indices.{at_is, at_live, content_apart, element_of, elements_first, in_first, none_at, rest_indices as indices_behind, some_alike, some_at}
 use Rattle.slotmap_list.proofs.Parts.{IsPlace, place_in, part_left, placed, put_between, number_without, element_without}
 use Rattle.slotmap_list.proofs.Seen.{indices, once, inside_if, own, stands}
+use Rattle.std.specs.FinMap as map
+use Rattle.slotmap_links.specs.Lists as numbers
 
 -- how often a number is in a list with one more
 one_more : (i : ℕ) (before : List ℕ) (k : ℕ) (after : List ℕ) → times i (before ++ k ∷ after) ≡ same k i + times i (before ++ after)

@@ -1,21 +1,18 @@
 -- An element that is taken out of its place and put into another.
 use Rattle.std.proofs.Common.{◌≡◌, ◌<◌, true, List, Some, length, is_some, sym, ap, subst, ◌∙◌, arith}
-use Rattle.std.specs.FinMap as map
 use Rattle.slotmap.specs.Words.{Key, Content}
-use Rattle.slotmap_links.specs.Lists as numbers
 use Rattle.slotmap_links.specs.Lists.{Lists, list_of, with_list, times, IsFree, IsIn}
-use Rattle.slotmap_links.proofs.Callers.{list_now, owners_stay}
-use Rattle.slotmap_links.proofs.Counts.{times_gone}
-use Rattle.slotmap_list.specs.Sequence.{value_of}
-use Rattle.slotmap_list.specs.Kept.{elements_at, IsKept}
+use Rattle.slotmap_links.proofs.{Callers.list_now, Callers.owners_stay, Counts.times_gone}
+use Rattle.slotmap_list.specs.{Sequence.value_of, Kept.elements_at, Kept.IsKept}
 use Rattle.slotmap_list.specs.ListPlaces.{has_place, is_move, is_place, moved_to, put_number}
 use Rattle.slotmap_list.specs.declared.place.Place.{Place}
 use Rattle.slotmap_bounded.proofs.Indices.{some_is}
-use Rattle.slotmap_list.proofs.Keeping.{moved_values}
+use Rattle.slotmap_list.proofs.{Keeping.moved_values, Parts.place_there}
 use Rattle.slotmap_list.proofs.Keeps.{elements_moved, free_one, kept_moved, rest_elements}
 use Rattle.slotmap_list.proofs.Moving.{mover_stands, place_left, put_there}
-use Rattle.slotmap_list.proofs.Parts.{place_there}
 use Rattle.slotmap_list.proofs.Seen.{inside_if, no_key_twice, value_at}
+use Rattle.std.specs.FinMap as map
+use Rattle.slotmap_links.specs.Lists as numbers
 
 module _ {T : Type 0} {c : Content T} {s : Lists} (kept : IsKept c s) (k : Key) (place : Place) (can : is_move k place (elements_at c.live (list_of s 0)) ≡ true) where
   abbrev es : List (Key × T)

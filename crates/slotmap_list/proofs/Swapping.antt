@@ -1,6 +1,6 @@
 -- Two elements that change places by two moves.
-use Rattle.std.proofs.Common.{◌≡◌, ◌≢◌, ◌<◌, true, not, ◌&&◌, List, [], ◌∷◌, ◌++◌, None, is_some, if◌then◌else◌, inl, inr, refl, sym}
-use Rattle.std.proofs.Common.{ap, subst, ◌∙◌, arith, append_assoc, append-nil}
+use Rattle.std.proofs.Common.{◌≡◌, ◌≢◌, ◌<◌, true, not, ◌&&◌, List, [], ◌∷◌, ◌++◌, None, is_some, if◌then◌else◌, inl, inr, refl, sym, ap, subst, ◌∙◌, arith}
+use Rattle.std.proofs.Common.{append_assoc, append-nil}
 use Rattle.std.proofs.Math.Nat.{eq-zero-or-pos}
 use Rattle.slotmap.specs.Words.{Key}
 use Rattle.slotmap_list.specs.declared.place.Side.{Side}
@@ -8,8 +8,8 @@ use Rattle.slotmap_list.specs.declared.place.Side.TheVariants.{Before, After}
 use Rattle.slotmap_list.specs.declared.place.Place.TheVariants.{Back, Beside}
 use Rattle.slotmap_list.specs.Sequence.{Sequence, value_of, first_or, key_after, put_again, are_two, IsOnce, Swaps}
 use Rattle.slotmap_list.specs.ListPlaces.{insert_beside, moved_to, before_or_back}
-use Rattle.slotmap_list.proofs.Elements.{one, one_itself, one_other, times, times-append, times-put, times_some, some_there, at_most_once, once_if, absent_before, once_drop, parts_at}
-use Rattle.slotmap_list.proofs.Elements.{value_of-split, without-split, key_after-split, put_after-split, put_before-split}
+use Rattle.slotmap_list.proofs.Elements.{one, one_itself, one_other, times, times-append, times-put, times_some, some_there, at_most_once, once_if, absent_before, once_drop, parts_at, value_of-split}
+use Rattle.slotmap_list.proofs.Elements.{without-split, key_after-split, put_after-split, put_before-split}
 use Rattle.slotmap_list.proofs.Moving.{is_itself, is_other, two}
 
 module _ {T : Type 0} where

@@ -1,7 +1,6 @@
 -- A loop that visits the elements from front to back, and keeps or removes each.
-use Rattle.std.proofs.Common.{◌≡◌, ◌<◌, ◌+◌, ℕ, length, arith, Bool, true, false, cond, List, [], ◌∷◌, ◌++◌, Option, Some, None, IsSome}
-use Rattle.std.proofs.Common.{is_some, inl, inr, refl, sym, ap, subst, ◌∙◌, append_assoc, append-nil}
-use denote.Param.Always.{always_mut, mut_next}
+use Rattle.std.proofs.Common.{◌≡◌, ◌<◌, ◌+◌, ℕ, length, arith, Bool, true, false, cond, List, [], ◌∷◌, ◌++◌, Option, Some, None, IsSome, is_some, inl, inr, refl, sym, ap}
+use Rattle.std.proofs.Common.{subst, ◌∙◌, append_assoc, append-nil}
 use Rattle.std.specs.Fn.{Mut, Called, Takes}
 use Rattle.std.specs.Borrow.{MutBor}
 use Rattle.slotmap.specs.Words.{Key, IsSpent, KeepsSpent, Leaves}
@@ -10,6 +9,7 @@ use Rattle.slotmap_list.specs.Sequence.{Sequence, value_of, first_or, key_after,
 use Rattle.slotmap_list.specs.Retain.{RetainsOne, RetainsEach, CallableInOrder}
 use Rattle.slotmap_list.proofs.Elements.{once-written, same, one_other, times, times-append, times_none, none_there, absent_before, apart_first, itself_first, once_drop, front_of, no_first}
 use Rattle.slotmap_list.proofs.Elements.{value_of-split, key_after-split, without-split, with_value-split}
+use denote.Param.Always.{always_mut, mut_next}
 
 module _ {T : Type 0} where
   -- the elements from a key on, and how many there are

@@ -3,7 +3,8 @@ use Rattle.std.specs.FinSet as set
 use Rattle.slotmap_run.proofs.Common.{◌≡◌, ◌⊎◌, DetachCommand, Reply}
 use Rattle.slotmap_core.proofs.Common.{State, RunGiven, DetachStep, DetachedNotReissued, DetachedReattaches, ReattachBinds, Spares, keys_total, exact_keys, itself, List, Some, true, false, arith}
 use Rattle.slotmap_run.proofs.Runs.{run_split, run_keeps, run_keeps_by}
-use Rattle.slotmap_run.proofs.{MapChanges.changes, Laws.IsGood, Laws.good_stays, Laws.told_new, Laws.weaker, StepCases.detach_machine, StepCases.detached_stays, NewRuns.RunsWell}
+use Rattle.slotmap_run.proofs.{MapChanges.changes, StepCases.detach_machine, StepCases.detached_stays, NewRuns.RunsWell}
+use Rattle.slotmap_run.proofs.Laws.{IsGood, good_stays, told_new, weaker}
 use Rattle.slotmap_core.specs.declared.commands.DetachCommand.TheVariants as detaching
 use Rattle.slotmap_core.specs.declared.commands.Reply.TheVariants as reply
 

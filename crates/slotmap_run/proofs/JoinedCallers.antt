@@ -2,8 +2,7 @@
 use Rattle.slotmap_run.proofs.Common.{◌≡◌, ◌≢◌, ◌∷◌, ◌⊎◌, after_insert, JoinedGiven, JoinedDetachStep, JoinedCommand, JoinedDetachCommand, JoinedReply, keys_total, exact_keys}
 use Rattle.slotmap_run.proofs.Common.{◌+◌, ◌-◌, ◌<◌, ◌++◌, StandsIn, IsIssued, Fresh, Key, LooksAt, Joined, named, StepPut, itself}
 use Rattle.std.specs.List.{AllByRecursion, AllZip}
-use Rattle.slotmap_core.specs.Run.{Run}
-use Rattle.slotmap_core.specs.SecondaryLaw.{Shows}
+use Rattle.slotmap_core.specs.{Run.Run, SecondaryLaw.Shows}
 use Rattle.slotmap_core.specs.Dictionary.{WithDictionary, DictionaryStep, DetachDictionaryStep, after_put, after_take, unused}
 use Rattle.slotmap_core.proofs.General.Maps.{get_inserted, get_other, get_left, in_inserted}
 use Rattle.slotmap_core.proofs.General.Positions.{split_at_two, stands_before, stands_between, at_in_first, at_in_part, zipped_by_positions}

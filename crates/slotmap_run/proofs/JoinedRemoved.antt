@@ -2,8 +2,7 @@
 use Rattle.slotmap_run.proofs.Common.{◌≡◌, JoinedGiven, JoinedStep, JoinedDetachStep, StepRemove, StepDetach, StepReattach, DetachCommand, Plain, JoinedCommand, JoinedDetachCommand, JoinedReply}
 use Rattle.slotmap_run.proofs.Common.{◌∷◌, Detach, Reattach, Reply}
 use Rattle.slotmap_core.proofs.Common.{Content, State, DetachStep, Run, Starts, AllZip, Joined, named, RunsBeside, ℕ, List, [], Option, Some, None, refl, ap, ◌∙◌, subst, arith}
-use Rattle.slotmap_core.specs.JoinedLaw.{JoinedFindsNothing, JoinedRemovedForGood}
-use Rattle.slotmap_core.specs.Secondary.{Pairs}
+use Rattle.slotmap_core.specs.{JoinedLaw.JoinedFindsNothing, JoinedLaw.JoinedRemovedForGood, Secondary.Pairs}
 use Rattle.slotmap_run.proofs.Laws.{Gone, IsGood, good_stays, gone_stays}
 use Rattle.slotmap_run.proofs.{LostKeys.fits_good, StepCases.detach_machine, RemovedKeys.removes_gone, Joins.closed, JoinedCallers.still_named, Runs.run_split, Runs.run_keeps}
 use Rattle.slotmap_core.specs.declared.commands.Command.TheVariants as first

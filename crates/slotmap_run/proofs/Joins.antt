@@ -7,7 +7,8 @@ use Rattle.slotmap_core.proofs.Common.{Content, IsContent, Inserts, Removes, Det
 use Rattle.slotmap_core.proofs.Common.{Key, Keeps, State, Fits, Lasts, Pairs, get, put, Joined, named, noted, None, inl, refl, ap, Result, OnSome, IfNone, OnOk, IfErr, IsErr, zero, List, Option, Some}
 use Rattle.slotmap_core.proofs.Common.{inr, sym, Ok, Err, ℕ, suc, []}
 use Rattle.slotmap_core.specs.declared.commands.Command.TheVariants.{Insert, Remove}
-use Rattle.slotmap_run.proofs.{StepCases.detach_cases, Laws.Shrinks, KnownKeys.fewer, KnownKeys.one_more, KnownKeys.puts, KnownKeys.takes, OtherSteps.keeps, Fits.stands_of}
+use Rattle.slotmap_run.proofs.{StepCases.detach_cases, Laws.Shrinks, OtherSteps.keeps, Fits.stands_of}
+use Rattle.slotmap_run.proofs.KnownKeys.{fewer, one_more, puts, takes}
 use Rattle.slotmap_core.specs.Step as first_step
 use Rattle.slotmap_core.specs.declared.errors.ReattachError.TheVariants as again
 use Rattle.slotmap_core.specs.declared.commands.Reply.TheVariants as first_reply

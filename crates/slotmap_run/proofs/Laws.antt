@@ -4,7 +4,8 @@ use Rattle.std.specs.FinSet as set
 use Rattle.slotmap_run.proofs.Common.{◌≡◌, ◌≢◌, ◌+◌, ◌≤◌, ◌∷◌, ◌⊎◌, in_use, Command, Reply}
 use Rattle.slotmap_core.proofs.Common.{IsDistinct, AllByRecursion, eq_by_cmp, IsIssued, after_insert, empty_state, Unretiring, reply_keys, keys_told, NoKeyTwice, keys_total, exact_keys, in_retired}
 use Rattle.slotmap_core.proofs.Common.{Key, key_cmp, most, State, StandsIn, Fresh, retired, Run, RunGiven, itself, List, [], length, true, false, inl, inr, refl, ap, arith}
-use Rattle.slotmap_run.proofs.{Runs.run_keeps, MapChanges.changes, UsedCounts.IsApart, UsedCounts.bound_held, UsedCounts.no_more_used, UsedCounts.one_more_used}
+use Rattle.slotmap_run.proofs.{Runs.run_keeps, MapChanges.changes}
+use Rattle.slotmap_run.proofs.UsedCounts.{IsApart, bound_held, no_more_used, one_more_used}
 use Rattle.slotmap_core.specs.Step as plain
 
 pub weaker : {A : Type 0} {P Q : A → Type 0} → ((x : A) → P x → Q x) → (xs : List A) → AllByRecursion P xs → AllByRecursion Q xs

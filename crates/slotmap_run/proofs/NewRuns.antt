@@ -3,8 +3,10 @@ use Rattle.std.specs.FinSet as set
 use Rattle.slotmap_run.proofs.Common.{◌≡◌, ◌+◌, ◌<◌, ◌^◌, ◌++◌, Knowledge, not_live, known_from}
 use Rattle.slotmap_core.proofs.Common.{Content, IsContent, IsNew, State, empty_state, retired, Unretiring, Follows, Starts, RunFollows, RunsAnew, Continues, IfOk-weaker, Result, length, ◌∙◌}
 use Rattle.slotmap_core.proofs.Common.{Run, Key, IfOk, Bool, List, arith}
-use Rattle.slotmap_run.proofs.{HoldsIn.HoldsIn, HoldsIn.holds_from, HoldsIn.holds_at_first, StateOf.first_state, StateOf.first_fits, StateOf.first_good, Runs.runs_follow, Runs.goes_on_anew}
-use Rattle.slotmap_run.proofs.{Fits.new_fits, Fits.new_lasts, Runs.run_seen, Runs.goes_on, Laws.IsGood, Laws.empty_good}
+use Rattle.slotmap_run.proofs.HoldsIn.{HoldsIn, holds_from, holds_at_first}
+use Rattle.slotmap_run.proofs.StateOf.{first_state, first_fits, first_good}
+use Rattle.slotmap_run.proofs.Runs.{runs_follow, goes_on_anew, run_seen, goes_on}
+use Rattle.slotmap_run.proofs.{Fits.new_fits, Fits.new_lasts, Laws.IsGood, Laws.empty_good}
 
 pub starts : {V : Type 0} (reuses : Bool) (c : Content V) → IsContent reuses c → Starts reuses c
 starts reuses c ok = record { valid = ok; state = first_state reuses c ok; fits = first_fits reuses c ok }

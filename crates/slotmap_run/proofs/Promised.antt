@@ -1,7 +1,8 @@
 -- What a reserve promised is kept.
 use Rattle.slotmap_run.proofs.Common.{◌≡◌, ◌+◌, ◌≤◌, in_use, Command, DetachCommand, Reply}
 use Rattle.slotmap_core.proofs.Common.{State, most, RunGiven, Step, DetachStep, NeedsRoom, DetachNeedsRoom, IsRefusal, ReserveHolds, List, arith}
-use Rattle.slotmap_run.proofs.{Laws.IsMachine, Laws.IsGood, Laws.good_stays, Laws.still_promised, Runs.run_split, Runs.run_keeps, NewRuns.RunsWell}
+use Rattle.slotmap_run.proofs.Laws.{IsMachine, IsGood, good_stays, still_promised}
+use Rattle.slotmap_run.proofs.{Runs.run_split, Runs.run_keeps, NewRuns.RunsWell}
 use Rattle.slotmap_core.specs.declared.commands.DetachCommand.TheVariants as detaching
 
 module _ {K V R E : Type 0} (given : RunGiven K V R E) where

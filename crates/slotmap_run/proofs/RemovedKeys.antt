@@ -5,7 +5,8 @@ use Rattle.slotmap_run.proofs.Common.{◌≡◌, ◌∷◌, GoneForGood, ShowsLi
 use Rattle.std.proofs.lemmas.Slice.Zip.{AllZip-long}
 use Rattle.slotmap_core.proofs.Common.{Key, key_cmp, State, IsIssued, RunGiven, DetachStep, Run, AllZip, RemovedForGood, keys_total, exact_keys, itself, Bool, List, [], true, false, sym, arith}
 use Rattle.slotmap_run.proofs.Laws.{Gone, IsGood, good_stays, gone_stays, not_issued}
-use Rattle.slotmap_run.proofs.{MapChanges.changes, StepCases.detach_machine, Runs.run_split, Runs.run_keeps, Runs.run_keeps_by, NewRuns.RunsWell}
+use Rattle.slotmap_run.proofs.{MapChanges.changes, StepCases.detach_machine, NewRuns.RunsWell}
+use Rattle.slotmap_run.proofs.Runs.{run_split, run_keeps, run_keeps_by}
 use Rattle.slotmap_core.specs.declared.commands.Command.TheVariants as command
 use Rattle.slotmap_core.specs.declared.commands.DetachCommand.TheVariants as detaching
 

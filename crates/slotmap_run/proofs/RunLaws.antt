@@ -3,9 +3,11 @@ use Rattle.slotmap_run.proofs.Common.{◌≡◌, map-id, Command, DetachCommand,
 use Rattle.slotmap_core.proofs.Common.{Content, IsContent, RunGiven, any_closures, DetachStep, Follows, DetachLaws, LastFreedFirst, NeedsRoom, DetachNeedsRoom, no_places, IfOk-weaker, Result, is_some}
 use Rattle.slotmap_core.proofs.Common.{Key, IsNew, State, Step, Run, Laws, IfOk, List, Bool, true, subst}
 use Rattle.slotmap_run.proofs.Detached.{detached_not_reissued, detached_reattaches, reattach_binds}
-use Rattle.slotmap_run.proofs.{AnyClosures.detach_freely, StepCases.plain_machine, StepCases.detach_machine, RemovedKeys.removed_for_good, RemovedKeys.gone_for_good, ReadsPut.reads_what_was_put}
-use Rattle.slotmap_run.proofs.{HoldsIn.HoldsIn, NewRuns.ran_if_ok, NewRuns.RanAnewIfOk, NewRuns.anew_if_ok, AnyClosures.freely, Promised.plain_refused, Promised.detach_refused, Promised.reserve_holds}
-use Rattle.slotmap_run.proofs.{NewRuns.RunsWell, NewRuns.IsLawful, NewRuns.RanIfOk, AnyClosures.freed, Laws.told_new, Laws.unretired, Orders.lifo_new, Orders.lifo_run, Runs.run_seen}
+use Rattle.slotmap_run.proofs.AnyClosures.{detach_freely, freely, freed}
+use Rattle.slotmap_run.proofs.{StepCases.plain_machine, StepCases.detach_machine, RemovedKeys.removed_for_good, RemovedKeys.gone_for_good, ReadsPut.reads_what_was_put, HoldsIn.HoldsIn}
+use Rattle.slotmap_run.proofs.{Laws.told_new, Laws.unretired, Orders.lifo_new, Orders.lifo_run, Runs.run_seen}
+use Rattle.slotmap_run.proofs.NewRuns.{ran_if_ok, RanAnewIfOk, anew_if_ok, RunsWell, IsLawful, RanIfOk}
+use Rattle.slotmap_run.proofs.Promised.{plain_refused, detach_refused, reserve_holds}
 use Rattle.slotmap_core.specs.declared.commands.DetachCommand.TheVariants as detaching
 
 module _ {K V R E : Type 0} (given : RunGiven K V R E) where

@@ -3,7 +3,8 @@ use Rattle.std.specs.FinMap as map
 use Rattle.std.specs.FinSet as set
 use Rattle.slotmap_run.proofs.Common.{◌≡◌, ◌+◌, ◌-◌, ◌≤◌, ◌∷◌, list_map, IndexStaysSmall, DetachCommand, Reply}
 use Rattle.slotmap_core.proofs.Common.{Key, key_cmp, State, RunGiven, DetachStep, Run, Unretiring, empty_state, retired, keys_total, ℕ, max, Some, None, true, List, [], ap, ◌∙◌, arith}
-use Rattle.slotmap_run.proofs.{SetCounts.all_keys, SetCounts.contains-all_keys, SetCounts.len-all_keys, SetCounts.len-subset, Laws.none_retired_at_first, RemovedKeys.StepOf}
+use Rattle.slotmap_run.proofs.SetCounts.{all_keys, contains-all_keys, len-all_keys, len-subset}
+use Rattle.slotmap_run.proofs.{Laws.none_retired_at_first, RemovedKeys.StepOf}
 use Rattle.slotmap_core.specs.declared.commands.Command.TheVariants as command
 use Rattle.slotmap_core.specs.declared.commands.DetachCommand.TheVariants as detaching
 use Rattle.slotmap_core.specs.declared.commands.Reply.TheVariants as reply

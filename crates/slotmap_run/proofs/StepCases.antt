@@ -3,7 +3,8 @@ use Rattle.std.specs.FinMap as map
 use Rattle.std.specs.FinSet as set
 use Rattle.slotmap_run.proofs.Common.{◌≡◌, ◌⊎◌, DetachCommand, Reply}
 use Rattle.slotmap_core.proofs.Common.{Key, key_cmp, State, RunGiven, Step, DetachStep, reply_keys, Spares, arith, [], true}
-use Rattle.slotmap_run.proofs.{MapChanges.changes, Laws.Binds, Laws.Shrinks, Laws.IsMachine}
+use Rattle.slotmap_run.proofs.MapChanges.{changes}
+use Rattle.slotmap_run.proofs.Laws.{Binds, Shrinks, IsMachine}
 use Rattle.slotmap_core.specs.declared.commands.DetachCommand.TheVariants as detaching
 use Rattle.slotmap_core.specs.declared.commands.Reply.TheVariants as reply
 

@@ -9,10 +9,7 @@ use Rattle.slotmap_core.proofs.Common.{IsContent, IsListing, Replaces, Detaches,
 use Rattle.slotmap_core.proofs.Common.{key_cmp, Content, IsLive, Inserts, Removes, Leaves, MayGrow, Refuses, CallsAt, RunGiven, Follows, IsBasic, Result, Option, is_some, none_of, false_of, OnSome}
 use Rattle.slotmap_core.proofs.Common.{used, most, Keeps, Visit, State, Fresh, Step, Fits, Lifo, IfOk, OnOk, IfErr, OnErr, IsErr, IsOk, Some, None, Bool, false, refl, ap, subst, arith, IfNone, Global}
 use Rattle.slotmap_core.proofs.Common.{Mut, Key, Err, sym, ℕ, List, [], Vec}
-use Rattle.slotmap_core.specs.declared.errors.InsertError.{InsertError}
-use Rattle.slotmap_core.specs.declared.errors.TryInsertError.{TryInsertError}
-use Rattle.slotmap_core.specs.declared.errors.ReserveError.{ReserveError}
-use Rattle.slotmap_core.specs.declared.errors.OutOfMemory.{OutOfMemory}
+use Rattle.slotmap_core.specs.declared.errors.{InsertError.InsertError, TryInsertError.TryInsertError, ReserveError.ReserveError, OutOfMemory.OutOfMemory}
 use Rattle.slotmap_run.proofs.Fits.{used_same, below, offer_fresh, inserts_fresh, inserts as inserts_moves}
 use Rattle.slotmap_run.proofs.OtherSteps.{Moves, keeps, promises, replaces, detaches, reattaches, removes, leaves}
 use Rattle.slotmap_run.proofs.Orders.{lifo_inserts, lifo_keeps, lifo_removes, lifo_detaches, lifo_reattaches}

@@ -1,20 +1,17 @@
 -- Why a script stops, from what its parts say.
-use Rattle.std.proofs.Common.{◌≡◌, ◌<◌, ℕ, List, [], ◌∷◌, ◌++◌, length, get_or, map, Option, Some, None, Result, Ok, Err, OnOk, OnSome, IfErr, string_bytes, String, Global}
-use Rattle.std.proofs.Common.{Bool, true, false, ap, subst, ◌∙◌, refl, arith, inl, inr}
-use Rattle.std.specs.Bool.{Decides}
-use Rattle.std.specs.Prelude.{codes, IfSome}
-use Rattle.std.specs.Str.{bytes_eq}
+use Rattle.std.proofs.Common.{◌≡◌, ◌<◌, ℕ, List, [], ◌∷◌, ◌++◌, length, get_or, map, Option, Some, None, Result, Ok, Err, OnOk, OnSome, IfErr, string_bytes, String, Global, Bool}
+use Rattle.std.proofs.Common.{true, false, ap, subst, ◌∙◌, refl, arith, inl, inr}
+use Rattle.std.specs.{Bool.Decides, Prelude.codes, Prelude.IfSome, Str.bytes_eq}
 use Rattle.std.proofs.lemmas.Option.{none-some}
 use Rattle.std.proofs.lemmas.Slice.Eq.{bytes_eq-Decides}
 use Rattle.std.specs.Io.KnownBytes.{Appends, append_known}
-use Rattle.slotmap_script.specs.ScriptText.{lines_of, StopsParse}
+use Rattle.slotmap_script.specs.{ScriptText.lines_of, ScriptText.StopsParse, StopText.stop_text, StopText.Finishes}
 use Rattle.slotmap_script.specs.Kinds.{MapKind, AreRead, StopsRun}
-use Rattle.slotmap_script.specs.StopText.{stop_text, Finishes}
 use Rattle.slotmap_script.specs.Ended.{KindName, basic, dense, hop, kind_named, Runs, StopsShort, Refuses, Stops, StopsOn, IsBadLine}
 use Rattle.slotmap_script.specs.declared.stop.Stop.{Stop}
-use Rattle.slotmap_script.specs.declared.stop.Stop.TheVariants as stop
 use Rattle.slotmap_script.proofs.Appending.{Appends-none, Appends-trans, Appends-passed_on}
 use Rattle.slotmap_script.proofs.Lines.{append_nil}
+use Rattle.slotmap_script.specs.declared.stop.Stop.TheVariants as stop
 
 is_false : (b : Bool) (P : Type 0) → Decides b P → (P → ⊥) → b ≡ false
 is_false true P is none = absurd (none (is.0 refl))

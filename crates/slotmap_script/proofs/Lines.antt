@@ -1,12 +1,10 @@
 -- The lines of a text, and what they say.
-use Rattle.std.proofs.Common.{◌≡◌, ◌+◌, ◌-◌, ◌<◌, ◌≤◌, ℕ, suc, Bool, true, false, cond, List, [], ◌∷◌, ◌++◌, length, length-append, length-drop, take, drop}
-use Rattle.std.proofs.Common.{map, Option, Some, None, append_assoc, eqb, ltb, ap, sym, ◌∙◌, refl, arith}
-use Rattle.std.specs.List.{position_or_len, onto_first}
-use Rattle.std.specs.Str.{is_utf8, IsUtf8}
+use Rattle.std.proofs.Common.{◌≡◌, ◌+◌, ◌-◌, ◌<◌, ◌≤◌, ℕ, suc, Bool, true, false, cond, List, [], ◌∷◌, ◌++◌, length, length-append, length-drop, take, drop, map}
+use Rattle.std.proofs.Common.{Option, Some, None, append_assoc, eqb, ltb, ap, sym, ◌∙◌, refl, arith}
+use Rattle.std.specs.{List.position_or_len, List.onto_first, Str.is_utf8, Str.IsUtf8}
 use Rattle.std.proofs.lemmas.Bool.Decides.{nat_tests}
 use Rattle.std.proofs.Math.Seq.{take-length}
-use Rattle.std.proofs.lemmas.List.{map-append}
-use Rattle.std.proofs.lemmas.Str.{IsUtf8-from_is_utf8, is_utf8-from_IsUtf8}
+use Rattle.std.proofs.lemmas.{List.map-append, Str.IsUtf8-from_is_utf8, Str.is_utf8-from_IsUtf8}
 use Rattle.slotmap_script.specs.ScriptText.{lines_of, Said, said_by, said_by_text, SaidBy, IsFirstBad}
 
 abbrev first_feed : List ℕ → ℕ

@@ -1,13 +1,8 @@
 -- What std's `parse` reads, in the words of lines.
-use Rattle.std.proofs.Common.{◌≡◌, ◌≢◌, ◌+◌, ◌^◌, ◌<◌, ◌≤◌, ℕ, ℤ, pos, neg_ℤ, true, false, ◌&&◌, List, [], ◌∷◌, length, get_or, drop, Some, None}
-use Rattle.std.proofs.Common.{Result, Ok, Err, ap, sym, ◌∙◌, refl, arith, inl, inr}
-use Rattle.std.specs.Prelude.{option_map}
-use Rattle.std.specs.Char.{is_ascii_digit}
-use Rattle.std.specs.List.{list_all}
-use Rattle.std.specs.Result.{OkIff, result_ok}
-use Rattle.std.specs.Str.{all_ascii_digits}
+use Rattle.std.proofs.Common.{◌≡◌, ◌≢◌, ◌+◌, ◌^◌, ◌<◌, ◌≤◌, ℕ, ℤ, pos, neg_ℤ, true, false, ◌&&◌, List, [], ◌∷◌, length, get_or, drop, Some, None, Result}
+use Rattle.std.proofs.Common.{Ok, Err, ap, sym, ◌∙◌, refl, arith, inl, inr}
+use Rattle.std.specs.{Prelude.option_map, Char.is_ascii_digit, List.list_all, Result.OkIff, Result.result_ok, Str.all_ascii_digits, Int.w32}
 use Rattle.std.specs.Str.Parse.{digits_value, ParsesUnsigned, ParsesSigned}
-use Rattle.std.specs.Int.{w32}
 use Rattle.std.proofs.lemmas.Bool.{cases_eq}
 use Rattle.std.proofs.lemmas.Bool.Decides.{nat_tests}
 use Rattle.std.proofs.lemmas.Str.Parse.{IsNumeralModel, numerals_by_value, tells_all_ascii_digits, parse_digits, parse_signed_plain, parse_signed_minus}

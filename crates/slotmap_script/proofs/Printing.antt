@@ -3,18 +3,17 @@ use Rattle.std.proofs.Common.{◌≡◌, ℤ, ℕ, List, [], ◌∷◌, ◌++◌
 use Rattle.slotmap_core.proofs.Common.{Key}
 use Rattle.slotmap_core.specs.declared.commands.Reply.{Reply}
 use Rattle.slotmap_core.specs.declared.errors.OutOfMemory.{OutOfMemory}
-use Rattle.slotmap_script.specs.ReplyText.{IsReplyText}
+use Rattle.slotmap_script.specs.{ReplyText.IsReplyText, ScriptText.Ending, ScriptText.stretch_of}
 use Rattle.std.proofs.lemmas.List.{map-append}
-use Rattle.slotmap_script.specs.ScriptText.{Ending, stretch_of}
 use Rattle.slotmap_script.specs.declared.script.Stretch.{Stretch}
 use Rattle.slotmap_script.specs.declared.stop.Stop.{Stop}
-use Rattle.slotmap_script.specs.declared.stop.Stop.TheVariants as stop
 use Rattle.std.specs.Io.KnownBytes.{Appends}
 use Rattle.std.specs.Iterator.{Yields}
 use Rattle.std.specs.Vec.Iter.{into_iter_items, into_iter_steps}
 use Rattle.std.specs.declared.vec.IntoIter.{IntoIter}
 use Rattle.slotmap_script.specs.Printed.{SlotLists, PrintsReplies, PrintsStretch, Prints, StopsStretches, StopsStretch}
 use Rattle.slotmap_script.proofs.Lines.{append_nil}
+use Rattle.slotmap_script.specs.declared.stop.Stop.TheVariants as stop
 
 pub reply_more : (replies : List (Reply Key ℤ ℤ OutOfMemory)) (text : List ℕ) (reply : Reply Key ℤ ℤ OutOfMemory) (more : List ℕ) → PrintsReplies replies text → IsReplyText reply more
     → PrintsReplies (replies ++ reply ∷ []) (text ++ more)

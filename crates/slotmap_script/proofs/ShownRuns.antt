@@ -1,11 +1,8 @@
 -- Runs whose look-ups show the values themselves.
 use Rattle.std.proofs.Common.{◌≡◌, ℤ, List, Result, Ok, Err, Option, IfOk, arith}
-use Rattle.std.specs.Prelude.{IfSome}
-use Rattle.std.specs.Result.{result_ok}
+use Rattle.std.specs.{Prelude.IfSome, Result.result_ok}
 use Rattle.slotmap_core.proofs.Common.{Key, Content, State, RunGiven, Step, DetachStep, RunFollows}
-use Rattle.slotmap_core.specs.declared.commands.Command.{Command}
-use Rattle.slotmap_core.specs.declared.commands.DetachCommand.{DetachCommand}
-use Rattle.slotmap_core.specs.declared.commands.Reply.{Reply}
+use Rattle.slotmap_core.specs.declared.commands.{Command.Command, DetachCommand.DetachCommand, Reply.Reply}
 use Rattle.slotmap_core.specs.declared.errors.OutOfMemory.{OutOfMemory}
 use Rattle.slotmap_run.proofs.Runs.{run_seen}
 use Rattle.slotmap_script.specs.Answered.{shown_values}

@@ -2,7 +2,8 @@
 use Rattle.std.specs.FinMap as map
 use Rattle.std.proofs.Common.{◌≡◌, ◌+◌, ◌∷◌, ℕ, zero, suc, List, [], length, slice_get, refl, sym, ◌∙◌, arith}
 use Rattle.slotmap_core.proofs.Common.{AllZip, ClonesEqual, AreClones, HasClones, same_from_all_zip, zip_length, zip_left, IsPairClone, HasClones-by_index}
-use Rattle.slotmap_secondary.specs.{Slots.Slot, Slots.Vacant, Slots.Occupied, Slots.pair_in, Slots.pair_at, Slots.pairs_of, Slots.IsSlotAt, Slots.IsSound, Slots.IsSlotClone, Iter.pairs_from}
+use Rattle.slotmap_secondary.specs.Slots.{Slot, Vacant, Occupied, pair_in, pair_at, pairs_of, IsSlotAt, IsSound, IsSlotClone}
+use Rattle.slotmap_secondary.specs.Iter.{pairs_from}
 use Rattle.slotmap_secondary.proofs.{SlotLemmas.get-pairs, SlotLemmas.same_slots, IterLemmas.len-pairs}
 
 module _ {V : Type 0} (is_clone : V → V → Type 0) where

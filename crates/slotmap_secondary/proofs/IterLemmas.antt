@@ -2,7 +2,8 @@
 use Rattle.std.specs.FinMap as map
 use Rattle.std.proofs.Common.{◌≡◌, ◌+◌, ◌<◌, ◌∷◌, map as list_map, nat_cmp, ℕ, suc, T, List, [], length, slice_get, Some, refl, sym, ap, ◌∙◌, arith}
 use Rattle.slotmap_core.proofs.Common.{below_all, is_sorted, keyed, keyed_entry, gather, nat_tests, nat_cmp_total, length-map, exact_unsigned, entries-keyed, len-keyed}
-use Rattle.slotmap_secondary.specs.{Slots.Slot, Slots.entry_in, Slots.pairs_of, Slots.IsSlotAt, Slots.IsSound, Iter.pairs_from, Iter.values_in, Iter.AreKeys, Iter.IsIter}
+use Rattle.slotmap_secondary.specs.Slots.{Slot, entry_in, pairs_of, IsSlotAt, IsSound}
+use Rattle.slotmap_secondary.specs.Iter.{pairs_from, values_in, AreKeys, IsIter}
 
 module _ {V : Type 0} where
   abbrev entries_from : ℕ → List (Slot V) → List (ℕ × (ℕ × V))

@@ -3,7 +3,9 @@ use Rattle.std.specs.FinMap as map
 use Rattle.std.proofs.Common.{◌≡◌, ℕ, None, true, false, is_some, refl, ap, ◌∙◌, arith}
 use Rattle.slotmap_core.proofs.Common.{Key, Pairs, contains_key, value_at, get_after_insert, IsSecondary-again, len_again, get_bound, bind_twice, in_own}
 use Rattle.slotmap_secondary.specs.Content.{SideContent, IsSideContent, side_with_value}
-use Rattle.slotmap_secondary.specs.{declared.entry.Entry.TheVariants.Occupied, declared.entry.OccupiedEntry.OccupiedEntry, Entry.IsWritten, Entry.occupied_with}
+use Rattle.slotmap_secondary.specs.declared.entry.Entry.TheVariants.{Occupied}
+use Rattle.slotmap_secondary.specs.declared.entry.OccupiedEntry.{OccupiedEntry}
+use Rattle.slotmap_secondary.specs.Entry.{IsWritten, occupied_with}
 
 module _ {V : Type 0} where
   pub with_value_twice : (c : SideContent V) (k : Key) (v w : V) → side_with_value (side_with_value c k v) k w ≡ side_with_value c k w

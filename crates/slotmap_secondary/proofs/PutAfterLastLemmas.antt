@@ -2,7 +2,8 @@
 use Rattle.std.specs.FinMap as map
 use Rattle.std.proofs.Common.{◌≡◌, ◌≢◌, ◌+◌, ◌<◌, ◌≤◌, ◌^◌, ◌∷◌, ◌++◌, ℕ, cond, List, [], length, None, ne_eqb, eq-eqb, refl, ap, ◌∙◌, arith}
 use Rattle.slotmap_core.proofs.Common.{Key, IsKey, null_key, no_entry, vacant, entry_at, entry, bind, length_push, none_from}
-use Rattle.slotmap_secondary.specs.{Slots.Slot, Slots.Occupied, Slots.pairs_of, Slots.content_of, Slots.IsSound, Content.SideContent, Content.IsSideContent}
+use Rattle.slotmap_secondary.specs.Slots.{Slot, Occupied, pairs_of, content_of, IsSound}
+use Rattle.slotmap_secondary.specs.Content.{SideContent, IsSideContent}
 use Rattle.slotmap_secondary.proofs.{SlotLemmas.each-push, FromListLemmas.pairs-push_key, FromListLemmas.count_key}
 
 module _ {V : Type 0} (slots : List (Slot V)) (len : ℕ) (sound : IsSound slots len) (k : Key) (x : V) (at : k.index ≡ length slots) where

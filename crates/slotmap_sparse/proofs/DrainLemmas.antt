@@ -1,7 +1,8 @@
 -- What the steps of a drain leave.
 use Rattle.std.specs.FinMap as map
 use Rattle.slotmap_core.proofs.Common.{MakesProgress, Key, Option, Some, None, is_some, ap, arith, len_taken}
-use Rattle.slotmap_sparse.specs.{declared.drain.Drain.Drain, Drain.TakesPair, Drain.drain_count}
+use Rattle.slotmap_sparse.specs.declared.drain.Drain.{Drain}
+use Rattle.slotmap_sparse.specs.Drain.{TakesPair, drain_count}
 
 module _ {K V S Z : Type 0} (data_of : K → Key) where
   -- a step leaves fewer pairs

@@ -5,7 +5,9 @@ use Rattle.std.proofs.Common.{None, refl, ap, arith, inl, inr, Ok, OnOk, ℕ, tr
 use Rattle.slotmap_core.proofs.Common.{option_copied_mut, nat_cmp_total, exact_unsigned, none_past_head, get_after_insert, IsSecondary-empty, IsSecondary-bind, IsSecondary-put, IsSecondary-remove}
 use Rattle.slotmap_core.proofs.Common.{eq_by_cmp, unsigned_tied, nat_eq_equiv, IsDistinct, WritesThrough, IsSecondary, contains_key, lookup-none, len_inserted, insert_same, same_version, not_null_at}
 use Rattle.slotmap_core.proofs.Common.{find, spare, lookup, keys_of, Key, IsKey, Pairs, is_null, bind, put, get, value_at, get_here, put_at}
-use Rattle.slotmap_sparse.specs.{Content.SparseContent, Content.IsSparseContent, Content.sparse_with_value, Content.room, Found.put_over, Entries.pairs_of, Entries.content_of, Entries.IsSound}
+use Rattle.slotmap_sparse.specs.Content.{SparseContent, IsSparseContent, sparse_with_value, room}
+use Rattle.slotmap_sparse.specs.Found.{put_over}
+use Rattle.slotmap_sparse.specs.Entries.{pairs_of, content_of, IsSound}
 
 turned : (k q : ℕ) → nat_eq k q ≡ eq_by_cmp nat_cmp q k
 turned k q = nat_eq_equiv.symm k q ∙ sym (unsigned_tied q k)

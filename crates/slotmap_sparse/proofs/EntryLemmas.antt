@@ -3,7 +3,9 @@ use Rattle.std.specs.FinMap as map
 use Rattle.std.proofs.Common.{◌≡◌, if◌then◌else◌, None, is_some, refl, sym, ap, ◌∙◌}
 use Rattle.slotmap_core.proofs.Common.{nat_cmp_total, Pairs, vacant, IsSecondary, exact_unsigned, remove_absent, get_bound, value_of, value_of_entry, entry_absent, in_own, removed, vacant_not_null}
 use Rattle.slotmap_core.proofs.Common.{Key, entry, get}
-use Rattle.slotmap_sparse.specs.{declared.entry.Entry.TheVariants.Occupied, declared.entry.OccupiedEntry.OccupiedEntry, Entry.IsWritten, Entry.entry_leaves, Entry.occupied_with}
+use Rattle.slotmap_sparse.specs.declared.entry.Entry.TheVariants.{Occupied}
+use Rattle.slotmap_sparse.specs.declared.entry.OccupiedEntry.{OccupiedEntry}
+use Rattle.slotmap_sparse.specs.Entry.{IsWritten, entry_leaves, occupied_with}
 
 module _ {V : Type 0} (m : Pairs V) (valid : IsSecondary m) (k : Key) where
   -- a key whose entry is vacant has no value

@@ -1,8 +1,8 @@
 -- Two hash maps are equal if and only if their maps hold the same keys with equal values.
 use Rattle.std.specs.FinMap as map
 use Rattle.std.proofs.Common.{◌≡◌, ◌↔◌, ◌&&◌, HashMap, ℕ, Bool, true, nat_eq, Option, None, Some, refl, sym, ◌∙◌, arith}
-use Rattle.slotmap_core.proofs.Common.{option_eq, nat_eq_equiv, hash_map_eq, hash_map_eq_from_get, get_from_hash_map_eq, lookup, Pairs, value_at, SameValue}
-use Rattle.slotmap_core.proofs.Common.{AreEqual, are_equal, common_steps, same_bool, equal_where}
+use Rattle.slotmap_core.proofs.Common.{option_eq, nat_eq_equiv, hash_map_eq, hash_map_eq_from_get, get_from_hash_map_eq, lookup, Pairs, value_at, SameValue, AreEqual, are_equal, common_steps}
+use Rattle.slotmap_core.proofs.Common.{same_bool, equal_where}
 use Rattle.slotmap_sparse.specs.Entries.{pairs_of}
 use Rattle.slotmap_sparse.proofs.EntriesLemmas.{found_pair}
 

@@ -4,7 +4,8 @@ use Rattle.std.proofs.Common.{◌≡◌, ◌∷◌, ℕ, true, false, cond, nat_
 use Rattle.slotmap_core.proofs.Common.{YieldsFirstBy, AllByRecursion, nat_eq_equiv, unsigned_tied, IsKeyListing, IsSecondary, keyed_entry, contains_key, none_past_head, contains-keyed, item_inserted}
 use Rattle.slotmap_core.proofs.Common.{IsDistinct, keys_of, Key, key_cmp, IsListing, value_at, length-map, same_Some, lookup-none, lookup_head, keys_total, exact_keys, tie_parts, get-keyed, len-keyed}
 use Rattle.slotmap_core.proofs.Common.{find, lookup, Pairs, keyed}
-use Rattle.slotmap_sparse.specs.{Entries.pairs_of, Entries.IsSound, Iter.key_pairs, Iter.IsOfKey, Iter.AreOfKeys}
+use Rattle.slotmap_sparse.specs.Entries.{pairs_of, IsSound}
+use Rattle.slotmap_sparse.specs.Iter.{key_pairs, IsOfKey, AreOfKeys}
 use Rattle.slotmap_sparse.proofs.EntriesLemmas.{get-pairs, len-pairs}
 
 module _ {X : Type 0} where

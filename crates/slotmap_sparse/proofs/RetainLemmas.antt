@@ -4,7 +4,8 @@ use Rattle.std.proofs.Common.{◌≡◌, ◌+◌, ◌∷◌, ◌++◌, ℕ, Bool
 use Rattle.slotmap_core.specs.Words.{MutBor}
 use Rattle.slotmap_core.proofs.Common.{nat_eq_equiv, IsDistinct, RetainsPairs, SomeCallAtPair, IsListingBut, with_entries, RetainsBy, keyed_entry, lookup_head, key_from-odd, get-keyed, Visits-rest}
 use Rattle.slotmap_core.proofs.Common.{Mut, FoldsTo, keys_of, Key, IsKey, key_cmp, Visit, CallsAt, MayCome, seen, kept, Pairs, keyed, value_at}
-use Rattle.slotmap_sparse.specs.{Entries.pairs_of, Entries.IsSound, Entries.VisitsPair, Iter.key_pairs, Iter.IsOfKey, Iter.AreOfKeys}
+use Rattle.slotmap_sparse.specs.Entries.{pairs_of, IsSound, VisitsPair}
+use Rattle.slotmap_sparse.specs.Iter.{key_pairs, IsOfKey, AreOfKeys}
 use Rattle.slotmap_sparse.proofs.{EntriesLemmas.get-pairs, IterLemmas.listing, IterLemmas.of_keys}
 
 module _ {V : Type 0} where

@@ -2,7 +2,8 @@
 -- For the crates of maps and callers.
 use Rattle.std.proofs.Common.{◌≡◌, ℕ, ◌+◌, ◌≤◌, Bool, true, List, [], ◌∷◌, Option, Some, refl, ap, subst, arith}
 use Rattle.slotmap_core.specs.Words.{ClonesEqual, AreClones, IsCloneOf, Content, IsContent, used, places, most, IsCopy, IsCloneBy, Key, key_cmp}
-use Rattle.slotmap_core.proofs.{General.KeyLemmas.keys_total, General.KeyLemmas.exact_keys, General.Maps.same_len, Places.PlaceClones.clone_is_some}
+use Rattle.slotmap_core.proofs.General.{KeyLemmas.keys_total, KeyLemmas.exact_keys, Maps.same_len}
+use Rattle.slotmap_core.proofs.Places.PlaceClones.{clone_is_some}
 use Rattle.std.specs.FinMap as map
 use Rattle.std.specs.FinSet as set
 

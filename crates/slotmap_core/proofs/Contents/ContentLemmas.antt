@@ -6,7 +6,8 @@ use Rattle.std.proofs.lemmas.Option.{slice_get_within, same_Some}
 use Rattle.slotmap_core.specs.Words.{list_any, last_version, MakesRoom, Content, IsContent, IsStack, IsLive, with_value, Detached, Retired, detached, StackMap, content_of_places, IsVersion, IsStacked}
 use Rattle.slotmap_core.specs.Words.{Key, Uses, places, Place, Live, Vacant, live, next, offer, IsOn}
 use Rattle.slotmap_core.proofs.Places.PlacesLemmas.{key, get-live, contains-detached, retired_at, get-next_at, vacant_at, total}
-use Rattle.slotmap_core.proofs.{General.KeyLemmas.keys_total, General.KeyLemmas.nat_tests, Contents.LeaveLemmas.same_live}
+use Rattle.slotmap_core.proofs.General.KeyLemmas.{keys_total, nat_tests}
+use Rattle.slotmap_core.proofs.Contents.LeaveLemmas.{same_live}
 use Rattle.std.specs.FinMap as map
 use Rattle.std.specs.FinSet as set
 pub use Rattle.slotmap_core.proofs.General.Maps.{some_is}

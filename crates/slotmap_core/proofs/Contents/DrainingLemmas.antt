@@ -1,9 +1,9 @@
 -- What calls of `next` of a drain keep, and what they yield, whatever one step is.
 -- For the crates of maps.
 use Rattle.std.proofs.Common.{◌≡◌, List, [], ◌∷◌, Option, Some, refl, ap, subst, ◌∙◌}
-use Rattle.std.specs.FinMap as map
 use Rattle.slotmap_core.specs.Words.{MutBor, Key, key_cmp, KeepsLoan, Along, KeepsAlong, ListsAlong, InOrderAlong}
 use Rattle.slotmap_core.proofs.General.ListingLemmas.{IsListingBut-start, IsListingBut-first}
+use Rattle.std.specs.FinMap as map
 
 module _ {D A : Type 0} (Steps : D → Option A → D → Type 0) where
   -- what holds before any step, and still holds with one more step in front, holds along all steps

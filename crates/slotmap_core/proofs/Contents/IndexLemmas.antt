@@ -1,10 +1,10 @@
 -- The part of a map from an index on, which an iteration by ascending index hasn't reached yet.
 -- For the crates of maps.
 use Rattle.std.proofs.Common.{◌≡◌, ◌≢◌, ℕ, ◌+◌, ◌<◌, ◌≤◌, Bool, true, false, cond, nat_le, None, sym, ap, ◌∙◌, inl, arith, le-leb}
-use Rattle.std.specs.FinMap as map
 use Rattle.slotmap_core.specs.Words.{Key, key_cmp, NoneBelow, Content, IsContent, IsLive}
 use Rattle.slotmap_core.proofs.General.KeyLemmas.{keys_total, exact_keys, tied, itself, nat_tests}
 use Rattle.slotmap_core.proofs.General.Maps.{false_of, none_of, in_after_remove}
+use Rattle.std.specs.FinMap as map
 
 module _ {V : Type 0} where
   abbrev pub from_index : ℕ → map.FinMap key_cmp V → map.FinMap key_cmp V

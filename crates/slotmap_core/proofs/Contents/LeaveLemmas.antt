@@ -4,7 +4,8 @@ use Rattle.std.proofs.Common.{◌≡◌, ◌≤◌, Bool, true, false, cond, not
 use Rattle.slotmap_core.specs.Words.{eq_by_cmp, Key, next_version, key_cmp, Content, IsContent, IsLive, Removes, Leaves, Keeps, has_left, with_value}
 use Rattle.slotmap_core.proofs.General.KeyLemmas.{keys_total, exact_keys, tied, itself, nat_cmp_total, exact_unsigned}
 use Rattle.slotmap_core.proofs.General.Maps.{of_and, of_not, not_of, get_inserted, in_after_remove}
-use Rattle.slotmap_core.proofs.{Places.PlaceCount.removed_places, Contents.Retired.in_freed, Contents.Retired.len_freed}
+use Rattle.slotmap_core.proofs.Places.PlaceCount.{removed_places}
+use Rattle.slotmap_core.proofs.Contents.Retired.{in_freed, len_freed}
 use Rattle.std.specs.FinMap as map
 use Rattle.std.specs.FinSet as set
 

@@ -1,12 +1,15 @@
 -- The order in which places are freed.
 -- For the crates of maps.
 use Rattle.std.proofs.Common.{arith, ◌≡◌, ℕ, ◌<◌, Bool, true, cond, not, List, [], ◌∷◌, ◌++◌, map as list_map, Some, None, refl, sym, ap, ◌∙◌, option_map, nat_cmp}
-use Rattle.std.proofs.{lemmas.List.map-append, lemmas.List.nil_from_length, lemmas.Iterator.Adapters.option_map_id}
-use Rattle.std.specs.{declared.cmp.Ordering.TheVariants.Less, declared.cmp.Ordering.TheVariants.Greater, FinMap.Entries.put}
+use Rattle.std.proofs.lemmas.List.{map-append, nil_from_length}
+use Rattle.std.proofs.lemmas.Iterator.Adapters.{option_map_id}
+use Rattle.std.specs.declared.cmp.Ordering.TheVariants.{Less, Greater}
+use Rattle.std.specs.FinMap.Entries.{put}
 use Rattle.slotmap_core.specs.Words.{eq_by_cmp, ordering_then, nat_cmp_is, list_any, Key, key_cmp, Content, IsLive, Removes, has_left, with_value, pushed, pushed_all, keys_left, FreesByIndex}
 use Rattle.slotmap_core.proofs.General.KeyLemmas.{keys_total, exact_keys, tied, itself}
 use Rattle.slotmap_core.proofs.Contents.LeaveLemmas.{was_live, is_gone, same_live, live-removed_at, live_no_more}
-use Rattle.slotmap_core.proofs.{General.Maps.insert_same, General.Maps.or_right, Contents.ContentLemmas.some_is, Contents.IndexLemmas.none_live, General.ListingLemmas.insert-remove}
+use Rattle.slotmap_core.proofs.General.{Maps.insert_same, Maps.or_right, ListingLemmas.insert-remove}
+use Rattle.slotmap_core.proofs.Contents.{ContentLemmas.some_is, IndexLemmas.none_live}
 use Rattle.std.specs.FinMap as map
 
 pub pushed_all_push : (stack : List ℕ) (ks : List Key) (k : Key) → pushed_all stack (ks ++ k ∷ []) ≡ pushed (pushed_all stack ks) k

@@ -1,11 +1,11 @@
 -- Which keys are retired, in a state of the machine and in a map.
 -- For runs.
 use Rattle.std.proofs.Common.{◌≡◌, ℕ, ◌+◌, ◌≤◌, if◌then◌else◌, Some, true, false, ◌&&◌, ◌⊎◌, sym, ap, arith}
-use Rattle.std.specs.FinMap as map
-use Rattle.std.specs.FinSet as set
 use Rattle.slotmap_core.specs.Words.{nat_cmp, Key, is_last, next_version, key_cmp, freed, retired_after, State, IsIssued, StandsIn, is_retired, retired}
 use Rattle.slotmap_core.proofs.General.KeyLemmas.{keys_total, exact_keys, nat_cmp_total, exact_unsigned}
 use Rattle.slotmap_core.proofs.General.Maps.{same_bool, len_item_inserted, len_inserted, get_after_insert}
+use Rattle.std.specs.FinMap as map
+use Rattle.std.specs.FinSet as set
 
 module _ (k : Key) where
   pub in_freed : (next : map.FinMap nat_cmp ℕ) (i v : ℕ) → map.get (freed next k) i ≡ Some v

@@ -3,7 +3,8 @@
 use Rattle.std.proofs.Common.{◌≡◌, ◌≢◌, ◌⊎◌, inl, inr, sym, ⊎_elim, arith, ℕ, Some}
 use Rattle.slotmap_core.specs.Words.{Key, next_version, Content, Stands, IsLive, IsNew, Inserts, Keeps, Removes, Replaces, Leaves, Detaches, Reattaches}
 use Rattle.slotmap_core.proofs.General.Maps.{of_and, get_after_remove, in_after_insert, in_after_remove, item_after_insert, item_after_remove}
-use Rattle.slotmap_core.proofs.{General.KeyLemmas.keys_total, General.KeyLemmas.exact_keys, General.KeyLemmas.nat_cmp_total, General.KeyLemmas.exact_unsigned, Contents.Retired.in_freed}
+use Rattle.slotmap_core.proofs.General.KeyLemmas.{keys_total, exact_keys, nat_cmp_total, exact_unsigned}
+use Rattle.slotmap_core.proofs.Contents.Retired.{in_freed}
 use Rattle.std.specs.FinMap as map
 use Rattle.std.specs.FinSet as set
 

@@ -7,7 +7,7 @@ use Rattle.slotmap_core.specs.Words.{Key, most, Inserts, Removes, left_by, Place
 use Rattle.slotmap_core.proofs.Places.PlacesLemmas.{key, live-push, detached-set, detached-push_live, retired-set, retired-push_live, next-push_live, next-remove_past, len-next-set, contains-detached}
 use Rattle.slotmap_core.proofs.Places.PlacesLemmas.{vacancy, live-set, next-set, total}
 use Rattle.slotmap_core.proofs.Places.StackLemmas.{not_on, not_first, IsStacked-pushed}
-use Rattle.slotmap_core.proofs.{General.ListingLemmas.insert-remove, General.GatherLemmas.slice_get-set_other}
+use Rattle.slotmap_core.proofs.General.{ListingLemmas.insert-remove, GatherLemmas.slice_get-set_other}
 
 -- how many places no insert can use, after a change of one
 taken-set : {V : Type 0} (ps : List (Place V)) (vs : List ℕ) (i : ℕ) (old new : Place V) → IsStacked ps vs → 0 < i → slice_get ps i ≡ Some old

@@ -5,7 +5,9 @@ use Rattle.slotmap_core.specs.Words.{Key, Content, IsContent, IsLive, Removes, L
 use Rattle.slotmap_core.proofs.Contents.IndexLemmas.{from_index, get_from, in_from, from_index-jump, from_index-take, alone_at, NoneBelow-removed}
 use Rattle.slotmap_core.proofs.Contents.LeaveLemmas.{live-removed_at, same_live, Leaves-refl, Leaves-trans, Leaves-with_value, Leaves-removes, Leaves-removed}
 use Rattle.slotmap_core.proofs.Contents.OrderLemmas.{FreesByIndex-start, FreesByIndex-with_value, FreesByIndex-removed, FreesByIndex-first, entries_first}
-use Rattle.slotmap_core.proofs.{General.KeyLemmas.keys_total, General.KeyLemmas.exact_keys, General.KeyLemmas.tied, General.Maps.in_after_remove, Contents.ContentLemmas.IsContent-with_value}
+use Rattle.slotmap_core.proofs.General.KeyLemmas.{keys_total, exact_keys, tied}
+use Rattle.slotmap_core.proofs.General.Maps.{in_after_remove}
+use Rattle.slotmap_core.proofs.Contents.ContentLemmas.{IsContent-with_value}
 use Rattle.std.specs.FinMap as map
 
 module _ {V : Type 0} where

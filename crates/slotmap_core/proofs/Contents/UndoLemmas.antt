@@ -2,8 +2,8 @@
 -- For the crates of maps and callers.
 use Rattle.std.proofs.Common.{◌≡◌, ◌<◌, Bool, false, arith}
 use Rattle.slotmap_core.specs.Words.{Key, key_cmp, Content, IsContent, IsLive, Uses, used, most, Inserts, Removes, Detaches, Reattaches}
-use Rattle.slotmap_core.proofs.General.ListingLemmas.{insert-remove, remove-insert}
-use Rattle.slotmap_core.proofs.{General.KeyLemmas.keys_total, General.KeyLemmas.exact_keys, General.KeyLemmas.tied, General.MapLaws.remove_absent}
+use Rattle.slotmap_core.proofs.General.{ListingLemmas.insert-remove, ListingLemmas.remove-insert, MapLaws.remove_absent}
+use Rattle.slotmap_core.proofs.General.KeyLemmas.{keys_total, exact_keys, tied}
 use Rattle.std.specs.FinMap as map
 use Rattle.std.specs.FinSet as set
 

@@ -1,10 +1,12 @@
 -- What a caller of a map needs, in one list for `using`.
 -- For the crates of maps and callers.
 use Rattle.std.proofs.Common.{◌≡◌, ◌≢◌, ◌+◌, Bool, true, false, cond, inl, None, Some, is_some, Result, Ok, Err, IfOk, IsErr, refl, sym, ap, ◌∙◌}
-use Rattle.slotmap_core.specs.{Key.Key, Key.key_cmp, Content.Content, Content.IsContent, Content.IsLive, Transition.Inserts, Transition.Removes, Transition.Keeps}
+use Rattle.slotmap_core.specs.Key.{Key, key_cmp}
+use Rattle.slotmap_core.specs.Content.{Content, IsContent, IsLive}
+use Rattle.slotmap_core.specs.Transition.{Inserts, Removes, Keeps}
 use Rattle.slotmap_core.proofs.Contents.UndoLemmas.{offer_unused, remove-insert_item}
 use Rattle.slotmap_core.proofs.General.Maps.{none_of, get_inserted, get_removed, get_other, remove_inserted, in_inserted, still_in, left_in, false_of, len_inserted, len_removed, item_inserted}
-use Rattle.slotmap_core.proofs.{General.KeyLemmas.keys_total, General.KeyLemmas.exact_keys, General.ListingLemmas.insert-remove, General.MapLaws.remove_absent}
+use Rattle.slotmap_core.proofs.General.{KeyLemmas.keys_total, KeyLemmas.exact_keys, ListingLemmas.insert-remove, MapLaws.remove_absent}
 use Rattle.std.specs.FinMap as map
 use Rattle.std.specs.FinSet as set
 pub use Rattle.slotmap_core.proofs.Contents.IndexLemmas.{get-remove_other}

@@ -4,10 +4,11 @@ use Rattle.std.proofs.Common.{◌≡◌, ℕ, zero, suc, ◌+◌, ◌-◌, ◌<�
 use Rattle.std.proofs.Common.{[], sym, ap}
 use Rattle.std.proofs.lemmas.Option.{slice_get-map}
 use Rattle.slotmap_core.specs.Law.{RemovedForGood, GoneForGood, ShowsLive, ShowsNotLive, RemovesKey, LeavesAttached, FindsNothing}
-use Rattle.slotmap_core.specs.{Key.Key, Key.key_cmp, declared.commands.DetachCommand.DetachCommand, declared.joined.JoinedDetachCommand.JoinedDetachCommand, declared.joined.JoinedReply.JoinedReply}
-use Rattle.slotmap_core.specs.{JoinedLaw.JoinedRemovedForGood, JoinedLaw.JoinedFindsNothing, declared.commands.Command.Command, declared.commands.Reply.Reply}
+use Rattle.slotmap_core.specs.{Key.Key, Key.key_cmp, JoinedLaw.JoinedRemovedForGood, JoinedLaw.JoinedFindsNothing}
+use Rattle.slotmap_core.specs.declared.commands.{DetachCommand.DetachCommand, Command.Command, Reply.Reply}
+use Rattle.slotmap_core.specs.declared.joined.{JoinedDetachCommand.JoinedDetachCommand, JoinedReply.JoinedReply}
 use Rattle.slotmap_core.proofs.General.Positions.{split_at, split_at_two, stands_between, stands_after, stands_past, zipped_at, zipped_by_positions}
-use Rattle.slotmap_core.proofs.{General.KeyLemmas.keys_total, General.KeyLemmas.exact_keys, General.Maps.in_inserted}
+use Rattle.slotmap_core.proofs.General.{KeyLemmas.keys_total, KeyLemmas.exact_keys, Maps.in_inserted}
 use Rattle.std.specs.FinMap as map
 use Rattle.slotmap_core.specs.declared.commands.Command.TheVariants as command
 use Rattle.slotmap_core.specs.declared.commands.DetachCommand.TheVariants as detaching

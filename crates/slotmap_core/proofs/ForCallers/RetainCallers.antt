@@ -3,7 +3,9 @@
 use Rattle.std.proofs.Common.{◌≡◌, ◌↔◌, IsTrue, Bool, true, false, not, cond, if◌then◌else◌, Option, Some, None, refl, sym, ap, ◌∙◌}
 use Rattle.std.specs.{Fn.Mut, Fn.Called, Borrow.MutBor, Option.option_and_then, Ordering.eq_by_cmp}
 use Rattle.slotmap_core.specs.{Key.Key, Key.key_cmp, Retain.RetainsBy}
-use Rattle.slotmap_core.proofs.{General.KeyLemmas.keys_total, General.KeyLemmas.exact_keys, General.KeyLemmas.tied, General.KeyLemmas.itself, General.Maps.same_bool, Several.RetainLemmas.retained_as}
+use Rattle.slotmap_core.proofs.General.KeyLemmas.{keys_total, exact_keys, tied, itself}
+use Rattle.slotmap_core.proofs.General.Maps.{same_bool}
+use Rattle.slotmap_core.proofs.Several.RetainLemmas.{retained_as}
 use Rattle.std.specs.FinMap as map
 
 kept_but : {V : Type 0} (same stays : Bool) (after before : V) → stays ≡ not same → after ≡ before → cond stays (Some after) None ≡ (if same then None else Some before)

@@ -2,9 +2,11 @@
 -- For callers.
 use Rattle.std.proofs.Common.{◌≡◌, ◌≢◌, ℕ, zero, ◌+◌, ◌-◌, ◌<◌, ◌≤◌, List, ◌∷◌, ◌++◌, length, take, drop, slice_get, Some, false, ◌⊎◌, ◌∙◌, arith}
 use Rattle.std.proofs.Common.{suc, [], Ok, Bool, true, refl, sym, ap}
-use Rattle.std.specs.{List.IsDistinct, List.AllByRecursion, List.AllZip, Ordering.eq_by_cmp}
+use Rattle.std.specs.List.{IsDistinct, AllByRecursion, AllZip}
+use Rattle.std.specs.Ordering.{eq_by_cmp}
 use Rattle.slotmap_core.specs.Law.{reply_keys, keys_told, NoKeyTwice, ReserveHolds, IsRefusal, Spares, DetachedNotReissued, DetachedReattaches, ReattachBinds}
-use Rattle.slotmap_core.specs.{Key.Key, Key.key_cmp, Run.Run, declared.commands.Command.Command, declared.commands.DetachCommand.DetachCommand, declared.commands.Reply.Reply}
+use Rattle.slotmap_core.specs.{Key.Key, Key.key_cmp, Run.Run}
+use Rattle.slotmap_core.specs.declared.commands.{Command.Command, DetachCommand.DetachCommand, Reply.Reply}
 use Rattle.slotmap_core.proofs.General.KeyLemmas.{keys_total, exact_keys, untied}
 use Rattle.slotmap_core.proofs.General.Positions.{split_at, split_at_two, split_at_pair, stands_between, at_seam, at_in_part, zipped_by_positions}
 use Rattle.slotmap_core.specs.declared.commands.Command.TheVariants as command

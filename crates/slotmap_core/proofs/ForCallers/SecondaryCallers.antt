@@ -1,10 +1,13 @@
 -- What a caller of a secondary map needs, in one list for `using`.
 -- For callers.
-use Rattle.std.proofs.{Common.◌≡◌, Common.◌≢◌, Common.true, Common.None, Common.Some, Common.arith, Common.ap, Common.◌∙◌, lemmas.Map.Lookups.exact_unsigned}
+use Rattle.std.proofs.Common.{◌≡◌, ◌≢◌, true, None, Some, arith, ap, ◌∙◌}
+use Rattle.std.proofs.lemmas.Map.Lookups.{exact_unsigned}
 use Rattle.std.specs.{Ordering.nat_cmp, Cmp.nat_cmp_total}
-use Rattle.slotmap_core.specs.{Key.Key, Secondary.Pairs, Secondary.get, Secondary.bind, Secondary.put, Secondary.remove, Secondary.entry, Secondary.has_entry, Secondary.value_at}
+use Rattle.slotmap_core.specs.Key.{Key}
+use Rattle.slotmap_core.specs.Secondary.{Pairs, get, bind, put, remove, entry, has_entry, value_at}
 use Rattle.slotmap_core.proofs.SecondaryMaps.SecondaryLemmas.{get_bound, put_bound, put_nothing}
-use Rattle.slotmap_core.proofs.{General.Maps.get_inserted, General.Maps.get_other, General.Maps.get_left, SecondaryMaps.SecondaryEqualLemmas.equal_where, SecondaryMaps.AtIndexLemmas.removed_gone}
+use Rattle.slotmap_core.proofs.General.Maps.{get_inserted, get_other, get_left}
+use Rattle.slotmap_core.proofs.SecondaryMaps.{SecondaryEqualLemmas.equal_where, AtIndexLemmas.removed_gone}
 use Rattle.std.specs.FinMap as map
 
 module _ {V : Type 0} where

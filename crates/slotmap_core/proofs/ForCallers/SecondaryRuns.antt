@@ -2,7 +2,8 @@
 -- For runs and callers.
 use Rattle.std.proofs.Common.{◌≡◌, List, [], ◌∷◌, refl, sym, ◌∙◌, arith}
 use Rattle.slotmap_core.specs.Words.{AllByRecursion, Key, Pairs, Run, HadMemory, Shows, seen_by, EachAgrees}
-use Rattle.slotmap_core.specs.{SecondaryStep.SideGiven, SecondaryStep.SideStep, declared.secondary.SecondaryCommand.SecondaryCommand, declared.secondary.SecondaryReply.SecondaryReply}
+use Rattle.slotmap_core.specs.SecondaryStep.{SideGiven, SideStep}
+use Rattle.slotmap_core.specs.declared.secondary.{SecondaryCommand.SecondaryCommand, SecondaryReply.SecondaryReply}
 
 module _ {K V R : Type 0} (data_of : K → Key) (looks others_look : V → R → Type 0) (same : (v : V) (r s : R) → looks v r → others_look v s → s ≡ r) where
   abbrev one : SideGiven K V R

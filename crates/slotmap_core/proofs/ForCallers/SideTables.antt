@@ -3,8 +3,9 @@
 use Rattle.std.proofs.Common.{◌≡◌, ◌≢◌, ℕ, Bool, true, false, inl, Some, None, Result, IfOk, IsErr, OnOk, OnErr, arith}
 use Rattle.slotmap_core.specs.Words.{Key, IsBeside, Content, IsContent, IsLive, Pairs, get, contains_key, entry, has_entry, put, remove, Inserts, Keeps}
 use Rattle.slotmap_core.proofs.ForCallers.SecondaryCallers.{get_none, get-put_here, get-put_elsewhere, get-bind_follower}
-use Rattle.slotmap_core.proofs.{ForCallers.Callers.live-insert_still, ForCallers.Callers.live-remove_other, SecondaryMaps.AtIndexLemmas.removed_gone, SecondaryMaps.AtIndexLemmas.others_stay}
-use Rattle.slotmap_core.proofs.{General.KeyLemmas.same_or_other, General.KeyLemmas.nat_tests, General.Maps.none_of, General.Maps.false_of}
+use Rattle.slotmap_core.proofs.ForCallers.Callers.{live-insert_still, live-remove_other}
+use Rattle.slotmap_core.proofs.SecondaryMaps.AtIndexLemmas.{removed_gone, others_stay}
+use Rattle.slotmap_core.proofs.General.{KeyLemmas.same_or_other, KeyLemmas.nat_tests, Maps.none_of, Maps.false_of}
 use Rattle.std.specs.FinMap as map
 
 module _ {E V : Type 0} (c new : Content E) (m : Pairs V) (beside : IsBeside c m) where

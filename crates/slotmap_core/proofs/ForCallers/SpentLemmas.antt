@@ -7,7 +7,8 @@ use Rattle.slotmap_core.specs.Words.{Key, IsLive, Stands, places, MayGrow, IsCop
 use Rattle.slotmap_core.proofs.Contents.LeaveLemmas.{Leaves-refl, Leaves-keeps, Leaves-with_value, Leaves-trans, Leaves-removes, was_live, same_live, live_no_more}
 use Rattle.slotmap_core.proofs.Places.PlaceCount.{places_grow, detached_places, reattached_places}
 use Rattle.slotmap_core.proofs.Contents.StandsLemmas.{inserted_stands, inserted_vacant, detached_stands, reattached_stands, left_stands}
-use Rattle.slotmap_core.proofs.{Contents.CloneLemmas.clone_places, General.Maps.false_of, General.Maps.none_of}
+use Rattle.slotmap_core.proofs.Contents.CloneLemmas.{clone_places}
+use Rattle.slotmap_core.proofs.General.Maps.{false_of, none_of}
 use Rattle.std.specs.FinMap as map
 use Rattle.std.specs.FinSet as set
 

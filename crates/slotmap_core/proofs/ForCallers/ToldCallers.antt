@@ -2,8 +2,11 @@
 -- For callers.
 use Rattle.std.proofs.Common.{◌≡◌, ◌≢◌, ℕ, zero, suc, ◌+◌, ◌-◌, ◌<◌, List, [], ◌∷◌, take, drop, slice_get, Some, Ok, true, refl, ap, ◌∙◌, arith}
 use Rattle.std.specs.List.{AllByRecursion}
-use Rattle.slotmap_core.specs.{Key.Key, Told.Knowledge, Told.has, Told.told, Told.Reads, Told.ReadsWhatWasPut, declared.commands.DetachCommand.DetachCommand, declared.commands.Reply.Reply}
-use Rattle.slotmap_core.proofs.{General.KeyLemmas.keys_total, General.KeyLemmas.exact_keys, General.KeyLemmas.itself, General.KeyLemmas.tied, General.Positions.at_in_part}
+use Rattle.slotmap_core.specs.Key.{Key}
+use Rattle.slotmap_core.specs.Told.{Knowledge, has, told, Reads, ReadsWhatWasPut}
+use Rattle.slotmap_core.specs.declared.commands.{DetachCommand.DetachCommand, Reply.Reply}
+use Rattle.slotmap_core.proofs.General.KeyLemmas.{keys_total, exact_keys, itself, tied}
+use Rattle.slotmap_core.proofs.General.Positions.{at_in_part}
 use Rattle.slotmap_core.specs.declared.commands.Command.TheVariants as command
 use Rattle.slotmap_core.specs.declared.commands.DetachCommand.TheVariants as detaching
 use Rattle.slotmap_core.specs.declared.commands.Reply.TheVariants as reply

@@ -3,7 +3,7 @@
 use Rattle.std.proofs.Common.{◌≡◌, List, [], ◌∷◌, Some, ◌⊎◌, inl, arith}
 use Rattle.std.proofs.lemmas.List.Elements.{All-head, All-tail}
 use Rattle.slotmap_core.specs.Words.{All, Contains, Key, key_cmp, IsListing}
-use Rattle.slotmap_core.proofs.{General.KeyLemmas.keys_total, General.KeyLemmas.exact_keys, General.ListingLemmas.all_live, General.ListingLemmas.listed}
+use Rattle.slotmap_core.proofs.General.{KeyLemmas.keys_total, KeyLemmas.exact_keys, ListingLemmas.all_live, ListingLemmas.listed}
 use Rattle.std.specs.FinMap as map
 
 module _ {V : Type 0} where

@@ -5,7 +5,8 @@ use Rattle.std.proofs.Common.{◌≡◌, ◌≢◌, ◌+◌, ◌%◌, ◌<◌, s
 use Rattle.slotmap_core.specs.Words.{Key, last_version, gather, is_vacant_version, last_issued, live_slot, vacant_slot, retired_slot, issued_slot, start_live, start_next, start_retired, start_issued}
 use Rattle.slotmap_core.specs.declared.serial.SlotRecord.{SlotRecord}
 use Rattle.slotmap_core.proofs.General.MapLaws.{live_laws, detached_laws, next_laws, is_marked}
-use Rattle.slotmap_core.proofs.{General.GatherLemmas.IsFinite, General.GatherLemmas.get-gather, Places.PlacesLemmas.key}
+use Rattle.slotmap_core.proofs.General.GatherLemmas.{IsFinite, get-gather}
+use Rattle.slotmap_core.proofs.Places.PlacesLemmas.{key}
 use Rattle.std.specs.FinMap as map
 use Rattle.std.specs.FinSet as set
 

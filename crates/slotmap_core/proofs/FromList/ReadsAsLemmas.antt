@@ -1,11 +1,12 @@
 -- What holds of a map that was read from a list of slots.
 -- For the crates of maps.
 use Rattle.std.proofs.Common.{◌≡◌, ◌+◌, ◌∷◌, ◌++◌, sym, subst, ◌∙◌, arith, ℕ, Bool, List, length, Option, MatchOption}
-use Rattle.std.proofs.{lemmas.Grind.common_steps, lemmas.Option.slice_get-get_or, lemmas.Option.slice_get_within}
+use Rattle.std.proofs.lemmas.{Grind.common_steps, Option.slice_get-get_or, Option.slice_get_within}
 use Rattle.slotmap_core.specs.Words.{Content, IsContent, start_places, StartsFrom, ReadsAs, IsConsistent, Accepts, Writes, records_of}
 use Rattle.slotmap_core.specs.declared.serial.SlotRecord.{SlotRecord}
 use Rattle.slotmap_core.proofs.FromList.StartLemmas.{live-start_places, retired-start_places, next-start_places, detached-start_places, sentinel-start_places}
-use Rattle.slotmap_core.proofs.{FromList.StartFits.starts-fit, FromList.WrittenLemmas.writes-places, FromList.WrittenLemmas.written-restores, FromList.WrittenLemmas.written-again}
+use Rattle.slotmap_core.proofs.FromList.StartFits.{starts-fit}
+use Rattle.slotmap_core.proofs.FromList.WrittenLemmas.{writes-places, written-restores, written-again}
 
 -- what holds of every map that was read from an accepted list
 pub reads_as : {V : Type 0} (slots : List (SlotRecord V)) (limit : ℕ) → Accepts slots limit → (reuses : Bool) (c : Content V) → StartsFrom slots c

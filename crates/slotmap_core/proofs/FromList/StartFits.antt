@@ -1,12 +1,14 @@
 -- The content of a map that is read from a list, and the state of the machine for it.
 -- For the crates of maps.
 use Rattle.std.proofs.Common.{◌≡◌, ◌≢◌, inl, ◌+◌, ◌%◌, sym, ◌∙◌, arith, ℕ, Bool, true, List, slice_get, Some}
-use Rattle.std.proofs.{lemmas.Bool.Decides.nat_tests, lemmas.Option.slice_get_within, lemmas.Option.same_Some}
+use Rattle.std.proofs.lemmas.Bool.Decides.{nat_tests}
+use Rattle.std.proofs.lemmas.Option.{slice_get_within, same_Some}
 use Rattle.slotmap_core.specs.Words.{Key, Content, IsContent, Stands, start_stack, StartsFrom, start_state, start_places, Fits, IsIssued, Accepts, StackMap, content_of_places}
 use Rattle.slotmap_core.specs.declared.serial.SlotRecord.{SlotRecord}
 use Rattle.slotmap_core.proofs.FromList.AtKeysLemmas.{LiveSlot, live_in, in_contents, next_in, in_start_next, retired_in, in_start_retired, issued_in, in_start_issued}
 use Rattle.slotmap_core.proofs.FromList.StartLemmas.{consistent_at, length-start_places, sentinel-start_places, live-start_places, retired-start_places, next-start_places, detached-start_places}
-use Rattle.slotmap_core.proofs.{Places.PlacesLemmas.total, Contents.Retired.IsRetiredIn, Contents.Retired.retired_is}
+use Rattle.slotmap_core.proofs.Places.PlacesLemmas.{total}
+use Rattle.slotmap_core.proofs.Contents.Retired.{IsRetiredIn, retired_is}
 use Rattle.std.specs.FinSet as set
 
 module _ {V : Type 0} (slots : List (SlotRecord V)) (limit : ℕ) (accepted : Accepts slots limit) where

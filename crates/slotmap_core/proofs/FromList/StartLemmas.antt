@@ -1,10 +1,12 @@
 -- The content of a map whose places come from the slots of an accepted list.
 -- For the crates of maps.
 use Rattle.std.proofs.Common.{◌≡◌, ◌≢◌, ◌+◌, ◌%◌, ◌<◌, ◌∷◌, ◌++◌, refl, ap, arith, ℕ, suc, List, [], length, map as list_map, slice_get, Option, None}
-use Rattle.std.proofs.{lemmas.Bool.Decides.nat_tests, lemmas.List.length-map, lemmas.List.map-append, lemmas.Option.slice_get-map, lemmas.Option.slice_get_within}
+use Rattle.std.proofs.lemmas.Bool.Decides.{nat_tests}
+use Rattle.std.proofs.lemmas.{List.length-map, List.map-append, Option.slice_get-map, Option.slice_get_within}
 use Rattle.slotmap_core.specs.Words.{vacant_slot, retired_slot, start_live, start_next, start_retired, place_of_record, start_places, detached_entry, retired_entry, IsConsistent, AllConsistentBelow}
 use Rattle.slotmap_core.specs.Words.{Some, is_some, key_cmp, live_slot, gather, Place, Vacant, live_entry, next_entry, live, detached, next, Accepts}
-use Rattle.slotmap_core.specs.{declared.serial.SlotRecord.SlotRecord, Places.retired}
+use Rattle.slotmap_core.specs.declared.serial.SlotRecord.{SlotRecord}
+use Rattle.slotmap_core.specs.Places.{retired}
 use Rattle.std.specs.FinMap as map
 use Rattle.std.specs.FinSet as set
 

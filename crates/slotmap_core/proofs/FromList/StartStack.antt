@@ -1,13 +1,14 @@
 -- The stack of a map that is read from a list. It has each vacant index once, and it and the places are well formed.
 -- For the crates of maps.
 use Rattle.std.proofs.Common.{◌≡◌, ◌⊎◌, ◌↔◌, ◌+◌, ◌^◌, ◌<◌, ◌≤◌, ◌∷◌, ◌++◌, sym, ap, subst, ◌∙◌, arith, refl, ℕ, zero, suc, true, List, []}
-use Rattle.std.proofs.{lemmas.List.length_push, lemmas.Option.slice_get_within, lemmas.Option.same_Some}
+use Rattle.std.proofs.lemmas.{List.length_push, Option.slice_get_within, Option.same_Some}
 use Rattle.slotmap_core.specs.Words.{nat_cmp_total, vacant_slot, start_next, start_stack, start_places, gather, Place, Vacant, Accepts, AllFitBelow, HasVersion, IsStacked, slice_get, is_some, nat_cmp}
 use Rattle.slotmap_core.specs.Words.{next, IsOn, IsOnce, length, Option, None, Some}
 use Rattle.slotmap_core.specs.declared.serial.SlotRecord.{SlotRecord}
 use Rattle.slotmap_core.proofs.FromList.StartLemmas.{consistent_at, length-start_places, start_place_at, sentinel-start_places, next-start_places}
-use Rattle.slotmap_core.proofs.{FromList.AtKeysLemmas.vacant_fits, FromList.AtKeysLemmas.next_in, General.GatherLemmas.get_before, Places.PlacesLemmas.get-next_at, Places.PlacesLemmas.vacant_at}
-use Rattle.slotmap_core.proofs.{General.GatherLemmas.len-add, General.MapLaws.next_laws, General.Maps.some_is}
+use Rattle.slotmap_core.proofs.FromList.AtKeysLemmas.{vacant_fits, next_in}
+use Rattle.slotmap_core.proofs.General.{GatherLemmas.get_before, GatherLemmas.len-add, MapLaws.next_laws, Maps.some_is}
+use Rattle.slotmap_core.proofs.Places.PlacesLemmas.{get-next_at, vacant_at}
 use Rattle.std.specs.FinMap as map
 
 on_pushed : (is : List ℕ) (i j : ℕ) → IsOn (is ++ i ∷ []) j ↔ ((j ≡ i) ⊎ IsOn is j)

@@ -6,7 +6,8 @@ use Rattle.slotmap_core.specs.Words.{ClonesEqual, IsCloneOf, Content, IsContent,
 use Rattle.slotmap_core.specs.declared.serial.SlotRecord.{SlotRecord}
 use Rattle.slotmap_core.proofs.Contents.CloneLemmas.{clone_places, clone_copies, IsContent-clone_same}
 use Rattle.slotmap_core.proofs.General.ListLemmas.{zip_length, zip_left, zip_right}
-use Rattle.slotmap_core.proofs.{FromList.AtKeysLemmas.live_in, FromList.AtKeysLemmas.in_contents, General.Maps.some_is, FromList.WrittenLemmas.written-contents}
+use Rattle.slotmap_core.proofs.FromList.{AtKeysLemmas.live_in, AtKeysLemmas.in_contents, WrittenLemmas.written-contents}
+use Rattle.slotmap_core.proofs.General.Maps.{some_is}
 use Rattle.std.specs.FinMap as map
 
 module _ {V : Type 0} (is_clone : V → V → Type 0) where

@@ -1,15 +1,19 @@
 -- The list that a map is written as: from its places, that it is accepted, and what is read from it.
 -- For the crates of maps.
 use Rattle.std.proofs.Common.{◌≡◌, ◌≢◌, ◌⊎◌, inl, inr, ◌+◌, ◌-◌, ◌%◌, ◌<◌, ◌≤◌, sym, ap, ◌∙◌, arith, eq-eqb, refl, ℕ, Bool, true, false, List, length}
-use Rattle.std.proofs.{lemmas.List.length-map, lemmas.List.same_lists, lemmas.Option.slice_get-map, lemmas.Option.slice_get_within, lemmas.Option.slice_get-get_or}
+use Rattle.std.proofs.lemmas.List.{length-map, same_lists}
+use Rattle.std.proofs.lemmas.Option.{slice_get-map, slice_get_within, slice_get-get_or}
 use Rattle.slotmap_core.specs.Words.{last_version, next_version, IsDetached, IsVacant, start_live, StartsFrom, retired_entry, content_of_places, following_version, filled_slot, empty_slot, records_of}
 use Rattle.slotmap_core.specs.Words.{is_last, Content, IsContent, IsRetired, places, Detached, Retired, detached, Accepts, StackMap, IsStacked, Restores, record_of, read_slots, slice_get, is_some}
 use Rattle.slotmap_core.specs.Words.{Key, IsKey, Uses, Place, Live, Vacant, live, next, Writes, Some, get_or}
-use Rattle.slotmap_core.specs.{declared.serial.SlotRecord.SlotRecord, Places.retired}
+use Rattle.slotmap_core.specs.declared.serial.SlotRecord.{SlotRecord}
+use Rattle.slotmap_core.specs.Places.{retired}
 use Rattle.slotmap_core.proofs.FromList.AtKeysLemmas.{gathers, live_in, in_contents, next_in, in_start_next, retired_in, in_start_retired}
 use Rattle.slotmap_core.proofs.General.KeyLemmas.{exact_keys, keys_total, nat_tests}
 use Rattle.slotmap_core.proofs.Places.PlacesLemmas.{key, get-live, get-live_at, get-next_at, vacant_at, retired_at, contains-detached, total, retired_fits}
-use Rattle.slotmap_core.proofs.{Contents.ContentLemmas.some_is, General.MapLaws.detached_laws, General.MapLaws.is_marked, FromList.StartLemmas.consistent_at}
+use Rattle.slotmap_core.proofs.Contents.ContentLemmas.{some_is}
+use Rattle.slotmap_core.proofs.General.MapLaws.{detached_laws, is_marked}
+use Rattle.slotmap_core.proofs.FromList.StartLemmas.{consistent_at}
 use Rattle.std.specs.FinMap as map
 use Rattle.std.specs.FinSet as set
 

@@ -2,7 +2,8 @@
 -- For the crates of maps.
 use Rattle.std.proofs.Common.{◌≡◌, ◌≢◌, ◌⊎◌, ◌+◌, ◌<◌, ◌∷◌, ◌++◌, set, arith, ℕ, zero, suc, Bool, true, cond, List, [], length, slice_get, Option, None, Some}
 use Rattle.std.proofs.lemmas.Option.{gets, slice_get_cases, slice_get-get_or, slice_get_within, slice_get_past}
-use Rattle.std.proofs.{lemmas.Grind.common_steps, lemmas.List.length-set, lemmas.List.get_or-set_same, lemmas.List.get_or-set_other}
+use Rattle.std.proofs.lemmas.Grind.{common_steps}
+use Rattle.std.proofs.lemmas.List.{length-set, get_or-set_same, get_or-set_other}
 use Rattle.slotmap_core.specs.Words.{AllZip, add, gather, is_some, refl}
 
 -- the laws of a finite map, by its look-ups

@@ -1,7 +1,8 @@
 -- Keys are totally ordered, and only a key ties with itself.
 -- For the crates of maps, runs and callers.
 use Rattle.std.proofs.Common.{◌≡◌, ◌≢◌, ℕ, ◌-◌, ◌%◌, ◌^◌, ◌<◌, true, false, ◌⊎◌, ap, is_eq, arith}
-use Rattle.std.proofs.{lemmas.Cmp.on_total, lemmas.Cmp.then_total, lemmas.Map.Lookups.exact_pairs}
+use Rattle.std.proofs.lemmas.Cmp.{on_total, then_total}
+use Rattle.std.proofs.lemmas.Map.Lookups.{exact_pairs}
 use Rattle.std.specs.declared.cmp.Ordering.{Ordering}
 use Rattle.slotmap_core.specs.Words.{nat_cmp, eq_by_cmp, tied_itself, Equal-is, Key, key_cmp, key_from}
 -- the order of indices and versions, passed on to each proof about keys

@@ -2,7 +2,8 @@
 -- For the crates of maps.
 use Rattle.std.proofs.Common.{◌≡◌, ◌≢◌, ◌+◌, ◌<◌, ◌∷◌, ◌++◌, sym, ap, ◌∙◌, arith, ℕ, zero, suc, option_map, List, [], length, take, drop, slice_get, get_or}
 use Rattle.std.proofs.lemmas.Option.{slice_get_within, slice_get_cases, slice_get_read, get_or_from_slice_get}
-use Rattle.std.proofs.{lemmas.List.Elements.all_zip_more, lemmas.Slice.Zip.AllZip-left, lemmas.Slice.Zip.AllZip-right}
+use Rattle.std.proofs.lemmas.List.Elements.{all_zip_more}
+use Rattle.std.proofs.lemmas.Slice.Zip.{AllZip-left, AllZip-right}
 use Rattle.slotmap_core.specs.Words.{AllZip, Option, Some, None, IfNone, Result, IsOk, IsErr, refl}
 -- as many elements are in both of two lists that are related one by one
 pub use Rattle.std.proofs.lemmas.Slice.Zip.{AllZip-long as zip_length}

@@ -2,9 +2,10 @@
 -- For the crates of maps.
 use Rattle.std.proofs.Common.{◌≡◌, ℕ, zero, suc, ◌+◌, ◌<◌, ◌≤◌, true, false, List, ◌∷◌, ◌++◌, length, get_or, map as list_map, Some, None, inl, refl, ◌∙◌, arith}
 use Rattle.std.proofs.Common.{[], inr, sym, ap}
-use Rattle.std.proofs.{lemmas.Bool.cases_Bool, lemmas.List.length_push, lemmas.List.length-map}
+use Rattle.std.proofs.lemmas.{Bool.cases_Bool, List.length_push, List.length-map}
 use Rattle.slotmap_core.specs.Words.{All, Contains, option_or, eq_by_cmp, find, is_some-find, Key, key_cmp, IsListing, IsKeyListing, IsListingBut, with_entries}
-use Rattle.slotmap_core.proofs.{General.KeyLemmas.keys_total, General.KeyLemmas.exact_keys, General.KeyLemmas.tied, General.KeyLemmas.itself, General.Maps.insert_same, General.Maps.len_removed}
+use Rattle.slotmap_core.proofs.General.KeyLemmas.{keys_total, exact_keys, tied, itself}
+use Rattle.slotmap_core.proofs.General.Maps.{insert_same, len_removed}
 use Rattle.std.specs.FinMap as map
 use Rattle.std.specs.FinSet as set
 

@@ -1,11 +1,11 @@
 -- Finite maps and sets satisfy the laws that gathering relies on.
 -- For the crates of maps.
 use Rattle.std.proofs.Common.{◌≡◌, ℕ, Bool, cond, ◌==◌, Ordering, Option, None, Some, is_some, nat_cmp, arith}
-use Rattle.std.specs.FinMap as map
-use Rattle.std.specs.FinSet as set
 use Rattle.slotmap_core.specs.Words.{eq_by_cmp, Key, key_cmp}
 use Rattle.slotmap_core.proofs.General.KeyLemmas.{exact_keys, keys_total, tied, itself, nat_tests, nat_cmp_total, CmpEqualImpliesEq, exact_unsigned, IsTotalOrder}
 use Rattle.slotmap_core.proofs.General.GatherLemmas.{IsFinite}
+use Rattle.std.specs.FinMap as map
+use Rattle.std.specs.FinSet as set
 
 pub map_laws : {K X : Type 0} {R : K → K → Ordering} → IsTotalOrder R → CmpEqualImpliesEq R
     → IsFinite {X = X} (eq_by_cmp R) (map.empty {X = X} {R = R}) map.get (λ m e. map.insert m e.0 e.1) map.remove map.len

@@ -3,9 +3,9 @@
 use Rattle.std.proofs.Common.{◌≡◌, ◌≢◌, ℕ, zero, suc, ◌+◌, ◌≤◌, Option, Some, None, Bool, true, false, not, List, [], ◌∷◌, length, ◌⊎◌, inl, inr, refl, sym}
 use Rattle.std.proofs.Common.{◌∙◌, subst, ap, arith, is_some}
 use Rattle.std.specs.declared.cmp.Ordering.{Ordering}
+use Rattle.slotmap_core.proofs.General.KeyLemmas.{tied, untied, itself, alike_or_apart, IsTotalOrder, CmpEqualImpliesEq}
 use Rattle.std.specs.FinMap as map
 use Rattle.std.specs.FinSet as set
-use Rattle.slotmap_core.proofs.General.KeyLemmas.{tied, untied, itself, alike_or_apart, IsTotalOrder, CmpEqualImpliesEq}
 pub use Rattle.std.proofs.lemmas.Bool.{and_parts as of_and, or_cases as of_or, or_left, or_right, false_from_ne_true as false_of}
 
 pub same_bool : (a b : Bool) → (a ≡ true → b ≡ true) → (b ≡ true → a ≡ true) → a ≡ b

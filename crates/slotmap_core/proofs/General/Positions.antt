@@ -1,8 +1,9 @@
 -- Lists cut at positions: what stands before an element, between two of them and after.
 -- For runs.
 use Rattle.std.proofs.Common.{◌≡◌, ◌+◌, ◌<◌, ◌∷◌, ◌++◌, sym, ap, ◌∙◌, append_assoc, length-append, arith, ℕ, zero, suc, List, [], length, take, drop}
-use Rattle.std.proofs.lemmas.Option.{slice_get_within, get_or_from_slice_get}
-use Rattle.std.proofs.{lemmas.Grind.common_steps, lemmas.List.nil_from_length, lemmas.List.Elements.All-from_recursion, lemmas.Slice.Zip.AllZip-left}
+use Rattle.std.proofs.lemmas.{Option.slice_get_within, Option.get_or_from_slice_get, Grind.common_steps, List.nil_from_length}
+use Rattle.std.proofs.lemmas.List.Elements.{All-from_recursion}
+use Rattle.std.proofs.lemmas.Slice.Zip.{AllZip-left}
 use Rattle.slotmap_core.specs.Words.{AllByRecursion, AllZip, slice_get, Some, refl}
 
 module _ {X : Type 0} where

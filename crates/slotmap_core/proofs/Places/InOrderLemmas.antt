@@ -1,9 +1,9 @@
 -- The live keys of a list of places and their values, by ascending index, are the entries of the map of these places.
 -- For the crates of maps.
 use Rattle.std.proofs.Common.{◌≡◌, ℕ, ◌+◌, ◌<◌, T, List, [], ◌∷◌, refl, sym, ap, ◌∙◌, arith}
-use Rattle.std.specs.FinMap as map
 use Rattle.slotmap_core.specs.Words.{below_all, is_sorted, Key, key_cmp, gather, IsListing, Place, live_entry, live}
 use Rattle.slotmap_core.proofs.General.KeyLemmas.{keys_total, exact_keys, nat_tests}
+use Rattle.std.specs.FinMap as map
 
 module _ {V : Type 0} where
   -- the live keys of these places and their values, where the first place has index i

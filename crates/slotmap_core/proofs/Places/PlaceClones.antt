@@ -2,9 +2,12 @@
 -- For the crates of maps.
 use Rattle.std.proofs.Common.{◌≡◌, ℕ, List, [], ◌∷◌, length, slice_get, Option, Some, is_some, ap, arith}
 use Rattle.std.proofs.lemmas.Slice.Zip.{AllZip-left, AllZip-right}
-use Rattle.slotmap_core.specs.{Words.IsCloneOf, Words.IsPlaceClone, Words.ArePlaceClones, Words.detached_entry, Words.retired_entry, Words.next_entry, Words.content_of_places, Words.HasVersion}
-use Rattle.slotmap_core.specs.{Words.IsCloneBy, Words.Key, Words.Place, Words.Vacant, Words.live, Words.detached, Words.next, Words.offer, Words.IsStacked, Places.retired}
-use Rattle.slotmap_core.proofs.{General.GatherLemmas.gather-agree, General.ListLemmas.zip_length, General.ListLemmas.zip_left, General.ListLemmas.zip_right, Places.PlacesLemmas.get-live}
+use Rattle.slotmap_core.specs.Words.{IsCloneOf, IsPlaceClone, ArePlaceClones, detached_entry, retired_entry, next_entry, content_of_places, HasVersion, IsCloneBy, Key, Place, Vacant, live, detached}
+use Rattle.slotmap_core.specs.Words.{next, offer, IsStacked}
+use Rattle.slotmap_core.specs.Places.{retired}
+use Rattle.slotmap_core.proofs.General.GatherLemmas.{gather-agree}
+use Rattle.slotmap_core.proofs.General.ListLemmas.{zip_length, zip_left, zip_right}
+use Rattle.slotmap_core.proofs.Places.PlacesLemmas.{get-live}
 use Rattle.std.specs.FinMap as map
 use Rattle.std.specs.FinSet as set
 

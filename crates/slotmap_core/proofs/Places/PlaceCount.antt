@@ -1,9 +1,11 @@
 -- How the number of places changes.
 -- For the crates of maps and runs.
-use Rattle.std.proofs.{Common.◌≡◌, Common.◌≢◌, Common.◌+◌, Common.◌<◌, Common.max, Common.Some, Common.Bool, Common.◌⊎◌, Common.ap, Common.arith, lemmas.Grind.common_steps}
+use Rattle.std.proofs.Common.{◌≡◌, ◌≢◌, ◌+◌, ◌<◌, max, Some, Bool, ◌⊎◌, ap, arith}
+use Rattle.std.proofs.lemmas.Grind.{common_steps}
 use Rattle.slotmap_core.specs.Words.{Key, Content, IsContent, Stands, IsLive, used, places, most, Inserts, Keeps, Removes, Replaces, Detaches, Reattaches}
 use Rattle.slotmap_core.proofs.General.Maps.{false_of, len_inserted, len_removed, len_item_inserted, len_item_removed}
-use Rattle.slotmap_core.proofs.{General.KeyLemmas.keys_total, General.KeyLemmas.exact_keys, General.KeyLemmas.nat_cmp_total, Contents.Retired.len_retired_freed}
+use Rattle.slotmap_core.proofs.General.KeyLemmas.{keys_total, exact_keys, nat_cmp_total}
+use Rattle.slotmap_core.proofs.Contents.Retired.{len_retired_freed}
 use Rattle.std.specs.FinMap as map
 use Rattle.std.specs.FinSet as set
 

@@ -2,14 +2,14 @@
 -- For the crates of maps.
 use Rattle.std.proofs.Common.{◌≡◌, ◌≢◌, ◌+◌, ◌<◌, ◌≤◌, ◌∷◌, ◌++◌, set, arith, eq-eqb, ℕ, true, cond, List, [], length, slice_get, Option, None, Some, is_some}
 use Rattle.std.proofs.lemmas.Option.{slice_get_past}
-use Rattle.std.specs.FinMap as map
-use Rattle.std.specs.FinSet as set
-use Rattle.slotmap_core.specs.Words.{Key, key_cmp, last_version, add, gather, Place, Live, Detached, Vacant, Retired, live_entry, detached_entry}
-use Rattle.slotmap_core.specs.Words.{retired_entry, next_entry, live, detached, next, live_value, is_detached_at, refl, nat_cmp}
+use Rattle.slotmap_core.specs.Words.{Key, key_cmp, last_version, add, gather, Place, Live, Detached, Vacant, Retired, live_entry, detached_entry, retired_entry, next_entry, live, detached, next}
+use Rattle.slotmap_core.specs.Words.{live_value, is_detached_at, refl, nat_cmp}
 use Rattle.slotmap_core.specs.Places.{retired}
 use Rattle.slotmap_core.proofs.General.KeyLemmas.{itself, nat_cmp_total, exact_unsigned}
 use Rattle.slotmap_core.proofs.General.MapLaws.{live_laws, detached_laws, next_laws, remove_absent, key_tie}
 use Rattle.slotmap_core.proofs.General.GatherLemmas.{look, get-gather, len-add, gather-set, gather-push, len-set, len-push}
+use Rattle.std.specs.FinMap as map
+use Rattle.std.specs.FinSet as set
 
 abbrev pub key : ℕ → ℕ → Key
 key i version = record { index = i; version = version }

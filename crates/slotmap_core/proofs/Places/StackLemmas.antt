@@ -2,7 +2,7 @@
 -- For the crates of maps.
 use Rattle.std.proofs.Common.{◌≡◌, ◌≢◌, ◌⊎◌, ◌+◌, ◌^◌, ◌<◌, List, ◌∷◌, ◌++◌, length, slice_get, Some, is_some, cond, refl, subst, ◌∙◌, arith, ⊎_elim}
 use Rattle.std.proofs.Common.{inl, inr, ℕ, [], set, sym, ap}
-use Rattle.std.proofs.{lemmas.Option.slice_get_within, lemmas.Option.same_Some, lemmas.List.length-set, lemmas.List.length_push}
+use Rattle.std.proofs.lemmas.{Option.slice_get_within, Option.same_Some, List.length-set, List.length_push}
 use Rattle.slotmap_core.specs.Words.{nat_cmp, key_cmp, Place, Live, Vacant, live, used_places, IsOn, IsOnce, IsVersion, HasVersion, IsStacked}
 use Rattle.slotmap_core.proofs.General.GatherLemmas.{slice_get-set_same, slice_get-set_other, slice_get_push_other, at_push}
 use Rattle.slotmap_core.proofs.Places.PlacesLemmas.{vacancy, no_vacancy, len-next-set, next-push_live, sentinel_alone, total}

@@ -1,7 +1,8 @@
 -- What is at the index of a key in a secondary map, what a change leaves there, and that only keys are in it.
 -- For the crates of maps, runs and callers.
 use Rattle.std.proofs.Common.{◌≡◌, ◌≢◌, ◌+◌, ◌-◌, ◌^◌, ◌<◌, eqb-true, eq-eqb, if◌then◌else◌, sym, ap, ◌∙◌, inl, inr, arith, ℕ, true, false, nat_eq, Option}
-use Rattle.std.proofs.{lemmas.Grind.common_steps, lemmas.Map.Lookups.exact_unsigned, lemmas.Option.same_Some}
+use Rattle.std.proofs.lemmas.{Grind.common_steps, Option.same_Some}
+use Rattle.std.proofs.lemmas.Map.Lookups.{exact_unsigned}
 use Rattle.slotmap_core.specs.Words.{nat_cmp_total, IsKey, null_key, is_older, is_null, no_entry, occupied, vacant, entry_at, value_at, has_entry, contains_key, remove, IsSecondary, is_some, nat_cmp}
 use Rattle.slotmap_core.specs.Words.{Key, Pairs, entry, get, bind, put, Some, None, refl}
 use Rattle.slotmap_core.proofs.General.Maps.{false_of, none_of, some_is, get_other, get_left, get_removed, get_after_insert, get_after_remove, insert_same, insert_twice, remove_inserted, len_removed}

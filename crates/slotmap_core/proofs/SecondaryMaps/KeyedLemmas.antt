@@ -6,8 +6,10 @@ use Rattle.std.specs.declared.cmp.Ordering.{Ordering}
 use Rattle.slotmap_core.specs.Words.{ordering_then, nat_cmp_total, nat_eq_equiv, unsigned_tied, find, below_all, is_sorted, key_cmp, Pairs, value_at, contains_key, remove, keyed_entry, keyed, nat_cmp}
 use Rattle.slotmap_core.specs.Words.{Key, get, bind, refl, is_lt}
 use Rattle.slotmap_core.proofs.SecondaryMaps.AtIndexLemmas.{pair_of, same_version, others_bound, removed_gone, others_stay}
-use Rattle.slotmap_core.proofs.{General.KeyLemmas.keys_total, General.KeyLemmas.exact_keys, General.KeyLemmas.exact_unsigned, SecondaryMaps.SecondaryLemmas.get_bound, Several.SeveralLemmas.WriteLaws}
-use Rattle.slotmap_core.proofs.{General.KeyLemmas.tied, General.Maps.get_inserted, General.Maps.get_removed, General.Maps.get_other, General.Maps.get_left, General.Maps.same_at}
+use Rattle.slotmap_core.proofs.General.KeyLemmas.{keys_total, exact_keys, exact_unsigned, tied}
+use Rattle.slotmap_core.proofs.SecondaryMaps.SecondaryLemmas.{get_bound}
+use Rattle.slotmap_core.proofs.Several.SeveralLemmas.{WriteLaws}
+use Rattle.slotmap_core.proofs.General.Maps.{get_inserted, get_removed, get_other, get_left, same_at}
 use Rattle.std.specs.FinMap as map
 
 pub both : (a b : Bool) → T a → T b → T (a && b)

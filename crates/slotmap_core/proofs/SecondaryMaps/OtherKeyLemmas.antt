@@ -1,10 +1,10 @@
 -- What a key finds in a secondary map after another key was put or removed.
 -- For runs.
 use Rattle.std.proofs.Common.{◌≡◌, ◌≢◌, ℕ, ◌^◌, ◌<◌, ◌≤◌, Option, Some, false, if◌then◌else◌, ◌⊎◌, ap, ◌∙◌, arith}
-use Rattle.std.specs.FinMap as map
 use Rattle.slotmap_core.specs.Words.{Key, Pairs, is_null, entry_at, value_at, has_entry, get, put, remove}
 use Rattle.slotmap_core.proofs.General.KeyLemmas.{nat_cmp_total, exact_unsigned}
 use Rattle.slotmap_core.proofs.General.Maps.{get_after_insert, get_after_remove, get_inserted, get_other}
+use Rattle.std.specs.FinMap as map
 pub use Rattle.slotmap_core.proofs.SecondaryMaps.AtIndexLemmas.{removed_gone, others_stay}
 
 module _ {V : Type 0} where

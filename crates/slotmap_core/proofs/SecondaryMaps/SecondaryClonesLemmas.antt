@@ -1,8 +1,8 @@
 -- A secondary map has clones of the values of another, if it has them index by index.
 -- For the crates of maps.
 use Rattle.std.proofs.Common.{◌≡◌, ℕ, Option, Some, None, arith}
-use Rattle.std.specs.FinMap as map
 use Rattle.slotmap_core.specs.Words.{Pairs, value_at, IsCloneOf, HasClones}
+use Rattle.std.specs.FinMap as map
 
 module _ {V : Type 0} (is_clone : V → V → Type 0) where
   -- nothing for nothing, and for a version and its value the same version with a clone of the value

@@ -2,7 +2,8 @@
 -- For the crates of maps.
 use Rattle.std.proofs.Common.{◌≡◌, Option, Some, is_some, true, cond, ap, ◌∙◌}
 use Rattle.slotmap_core.specs.Words.{Key, Pairs, get, contains_key, remove, keyed, ListsAlong}
-use Rattle.slotmap_core.proofs.{SecondaryMaps.KeyedLemmas.get-keyed, SecondaryMaps.KeyedLemmas.keyed-remove, Contents.DrainingLemmas.lists_along}
+use Rattle.slotmap_core.proofs.SecondaryMaps.KeyedLemmas.{get-keyed, keyed-remove}
+use Rattle.slotmap_core.proofs.Contents.DrainingLemmas.{lists_along}
 use Rattle.std.specs.FinMap as map
 
 -- what the removal of a key of the map is

@@ -1,10 +1,12 @@
 -- Two secondary maps are equal if and only if they hold the same keys with equal values.
 -- For the crates of maps.
 use Rattle.std.proofs.Common.{◌≡◌, ◌↔◌, ◌&&◌, T, ◌∷◌, sym, ◌∙◌, subst, arith, Bool, true, List, [], None, Some, refl, is_lt}
-use Rattle.std.specs.{declared.cmp.Ordering.Ordering, declared.cmp.Ordering.TheVariants.Less, declared.cmp.Ordering.TheVariants.Equal, declared.cmp.Ordering.TheVariants.Greater}
+use Rattle.std.specs.declared.cmp.Ordering.{Ordering}
+use Rattle.std.specs.declared.cmp.Ordering.TheVariants.{Less, Equal, Greater}
 use Rattle.slotmap_core.specs.Words.{find, below_all, is_sorted, Key, key_cmp, same_keys, Pairs, get, keyed, SameValue, AreEqual, same_entries, are_equal}
 use Rattle.slotmap_core.proofs.General.KeyLemmas.{keys_total, exact_keys, tied, itself}
-use Rattle.slotmap_core.proofs.{SecondaryMaps.KeyedLemmas.get-keyed, SecondaryMaps.KeyedLemmas.both, SecondaryMaps.KeyedLemmas.first, SecondaryMaps.KeyedLemmas.second, General.Maps.of_and}
+use Rattle.slotmap_core.proofs.SecondaryMaps.KeyedLemmas.{get-keyed, both, first, second}
+use Rattle.slotmap_core.proofs.General.Maps.{of_and}
 use Rattle.std.specs.FinMap as map
 
 less : (o : Ordering) → T (is_lt o) → o ≡ Less

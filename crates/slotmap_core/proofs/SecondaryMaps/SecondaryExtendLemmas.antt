@@ -1,6 +1,7 @@
 -- One more pair is put.
 -- For the crates of maps.
-use Rattle.std.proofs.{Common.◌≡◌, Common.List, Common.[], Common.◌∷◌, Common.◌++◌, lemmas.Fn.FoldsTo-push, lemmas.List.map_push}
+use Rattle.std.proofs.Common.{◌≡◌, List, [], ◌∷◌, ◌++◌}
+use Rattle.std.proofs.lemmas.{Fn.FoldsTo-push, List.map_push}
 use Rattle.slotmap_core.specs.Words.{Bor, Key, Pairs, put, AllPut, values_of}
 
 module _ {K V : Type 0} (data_of : K → Key) where

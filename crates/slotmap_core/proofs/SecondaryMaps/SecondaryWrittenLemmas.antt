@@ -2,9 +2,12 @@
 -- For the crates of maps.
 use Rattle.std.proofs.lemmas.Option.{slice_get_past}
 use Rattle.std.proofs.Common.{◌≡◌, ◌%◌, ◌<◌, arith, ℕ, List, length, slice_get, Option, Some, true, is_some}
-use Rattle.slotmap_core.specs.{Words.Pairs, Words.IsSecondary, Words.value_at, Words.keyed, Words.record_of_pair, Words.slot_pair, Words.start_live, declared.serial.SlotRecord.SlotRecord}
+use Rattle.slotmap_core.specs.Words.{Pairs, IsSecondary, value_at, keyed, record_of_pair, slot_pair, start_live}
+use Rattle.slotmap_core.specs.declared.serial.SlotRecord.{SlotRecord}
 use Rattle.slotmap_core.proofs.General.Maps.{none_of, false_of, some_is}
-use Rattle.slotmap_core.proofs.{General.KeyLemmas.keys_total, General.KeyLemmas.exact_keys, SecondaryMaps.KeyedLemmas.get-keyed, FromList.AtKeysLemmas.live_in, FromList.AtKeysLemmas.in_contents}
+use Rattle.slotmap_core.proofs.General.KeyLemmas.{keys_total, exact_keys}
+use Rattle.slotmap_core.proofs.SecondaryMaps.KeyedLemmas.{get-keyed}
+use Rattle.slotmap_core.proofs.FromList.AtKeysLemmas.{live_in, in_contents}
 use Rattle.std.specs.FinMap as map
 
 module _ {V : Type 0} where

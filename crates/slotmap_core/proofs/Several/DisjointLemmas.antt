@@ -2,7 +2,8 @@
 -- For the crates of maps.
 use Rattle.std.proofs.Common.{◌≡◌, ◌∷◌, List, refl, sym}
 use Rattle.slotmap_core.specs.Words.{Key, Content, with_value, value_of, with_values}
-use Rattle.slotmap_core.proofs.{General.KeyLemmas.keys_total, General.KeyLemmas.exact_keys, General.Maps.get_inserted, General.Maps.get_other, Several.SeveralLemmas.WriteLaws}
+use Rattle.slotmap_core.proofs.General.{KeyLemmas.keys_total, KeyLemmas.exact_keys, Maps.get_inserted, Maps.get_other}
+use Rattle.slotmap_core.proofs.Several.SeveralLemmas.{WriteLaws}
 
 module _ {V : Type 0} where
   -- a value is written under its key alone

@@ -1,10 +1,10 @@
 -- What calls for each key of a map, by ascending index, leave of it, if no two of its keys have one index.
 -- For the crates of maps.
 use Rattle.std.proofs.Common.{◌≡◌, ℕ, ◌+◌, ◌<◌, ◌≤◌, Bool, true, false, cond, List, [], ◌∷◌, ◌++◌, Some, is_some, refl, sym, ap, subst, ◌∙◌, arith}
-use Rattle.std.specs.FinMap as map
 use Rattle.slotmap_core.specs.Words.{Mut, MutBor, FoldsTo, Key, key_cmp, Visit, CallsAt, MayCome}
 use Rattle.slotmap_core.proofs.Contents.IndexLemmas.{from_index, get_from, from_index-start, from_index-skip, from_index-jump, from_index-take, from_index-end, none_live, in_from}
 use Rattle.slotmap_core.proofs.Several.VisitLemmas.{Visits, Visits-start, Visits-call, unvisited}
+use Rattle.std.specs.FinMap as map
 
 module _ {K V : Type 0} (data_of : K → Key) (old : map.FinMap key_cmp V) where
   pub Keyed-from_start : Visits data_of old [] (from_index 0 old) old

@@ -2,7 +2,8 @@
 -- For the crates of maps.
 use Rattle.std.proofs.lemmas.List.{get_or-map, get_or_default, length-map}
 use Rattle.std.proofs.Common.{◌≡◌, ◌↔◌, ◌+◌, ◌<◌, set, sym, ap, subst, ◌∙◌, ◌⊎◌, inl, inr, arith, ℕ, Bool, true, false, List, length, get_or, take, Option}
-use Rattle.slotmap_core.specs.{Words.Some, Words.is_some, Words.map as map_list, Words.IsTrue, Words.list_any, Words.nat_cmp_total, Words.Key, Words.IsKey, Several.CanReplace}
+use Rattle.slotmap_core.specs.Words.{Some, is_some, map as map_list, IsTrue, list_any, nat_cmp_total, Key, IsKey}
+use Rattle.slotmap_core.specs.Several.{CanReplace}
 use Rattle.slotmap_core.proofs.SecondaryMaps.KeyedLemmas.{pairs_written}
 use Rattle.slotmap_core.proofs.SecondaryMaps.AtIndexLemmas.{pair_of, index_stands, same_version, not_null_at, IsSecondary-bind}
 use Rattle.slotmap_core.proofs.Several.SeveralLemmas.{WriteLaws, Exchanged, Exchanged-step, next_there, refuses_absent, refuses_again}

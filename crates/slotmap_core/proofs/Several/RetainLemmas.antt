@@ -6,7 +6,8 @@ use Rattle.std.proofs.lemmas.Option.{same_Some}
 use Rattle.slotmap_core.specs.Words.{Mut, Called, MutBor, FoldsTo, option_and_then, find, Key, key_cmp, with_entries, Visit, CallsAt, RetainsBy, seen, kept}
 use Rattle.slotmap_core.proofs.General.KeyLemmas.{keys_total, exact_keys, tied, itself, same_or_other}
 use Rattle.slotmap_core.proofs.General.ListingLemmas.{with_entries-empty, fresh_first, IsListingBut-listing}
-use Rattle.slotmap_core.proofs.{General.Maps.none_of, General.Maps.len_inserted, Several.VisitLemmas.unkept}
+use Rattle.slotmap_core.proofs.General.Maps.{none_of, len_inserted}
+use Rattle.slotmap_core.proofs.Several.VisitLemmas.{unkept}
 use Rattle.std.specs.FinMap as map
 
 -- what a visit leaves of its entry

@@ -2,7 +2,8 @@
 -- For the crates of maps.
 use Rattle.std.proofs.lemmas.List.{length-set, take_more, take_more_set, drop_more, drop-set-lt, map_push, length-take-le, get_or-take, get_or_default, get_or-map, length-map}
 use Rattle.std.proofs.Common.{◌≡◌, ◌≢◌, ◌↔◌, ◌+◌, ◌<◌, ◌∷◌, ◌++◌, set, sym, ap, subst, ◌∙◌, arith, refl, ℕ, suc, Bool, true, false, List, [], length}
-use Rattle.std.proofs.{lemmas.List.Elements.All-push, lemmas.List.Folds.Any-from_list_any, lemmas.List.Folds.list_any_at, lemmas.List.Quantifiers.all_pairs_push, lemmas.Grind.drop_more_same}
+use Rattle.std.proofs.lemmas.List.{Elements.All-push, Folds.Any-from_list_any, Folds.list_any_at, Quantifiers.all_pairs_push}
+use Rattle.std.proofs.lemmas.Grind.{drop_more_same}
 use Rattle.slotmap_core.specs.Words.{All, list_any, Key, get_or, take, drop, Option, Some, is_some, map as map_list}
 use Rattle.slotmap_core.specs.Several.{CanReplace, AreValuesOf, with_values}
 

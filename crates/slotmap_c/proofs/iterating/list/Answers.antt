@@ -1,7 +1,7 @@
 use Rattle.std.proofs.Common.{◌<◌, length, min, refl, ap, sym, ◌∙◌, arith}
-use Rattle.std.specs.FinMap as map
 use Rattle.slotmap_core.specs.Words.{ffi}
 use Rattle.slotmap_c.proofs.ArrayLemmas.{one_more, left_next, writes_next, all_written}
+use Rattle.std.specs.FinMap as map
 use Rattle.slotmap_c.proofs.iterating.list.Goals as goal
 
 pub loop-key-preserved : goal.loop-key-preserved

@@ -1,8 +1,8 @@
 use Rattle.std.proofs.Common.{◌<◌, length, min, refl, ap, sym, ◌∙◌, arith}
-use Rattle.std.specs.FinMap as map
 use Rattle.slotmap_core.specs.Words.{ffi}
 use Rattle.slotmap_c.specs.Calls.{above}
 use Rattle.slotmap_c.proofs.ArrayLemmas.{one_more, left_next, writes_next, all_written}
+use Rattle.std.specs.FinMap as map
 use Rattle.slotmap_c.proofs.iterating.list_after.Goals as goal
 
 pub loop-count-preserved : goal.loop-count-preserved

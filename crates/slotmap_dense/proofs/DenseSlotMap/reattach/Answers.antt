@@ -1,6 +1,7 @@
 use Rattle.slotmap_dense.proofs.Common.{length, refl, ap, ◌∙◌, arith, rules, well_formed, refused-grow, may-grow, Appended, appended}
 use Rattle.std.proofs.lemmas.Grind.{common_steps}
-use Rattle.slotmap_dense.proofs.{MoveLemmas.kept_not_live, DenseSlotMap.reattach.Goals.After-push_reserved-2}
+use Rattle.slotmap_dense.proofs.MoveLemmas.{kept_not_live}
+use Rattle.slotmap_dense.proofs.DenseSlotMap.reattach.Goals.{After-push_reserved-2}
 use Rattle.slotmap_dense.proofs.DenseSlotMap.reattach.Goals as goal
 
 pub returns-then-not-is_detached-clause-valid : goal.returns-then-not-is_detached-clause-valid

@@ -1,7 +1,7 @@
 use Rattle.std.proofs.Common.{false, ap, ◌∙◌, is_some}
-use Rattle.std.specs.FinMap as map
 use Rattle.slotmap.specs.Words.{key_cmp}
 use Rattle.slotmap.proofs.Callers.{left_spent, spent_leaves}
+use Rattle.std.specs.FinMap as map
 use Rattle.slotmap_entities.proofs.World.clear.Goals as goal
 
 pub returns-clause-for_good : goal.returns-clause-for_good

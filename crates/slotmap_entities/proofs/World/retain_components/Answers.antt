@@ -1,8 +1,8 @@
 use Rattle.std.proofs.Common.{◌≡◌, true, Option, Some, None, is_some, refl, sym, ap, ◌∙◌}
-use Rattle.std.specs.FinMap as map
 use Rattle.slotmap.specs.Words.{Key, Pairs, contains_key, keyed}
 use Rattle.slotmap.proofs.Callers.{get-keyed, retained_none}
 use Rattle.slotmap_entities.proofs.LiveOnly.{own_beside, table_live}
+use Rattle.std.specs.FinMap as map
 use Rattle.slotmap_entities.proofs.World.retain_components.Goals as goal
 
 -- what has a component afterwards had one before

@@ -1,7 +1,6 @@
 use Rattle.std.proofs.Common.{◌-◌}
-use Rattle.slotmap_graph.proofs.Common.{length, list_map}
+use Rattle.slotmap_graph.proofs.{Common.length, Common.list_map, Cycles.GoesBack}
 use Rattle.std.specs.FinMap as map
-use Rattle.slotmap_graph.proofs.Cycles.{GoesBack}
 use Rattle.slotmap_graph.proofs.Graph.closing_edge.Given as goal
 
 abbrev pub invariant-loop-passed : goal.invariant-loop-passed

@@ -1,9 +1,7 @@
 use Rattle.std.proofs.Common.{◌≤◌, ◌++◌, ◌∙◌}
 use Rattle.slotmap_graph.proofs.Common.{Some, sym, ap, arith, list_map, map-append, times, in_midst, key_live, keys_once}
+use Rattle.slotmap_graph.proofs.{Followed.walked_in, Followed.walked_on, GraphSteps.puts_alone, Counted.counting_none, Counted.counting_step}
 use Rattle.std.specs.FinMap as map
-use Rattle.slotmap_graph.proofs.Followed.{walked_in, walked_on}
-use Rattle.slotmap_graph.proofs.GraphSteps.{puts_alone}
-use Rattle.slotmap_graph.proofs.Counted.{counting_none, counting_step}
 use Rattle.slotmap_graph.proofs.Graph.count_all.Goals as goal
 
 pub loop-node-init : goal.loop-node-init

@@ -1,5 +1,4 @@
-use Rattle.slotmap_graph.proofs.Common.{from}
-use Rattle.slotmap_graph.proofs.Threaded.{after_along}
+use Rattle.slotmap_graph.proofs.{Common.from, Threaded.after_along}
 use Rattle.slotmap_graph.proofs.Graph.next_from.Goals as goal
 
 pub next_of-requires : goal.next_of-requires

@@ -1,5 +1,4 @@
-use Rattle.slotmap_graph.proofs.Common.{to}
-use Rattle.slotmap_graph.proofs.Threaded.{after_along}
+use Rattle.slotmap_graph.proofs.{Common.to, Threaded.after_along}
 use Rattle.slotmap_graph.proofs.Graph.next_to.Goals as goal
 
 pub next_of-requires : goal.next_of-requires

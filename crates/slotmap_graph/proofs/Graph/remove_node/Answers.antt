@@ -1,8 +1,8 @@
 use Rattle.std.proofs.Common.{◌∙◌}
 use Rattle.slotmap_graph.proofs.Common.{true, sym, filter, ap, remove_spent, spent_remove, edges_at}
-use Rattle.std.specs.FinMap as map
 use Rattle.slotmap_graph.proofs.GraphSteps.{ends_apart, gone_seen, gone_threaded, node_leaves}
 use Rattle.slotmap_graph.proofs.Thinned.{none_left}
+use Rattle.std.specs.FinMap as map
 use Rattle.slotmap_graph.proofs.Graph.remove_node.Goals as goal
 
 pub invariant_of-self : goal.invariant_of-self

@@ -1,6 +1,5 @@
 use Rattle.std.proofs.Common.{length}
-use Rattle.slotmap_list.specs.Sequence.{Sequence}
-use Rattle.slotmap_list.specs.Drain.{EmptiesList}
+use Rattle.slotmap_list.specs.{Sequence.Sequence, Drain.EmptiesList}
 use Rattle.slotmap_list.proofs.StableList.clear.Given as goal
 
 abbrev pub invariant-loop : goal.invariant-loop

@@ -2,8 +2,8 @@ use Rattle.std.proofs.Common.{is_err, ◌≡◌, ◌≤◌, ◌+◌, ◌∷◌, 
 use Rattle.slotmap.specs.Words.{KeepsSpent, used}
 use Rattle.slotmap.proofs.Callers.{vacant_less}
 use Rattle.slotmap_list.specs.Additions.{Adds, refused}
-use Rattle.std.specs.FinMap as map
 use Rattle.slotmap_list.proofs.Adding.{Adds-push, no_room, refused_is, full_after, used_kept}
+use Rattle.std.specs.FinMap as map
 use Rattle.slotmap_list.proofs.StableList.extend.Goals as goal
 
 pub loop-value-preserved : goal.loop-value-preserved

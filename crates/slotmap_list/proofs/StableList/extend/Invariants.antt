@@ -1,7 +1,7 @@
 use Rattle.std.proofs.Common.{◌≡◌, ◌≤◌, ◌+◌, length}
-use Rattle.std.specs.FinMap as map
 use Rattle.slotmap.specs.Words.{KeepsSpent, used}
 use Rattle.slotmap_list.specs.Additions.{Adds}
+use Rattle.std.specs.FinMap as map
 use Rattle.slotmap_list.proofs.StableList.extend.Given as goal
 
 abbrev pub invariant-loop-value : goal.invariant-loop-value

@@ -1,8 +1,7 @@
 use Rattle.std.proofs.Common.{is_some, sym, ap, ◌∙◌}
 use Rattle.slotmap.proofs.Callers.{same_lent, same_unlent}
 use Rattle.slotmap_list.specs.Sequence.{Sequence, with_value_at}
-use Rattle.slotmap_list.proofs.Keeps.{kept_written, seen_written}
-use Rattle.slotmap_list.proofs.Seen.{value_at}
+use Rattle.slotmap_list.proofs.{Keeps.kept_written, Keeps.seen_written, Seen.value_at}
 use Rattle.slotmap_list.proofs.StableList.get_mut.Goals as goal
 
 pub invariant_of-self-lent : goal.invariant_of-self-lent

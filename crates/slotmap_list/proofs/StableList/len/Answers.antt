@@ -1,6 +1,5 @@
 use Rattle.std.proofs.Common.{sym, ◌∙◌}
-use Rattle.slotmap_list.proofs.Indices.{elements_long}
-use Rattle.slotmap_list.proofs.Seen.{indices, no_key_twice}
+use Rattle.slotmap_list.proofs.{Indices.elements_long, Seen.indices, Seen.no_key_twice}
 use Rattle.slotmap_list.proofs.StableList.len.Goals as goal
 
 pub returns-clause-value : goal.returns-clause-value

@@ -1,11 +1,8 @@
 use Rattle.std.proofs.Common.{◌≡◌, true, refl, sym, ap, ◌∙◌}
 use Rattle.slotmap.specs.Words.{Key}
 use Rattle.slotmap_links.specs.Lists.{list_of}
-use Rattle.slotmap_list.specs.Sequence.{Sequence, value_of}
-use Rattle.slotmap_list.specs.Kept.{elements_at}
-use Rattle.slotmap_list.specs.ListPlaces.{is_move, moved_to}
-use Rattle.slotmap_list.proofs.Moved.{Moves, moves}
-use Rattle.slotmap_list.proofs.Moving.{move_stays, seen_as}
+use Rattle.slotmap_list.specs.{Sequence.Sequence, Sequence.value_of, Kept.elements_at, ListPlaces.is_move, ListPlaces.moved_to}
+use Rattle.slotmap_list.proofs.{Moved.Moves, Moved.moves, Moving.move_stays, Moving.seen_as}
 use Rattle.slotmap_list.proofs.StableList.move_to.Goals as goal
 use Rattle.slotmap_list.proofs.StableList.move_to.Goals.{After-idx-index}
 

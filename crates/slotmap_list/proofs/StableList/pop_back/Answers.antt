@@ -1,8 +1,6 @@
 use Rattle.std.proofs.Common.{[], ◌∷◌, ◌++◌, None, option_map, sym, ap, ◌∙◌}
 use Rattle.slotmap_list.specs.Sequence.{Sequence, last_or}
-use Rattle.slotmap_list.proofs.Elements.{no_last}
-use Rattle.slotmap_list.proofs.Pops.{last_is_some, back_off}
-use Rattle.slotmap_list.proofs.Seen.{last_is, no_key_twice}
+use Rattle.slotmap_list.proofs.{Elements.no_last, Pops.last_is_some, Pops.back_off, Seen.last_is, Seen.no_key_twice}
 use Rattle.slotmap_list.proofs.StableList.pop_back.Goals as goal
 
 pub returns-in_err-cursor-clause-back : goal.returns-in_err-cursor-clause-back

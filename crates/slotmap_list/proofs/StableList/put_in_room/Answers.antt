@@ -1,15 +1,12 @@
 use Rattle.std.proofs.Common.{◌≡◌, true, refl, ap, ◌∙◌, arith}
-use Rattle.std.specs.FinSet as set
 use Rattle.slotmap.specs.Words.{Key}
 use Rattle.slotmap.proofs.Callers.{inserted_len, spent_inserts}
 use Rattle.slotmap_keylist.proofs.Alone.{alone-inserts, gone_stays, new_not_gone, used_alone}
 use Rattle.slotmap_links.specs.Lists.{list_of}
-use Rattle.slotmap_list.specs.Kept.{elements_at}
-use Rattle.slotmap_list.specs.Sequence.{Sequence}
-use Rattle.slotmap_list.specs.ListPlaces.{is_place}
+use Rattle.slotmap_list.specs.{Kept.elements_at, Sequence.Sequence, ListPlaces.is_place}
 use Rattle.slotmap_list.proofs.Keeps.{free_one, kept_put, none_yet, elements_put}
-use Rattle.slotmap_list.proofs.Parts.{place_there}
-use Rattle.slotmap_list.proofs.Seen.{value_at}
+use Rattle.slotmap_list.proofs.{Parts.place_there, Seen.value_at}
+use Rattle.std.specs.FinSet as set
 use Rattle.slotmap_list.proofs.StableList.put_in_room.Goals as goal
 use Rattle.slotmap_list.proofs.StableList.put_in_room.Goals.{After-idx}
 

@@ -1,10 +1,10 @@
 use Rattle.std.proofs.Common.{◌≡◌, true, Some, is_some, refl, sym, ap, ◌∙◌}
-use Rattle.std.specs.FinMap as map
 use Rattle.slotmap.proofs.Callers.{leaves_by_removal, leaves_none, removed_spent, spent_removes}
 use Rattle.slotmap_keylist.proofs.Alone.{alone-leaves, alone-removes, gone_here, gone_stays}
 use Rattle.slotmap_list.proofs.Keeps.{elements_taken, get-remove_here, kept_taken}
 use Rattle.slotmap_list.proofs.Parts.{value_none}
 use Rattle.slotmap_list.proofs.Seen.{inside_if, value_at, without_gone}
+use Rattle.std.specs.FinMap as map
 use Rattle.slotmap_list.proofs.StableList.remove.Goals as goal
 use Rattle.slotmap_list.proofs.StableList.remove.Goals.{After-idx}
 

@@ -1,6 +1,5 @@
-use Rattle.slotmap_run.proofs.Common.{given_joined}
+use Rattle.slotmap_run.proofs.{Common.given_joined, JoinRuns.joined_if_ok, JoinedRemoved.joined_detach_removed_for_good}
 use Rattle.slotmap_core.proofs.Common.{IfOk-weaker, rules}
-use Rattle.slotmap_run.proofs.{JoinRuns.joined_if_ok, JoinedRemoved.joined_detach_removed_for_good}
 use Rattle.slotmap_run.proofs.joined.run_joined_detaching.Goals as goal
 
 pub returns : goal.returns

@@ -1,6 +1,6 @@
-use Rattle.slotmap_run.proofs.Common.{map-id, IndexStaysSmall}
+use Rattle.slotmap_run.proofs.{Common.map-id, Common.IndexStaysSmall, SmallIndex.index_stays_small}
 use Rattle.slotmap_core.proofs.Common.{given, DetachStep, IfOk-weaker, subst}
-use Rattle.slotmap_run.proofs.{RunLaws.detach_lawful, RunLaws.all_anew, RunLaws.in_order, SmallIndex.index_stays_small}
+use Rattle.slotmap_run.proofs.RunLaws.{detach_lawful, all_anew, in_order}
 use Rattle.slotmap_run.proofs.primary.run_detaching_new.Goals as goal
 
 pub returns : goal.returns

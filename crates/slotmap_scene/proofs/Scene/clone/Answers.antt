@@ -1,5 +1,4 @@
-use Rattle.slotmap_scene.proofs.Common.{IsNodeClone, clone_copies}
-use Rattle.slotmap_scene.proofs.Moved.{nodes_equal, scene_copied}
+use Rattle.slotmap_scene.proofs.{Common.IsNodeClone, Common.clone_copies, Moved.nodes_equal, Moved.scene_copied}
 use Rattle.slotmap_scene.proofs.Scene.clone.Goals as goal
 
 pub invariant_of-result : goal.invariant_of-result

@@ -1,5 +1,4 @@
-use Rattle.slotmap_scene.proofs.Common.{list_map, ◌++◌}
-use Rattle.slotmap_scene.proofs.Descending.{Descended}
+use Rattle.slotmap_scene.proofs.{Common.list_map, Common.◌++◌, Descending.Descended}
 use Rattle.slotmap_scene.proofs.Scene.descendants.Given as goal
 
 abbrev pub invariant-loop-key : goal.invariant-loop-key

@@ -1,5 +1,4 @@
-use Rattle.slotmap_scene.proofs.Climbs.{Climbing}
-use Rattle.slotmap_scene.proofs.Worlds.{Folding}
+use Rattle.slotmap_scene.proofs.{Climbs.Climbing, Worlds.Folding}
 use Rattle.slotmap_scene.proofs.Scene.fold_up.Given as goal
 
 abbrev pub invariant-loop-step : goal.invariant-loop-step

@@ -1,5 +1,4 @@
-use Rattle.slotmap_scene.proofs.Common.{arith}
-use Rattle.slotmap_scene.proofs.Climbs.{apart_beside}
+use Rattle.slotmap_scene.proofs.{Common.arith, Climbs.apart_beside}
 use Rattle.slotmap_scene.proofs.Scene.is_below.Goals as goal
 
 pub returns-then-eq : goal.returns-then-eq

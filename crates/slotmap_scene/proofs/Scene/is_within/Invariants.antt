@@ -1,5 +1,4 @@
-use Rattle.slotmap_scene.proofs.Common.{IsWithin, ◌↔◌}
-use Rattle.slotmap_scene.proofs.Climbs.{Climbing}
+use Rattle.slotmap_scene.proofs.{Common.IsWithin, Common.◌↔◌, Climbs.Climbing}
 use Rattle.slotmap_scene.proofs.Scene.is_within.Given as goal
 
 abbrev pub invariant-loop-step : goal.invariant-loop-step

@@ -1,5 +1,4 @@
-use Rattle.slotmap_scene.proofs.Common.{sym, ◌∙◌}
-use Rattle.slotmap_scene.proofs.Moved.{moved_nowhere}
+use Rattle.slotmap_scene.proofs.{Common.sym, Common.◌∙◌, Moved.moved_nowhere}
 use Rattle.slotmap_scene.proofs.Scene.make_root.Goals as goal
 
 pub returns-then-not-contains_key-clause-trees : goal.returns-then-not-contains_key-clause-trees

@@ -1,5 +1,4 @@
-use Rattle.slotmap_scene.proofs.Common.{arith}
-use Rattle.slotmap_scene.proofs.Climbs.{no_cycle}
+use Rattle.slotmap_scene.proofs.{Common.arith, Climbs.no_cycle}
 use Rattle.slotmap_scene.proofs.Scene.move_to_front.Goals as goal
 
 pub move_first-requires-clause-no_cycle : goal.move_first-requires-clause-no_cycle

@@ -1,5 +1,4 @@
-use Rattle.slotmap_scene.proofs.Common.{sym}
-use Rattle.slotmap_scene.proofs.WalkingDown.{none_first, walk_to_child}
+use Rattle.slotmap_scene.proofs.{Common.sym, WalkingDown.none_first, WalkingDown.walk_to_child}
 use Rattle.slotmap_scene.proofs.Scene.next_below.Goals as goal
 
 pub returns-in-Some-clause-walks : goal.returns-in-Some-clause-walks

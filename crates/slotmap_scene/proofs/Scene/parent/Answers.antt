@@ -1,5 +1,4 @@
-use Rattle.slotmap_scene.proofs.Common.{HasRoot, subst}
-use Rattle.slotmap_scene.proofs.Climbs.{rooted_there}
+use Rattle.slotmap_scene.proofs.{Common.HasRoot, Common.subst, Climbs.rooted_there}
 use Rattle.slotmap_scene.proofs.Scene.parent.Goals as goal
 
 pub returns-clause-live : goal.returns-clause-live

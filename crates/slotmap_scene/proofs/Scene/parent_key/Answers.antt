@@ -1,5 +1,4 @@
-use Rattle.slotmap_scene.proofs.Common.{arith}
-use Rattle.slotmap_scene.proofs.Climbs.{parent_rooted}
+use Rattle.slotmap_scene.proofs.{Common.arith, Climbs.parent_rooted}
 use Rattle.slotmap_scene.proofs.Scene.parent_key.Goals as goal
 
 pub returns-clause-rooted : goal.returns-clause-rooted

@@ -1,5 +1,4 @@
-use Rattle.slotmap_scene.proofs.Common.{rules, sym}
-use Rattle.slotmap_scene.proofs.Climbs.{node_is}
+use Rattle.slotmap_scene.proofs.{Common.rules, Common.sym, Climbs.node_is}
 use Rattle.slotmap_scene.proofs.Worlds.{composed_of_folds, composed_root, joined_of_folds, parent_found, world_root}
 use Rattle.slotmap_scene.proofs.Scene.world.Goals as goal
 

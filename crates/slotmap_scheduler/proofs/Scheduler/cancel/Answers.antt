@@ -1,8 +1,7 @@
 use Rattle.slotmap_scheduler.proofs.Common.{Job, ap, arith, is_some, live-mapped, option_map, removed_spent, rules, spent_removes, sym, timed, true, unplaced, waiting_of, ◌∙◌}
 use Rattle.slotmap_scheduler.proofs.Schedules.{left_leaves, left_len, left_less, left_others, left_schedule, left_waits}
 use Rattle.slotmap_scheduler.proofs.Handles.{handles_left, handles_removed, handles_spent, handles_stale, same_capacity}
-use Rattle.slotmap_scheduler.proofs.Seen.{job_seen, none_seen}
-use Rattle.slotmap_scheduler.proofs.Results.{without_none}
+use Rattle.slotmap_scheduler.proofs.{Seen.job_seen, Seen.none_seen, Results.without_none}
 use Rattle.slotmap_scheduler.proofs.Scheduler.cancel.Goals as goal
 
 pub invariant_of-self-2 : goal.invariant_of-self-2

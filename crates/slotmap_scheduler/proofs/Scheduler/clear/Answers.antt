@@ -1,8 +1,7 @@
 use Rattle.slotmap_scheduler.proofs.Common.{Job, ap, arith, contains-mapped, is_some, key_cmp, left_spent, live-mapped, map_values, mapped-empty, mapped-leaves, rules, spent_leaves, timed, true}
 use Rattle.slotmap_scheduler.proofs.Common.{unplaced, ◌∙◌}
-use Rattle.slotmap_scheduler.proofs.Schedules.{none_waits, schedule_cleared}
+use Rattle.slotmap_scheduler.proofs.{Schedules.none_waits, Schedules.schedule_cleared, Seen.contains_seen}
 use Rattle.slotmap_scheduler.proofs.Handles.{empty_keys, handles_left, handles_spent, handles_stale, same_capacity}
-use Rattle.slotmap_scheduler.proofs.Seen.{contains_seen}
 use Rattle.std.specs.FinMap as map
 use Rattle.slotmap_scheduler.proofs.Scheduler.clear.Goals as goal
 

@@ -1,6 +1,4 @@
-use Rattle.slotmap_scheduler.proofs.Common.{arith, timed}
-use Rattle.slotmap_scheduler.proofs.DueCounted.{due_counted}
-use Rattle.slotmap_scheduler.proofs.Waits.{waits_by_time, waits_once}
+use Rattle.slotmap_scheduler.proofs.{Common.arith, Common.timed, DueCounted.due_counted, Waits.waits_by_time, Waits.waits_once}
 use Rattle.slotmap_scheduler.proofs.Scheduler.due_count.Goals as goal
 
 pub count_due-requires : goal.count_due-requires

@@ -1,6 +1,5 @@
 use Rattle.slotmap_scheduler.proofs.Common.{Job, Schedule, ap, arith, option_map, same_lent, same_unlent, sym, with_job, ◌∙◌}
-use Rattle.slotmap_scheduler.proofs.Seen.{job_seen}
-use Rattle.slotmap_scheduler.proofs.Schedules.{written_schedule, written_seen}
+use Rattle.slotmap_scheduler.proofs.{Seen.job_seen, Schedules.written_schedule, Schedules.written_seen}
 use Rattle.slotmap_scheduler.proofs.Scheduler.get_mut.Goals as goal
 
 pub invariant_of-self-lent : goal.invariant_of-self-lent

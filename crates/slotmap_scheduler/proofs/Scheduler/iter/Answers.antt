@@ -1,6 +1,4 @@
-use Rattle.slotmap_scheduler.proofs.Common.{arith}
-use Rattle.slotmap_scheduler.proofs.Seen.{lists_jobs}
-use Rattle.slotmap_scheduler.proofs.Waits.{shown_in_order, shown_once}
+use Rattle.slotmap_scheduler.proofs.{Common.arith, Seen.lists_jobs, Waits.shown_in_order, Waits.shown_once}
 use Rattle.slotmap_scheduler.proofs.Scheduler.iter.Goals as goal
 
 pub returns : goal.returns

@@ -1,6 +1,5 @@
 use Rattle.slotmap_scheduler.proofs.Common.{len-keys_of, len-mapped, sym, timed, unplaced, ◌∙◌}
-use Rattle.slotmap_scheduler.proofs.Order.{len_is}
-use Rattle.slotmap_scheduler.proofs.Waits.{waits_by_time, waits_once}
+use Rattle.slotmap_scheduler.proofs.{Order.len_is, Waits.waits_by_time, Waits.waits_once}
 use Rattle.slotmap_scheduler.proofs.Scheduler.len.Goals as goal
 
 pub returns : goal.returns

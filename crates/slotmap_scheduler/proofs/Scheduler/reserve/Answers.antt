@@ -1,7 +1,4 @@
-use Rattle.slotmap_scheduler.proofs.Common.{arith, refl}
-use Rattle.slotmap_scheduler.proofs.Schedules.{reserved_room, reserved_schedule}
-use Rattle.slotmap_scheduler.proofs.Handles.{used_handles}
-use Rattle.slotmap_scheduler.proofs.Results.{if_ok}
+use Rattle.slotmap_scheduler.proofs.{Common.arith, Common.refl, Schedules.reserved_room, Schedules.reserved_schedule, Handles.used_handles, Results.if_ok}
 use Rattle.slotmap_scheduler.proofs.Scheduler.reserve.Goals as goal
 
 pub invariant_of-self : goal.invariant_of-self

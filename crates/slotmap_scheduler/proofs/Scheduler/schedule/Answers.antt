@@ -1,5 +1,4 @@
-use Rattle.slotmap_scheduler.proofs.Common.{arith}
-use Rattle.slotmap_scheduler.proofs.Schedules.{schedule_content}
+use Rattle.slotmap_scheduler.proofs.{Common.arith, Schedules.schedule_content}
 use Rattle.slotmap_scheduler.proofs.Scheduler.schedule.Goals as goal
 
 pub returns-then-self-clause-valid : goal.returns-then-self-clause-valid

@@ -1,6 +1,5 @@
 use Rattle.slotmap_scheduler.proofs.Common.{ap, arith, mapped-new, nat_cmp, timed, unplaced, ℕ, ◌∙◌}
-use Rattle.slotmap_scheduler.proofs.Schedules.{none_waits, schedule_none}
-use Rattle.slotmap_scheduler.proofs.Handles.{handles_new}
+use Rattle.slotmap_scheduler.proofs.{Schedules.none_waits, Schedules.schedule_none, Handles.handles_new}
 use Rattle.std.specs.FinMap as map
 use Rattle.slotmap_scheduler.proofs.Scheduler.with_capacity_and_key.Goals as goal
 

@@ -1,5 +1,4 @@
-use Rattle.slotmap_scheduler.proofs.Common.{live-insert_still}
-use Rattle.slotmap_scheduler.proofs.HeapPlaces.{read_live, resettled_swap}
+use Rattle.slotmap_scheduler.proofs.{Common.live-insert_still, HeapPlaces.read_live, HeapPlaces.resettled_swap}
 use Rattle.slotmap_scheduler.proofs.heap.exchange.Goals as goal
 
 pub index_mut-requires : goal.index_mut-requires

@@ -1,8 +1,6 @@
 use Rattle.std.proofs.Common.{◌≡◌, ◌^◌, rules, tests, sym, ◌∙◌, true, false}
-use Rattle.std.specs.Str.{all_ascii_digits}
-use Rattle.std.specs.Char.{is_ascii_digit}
-use Rattle.std.proofs.lemmas.Iterator.Adapters.{YieldsList-from_bytes}
-use Rattle.std.proofs.lemmas.Iterator.Search.{all_from_yields_List}
+use Rattle.std.specs.{Str.all_ascii_digits, Char.is_ascii_digit}
+use Rattle.std.proofs.lemmas.Iterator.{Adapters.YieldsList-from_bytes, Search.all_from_yields_List}
 use Rattle.slotmap_script.proofs.Numerals.{all_digits_is, no_digits, unsigned_is}
 use Rattle.slotmap_script.proofs.commands.numeral.Goals as goal
 

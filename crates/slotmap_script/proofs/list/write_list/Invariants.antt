@@ -1,6 +1,5 @@
 use Rattle.std.proofs.Common.{◌++◌, take, map}
-use Rattle.std.specs.Prelude.{codes}
-use Rattle.std.specs.List.{join_with_byte}
+use Rattle.std.specs.{Prelude.codes, List.join_with_byte}
 use Rattle.std.specs.Io.KnownBytes.{Appends}
 use Rattle.slotmap_script.specs.ListText.{slot_text}
 use Rattle.slotmap_script.proofs.list.write_list.Given as goal

@@ -1,6 +1,5 @@
 use Rattle.std.proofs.Common.{◌++◌, take}
-use Rattle.std.specs.Prelude.{codes}
-use Rattle.std.specs.List.{flat_map}
+use Rattle.std.specs.{Prelude.codes, List.flat_map}
 use Rattle.std.specs.Io.KnownBytes.{Appends}
 use Rattle.slotmap_script.specs.ReplyText.{spaced_key}
 use Rattle.slotmap_script.proofs.reply.write_keys.Given as goal

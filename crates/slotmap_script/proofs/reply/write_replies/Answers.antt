@@ -1,6 +1,5 @@
 use Rattle.std.proofs.Common.{◌++◌}
-use Rattle.slotmap_script.proofs.Appending.{Appends-trans}
-use Rattle.slotmap_script.proofs.Printing.{reply_more}
+use Rattle.slotmap_script.proofs.{Appending.Appends-trans, Printing.reply_more}
 use Rattle.slotmap_script.proofs.reply.write_replies.Goals as goal
 
 pub loop-reply-preserved-in_ok-write_reply : goal.loop-reply-preserved-in_ok-write_reply

@@ -1,5 +1,4 @@
-use Rattle.slotmap_script.proofs.Appending.{Appends-none}
-use Rattle.slotmap_script.proofs.Ending.{none_named}
+use Rattle.slotmap_script.proofs.{Appending.Appends-none, Ending.none_named}
 use Rattle.std.proofs.Common.{◌∙◌}
 use Rattle.slotmap_script.proofs.run.run_kind.Goals as goal
 

@@ -1,7 +1,6 @@
 use Rattle.std.proofs.Common.{ℕ, List, map}
 use Rattle.std.specs.Io.KnownBytes.{Appends}
-use Rattle.slotmap_script.specs.ScriptText.{stretch_of}
-use Rattle.slotmap_script.specs.Printed.{Prints}
+use Rattle.slotmap_script.specs.{ScriptText.stretch_of, Printed.Prints}
 use Rattle.slotmap_script.proofs.run.run_stretches.Given as goal
 
 -- the stretches so far are printed

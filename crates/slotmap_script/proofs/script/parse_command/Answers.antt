@@ -1,6 +1,5 @@
 use Rattle.std.proofs.Common.{ap, sym, ◌∙◌, lit<, arith}
-use Rattle.std.proofs.lemmas.Iterator.Splits.{YieldsList-from_str_split}
-use Rattle.std.proofs.lemmas.Iterator.Consumers.{YieldsList-turn, YieldsList-end}
+use Rattle.std.proofs.lemmas.Iterator.{Splits.YieldsList-from_str_split, Consumers.YieldsList-turn, Consumers.YieldsList-end}
 use Rattle.slotmap_script.specs.ScriptText.{words_of}
 use Rattle.slotmap_script.proofs.script.parse_command.Goals as goal
 

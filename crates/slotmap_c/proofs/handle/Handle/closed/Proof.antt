@@ -1,5 +1,12 @@
 -- A closed handle is made of nothing.
 use Rattle.std.proofs.Common.{◌≡◌, ℕ, [], ◌∷◌, refl, lit<}
+use Rattle.std.proofs.raw_atomic.Walks.{proved_at, leaves}
+use Rattle.slotmap_core.specs.Words.{Content}
+use Rattle.slotmap_c.proofs.Values.{Row, word, handle_in}
+use Rattle.slotmap_c.specs.Held.{nothing}
+use Rattle.slotmap_c.specs.contracts.handle.Handle.closed.{ended, clauses}
+use Rattle.slotmap_c.specs.contracts.handle.Handle.closed.Key.{name as #self}
+use Rattle.slotmap_c.proofs.handle.Handle.closed.Statement.{statement}
 use mathlib.Core.Bool.{false}
 use mir.Val.{Val}
 use base.Logic.{SProp, emp}
@@ -15,13 +22,6 @@ use denote.Signature.{types_at}
 use denote.Steps.{nothing as nothing_more}
 use denote.Triple.Entry.{alive}
 use denote.Triple.Walked.{Stays, walk_of}
-use Rattle.std.proofs.raw_atomic.Walks.{proved_at, leaves}
-use Rattle.slotmap_core.specs.Words.{Content}
-use Rattle.slotmap_c.proofs.Values.{Row, word, handle_in}
-use Rattle.slotmap_c.specs.Held.{nothing}
-use Rattle.slotmap_c.specs.contracts.handle.Handle.closed.{ended, clauses}
-use Rattle.slotmap_c.specs.contracts.handle.Handle.closed.Key.{name as #self}
-use Rattle.slotmap_c.proofs.handle.Handle.closed.Statement.{statement}
 use Rattle.slotmap_c.proofs.handle.Handle.closed.Code as code
 
 pub closed_spec : {M : Type 1} → statement M

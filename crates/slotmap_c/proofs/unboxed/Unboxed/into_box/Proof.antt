@@ -1,5 +1,13 @@
 -- `into_box` makes the box of its pointer and its allocator again.
 use Rattle.std.proofs.Common.{◌≡◌, List, [], ◌∷◌, ◌++◌, refl}
+use Rattle.core.proofs.alloc.Calls.{Goes-blank}
+use Rattle.std.proofs.raw_atomic.Walks.{proved_at, leaves}
+use Rattle.std.proofs.VecSteps.Shapes.{after}
+use Rattle.std_alloc.proofs.boxed.Box.from_raw.Met.{met}
+use Rattle.slotmap_c.proofs.Values.{fits_one, pair, pair_fits, ptr_fits, Unboxed, unboxed_out}
+use Rattle.slotmap_c.specs.contracts.unboxed.Unboxed.into_box.{ended, clauses}
+use Rattle.slotmap_c.specs.contracts.unboxed.Unboxed.into_box.Key.{name as #self}
+use Rattle.slotmap_c.proofs.unboxed.Unboxed.into_box.Statement.{statement}
 use mir.MapTy.{inst_fn}
 use mir.Syntax.{Args, a_type, dcons, dnil}
 use mir.Val.{Val}
@@ -27,17 +35,9 @@ use denote.Triple.Entry.{alive}
 use denote.Triple.Spec.{triple_of}
 use denote.Triple.Table.{framed}
 use denote.Triple.Walked.{Stays, stay_dropped, walk_of}
-use Rattle.core.proofs.alloc.Calls.{Goes-blank}
-use Rattle.std.proofs.raw_atomic.Walks.{proved_at, leaves}
-use Rattle.std.proofs.VecSteps.Shapes.{after}
 use Rattle.std_alloc.specs.contracts.boxed.Box as box
 use Rattle.std_alloc.proofs.boxed.Box.TheLaws as box_laws
 use Rattle.std_alloc.specs.contracts.boxed.Box.from_raw as call
-use Rattle.std_alloc.proofs.boxed.Box.from_raw.Met.{met}
-use Rattle.slotmap_c.proofs.Values.{fits_one, pair, pair_fits, ptr_fits, Unboxed, unboxed_out}
-use Rattle.slotmap_c.specs.contracts.unboxed.Unboxed.into_box.{ended, clauses}
-use Rattle.slotmap_c.specs.contracts.unboxed.Unboxed.into_box.Key.{name as #self}
-use Rattle.slotmap_c.proofs.unboxed.Unboxed.into_box.Statement.{statement}
 use Rattle.slotmap_c.proofs.unboxed.Unboxed.into_box.Code as code
 
 pub into_box_spec : {M : Type 1} → statement M

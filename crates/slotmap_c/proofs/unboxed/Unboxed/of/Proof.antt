@@ -1,5 +1,13 @@
 -- `of` keeps what the box owned, beside its pointer and its allocator.
 use Rattle.std.proofs.Common.{◌≡◌, List, [], ◌∷◌, ◌++◌, refl, sym, subst}
+use Rattle.core.proofs.alloc.Calls.{Goes-blank}
+use Rattle.std.proofs.raw_atomic.Walks.{proved_at, leaves}
+use Rattle.std_alloc.specs.Box.Ownership.{box_owns}
+use Rattle.std_alloc.proofs.boxed.Box.into_raw_with_allocator.Met.{met}
+use Rattle.slotmap_c.proofs.Values.{Fits, one_value, pair, pair_fits, ptr_fits, Unboxed, unboxed_in, tuple_out}
+use Rattle.slotmap_c.specs.contracts.unboxed.Unboxed.of.{ended, clauses}
+use Rattle.slotmap_c.specs.contracts.unboxed.Unboxed.of.Key.{name as #self}
+use Rattle.slotmap_c.proofs.unboxed.Unboxed.of.Statement.{statement}
 use mir.MapTy.{inst_fn}
 use mir.Syntax.{Args, a_type, dcons, dnil}
 use mir.Val.{Val}
@@ -25,17 +33,9 @@ use denote.Triple.Entry.{alive}
 use denote.Triple.Spec.{triple_of}
 use denote.Triple.Table.{framed}
 use denote.Triple.Walked.{Stays, stay_dropped, walk_of}
-use Rattle.core.proofs.alloc.Calls.{Goes-blank}
-use Rattle.std.proofs.raw_atomic.Walks.{proved_at, leaves}
-use Rattle.std_alloc.specs.Box.Ownership.{box_owns}
 use Rattle.std_alloc.specs.contracts.boxed.Box as box
 use Rattle.std_alloc.proofs.boxed.Box.TheLaws as box_laws
 use Rattle.std_alloc.specs.contracts.boxed.Box.into_raw_with_allocator as call
-use Rattle.std_alloc.proofs.boxed.Box.into_raw_with_allocator.Met.{met}
-use Rattle.slotmap_c.proofs.Values.{Fits, one_value, pair, pair_fits, ptr_fits, Unboxed, unboxed_in, tuple_out}
-use Rattle.slotmap_c.specs.contracts.unboxed.Unboxed.of.{ended, clauses}
-use Rattle.slotmap_c.specs.contracts.unboxed.Unboxed.of.Key.{name as #self}
-use Rattle.slotmap_c.proofs.unboxed.Unboxed.of.Statement.{statement}
 use Rattle.slotmap_c.proofs.unboxed.Unboxed.of.Code as code
 
 pub of_spec : {M : Type 1} → statement M

@@ -1,6 +1,5 @@
 use Rattle.std.proofs.Common.{◌-◌, ◌∷◌, [], ◌∙◌, ap, length, length-append, arith}
-use Rattle.slotmap_links.specs.Kept.{link_at, unless_nobody}
-use Rattle.slotmap_links.specs.Linked.{follow}
+use Rattle.slotmap_links.specs.{Kept.link_at, Kept.unless_nobody, Linked.follow}
 use Rattle.slotmap_links.proofs.Segments.{back_below, back_is, back_rest}
 use Rattle.slotmap_links.proofs.iter.MembersDoubleEndedIterator.next_back.Goals as goal
 

@@ -1,5 +1,6 @@
 use Rattle.slotmap_core.proofs.Common.{refl}
-use Rattle.slotmap_run.proofs.{Joins.detached, Joins.reattach_served, Joins.detaches_no_key, Joins.reattaches_no_key, JoinRuns.served}
+use Rattle.slotmap_run.proofs.Joins.{detached, reattach_served, detaches_no_key, reattaches_no_key}
+use Rattle.slotmap_run.proofs.JoinRuns.{served}
 use Rattle.slotmap_run.proofs.joined.GivenLookServesBesideJoinedDetachCommandJoinedReply.serve.Goals as goal
 
 pub returns-in-Plain-clause-step : goal.returns-in-Plain-clause-step

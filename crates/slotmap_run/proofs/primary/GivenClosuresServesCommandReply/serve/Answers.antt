@@ -1,7 +1,7 @@
 use Rattle.std.proofs.Common.{◌≡◌, Bor, subst, refl, sym, ap, ◌∙◌}
 use Rattle.slotmap_core.proofs.Common.{KeepsAt, callable_on_each}
-use denote.Param.Always.{mut_by, always_fn}
 use Rattle.slotmap_run.proofs.Steps.{keeps_itself, inserted, inserted_with, looked, contains, replaced, removed, retains, clears, drained, listed, counts, reserved}
+use denote.Param.Always.{mut_by, always_fn}
 use Rattle.slotmap_run.proofs.primary.GivenClosuresServesCommandReply.serve.Goals as goal
 
 pub returns-in-Insert-clause-step : goal.returns-in-Insert-clause-step

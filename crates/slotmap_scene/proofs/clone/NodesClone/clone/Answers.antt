@@ -1,5 +1,4 @@
-use Rattle.slotmap_scene.proofs.Common.{each_same}
-use Rattle.slotmap_scene.proofs.SceneSteps.{copied_kept, copied_seen}
+use Rattle.slotmap_scene.proofs.{Common.each_same, SceneSteps.copied_kept, SceneSteps.copied_seen}
 use Rattle.slotmap_scene.proofs.clone.NodesClone.clone.Goals as goal
 
 pub invariant_of-result : goal.invariant_of-result

@@ -1,6 +1,4 @@
-use Rattle.slotmap_scene.proofs.Common.{arith}
-use Rattle.slotmap_scene.proofs.Families.{seen_has}
-use Rattle.slotmap_scene.proofs.SceneSteps.{family_valid}
+use Rattle.slotmap_scene.proofs.{Common.arith, Families.seen_has, SceneSteps.family_valid}
 use Rattle.slotmap_scene.proofs.family.Nodes.contains_key.Goals as goal
 
 pub returns-clause-value : goal.returns-clause-value

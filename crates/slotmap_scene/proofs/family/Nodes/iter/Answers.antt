@@ -1,5 +1,4 @@
-use Rattle.slotmap_scene.proofs.Common.{sym, ◌∙◌}
-use Rattle.slotmap_scene.proofs.Families.{seen_pairs}
+use Rattle.slotmap_scene.proofs.{Common.sym, Common.◌∙◌, Families.seen_pairs}
 use Rattle.slotmap_scene.proofs.family.Nodes.iter.Goals as goal
 
 pub returns : goal.returns

@@ -1,5 +1,4 @@
-use Rattle.slotmap_scene.proofs.Common.{arith}
-use Rattle.slotmap_scene.proofs.Families.{seen_keys}
+use Rattle.slotmap_scene.proofs.{Common.arith, Families.seen_keys}
 use Rattle.slotmap_scene.proofs.family.Nodes.keys.Goals as goal
 
 pub returns : goal.returns

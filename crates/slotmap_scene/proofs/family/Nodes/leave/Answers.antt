@@ -1,6 +1,4 @@
-use Rattle.slotmap_scene.proofs.Common.{arith}
-use Rattle.slotmap_scene.proofs.Moved.{listed_once}
-use Rattle.slotmap_scene.proofs.Families.{read_above}
+use Rattle.slotmap_scene.proofs.{Common.arith, Moved.listed_once, Families.read_above}
 use Rattle.slotmap_scene.proofs.Placing.{left, left_below, left_listed, left_none, place_there}
 use Rattle.slotmap_scene.proofs.family.Nodes.leave.Goals as goal
 

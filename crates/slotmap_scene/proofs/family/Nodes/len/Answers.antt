@@ -1,5 +1,4 @@
-use Rattle.slotmap_scene.proofs.Common.{sym, ◌∙◌}
-use Rattle.slotmap_scene.proofs.Families.{seen_len}
+use Rattle.slotmap_scene.proofs.{Common.sym, Common.◌∙◌, Families.seen_len}
 use Rattle.slotmap_scene.proofs.family.Nodes.len.Goals as goal
 
 pub returns : goal.returns

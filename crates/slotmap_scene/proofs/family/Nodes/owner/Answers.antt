@@ -1,5 +1,4 @@
-use Rattle.slotmap_scene.proofs.Common.{arith}
-use Rattle.slotmap_scene.proofs.Families.{seen_has}
+use Rattle.slotmap_scene.proofs.{Common.arith, Families.seen_has}
 use Rattle.slotmap_scene.proofs.family.Nodes.owner.Goals as goal
 
 pub returns-then-contains_key : goal.returns-then-contains_key

@@ -1,6 +1,5 @@
 use Rattle.slotmap_scene.proofs.Common.{ap, children_in, children_of, is_some, leaves_in_turn, option_map, parent_in, parent_of, refl, rules, sym, times, times_gone, without, ◌∙◌}
-use Rattle.slotmap_scene.proofs.Moved.{leaves_filled, left_of}
-use Rattle.slotmap_scene.proofs.Removals.{childless}
+use Rattle.slotmap_scene.proofs.{Moved.leaves_filled, Moved.left_of, Removals.childless}
 use Rattle.slotmap_scene.proofs.family.Nodes.prune.Goals as goal
 
 pub remove-requires : goal.remove-requires

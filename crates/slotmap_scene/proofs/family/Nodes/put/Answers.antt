@@ -1,5 +1,4 @@
-use Rattle.slotmap_scene.proofs.Common.{arith, set}
-use Rattle.slotmap_scene.proofs.Placing.{parent_alive}
+use Rattle.slotmap_scene.proofs.{Common.arith, Common.set, Placing.parent_alive}
 use Rattle.slotmap_scene.proofs.SceneSteps.{came_inserts, came_kept, family_valid}
 use Rattle.slotmap_scene.proofs.family.Nodes.put.Goals as goal
 

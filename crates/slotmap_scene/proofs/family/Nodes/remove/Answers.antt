@@ -1,6 +1,5 @@
 use Rattle.slotmap_scene.proofs.Common.{ap, arith, is_some, leaves_by_removal, sym, true}
-use Rattle.slotmap_scene.proofs.Families.{seen_value}
-use Rattle.slotmap_scene.proofs.Placing.{is_live}
+use Rattle.slotmap_scene.proofs.{Families.seen_value, Placing.is_live}
 use Rattle.slotmap_scene.proofs.SceneSteps.{family_leaves, gone_kept, gone_seen}
 use Rattle.slotmap_scene.proofs.family.Nodes.remove.Goals as goal
 

@@ -1,5 +1,4 @@
-use Rattle.slotmap_scene.proofs.Common.{Leaves, ◌≡◌}
-use Rattle.slotmap_scene.proofs.Removals.{Removing, to_do}
+use Rattle.slotmap_scene.proofs.{Common.Leaves, Common.◌≡◌, Removals.Removing, Removals.to_do}
 use Rattle.slotmap_scene.proofs.family.Nodes.remove_tree.Given as goal
 
 abbrev pub invariant-loop-child : goal.invariant-loop-child

@@ -1,5 +1,4 @@
-use Rattle.slotmap_scene.proofs.Common.{arith, set}
-use Rattle.slotmap_scene.proofs.Placing.{hangs, place_there}
+use Rattle.slotmap_scene.proofs.{Common.arith, Common.set, Placing.hangs, Placing.place_there}
 use Rattle.slotmap_scene.proofs.family.Nodes.set_parent.Goals as goal
 
 pub index_mut-requires : goal.index_mut-requires

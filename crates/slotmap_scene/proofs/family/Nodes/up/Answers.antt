@@ -1,5 +1,4 @@
-use Rattle.slotmap_scene.proofs.Common.{arith, sym}
-use Rattle.slotmap_scene.proofs.Families.{read_above}
+use Rattle.slotmap_scene.proofs.{Common.arith, Common.sym, Families.read_above}
 use Rattle.slotmap_scene.proofs.Placing.{place_there, up_has, up_is, up_none}
 use Rattle.slotmap_scene.proofs.family.Nodes.up.Goals as goal
 

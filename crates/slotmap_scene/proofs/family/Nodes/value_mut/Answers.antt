@@ -1,6 +1,5 @@
 use Rattle.slotmap_scene.proofs.Common.{Content, Node, ap, arith, family, same_lent, same_unlent, sym, with_value, ◌∙◌}
-use Rattle.slotmap_scene.proofs.Families.{seen_value}
-use Rattle.slotmap_scene.proofs.SceneSteps.{written_kept, written_seen}
+use Rattle.slotmap_scene.proofs.{Families.seen_value, SceneSteps.written_kept, SceneSteps.written_seen}
 use Rattle.slotmap_scene.proofs.family.Nodes.value_mut.Goals as goal
 
 pub invariant_of-self-lent : goal.invariant_of-self-lent

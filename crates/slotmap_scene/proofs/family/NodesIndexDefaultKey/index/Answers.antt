@@ -1,6 +1,4 @@
-use Rattle.slotmap_scene.proofs.Common.{arith}
-use Rattle.slotmap_scene.proofs.Families.{seen_value}
-use Rattle.slotmap_scene.proofs.Placing.{is_live}
+use Rattle.slotmap_scene.proofs.{Common.arith, Families.seen_value, Placing.is_live}
 use Rattle.slotmap_scene.proofs.family.NodesIndexDefaultKey.index.Goals as goal
 
 pub value-requires : goal.value-requires

@@ -1,6 +1,4 @@
-use Rattle.slotmap_scheduler.proofs.Common.{refl}
-use Rattle.slotmap_scheduler.proofs.TakingOut.{first_fewer}
-use Rattle.slotmap_scheduler.proofs.Draining.{emptied_then}
+use Rattle.slotmap_scheduler.proofs.{Common.refl, TakingOut.first_fewer, Draining.emptied_then}
 use Rattle.slotmap_scheduler.proofs.drain.DrainIterator.next.Goals as goal
 
 pub returns-in-Some-clause-steps : goal.returns-in-Some-clause-steps

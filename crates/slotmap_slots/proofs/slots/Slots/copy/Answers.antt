@@ -1,5 +1,4 @@
-use Rattle.slotmap_slots.proofs.Common.{clone_copies, valid}
-use Rattle.slotmap_slots.proofs.SlotClones.{IsSettled-clones, settled-clones}
+use Rattle.slotmap_slots.proofs.{Common.clone_copies, Common.valid, SlotClones.IsSettled-clones, SlotClones.settled-clones}
 use Rattle.slotmap_slots.proofs.slots.Slots.copy.Goals as goal
 
 pub invariant_of-result : goal.invariant_of-result

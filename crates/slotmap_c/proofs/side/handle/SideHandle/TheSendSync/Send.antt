@@ -1,5 +1,11 @@
 -- A handle may go to another thread: its map may, and what frees its block names no thread.
-use Rattle.std.proofs.Common.{ℕ}
+use Rattle.std.proofs.{Common.ℕ, Crossing.frees}
+use Rattle.std_alloc.proofs.SendSync.{lies, quiet}
+use Rattle.slotmap_secondary.specs.Content.{SideContent}
+use Rattle.slotmap_core.specs.contracts.keys.DefaultKey.{the_row as key_row}
+use Rattle.slotmap_secondary.proofs.SecondaryMap.TheSendSync.{the_send}
+use Rattle.slotmap_c.specs.Side.{Side, side_held}
+use Rattle.slotmap_c.specs.contracts.side.handle.SideHandle.{the_type, the_row}
 use mathlib.Core.Bool.{Bool, true, false}
 use mir.Raw.{raw as bare}
 use base.Shift.{Keyless}
@@ -9,13 +15,6 @@ use denote.Param.Send.{IsSend, owning_send, struct_send, sendable}
 use denote.RawPtr.{Ptr}
 use denote.Struct.Owning.{shape, fields, to}
 use denote.Struct.Struct.{exits_of}
-use Rattle.std.proofs.Crossing.{frees}
-use Rattle.std_alloc.proofs.SendSync.{lies, quiet}
-use Rattle.slotmap_secondary.specs.Content.{SideContent}
-use Rattle.slotmap_core.specs.contracts.keys.DefaultKey.{the_row as key_row}
-use Rattle.slotmap_secondary.proofs.SecondaryMap.TheSendSync.{the_send}
-use Rattle.slotmap_c.specs.Side.{Side, side_held}
-use Rattle.slotmap_c.specs.contracts.side.handle.SideHandle.{the_type, the_row}
 
 number_send : IsSend u64
 number_send = search sendable

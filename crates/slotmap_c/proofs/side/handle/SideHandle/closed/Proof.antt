@@ -1,5 +1,12 @@
 -- A closed handle is made of no_side.
 use Rattle.std.proofs.Common.{◌≡◌, ℕ, [], ◌∷◌, refl, lit<}
+use Rattle.std.proofs.raw_atomic.Walks.{proved_at, leaves}
+use Rattle.slotmap_secondary.specs.Content.{SideContent}
+use Rattle.slotmap_c.proofs.{Values.word, SideValues.SideRow, SideValues.side_in}
+use Rattle.slotmap_c.specs.Side.{no_side}
+use Rattle.slotmap_c.specs.contracts.side.handle.SideHandle.closed.{ended, clauses}
+use Rattle.slotmap_c.specs.contracts.side.handle.SideHandle.closed.Key.{name as #self}
+use Rattle.slotmap_c.proofs.side.handle.SideHandle.closed.Statement.{statement}
 use mathlib.Core.Bool.{false}
 use mir.Val.{Val}
 use base.Logic.{SProp, emp}
@@ -15,14 +22,6 @@ use denote.Signature.{types_at}
 use denote.Steps.{nothing as nothing_more}
 use denote.Triple.Entry.{alive}
 use denote.Triple.Walked.{Stays, walk_of}
-use Rattle.std.proofs.raw_atomic.Walks.{proved_at, leaves}
-use Rattle.slotmap_secondary.specs.Content.{SideContent}
-use Rattle.slotmap_c.proofs.Values.{word}
-use Rattle.slotmap_c.proofs.SideValues.{SideRow, side_in}
-use Rattle.slotmap_c.specs.Side.{no_side}
-use Rattle.slotmap_c.specs.contracts.side.handle.SideHandle.closed.{ended, clauses}
-use Rattle.slotmap_c.specs.contracts.side.handle.SideHandle.closed.Key.{name as #self}
-use Rattle.slotmap_c.proofs.side.handle.SideHandle.closed.Statement.{statement}
 use Rattle.slotmap_c.proofs.side.handle.SideHandle.closed.Code as code
 
 pub closed_spec : {M : Type 1} → statement M

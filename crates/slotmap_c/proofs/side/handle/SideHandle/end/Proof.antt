@@ -1,5 +1,11 @@
 -- `end` lets its handle go.
 use Rattle.std.proofs.Common.{List, [], ◌∷◌, ◌++◌, refl}
+use Rattle.core.proofs.alloc.Calls.{Goes-blank}
+use Rattle.std.proofs.raw_atomic.Walks.{proved_at, leaves}
+use Rattle.slotmap_c.proofs.{Values.word, Values.word_fits, SideValues.SideRow, SideValues.side_out}
+use Rattle.slotmap_c.specs.contracts.side.handle.SideHandle.end.{ended, clauses}
+use Rattle.slotmap_c.specs.contracts.side.handle.SideHandle.end.Key.{name as #self}
+use Rattle.slotmap_c.proofs.side.handle.SideHandle.end.Statement.{statement}
 use mir.Val.{Val, vunit}
 use base.Logic.{SProp}
 use prog.Wp.{WpFn}
@@ -12,13 +18,6 @@ use denote.Signature.{types_at, plain}
 use denote.Steps.{nothing}
 use denote.Triple.Entry.{alive}
 use denote.Triple.Walked.{Stays, stay_dropped, walk_of}
-use Rattle.core.proofs.alloc.Calls.{Goes-blank}
-use Rattle.std.proofs.raw_atomic.Walks.{proved_at, leaves}
-use Rattle.slotmap_c.proofs.Values.{word, word_fits}
-use Rattle.slotmap_c.proofs.SideValues.{SideRow, side_out}
-use Rattle.slotmap_c.specs.contracts.side.handle.SideHandle.end.{ended, clauses}
-use Rattle.slotmap_c.specs.contracts.side.handle.SideHandle.end.Key.{name as #self}
-use Rattle.slotmap_c.proofs.side.handle.SideHandle.end.Statement.{statement}
 use Rattle.slotmap_c.proofs.side.handle.SideHandle.end.Code as code
 
 pub end_spec : {M : Type 1} → statement M

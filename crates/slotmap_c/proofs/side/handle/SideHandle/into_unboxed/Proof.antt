@@ -1,5 +1,19 @@
 -- `into_unboxed` tests the pointer, and hands the block over if there is one.
 use Rattle.std.proofs.Common.{◌≡◌, ℕ, List, [], ◌∷◌, ◌++◌, refl, sym, subst, ◌∙◌, lit<}
+use Rattle.core.proofs.alloc.Calls.{Goes-blank}
+use Rattle.core.proofs.option.Made.{Some-of, none_of}
+use Rattle.std.proofs.raw_atomic.Walks.{proved_at, leaves}
+use Rattle.std.specs.Prelude.{Some, None, ⊤}
+use Rattle.std_heap.specs.contracts.GlobalAllocator.TheImpl.{ghosts}
+use Rattle.std_heap.proofs.Global.TheLaws.{the_row_laws}
+use Rattle.slotmap_secondary.specs.Content.{SideContent}
+use Rattle.slotmap_c.proofs.Values.{Fits, and_true, word, word_fits, pair, pair_fits, ptr_fits, tells, testable, Unboxed, unboxed_in}
+use Rattle.slotmap_c.proofs.SideValues.{SideRow, side_out}
+use Rattle.slotmap_c.specs.Held.{may_free}
+use Rattle.slotmap_c.specs.Side.{Side, side_held, no_side}
+use Rattle.slotmap_c.specs.contracts.side.handle.SideHandle.into_unboxed.{ended, clauses}
+use Rattle.slotmap_c.specs.contracts.side.handle.SideHandle.into_unboxed.Key.{name as #self}
+use Rattle.slotmap_c.proofs.side.handle.SideHandle.into_unboxed.Statement.{statement}
 use seplogic.Ra.Ura.{Ura}
 use mathlib.Core.Bool.{Bool, true, false, ◌&&◌}
 use mir.Val.{Val, of_list, has_ty}
@@ -25,22 +39,8 @@ use denote.Steps.{nothing as nothing_more}
 use denote.Triple.Clauses.{Clauses}
 use denote.Triple.Entry.{alive}
 use denote.Triple.Walked.{Stays, stay_dropped, walk_of}
-use Rattle.core.proofs.alloc.Calls.{Goes-blank}
-use Rattle.core.proofs.option.Made.{Some-of, none_of}
 use Rattle.core.specs.contracts.option.Option as option
-use Rattle.std.proofs.raw_atomic.Walks.{proved_at, leaves}
-use Rattle.std.specs.Prelude.{Some, None, ⊤}
 use Rattle.std_heap.specs.contracts.Global as heap
-use Rattle.std_heap.specs.contracts.GlobalAllocator.TheImpl.{ghosts}
-use Rattle.std_heap.proofs.Global.TheLaws.{the_row_laws}
-use Rattle.slotmap_secondary.specs.Content.{SideContent}
-use Rattle.slotmap_c.proofs.Values.{Fits, and_true, word, word_fits, pair, pair_fits, ptr_fits, tells, testable, Unboxed, unboxed_in}
-use Rattle.slotmap_c.proofs.SideValues.{SideRow, side_out}
-use Rattle.slotmap_c.specs.Held.{may_free}
-use Rattle.slotmap_c.specs.Side.{Side, side_held, no_side}
-use Rattle.slotmap_c.specs.contracts.side.handle.SideHandle.into_unboxed.{ended, clauses}
-use Rattle.slotmap_c.specs.contracts.side.handle.SideHandle.into_unboxed.Key.{name as #self}
-use Rattle.slotmap_c.proofs.side.handle.SideHandle.into_unboxed.Statement.{statement}
 use Rattle.slotmap_c.proofs.side.handle.SideHandle.into_unboxed.Code as code
 
 abbrev A : RattleType

@@ -1,5 +1,15 @@
 -- `of_unboxed` hands the block over to the handle.
 use Rattle.std.proofs.Common.{◌≡◌, List, [], ◌∷◌, ◌++◌, refl}
+use Rattle.core.proofs.alloc.Calls.{Goes-blank}
+use Rattle.std.proofs.raw_atomic.Walks.{proved_at, leaves}
+use Rattle.std_heap.specs.contracts.GlobalAllocator.TheImpl.{ghosts}
+use Rattle.std_heap.proofs.Global.TheLaws.{the_row_laws}
+use Rattle.slotmap_c.proofs.Values.{word, word_fits, pair, pair_fits, ptr_fits, Unboxed, unboxed_out}
+use Rattle.slotmap_c.proofs.SideValues.{SideRow, side_in}
+use Rattle.slotmap_c.specs.Side.{Side}
+use Rattle.slotmap_c.specs.contracts.side.handle.SideHandle.of_unboxed.{ended, clauses}
+use Rattle.slotmap_c.specs.contracts.side.handle.SideHandle.of_unboxed.Key.{name as #self}
+use Rattle.slotmap_c.proofs.side.handle.SideHandle.of_unboxed.Statement.{statement}
 use mathlib.Core.Bool.{true}
 use mir.Val.{Val}
 use base.Logic.{SProp, emp}
@@ -16,17 +26,7 @@ use denote.Signature.{types_at, plain}
 use denote.Steps.{nothing}
 use denote.Triple.Entry.{alive}
 use denote.Triple.Walked.{Stays, stay_dropped, walk_of}
-use Rattle.core.proofs.alloc.Calls.{Goes-blank}
-use Rattle.std.proofs.raw_atomic.Walks.{proved_at, leaves}
 use Rattle.std_heap.specs.contracts.Global as heap
-use Rattle.std_heap.specs.contracts.GlobalAllocator.TheImpl.{ghosts}
-use Rattle.std_heap.proofs.Global.TheLaws.{the_row_laws}
-use Rattle.slotmap_c.proofs.Values.{word, word_fits, pair, pair_fits, ptr_fits, Unboxed, unboxed_out}
-use Rattle.slotmap_c.proofs.SideValues.{SideRow, side_in}
-use Rattle.slotmap_c.specs.Side.{Side}
-use Rattle.slotmap_c.specs.contracts.side.handle.SideHandle.of_unboxed.{ended, clauses}
-use Rattle.slotmap_c.specs.contracts.side.handle.SideHandle.of_unboxed.Key.{name as #self}
-use Rattle.slotmap_c.proofs.side.handle.SideHandle.of_unboxed.Statement.{statement}
 use Rattle.slotmap_c.proofs.side.handle.SideHandle.of_unboxed.Code as code
 
 pub of_unboxed_spec : {M : Type 1} → statement M
