@@ -1,6 +1,6 @@
 -- What the answers of this crate cite of std, of the core and of this crate's lemmas, from one place. Declares nothing.
 pub use native.Mathlib.Decide.{dec_lt}
-pub use Rattle.std.proofs.Common.{◌≡◌, ◌<◌, ◌≤◌, ◌+◌, ◌-◌, ◌∷◌, ◌++◌, map as list_map, ◌%◌, ◌≢◌, ◌^◌, ◌*◌, ◌/◌}
+pub use Rattle.std.proofs.Common.{map as list_map}
 pub use Rattle.slotmap_core.proofs.Common.{alone_at, NoneBelow-removed, IsKeyListing-listing, option_copied_mut, IsContent-with_value, capacity-with_values, bit_at-trailing_zeros, get_or_default_zero}
 pub use Rattle.slotmap_core.proofs.Common.{CanReplace-next, map as map_list, in_after_remove, removed_places, get-remove_other, listing-entries, content_written, same_from_all_zip, slice_get_within}
 pub use Rattle.slotmap_core.proofs.Common.{common_steps, take, Swept-removed, EmptiesByIndex, in_order_along, entries_none, from_index-end, key_exchanged, CallsAt-called, bitmask_splat, Empties-first}

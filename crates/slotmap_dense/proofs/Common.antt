@@ -1,5 +1,5 @@
 -- What the answers of this crate cite of std, of the core and of this crate's lemmas, from one place. Declares nothing.
-pub use Rattle.std.proofs.Common.{◌≡◌, map as list_map, ◌++◌, ◌∷◌, zip, ◌≤◌, ◌+◌, ◌-◌, ◌^◌, ◌<◌}
+pub use Rattle.std.proofs.Common.{map as list_map, zip}
 pub use Rattle.slotmap_core.proofs.Common.{CanReplace-next, IsListingBut-start, IsListingBut-take, IsListingBut-done, IsKeyListing-listing, option_copied_mut, same_from_all_zip, IsContent-with_value}
 pub use Rattle.slotmap_core.proofs.Common.{Inserts, map as map_list, into_iter_items, nil_from_length, next_consistent, into_iter_len, slice_get_read, clones_contents, equal_contents, AreRecordClones}
 pub use Rattle.slotmap_core.proofs.Common.{common_steps, refuses_key, clone_copies, append_assoc, IsListingBut, vec_capacity, option_copied, key_exchanged, IsRecordClone, slice_get-map, writes_clones}

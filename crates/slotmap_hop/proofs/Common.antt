@@ -1,5 +1,5 @@
 -- What the answers of this crate cite of std, of the core and of this crate's lemmas, from one place. Declares nothing.
-pub use Rattle.std.proofs.Common.{◌≡◌, ◌-◌, ◌≤◌, ◌+◌, ◌∷◌, ◌++◌, map as list_map, map as map_list, ◌<◌}
+pub use Rattle.std.proofs.Common.{map as list_map, map as map_list}
 pub use Rattle.std.proofs.lemmas.List.{set-set, drop-drop, take_rest}
 pub use Rattle.slotmap_core.proofs.Common.{CanReplace-next, into_iter_items, reads_as, listing-entries, IsKeyListing-listing, option_copied_mut, content_written, AreRecordClones, used_places-sentinel}
 pub use Rattle.slotmap_core.proofs.Common.{with_items_is, in_order_along, into_iter_len, remove_absent, key_exchanged, CallsAt-called, slice_get_read, clones_contents, equal_contents, sentinel_alone}

@@ -1,5 +1,4 @@
 -- What the proofs of this crate cite of std, of the crates below and of this crate's definitions, from one place. Declares nothing.
-pub use Rattle.std.proofs.Common.{◌≡◌, ◌+◌, ◌<◌, ◌∷◌, ◌++◌, ◌^◌, ◌⊎◌}
 pub use Rattle.slotmap_core.proofs.Common.{◌∙◌, take_more, map-append, take-append-drop, all_zipped_more, drop-cons, result_ok, AllByRecursion, IsContent, nat_tests, option_map, common_steps}
 pub use Rattle.slotmap_core.proofs.Common.{AllZip, Option, Some, arith, map_more, map_push, add-one, length, get_or, Result, IsKey, key_from, Content, ReadsAs, Writes, Restores, subst, says_at, rules}
 pub use Rattle.slotmap_core.proofs.Common.{sym, ap, ℕ, suc, List, [], take, drop, map, Ok, Err, IsOk, IfOk, inr, Key, None, Bool, inl, refl}

@@ -1,6 +1,7 @@
 -- Lists that agree with one another for one more element, and what one element of an array is read as.
-use Rattle.slotmap_json.proofs.Common.{◌≡◌, ◌∷◌, ◌∙◌, map-append, take-append-drop, all_zipped_more, SlotRecord, items_view, version_member, value_member, IsSlotJson, HasElements}
-use Rattle.slotmap_json.proofs.Common.{◌+◌, ◌<◌, ◌++◌, AllZip, take_more, map_more, map_push, drop-cons, add-one, as_array, items_of, slot_json, ReadsSlot, ReadsAll, IsRefused, JsonError}
+use Rattle.std.proofs.Common.{◌≡◌, ◌∷◌, ◌+◌, ◌<◌, ◌++◌}
+use Rattle.slotmap_json.proofs.Common.{◌∙◌, map-append, take-append-drop, all_zipped_more, SlotRecord, items_view, version_member, value_member, IsSlotJson, HasElements}
+use Rattle.slotmap_json.proofs.Common.{AllZip, take_more, map_more, map_push, drop-cons, add-one, as_array, items_of, slot_json, ReadsSlot, ReadsAll, IsRefused, JsonError}
 use Rattle.slotmap_json.proofs.Common.{Option, Some, sym, ap, arith, ℕ, suc, List, [], length, get_or, take, drop, map, Result, Ok, Err, IsOk, IfOk, inr, view, ok_map, Shape, Memory}
 use Rattle.slotmap_core.specs.declared.errors.OutOfMemory.{OutOfMemory}
 use Rattle.serde_json.specs.Data.{Data, array, Items}

@@ -1,6 +1,7 @@
 -- What was written as JSON is read back: for callers, who write keys and lists of slots, and read them again.
-use Rattle.slotmap_json.proofs.Common.{◌≡◌, ◌<◌, ◌∷◌, ◌⊎◌, result_ok, AllByRecursion, IsContent, nat_tests, option_map, ◌∙◌, SlotRecord, JsonError, IsSlotJson, IsSlotsJson}
-use Rattle.slotmap_json.proofs.Common.{◌^◌, ◌++◌, key_from, Content, ReadsAs, Restores, as_array, items_of, key_json, read_key, slot_json, ReadsSlot, ReadsAll, IsReadAs, IsRefused, ReadsBack}
+use Rattle.std.proofs.Common.{◌≡◌, ◌<◌, ◌∷◌, ◌⊎◌, ◌^◌, ◌++◌}
+use Rattle.slotmap_json.proofs.Common.{result_ok, AllByRecursion, IsContent, nat_tests, option_map, ◌∙◌, SlotRecord, JsonError, IsSlotJson, IsSlotsJson}
+use Rattle.slotmap_json.proofs.Common.{key_from, Content, ReadsAs, Restores, as_array, items_of, key_json, read_key, slot_json, ReadsSlot, ReadsAll, IsReadAs, IsRefused, ReadsBack}
 use Rattle.slotmap_json.proofs.Common.{AllZip, Key, IsKey, Writes, subst, arith, ℕ, List, [], Result, Ok, Err, Option, Some, None, Bool, inl, inr, refl, sym, ap, Shape, Memory, as_u32, ok_map}
 use Rattle.serde_json.specs.Data.{Data, null, array}
 

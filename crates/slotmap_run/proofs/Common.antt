@@ -1,6 +1,5 @@
 -- What the proofs of this crate cite of std, of the crates below and of this crate's definitions, from one place. Declares nothing.
-pub use Rattle.std.proofs.Common.{◌≡◌, ◌⊎◌, ◌+◌, ◌^◌, ◌∷◌, ◌≢◌, ◌++◌, ◌≤◌, ◌&&◌, ◌||◌, if◌then◌else◌, map as list_map, MatchOption, IsSomeAnd}
-pub use Rattle.std.proofs.Common.{◌-◌, ◌<◌}
+pub use Rattle.std.proofs.Common.{map as list_map, MatchOption, IsSomeAnd}
 pub use Rattle.std.proofs.lemmas.List.{map-id}
 pub use Rattle.slotmap_core.proofs.General.KeyLemmas.{keys_total, exact_keys, itself, tied}
 pub use Rattle.slotmap_core.specs.Joined.{Joined, JoinedGiven, JoinedDetachStep, named, StepPut, JoinedStep, StepRemove, StepDetach, StepReattach, given_joined}

@@ -1,6 +1,7 @@
 -- No later insert returns a detached key, and it can be reattached.
+use Rattle.std.proofs.Common.{◌≡◌, ◌⊎◌}
 use Rattle.std.specs.FinSet as set
-use Rattle.slotmap_run.proofs.Common.{◌≡◌, ◌⊎◌, DetachCommand, Reply}
+use Rattle.slotmap_run.proofs.Common.{DetachCommand, Reply}
 use Rattle.slotmap_core.proofs.Common.{State, RunGiven, DetachStep, DetachedNotReissued, DetachedReattaches, ReattachBinds, Spares, keys_total, exact_keys, itself, List, Some, true, false, arith}
 use Rattle.slotmap_run.proofs.Runs.{run_split, run_keeps, run_keeps_by}
 use Rattle.slotmap_run.proofs.{MapChanges.changes, StepCases.detach_machine, StepCases.detached_stays, NewRuns.RunsWell}

@@ -1,6 +1,7 @@
 -- What is known of keys holds in a state of the machine.
+use Rattle.std.proofs.Common.{◌≡◌}
 use Rattle.std.specs.FinMap as map
-use Rattle.slotmap_run.proofs.Common.{◌≡◌, Knowledge, unknown, not_live, is_live, has, known_from}
+use Rattle.slotmap_run.proofs.Common.{Knowledge, unknown, not_live, is_live, has, known_from}
 use Rattle.slotmap_core.proofs.Common.{Key, key_cmp, State, empty_state, Option, Some, None, is_some, true, arith}
 
 module _ {V : Type 0} where

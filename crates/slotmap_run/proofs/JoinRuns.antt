@@ -1,7 +1,8 @@
 -- Calls of two joined maps, one after another, are a run of the joined machine.
+use Rattle.std.proofs.Common.{◌≡◌, ◌+◌, ◌^◌, ◌∷◌}
 use Rattle.std.specs.FinMap as map
 use Rattle.std.specs.FinSet as set
-use Rattle.slotmap_run.proofs.Common.{◌≡◌, ◌+◌, ◌^◌, ◌∷◌, joined, told_by, Known, JoinFollows, JoinServed}
+use Rattle.slotmap_run.proofs.Common.{joined, told_by, Known, JoinFollows, JoinServed}
 use Rattle.slotmap_core.proofs.Common.{Content, places, IsNew, empty_state, Joined, RunsBeside, Dictionary, WithDictionary, RunsByDictionary, unused, IfOk-weaker, on_err_weaker, new_stands, ◌∙◌}
 use Rattle.slotmap_core.proofs.Common.{Key, State, Fits, Lasts, Pairs, Run, Result, IfOk, OnErr, ℕ, List, [], length, refl, subst, arith}
 use Rattle.slotmap_run.specs.declared.joined.Beside.{Beside}

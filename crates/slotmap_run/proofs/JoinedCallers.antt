@@ -1,6 +1,7 @@
 -- What a joined run finds, by positions: for callers, who know commands and replies by index.
-use Rattle.slotmap_run.proofs.Common.{◌≡◌, ◌≢◌, ◌∷◌, ◌⊎◌, after_insert, JoinedGiven, JoinedDetachStep, JoinedCommand, JoinedDetachCommand, JoinedReply, keys_total, exact_keys}
-use Rattle.slotmap_run.proofs.Common.{◌+◌, ◌-◌, ◌<◌, ◌++◌, StandsIn, IsIssued, Fresh, Key, LooksAt, Joined, named, StepPut, itself}
+use Rattle.std.proofs.Common.{◌≡◌, ◌≢◌, ◌∷◌, ◌⊎◌, ◌+◌, ◌-◌, ◌<◌, ◌++◌}
+use Rattle.slotmap_run.proofs.Common.{after_insert, JoinedGiven, JoinedDetachStep, JoinedCommand, JoinedDetachCommand, JoinedReply, keys_total, exact_keys}
+use Rattle.slotmap_run.proofs.Common.{StandsIn, IsIssued, Fresh, Key, LooksAt, Joined, named, StepPut, itself}
 use Rattle.std.specs.List.{AllByRecursion, AllZip}
 use Rattle.slotmap_core.specs.{Run.Run, SecondaryLaw.Shows}
 use Rattle.slotmap_core.specs.Dictionary.{WithDictionary, DictionaryStep, DetachDictionaryStep, after_put, after_take, unused}

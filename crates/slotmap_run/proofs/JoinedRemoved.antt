@@ -1,6 +1,7 @@
 -- A key that a joined run removed from the primary map is gone for good: the law of both joined runs.
-use Rattle.slotmap_run.proofs.Common.{◌≡◌, JoinedGiven, JoinedStep, JoinedDetachStep, StepRemove, StepDetach, StepReattach, DetachCommand, Plain, JoinedCommand, JoinedDetachCommand, JoinedReply}
-use Rattle.slotmap_run.proofs.Common.{◌∷◌, Detach, Reattach, Reply}
+use Rattle.std.proofs.Common.{◌≡◌, ◌∷◌}
+use Rattle.slotmap_run.proofs.Common.{JoinedGiven, JoinedStep, JoinedDetachStep, StepRemove, StepDetach, StepReattach, DetachCommand, Plain, JoinedCommand, JoinedDetachCommand, JoinedReply}
+use Rattle.slotmap_run.proofs.Common.{Detach, Reattach, Reply}
 use Rattle.slotmap_core.proofs.Common.{Content, State, DetachStep, Run, Starts, AllZip, Joined, named, RunsBeside, ℕ, List, [], Option, Some, None, refl, ap, ◌∙◌, subst, arith}
 use Rattle.slotmap_core.specs.{JoinedLaw.JoinedFindsNothing, JoinedLaw.JoinedRemovedForGood, Secondary.Pairs}
 use Rattle.slotmap_run.proofs.Laws.{Gone, IsGood, good_stays, gone_stays}

@@ -1,7 +1,8 @@
 -- What a call of one of two joined maps does is a step of the joined machine.
+use Rattle.std.proofs.Common.{◌≡◌, ◌+◌, ◌^◌, ◌∷◌, ◌++◌}
 use Rattle.std.specs.FinMap as map
 use Rattle.slotmap_run.proofs.Common.{JoinedGiven, JoinedStep, JoinedDetachStep, ReattachError, DetachCommand, JoinedCommand, JoinedDetachCommand, JoinedReply, joined_reattach_reply_of, JoinFollows}
-use Rattle.slotmap_run.proofs.Common.{◌≡◌, ◌+◌, ◌^◌, ◌∷◌, ◌++◌, Full, Memory, Command, Plain, Detach, Reattach, Reply, Served, joined, told_by, Known}
+use Rattle.slotmap_run.proofs.Common.{Full, Memory, Command, Plain, Detach, Reattach, Reply, Served, joined, told_by, Known}
 use Rattle.slotmap_core.proofs.Common.{Reattaches, RunGiven as First, Follows as FollowsFirst, reply_keys, WithDictionary, RepliesByDictionary, DictionaryStep, DetachDictionaryStep, RefusesReattach}
 use Rattle.slotmap_core.proofs.Common.{Content, IsContent, Inserts, Removes, Detaches, IsIssued, StandsIn, remove, RefusesPut, LooksAt, Dictionary, MayGrow, Refuses, ◌∙◌, same_Some, slice_get}
 use Rattle.slotmap_core.proofs.Common.{Key, Keeps, State, Fits, Lasts, Pairs, get, put, Joined, named, noted, None, inl, refl, ap, Result, OnSome, IfNone, OnOk, IfErr, IsErr, zero, List, Option, Some}

@@ -1,6 +1,7 @@
 -- What is known of two joined maps stays known when a call changes one of them.
+use Rattle.std.proofs.Common.{◌≡◌, ◌≢◌, ◌^◌, ◌<◌, ◌≤◌, ◌∷◌, ◌++◌, ◌⊎◌}
 use Rattle.std.specs.FinMap as map
-use Rattle.slotmap_run.proofs.Common.{◌≡◌, ◌≢◌, ◌^◌, ◌<◌, ◌≤◌, ◌∷◌, ◌++◌, ◌⊎◌, Reply, Known}
+use Rattle.slotmap_run.proofs.Common.{Reply, Known}
 use Rattle.slotmap_core.proofs.Common.{after_insert, Dictionary, common_steps, same_or_other, get_inserted, get_removed, stands_after_put, newer_stays, stands_after_remove, removed_gone, others_stay}
 use Rattle.slotmap_core.proofs.Common.{Content, IsContent, Stands, State, Fresh, IsIssued, Fits, is_null, remove, keys_total, exact_keys, itself, get_other, get_left, newest_put, slice_get, ◌∙◌}
 use Rattle.slotmap_core.proofs.Common.{Key, Lasts, Pairs, get, put, rules, ℕ, zero, suc, List, [], Some, Bool, false, inl, inr, refl, sym, arith}

@@ -1,7 +1,8 @@
 -- What follows from a run of a machine alone.
+use Rattle.std.proofs.Common.{◌≡◌, ◌≢◌, ◌+◌, ◌≤◌, ◌∷◌, ◌⊎◌}
 use Rattle.std.specs.FinMap as map
 use Rattle.std.specs.FinSet as set
-use Rattle.slotmap_run.proofs.Common.{◌≡◌, ◌≢◌, ◌+◌, ◌≤◌, ◌∷◌, ◌⊎◌, in_use, Command, Reply}
+use Rattle.slotmap_run.proofs.Common.{in_use, Command, Reply}
 use Rattle.slotmap_core.proofs.Common.{IsDistinct, AllByRecursion, eq_by_cmp, IsIssued, after_insert, empty_state, Unretiring, reply_keys, keys_told, NoKeyTwice, keys_total, exact_keys, in_retired}
 use Rattle.slotmap_core.proofs.Common.{Key, key_cmp, most, State, StandsIn, Fresh, retired, Run, RunGiven, itself, List, [], length, true, false, inl, inr, refl, ap, arith}
 use Rattle.slotmap_run.proofs.{Runs.run_keeps, MapChanges.changes}

@@ -1,7 +1,8 @@
 -- What a run takes out for good, by its states and its closures, and by positions: for callers, who know what the map held
 -- before, or which keys `keep` rejects.
+use Rattle.std.proofs.Common.{◌≡◌, ◌⊎◌, ◌+◌, ◌-◌, ◌<◌, ◌∷◌, ◌++◌}
 use Rattle.std.specs.FinMap as map
-use Rattle.slotmap_run.proofs.Common.{◌≡◌, ◌⊎◌, ◌+◌, ◌-◌, ◌<◌, ◌∷◌, ◌++◌, ShowsLive, ShowsNotLive, LeavesAttached, FindsNothing, DetachCommand, Reply}
+use Rattle.slotmap_run.proofs.Common.{ShowsLive, ShowsNotLive, LeavesAttached, FindsNothing, DetachCommand, Reply}
 use Rattle.slotmap_core.proofs.Common.{Key, Content, IsContent, State, RunGiven, Run, RunFollows, Fits, Starts, IsLive, ℕ, Bool, List, length, slice_get, Some, true, false, ◌∙◌, subst, arith}
 use Rattle.slotmap_core.proofs.Common.{sym, ap}
 use Rattle.slotmap_core.proofs.General.Positions.{split_at, stands_after, before_in, zipped_at, zipped_by_positions}

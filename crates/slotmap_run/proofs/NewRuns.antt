@@ -1,6 +1,7 @@
 -- Calls that are each a step of the machine are a run of it, from a state of which its laws hold.
+use Rattle.std.proofs.Common.{◌≡◌, ◌+◌, ◌<◌, ◌^◌, ◌++◌}
 use Rattle.std.specs.FinSet as set
-use Rattle.slotmap_run.proofs.Common.{◌≡◌, ◌+◌, ◌<◌, ◌^◌, ◌++◌, Knowledge, not_live, known_from}
+use Rattle.slotmap_run.proofs.Common.{Knowledge, not_live, known_from}
 use Rattle.slotmap_core.proofs.Common.{Content, IsContent, IsNew, State, empty_state, retired, Unretiring, Follows, Starts, RunFollows, RunsAnew, Continues, IfOk-weaker, Result, length, ◌∙◌}
 use Rattle.slotmap_core.proofs.Common.{Run, Key, IfOk, Bool, List, arith}
 use Rattle.slotmap_run.proofs.HoldsIn.{HoldsIn, holds_from, holds_at_first}

@@ -1,7 +1,8 @@
 -- The calls of a map with a stack are the steps of the machine that reuses the slot freed last.
+use Rattle.std.proofs.Common.{◌≡◌, ◌+◌, ◌<◌, ◌∷◌, if◌then◌else◌}
 use Rattle.std.specs.FinMap as map
 use Rattle.std.specs.FinSet as set
-use Rattle.slotmap_run.proofs.Common.{◌≡◌, ◌+◌, ◌<◌, ◌∷◌, if◌then◌else◌, DetachCommand, Reply, IsLifo, Orders}
+use Rattle.slotmap_run.proofs.Common.{DetachCommand, Reply, IsLifo, Orders}
 use Rattle.slotmap_core.proofs.Common.{AllByRecursion, nat_cmp_total, used, places_after, exact_unsigned, nil_from_length, places_grow, kept_places, removed_places, detached_places, reattached_places}
 use Rattle.slotmap_core.proofs.Common.{Content, IsContent, IsLive, Inserts, Removes, Detaches, Reattaches, offer_of, top_key, keys_told, IsRefusal, keys_total, some_is, some_entry, nat_cmp, ◌∙◌}
 use Rattle.slotmap_core.proofs.Common.{Key, places, most, IsNew, Keeps, Lifo, Run, ℕ, max, List, [], Some, Bool, true, refl, ap, arith, is_some}

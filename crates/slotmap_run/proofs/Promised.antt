@@ -1,5 +1,6 @@
 -- What a reserve promised is kept.
-use Rattle.slotmap_run.proofs.Common.{◌≡◌, ◌+◌, ◌≤◌, in_use, Command, DetachCommand, Reply}
+use Rattle.std.proofs.Common.{◌≡◌, ◌+◌, ◌≤◌}
+use Rattle.slotmap_run.proofs.Common.{in_use, Command, DetachCommand, Reply}
 use Rattle.slotmap_core.proofs.Common.{State, most, RunGiven, Step, DetachStep, NeedsRoom, DetachNeedsRoom, IsRefusal, ReserveHolds, List, arith}
 use Rattle.slotmap_run.proofs.Laws.{IsMachine, IsGood, good_stays, still_promised}
 use Rattle.slotmap_run.proofs.{Runs.run_split, Runs.run_keeps, NewRuns.RunsWell}

@@ -1,6 +1,7 @@
 -- Each reply agrees with what the replies before it tell.
+use Rattle.std.proofs.Common.{◌∷◌}
 use Rattle.std.specs.FinMap as map
-use Rattle.slotmap_run.proofs.Common.{◌∷◌, list_map, Knowledge, told, Reads, ReadsWhatWasPut, DetachCommand, Reply}
+use Rattle.slotmap_run.proofs.Common.{list_map, Knowledge, told, Reads, ReadsWhatWasPut, DetachCommand, Reply}
 use Rattle.slotmap_core.proofs.Common.{Key, key_cmp, State, RunGiven, DetachStep, Run, List, [], arith}
 use Rattle.slotmap_run.proofs.{HoldsIn.Holds, HoldsIn.HoldsIn, MapChanges.changes, RemovedKeys.StepOf}
 use Rattle.slotmap_core.specs.declared.commands.Command.TheVariants as command

@@ -1,7 +1,8 @@
 -- A key that was removed is gone, and no later command finds it.
+use Rattle.std.proofs.Common.{◌≡◌, ◌∷◌}
 use Rattle.std.specs.FinMap as map
 use Rattle.std.specs.FinSet as set
-use Rattle.slotmap_run.proofs.Common.{◌≡◌, ◌∷◌, GoneForGood, ShowsLive, ShowsNotLive, RemovesKey, LeavesAttached, FindsNothing, DetachCommand, Reply}
+use Rattle.slotmap_run.proofs.Common.{GoneForGood, ShowsLive, ShowsNotLive, RemovesKey, LeavesAttached, FindsNothing, DetachCommand, Reply}
 use Rattle.std.proofs.lemmas.Slice.Zip.{AllZip-long}
 use Rattle.slotmap_core.proofs.Common.{Key, key_cmp, State, IsIssued, RunGiven, DetachStep, Run, AllZip, RemovedForGood, keys_total, exact_keys, itself, Bool, List, [], true, false, sym, arith}
 use Rattle.slotmap_run.proofs.Laws.{Gone, IsGood, good_stays, gone_stays, not_issued}

@@ -1,5 +1,6 @@
 -- The laws of the two machines, and calls on maps as a run on the contents of the maps.
-use Rattle.slotmap_run.proofs.Common.{◌≡◌, map-id, Command, DetachCommand, Reply, Knowledge, ReadsWhatWasPut, Served, StartsNew}
+use Rattle.std.proofs.Common.{◌≡◌}
+use Rattle.slotmap_run.proofs.Common.{map-id, Command, DetachCommand, Reply, Knowledge, ReadsWhatWasPut, Served, StartsNew}
 use Rattle.slotmap_core.proofs.Common.{Content, IsContent, RunGiven, any_closures, DetachStep, Follows, DetachLaws, LastFreedFirst, NeedsRoom, DetachNeedsRoom, no_places, IfOk-weaker, Result, is_some}
 use Rattle.slotmap_core.proofs.Common.{Key, IsNew, State, Step, Run, Laws, IfOk, List, Bool, true, subst}
 use Rattle.slotmap_run.proofs.Detached.{detached_not_reissued, detached_reattaches, reattach_binds}

@@ -1,7 +1,8 @@
 -- No key's index is above the most keys that were live or detached at one moment, by the replies, if no key is ever retired.
+use Rattle.std.proofs.Common.{◌≡◌, ◌+◌, ◌-◌, ◌≤◌, ◌∷◌}
 use Rattle.std.specs.FinMap as map
 use Rattle.std.specs.FinSet as set
-use Rattle.slotmap_run.proofs.Common.{◌≡◌, ◌+◌, ◌-◌, ◌≤◌, ◌∷◌, list_map, IndexStaysSmall, DetachCommand, Reply}
+use Rattle.slotmap_run.proofs.Common.{list_map, IndexStaysSmall, DetachCommand, Reply}
 use Rattle.slotmap_core.proofs.Common.{Key, key_cmp, State, RunGiven, DetachStep, Run, Unretiring, empty_state, retired, keys_total, ℕ, max, Some, None, true, List, [], ap, ◌∙◌, arith}
 use Rattle.slotmap_run.proofs.SetCounts.{all_keys, contains-all_keys, len-all_keys, len-subset}
 use Rattle.slotmap_run.proofs.{Laws.none_retired_at_first, RemovedKeys.StepOf}

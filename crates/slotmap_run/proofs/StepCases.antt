@@ -1,7 +1,8 @@
 -- A step binds a fresh key, or binds none.
+use Rattle.std.proofs.Common.{◌≡◌, ◌⊎◌}
 use Rattle.std.specs.FinMap as map
 use Rattle.std.specs.FinSet as set
-use Rattle.slotmap_run.proofs.Common.{◌≡◌, ◌⊎◌, DetachCommand, Reply}
+use Rattle.slotmap_run.proofs.Common.{DetachCommand, Reply}
 use Rattle.slotmap_core.proofs.Common.{Key, key_cmp, State, RunGiven, Step, DetachStep, reply_keys, Spares, arith, [], true}
 use Rattle.slotmap_run.proofs.MapChanges.{changes}
 use Rattle.slotmap_run.proofs.Laws.{Binds, Shrinks, IsMachine}

@@ -1,8 +1,9 @@
 -- What the calls of a map ensure is a step of the machine.
+use Rattle.std.proofs.Common.{◌≡◌, ◌≢◌, ◌≤◌, ◌∷◌, ◌+◌, ◌++◌}
 use Rattle.std.specs.FinMap as map
 use Rattle.std.specs.FinSet as set
-use Rattle.slotmap_run.proofs.Common.{◌≡◌, ◌≢◌, ◌≤◌, ◌∷◌, MatchOption, DetachCommand, ReattachError, insert_reply_of, insert_with_reply_of, reserve_reply_of, reattach_reply_of}
-use Rattle.slotmap_run.proofs.Common.{◌+◌, ◌++◌, list_map, IsSomeAnd, Command, Reply, Full, Memory, Served, IsLifo}
+use Rattle.slotmap_run.proofs.Common.{MatchOption, DetachCommand, ReattachError, insert_reply_of, insert_with_reply_of, reserve_reply_of, reattach_reply_of}
+use Rattle.slotmap_run.proofs.Common.{list_map, IsSomeAnd, Command, Reply, Full, Memory, Served, IsLifo}
 use Rattle.slotmap_core.specs.Words.{Bor, MutBor}
 use Rattle.slotmap_core.proofs.Common.{IsKeyListing, RefusesWith, RefusesCapacity, RefusesReattach, after_insert, MayLackMemory, MayLackRoom, stack_reply, after_command, retained_none, option_copied}
 use Rattle.slotmap_core.proofs.Common.{IsContent, IsListing, Replaces, Detaches, Reattaches, with_value, MakesRoom, LacksRoom, RetainsBy, DetachStep, IsRefusal, reply_keys, Ok, ◌∙◌, retained_at}

@@ -1,5 +1,6 @@
 -- Wrong replies that the laws of a run refuse, with nothing known but the laws: no machine, no map.
-use Rattle.slotmap_run.proofs.Common.{◌≡◌, ◌≢◌, ◌∷◌, DetachCommand, Reply, Key, NoKeyTwice, not_live, ReadsWhatWasPut, Plain, keys_total, exact_keys, itself, tied}
+use Rattle.std.proofs.Common.{◌≡◌, ◌≢◌, ◌∷◌}
+use Rattle.slotmap_run.proofs.Common.{DetachCommand, Reply, Key, NoKeyTwice, not_live, ReadsWhatWasPut, Plain, keys_total, exact_keys, itself, tied}
 use Rattle.slotmap_core.proofs.Common.{IsDistinct, List, [], Some, None, Option, Ok, arith}
 use Rattle.slotmap_core.specs.declared.commands.Command.TheVariants as command
 use Rattle.slotmap_core.specs.declared.commands.Reply.TheVariants as reply

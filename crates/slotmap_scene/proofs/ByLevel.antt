@@ -1,8 +1,9 @@
 -- The nodes of a scene, level by level from the roots down.
+use Rattle.std.proofs.Common.{◌++◌, ◌+◌, ◌<◌, ◌∷◌, ◌≡◌, ◌≢◌, ◌≤◌}
 use Rattle.slotmap_scene.proofs.Common.{ClimbsTo, GoesByLevel, IsScene, Key, List, Node, Nodes, None, Option, Some, [], ap, append-nil, append_assoc, arith, children_of, children_of_each, exact_keys}
 use Rattle.slotmap_scene.proofs.Common.{false, find, get_or, has_node, inl, inr, is_parent, is_some, itself, key_cmp, keys_once, keys_total, length, list_map, no_more_than, one_itself, one_other}
 use Rattle.slotmap_scene.proofs.Common.{parent_in, parent_of, refl, roots_by, roots_in, same, same_or_other, suc, sym, take, take-append-le, take_all, take_more, tied, times, times_first}
-use Rattle.slotmap_scene.proofs.Common.{times_joined, true, zero, ℕ, ◌++◌, ◌+◌, ◌<◌, ◌∙◌, ◌∷◌, ◌≡◌, ◌≢◌, ◌≤◌}
+use Rattle.slotmap_scene.proofs.Common.{times_joined, true, zero, ℕ, ◌∙◌}
 use Rattle.std.specs.FinMap as map
 
 not_some : {A : Type 0} (o : Option A) → is_some o ≡ false → o ≡ None

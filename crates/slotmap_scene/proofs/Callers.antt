@@ -1,6 +1,7 @@
 -- What callers of a scene cite, where a node was moved.
+use Rattle.std.proofs.Common.{◌++◌, ◌∷◌, ◌≡◌}
 use Rattle.slotmap_scene.proofs.Common.{IsMoved, Key, List, Nodes, SiblingSide, Some, [], ap, arith, beside_first, children_of, inl, inr, is_itself, placed, same_or_other, sym, times_gone, without}
-use Rattle.slotmap_scene.proofs.Common.{without_none, without_pushed, ◌++◌, ◌∙◌, ◌∷◌, ◌≡◌}
+use Rattle.slotmap_scene.proofs.Common.{without_none, without_pushed, ◌∙◌}
 
 -- for `using`
 pub ruleset families = (without_pushed)

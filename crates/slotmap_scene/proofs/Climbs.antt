@@ -1,7 +1,8 @@
 -- The way up from each node: where it ends, what a change of the nodes does to it, and the keys that an iterator yields on it.
+use Rattle.std.proofs.Common.{◌+◌, ◌<◌, ◌↔◌, ◌∷◌, ◌≡◌, ◌≢◌, ◌≤◌}
 use Rattle.slotmap_scene.proofs.Common.{ClimbsTo, GoesUp, HasRoot, IsTree, IsWithin, Key, Node, Nodes, None, Option, Some, StepsTo, [], ap, arith, children_in, children_of, exact_keys, has_node, inl}
 use Rattle.slotmap_scene.proofs.Common.{inr, is_some, keys_total, keys_up, left_in, len_removed, option_map, parent_in, parent_of, refl, same_Some, same_or_other, some_entry, subst, suc, sym, true}
-use Rattle.slotmap_scene.proofs.Common.{value_of, zero, ℕ, ◌+◌, ◌<◌, ◌↔◌, ◌∙◌, ◌∷◌, ◌≡◌, ◌≢◌, ◌≤◌}
+use Rattle.slotmap_scene.proofs.Common.{value_of, zero, ℕ, ◌∙◌}
 use Rattle.std.specs.FinMap as map
 
 module _ {T : Type 0} where

@@ -1,9 +1,8 @@
 -- What the proofs of this crate cite of std, of the crates below and of its own definitions, from one place. Declares nothing.
 pub use Rattle.std.proofs.Common.{Bool, Err, IfNone, IfOk, IfSome, IsErr, IsOk, List, None, Ok, OnErr, OnOk, Option, Result, Some, T, [], ap, append-nil, append_assoc, arith, cond, eqb-true}
-pub use Rattle.std.proofs.Common.{false, get_or, if◌then◌else◌, inl, inr, is_lt, is_ok, is_some, length, length-append, map as list_map, nat_eq, nat_lt, not, option_map, refl, replicate}
-pub use Rattle.std.proofs.Common.{rules, set, subst, suc, sym, take, true, zero, ℕ, ◌&&◌, ◌*◌, ◌++◌, ◌+◌, ◌-◌, ◌<◌, ◌↔◌, ◌∙◌, ◌∷◌, ◌≡◌, ◌≢◌}
-pub use Rattle.std.proofs.Common.{◌≤◌, ◌⊎◌}
-pub use Rattle.std.proofs.Math.IntN.{+ℤ_assoc, ℤ, ◌+ℤ◌}
+pub use Rattle.std.proofs.Common.{false, get_or, inl, inr, is_lt, is_ok, is_some, length, length-append, map as list_map, nat_eq, nat_lt, not, option_map, refl, replicate}
+pub use Rattle.std.proofs.Common.{rules, set, subst, suc, sym, take, true, zero, ℕ, ◌∙◌}
+pub use Rattle.std.proofs.Math.IntN.{+ℤ_assoc, ℤ}
 pub use Rattle.std.proofs.Math.ListN.{get_or-map}
 pub use Rattle.std.proofs.Math.Nat.{eq-zero-or-pos}
 pub use Rattle.std.proofs.lemmas.Bool.Decides.{nat_tests}

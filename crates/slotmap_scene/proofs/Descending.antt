@@ -1,7 +1,8 @@
 -- A walk down from a node: the keys that were listed, and those that are ahead.
+use Rattle.std.proofs.Common.{◌++◌, ◌+◌, ◌<◌, ◌∷◌, ◌≡◌, ◌≢◌, ◌≤◌, ◌⊎◌}
 use Rattle.slotmap_scene.proofs.Common.{All, All-cons, All-nil, GoesDown, IsScene, IsWithin, Key, List, Nodes, Some, StepsTo, [], ap, append_assoc, arith, children_of, has_node, inl, inr, length}
 use Rattle.slotmap_scene.proofs.Common.{length-append, list_map, no_more_than, one_itself, one_other, parent_of, refl, same, same_or_other, subst, suc, sym, times, times_first, times_joined}
-use Rattle.slotmap_scene.proofs.Common.{times_pushed, zero, ℕ, ◌++◌, ◌+◌, ◌<◌, ◌∙◌, ◌∷◌, ◌≡◌, ◌≢◌, ◌≤◌, ◌⊎◌}
+use Rattle.slotmap_scene.proofs.Common.{times_pushed, zero, ℕ, ◌∙◌}
 use Rattle.slotmap_scene.proofs.Climbs.{has_parent, no_cycle}
 use Rattle.slotmap_scene.proofs.Moved.{listed_few, listed_once, listed_parent}
 use Rattle.std.specs.FinMap as map

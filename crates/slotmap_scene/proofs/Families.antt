@@ -1,4 +1,5 @@
 -- What is seen of the values, the parents and the children of a scene together, and what a change of one of them shows.
+use Rattle.std.proofs.Common.{◌&&◌, ◌<◌, ◌∷◌, ◌≡◌, ◌≢◌, ◌≤◌, ◌⊎◌}
 use Rattle.slotmap_scene.specs.Kept.{nodes_by}
 use Rattle.slotmap_scene.proofs.Common.{AreCovered, AreDisjoint, AreIndices, Bool, Content, HasKey, HaveIndices, HoldsNodes, IfNone, IfSome, IsFree, IsIn, IsLive, Key, List, Lists, Node, Nodes, None}
 use Rattle.slotmap_scene.proofs.Common.{Option, Some, T, [], ap, arith, behind, below_all, by_live, changed_gives, changed_keeps, changed_other, children_in, children_of, common_steps, cond}
@@ -7,7 +8,7 @@ use Rattle.slotmap_scene.proofs.Common.{get_or, get_or-set_other, get_or-set_sam
 use Rattle.slotmap_scene.proofs.Common.{keys_same, keys_total, last_key, last_number, last_or, length, length-map, length-set, list_map, list_now, list_of, list_other, nat_eq, no_key, node_at, not}
 use Rattle.slotmap_scene.proofs.Common.{number_after, number_before, number_itself, often, often_first, one_itself, option_map, owner_of, owners_stay, parent_at, parent_in, parent_index, parent_of}
 use Rattle.slotmap_scene.proofs.Common.{refl, roots_in, roots_of, same_Some, same_or_other, same_or_other_number, set, some-mapped, subst, sym, tied, times, times_first, times_key, true, value_of}
-use Rattle.slotmap_scene.proofs.Common.{with_children_in, with_list, with_parent, ℕ, ◌&&◌, ◌<◌, ◌∙◌, ◌∷◌, ◌≡◌, ◌≢◌, ◌≤◌, ◌⊎◌}
+use Rattle.slotmap_scene.proofs.Common.{with_children_in, with_list, with_parent, ℕ, ◌∙◌}
 use Rattle.slotmap_scene.proofs.Indices.{key_after, key_ahead}
 use Rattle.std.specs.FinMap as map
 

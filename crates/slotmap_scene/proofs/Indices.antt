@@ -1,7 +1,8 @@
 -- Lists of children by lists of their indices: a key on one side of another one, and the key beside one.
+use Rattle.std.proofs.Common.{◌<◌, ◌∷◌, ◌≡◌}
 use Rattle.slotmap_scene.proofs.Common.{After, AreIndices, Before, Bool, Content, HaveIndices, IsLive, Key, List, None, Option, Side, Some, [], ap, arith, behind, cond, false, first_index, first_key}
 use Rattle.slotmap_scene.proofs.Common.{first_or, in_front, is_key, key_at, key_at_live, keys_at, later_indices, nat_eq, number_after, number_before, often, often_first, option_map, placed}
-use Rattle.slotmap_scene.proofs.Common.{put_before, put_behind, put_on, refl, same_at, sym, true, ℕ, ◌<◌, ◌∙◌, ◌∷◌, ◌≡◌}
+use Rattle.slotmap_scene.proofs.Common.{put_before, put_behind, put_on, refl, same_at, sym, true, ℕ, ◌∙◌}
 
 module _ {T : Type 0} {c : Content T} (indices : HaveIndices c) where
   module _ (s k : Key) (sibling : IsLive c s) (live : IsLive c k) where

@@ -1,6 +1,7 @@
 -- A list of nodes, each with its transform in the coordinates of its root.
+use Rattle.std.proofs.Common.{◌++◌, ◌<◌, ◌∷◌, ◌≡◌}
 use Rattle.slotmap_scene.proofs.Common.{All, All-head, All-push, All-tail, AreWorlds, IsComposed, IsPathFrom, IsWorldOf, Joins, Key, List, Nodes, None, Some, [], ap, arith, has_node, inl, inr}
-use Rattle.slotmap_scene.proofs.Common.{keys_of_pairs, one_other, parent_of, same_or_other, subst, sym, times, times_first, value_of, ◌++◌, ◌<◌, ◌∷◌, ◌≡◌}
+use Rattle.slotmap_scene.proofs.Common.{keys_of_pairs, one_other, parent_of, same_or_other, subst, sym, times, times_first, value_of}
 use Rattle.slotmap_scene.proofs.Worlds.{one_world_of, path_live, world_composed}
 
 -- the transforms on the way down

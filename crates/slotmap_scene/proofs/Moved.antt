@@ -1,11 +1,12 @@
 -- The parent and the children of each node, and what a scene is once a node became a root, was moved below another one, or came.
+use Rattle.std.proofs.Common.{◌++◌, ◌+◌, ◌<◌, ◌∷◌, ◌≡◌, ◌≢◌, ◌≤◌}
 use Rattle.slotmap_scene.proofs.Common.{After, AreListed, Before, ClonesEqual, Content, Err, IfOk, Inserts, IsCloneBy, IsCloneOf, IsMoved, IsNewChild, IsNodeClone, IsScene, IsWithin, Keeps}
 use Rattle.slotmap_scene.proofs.Common.{KeepsSpent, Key, Leaves, List, Node, Nodes, None, Ok, OnErr, Option, Result, Side, Some, StepsTo, [], ap, arith, as_child, as_root, beside_first, changed}
 use Rattle.slotmap_scene.proofs.Common.{changed_gives, changed_here, changed_keeps, changed_other, child, children_in, children_of, clone_live, cond, exact_keys, false, forgets, get-insert_here}
 use Rattle.slotmap_scene.proofs.Common.{get-insert_other, has_node, inl, inr, is_key, is_parent, is_some, key_cmp, keys_total, lacks_node, leaves_by_write, leaves_none, len_alike, none_of, one_itself}
 use Rattle.slotmap_scene.proofs.Common.{one_other, option_map, parent_in, parent_of, placed, refl, same, same_or_other, shown_spent, subst, suc, sym, times, times_first, times_gone, times_pushed}
-use Rattle.slotmap_scene.proofs.Common.{times_without, true, value_of, with_children_in, with_children_of, with_parent, with_value, without, without_child, without_none, zero, ℕ, ◌++◌, ◌+◌}
-use Rattle.slotmap_scene.proofs.Common.{◌<◌, ◌∙◌, ◌∷◌, ◌≡◌, ◌≢◌, ◌≤◌}
+use Rattle.slotmap_scene.proofs.Common.{times_without, true, value_of, with_children_in, with_children_of, with_parent, with_value, without, without_child, without_none, zero, ℕ}
+use Rattle.slotmap_scene.proofs.Common.{◌∙◌}
 use Rattle.slotmap_scene.proofs.Climbs.{parent_there, tree_moved, tree_same}
 use Rattle.std.specs.FinMap as map
 

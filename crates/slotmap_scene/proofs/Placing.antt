@@ -1,9 +1,10 @@
 -- A node is put among the children of another one or taken out of them, or gets another parent: what is kept then, and what it shows.
+use Rattle.std.proofs.Common.{◌++◌, ◌+◌, ◌<◌, ◌∷◌, ◌≡◌, ◌≢◌, ◌≤◌}
 use Rattle.slotmap_scene.proofs.Common.{After, AreDisjoint, AreIndices, Before, Content, HasKey, HoldsNodes, IfSome, IsFree, IsIn, IsLive, IsParent, Key, List, Lists, Node, None, Option, Side, Some}
 use Rattle.slotmap_scene.proofs.Common.{[], ap, arith, children_of, cond, false, family, has_node, inl, inr, key_at, key_at_live, keys_at, keys_without, length, list_of, map-append, nat_eq}
 use Rattle.slotmap_scene.proofs.Common.{number_other, often, often_first, often_gone, often_joined, often_without, parent_at, parent_index, parent_of, placed, put_before, put_behind, put_on}
 use Rattle.slotmap_scene.proofs.Common.{same_number, same_or_other_number, set, subst, sym, times, true, with_children_in, with_list, with_parent, without, without_child, without_number, ℕ}
-use Rattle.slotmap_scene.proofs.Common.{◌++◌, ◌+◌, ◌<◌, ◌∙◌, ◌∷◌, ◌≡◌, ◌≢◌, ◌≤◌}
+use Rattle.slotmap_scene.proofs.Common.{◌∙◌}
 use Rattle.slotmap_scene.proofs.Indices.{key_beside}
 use Rattle.slotmap_scene.proofs.Families.{above_has, above_none, child_in, has_place, hung, hung_seen, indices_at, is_free, relisted, relisted_seen, seen_has}
 use Rattle.std.specs.FinMap as map

@@ -1,9 +1,9 @@
 -- How a node is removed with all that is below it: down by the last child as far as a leaf, which goes, and on from its parent.
+use Rattle.std.proofs.Common.{◌*◌, ◌++◌, ◌+◌, ◌-◌, ◌<◌, ◌∷◌, ◌≡◌, ◌≢◌, ◌≤◌}
 use Rattle.slotmap_keylist.proofs.Linking.{last_in}
 use Rattle.slotmap_scene.proofs.Common.{ClimbsTo, IsMoved, IsScene, IsTree, IsWithin, Key, Node, Nodes, None, Option, Some, StepsTo, [], ap, arith, children_in, children_of, exact_keys, false}
 use Rattle.slotmap_scene.proofs.Common.{forgets, has_node, inl, inr, is_some, keys, keys_total, keys_up, lacks_node, last_or, len_alike, len_removed, length, option_map, parent_in, parent_of, refl}
-use Rattle.slotmap_scene.proofs.Common.{same_or_other, subst, suc, sym, times, times_pushed, value_of, without, without_child, zero, ℕ, ◌*◌, ◌++◌, ◌+◌, ◌-◌, ◌<◌, ◌∙◌}
-use Rattle.slotmap_scene.proofs.Common.{◌∷◌, ◌≡◌, ◌≢◌, ◌≤◌}
+use Rattle.slotmap_scene.proofs.Common.{same_or_other, subst, suc, sym, times, times_pushed, value_of, without, without_child, zero, ℕ, ◌∙◌}
 use Rattle.slotmap_scene.proofs.Climbs.{has_parent, parent_there, step_up, within_up}
 use Rattle.slotmap_scene.proofs.Moved.{forgotten, left_get, left_of, listed_never, listed_once, listed_parent, moved_listed}
 use Rattle.std.specs.FinMap as map

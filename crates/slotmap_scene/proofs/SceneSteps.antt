@@ -1,11 +1,12 @@
 -- What a call makes of the nodes of a scene, as a whole: nodes come or go, more places are made, a value is written, or all is copied.
+use Rattle.std.proofs.Common.{if◌then◌else◌, ◌++◌, ◌+◌, ◌-◌, ◌<◌, ◌∷◌, ◌≡◌, ◌≢◌, ◌≤◌, ◌⊎◌}
 use Rattle.slotmap_scene.proofs.Common.{AreCovered, Content, CoversMore, Err, HasKey, HaveIndices, HoldsMore, HoldsNodes, IfSome, Inserts, IsCloneBy, IsCloneOf, IsContent, IsErr, IsIn, IsLive}
 use Rattle.slotmap_scene.proofs.Common.{IsNodeClone, IsOk, Key, Leaves, List, Lists, MakesRoom, Node, Nodes, None, Ok, OnOk, Option, Result, Some, [], ap, arith, capacity_with, changed_here}
 use Rattle.slotmap_scene.proofs.Common.{changed_other, child, children_of, clone_live, exact_keys, false, family, found_at, found_live, get-insert_here, get-insert_other, get_or-set_other}
-use Rattle.slotmap_scene.proofs.Common.{get_or-set_same, if◌then◌else◌, indices_inserted, indices_still, inl, inr, inserted_fresh, is_ok, is_some, key_cmp, keys, keys_at, keys_total, length}
+use Rattle.slotmap_scene.proofs.Common.{get_or-set_same, indices_inserted, indices_still, inl, inr, inserted_fresh, is_ok, is_some, key_cmp, keys, keys_at, keys_total, length}
 use Rattle.slotmap_scene.proofs.Common.{length-append, length-replicate, length-set, list_of, live-insert_still, most, node_at, nodes_by, often, option_map, parent_at, parent_index, parent_of, refl}
 use Rattle.slotmap_scene.proofs.Common.{replicate, same_or_other, set, shown_content, shown_inserts, shown_leaves, shown_makes_room, subst, suc, sym, take, take_all, times, true, used, with_value}
-use Rattle.slotmap_scene.proofs.Common.{zero, ℕ, ◌++◌, ◌+◌, ◌-◌, ◌<◌, ◌∙◌, ◌∷◌, ◌≡◌, ◌≢◌, ◌≤◌, ◌⊎◌}
+use Rattle.slotmap_scene.proofs.Common.{zero, ℕ, ◌∙◌}
 use Rattle.slotmap_scene.proofs.Families.{above_still, children_live, covers_less, get_alike, get_along, kept_along, kept_still, list_none, node_along, node_still, nowhere, parent_live, seen_get}
 use Rattle.slotmap_scene.proofs.Families.{seen_has, seen_len, written_found, written_has}
 use Rattle.std.specs.FinMap as map

@@ -1,8 +1,8 @@
 -- A walk through all that is below a node, from sibling to sibling and from the last one up.
+use Rattle.std.proofs.Common.{◌++◌, ◌+◌, ◌<◌, ◌∷◌, ◌≡◌, ◌≢◌, ◌≤◌}
 use Rattle.slotmap_scene.proofs.Common.{AreAhead, GoesDown, IsScene, IsWithin, Key, List, Node, Nodes, None, Option, Some, StepsTo, WalkStands, WalksBelow, [], all_below, ap, append-nil, append_assoc}
 use Rattle.slotmap_scene.proofs.Common.{arith, behind, children_of, children_under, cond, first_or, has_node, is_itself, is_other, keys_down, keys_from, length, length-append, one_itself, parent_in}
-use Rattle.slotmap_scene.proofs.Common.{parent_of, refl, same, siblings_of, subst, suc, sym, times, times_first, times_joined, zero, ℕ, ◌++◌, ◌+◌, ◌<◌, ◌∙◌, ◌∷◌, ◌≡◌}
-use Rattle.slotmap_scene.proofs.Common.{◌≢◌, ◌≤◌}
+use Rattle.slotmap_scene.proofs.Common.{parent_of, refl, same, siblings_of, subst, suc, sym, times, times_first, times_joined, zero, ℕ, ◌∙◌}
 use Rattle.slotmap_scene.proofs.Climbs.{Climbing, climbing_start, climbing_step, has_parent, no_cycle}
 use Rattle.slotmap_scene.proofs.Moved.{listed_few, listed_parent}
 use Rattle.slotmap_scene.proofs.Descending.{Descending, all_listed, below_node, descending_start, descending_step, longer}

@@ -1,8 +1,8 @@
 -- What a fold of the values on the way up comes to.
+use Rattle.std.proofs.Common.{◌++◌, ◌∷◌, ◌≡◌, ◌≢◌}
 use Rattle.slotmap_scene.proofs.Common.{Bor, CallableUp, CallsAt, ClimbsTo, FoldsTo, FoldsTo-push, FoldsUp, IfNone, IfSome, IsComposed, IsMoved, IsNewChild, IsPathFrom, IsPathUp, IsTree, IsWithin}
 use Rattle.slotmap_scene.proofs.Common.{IsWorld, IsWorldOf, Joins, Key, List, Mut, Node, Nodes, None, Option, Some, Takes, [], ap, append_assoc, arith, child, fold, get-insert_here, has_node, is_some}
-use Rattle.slotmap_scene.proofs.Common.{lacks_node, list_map, option_map, parent_in, parent_of, refl, subst, suc, sym, true, value_of, world_along, zero, ℕ, ◌++◌, ◌∙◌, ◌∷◌}
-use Rattle.slotmap_scene.proofs.Common.{◌≡◌, ◌≢◌}
+use Rattle.slotmap_scene.proofs.Common.{lacks_node, list_map, option_map, parent_in, parent_of, refl, subst, suc, sym, true, value_of, world_along, zero, ℕ, ◌∙◌}
 use Rattle.slotmap_scene.proofs.Climbs.{parent_there}
 use Rattle.std.specs.FinMap as map
 

@@ -1,6 +1,7 @@
 -- What callers of a scheduler cite: which jobs a loop over `pop_due` took out, which `retain` left, and that none is due sooner.
+use Rattle.std.proofs.Common.{◌++◌, ◌<◌, ◌∷◌, ◌≡◌, ◌≤◌}
 use Rattle.slotmap_scheduler.proofs.Common.{All, All-cons, All-head, All-nil, All-tail, IsByTime, Key, Waiting, [], ap, arith, cond, due_at, false, in_turn, left_at, nat_lt, nat_tests, refl, sym}
-use Rattle.slotmap_scheduler.proofs.Common.{true, ℕ, ◌++◌, ◌<◌, ◌∙◌, ◌∷◌, ◌≡◌, ◌≤◌}
+use Rattle.slotmap_scheduler.proofs.Common.{true, ℕ, ◌∙◌}
 pub use Rattle.slotmap_scheduler.proofs.Retained.{retained_jobs, retained_where}
 pub use Rattle.slotmap_scheduler.proofs.Visiting.{callable_on_jobs}
 

@@ -1,7 +1,6 @@
 -- What the proofs of this crate cite of std, of the crates below and of its own definitions, from one place. Declares nothing.
 pub use Rattle.std.proofs.Common.{Bool, Bor, Err, IsOk, List, None, Option, Result, Some, T, [], ap, append-nil, append_assoc, arith, cond, false, get_or, inl, inr, is_some, length, option_copied}
-pub use Rattle.std.proofs.Common.{refl, rules, set as list_set, subst, suc, sym, true, vec_len, zero, ℕ, ◌&&◌, ◌*◌, ◌++◌, ◌+◌, ◌-◌, ◌<◌, ◌^◌, ◌∙◌, ◌∷◌}
-pub use Rattle.std.proofs.Common.{◌≡◌, ◌≢◌, ◌≤◌, ◌⊎◌}
+pub use Rattle.std.proofs.Common.{refl, rules, set as list_set, subst, suc, sym, true, vec_len, zero, ℕ, ◌∙◌}
 pub use Rattle.std.proofs.lemmas.Bool.Decides.{nat_tests}
 pub use Rattle.std.proofs.lemmas.Cmp.{on_total, then_total}
 pub use Rattle.std.proofs.lemmas.Fn.{FoldsTo-push}
@@ -20,7 +19,7 @@ pub use Rattle.std.specs.Fn.{Called, Mut, Takes}
 pub use Rattle.std.specs.List.{All, AllByRecursion, AllZip, FoldsTo, SwappedAt, filter, filter_map, slice_get}
 pub use Rattle.std.specs.Option.{option_and_then}
 pub use Rattle.std.specs.Ordering.{eq_by_cmp, is_lt, nat_cmp}
-pub use Rattle.std.specs.Prelude.{if◌then◌else◌, map as list_map, min, nat_eq, nat_lt, not, option_map, unwrap_or, vec_capacity}
+pub use Rattle.std.specs.Prelude.{map as list_map, min, nat_eq, nat_lt, not, option_map, unwrap_or, vec_capacity}
 pub use Rattle.std.specs.declared.cmp.Ordering.{Ordering}
 pub use Rattle.std.specs.declared.cmp.Ordering.TheVariants.{Less}
 pub use Rattle.std.specs.declared.vec.Vec.{Vec}

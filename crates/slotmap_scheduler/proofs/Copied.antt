@@ -1,7 +1,8 @@
 -- A copy of a scheduler: the same handles, times and places, each with a clone of its job.
+use Rattle.std.proofs.Common.{◌∷◌, ◌≡◌, ◌≤◌}
 use Rattle.slotmap_scheduler.proofs.Common.{AllZip, AreClones, Content, Entry, InOrder, IsCloneBy, IsCloneOf, IsContent, IsDueClone, IsInverse, IsSchedule, Job, Key, List, None, Option, Some, Timed}
 use Rattle.slotmap_scheduler.proofs.Common.{Turn, Vec, [], ap, arith, as_seen, by_turn, clone_len, content-mapped, heap_entry, len-mapped, list_map, mapped-clones, option_map, refl, spot_of, sym}
-use Rattle.slotmap_scheduler.proofs.Common.{timed, true, unplaced, vec_capacity, vec_len, waiting_of, ℕ, ◌∙◌, ◌∷◌, ◌≡◌, ◌≤◌}
+use Rattle.slotmap_scheduler.proofs.Common.{timed, true, unplaced, vec_capacity, vec_len, waiting_of, ℕ, ◌∙◌}
 use Rattle.slotmap_scheduler.proofs.Inverse.{alike}
 use Rattle.slotmap_scheduler.proofs.Sorted.{entries_alike, len_alike, none_there}
 use Rattle.slotmap_scheduler.proofs.Timed.{exact_turns, inverse, turns_total}

@@ -1,6 +1,7 @@
 -- How many entries of a heap are due, at a place and below it.
+use Rattle.std.proofs.Common.{◌&&◌, ◌*◌, ◌+◌, ◌<◌, ◌≡◌, ◌≤◌}
 use Rattle.slotmap_scheduler.proofs.Common.{Bool, Entry, IsHeap, List, Turn, ap, arith, cond, count_below, false, get_or, get_or_default, is_due_at, is_under, length, nat_eq, nat_lt, nat_tests}
-use Rattle.slotmap_scheduler.proofs.Common.{no_entry, refl, suc, true, turn_at, up, zero, ℕ, ◌&&◌, ◌*◌, ◌+◌, ◌<◌, ◌≡◌, ◌≤◌}
+use Rattle.slotmap_scheduler.proofs.Common.{no_entry, refl, suc, true, turn_at, up, zero, ℕ}
 unfoldable use Rattle.slotmap_scheduler.proofs.Common.{precedes, due_under}
 
 -- a place below another comes after it

@@ -1,5 +1,6 @@
 -- What the steps of a drain keep, and what they yield.
-use Rattle.slotmap_scheduler.proofs.Common.{Drain, EmptiesSchedule, KeepsLent, Key, SameLoan, Schedule, YieldsInOrder, [], ap, arith, job_of, refl, subst, yielded_job, ◌∙◌, ◌∷◌}
+use Rattle.std.proofs.Common.{◌∷◌}
+use Rattle.slotmap_scheduler.proofs.Common.{Drain, EmptiesSchedule, KeepsLent, Key, SameLoan, Schedule, YieldsInOrder, [], ap, arith, job_of, refl, subst, yielded_job, ◌∙◌}
 use Rattle.slotmap_scheduler.proofs.TakingOut.{HasFewer, still_fewer}
 
 -- a scheduler that has fewer jobs, and then none

@@ -1,8 +1,9 @@
 -- How many of the jobs that wait are due, counted by their places in the heap.
+use Rattle.std.proofs.Common.{◌&&◌, ◌+◌, ◌<◌, ◌∷◌, ◌≡◌, ◌≢◌, ◌≤◌}
 use Rattle.slotmap_scheduler.proofs.Common.{All, All-head, All-tail, Bool, Content, Entry, IsByTime, IsOnce, IsSchedule, Job, Key, None, Some, Vec, Waiting, [], ap, arith, cond, count_below, due_at}
 use Rattle.slotmap_scheduler.proofs.Common.{eq_by_cmp, exact_keys, false, filter, get-mapped, get_or, heap_entry, is_due_at, is_under, itself, job_of, key_cmp, keys_total, length, nat_lt, nat_tests}
 use Rattle.slotmap_scheduler.proofs.Common.{nil_from_length, no_entry, not, option_map, refl, slice_get-get_or, spot_of, suc, sym, tied, timed, true, turn_at, unplaced, waiting_of, without, zero, ℕ}
-use Rattle.slotmap_scheduler.proofs.Common.{◌&&◌, ◌+◌, ◌<◌, ◌∙◌, ◌∷◌, ◌≡◌, ◌≢◌, ◌≤◌}
+use Rattle.slotmap_scheduler.proofs.Common.{◌∙◌}
 use Rattle.slotmap_scheduler.proofs.{Results.without_none, Counting.count_alike, Counting.under_top, HeapPlaces.one_place, Order.job_is, Order.len_is, Seen.job_there}
 use Rattle.slotmap_scheduler.proofs.Waits.{waits_by_time, waits_once}
 unfoldable use Rattle.slotmap_scheduler.proofs.Common.{due_under}

@@ -1,10 +1,11 @@
 -- The handles of a scheduler: the keys of its jobs, with the room that the map and the heap have.
+use Rattle.std.proofs.Common.{◌+◌, ◌-◌, ◌≡◌, ◌≤◌}
 use Rattle.slotmap.specs.KeysAlone.{keys_of}
 use Rattle.slotmap_keylist.specs.Mapped.{map_values}
 use Rattle.slotmap_scheduler.proofs.Common.{Content, Entry, Inserts, IsCloneBy, IsContent, IsCopy, IsLive, IsNew, IsSpent, Job, KeepsSpent, Key, Leaves, List, MakesRoom, Removes, Some, Turn, Vec}
 use Rattle.slotmap_scheduler.proofs.Common.{alone-copy, alone-inserts, alone-keeps, alone-new, alone-removes, alone-written, alone_spent, ap, arith, contains-keys_of, handles_of, inserted_not_spent}
 use Rattle.slotmap_scheduler.proofs.Common.{key_cmp, len-keys_of, mapped-empty, min, refl, shown_content, shown_leaves, spent_alone, timed, true, unplaced, used, used-mapped, used_alone}
-use Rattle.slotmap_scheduler.proofs.Common.{vacant_at_most, vec_capacity, vec_len, with_value, without_values, ℕ, ◌+◌, ◌-◌, ◌∙◌, ◌≡◌, ◌≤◌}
+use Rattle.slotmap_scheduler.proofs.Common.{vacant_at_most, vec_capacity, vec_len, with_value, without_values, ℕ, ◌∙◌}
 use Rattle.std.specs.FinMap as map
 
 pub empty_keys : {V : Type 0} (m : map.FinMap key_cmp V) → m ≡ map.empty → keys_of m ≡ map.empty

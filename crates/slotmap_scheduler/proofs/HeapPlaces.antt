@@ -1,8 +1,9 @@
 -- The places of the jobs in the heap, and how a change of both keeps them.
+use Rattle.std.proofs.Common.{◌+◌, ◌-◌, ◌<◌, ◌≡◌, ◌≢◌, ◌≤◌}
 use Rattle.slotmap_scheduler.proofs.Common.{Content, Entry, IsHeap, IsHeapBut, IsPlaced, Job, Jobs, Key, List, None, Option, Resettled, Some, SwappedAt, Turn, Vec, ap, arith, common_steps}
 use Rattle.slotmap_scheduler.proofs.Common.{get-insert_here, get-insert_other, get_or, heap_entry, keys, length, live-remove_other, mapped-written, no_entry, option_map, refl, same_or_other}
-use Rattle.slotmap_scheduler.proofs.Common.{slice_get-get_or, slice_get_past, slice_get_read, spot_of, sym, timed, true, unplaced, vec_capacity, vec_len, with_value, ℕ, ◌+◌, ◌-◌, ◌<◌}
-use Rattle.slotmap_scheduler.proofs.Common.{◌∙◌, ◌≡◌, ◌≢◌, ◌≤◌}
+use Rattle.slotmap_scheduler.proofs.Common.{slice_get-get_or, slice_get_past, slice_get_read, spot_of, sym, timed, true, unplaced, vec_capacity, vec_len, with_value, ℕ}
+use Rattle.slotmap_scheduler.proofs.Common.{◌∙◌}
 use Rattle.slotmap_scheduler.proofs.Inverse.{exchanged, moved}
 use Rattle.slotmap_scheduler.proofs.Heaps.{heap_left, heap_put, same_or_not}
 use Rattle.std.specs.FinMap as map

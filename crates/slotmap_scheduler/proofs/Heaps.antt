@@ -1,7 +1,8 @@
 -- A heap of turns: what each step leaves that moves an entry up or down, and which entry is first.
+use Rattle.std.proofs.Common.{◌<◌, ◌≡◌, ◌≢◌, ◌≤◌, ◌⊎◌}
 use Rattle.slotmap_scheduler.proofs.Common.{Bool, Content, Entry, IsAbove, IsFirstBelow, IsHeap, IsHeapBut, IsPlaced, Job, List, Resettled, Swapped, SwappedAt, Turn, Vec, alike_or_apart, ap, arith}
 use Rattle.slotmap_scheduler.proofs.Common.{exact_unsigned, false, get_or, get_or_read_under, length, nat_cmp_total, nat_tests, no_entry, precedes, refl, suc, true, turn_at, up, vec_len, zero, ℕ}
-use Rattle.slotmap_scheduler.proofs.Common.{◌<◌, ◌∙◌, ◌≡◌, ◌≢◌, ◌≤◌, ◌⊎◌}
+use Rattle.slotmap_scheduler.proofs.Common.{◌∙◌}
 
 pub same_or_not : (i j : ℕ) → (i ≡ j) ⊎ (i ≢ j)
 same_or_not = alike_or_apart nat_cmp_total exact_unsigned

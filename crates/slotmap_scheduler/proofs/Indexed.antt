@@ -1,8 +1,9 @@
 -- A heap that has the turn of each job: what each call on the map and the heap leaves.
+use Rattle.std.proofs.Common.{◌++◌, ◌+◌, ◌<◌, ◌∷◌, ◌≡◌}
 use Rattle.slotmap_scheduler.proofs.Common.{Content, Entry, Inserts, IsContent, IsHeap, IsHeapBut, IsIndexed, IsPlaced, Job, Key, List, None, Option, Removes, Resettled, Some, Turn, Vec, [], ap}
 use Rattle.slotmap_scheduler.proofs.Common.{arith, content-mapped, get-mapped, get_or, get_or-append_right, get_or-set_other, get_or-set_same, get_or_append_left, inserted_fresh, inserted_len, keys}
 use Rattle.slotmap_scheduler.proofs.Common.{length, length-set, list_set, mapped-insert, mapped-inserts, no_entry, none_of, option_map, refl, removed_len, slice_get-get_or, spot_of, sym, timed, true}
-use Rattle.slotmap_scheduler.proofs.Common.{unplaced, vec_len, with_value, ℕ, ◌++◌, ◌+◌, ◌<◌, ◌∙◌, ◌∷◌, ◌≡◌}
+use Rattle.slotmap_scheduler.proofs.Common.{unplaced, vec_len, with_value, ℕ, ◌∙◌}
 use Rattle.slotmap_scheduler.proofs.Heaps.{heap_put}
 use Rattle.slotmap_scheduler.proofs.HeapPlaces.{entry_is, entry_within, in_heap, one_place, placed_put, read_alike}
 use Rattle.std.specs.FinMap as map

@@ -1,5 +1,6 @@
 -- Two functions that find each other (`IsInverse`), after a change of both.
-use Rattle.slotmap_scheduler.proofs.Common.{IsInverse, None, Option, Some, arith, sym, ◌∙◌, ◌≡◌, ◌≢◌, ◌⊎◌}
+use Rattle.std.proofs.Common.{◌≡◌, ◌≢◌, ◌⊎◌}
+use Rattle.slotmap_scheduler.proofs.Common.{IsInverse, None, Option, Some, arith, sym, ◌∙◌}
 
 module _ {K L X : Type 0} where
   -- k has l and x now, where no other one has l; the others have what they had

@@ -1,8 +1,9 @@
 -- How a change of the jobs changes the order in which they are returned.
+use Rattle.std.proofs.Common.{◌+◌, ◌<◌, ◌∷◌, ◌≡◌, ◌≢◌, ◌≤◌}
 use Rattle.slotmap_scheduler.proofs.Common.{All, All-from_recursion, All-map, AllByRecursion, InOrder, IsInverse, Key, Less, List, None, Some, Timed, Turn, [], alike_or_apart, ap, arith, as_seen}
 use Rattle.slotmap_scheduler.proofs.Common.{by_order, by_turn, cond, eq_by_cmp, exact_keys, false, get_after_insert, get_after_remove, in_turn, is_some, itself, job_of, key_cmp, keys_total}
 use Rattle.slotmap_scheduler.proofs.Common.{len_removed, length, length-map, list_map, nat_lt, nat_tests, nil_from_length, option_map, precedes, put, refl, same_or_other, sym, tied, turn_cmp}
-use Rattle.slotmap_scheduler.proofs.Common.{waiting_of, with_job, without, ℕ, ◌+◌, ◌<◌, ◌∙◌, ◌∷◌, ◌≡◌, ◌≢◌, ◌≤◌}
+use Rattle.slotmap_scheduler.proofs.Common.{waiting_of, with_job, without, ℕ, ◌∙◌}
 use Rattle.slotmap_scheduler.proofs.Inverse.{dropped, put as inverse_put}
 use Rattle.slotmap_scheduler.proofs.Sorted.{all_of, drops, entries_put, insert_same, none_there, puts}
 use Rattle.slotmap_scheduler.proofs.Timed.{exact_turns, in_order, turns_total}

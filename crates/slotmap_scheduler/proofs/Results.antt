@@ -1,6 +1,6 @@
 -- What a clause says of the result that there is.
-use Rattle.slotmap_scheduler.proofs.Common.{Err, IsOk, Key, None, Option, Result, Some, Waiting, [], arith, exact_keys, is_some, job_of, keys_total, refl, tied, true, without, ℕ, ◌∷◌}
-use Rattle.slotmap_scheduler.proofs.Common.{◌≡◌, ◌≢◌}
+use Rattle.std.proofs.Common.{◌∷◌, ◌≡◌, ◌≢◌}
+use Rattle.slotmap_scheduler.proofs.Common.{Err, IsOk, Key, None, Option, Result, Some, Waiting, [], arith, exact_keys, is_some, job_of, keys_total, refl, tied, true, without, ℕ}
 
 -- jobs without a handle that they lack
 pub without_none : {T : Type 0} (k : Key) (es : Waiting T) → job_of k es ≡ None → without k es ≡ es

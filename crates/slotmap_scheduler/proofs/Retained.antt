@@ -1,7 +1,8 @@
 -- What callers cite of `retain`: which jobs are left, by what each call of the closure does.
+use Rattle.std.proofs.Common.{◌∷◌, ◌≡◌}
 use Rattle.slotmap_scheduler.proofs.Common.{AllByRecursion, Bool, Called, CallsForJob, FoldsTo, IsOnce, JobVisit, Key, List, Mut, MutBor, None, Option, RetainsJobs, Some, Waiting, [], after_visit}
 use Rattle.slotmap_scheduler.proofs.Common.{after_visits, ap, arith, cond, eq_by_cmp, exact_keys, filter, filter_map, itself, job_of, jobs_seen, key_cmp, keys_total, option_and_then, option_map, refl}
-use Rattle.slotmap_scheduler.proofs.Common.{sym, tied, ℕ, ◌∙◌, ◌∷◌, ◌≡◌}
+use Rattle.slotmap_scheduler.proofs.Common.{sym, tied, ℕ, ◌∙◌}
 
 module _ {T : Type 0} (left : Key → ℕ → T → Option T) where
   -- a job as the calls leave it, or none

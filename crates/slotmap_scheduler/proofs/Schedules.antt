@@ -1,9 +1,10 @@
 -- What holds of every scheduler, after each call.
+use Rattle.std.proofs.Common.{◌+◌, ◌≡◌, ◌≢◌, ◌≤◌, ◌⊎◌}
 use Rattle.slotmap_scheduler.proofs.Common.{Content, Entry, InOrder, Inserts, IsContent, IsIndexed, IsLive, IsSchedule, Job, Key, Leaves, MakesRoom, None, Removes, Schedule, Some, Turn, Vec, [], ap}
 use Rattle.slotmap_scheduler.proofs.Common.{arith, cond, content-mapped, exact_keys, exact_unsigned, get-insert_here, get-insert_other, get-mapped, handles_of, heap_entry, in_turn, inl, inr}
 use Rattle.slotmap_scheduler.proofs.Common.{inserted_fresh, inserted_len, is_some, job_of, key_cmp, keys, keys_total, leaves_by_removal, len-mapped, length, map_values, mapped-empty, mapped-insert}
 use Rattle.slotmap_scheduler.proofs.Common.{mapped-room, mapped-with, nat_cmp_total, none_of, option_map, refl, removed_len, shown_content, some_entry, spot_of, sym, tied, timed, true, unplaced}
-use Rattle.slotmap_scheduler.proofs.Common.{vacant_at_most, vec_capacity, vec_len, waiting_of, with_job, with_value, without, ℕ, ◌+◌, ◌∙◌, ◌≡◌, ◌≢◌, ◌≤◌, ◌⊎◌}
+use Rattle.slotmap_scheduler.proofs.Common.{vacant_at_most, vec_capacity, vec_len, waiting_of, with_job, with_value, without, ℕ, ◌∙◌}
 use Rattle.slotmap_scheduler.proofs.Order.{added, job_is, job_stays, len_is, none_in_order, none_wait, removed, written}
 use Rattle.slotmap_scheduler.proofs.Handles.{handles_content, handles_room, handles_written}
 use Rattle.slotmap_scheduler.proofs.{Inverse.alike, HeapPlaces.entry_within}

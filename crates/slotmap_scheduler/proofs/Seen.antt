@@ -1,7 +1,8 @@
 -- What a scheduler's user sees, by what its map holds.
+use Rattle.std.proofs.Common.{◌<◌, ◌∷◌, ◌≡◌, ◌≤◌}
 use Rattle.slotmap_scheduler.proofs.Common.{All, Bor, Content, Entry, IsContent, IsLive, IsSchedule, Job, Key, List, ListsJobs, None, Option, Some, Turn, Vec, [], ap, arith, false, find, get-mapped}
 use Rattle.slotmap_scheduler.proofs.Common.{heap_entry, inl, is_some, job_of, key_cmp, len-mapped, length, length-map, list_map, no_entry, option_copied, option_map, precedes, refl, shown, slice_get}
-use Rattle.slotmap_scheduler.proofs.Common.{slice_get-get_or, sym, timed, true, turn_at, unplaced, waiting_of, without, ℕ, ◌<◌, ◌∙◌, ◌∷◌, ◌≡◌, ◌≤◌}
+use Rattle.slotmap_scheduler.proofs.Common.{slice_get-get_or, sym, timed, true, turn_at, unplaced, waiting_of, without, ℕ, ◌∙◌}
 use Rattle.slotmap_scheduler.proofs.Order.{job_is, len_is, none_due, none_wait, waits_first}
 use Rattle.slotmap_scheduler.proofs.{Heaps.top_first, HeapPlaces.entry_within, Waits.least_first, Waits.waits_by_time}
 use Rattle.std.specs.FinMap as map

@@ -1,7 +1,7 @@
 -- The entries of a finite map, in the order of their keys.
+use Rattle.std.proofs.Common.{◌&&◌, ◌∷◌, ◌≡◌}
 use Rattle.slotmap_scheduler.proofs.Common.{AllByRecursion, AllZip, Bool, CmpEqualImpliesEq, IsCloneOf, IsTotalOrder, List, None, Option, Ordering, Some, T, [], ap, arith, below_all, cond, eq_by_cmp}
-use Rattle.slotmap_scheduler.proofs.Common.{false, find, is_lt, is_sorted, itself, length, length-map, list_map, option_map, put, refl, subst, sym, tied, true, unwrap_or, ◌&&◌, ◌∙◌}
-use Rattle.slotmap_scheduler.proofs.Common.{◌∷◌, ◌≡◌}
+use Rattle.slotmap_scheduler.proofs.Common.{false, find, is_lt, is_sorted, itself, length, length-map, list_map, option_map, put, refl, subst, sym, tied, true, unwrap_or, ◌∙◌}
 use Rattle.slotmap_scheduler.proofs.Inverse.{Drops, Puts}
 use Rattle.std.specs.FinMap as map
 

@@ -1,6 +1,7 @@
 -- A loop that takes out the jobs that are due.
+use Rattle.std.proofs.Common.{◌++◌, ◌+◌, ◌∷◌, ◌≡◌, ◌≤◌}
 use Rattle.slotmap_scheduler.proofs.Common.{All, All-nil, All-push, Due, IsByTime, Key, List, Schedule, TakesDue, Vec, Waiting, [], ap, append-nil, append_assoc, arith, cond, due_at, false, length}
-use Rattle.slotmap_scheduler.proofs.Common.{map_push, nat_lt, nat_tests, refl, sym, vec_capacity, vec_len, ℕ, ◌++◌, ◌+◌, ◌∙◌, ◌∷◌, ◌≡◌, ◌≤◌}
+use Rattle.slotmap_scheduler.proofs.Common.{map_push, nat_lt, nat_tests, refl, sym, vec_capacity, vec_len, ℕ, ◌∙◌}
 use Rattle.slotmap_scheduler.proofs.TakingOut.{HasFewer, same_fewer, still_fewer}
 use Rattle.slotmap_scheduler.proofs.Waits.{sorted_first}
 

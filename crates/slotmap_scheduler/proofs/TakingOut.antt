@@ -1,6 +1,7 @@
 -- What calls keep that take jobs out of a scheduler, one by one.
+use Rattle.std.proofs.Common.{◌∷◌, ◌≡◌, ◌≢◌}
 use Rattle.slotmap_scheduler.proofs.Common.{IsSpent, KeepsSpent, Key, Leaves, None, Schedule, Some, ap, inl, inr, is_some, job_of, leaves_in_turn, leaves_none, refl, same_or_other, sym, true, ℕ}
-use Rattle.slotmap_scheduler.proofs.Common.{◌∙◌, ◌∷◌, ◌≡◌, ◌≢◌}
+use Rattle.slotmap_scheduler.proofs.Common.{◌∙◌}
 use Rattle.slotmap_scheduler.proofs.Results.{behind_first}
 
 module _ {T : Type 0} where

@@ -1,7 +1,8 @@
 -- Jobs by their turns: no two have one turn, so each is found by its turn.
+use Rattle.std.proofs.Common.{◌<◌, ◌∷◌, ◌≡◌}
 use Rattle.slotmap_scheduler.proofs.Common.{AllByRecursion, CmpEqualImpliesEq, InOrder, IsInverse, IsTotalOrder, Key, List, Some, Timed, Turn, [], arith, as_seen, by_turn, exact_keys, exact_pairs}
-use Rattle.slotmap_scheduler.proofs.Common.{exact_unsigned, find, key_cmp, keys_total, list_map, nat_cmp, nat_cmp_total, on_total, sym, then_total, tied, turn_cmp, untied, waiting_of, ℕ, ◌<◌}
-use Rattle.slotmap_scheduler.proofs.Common.{◌∙◌, ◌∷◌, ◌≡◌}
+use Rattle.slotmap_scheduler.proofs.Common.{exact_unsigned, find, key_cmp, keys_total, list_map, nat_cmp, nat_cmp_total, on_total, sym, then_total, tied, turn_cmp, untied, waiting_of, ℕ}
+use Rattle.slotmap_scheduler.proofs.Common.{◌∙◌}
 use Rattle.slotmap_scheduler.proofs.Sorted.{all_of, same_option}
 use Rattle.std.specs.FinMap as map
 

@@ -1,8 +1,9 @@
 -- A loop that visits all jobs, by ascending index of their handles, and keeps or removes each.
+use Rattle.std.proofs.Common.{if◌then◌else◌, ◌++◌, ◌+◌, ◌<◌, ◌∷◌, ◌≡◌, ◌≢◌, ◌≤◌}
 use Rattle.slotmap_scheduler.proofs.Common.{Bool, CallableOnJobs, Called, CallsForJob, FoldsTo, FoldsTo-push, IsOnce, IsSpent, JobVisit, KeepsSpent, Key, Leaves, List, Mut, MutBor, None, RetainsJobs}
-use Rattle.slotmap_scheduler.proofs.Common.{Schedule, SeesEachOnce, Some, Takes, Waiting, [], after_visit, after_visits, always_mut, ap, arith, exact_keys, false, if◌then◌else◌, is_some, itself}
-use Rattle.slotmap_scheduler.proofs.Common.{job_of, jobs_seen, keys_total, leaves_none, length, mut_next, refl, same_or_other, subst, sym, tied, true, with_job, without, ℕ, ◌++◌, ◌+◌}
-use Rattle.slotmap_scheduler.proofs.Common.{◌<◌, ◌∙◌, ◌∷◌, ◌≡◌, ◌≢◌, ◌≤◌}
+use Rattle.slotmap_scheduler.proofs.Common.{Schedule, SeesEachOnce, Some, Takes, Waiting, [], after_visit, after_visits, always_mut, ap, arith, exact_keys, false, is_some, itself}
+use Rattle.slotmap_scheduler.proofs.Common.{job_of, jobs_seen, keys_total, leaves_none, length, mut_next, refl, same_or_other, subst, sym, tied, true, with_job, without, ℕ}
+use Rattle.slotmap_scheduler.proofs.Common.{◌∙◌}
 use Rattle.slotmap_scheduler.proofs.DueCounted.{len_without, once_without, other_found}
 use Rattle.slotmap_scheduler.proofs.TakingOut.{HasFewer, one_fewer, same_fewer, still_fewer}
 

@@ -1,9 +1,10 @@
 -- The waiting jobs: each handle is there once, and they are sorted by time.
+use Rattle.std.proofs.Common.{◌++◌, ◌∷◌, ◌≡◌, ◌≢◌, ◌≤◌}
 use Rattle.slotmap.specs.KeysAlone.{keys_of}
 use Rattle.slotmap_keylist.specs.Mapped.{map_values}
 use Rattle.slotmap_scheduler.proofs.Common.{All, All-cons, All-head, All-nil, All-tail, AllByRecursion, InOrder, IsByTime, IsOnce, Job, Key, List, None, Some, T, Timed, Turn, Waiting, [], ap, arith}
 use Rattle.slotmap_scheduler.proofs.Common.{as_seen, below_all, by_turn, exact_keys, find, is_lt, is_sorted, job_of, key_cmp, keys-mapped, keys_total, list_map, nat_tests, refl, shown, sym, tied}
-use Rattle.slotmap_scheduler.proofs.Common.{turn_cmp, unplaced, waiting_of, ℕ, ◌++◌, ◌∙◌, ◌∷◌, ◌≡◌, ◌≢◌, ◌≤◌}
+use Rattle.slotmap_scheduler.proofs.Common.{turn_cmp, unplaced, waiting_of, ℕ, ◌∙◌}
 use Rattle.slotmap_scheduler.proofs.Sorted.{all_of, below_none, first, second}
 use Rattle.slotmap_scheduler.proofs.Timed.{exact_turns, turns_total}
 use Rattle.std.specs.FinMap as map

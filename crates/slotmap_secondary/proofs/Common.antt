@@ -1,5 +1,4 @@
 -- What the answers of this crate cite of std, of the core and of this crate's lemmas, from one place. Declares nothing.
-pub use Rattle.std.proofs.Common.{◌≡◌, ◌≤◌, ◌<◌, ◌+◌, ◌-◌}
 pub use Rattle.slotmap_core.proofs.Common.{sym, CanReplace-next, map as map_list, AllPut-push_shown, ExtendsBy-stopped, slice_get_within, IsKeyListing-listing, slice_get-set_same, slice_get-set_other}
 pub use Rattle.slotmap_core.proofs.Common.{common_steps, with_items_is, in_order_along, side_list_limit, into_iter_len, vec_capacity, option_copied, listing-entries, Exchanging-step, into_iter_items}
 pub use Rattle.slotmap_core.proofs.Common.{refuses_key, loan_along, lists_taken, AllPut-push, length-set, AllFitBelow, length_push, Taking-next, same_entries, contains_key, without_own, equal_where}

@@ -1,5 +1,4 @@
 -- What the answers of this crate cite of std, of the core and of this crate's lemmas, from one place. Declares nothing.
-pub use Rattle.std.proofs.Common.{◌<◌, ◌≡◌, ◌++◌, ◌+◌, ◌-◌, ◌∷◌, ◌≤◌, ◌≢◌, ◌%◌, ◌^◌}
 pub use Rattle.slotmap_core.proofs.Common.{slice_get_past, slice_get_within, into_iter_items, nil_from_length, next_consistent, clones_contents, equal_contents, AreRecordClones, used_places-sentinel}
 pub use Rattle.slotmap_core.proofs.Common.{clone_copies, common_steps, length-append, IsConsistent, AllFitBelow, starts-stack, append_assoc, into_iter_len, last_version, writes_clones, sentinel_alone}
 pub use Rattle.slotmap_core.proofs.Common.{option_map, ◌∙◌, arith, length_push, first_taken, even_where, list_limit, append-nil, err_not_ok, equal_writes, writes-stack, records_of, vec_capacity}

@@ -1,5 +1,4 @@
 -- What the answers of this crate cite of std, of the core and of this crate's lemmas, from one place. Declares nothing.
-pub use Rattle.std.proofs.Common.{◌≤◌, ◌≡◌, ◌+◌, ◌↔◌}
 pub use Rattle.slotmap_core.proofs.Common.{get, map as map_list, AllPut-push_shown, ExtendsBy-stopped, slice_get_within, contents_by_place, option_copied_mut, null_finds_nothing, IsKeyListing-listing}
 pub use Rattle.slotmap_core.proofs.Common.{common_steps, lists_taken, is_older, side_list_limit, index_stands, WritesThrough, Exchanging-step, key_from-odd, vec_capacity, contains_key, CallsAt-called}
 pub use Rattle.slotmap_core.proofs.Common.{kept_along, AllPut-push, AllPut, entry_here, entry_other, length_push, Taking-next, Taking-here, Taking-end, get_stands, pair_there, Exchanging, without_own}

@@ -1,4 +1,5 @@
-use Rattle.slotmap_json.proofs.Common.{◌≡◌, says_at, Ok, Err, Some, refl, sym, rules, view, ReadsJson, ok_map}
+use Rattle.std.proofs.Common.{◌≡◌}
+use Rattle.slotmap_json.proofs.Common.{says_at, Ok, Err, Some, refl, sym, rules, view, ReadsJson, ok_map}
 use Rattle.slotmap_json.proofs.JsonLemmas.{reads_value}
 use Rattle.slotmap_json.proofs.slot_from_value.Goals as goal
 

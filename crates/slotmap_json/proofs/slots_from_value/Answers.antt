@@ -1,4 +1,5 @@
-use Rattle.slotmap_json.proofs.Common.{◌≡◌, common_steps, ◌∙◌, Some, Err, ap, rules, arith, view, items_view, ReadsJson, Memory}
+use Rattle.std.proofs.Common.{◌≡◌}
+use Rattle.slotmap_json.proofs.Common.{common_steps, ◌∙◌, Some, Err, ap, rules, arith, view, items_view, ReadsJson, Memory}
 use Rattle.slotmap_json.proofs.JsonLemmas.{some_asked, has_elements, reads_further, refuses_at}
 use Rattle.slotmap_json.proofs.slots_from_value.Goals as goal
 

@@ -1,5 +1,6 @@
+use Rattle.std.proofs.Common.{◌∷◌, ◌++◌}
 use Rattle.std.specs.FinMap as map
-use Rattle.slotmap_basic.proofs.Common.{◌∷◌, ◌++◌, list_map, map-append, some_is, from_index-end, entries_none, next_entry, common_steps, ◌∙◌, append_assoc, append-nil, from_index-all}
+use Rattle.slotmap_basic.proofs.Common.{list_map, map-append, some_is, from_index-end, entries_none, next_entry, common_steps, ◌∙◌, append_assoc, append-nil, from_index-all}
 use Rattle.slotmap_basic.proofs.Common.{[], length, sym, ap, arith}
 use Rattle.slotmap_basic.proofs.SlotMap.keys_into.Goals as goal
 

@@ -1,4 +1,5 @@
-use Rattle.slotmap_basic.proofs.Common.{◌≡◌, ◌%◌, AreSlotsOf, live_at_odd, valid_of_slots, live_version, count_of_slots, refl, inl, arith}
+use Rattle.std.proofs.Common.{◌≡◌, ◌%◌}
+use Rattle.slotmap_basic.proofs.Common.{AreSlotsOf, live_at_odd, valid_of_slots, live_version, count_of_slots, refl, inl, arith}
 use Rattle.slotmap_basic.proofs.SlotMap.live_at.Goals.{After-layout-columns, After-from}
 use Rattle.slotmap_basic.proofs.SlotMap.live_at.Goals as goal
 

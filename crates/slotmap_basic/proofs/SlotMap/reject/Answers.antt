@@ -1,4 +1,5 @@
-use Rattle.slotmap_basic.proofs.Common.{◌≡◌, inl, arith, same_Some, ap, sym, ◌∙◌, AreSlotsOf, version_at, valid_of_slots, count_of_slots, live_version}
+use Rattle.std.proofs.Common.{◌≡◌}
+use Rattle.slotmap_basic.proofs.Common.{inl, arith, same_Some, ap, sym, ◌∙◌, AreSlotsOf, version_at, valid_of_slots, count_of_slots, live_version}
 use Rattle.slotmap_basic.proofs.SlotMap.reject.Goals.{After-layout, After-version-version}
 use Rattle.slotmap_basic.proofs.SlotMap.reject.Goals as goal
 

@@ -1,4 +1,5 @@
-use Rattle.slotmap_basic.proofs.Common.{◌+◌, ◌-◌, places, KnowsLiveKeys, Going}
+use Rattle.std.proofs.Common.{◌+◌, ◌-◌}
+use Rattle.slotmap_basic.proofs.Common.{places, KnowsLiveKeys, Going}
 use Rattle.slotmap_basic.proofs.SlotMap.retain.Given as goal
 
 abbrev pub invariant-loop-key : goal.invariant-loop-key

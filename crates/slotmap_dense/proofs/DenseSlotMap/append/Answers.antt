@@ -1,4 +1,5 @@
-use Rattle.slotmap_dense.proofs.Common.{◌≡◌, Inserts, ap, ◌∙◌, arith, stays-valid, Appended, appended}
+use Rattle.std.proofs.Common.{◌≡◌}
+use Rattle.slotmap_dense.proofs.Common.{Inserts, ap, ◌∙◌, arith, stays-valid, Appended, appended}
 use Rattle.std.proofs.lemmas.Grind.{common_steps}
 use Rattle.slotmap_dense.proofs.MoveLemmas.{offer_key, new_not_live}
 use Rattle.slotmap_dense.proofs.DenseSlotMap.append.Goals.{After-push_reserved-2}

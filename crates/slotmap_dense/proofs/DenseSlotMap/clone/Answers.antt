@@ -1,4 +1,5 @@
-use Rattle.slotmap_dense.proofs.Common.{◌≡◌, list_map, IsCopy, clone_copies, zip_length, ◌∙◌, ap, dense-clones, same_order, IsSound-other, dense_valid}
+use Rattle.std.proofs.Common.{◌≡◌}
+use Rattle.slotmap_dense.proofs.Common.{list_map, IsCopy, clone_copies, zip_length, ◌∙◌, ap, dense-clones, same_order, IsSound-other, dense_valid}
 use Rattle.slotmap_dense.proofs.DenseSlotMap.clone.Goals.{In_ok-clone}
 use Rattle.slotmap_dense.proofs.DenseSlotMap.clone.Goals as goal
 

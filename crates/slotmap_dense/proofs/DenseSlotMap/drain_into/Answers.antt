@@ -1,5 +1,6 @@
+use Rattle.std.proofs.Common.{◌++◌, ◌∷◌}
 use Rattle.slotmap_dense.proofs.Common.{common_steps, map-append, length_push, IsListingBut-start, IsListingBut-take, IsListingBut-done, append-nil, append_assoc, Taken-start, Taken-next, last_first}
-use Rattle.slotmap_dense.proofs.Common.{Key, [], length, reverse, refl, sym, ap, ◌∙◌, arith, ◌++◌, ◌∷◌, zip, list_map, none_left, len_keys}
+use Rattle.slotmap_dense.proofs.Common.{Key, [], length, reverse, refl, sym, ap, ◌∙◌, arith, zip, list_map, none_left, len_keys}
 use Rattle.slotmap_dense.proofs.DenseSlotMap.drain_into.Goals as goal
 
 pub loop-pair-init : goal.loop-pair-init

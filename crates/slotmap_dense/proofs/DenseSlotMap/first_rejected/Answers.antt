@@ -1,4 +1,5 @@
-use Rattle.slotmap_dense.proofs.Common.{◌≡◌, list_map, with_items, vec_capacity, ◌∙◌, packed_order, items-whole, passes-lift, may-lift, Lifts-values, dense_of, IsSound-other, stays-valid}
+use Rattle.std.proofs.Common.{◌≡◌}
+use Rattle.slotmap_dense.proofs.Common.{list_map, with_items, vec_capacity, ◌∙◌, packed_order, items-whole, passes-lift, may-lift, Lifts-values, dense_of, IsSound-other, stays-valid}
 use Rattle.slotmap_dense.proofs.Common.{length, min, refl, ap, arith, Passes, stage, beside, IsSound}
 use Rattle.std.proofs.lemmas.Grind.{common_steps}
 use Rattle.slotmap_dense.proofs.DenseSlotMap.first_rejected.Goals as goal

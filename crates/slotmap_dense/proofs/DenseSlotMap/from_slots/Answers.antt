@@ -1,7 +1,8 @@
+use Rattle.std.proofs.Common.{◌≡◌, ◌+◌, ◌-◌, ◌^◌, ◌<◌, ◌∷◌, ◌++◌}
 use Rattle.std.specs.FinMap as map
 use Rattle.slotmap_dense.proofs.Common.{into_iter_items, nil_from_length, key_from-odd, next_consistent, common_steps, AreSplit-start, AreSplit-live, AreSplit-none, refuses-positions, IsSound-split}
 use Rattle.slotmap_dense.proofs.Common.{append-nil, length_push, length-map, map-append, odd_of, list_limit, vec_capacity, append_assoc, same_places, fewer_read, reads-split, stack_alike, dense_valid}
-use Rattle.slotmap_dense.proofs.Common.{◌≡◌, ◌+◌, ◌-◌, ◌^◌, ◌<◌, ◌∷◌, ◌++◌, list_map, Accepts, add-one, key, length, Some, min, refl, sym, ◌∙◌, arith, AreSplit}
+use Rattle.slotmap_dense.proofs.Common.{list_map, Accepts, add-one, key, length, Some, min, refl, sym, ◌∙◌, arith, AreSplit}
 use Rattle.slotmap_dense.proofs.Common.{[], ap}
 use Rattle.slotmap_dense.proofs.DenseSlotMap.from_slots.Goals.{In_ok-check_slots, In-None, in-Some-value+in_ok-push-in-Some-value+in_ok-push-in-Some-value-2, in-None-value}
 use Rattle.slotmap_dense.proofs.DenseSlotMap.from_slots.Goals as goal

@@ -1,4 +1,5 @@
-use Rattle.slotmap_dense.proofs.Common.{◌≡◌, ◌+◌, ◌≤◌, ◌++◌, list_map, into_iter_items, into_iter_len, length, vec_len, vec_capacity, AreSplit}
+use Rattle.std.proofs.Common.{◌≡◌, ◌+◌, ◌≤◌, ◌++◌}
+use Rattle.slotmap_dense.proofs.Common.{list_map, into_iter_items, into_iter_len, length, vec_len, vec_capacity, AreSplit}
 use Rattle.slotmap_dense.proofs.DenseSlotMap.from_slots.Given as goal
 
 -- what was made of the records that were read so far

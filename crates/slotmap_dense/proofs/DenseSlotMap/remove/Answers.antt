@@ -1,5 +1,6 @@
+use Rattle.std.proofs.Common.{◌≡◌}
 use Rattle.std.specs.FinMap as map
-use Rattle.slotmap_dense.proofs.Common.{◌≡◌, IsGapped-removed, absent, unchanged, Closed, closed, Some, sym, ap, ◌∙◌}
+use Rattle.slotmap_dense.proofs.Common.{IsGapped-removed, absent, unchanged, Closed, closed, Some, sym, ap, ◌∙◌}
 use Rattle.slotmap_dense.proofs.DenseSlotMap.remove.Goals.{After-close_gap}
 use Rattle.slotmap_dense.proofs.DenseSlotMap.remove.Goals as goal
 

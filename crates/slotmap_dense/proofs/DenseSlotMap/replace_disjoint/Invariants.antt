@@ -1,5 +1,5 @@
-use Rattle.slotmap_dense.proofs.Common.{◌≡◌, Exchanged, IsDense, value_of, with_value_of}
-use Rattle.std.proofs.Common.{map as map_list}
+use Rattle.slotmap_dense.proofs.Common.{Exchanged, IsDense, value_of, with_value_of}
+use Rattle.std.proofs.Common.{◌≡◌, map as map_list}
 use Rattle.slotmap_dense.proofs.DenseSlotMap.replace_disjoint.Given as goal
 
 abbrev pub invariant-loop-i : goal.invariant-loop-i

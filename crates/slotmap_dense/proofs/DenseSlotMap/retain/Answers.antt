@@ -1,4 +1,5 @@
-use Rattle.slotmap_dense.proofs.Common.{◌≡◌, ◌<◌, ◌≤◌, stage, Going-start, Going-may, Going-rejected, Rejected-stands, Going-dropped, Ended, Going-end, len_keys, length, ap, arith}
+use Rattle.std.proofs.Common.{◌≡◌, ◌<◌, ◌≤◌}
+use Rattle.slotmap_dense.proofs.Common.{stage, Going-start, Going-may, Going-rejected, Rejected-stands, Going-dropped, Ended, Going-end, len_keys, length, ap, arith}
 use Rattle.slotmap_dense.proofs.DenseSlotMap.retain.Goals.{After-len}
 use Rattle.slotmap_dense.proofs.DenseSlotMap.retain.Goals as goal
 

@@ -1,4 +1,5 @@
-use Rattle.slotmap_dense.proofs.Common.{◌≤◌, stage, Going, length}
+use Rattle.std.proofs.Common.{◌≤◌}
+use Rattle.slotmap_dense.proofs.Common.{stage, Going, length}
 use Rattle.slotmap_dense.proofs.DenseSlotMap.retain.Given as goal
 
 abbrev pub invariant-loop-position : goal.invariant-loop-position

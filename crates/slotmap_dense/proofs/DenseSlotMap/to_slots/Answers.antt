@@ -1,5 +1,6 @@
+use Rattle.std.proofs.Common.{◌≡◌, ◌<◌}
 use Rattle.slotmap_dense.proofs.Common.{IsRecordClone, slice_get_read, slice_get-map, writes_clones, clones_contents, equal_writes, equal_contents, false, vec_capacity, with_packed_value, well_formed}
-use Rattle.slotmap_dense.proofs.Common.{◌≡◌, ◌<◌, list_map, Writes, take_all, length-map, zip_next, length, take, slice_get, Some, option_map, min, refl, ap, ◌∙◌, arith}
+use Rattle.slotmap_dense.proofs.Common.{list_map, Writes, take_all, length-map, zip_next, length, take, slice_get, Some, option_map, min, refl, ap, ◌∙◌, arith}
 use Rattle.slotmap_dense.proofs.PositionLists.{position_within, writes-filled}
 use Rattle.slotmap_dense.proofs.DenseSlotMap.to_slots.Goals.{In_ok-positions}
 use Rattle.slotmap_dense.proofs.DenseSlotMap.to_slots.Goals as goal

@@ -1,4 +1,5 @@
-use Rattle.slotmap_dense.proofs.Common.{◌+◌, ◌≤◌, list_map, AreRecordClones, take, vec_len, vec_capacity, with_packed_value}
+use Rattle.std.proofs.Common.{◌+◌, ◌≤◌}
+use Rattle.slotmap_dense.proofs.Common.{list_map, AreRecordClones, take, vec_len, vec_capacity, with_packed_value}
 use Rattle.slotmap_dense.proofs.DenseSlotMap.to_slots.Given as goal
 
 abbrev pub invariant-loop-index : goal.invariant-loop-index

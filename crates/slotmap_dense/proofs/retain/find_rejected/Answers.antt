@@ -1,4 +1,5 @@
-use Rattle.slotmap_dense.proofs.Common.{◌∷◌, ◌++◌, ◌≡◌, list_map, FoldsTo-push, length-map, length-set, length, refl, ◌∙◌, arith, Stays, stage, beside, shows-read, calls-read}
+use Rattle.std.proofs.Common.{◌∷◌, ◌++◌, ◌≡◌}
+use Rattle.slotmap_dense.proofs.Common.{list_map, FoldsTo-push, length-map, length-set, length, refl, ◌∙◌, arith, Stays, stage, beside, shows-read, calls-read}
 use Rattle.slotmap_dense.proofs.Common.{[], inl, inr, sym, ap}
 use Rattle.slotmap_dense.proofs.retain.find_rejected.Goals as goal
 

@@ -1,4 +1,5 @@
-use Rattle.slotmap_dense.proofs.Common.{◌≡◌, list_map, FoldsTo, Visit, List, length, Stays, stage, beside}
+use Rattle.std.proofs.Common.{◌≡◌}
+use Rattle.slotmap_dense.proofs.Common.{list_map, FoldsTo, Visit, List, length, Stays, stage, beside}
 use Rattle.slotmap_dense.proofs.retain.find_rejected.Given as goal
 
 abbrev pub invariant-loop-position : goal.invariant-loop-position

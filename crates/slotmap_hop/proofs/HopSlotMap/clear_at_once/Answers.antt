@@ -1,4 +1,5 @@
-use Rattle.slotmap_hop.proofs.Common.{◌≡◌, ◌-◌, ◌≤◌, ◌+◌, with_items, with_items_is, length, vec_capacity, subst, ◌∙◌, AllGoOn, CanEmpty, EmptiesAll, taken_slots, slots_fit}
+use Rattle.std.proofs.Common.{◌≡◌, ◌-◌, ◌≤◌, ◌+◌}
+use Rattle.slotmap_hop.proofs.Common.{with_items, with_items_is, length, vec_capacity, subst, ◌∙◌, AllGoOn, CanEmpty, EmptiesAll, taken_slots, slots_fit}
 use Rattle.slotmap_hop.proofs.Common.{sym, arith}
 use Rattle.slotmap_hop.proofs.Emptying.{sound_emptied, size_emptied, clears}
 use Rattle.slotmap_hop.proofs.HopSlotMap.clear_at_once.Goals.{After-make_one_block}

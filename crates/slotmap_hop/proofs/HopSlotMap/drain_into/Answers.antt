@@ -1,6 +1,7 @@
+use Rattle.std.proofs.Common.{◌∷◌, ◌++◌}
 use Rattle.std.specs.FinMap as map
 use Rattle.slotmap_hop.proofs.Common.{map-append, keys_total, exact_keys, len_removed, entries_none, common_steps, sym, append_assoc, clearing_starts, clearing_removed, clearing_ends, clearing_blocks}
-use Rattle.slotmap_hop.proofs.Common.{some_entry, [], refl, ap, ◌∙◌, append-nil, arith, ◌∷◌, ◌++◌, list_map}
+use Rattle.slotmap_hop.proofs.Common.{some_entry, [], refl, ap, ◌∙◌, append-nil, arith, list_map}
 use Rattle.slotmap_hop.proofs.HopSlotMap.drain_into.Goals as goal
 
 pub loop-next-init : goal.loop-next-init

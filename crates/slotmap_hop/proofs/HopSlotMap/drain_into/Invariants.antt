@@ -1,5 +1,6 @@
+use Rattle.std.proofs.Common.{◌≡◌, ◌+◌, ◌≤◌, ◌++◌}
 use Rattle.std.specs.FinMap as map
-use Rattle.slotmap_hop.proofs.Common.{◌≡◌, ◌+◌, ◌≤◌, ◌++◌, list_map, Clearing, indices_left, List, vec_len, vec_capacity}
+use Rattle.slotmap_hop.proofs.Common.{list_map, Clearing, indices_left, List, vec_len, vec_capacity}
 use Rattle.slotmap_hop.proofs.HopSlotMap.drain_into.Given as goal
 
 abbrev pub invariant-loop-next : goal.invariant-loop-next

@@ -1,4 +1,5 @@
-use Rattle.slotmap_hop.proofs.Common.{◌≡◌, ◌+◌, common_steps, ◌∙◌, all_links, next_place, zero_leads, first_leads, read_back, at_end, well_formed, back_within, back_key, offered_back}
+use Rattle.std.proofs.Common.{◌≡◌, ◌+◌}
+use Rattle.slotmap_hop.proofs.Common.{common_steps, ◌∙◌, all_links, next_place, zero_leads, first_leads, read_back, at_end, well_formed, back_within, back_key, offered_back}
 use Rattle.slotmap_hop.proofs.Common.{key, ap, sym, arith, AtEnd, Filled, filled, valid}
 use Rattle.slotmap_hop.proofs.Growth.{some_offered, sound-pushed, blocks-pushed, inserts-pushed}
 use Rattle.slotmap_hop.proofs.HopSlotMap.fill.Goals.{Then-self-eq0, After-back_of-back, After-fill_back}

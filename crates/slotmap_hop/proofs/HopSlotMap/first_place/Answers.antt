@@ -1,4 +1,5 @@
-use Rattle.slotmap_hop.proofs.Common.{arith, common_steps, vec_capacity, sym, subst, ◌-◌, MayStand, look_begins, place_comes}
+use Rattle.std.proofs.Common.{◌-◌}
+use Rattle.slotmap_hop.proofs.Common.{arith, common_steps, vec_capacity, sym, subst, MayStand, look_begins, place_comes}
 use Rattle.slotmap_hop.proofs.HopSlotMap.first_place.Goals as goal
 
 pub find_live-requires : goal.find_live-requires

@@ -1,5 +1,6 @@
+use Rattle.std.proofs.Common.{◌≡◌, ◌∷◌, ◌++◌}
 use Rattle.slotmap_hop.proofs.Common.{into_iter_items, with_items_is, AllFitBelow, first_taken, same_length, AreRead-first, AreRead-vacant, AreRead-in_use, IsSound-read, starts-read, reading_counted}
-use Rattle.slotmap_hop.proofs.Common.{list_limit, Accepts, reads_as, length, subst, ◌∙◌, arith, AreRead, read_count, with_slot, can_open, reading_all, reading_on, ◌≡◌, ◌∷◌, ◌++◌}
+use Rattle.slotmap_hop.proofs.Common.{list_limit, Accepts, reads_as, length, subst, ◌∙◌, arith, AreRead, read_count, with_slot, can_open, reading_all, reading_on}
 use Rattle.slotmap_hop.proofs.Common.{[], true, refl, sym, ap, valid}
 use Rattle.std.proofs.lemmas.Grind.{common_steps}
 use Rattle.slotmap_hop.proofs.HopSlotMap.from_slots.Goals.{In_ok-check_slots, In-None, After-push_reserved-in-loop-slot}

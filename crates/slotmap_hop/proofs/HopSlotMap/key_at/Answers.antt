@@ -1,4 +1,5 @@
-use Rattle.slotmap_hop.proofs.Common.{◌≡◌, IsKey, IsLive, key, refl, sym, ap, subst, ◌∙◌, inl, arith, version_in, held, well_formed, Present, slot_read}
+use Rattle.std.proofs.Common.{◌≡◌}
+use Rattle.slotmap_hop.proofs.Common.{IsKey, IsLive, key, refl, sym, ap, subst, ◌∙◌, inl, arith, version_in, held, well_formed, Present, slot_read}
 use Rattle.slotmap_hop.proofs.HopSlotMap.key_at.Goals.{After-self, After-version, After-from}
 use Rattle.slotmap_hop.proofs.HopSlotMap.key_at.Goals as goal
 

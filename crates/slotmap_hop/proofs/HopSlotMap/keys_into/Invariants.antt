@@ -1,5 +1,6 @@
+use Rattle.std.proofs.Common.{◌≡◌, ◌+◌, ◌≤◌, ◌++◌}
 use Rattle.std.specs.FinMap as map
-use Rattle.slotmap_hop.proofs.Common.{◌≡◌, ◌+◌, ◌≤◌, ◌++◌, list_map, length, vec_len, vec_capacity}
+use Rattle.slotmap_hop.proofs.Common.{list_map, length, vec_len, vec_capacity}
 use Rattle.slotmap_hop.proofs.HopSlotMap.keys_into.Given as goal
 
 abbrev pub invariant-loop-key : goal.invariant-loop-key

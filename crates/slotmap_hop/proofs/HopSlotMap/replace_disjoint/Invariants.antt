@@ -1,4 +1,5 @@
-use Rattle.slotmap_hop.proofs.Common.{◌≡◌, map_list, value_of, with_value, Exchanged, StaysHop}
+use Rattle.std.proofs.Common.{◌≡◌}
+use Rattle.slotmap_hop.proofs.Common.{map_list, value_of, with_value, Exchanged, StaysHop}
 use Rattle.slotmap_hop.proofs.HopSlotMap.replace_disjoint.Given as goal
 
 abbrev pub invariant-loop-i : goal.invariant-loop-i

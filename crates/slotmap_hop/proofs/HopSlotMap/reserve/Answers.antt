@@ -1,4 +1,5 @@
-use Rattle.slotmap_hop.proofs.Common.{◌≡◌, ◌<◌, ◌≤◌, used_places, err_not_ok, length, vec_capacity, places_of, hop_room_had, hop_room_lacked, grown_granted, grown_refused, taken_slots}
+use Rattle.std.proofs.Common.{◌≡◌, ◌<◌, ◌≤◌}
+use Rattle.slotmap_hop.proofs.Common.{used_places, err_not_ok, length, vec_capacity, places_of, hop_room_had, hop_room_lacked, grown_granted, grown_refused, taken_slots}
 use Rattle.slotmap_hop.proofs.Common.{used, rules, refl, ap, sym, arith, room_is}
 use Rattle.slotmap_hop.proofs.HopSlotMap.reserve.Goals as goal
 

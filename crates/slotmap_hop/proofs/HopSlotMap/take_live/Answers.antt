@@ -1,4 +1,5 @@
-use Rattle.slotmap_hop.proofs.Common.{◌≡◌, ◌+◌, last_version, ap, ◌∙◌, arith, CanFree, Took, held, took_last, took_other, Present, elems_positive, vacant_below, can_free}
+use Rattle.std.proofs.Common.{◌≡◌, ◌+◌}
+use Rattle.slotmap_hop.proofs.Common.{last_version, ap, ◌∙◌, arith, CanFree, Took, held, took_last, took_other, Present, elems_positive, vacant_below, can_free}
 use Rattle.slotmap_hop.proofs.HopSlotMap.take_live.Goals.{After-self, After-retire, After-free}
 use Rattle.slotmap_hop.proofs.HopSlotMap.take_live.Goals as goal
 

@@ -1,4 +1,5 @@
-use Rattle.slotmap_hop.proofs.Common.{common_steps, arith, ◌-◌, all_links, vacancy_kept, ready, first, second_head, front_vacant, taken_block, lost_front, shorter_to_one, shorter_longer}
+use Rattle.std.proofs.Common.{◌-◌}
+use Rattle.slotmap_hop.proofs.Common.{common_steps, arith, all_links, vacancy_kept, ready, first, second_head, front_vacant, taken_block, lost_front, shorter_to_one, shorter_longer}
 use Rattle.slotmap_hop.proofs.blocks.drop_back.Goals as goal
 
 pub relink-requires-clause-after : goal.relink-requires-clause-after

@@ -1,4 +1,5 @@
-use Rattle.slotmap_hop.proofs.Common.{◌≡◌, ◌<◌, set-set, arith, sym, ◌∙◌, is_some, common_steps, length, ap, value_at, values_same, length-all_links, flag_read, links_here}
+use Rattle.std.proofs.Common.{◌≡◌, ◌<◌}
+use Rattle.slotmap_hop.proofs.Common.{set-set, arith, sym, ◌∙◌, is_some, common_steps, length, ap, value_at, values_same, length-all_links, flag_read, links_here}
 use Rattle.slotmap_hop.proofs.blocks.free.Goals.{After-make_ready-links}
 use Rattle.slotmap_hop.proofs.blocks.free.Goals as goal
 

@@ -1,4 +1,5 @@
-use Rattle.slotmap_hop.proofs.Common.{common_steps, arith, ◌≡◌, ◌+◌, prev_at, all_links, flags_kept, ready, back_ready, prev_is, after_head, joins_before, first}
+use Rattle.std.proofs.Common.{◌≡◌, ◌+◌}
+use Rattle.slotmap_hop.proofs.Common.{common_steps, arith, prev_at, all_links, flags_kept, ready, back_ready, prev_is, after_head, joins_before, first}
 use Rattle.slotmap_hop.proofs.blocks.grow_left.Goals.{After-prev_of-prev}
 use Rattle.slotmap_hop.proofs.blocks.grow_left.Goals as goal
 

@@ -1,5 +1,6 @@
-use Rattle.slotmap_hop.proofs.Common.{common_steps, ◌∙◌, ◌≡◌, flags_kept, leads_kept, tails_kept, vacancy_kept, left_tails, front_leads, front_ready, back_ready, after_head, joins_between}
-use Rattle.slotmap_hop.proofs.Common.{rules, true, arith, ◌+◌, ◌-◌, ends_kept, ready, prev_is, vacant_at, prev_at, end_at, all_links, first}
+use Rattle.std.proofs.Common.{◌≡◌, ◌+◌, ◌-◌}
+use Rattle.slotmap_hop.proofs.Common.{common_steps, ◌∙◌, flags_kept, leads_kept, tails_kept, vacancy_kept, left_tails, front_leads, front_ready, back_ready, after_head, joins_between}
+use Rattle.slotmap_hop.proofs.Common.{rules, true, arith, ends_kept, ready, prev_is, vacant_at, prev_at, end_at, all_links, first}
 use Rattle.slotmap_hop.proofs.blocks.merge.Goals.{After-prev_of-before, After-front_of-front}
 use Rattle.slotmap_hop.proofs.blocks.merge.Goals as goal
 

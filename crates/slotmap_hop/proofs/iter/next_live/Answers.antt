@@ -1,4 +1,5 @@
-use Rattle.slotmap_hop.proofs.Common.{◌≡◌, sym, ◌∙◌, common_steps, arith, rules, slice_get, Counted, IsRead, way_begins, may_read, finds_here, may_leave, goes_onward, left_here, none_here}
+use Rattle.std.proofs.Common.{◌≡◌}
+use Rattle.slotmap_hop.proofs.Common.{sym, ◌∙◌, common_steps, arith, rules, slice_get, Counted, IsRead, way_begins, may_read, finds_here, may_leave, goes_onward, left_here, none_here}
 use Rattle.slotmap_hop.proofs.Common.{refl, ℕ, List, Some, IsAt, Slot}
 use Rattle.slotmap_hop.proofs.iter.next_live.Goals.{Start}
 use Rattle.slotmap_hop.proofs.iter.next_live.Goals as goal

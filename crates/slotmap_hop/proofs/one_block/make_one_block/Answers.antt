@@ -1,4 +1,5 @@
-use Rattle.slotmap_hop.proofs.Common.{common_steps, ◌∙◌, ◌-◌, ◌<◌, HasBlockList, places_of, slots_fit, taken_slots, first_leads_on, back_vacant_still, alone_sound, named_is, named_sound}
+use Rattle.std.proofs.Common.{◌-◌, ◌<◌}
+use Rattle.slotmap_hop.proofs.Common.{common_steps, ◌∙◌, HasBlockList, places_of, slots_fit, taken_slots, first_leads_on, back_vacant_still, alone_sound, named_is, named_sound}
 use Rattle.slotmap_hop.proofs.Common.{length, set, Some, refl, sym, ap, subst, arith, Back}
 use Rattle.slotmap_hop.proofs.one_block.make_one_block.Goals.{After-vacate_all}
 use Rattle.slotmap_hop.proofs.one_block.make_one_block.Goals as goal

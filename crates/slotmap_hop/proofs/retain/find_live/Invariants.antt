@@ -1,4 +1,5 @@
-use Rattle.slotmap_hop.proofs.Common.{◌-◌, OnTheWay, ℕ, length}
+use Rattle.std.proofs.Common.{◌-◌}
+use Rattle.slotmap_hop.proofs.Common.{OnTheWay, ℕ, length}
 use Rattle.slotmap_hop.proofs.retain.find_live.Given as goal
 
 -- no live slot was passed, whatever the number of reads

@@ -1,4 +1,5 @@
-use Rattle.slotmap_scene.proofs.Common.{[], sym, times_pushed, ◌++◌, ◌∙◌, ◌∷◌}
+use Rattle.std.proofs.Common.{◌++◌, ◌∷◌}
+use Rattle.slotmap_scene.proofs.Common.{[], sym, times_pushed, ◌∙◌}
 use Rattle.slotmap_scene.proofs.Moved.{came_alone, child_gained, child_inserts, child_scene, child_spent}
 use Rattle.slotmap_scene.proofs.Scene.add_child.Goals as goal
 

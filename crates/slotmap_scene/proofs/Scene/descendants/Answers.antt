@@ -1,4 +1,5 @@
-use Rattle.slotmap_scene.proofs.Common.{IsWithin, ap, append-nil, arith, common_steps, has_node, list_map, subst, ◌++◌, ◌∙◌, ◌≢◌}
+use Rattle.std.proofs.Common.{◌++◌, ◌≢◌}
+use Rattle.slotmap_scene.proofs.Common.{IsWithin, ap, append-nil, arith, common_steps, has_node, list_map, subst, ◌∙◌}
 use Rattle.slotmap_scene.proofs.Descending.{Descended, each_listed}
 use Rattle.slotmap_scene.proofs.Scene.descendants.Goals as goal
 

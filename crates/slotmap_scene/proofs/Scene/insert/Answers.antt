@@ -1,4 +1,5 @@
-use Rattle.slotmap_scene.proofs.Common.{Inserts, ap, child, parent_of, placed, subst, sym, with_children_of, ◌∙◌, ◌≡◌}
+use Rattle.std.proofs.Common.{◌≡◌}
+use Rattle.slotmap_scene.proofs.Common.{Inserts, ap, child, parent_of, placed, subst, sym, with_children_of, ◌∙◌}
 use Rattle.slotmap_scene.proofs.Climbs.{parent_there}
 use Rattle.slotmap_scene.proofs.Moved.{came_alone, came_sibling, came_there, child_gained, child_inserts, child_scene, child_spent, times_placed}
 use Rattle.slotmap_scene.proofs.Scene.insert.Goals as goal

@@ -1,4 +1,5 @@
-use Rattle.slotmap_scene.proofs.Common.{arith, has_node, refl, same_keys, sym, zero, ◌∙◌, ◌≢◌}
+use Rattle.std.proofs.Common.{◌≢◌}
+use Rattle.slotmap_scene.proofs.Common.{arith, has_node, refl, same_keys, sym, zero, ◌∙◌}
 use Rattle.slotmap_scene.proofs.Climbs.{climbing_live, climbing_start, climbing_step, node_there, within_none, within_step}
 use Rattle.slotmap_scene.proofs.Scene.is_within.Goals as goal
 

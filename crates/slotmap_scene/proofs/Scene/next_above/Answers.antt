@@ -1,4 +1,5 @@
-use Rattle.slotmap_scene.proofs.Common.{Some, arith, sym, ◌≡◌}
+use Rattle.std.proofs.Common.{◌≡◌}
+use Rattle.slotmap_scene.proofs.Common.{Some, arith, sym}
 use Rattle.slotmap_scene.proofs.WalkingDown.{GoesOn, rise_below, rise_beside, rise_end, rise_start, rise_up}
 use Rattle.slotmap_scene.proofs.KeyLoops.{unlike}
 use Rattle.slotmap_scene.proofs.Scene.next_above.Goals.{In-Some}

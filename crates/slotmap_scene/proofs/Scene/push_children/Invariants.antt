@@ -1,4 +1,5 @@
-use Rattle.slotmap_scene.proofs.Common.{AreWorlds, Key, Some, children_of, keys_of_pairs, parent_of, times, ◌++◌, ◌<◌, ◌≡◌}
+use Rattle.std.proofs.Common.{◌++◌, ◌<◌, ◌≡◌}
+use Rattle.slotmap_scene.proofs.Common.{AreWorlds, Key, Some, children_of, keys_of_pairs, parent_of, times}
 use Rattle.slotmap_scene.proofs.Scene.push_children.Given as goal
 
 abbrev pub invariant-loop-child : goal.invariant-loop-child

@@ -1,4 +1,5 @@
-use Rattle.slotmap_scene.proofs.Common.{AreWorlds, Key, None, has_node, keys_of_pairs, parent_of, roots_in, times, ◌++◌, ◌<◌, ◌≡◌}
+use Rattle.std.proofs.Common.{◌++◌, ◌<◌, ◌≡◌}
+use Rattle.slotmap_scene.proofs.Common.{AreWorlds, Key, None, has_node, keys_of_pairs, parent_of, roots_in, times}
 use Rattle.std.specs.FinMap as map
 use Rattle.slotmap_scene.proofs.Scene.push_roots.Given as goal
 

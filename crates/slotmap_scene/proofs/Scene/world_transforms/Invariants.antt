@@ -1,4 +1,5 @@
-use Rattle.slotmap_scene.proofs.Common.{AreWorlds, keys_of_pairs, ◌-◌}
+use Rattle.std.proofs.Common.{◌-◌}
+use Rattle.slotmap_scene.proofs.Common.{AreWorlds, keys_of_pairs}
 use Rattle.slotmap_scene.proofs.ByLevel.{Levels}
 use Rattle.std.specs.FinMap as map
 use Rattle.slotmap_scene.proofs.Scene.world_transforms.Given as goal

@@ -1,4 +1,5 @@
-use Rattle.slotmap_scheduler.proofs.Common.{Some, ap, slice_get, sym, timed, ◌∙◌, ◌≡◌}
+use Rattle.std.proofs.Common.{◌≡◌}
+use Rattle.slotmap_scheduler.proofs.Common.{Some, ap, slice_get, sym, timed, ◌∙◌}
 use Rattle.slotmap_scheduler.proofs.Seen.{empty_waits, none_copied, top_later, top_least, top_waits}
 use Rattle.slotmap_scheduler.proofs.Waits.{waits_by_time, waits_once}
 use Rattle.slotmap_scheduler.proofs.Scheduler.peek.Goals as goal

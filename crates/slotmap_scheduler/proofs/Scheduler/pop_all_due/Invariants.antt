@@ -1,4 +1,5 @@
-use Rattle.slotmap_scheduler.proofs.Common.{length, vec_capacity, ◌≡◌}
+use Rattle.std.proofs.Common.{◌≡◌}
+use Rattle.slotmap_scheduler.proofs.Common.{length, vec_capacity}
 use Rattle.slotmap_scheduler.proofs.TakingDue.{Taking}
 use Rattle.slotmap_scheduler.proofs.Scheduler.pop_all_due.Given as goal
 

@@ -1,4 +1,5 @@
-use Rattle.slotmap_scheduler.proofs.Common.{arith, sym, ◌*◌, ◌+◌}
+use Rattle.std.proofs.Common.{◌*◌, ◌+◌}
+use Rattle.slotmap_scheduler.proofs.Common.{arith, sym}
 use Rattle.slotmap_scheduler.proofs.Counting.{due-le, due_split, none_past, none_under}
 use Rattle.slotmap_scheduler.proofs.heap.+count_due.Goals.{then-at-heap-via-else-at-heap+then-heap-at, then-at-heap-via-then-at-heap}
 use Rattle.slotmap_scheduler.proofs.heap.+count_due.Goals as goal

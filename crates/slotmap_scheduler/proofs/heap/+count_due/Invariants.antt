@@ -1,4 +1,5 @@
-use Rattle.slotmap_scheduler.proofs.Common.{length, ◌-◌}
+use Rattle.std.proofs.Common.{◌-◌}
+use Rattle.slotmap_scheduler.proofs.Common.{length}
 use Rattle.slotmap_scheduler.proofs.heap.+count_due.Given as goal
 
 abbrev pub decreases-count_due : goal.decreases-count_due

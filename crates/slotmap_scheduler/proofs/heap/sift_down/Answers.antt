@@ -1,4 +1,5 @@
-use Rattle.slotmap_scheduler.proofs.Common.{arith, common_steps, length, sym, true, vec_len, ◌<◌, ◌∙◌, ◌≡◌}
+use Rattle.std.proofs.Common.{◌<◌, ◌≡◌}
+use Rattle.slotmap_scheduler.proofs.Common.{arith, common_steps, length, sym, true, vec_len, ◌∙◌}
 use Rattle.slotmap_scheduler.proofs.Heaps.{compared, heap_ended, heap_settled, resettled_same, resettled_then, sunk, sunk_above}
 use Rattle.slotmap_scheduler.proofs.heap.sift_down.Goals as goal
 

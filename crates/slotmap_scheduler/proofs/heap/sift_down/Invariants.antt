@@ -1,4 +1,5 @@
-use Rattle.slotmap_scheduler.proofs.Common.{IsAbove, IsHeapBut, Resettled, vec_len, ◌-◌, ◌<◌}
+use Rattle.std.proofs.Common.{◌-◌, ◌<◌}
+use Rattle.slotmap_scheduler.proofs.Common.{IsAbove, IsHeapBut, Resettled, vec_len}
 use Rattle.slotmap_scheduler.proofs.heap.sift_down.Given as goal
 
 abbrev pub invariant-loop-child : goal.invariant-loop-child

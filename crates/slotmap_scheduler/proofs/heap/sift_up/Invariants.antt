@@ -1,4 +1,5 @@
-use Rattle.slotmap_scheduler.proofs.Common.{IsHeapBut, Resettled, vec_len, ◌<◌}
+use Rattle.std.proofs.Common.{◌<◌}
+use Rattle.slotmap_scheduler.proofs.Common.{IsHeapBut, Resettled, vec_len}
 use Rattle.slotmap_scheduler.proofs.heap.sift_up.Given as goal
 
 abbrev pub invariant-loop-at : goal.invariant-loop-at

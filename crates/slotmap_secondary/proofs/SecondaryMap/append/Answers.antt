@@ -1,4 +1,5 @@
-use Rattle.slotmap_secondary.proofs.Common.{common_steps, length, sym, ap, ◌∙◌, arith, ◌≡◌, count, valid, IsSound-append, content-append}
+use Rattle.std.proofs.Common.{◌≡◌}
+use Rattle.slotmap_secondary.proofs.Common.{common_steps, length, sym, ap, ◌∙◌, arith, count, valid, IsSound-append, content-append}
 use Rattle.slotmap_secondary.proofs.SecondaryMap.append.Goals as goal
 
 pub overflow_add-self : goal.overflow_add-self

@@ -1,4 +1,5 @@
-use Rattle.slotmap_secondary.proofs.Common.{◌≡◌, Pairs, AllPut, subst, [], Option, Some, None, IfSome, inl, inr, refl}
+use Rattle.std.proofs.Common.{◌≡◌}
+use Rattle.slotmap_secondary.proofs.Common.{Pairs, AllPut, subst, [], Option, Some, None, IfSome, inl, inr, refl}
 use Rattle.slotmap_secondary.proofs.SecondaryMap.from_iter.Goals as goal
 
 if_some : {X : Type 0} (P : X → Type 0) (o : Option X) → ((x : X) → o ≡ Some x → P x) → IfSome o P

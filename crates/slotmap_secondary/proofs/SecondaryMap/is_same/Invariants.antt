@@ -1,4 +1,5 @@
-use Rattle.slotmap_secondary.proofs.Common.{◌≡◌, same_entries, are_equal, length}
+use Rattle.std.proofs.Common.{◌≡◌}
+use Rattle.slotmap_secondary.proofs.Common.{same_entries, are_equal, length}
 use Rattle.slotmap_secondary.proofs.SecondaryMap.is_same.Given as goal
 
 abbrev pub invariant-loop-key : goal.invariant-loop-key

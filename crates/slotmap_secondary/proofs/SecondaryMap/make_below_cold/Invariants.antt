@@ -1,4 +1,5 @@
-use Rattle.slotmap_secondary.proofs.Common.{◌≡◌, ◌-◌, ◌<◌, ◌≤◌, pairs_of, IsSound, vec_capacity, vec_len}
+use Rattle.std.proofs.Common.{◌≡◌, ◌-◌, ◌<◌, ◌≤◌}
+use Rattle.slotmap_secondary.proofs.Common.{pairs_of, IsSound, vec_capacity, vec_len}
 use Rattle.slotmap_secondary.proofs.SecondaryMap.make_below_cold.Given as goal
 
 abbrev pub invariant-loop-self : goal.invariant-loop-self

@@ -1,4 +1,5 @@
-use Rattle.slotmap_secondary.proofs.Common.{◌≡◌, set-get_or, length-set, slice_get, ap, subst, ◌∙◌, Vacant, Occupied, IsSound-clear, content-clear, some_left, there_read, stands, key-here}
+use Rattle.std.proofs.Common.{◌≡◌}
+use Rattle.slotmap_secondary.proofs.Common.{set-get_or, length-set, slice_get, ap, subst, ◌∙◌, Vacant, Occupied, IsSound-clear, content-clear, some_left, there_read, stands, key-here}
 use Rattle.slotmap_secondary.proofs.Common.{Key, get, set, Some, refl, sym, arith, valid}
 use Rattle.slotmap_secondary.proofs.SecondaryMap.take_at.Goals.{In-Occupied}
 use Rattle.slotmap_secondary.proofs.SecondaryMap.take_at.Goals as goal

@@ -1,4 +1,5 @@
-use Rattle.slotmap_sparse.proofs.Common.{◌≤◌, AllPut, IsSparseContent}
+use Rattle.std.proofs.Common.{◌≤◌}
+use Rattle.slotmap_sparse.proofs.Common.{AllPut, IsSparseContent}
 use Rattle.slotmap_sparse.proofs.SparseSecondaryMap.extend.Given as goal
 
 abbrev pub invariant-loop-key : goal.invariant-loop-key

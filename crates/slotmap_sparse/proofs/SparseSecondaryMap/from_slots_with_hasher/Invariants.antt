@@ -1,4 +1,5 @@
-use Rattle.slotmap_sparse.proofs.Common.{◌≡◌, OwnedIter, length, IsSparseContent, Read}
+use Rattle.std.proofs.Common.{◌≡◌}
+use Rattle.slotmap_sparse.proofs.Common.{OwnedIter, length, IsSparseContent, Read}
 use Rattle.slotmap_sparse.proofs.SparseSecondaryMap.from_slots_with_hasher.Given as goal
 
 abbrev pub invariant-loop-slot : goal.invariant-loop-slot

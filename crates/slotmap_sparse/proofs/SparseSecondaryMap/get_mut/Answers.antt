@@ -1,4 +1,5 @@
-use Rattle.slotmap_sparse.proofs.Common.{◌≡◌, option_copied_mut, is_some, ◌∙◌, content_of, stands_at, found_none, well_formed, IsSound-through, content-through, IsSound-kept, content_kept}
+use Rattle.std.proofs.Common.{◌≡◌}
+use Rattle.slotmap_sparse.proofs.Common.{option_copied_mut, is_some, ◌∙◌, content_of, stands_at, found_none, well_formed, IsSound-through, content-through, IsSound-kept, content_kept}
 use Rattle.slotmap_sparse.proofs.Common.{value_at, None, sym, ap, found_own}
 use mathlib.Core.Logic.{inl, inr}
 use Rattle.slotmap_sparse.proofs.SparseSecondaryMap.get_mut.Goals as goal

@@ -1,4 +1,5 @@
-use Rattle.slotmap_sparse.proofs.Common.{◌+◌, Key, ap, subst, ◌∙◌, arith, Counts, Counts-start, Counts-less, Counts-more, Counts-end}
+use Rattle.std.proofs.Common.{◌+◌}
+use Rattle.slotmap_sparse.proofs.Common.{Key, ap, subst, ◌∙◌, arith, Counts, Counts-start, Counts-less, Counts-more, Counts-end}
 use Rattle.slotmap_sparse.proofs.SparseSecondaryMap.place_count.Goals as goal
 
 pub loop-key-init : goal.loop-key-init

@@ -1,5 +1,6 @@
+use Rattle.std.proofs.Common.{◌≡◌}
 use Rattle.std.specs.FinMap as map
-use Rattle.slotmap_sparse.proofs.Common.{◌≡◌, Key, key_from, keyed, MayCome, key_from-odd, List, Some, refl, ap, subst, ◌∙◌, pairs_of, IsSound, more_room, well_formed, of_keys, valid_from}
+use Rattle.slotmap_sparse.proofs.Common.{Key, key_from, keyed, MayCome, key_from-odd, List, Some, refl, ap, subst, ◌∙◌, pairs_of, IsSound, more_room, well_formed, of_keys, valid_from}
 use Rattle.slotmap_sparse.proofs.Common.{ℕ, sym}
 use Rattle.slotmap_sparse.proofs.RetainLemmas.{visited, comes_to, shown_at, retains_by}
 use Rattle.slotmap_sparse.proofs.SparseSecondaryMap.retain.Goals as goal

@@ -1,5 +1,6 @@
+use Rattle.std.proofs.Common.{◌+◌}
 use Rattle.slotmap_core.proofs.Common.{common_steps}
-use Rattle.slotmap_sparse.proofs.Common.{◌+◌, length_push, length, sym, ap, subst, ◌∙◌, arith, Copies-start, Copies-push, writes_clones, contents_clones, writes_equal, contents_equal}
+use Rattle.slotmap_sparse.proofs.Common.{length_push, length, sym, ap, subst, ◌∙◌, arith, Copies-start, Copies-push, writes_clones, contents_clones, writes_equal, contents_equal}
 use Rattle.slotmap_sparse.specs.Written.{ReachesLargest, IsCloneSlot}
 use Rattle.std.specs.FinMap as map
 use Rattle.slotmap_sparse.proofs.SparseSecondaryMap.to_slots.Goals.{After-loop-index}

@@ -1,4 +1,5 @@
-use Rattle.slotmap_sparse.proofs.Common.{◌≡◌, ◌≤◌, ◌+◌, Copies, length, vec_len, vec_capacity}
+use Rattle.std.proofs.Common.{◌≡◌, ◌≤◌, ◌+◌}
+use Rattle.slotmap_sparse.proofs.Common.{Copies, length, vec_len, vec_capacity}
 use Rattle.slotmap_sparse.proofs.SparseSecondaryMap.to_slots.Given as goal
 
 abbrev pub invariant-loop-index : goal.invariant-loop-index

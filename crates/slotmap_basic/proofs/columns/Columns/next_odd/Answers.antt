@@ -1,4 +1,5 @@
-use Rattle.slotmap_basic.proofs.Common.{◌≡◌, versions_of, slot_list-versions, ◌∙◌, sym}
+use Rattle.std.proofs.Common.{◌≡◌}
+use Rattle.slotmap_basic.proofs.Common.{versions_of, slot_list-versions, ◌∙◌, sym}
 use Rattle.slotmap_basic.proofs.columns.Columns.next_odd.Goals.{After-deref}
 use Rattle.slotmap_basic.proofs.columns.Columns.next_odd.Goals as goal
 

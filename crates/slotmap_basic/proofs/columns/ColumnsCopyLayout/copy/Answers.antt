@@ -1,4 +1,5 @@
-use Rattle.slotmap_basic.proofs.Common.{◌≡◌, AllZip, IsCloneOf, zip_length, length, ap, ◌∙◌, arith, uses_of, zip-length, uses-length, option_clones, zip-clones}
+use Rattle.std.proofs.Common.{◌≡◌}
+use Rattle.slotmap_basic.proofs.Common.{AllZip, IsCloneOf, zip_length, length, ap, ◌∙◌, arith, uses_of, zip-length, uses-length, option_clones, zip-clones}
 use Rattle.slotmap_basic.proofs.columns.ColumnsCopyLayout.copy.Goals as goal
 
 pub returns-clause-clones : goal.returns-clause-clones

@@ -1,4 +1,5 @@
-use Rattle.slotmap_basic.proofs.Common.{◌≡◌, ◌<◌, common_steps, length, get_or, arith, detached_at, slot_list-length}
+use Rattle.std.proofs.Common.{◌≡◌, ◌<◌}
+use Rattle.slotmap_basic.proofs.Common.{common_steps, length, get_or, arith, detached_at, slot_list-length}
 use Rattle.slotmap_basic.proofs.columns.ColumnsLayout.is_detached.Goals as goal
 
 pub returns : goal.returns

@@ -1,4 +1,5 @@
-use Rattle.slotmap_basic.proofs.Common.{◌+◌, slot_list-length, length, arith}
+use Rattle.std.proofs.Common.{◌+◌}
+use Rattle.slotmap_basic.proofs.Common.{slot_list-length, length, arith}
 use Rattle.slotmap_basic.proofs.columns.ColumnsLayout.reserve.Goals as goal
 
 pub returns-clause-room : goal.returns-clause-room

@@ -1,4 +1,5 @@
-use Rattle.slotmap_basic.proofs.Common.{◌≢◌, ◌-◌, ◌^◌, AllEven, HasOdds, behind_run, none_left, passed_to, next_from, run_first, run_ahead, odds_refill, subst, arith}
+use Rattle.std.proofs.Common.{◌≢◌, ◌-◌, ◌^◌}
+use Rattle.slotmap_basic.proofs.Common.{AllEven, HasOdds, behind_run, none_left, passed_to, next_from, run_first, run_ahead, odds_refill, subst, arith}
 use Rattle.slotmap_basic.proofs.columns.odds.at_next.Goals.{After-look_ahead-end}
 use Rattle.slotmap_basic.proofs.columns.odds.at_next.Goals as goal
 

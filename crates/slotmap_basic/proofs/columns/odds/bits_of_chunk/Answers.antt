@@ -1,4 +1,5 @@
-use Rattle.slotmap_basic.proofs.Common.{◌≡◌, ◌+◌, ◌%◌, get_or-chunk, get_or, ap, ◌∙◌, arith}
+use Rattle.std.proofs.Common.{◌≡◌, ◌+◌, ◌%◌}
+use Rattle.slotmap_basic.proofs.Common.{get_or-chunk, get_or, ap, ◌∙◌, arith}
 use Rattle.slotmap_basic.proofs.columns.odds.bits_of_chunk.Goals as goal
 
 pub returns : goal.returns

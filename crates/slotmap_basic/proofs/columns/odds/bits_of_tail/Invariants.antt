@@ -1,4 +1,5 @@
-use Rattle.slotmap_basic.proofs.Common.{◌+◌, ◌-◌, ◌≤◌, Below, length}
+use Rattle.std.proofs.Common.{◌+◌, ◌-◌, ◌≤◌}
+use Rattle.slotmap_basic.proofs.Common.{Below, length}
 use Rattle.slotmap_basic.proofs.columns.odds.bits_of_tail.Given as goal
 
 abbrev pub invariant-loop-lane : goal.invariant-loop-lane

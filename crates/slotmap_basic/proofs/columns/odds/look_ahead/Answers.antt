@@ -1,4 +1,5 @@
-use Rattle.slotmap_basic.proofs.Common.{common_steps, max, refl, subst, arith, ◌≡◌, ◌+◌, ◌-◌, HasOdds, IsRun, odds_start, odds_refill, odds_last, full_run}
+use Rattle.std.proofs.Common.{◌≡◌, ◌+◌, ◌-◌}
+use Rattle.slotmap_basic.proofs.Common.{common_steps, max, refl, subst, arith, HasOdds, IsRun, odds_start, odds_refill, odds_last, full_run}
 use Rattle.slotmap_basic.proofs.columns.odds.look_ahead.Goals as goal
 
 pub returns-then-at-versions : goal.returns-then-at-versions

@@ -1,4 +1,5 @@
-use Rattle.slotmap_basic.proofs.Common.{◌≤◌, ◌+◌, ◌-◌, ◌*◌, ◌/◌, AllOdd, length}
+use Rattle.std.proofs.Common.{◌≤◌, ◌+◌, ◌-◌, ◌*◌, ◌/◌}
+use Rattle.slotmap_basic.proofs.Common.{AllOdd, length}
 use Rattle.slotmap_basic.proofs.columns.odds.near_run.Given as goal
 
 abbrev pub invariant-loop-run : goal.invariant-loop-run

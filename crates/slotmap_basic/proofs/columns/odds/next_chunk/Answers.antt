@@ -1,4 +1,5 @@
-use Rattle.slotmap_basic.proofs.Common.{◌+◌, dec_lt, even_chunk, arith}
+use Rattle.std.proofs.Common.{◌+◌}
+use Rattle.slotmap_basic.proofs.Common.{dec_lt, even_chunk, arith}
 use Rattle.slotmap_basic.proofs.columns.odds.next_chunk.Goals as goal
 
 pub loop-at-preserved : goal.loop-at-preserved

@@ -1,4 +1,5 @@
-use Rattle.slotmap_basic.proofs.Common.{◌-◌, ◌≤◌, AllEven, length}
+use Rattle.std.proofs.Common.{◌-◌, ◌≤◌}
+use Rattle.slotmap_basic.proofs.Common.{AllEven, length}
 use Rattle.slotmap_basic.proofs.columns.odds.next_chunk.Given as goal
 
 abbrev pub invariant-loop-at : goal.invariant-loop-at

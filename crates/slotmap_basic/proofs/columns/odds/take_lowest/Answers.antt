@@ -1,4 +1,5 @@
-use Rattle.slotmap_basic.proofs.Common.{◌≡◌, ◌+◌, ◌-◌, odds_on, odds_next, odds_step, refl, arith}
+use Rattle.std.proofs.Common.{◌≡◌, ◌+◌, ◌-◌}
+use Rattle.slotmap_basic.proofs.Common.{odds_on, odds_next, odds_step, refl, arith}
 use Rattle.slotmap_basic.proofs.columns.odds.take_lowest.Goals as goal
 
 pub returns : goal.returns

@@ -1,5 +1,6 @@
+use Rattle.std.proofs.Common.{◌∷◌}
 use Rattle.std.specs.FinMap as map
-use Rattle.slotmap_basic.proofs.Common.{◌∷◌, NoneBelow, keys_total, exact_keys, len_removed, none_live, Empties-first, first_entry, above_next, ◌∙◌, arith, cursor_removed, DrainCanStep}
+use Rattle.slotmap_basic.proofs.Common.{NoneBelow, keys_total, exact_keys, len_removed, none_live, Empties-first, first_entry, above_next, ◌∙◌, arith, cursor_removed, DrainCanStep}
 use Rattle.slotmap_basic.proofs.Common.{refl, sym, ap}
 use Rattle.slotmap_basic.proofs.drain.DrainIterator.next.Goals as goal
 

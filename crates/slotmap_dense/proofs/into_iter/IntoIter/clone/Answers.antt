@@ -1,4 +1,5 @@
-use Rattle.slotmap_dense.proofs.Common.{◌≡◌, same_from_all_zip, pairs_equal, rules, sym, pairs-clones}
+use Rattle.std.proofs.Common.{◌≡◌}
+use Rattle.slotmap_dense.proofs.Common.{same_from_all_zip, pairs_equal, rules, sym, pairs-clones}
 use Rattle.slotmap_dense.proofs.into_iter.IntoIter.clone.Goals as goal
 
 pub invariant_of-result : goal.invariant_of-result

@@ -1,4 +1,5 @@
-use Rattle.slotmap_dense.proofs.Common.{◌+◌, length-map, length, ap, arith, slot_of_row}
+use Rattle.std.proofs.Common.{◌+◌}
+use Rattle.slotmap_dense.proofs.Common.{length-map, length, ap, arith, slot_of_row}
 use Rattle.slotmap_dense.proofs.rows.RowsLayoutU32.reserve.Goals as goal
 
 pub returns-clause-room : goal.returns-clause-room

@@ -1,4 +1,5 @@
-use Rattle.slotmap_hop.proofs.Common.{◌+◌, ◌<◌, drop-drop, take_rest, arith, common_steps, ap, sym, ◌∙◌, drop, length, hop_none}
+use Rattle.std.proofs.Common.{◌+◌, ◌<◌}
+use Rattle.slotmap_hop.proofs.Common.{drop-drop, take_rest, arith, common_steps, ap, sym, ◌∙◌, drop, length, hop_none}
 use Rattle.slotmap_hop.proofs.counted.CountedSlots.hop.Goals as goal
 
 pub overflow_add-self : goal.overflow_add-self

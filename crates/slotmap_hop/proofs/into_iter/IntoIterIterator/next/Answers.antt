@@ -1,5 +1,6 @@
-use Rattle.slotmap_hop.proofs.Common.{◌≡◌, ◌∷◌, with_items, with_items_is, same_Some, key, common_steps, ◌∙◌, version_in, pairs_left, FindsSlot, same_length, pairs-taken, iter_taken}
-use Rattle.slotmap_hop.proofs.Common.{◌+◌, ◌-◌, sym, ap, refl, arith, CanFree, Occupied, IsIter, can_go_on, live_key, can_free, value_is}
+use Rattle.std.proofs.Common.{◌≡◌, ◌∷◌, ◌+◌, ◌-◌}
+use Rattle.slotmap_hop.proofs.Common.{with_items, with_items_is, same_Some, key, common_steps, ◌∙◌, version_in, pairs_left, FindsSlot, same_length, pairs-taken, iter_taken}
+use Rattle.slotmap_hop.proofs.Common.{sym, ap, refl, arith, CanFree, Occupied, IsIter, can_go_on, live_key, can_free, value_is}
 use Rattle.slotmap_hop.proofs.into_iter.IntoIterIterator.next.Goals.{After-index-index, After-retire-value}
 use Rattle.slotmap_hop.proofs.into_iter.IntoIterIterator.next.Goals as goal
 

@@ -1,4 +1,5 @@
-use Rattle.slotmap_hop.proofs.Common.{◌≡◌, sym, ap, ◌∙◌, arith, same_Some, rules, version_in, Occupied, live_key, live_within, can_go_on, iter_on, left_none}
+use Rattle.std.proofs.Common.{◌≡◌}
+use Rattle.slotmap_hop.proofs.Common.{sym, ap, ◌∙◌, arith, same_Some, rules, version_in, Occupied, live_key, live_within, can_go_on, iter_on, left_none}
 use Rattle.slotmap_hop.proofs.iter.Iter.step.Goals.{After-index-index}
 use Rattle.slotmap_hop.proofs.iter.Iter.step.Goals as goal
 

@@ -1,4 +1,5 @@
-use Rattle.slotmap_scene.proofs.Common.{length, roots_of, ◌≡◌}
+use Rattle.std.proofs.Common.{◌≡◌}
+use Rattle.slotmap_scene.proofs.Common.{length, roots_of}
 use Rattle.slotmap_scene.proofs.above.RootsIterator.next.Given as goal
 
 abbrev pub invariant-loop-node : goal.invariant-loop-node

@@ -1,4 +1,5 @@
-use Rattle.slotmap_scene.proofs.Common.{Some, [], rules, times_pushed, ◌++◌, ◌∷◌}
+use Rattle.std.proofs.Common.{◌++◌, ◌∷◌}
+use Rattle.slotmap_scene.proofs.Common.{Some, [], rules, times_pushed}
 use Rattle.slotmap_scene.proofs.Moved.{hung_alone, keys_among, moved_among, scene_among, spent_alike, values_among}
 use Rattle.slotmap_scene.proofs.family.Nodes.move_below.Goals as goal
 

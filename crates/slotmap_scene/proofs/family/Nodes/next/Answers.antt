@@ -1,4 +1,5 @@
-use Rattle.slotmap_scene.proofs.Common.{after_inside, ap, key_at, list_of, number_after, option_map, sym, ◌∙◌, ◌≡◌}
+use Rattle.std.proofs.Common.{◌≡◌}
+use Rattle.slotmap_scene.proofs.Common.{after_inside, ap, key_at, list_of, number_after, option_map, sym, ◌∙◌}
 use Rattle.slotmap_scene.proofs.Families.{child_in, indices_at, key_found, next_seen}
 use Rattle.slotmap_scene.proofs.family.Nodes.next.Goals as goal
 

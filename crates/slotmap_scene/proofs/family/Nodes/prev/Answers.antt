@@ -1,4 +1,5 @@
-use Rattle.slotmap_scene.proofs.Common.{None, ap, before_inside, key_at, list_of, number_before, option_map, sym, ◌∙◌, ◌≡◌}
+use Rattle.std.proofs.Common.{◌≡◌}
+use Rattle.slotmap_scene.proofs.Common.{None, ap, before_inside, key_at, list_of, number_before, option_map, sym, ◌∙◌}
 use Rattle.slotmap_scene.proofs.Families.{child_in, indices_at, key_found, prev_seen}
 use Rattle.slotmap_scene.proofs.family.Nodes.prev.Goals as goal
 

@@ -1,4 +1,5 @@
-use Rattle.slotmap_scene.proofs.Common.{arith, children_of, leaves_in_turn, leaves_none, none_last, rules, same_keys, sym, ◌∙◌, ◌≢◌}
+use Rattle.std.proofs.Common.{◌≢◌}
+use Rattle.slotmap_scene.proofs.Common.{arith, children_of, leaves_in_turn, leaves_none, none_last, rules, same_keys, sym, ◌∙◌}
 use Rattle.slotmap_scene.proofs.Removals.{all_removed, down_smaller, goes_down, goes_up, others_left, pruned_scene, removing_start, up_smaller}
 use Rattle.slotmap_scene.proofs.family.Nodes.remove_tree.Goals as goal
 

@@ -1,4 +1,5 @@
-use Rattle.slotmap_secondary.proofs.Common.{◌≡◌, ◌+◌, values_in, length}
+use Rattle.std.proofs.Common.{◌≡◌, ◌+◌}
+use Rattle.slotmap_secondary.proofs.Common.{values_in, length}
 use Rattle.slotmap_secondary.proofs.iter.ValuesIterator.next.Given as goal
 
 -- only vacant slots were skipped

@@ -1,4 +1,5 @@
-use Rattle.slotmap_slots.proofs.Common.{◌<◌, slice_get_within, common_steps, none_free, top_read, top_next, top_version, offer-new, offer-top, settled_room, settled_fits, filled_new, filled_first}
+use Rattle.std.proofs.Common.{◌<◌}
+use Rattle.slotmap_slots.proofs.Common.{slice_get_within, common_steps, none_free, top_read, top_next, top_version, offer-new, offer-top, settled_room, settled_fits, filled_new, filled_first}
 use Rattle.slotmap_slots.proofs.Common.{length, is_some, ap, arith, top}
 use Rattle.slotmap_slots.proofs.slots.Slots.fill.Goals as goal
 

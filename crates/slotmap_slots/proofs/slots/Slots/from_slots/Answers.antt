@@ -1,6 +1,7 @@
-use Rattle.slotmap_slots.proofs.Common.{◌≡◌, into_iter_items, nil_from_length, next_consistent, length-append, FitsEmpty-free, vacancies-push, AreRead-retired, AreRead-vacant, free_indices-read}
-use Rattle.slotmap_slots.proofs.Common.{◌++◌, IsConsistent, AllFitBelow, length_push, starts-stack, first_taken, common_steps, append_assoc, head_within, AreRead-first, AreRead-live, IsSound-read}
-use Rattle.slotmap_slots.proofs.Common.{◌+◌, ◌-◌, ◌∷◌, even_where, list_limit, reads_as, Accepts, odd_of, length, subst, ◌∙◌, append-nil, arith, valid, AreRead, vacancies, Retired}
+use Rattle.std.proofs.Common.{◌≡◌, ◌++◌, ◌+◌, ◌-◌, ◌∷◌}
+use Rattle.slotmap_slots.proofs.Common.{into_iter_items, nil_from_length, next_consistent, length-append, FitsEmpty-free, vacancies-push, AreRead-retired, AreRead-vacant, free_indices-read}
+use Rattle.slotmap_slots.proofs.Common.{IsConsistent, AllFitBelow, length_push, starts-stack, first_taken, common_steps, append_assoc, head_within, AreRead-first, AreRead-live, IsSound-read}
+use Rattle.slotmap_slots.proofs.Common.{even_where, list_limit, reads_as, Accepts, odd_of, length, subst, ◌∙◌, append-nil, arith, valid, AreRead, vacancies, Retired}
 use Rattle.slotmap_slots.proofs.Common.{[], Some, true, refl, sym, ap, empty, full, Free}
 use Rattle.slotmap_slots.proofs.slots.Slots.from_slots.Goals.{In_ok-check_slots, In-Some, In-None}
 use Rattle.slotmap_slots.proofs.slots.Slots.from_slots.Goals as goal

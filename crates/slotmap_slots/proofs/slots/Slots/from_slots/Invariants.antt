@@ -1,4 +1,5 @@
-use Rattle.slotmap_slots.proofs.Common.{◌≡◌, ◌+◌, ◌≤◌, ◌∷◌, ◌++◌, into_iter_items, into_iter_len, length, vacancies, AreRead}
+use Rattle.std.proofs.Common.{◌≡◌, ◌+◌, ◌≤◌, ◌∷◌, ◌++◌}
+use Rattle.slotmap_slots.proofs.Common.{into_iter_items, into_iter_len, length, vacancies, AreRead}
 use Rattle.slotmap_core.specs.declared.serial.SlotRecord.{SlotRecord}
 use Rattle.slotmap_slots.proofs.slots.Slots.from_slots.Given as goal
 

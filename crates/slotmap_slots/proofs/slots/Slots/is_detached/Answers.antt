@@ -1,4 +1,5 @@
-use Rattle.slotmap_slots.proofs.Common.{◌≡◌, ◌≢◌, option_map, Some, ap, sym, ◌∙◌, arith, version_at, version_before, detached-past, detached-stale, detached-at, settled_valid}
+use Rattle.std.proofs.Common.{◌≡◌, ◌≢◌}
+use Rattle.slotmap_slots.proofs.Common.{option_map, Some, ap, sym, ◌∙◌, arith, version_at, version_before, detached-past, detached-stale, detached-at, settled_valid}
 use Rattle.std.proofs.lemmas.Option.{slice_get_past}
 use Rattle.slotmap_slots.proofs.slots.Slots.is_detached.Goals.{After-version-2}
 use Rattle.slotmap_slots.proofs.slots.Slots.is_detached.Goals as goal

@@ -1,4 +1,5 @@
-use Rattle.slotmap_slots.proofs.Common.{◌<◌, slice_get_within, key, length, ap, sym, ◌∙◌, arith, top, top_version, top_read, offer-new, offer-top, settled_fits}
+use Rattle.std.proofs.Common.{◌<◌}
+use Rattle.slotmap_slots.proofs.Common.{slice_get_within, key, length, ap, sym, ◌∙◌, arith, top, top_version, top_read, offer-new, offer-top, settled_fits}
 use Rattle.slotmap_slots.proofs.slots.Slots.next_key.Goals as goal
 
 pub version-requires : goal.version-requires

@@ -1,4 +1,5 @@
-use Rattle.slotmap_slots.proofs.Common.{◌<◌, err_not_ok, common_steps, arith, settled_fits, settled_used, settled_places, grown}
+use Rattle.std.proofs.Common.{◌<◌}
+use Rattle.slotmap_slots.proofs.Common.{err_not_ok, common_steps, arith, settled_fits, settled_used, settled_places, grown}
 use Rattle.slotmap_slots.proofs.slots.Slots.reserve.Goals as goal
 
 pub reserve-requires : goal.reserve-requires

@@ -1,4 +1,5 @@
-use Rattle.slotmap_slots.proofs.Common.{◌≡◌, ◌+◌, ◌%◌, ◌^◌, nat_eq, last_version, is_some, head_fits, settled_present, settled_positive, settled_value, removed_last, removed_other}
+use Rattle.std.proofs.Common.{◌≡◌, ◌+◌, ◌%◌, ◌^◌}
+use Rattle.slotmap_slots.proofs.Common.{nat_eq, last_version, is_some, head_fits, settled_present, settled_positive, settled_value, removed_last, removed_other}
 use Rattle.slotmap_slots.proofs.Common.{true, false, ap, arith, eq-eqb, ne_eqb}
 use Rattle.slotmap_slots.proofs.slots.Slots.take.Goals.{Then-after-eq0, Else-after-eq0}
 use Rattle.slotmap_slots.proofs.slots.Slots.take.Goals as goal

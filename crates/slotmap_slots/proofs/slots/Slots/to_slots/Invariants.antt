@@ -1,4 +1,5 @@
-use Rattle.slotmap_slots.proofs.Common.{◌+◌, ◌≤◌, AreRecordClones, records_of, take, vec_len, vec_capacity, places_of}
+use Rattle.std.proofs.Common.{◌+◌, ◌≤◌}
+use Rattle.slotmap_slots.proofs.Common.{AreRecordClones, records_of, take, vec_len, vec_capacity, places_of}
 use Rattle.slotmap_slots.proofs.slots.Slots.to_slots.Given as goal
 
 abbrev pub invariant-loop-index : goal.invariant-loop-index

@@ -1,4 +1,5 @@
-use Rattle.slotmap_sparse.proofs.Common.{◌≡◌, ◌↔◌, AreEqual, true, ap, sym, subst, ◌∙◌}
+use Rattle.std.proofs.Common.{◌≡◌, ◌↔◌}
+use Rattle.slotmap_sparse.proofs.Common.{AreEqual, true, ap, sym, subst, ◌∙◌}
 use Rattle.slotmap_sparse.proofs.EqualLemmas.{equal_as, equal_maps}
 use Rattle.slotmap_sparse.proofs.equal.SparseSecondaryMapPartialEq.eq.Goals as goal
 

@@ -1,4 +1,5 @@
-use Rattle.slotmap_basic.proofs.Common.{◌≡◌, AllZip, IsCloneOf, same_from_all_zip, pairs_equal, option_clones, pairs_left-clones, IsIter-clones}
+use Rattle.std.proofs.Common.{◌≡◌}
+use Rattle.slotmap_basic.proofs.Common.{AllZip, IsCloneOf, same_from_all_zip, pairs_equal, option_clones, pairs_left-clones, IsIter-clones}
 use Rattle.slotmap_basic.proofs.columns.pairs.SlotIntoIter.copy.Goals.{In_ok-clone-2}
 use Rattle.slotmap_basic.proofs.columns.pairs.SlotIntoIter.copy.Goals as goal
 

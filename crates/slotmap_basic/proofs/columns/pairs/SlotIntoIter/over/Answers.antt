@@ -1,4 +1,5 @@
-use Rattle.slotmap_basic.proofs.Common.{arith, ◌≡◌, Starts, iter_from}
+use Rattle.std.proofs.Common.{◌≡◌}
+use Rattle.slotmap_basic.proofs.Common.{arith, Starts, iter_from}
 use Rattle.slotmap_basic.proofs.columns.pairs.SlotIntoIter.over.Goals.{After-of_slots-cursor}
 use Rattle.slotmap_basic.proofs.columns.pairs.SlotIntoIter.over.Goals as goal
 

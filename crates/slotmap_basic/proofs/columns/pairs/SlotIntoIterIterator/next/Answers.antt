@@ -1,4 +1,5 @@
-use Rattle.slotmap_basic.proofs.Common.{◌≡◌, same_Some, slice_get_within, same_read, [], length, ap, arith, IsIter, pairs_left, Next, next_on, some_left, ends_at, IsIter-taken, left-taken}
+use Rattle.std.proofs.Common.{◌≡◌}
+use Rattle.slotmap_basic.proofs.Common.{same_Some, slice_get_within, same_read, [], length, ap, arith, IsIter, pairs_left, Next, next_on, some_left, ends_at, IsIter-taken, left-taken}
 use Rattle.slotmap_basic.proofs.columns.pairs.SlotIntoIterIterator.next.Goals.{In_ok-index, In_err-index}
 use Rattle.slotmap_basic.proofs.columns.pairs.SlotIntoIterIterator.next.Goals as goal
 

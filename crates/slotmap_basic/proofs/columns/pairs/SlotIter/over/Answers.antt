@@ -1,4 +1,5 @@
-use Rattle.slotmap_basic.proofs.Common.{refl, arith, ◌≡◌, Starts, iter_from}
+use Rattle.std.proofs.Common.{◌≡◌}
+use Rattle.slotmap_basic.proofs.Common.{refl, arith, Starts, iter_from}
 use Rattle.slotmap_basic.proofs.columns.pairs.SlotIter.over.Goals.{After-of_slots-cursor}
 use Rattle.slotmap_basic.proofs.columns.pairs.SlotIter.over.Goals as goal
 
