@@ -64,6 +64,8 @@ class Crate:
     def __init__(self, copy, name):
         self.name, self.folder = name, f"{copy}/crates/{name}"
         self.kept, self.seed = f"{self.folder}/out/incremental", f"{self.folder}/out/seed"
+        # What the check also says of the right body: no such note is a reason to refuse.
+        self.usual = set()
 
     def check(self, module):
         """Checks one module or the whole crate, and returns the status and what was said."""
@@ -76,6 +78,7 @@ class Crate:
         status, said = self.check(None)
         if status:
             sys.exit(f"wrong-bodies.sh: {self.name} isn't proved as it stands:\n{said[-2000:]}")
+        self.usual = set(said.split("\n"))
         shutil.move(self.kept, self.seed)
 
     def begin(self):
@@ -103,9 +106,9 @@ class Crate:
                 file.write(text)
 
 
-def verdict(status, said):
-    """Returns a word for what a try came to, and the line that tells most."""
-    lines = said.split("\n")
+def verdict(status, said, usual):
+    """Returns a word for what a try came to, and the line that tells most; `usual` are the lines that say nothing."""
+    lines = [line for line in said.split("\n") if line not in usual]
     told = next((line for line in lines if GOAL.match(line)), "")
     lost = next((line for line in lines if LOST_NAME.search(line)), "")
     if status == 0:
@@ -113,8 +116,10 @@ def verdict(status, said):
     if status == 3:
         return "at a limit of the prover", told
     if status != 1 or not (COUNT.search(said) or NOT_PROVED.search(said)):
-        return "BAD EDIT", next((line for line in lines if "error" in line), lines[0])
-    return ("names are gone", lost) if lost else ("refused", told)
+        return "BAD EDIT", next((line for line in lines if "error" in line), said.split("\n")[0])
+    if lost:
+        return "names are gone", lost
+    return ("refused", told) if told else ("REFUSED BY NO GOAL", "")
 
 
 def copy_of_the_tree(copy):
@@ -145,7 +150,7 @@ def try_all(copy, wanted):
         crate.prove()
         for edit in edits:
             try:
-                word, line = verdict(*crate.try_edit(edit))
+                word, line = verdict(*crate.try_edit(edit), crate.usual)
             except BadEdit as why:
                 word, line = "BAD EDIT", str(why)
             in_gate = f"/{FOLDERS[0]}/" in edit
