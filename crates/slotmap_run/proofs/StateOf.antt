@@ -1,7 +1,8 @@
 -- Each content has a state that fits it.
 use Rattle.std.specs.FinMap as map
 use Rattle.std.specs.FinSet as set
-use Rattle.slotmap_run.proofs.{Common.◌≡◌, Common.◌||◌, SetCounts.all_keys, SetCounts.contains-all_keys, Fits.used_same, Laws.IsGood}
+use Rattle.std.proofs.Common.{◌≡◌, ◌||◌}
+use Rattle.slotmap_run.proofs.{SetCounts.all_keys, SetCounts.contains-all_keys, Fits.used_same, Laws.IsGood}
 use Rattle.slotmap_core.proofs.Common.{Key, Content, IsContent, places, State, retired, Fits, keys_total, exact_keys, in_retired, Bool, arith}
 
 module _ {V : Type 0} (reuses : Bool) (c : Content V) (ok : IsContent reuses c) where

@@ -1,4 +1,5 @@
-use Rattle.slotmap_scene.proofs.{Common.list_map, Common.◌++◌, Descending.Descended}
+use Rattle.std.proofs.Common.{◌++◌}
+use Rattle.slotmap_scene.proofs.{Common.list_map, Descending.Descended}
 use Rattle.slotmap_scene.proofs.Scene.descendants.Given as goal
 
 abbrev pub invariant-loop-key : goal.invariant-loop-key

@@ -1,4 +1,5 @@
-use Rattle.slotmap_scene.proofs.{Common.IsWithin, Common.◌↔◌, Climbs.Climbing}
+use Rattle.std.proofs.Common.{◌↔◌}
+use Rattle.slotmap_scene.proofs.{Common.IsWithin, Climbs.Climbing}
 use Rattle.slotmap_scene.proofs.Scene.is_within.Given as goal
 
 abbrev pub invariant-loop-step : goal.invariant-loop-step

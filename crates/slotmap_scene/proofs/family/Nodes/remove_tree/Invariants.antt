@@ -1,4 +1,5 @@
-use Rattle.slotmap_scene.proofs.{Common.Leaves, Common.◌≡◌, Removals.Removing, Removals.to_do}
+use Rattle.std.proofs.Common.{◌≡◌}
+use Rattle.slotmap_scene.proofs.{Common.Leaves, Removals.Removing, Removals.to_do}
 use Rattle.slotmap_scene.proofs.family.Nodes.remove_tree.Given as goal
 
 abbrev pub invariant-loop-child : goal.invariant-loop-child
