@@ -34,7 +34,7 @@ CRATES = {
     STRUCTURES: (5.5, 4, "list, graph, entities, scene, scheduler"),
     "slotmap_examples": (2.2, 5, "callers of the maps"),
     "structure_examples": (3.85, 5, "callers of the structures"),
-    TESTS: (0.55, 5, "structure_tests, structures_at_size"),
+    TESTS: (0.55, 5, "of structures, also at size"),
     "slotdemo": (5.5, 5, "program: a demonstration"),
 }
 COLORS = {
