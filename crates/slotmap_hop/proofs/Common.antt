@@ -3,11 +3,11 @@ pub use Rattle.std.proofs.Common.{map as list_map, map as map_list}
 pub use Rattle.std.proofs.lemmas.List.{set-set, drop-drop, take_rest}
 pub use Rattle.slotmap_core.proofs.Common.{CanReplace-next, into_iter_items, reads_as, listing-entries, IsKeyListing-listing, option_copied_mut, content_written, AreRecordClones, used_places-sentinel}
 pub use Rattle.slotmap_core.proofs.Common.{with_items_is, in_order_along, into_iter_len, remove_absent, key_exchanged, CallsAt-called, slice_get_read, clones_contents, equal_contents, sentinel_alone}
-pub use Rattle.slotmap_core.proofs.Common.{common_steps, vec_capacity, clone_copies, entries_none, append_assoc, last_version, writes_clones, equal_writes, Empties-first, on_ok_weaker, IsKeyListing}
-pub use Rattle.slotmap_core.proofs.Common.{refuses_key, with_items, get-live_at, refl, loan_along, lists_along, map-append, keys_total, len_removed, AllFitBelow, first_taken, used_places, pairs_equal}
-pub use Rattle.slotmap_core.proofs.Common.{arith, ◌∙◌, exact_keys, some_entry, append-nil, list_limit, length-map, key_there, with_value, Exchanged, err_not_ok, same_live, records_of, same_Some}
-pub use Rattle.slotmap_core.proofs.Common.{length, subst, is_some, rules, vec_len, Accepts, ltb-true, IsKey, IsLive, read_of, if_none, eq-eqb, ne_eqb, none_of, zip_next, Vacant, slice_get, nat_tests}
-pub use Rattle.slotmap_core.proofs.Common.{sym, key, ap, Key, None, Some, [], List, true, inl, false, used, take, set, drop, ℕ}
+pub use Rattle.slotmap_core.proofs.Common.{common_steps, vec_capacity, clone_copies, entries_none, append_assoc, last_version, writes_clones, equal_writes, Leaves-removes, Leaves-trans, on_ok_weaker}
+pub use Rattle.slotmap_core.proofs.Common.{IsKeyListing, refuses_key, with_items, refl, loan_along, lists_along, map-append, keys_total, len_removed, AllFitBelow, first_taken, used_places}
+pub use Rattle.slotmap_core.proofs.Common.{pairs_equal, arith, ◌∙◌, exact_keys, some_entry, append-nil, list_limit, length-map, key_there, with_value, Exchanged, err_not_ok, same_live}
+pub use Rattle.slotmap_core.proofs.Common.{records_of, same_Some, length, subst, is_some, rules, vec_len, Accepts, ltb-true, IsKey, IsLive, read_of, if_none, eq-eqb, ne_eqb, none_of, zip_next}
+pub use Rattle.slotmap_core.proofs.Common.{slice_get, nat_tests, sym, key, ap, None, Some, [], List, true, inl, false, used, take, set, drop, ℕ}
 pub use Rattle.slotmap_core.specs.Words.{value_of}
 pub use Rattle.slotmap_hop.proofs.CloneLemmas.{all_links-cloned, IsSound-cloned, has_clones, left_cloned, IsIter-cloned}
 pub use Rattle.slotmap_hop.proofs.FromListLemmas.{AreRead-first, AreRead-vacant, AreRead-in_use, IsSound-read, starts-read, reading_counted, read_count, reading_all, slot-written, writes-slots}
@@ -24,13 +24,11 @@ pub use Rattle.slotmap_hop.proofs.SettledLemmas.{held, at_end, well_formed, back
 pub use Rattle.slotmap_hop.proofs.SlotLemmas.{taken_slots, slots_fit, valid, same_length}
 pub use Rattle.slotmap_hop.proofs.SlotReads.{length-all_links, all_links_written, places_written, all_links_vacant, place_linked, occupied_read, all_links_retired, leads_within, tails_within, flag_at}
 pub use Rattle.slotmap_hop.proofs.SlotReads.{slot_within, values_same, value_read, back_named, next_read, prev_read, links_set, next_set, places_kept, prev_set}
-pub use Rattle.slotmap_hop.proofs.Sweeping.{clearing_ends, clearing_blocks, clearing_starts, clearing_removed, indices_left, next_is_least}
-pub use Rattle.slotmap_hop.proofs.Sweeping.{Clearing, places_left, look_begins, place_comes, after_above}
+pub use Rattle.slotmap_hop.proofs.Sweeping.{clearing_ends, clearing_blocks, clearing_starts, clearing_removed, indices_left, next_is_least, Clearing, places_left, look_begins, place_comes}
 pub use Rattle.slotmap_hop.proofs.Taking.{zero_leads, first_leads, read_back, first, second_head, front_vacant, taken_block, lost_front, shorter_to_one, shorter_longer}
 pub use Rattle.slotmap_hop.proofs.WellFormed.{StaysHop-with_value}
 pub use Rattle.slotmap_hop.proofs.Writes.{vacancy_kept, flag_read, links_here, flags_kept, leads_kept, tails_kept, ends_kept, keeps_both, nexts_both, prev_both, prevs_both}
-pub use Rattle.slotmap_hop.specs.HopContent.{HasKeyAt, MayStand, StaysHop, IsHopContent, IsNextLive}
+pub use Rattle.slotmap_hop.specs.HopContent.{MayStand, StaysHop, IsHopContent, IsNextLive}
 pub use Rattle.slotmap_hop.specs.Iter.{pairs_left, FindsSlot, IsIter, Counted, IsRead}
 pub use Rattle.slotmap_hop.specs.Links.{blocks_of, prev_at, vacant_at, end_at, HasBlockList}
-pub use Rattle.slotmap_hop.specs.Slots.{AllGoOn, CanEmpty, EmptiesAll, all_links, next_place, version_in, places_of, CanFree, value_at, BackState, Empty, SingleState, Occupied, Single, AreSlotClones}
-pub use Rattle.slotmap_hop.specs.Slots.{Slot, Back}
+pub use Rattle.slotmap_hop.specs.Slots.{AllGoOn, CanEmpty, EmptiesAll, all_links, next_place, version_in, places_of, CanFree, value_at, SingleState, Occupied, Single, AreSlotClones, Slot, Back}

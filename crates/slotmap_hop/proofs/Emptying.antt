@@ -213,7 +213,6 @@ module _ {V : Type 0} (old new : List (Slot V)) (c : ℕ) (can : CanEmpty old) (
   clears = subst (λ m. Clears (hop_content old c) m) same_content (record {
     empty = none_live;
     leaves = end.freed.swept.leaves;
-    order = end.freed.swept.order;
     blocks = sym (end.freed.blocks ∙ ap (blocks_without_all (hop_content end.now c)) (keys_none (live (places_of end.now)) none_live));
     valid = record {
       before = valid old can.vacant can.elems can.sound c holds;

@@ -105,12 +105,6 @@ module _ {K V : Type 0} (data_of : K → Key) where
         first,
       )
 
-  -- after the smallest key is removed, each live key has a larger index
-  pub after_above : (now new : HopContent V) (k : K) → IsHopContent now → IsNextLive data_of now.content 0 (Some k)
-      → Removes now.content (data_of k) new.content → (q : Key) → IsLive new.content q → (data_of k).index < q.index
-  after_above now new k well least removes q there =
-      omega (arith, above_next now.content well.valid 0 (data_of k) least.2 least.0 (λ q there. omega arith) q (sym (ap (λ m. map.contains_key m q) removes.live) ∙ there))
-
   -- no live key is below the next one
   pub next_is_least : (old now : HopContent V) (next : Option K) → Clearing old now next → IsNextLive data_of now.content 0 next
   next_is_least old now next clearing = let comes = clearing.sweep.comes in grind (arith, clearing.above)

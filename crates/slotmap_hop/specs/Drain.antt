@@ -1,12 +1,13 @@
 -- What contracts see of a `Drain`.
 use Rattle.std.specs.FinMap as map
-use Rattle.slotmap_core.specs.Words.{Option, MutBor, Key, key_cmp, Content, KeepsLoan, TakesPair, TakesFirst, EmptiesByIndex}
+use Rattle.slotmap_core.specs.Words.{Option, MutBor, Key, key_cmp, Content, KeepsLoan, TakesPair, TakesFirst}
+use Rattle.slotmap_core.specs.Transition.{Empties}
 use Rattle.slotmap_hop.specs.HopContent.{HopContent, IsHopContent, IsNextLive}
 use Rattle.slotmap_hop.specs.declared.drain.Drain.{Drain}
 
--- every key is removed, by ascending index
+-- every key is removed
 abbrev pub EmptiesMap : {V : Type 0} → HopContent V → Content V → Type 0
-EmptiesMap old end = EmptiesByIndex old.content end
+EmptiesMap old end = Empties old.content end
 
 module _ {K V : Type 0} where
   -- the loan of the map

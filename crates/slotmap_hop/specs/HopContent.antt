@@ -4,7 +4,7 @@ use Rattle.std.specs.FinSet as set
 use Rattle.std.specs.Prelude.{◌≡◌, ◌⊎◌, ◌+◌, ◌-◌, ◌<◌, ◌≤◌, if◌then◌else◌, ◌==◌, ◌||◌, ◌∷◌, ℕ, zero, suc, refl, Bool, true, false, Option, Some}
 use Rattle.std.specs.Prelude.{None, List, []}
 use Rattle.slotmap_core.specs.Words.{nat_cmp, Coded, code_by, coded×, Key, is_last, Content, content_code, IsContent, IsLive, used, places, most, freed, with_value, MakesRoom, with_values, Removes}
-use Rattle.slotmap_core.specs.Words.{Leaves, FreesByIndex}
+use Rattle.slotmap_core.specs.Words.{Leaves}
 use Rattle.slotmap_hop.specs.Blocks.{Blocks, coded_blocks, HasMaximalBlocks, vacated, offer_place}
 
 pub record HopContent (V : Type 0) : Type 0 where
@@ -95,7 +95,6 @@ module _ {V : Type 0} where
   pub record Clears (old new : HopContent V) : Type 0 where
     pub empty : new.content.live ≡ map.empty
     pub leaves : Leaves old.content new.content
-    pub order : FreesByIndex old.content new.content
     pub blocks : new.blocks ≡ blocks_without_all old (map.keys old.content.live)
     pub valid : StaysHop old new
 

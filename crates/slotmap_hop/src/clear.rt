@@ -2,7 +2,7 @@
 
 ghost use Rattle.std.specs.FinMap as map;
 ghost use Rattle.std.specs.Prelude.{◌≡◌, ◌+◌, ◌-◌, ◌<◌, ◌≤◌, ◌++◌, true, false, Some, OnOk, OnErr, List, map as list_map};
-ghost use Rattle.slotmap_core.specs.Words.{Leaves, FreesByIndex};
+ghost use Rattle.slotmap_core.specs.Words.{Leaves};
 ghost use Rattle.slotmap_hop.specs.HopContent.{IsHopContent, Clears, StaysHop, blocks_without_all};
 
 use crate::HopSlotMap;
@@ -25,7 +25,6 @@ impl<K: Key, V: Drop> HopSlotMap<K, V> {
     pub fn clear(&mut self)
         ensures empty { self.new.content.live ≡ map.empty }
         ensures leaves { Leaves self.old.content self.new.content }
-        ensures order { FreesByIndex self.old.content self.new.content }
         ensures blocks { self.new.blocks ≡ blocks_without_all self.old (map.keys self.old.content.live) }
         ensures valid { StaysHop self.old self.new }
     {

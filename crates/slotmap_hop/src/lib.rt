@@ -41,6 +41,7 @@ mod one_block;
 mod primary;
 mod remove;
 mod retain;
+mod search;
 
 pub use drain::Drain;
 pub use into_iter::IntoIter;

@@ -17,7 +17,6 @@ returns g c =
     record {
       empty = clearing_ends g.K.Key.data_of c.args.self.now c.loop-next.self ended;
       leaves = swept.leaves;
-      order = swept.order;
       blocks = clearing_blocks g.K.Key.data_of c.args.self.now c.loop-next.self ended;
       valid = record { before = c.first_live-next.ensures.valid; after = ended.sweep.valid; capacity = swept.capacity };
     }

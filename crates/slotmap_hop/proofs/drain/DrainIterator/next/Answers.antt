@@ -1,6 +1,6 @@
 use Rattle.std.specs.FinMap as map
-use Rattle.slotmap_hop.proofs.Common.{ap, keys_total, exact_keys, len_removed, Empties-first, common_steps, IsHopContent, clearing_starts, clearing_removed, after_above, next_is_least, clearing_ends}
-use Rattle.slotmap_hop.proofs.Common.{refl, arith, IsNextLive}
+use Rattle.slotmap_hop.proofs.Common.{ap, keys_total, exact_keys, len_removed, common_steps, IsHopContent, clearing_starts, clearing_removed, next_is_least, clearing_ends, refl, arith, IsNextLive}
+use Rattle.slotmap_hop.proofs.Common.{Leaves-removes, Leaves-trans, true}
 use Rattle.slotmap_hop.proofs.drain.DrainIterator.next.Goals as goal
 
 pub returns-in_default-clause-steps : goal.returns-in_default-clause-steps
@@ -16,12 +16,12 @@ returns g c =
     let took = c.take_live.ensures in
     let start = clearing_starts g.K.Key.data_of now _ c.requires.0 least in
     let next = clearing_removed g.K.Key.data_of now now new c.in-Some.key c.take_live.result _ start comes took.value took.removes took.blocks took.valid in
-    let above = after_above g.K.Key.data_of now new c.in-Some.key c.requires.0 least took.removes in
+    let leaves = Leaves-removes true now.content c.requires.0.valid (g.K.Key.data_of c.in-Some.key) least.0 new.content took.removes in
     let can : IsHopContent new × IsNextLive g.K.Key.data_of new.content 0 c.first_live-self.result = (took.valid.after, next_is_least g.K.Key.data_of now new c.first_live-self.result next.0) in
     record {
       steps = (
         (took.value, took.removes),
-        (refl, λ end empties. Empties-first now.content new.content end (g.K.Key.data_of c.in-Some.key) c.requires.0.valid least.0 took.removes took.valid.capacity above empties),
+        (refl, λ end empties. grind (arith, took.valid.capacity, Leaves-trans now.content new.content end leaves empties.leaves)),
         can,
         next.1,
       );

@@ -1,6 +1,6 @@
 use Rattle.std.proofs.Common.{◌-◌}
 use Rattle.slotmap_hop.proofs.Common.{OnTheWay, ℕ, length}
-use Rattle.slotmap_hop.proofs.retain.find_live.Given as goal
+use Rattle.slotmap_hop.proofs.search.find_live.Given as goal
 
 -- no live slot was passed, whatever the number of reads
 abbrev pub invariant-loop-index : goal.invariant-loop-index
