@@ -8,7 +8,7 @@ use Rattle.slotmap_core.proofs.Common.{NoneBelow, key_cmp, same_live, Swept, Swe
 use Rattle.slotmap_core.proofs.Common.{Keyed-may_come, Keyed-done, Visits, Visits-listed, Visits-stay}
 
 -- if no key is below an index, the part from it on is the map
-pub from_index-all : {V : Type 0} (i : ℕ) (m : map.FinMap key_cmp V) → NoneBelow m i → from_index i m ≡ m
+from_index-all : {V : Type 0} (i : ℕ) (m : map.FinMap key_cmp V) → NoneBelow m i → from_index i m ≡ m
 from_index-all i m none = from_index-jump 0 i m (omega arith) (λ q there from. none q there) ∙ from_index-start m
 
 module _ {F K V : Type 0} (g : Mut F (K × (MutBor V × Unit {0})) (Bool × (MutBor V × Unit {0}))) (data_of : K → Key) (old : Content V) (first : F) where

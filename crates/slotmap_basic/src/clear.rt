@@ -22,7 +22,7 @@ impl<K: Key, V: Drop> SlotMap<K, V> {
     pub fn clear(&mut self)
         ensures empty { self.new.live ≡ map.empty }
         ensures leaves { Leaves self.old self.new }
-        ensures order { FreesByIndex self.old self.new }
+        ensures freed_order { FreesByIndex self.old self.new }
         ensures valid { StaysValid true self.old self.new }
     {
         self.clear_from(0);
@@ -46,8 +46,7 @@ impl<K: Key, V: Drop> SlotMap<K, V> {
         ensures valid { IsContent true self.now }
     {
         out.reserve(self.len())?;
-        let mut cursor = self.cursor_from(0);
-        while let Some(key) = self.next_live(&mut cursor) {
+        for key in self.keys() {
             out.push_reserved(key);
         }
         Ok(())
@@ -70,7 +69,7 @@ impl<K: Key, V: Drop> SlotMap<K, V> {
             × (list_map (λ p. (K.data_of p.0, p.1)) pairs ≡ map.entries self.old.live)) }
         ensures empty { OnOk result (self.new.live ≡ map.empty) }
         ensures leaves { OnOk result (Leaves self.old self.new) }
-        ensures order { OnOk result (FreesByIndex self.old self.new) }
+        ensures freed_order { OnOk result (FreesByIndex self.old self.new) }
 
         ensures unchanged { OnErr result ((self.new ≡ self.old) × (out.new.items ≡ out.old.items)) }
         ensures valid { StaysValid true self.old self.new }

@@ -11,10 +11,8 @@ use std::alloc::{AllocError, Global};
 use std::marker::Model;
 
 mod odds;
-mod pairs;
 
 pub use odds::OddCursor;
-pub use pairs::{SlotIntoIter, SlotIter};
 
 /// Versions, uses and payloads, each in a vector of its own. A use takes 4 bytes.
 ///

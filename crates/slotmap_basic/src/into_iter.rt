@@ -4,8 +4,9 @@ ghost use Rattle.std.specs.Prelude.{◌≡◌, ◌≤◌, length, Some, IfSome, 
 ghost use Rattle.slotmap_core.specs.Words.{YieldsFirstBy, item_count, at_most, UpTo, ClonesEqual, AreClones, ListsByIndex};
 
 use crate::SlotMap;
-use crate::columns::SlotIntoIter;
-use slotmap_core::keys::Key;
+use crate::columns::OddCursor;
+use slotmap_core::keys::{Key, KeyData};
+use slotmap_core::sure::sure;
 use std::alloc::AllocError;
 use std::fmt;
 use std::iter::FusedIterator;
@@ -25,16 +26,25 @@ use std::marker::{Model, PhantomData};
 /// ```
 #[derive(Drop)]
 pub struct IntoIter<K, V> {
-    pairs: SlotIntoIter<V>,
+    versions: Vec<u32>,
+    values: Vec<Option<V>>,
+    // Where the next occupied slot is looked for.
+    cursor: OddCursor,
+    // How many pairs are left.
+    left: usize,
     key_type: PhantomData<K>,
 }
 
 impl<K, V> Model for IntoIter<K, V> {
     ghost use Rattle.slotmap_core.specs.Words.{List, Key};
+    ghost use Rattle.slotmap_basic.specs.Odds.{IsAhead};
+    ghost use Rattle.slotmap_basic.specs.Iter.{pairs_left, IsIter};
 
     ghost Value = { List (Key × V) };
 
-    ghost view = { λ it. it.pairs };
+    ghost view = { λ it. pairs_left it.cursor.index it.versions.items it.values.items };
+
+    ghost invariant = { λ it. IsIter it.versions.items it.values.items it.cursor.index it.left × IsAhead it.versions.items it.cursor.run_end it.cursor.end it.cursor.index it.cursor.bits };
 }
 
 impl<K, V> IntoIter<K, V> {
@@ -50,7 +60,7 @@ impl<K, V> IntoIter<K, V> {
     pub fn len(&self) -> usize
         ensures { result ≡ length self.now }
     {
-        self.pairs.len()
+        self.left
     }
 }
 
@@ -71,7 +81,10 @@ impl<K, V: Clone> IntoIter<K, V> {
         ensures copies_if_clones_equal { IfOk result (λ copy. ClonesEqual V.is_clone → copy ≡ self.now) }
     {
         Ok(IntoIter {
-            pairs: self.pairs.copy()?,
+            versions: self.versions.clone()?,
+            values: self.values.clone()?,
+            cursor: self.cursor,
+            left: self.left,
             key_type: PhantomData,
         })
     }
@@ -93,10 +106,11 @@ impl<K: Key, V: Drop> Iterator for IntoIter<K, V> {
     ghost remaining = { item_count (λ rest. rest) };
 
     fn next(&mut self) -> Option<(K, V)> {
-        match self.pairs.next() {
-            Some((data, value)) => Some((K::from(data), value)),
-            None => None,
-        }
+        let index = self.cursor.next(&self.versions)?;
+        self.left -= 1;
+        let version = self.versions[index];
+        let key = K::from(KeyData::exact(index as u32, version));
+        Some((key, sure(self.values[index].take())))
     }
 
     fn size_hint(&self) -> (usize, Option<usize>)
@@ -104,7 +118,7 @@ impl<K: Key, V: Drop> Iterator for IntoIter<K, V> {
         ensures upper { IfSome result.1 (UpTo (at_most (length self.now))) }
         ensures exact { result ≡ (length self.now, Some (length self.now)) }
     {
-        self.pairs.size_hint()
+        (self.left, Some(self.left))
     }
 }
 
@@ -132,8 +146,14 @@ impl<K: Key, V: Drop> IntoIterator for SlotMap<K, V> {
     ghost into_iter_gives = { λ m it. ListsByIndex m.live it };
 
     fn into_iter(self) -> IntoIter<K, V> {
+        let left = self.slots.len();
+        let (versions, values) = self.slots.into_layout().into_parts();
+        let cursor = OddCursor::of_slots(0, versions.len(), left);
         IntoIter {
-            pairs: SlotIntoIter::over(self.slots),
+            versions,
+            values,
+            cursor,
+            left,
             key_type: PhantomData,
         }
     }

@@ -5,8 +5,9 @@ ghost use Rattle.std.specs.Prelude.{◌≡◌, ◌≤◌, length, Some, IfSome, 
 ghost use Rattle.slotmap_core.specs.Words.{YieldsFirstBy, item_count, at_most, UpTo, IsContent, IsListing, IsKeyListing, IsValueListing, ListsByIndex};
 
 use crate::SlotMap;
-use crate::columns::SlotIter;
-use slotmap_core::keys::Key;
+use crate::columns::{OddCursor, version_in};
+use slotmap_core::keys::{Key, KeyData};
+use slotmap_core::sure::sure;
 use std::alloc::AllocError;
 use std::fmt;
 use std::iter::FusedIterator;
@@ -18,16 +19,25 @@ use std::marker::{Model, PhantomData};
 /// nothing. A clone yields the same pairs; cloning allocates nothing.
 #[derive(Drop)]
 pub struct Iter<'a, K, V> {
-    pairs: SlotIter<'a, V>,
+    versions: &'a [u32],
+    values: &'a [Option<V>],
+    // Where the next occupied slot is looked for.
+    cursor: OddCursor,
+    // How many pairs are left.
+    left: usize,
     key_type: PhantomData<K>,
 }
 
 impl<'a, K, V> Model for Iter<'a, K, V> {
     ghost use Rattle.slotmap_core.specs.Words.{List, Key};
+    ghost use Rattle.slotmap_basic.specs.Odds.{IsAhead};
+    ghost use Rattle.slotmap_basic.specs.Iter.{pairs_left, IsIter};
 
     ghost Value = { List (Key × V) };
 
-    ghost view = { λ it. it.pairs };
+    ghost view = { λ it. pairs_left it.cursor.index it.versions.now it.values.now };
+
+    ghost invariant = { λ it. IsIter it.versions.now it.values.now it.cursor.index it.left × IsAhead it.versions.now it.cursor.run_end it.cursor.end it.cursor.index it.cursor.bits };
 }
 
 impl<'a, K, V> Iter<'a, K, V> {
@@ -43,7 +53,7 @@ impl<'a, K, V> Iter<'a, K, V> {
     pub fn len(&self) -> usize
         ensures { result ≡ length self.now }
     {
-        self.pairs.len()
+        self.left
     }
 }
 
@@ -54,7 +64,10 @@ impl<'a, K, V> Clone for Iter<'a, K, V> {
 
     fn clone(&self) -> Result<Self, AllocError> {
         Ok(Iter {
-            pairs: self.pairs.clone()?,
+            versions: self.versions,
+            values: self.values,
+            cursor: self.cursor,
+            left: self.left,
             key_type: PhantomData,
         })
     }
@@ -69,10 +82,11 @@ impl<'a, K: Key, V> Iterator for Iter<'a, K, V> {
 
     #[inline(always)]
     fn next(&mut self) -> Option<(K, &'a V)> {
-        match self.pairs.next() {
-            Some((data, value)) => Some((K::from(data), value)),
-            None => None,
-        }
+        let index = self.cursor.next(self.versions)?;
+        self.left -= 1;
+        let version = version_in(self.versions, index);
+        let key = K::from(KeyData::exact(index as u32, version));
+        Some((key, sure(self.values[index].as_ref())))
     }
 
     fn size_hint(&self) -> (usize, Option<usize>)
@@ -80,7 +94,7 @@ impl<'a, K: Key, V> Iterator for Iter<'a, K, V> {
         ensures upper { IfSome result.1 (UpTo (at_most (length self.now))) }
         ensures exact { result ≡ (length self.now, Some (length self.now)) }
     {
-        self.pairs.size_hint()
+        (self.left, Some(self.left))
     }
 }
 
@@ -289,8 +303,14 @@ impl<K: Key, V> SlotMap<K, V> {
         ensures valid { IsContent true self.now }
     {
         self.slots.note_valid();
+        let left = self.slots.len();
+        let (versions, values) = self.slots.layout().as_slices();
+        let cursor = OddCursor::of_slots(0, versions.len(), left);
         Iter {
-            pairs: SlotIter::over(&self.slots),
+            versions,
+            values,
+            cursor,
+            left,
             key_type: PhantomData,
         }
     }

@@ -25,7 +25,7 @@ impl<K: Key, V: Drop> SlotMap<K, V> {
         requires { CallableOnEach F.FnMut K.data_of f self.old.live }
         ensures retained { RetainsBy F.FnMut K.data_of f self.old.live self.new.live }
         ensures leaves { Leaves self.old self.new }
-        ensures order { FreesByIndex self.old self.new }
+        ensures freed_order { FreesByIndex self.old self.new }
         ensures valid { StaysValid true self.old self.new }
     {
         let mut cursor = self.cursor_from(0);

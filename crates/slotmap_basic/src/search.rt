@@ -92,7 +92,7 @@ impl<K: Key, V: Drop> SlotMap<K, V> {
         ensures empty { NoneBelow self.old.live start → self.new.live ≡ map.empty }
         ensures stay { (k : KeyOf) → k.index < start → map.get self.new.live k ≡ map.get self.old.live k }
         ensures leaves { Leaves self.old self.new }
-        ensures order { FreesByIndex self.old self.new }
+        ensures freed_order { FreesByIndex self.old self.new }
         ensures valid { StaysValid true self.old self.new }
     {
         let mut cursor = self.cursor_from(start);

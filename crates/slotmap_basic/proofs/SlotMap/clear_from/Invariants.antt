@@ -1,6 +1,6 @@
 use Rattle.std.proofs.Common.{◌≡◌, ◌<◌, ◌≤◌, ◌+◌, ◌-◌}
-use Rattle.std.specs.FinMap as map
 use Rattle.slotmap_basic.proofs.Common.{Key, IsLive, places, NoneBelow, Swept, true, KnowsLiveKeys}
+use Rattle.std.specs.FinMap as map
 use Rattle.slotmap_basic.proofs.SlotMap.clear_from.Given as goal
 
 abbrev pub invariant-loop-key : goal.invariant-loop-key

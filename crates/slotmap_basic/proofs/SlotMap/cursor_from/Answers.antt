@@ -1,7 +1,6 @@
 use Rattle.std.proofs.Common.{◌≡◌}
+use Rattle.slotmap_basic.proofs.Common.{inl, ap, arith, length, ◌∙◌, AreSlotsOf, versions_of, cursor_of_slots, valid_of_slots, count_of_slots, versions-length, zip-length, full_slots, sym}
 use Rattle.std.specs.FinMap as map
-use Rattle.slotmap_basic.proofs.Common.{inl, ap, arith, length, ◌∙◌, AreSlotsOf, versions_of, cursor_of_slots, valid_of_slots, count_of_slots, versions-length, zip-length, full_slots}
-use Rattle.slotmap_basic.proofs.Common.{sym}
 use Rattle.slotmap_basic.proofs.SlotMap.cursor_from.Goals.{After-of_slots}
 use Rattle.slotmap_basic.proofs.SlotMap.cursor_from.Goals as goal
 

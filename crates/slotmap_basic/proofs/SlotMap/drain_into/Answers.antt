@@ -1,7 +1,7 @@
 use Rattle.std.proofs.Common.{◌∷◌, ◌++◌}
+use Rattle.slotmap_basic.proofs.Common.{map-append, none_live, entries_none, Swept-start, Swept-removed, first_entry, above_next, ◌∙◌, append_assoc, append-nil, arith, cursor_removed, list_map}
+use Rattle.slotmap_basic.proofs.Common.{Swept-to, [], length, refl, sym, ap}
 use Rattle.std.specs.FinMap as map
-use Rattle.slotmap_basic.proofs.Common.{map-append, none_live, entries_none, Swept-start, Swept-removed, first_entry, above_next, ◌∙◌, append_assoc, append-nil, arith, cursor_removed}
-use Rattle.slotmap_basic.proofs.Common.{list_map, Swept-to, [], length, refl, sym, ap}
 use Rattle.slotmap_basic.proofs.SlotMap.drain_into.Goals as goal
 
 pub loop-key-init : goal.loop-key-init

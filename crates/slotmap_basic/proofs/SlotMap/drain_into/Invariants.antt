@@ -1,6 +1,6 @@
 use Rattle.std.proofs.Common.{◌≡◌, ◌+◌, ◌-◌, ◌≤◌, ◌++◌}
-use Rattle.std.specs.FinMap as map
 use Rattle.slotmap_basic.proofs.Common.{list_map, places, NoneBelow, Swept, true, List, length, vec_len, vec_capacity, KnowsLiveKeys}
+use Rattle.std.specs.FinMap as map
 use Rattle.slotmap_basic.proofs.SlotMap.drain_into.Given as goal
 
 abbrev pub invariant-loop-key : goal.invariant-loop-key

@@ -1,6 +1,6 @@
 use Rattle.std.proofs.Common.{◌≡◌, ◌<◌}
-use Rattle.slotmap_basic.proofs.Common.{AreSlotsOf, cursor_of_slots, ahead_of_slots, none_odd, versions-length, valid_of_slots, count_of_slots, slots_below_limit, live_at_odd, passed_over}
-use Rattle.slotmap_basic.proofs.Common.{Key, IsLive, if_none, inl, arith, dec_lt, odd_at}
+use Rattle.slotmap_basic.proofs.Common.{AreSlotsOf, cursor_of_slots, ahead_of_slots, none_odd, versions-length, valid_of_slots, count_of_slots, slots_below_limit, live_at_odd, passed_over, Key}
+use Rattle.slotmap_basic.proofs.Common.{IsLive, if_none, inl, arith, dec_lt, odd_at}
 use Rattle.slotmap_basic.proofs.SlotMap.next_live.Goals.{After-layout-columns, After-version-version, After-from, In_err-index}
 use Rattle.slotmap_basic.proofs.SlotMap.next_live.Goals as goal
 

@@ -1,6 +1,6 @@
 use Rattle.std.proofs.Common.{◌<◌, ◌≡◌, ◌^◌, ◌-◌, ◌%◌}
-use Rattle.slotmap_basic.proofs.Common.{get_or_default_zero, length-map, bit_at_not, bitmask_splat, bit_mask_l, mask_l-lt, zip2_splat, get_or-map, replicate, ◌∙◌, odd_lane}
-use Rattle.slotmap_basic.proofs.Common.{bit_at, bit_not, zip2, mask_l, ℕ, eqb, cond, map, get_or, length, subst, ap, arith, w32, w64, bit_and}
+use Rattle.slotmap_basic.proofs.Common.{get_or_default_zero, length-map, bit_at_not, bitmask_splat, bit_mask_l, mask_l-lt, zip2_splat, get_or-map, replicate, ◌∙◌, odd_lane, bit_at, bit_not}
+use Rattle.slotmap_basic.proofs.Common.{zip2, mask_l, ℕ, eqb, cond, map, get_or, length, subst, ap, arith, w32, w64, bit_and}
 use Rattle.slotmap_basic.proofs.columns.odds.odd_lanes.Goals as goal
 
 pub returns : goal.returns

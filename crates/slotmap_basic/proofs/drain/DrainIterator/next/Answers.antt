@@ -1,7 +1,7 @@
 use Rattle.std.proofs.Common.{◌∷◌}
+use Rattle.slotmap_basic.proofs.Common.{NoneBelow, keys_total, exact_keys, len_removed, none_live, Empties-first, first_entry, above_next, ◌∙◌, arith, cursor_removed, DrainCanStep, refl, sym}
+use Rattle.slotmap_basic.proofs.Common.{ap}
 use Rattle.std.specs.FinMap as map
-use Rattle.slotmap_basic.proofs.Common.{NoneBelow, keys_total, exact_keys, len_removed, none_live, Empties-first, first_entry, above_next, ◌∙◌, arith, cursor_removed, DrainCanStep}
-use Rattle.slotmap_basic.proofs.Common.{refl, sym, ap}
 use Rattle.slotmap_basic.proofs.drain.DrainIterator.next.Goals as goal
 
 later : (g : _) (c : goal.After-take_live g) → NoneBelow c.take_live.new.self.live c.next_live.new.cursor.index
