@@ -131,7 +131,7 @@ pub extern "C" fn slotmap_reserve(alloc: Global, this: &mut Handle, additional: 
 pub extern "C" fn slotmap_clear(alloc: Global, this: &mut Handle)
     ensures empty { this.new.map.live ≡ map.empty }
     ensures leaves { this.old.is_open ≡ true → Leaves this.old.map this.new.map }
-    ensures order { this.old.is_open ≡ true → FreesByIndex this.old.map this.new.map }
+    ensures freed_order { this.old.is_open ≡ true → FreesByIndex this.old.map this.new.map }
     ensures valid { this.old.is_open ≡ true → StaysValid true this.old.map this.new.map }
     ensures unchanged { this.old.is_open ≡ false → this.new.map ≡ this.old.map }
     ensures open { this.new.is_open ≡ this.old.is_open }

@@ -1,12 +1,12 @@
 -- What the answers of this crate cite of std, of the core and of this crate's lemmas, from one place. Declares nothing.
 pub use Rattle.std.proofs.Common.{map as list_map, zip}
-pub use Rattle.slotmap_core.proofs.Common.{CanReplace-next, IsListingBut-start, IsListingBut-take, IsListingBut-done, IsKeyListing-listing, option_copied_mut, same_from_all_zip, IsContent-with_value}
-pub use Rattle.slotmap_core.proofs.Common.{Inserts, map as map_list, into_iter_items, nil_from_length, next_consistent, into_iter_len, slice_get_read, clones_contents, equal_contents, AreRecordClones}
+pub use Rattle.slotmap_core.proofs.Common.{CanReplace-next, IsListingBut-start, IsListingBut-take, IsListingBut-done, IsKeyListing-listing, option_copied_mut, same_from_all_zip, Inserts}
+pub use Rattle.slotmap_core.proofs.Common.{map as map_list, into_iter_items, nil_from_length, next_consistent, into_iter_len, slice_get_read, clones_contents, equal_contents, AreRecordClones}
 pub use Rattle.slotmap_core.proofs.Common.{common_steps, refuses_key, clone_copies, append_assoc, IsListingBut, vec_capacity, option_copied, key_exchanged, IsRecordClone, slice_get-map, writes_clones}
 pub use Rattle.slotmap_core.proofs.Common.{zip_length, loan_along, lists_along, map-append, length_push, append-nil, key_from-odd, IsKeyListing, equal_writes, len_removed, pairs_equal, FoldsTo-push}
-pub use Rattle.slotmap_core.proofs.Common.{◌∙◌, sym, with_items, length-map, list_limit, same_read, length-set, firsts-zip, slice_get, option_map, from_front, keys_total, exact_keys, length-zip}
-pub use Rattle.slotmap_core.proofs.Common.{arith, rules, length, IsCopy, Key, reverse, vec_len, Accepts, add-one, odd_of, take_all, same_Some, is_some, key_there, Exchanged, Writes, zip_next, FoldsTo}
-pub use Rattle.slotmap_core.proofs.Common.{ap, refl, take, Some, [], List, min, key, subst, false, inl, inr, Visit}
+pub use Rattle.slotmap_core.proofs.Common.{◌∙◌, sym, with_items, length-map, list_limit, same_read, length-set, firsts-zip, slice_get, option_map, from_front, keys_total, exact_keys, arith}
+pub use Rattle.slotmap_core.proofs.Common.{rules, length, IsCopy, Key, reverse, vec_len, Accepts, add-one, odd_of, take_all, same_Some, is_some, key_there, Exchanged, Writes, zip_next, FoldsTo, ap}
+pub use Rattle.slotmap_core.proofs.Common.{refl, take, Some, [], List, min, key, subst, false, inl, inr, Visit}
 pub use Rattle.slotmap_dense.proofs.CloneLemmas.{dense-clones, same_order, pairs-clones}
 pub use Rattle.slotmap_dense.proofs.DrainLemmas.{drained_from_back, EmptiesDense-first}
 pub use Rattle.slotmap_dense.proofs.FromBackLemmas.{Taken-start, Taken-next, Taken, last_first, none_left, len_keys}

@@ -25,7 +25,7 @@ impl<K: Key, V: Drop> DenseSlotMap<K, V> {
         ensures empty { self.new.content.live ≡ map.empty }
         ensures none { IsEmpty self.new }
         ensures leaves { Leaves self.old.content self.new.content }
-        ensures order { FreesFromBack self.old self.new }
+        ensures freed_order { FreesFromBack self.old self.new }
         ensures valid { StaysDense self.old self.new }
     {
         self.note_valid();
@@ -73,7 +73,7 @@ impl<K: Key, V: Drop> DenseSlotMap<K, V> {
             ≡ list_map (λ p. (K.data_of p.0, p.1)) out.old.items ++ reverse (zip self.old.keys self.old.values)) }
         ensures empty { OnOk result (self.new.content.live ≡ map.empty) }
         ensures leaves { OnOk result (Leaves self.old.content self.new.content) }
-        ensures order { OnOk result (FreesFromBack self.old self.new) }
+        ensures freed_order { OnOk result (FreesFromBack self.old self.new) }
 
         ensures unchanged { OnErr result ((self.new ≡ self.old) × (out.new.items ≡ out.old.items)) }
         ensures valid { StaysDense self.old self.new }

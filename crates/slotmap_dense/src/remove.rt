@@ -3,7 +3,7 @@
 ghost use Rattle.std.specs.FinMap as map;
 ghost use Rattle.std.specs.Prelude.{◌≡◌, ◌+◌, ◌<◌, OnSome, IfSome, IfNone, Some, true, slice_get, length, vec_capacity, map as list_map, swap_remove};
 ghost use Rattle.slotmap_core.specs.Words.{Key as KeyOf, IsContent, Removes};
-ghost use Rattle.slotmap_dense.specs.Dense.{ClosesGap};
+ghost use Rattle.slotmap_dense.specs.Dense.{ClosesGap, TakesLast};
 ghost use Rattle.slotmap_dense.specs.Call.{StaysDense};
 ghost use Rattle.slotmap_dense.specs.Packed.{IsPacked, IsGapped};
 
@@ -66,5 +66,15 @@ impl<K: Key, V: Drop> DenseSlotMap<K, V> {
     {
         let position = self.slots.remove(key.data())?;
         Some(close_gap(&mut self.slots, &mut self.keys, &mut self.values, position))
+    }
+
+    // Takes out the last pair of the packed order, or returns `None` if no key is live.
+    pub(crate) fn take_last(&mut self) -> Option<(K, V)>
+        ensures takes { TakesLast K.data_of self.old result self.new }
+        ensures valid { StaysDense self.old self.new }
+    {
+        let key = self.keys.pop()?;
+        self.slots.take(key.data());
+        Some((key, self.values.take_last()))
     }
 }

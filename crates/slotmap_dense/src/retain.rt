@@ -4,7 +4,6 @@ ghost use Rattle.std.specs.Prelude.{◌≡◌, ◌<◌, ◌≤◌, ◌+◌, Some
 ghost use Rattle.slotmap_core.specs.Words.{Leaves, RetainsBy, CallableOnEach, Key as KeyOf};
 ghost use Rattle.slotmap_dense.specs.Pass.{MayPass, Passes, stage, beside, packed_order};
 ghost use Rattle.slotmap_dense.specs.Rest.{LeavesFrom};
-ghost use Rattle.slotmap_dense.specs.Dense.{TakesLast};
 ghost use Rattle.slotmap_dense.specs.Call.{StaysDense};
 ghost use Rattle.slotmap_dense.specs.Retain.{RetainsPacked};
 
@@ -36,16 +35,6 @@ fn find_rejected<K: Key, V, F: FnMut(K, &mut V) -> bool>(
 }
 
 impl<K: Key, V: Drop> DenseSlotMap<K, V> {
-    // Takes out the last pair of the packed order, or returns `None` if no key is live.
-    pub(crate) fn take_last(&mut self) -> Option<(K, V)>
-        ensures takes { TakesLast K.data_of self.old result self.new }
-        ensures valid { StaysDense self.old self.new }
-    {
-        let key = self.keys.pop()?;
-        self.slots.take(key.data());
-        Some((key, self.values.take_last()))
-    }
-
     // Calls a closure for the pairs from a position on, in packed order, until it returns `false`.
     // Returns the position of the pair for which it did, or the number of pairs.
     fn first_rejected<F: FnMut(K, &mut V) -> bool>(&mut self, from: usize, f: &mut F) -> usize

@@ -1,11 +1,9 @@
 -- What the answers of this crate cite of std, of the core and of this crate's lemmas, from one place. Declares nothing.
-pub use Rattle.slotmap_core.proofs.Common.{get, map as map_list, AllPut-push_shown, ExtendsBy-stopped, slice_get_within, contents_by_place, option_copied_mut, null_finds_nothing, IsKeyListing-listing}
-pub use Rattle.slotmap_core.proofs.Common.{common_steps, lists_taken, is_older, side_list_limit, index_stands, WritesThrough, Exchanging-step, key_from-odd, vec_capacity, contains_key, CallsAt-called}
-pub use Rattle.slotmap_core.proofs.Common.{kept_along, AllPut-push, AllPut, entry_here, entry_other, length_push, Taking-next, Taking-here, Taking-end, get_stands, pair_there, Exchanging, without_own}
-pub use Rattle.slotmap_core.proofs.Common.{◌∙◌, values_of, no_entry, vacant, eq-eqb, Accepts, OwnedIter, value_at, is_some, key_from, MayCome, vec_len, get_bound, bind_twice, lent_is, AreEqual}
-pub use Rattle.slotmap_core.proofs.Common.{IsKey, refl, ap, subst, arith, take, cond, ne_eqb, sym, Pairs, length, None, rules, Key, nat_eq, keyed, ℕ, List, Some, in_own, true}
+pub use Rattle.slotmap_core.proofs.Common.{map as map_list, slice_get_within, contents_by_place, option_copied_mut, common_steps, side_list_limit, WritesThrough, key_from-odd, vec_capacity}
+pub use Rattle.slotmap_core.proofs.Common.{contains_key, AllPut, length_push, Taking-next, Taking-here, Taking-end, Exchanging, ◌∙◌, values_of, Accepts, OwnedIter, value_at, is_some, key_from}
+pub use Rattle.slotmap_core.proofs.Common.{MayCome, vec_len, bind_twice, lent_is, AreEqual, IsKey, refl, ap, subst, arith, sym, length, None, Key, nat_eq, keyed, ℕ, List, Some, in_own, true}
 pub use Rattle.slotmap_sparse.proofs.EntriesLemmas.{IsSound-added, IsSound-empty, IsSound-through, content-through, IsSound-kept, content_kept, IsSound-same, IsSound-over, content_over, IsSound-taken}
-pub use Rattle.slotmap_sparse.proofs.EntriesLemmas.{found_pair, pairs_put, same_len, well_formed, stands_at, found_own, found_none, some_lent, on_ok, same_pairs, more_room, pairs_taken, of_ok}
+pub use Rattle.slotmap_sparse.proofs.EntriesLemmas.{found_pair, pairs_put, same_len, well_formed, stands_at, found_own, found_none, on_ok, same_pairs, more_room, pairs_taken, of_ok}
 pub use Rattle.slotmap_sparse.proofs.EntryLemmas.{vacant_nothing, in_place_outdated, leaves_empty, IsWritten-own}
 pub use Rattle.slotmap_sparse.proofs.FromListLemmas.{Read, Read-absent, Read-slot, Counts, Counts-start, Counts-less, Counts-more, Counts-end}
 pub use Rattle.slotmap_sparse.proofs.IterLemmas.{of_keys, listing, valid_from, listed_key, listed_none}

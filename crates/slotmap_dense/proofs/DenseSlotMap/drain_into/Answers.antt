@@ -39,7 +39,7 @@ returns g c = record {
   in_order = grind (arith, common_steps, none_left, append-nil, map-append);
   empty = grind (arith, common_steps, none_left);
   leaves = grind (arith, common_steps);
-  order = grind (arith, common_steps, append-nil);
+  freed_order = grind (arith, common_steps, append-nil);
   unchanged = grind (arith, common_steps);
   valid = grind (arith, common_steps);
 }
