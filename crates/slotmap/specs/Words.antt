@@ -30,7 +30,7 @@ pub use Rattle.slotmap_core.specs.Joined.{JoinedStep, JoinedDetachStep, Joined, 
 pub use Rattle.slotmap_core.specs.Dictionary.{Dictionary, WithDictionary, DictionaryStep, DetachDictionaryStep, RepliesByDictionary, noted, unused, RunsByDictionary}
 pub use Rattle.slotmap_core.specs.JoinedLaw.{JoinedFindsNothing, JoinedRemovedForGood}
 pub use Rattle.slotmap_core.specs.Key.{Key, IsKey, null_key, is_last, next_version, is_older, key_cmp, coded_key, same_keys}
-pub use Rattle.slotmap_core.specs.Content.{Content, content_code, IsContent, IsLive, IsDetached, IsRetired, IsVacant, Stands, used, places, most}
+pub use Rattle.slotmap_core.specs.Content.{Content, content_code, IsContent, IsLive, IsDetached, IsRetired, IsVacant, HasVacant, Stands, used, places, most}
 pub use Rattle.slotmap_core.specs.Spent.{IsSpent, KeepsSpent}
 pub use Rattle.slotmap_core.specs.Transition.{IsNew, Keeps, Inserts, Replaces, Removes, Detaches, Reattaches, Leaves, FreesByIndex, Empties, EmptiesByIndex, TakesPair, TakesFirst, with_value}
 pub use Rattle.slotmap_core.specs.Refusal.{LacksRoom, Refuses, RefusesInsert, RefusesWith, RefusesReattach, RefusesCapacity}

@@ -2,7 +2,7 @@
 
 ghost use Rattle.std.specs.FinMap as map;
 ghost use Rattle.std.specs.Prelude.{◌≡◌, ◌<◌, IfOk, IfErr, IsOk, IsErr, Ok, Err, true};
-ghost use Rattle.slotmap_core.specs.Words.{used, most, Inserts, Refuses, RefusesInsert, RefusesWith, MayGrow, MakesRoom, StaysValid};
+ghost use Rattle.slotmap_core.specs.Words.{used, most, HasVacant, Inserts, Refuses, RefusesInsert, RefusesWith, MayGrow, MakesRoom, StaysValid};
 
 use crate::SlotMap;
 use slotmap_core::errors::{InsertError, InsertWithError, ReserveError, TryInsertError};
@@ -56,7 +56,7 @@ impl<K: Key, V: Drop> SlotMap<K, V> {
         ensures err { IfErr result (λ error. Refuses self.old value error) }
 
         // If a slot is vacant, the call can't fail.
-        ensures reuses { 0 < map.len self.old.next → IsOk result }
+        ensures reuses { HasVacant self.old → IsOk result }
 
         ensures valid { MayGrow true self.old (IsErr result) self.new }
     {
@@ -91,7 +91,7 @@ impl<K: Key, V: Drop> SlotMap<K, V> {
         ensures err { IfErr result (RefusesInsert self.old) }
 
         // If a slot is vacant, the call can't fail.
-        ensures reuses { 0 < map.len self.old.next → IsOk result }
+        ensures reuses { HasVacant self.old → IsOk result }
 
         ensures valid { MayGrow true self.old (IsErr result) self.new }
     {

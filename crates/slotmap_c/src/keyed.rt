@@ -1,8 +1,8 @@
 //! The calls for one key.
 
 ghost use Rattle.std.specs.FinMap as map;
-ghost use Rattle.std.specs.Prelude.{◌≡◌, ◌≢◌, ◌<◌, true, false};
-ghost use Rattle.slotmap_core.specs.Words.{Removes, Detaches, StaysValid, MayGrow, with_value};
+ghost use Rattle.std.specs.Prelude.{◌≡◌, ◌≢◌, true, false};
+ghost use Rattle.slotmap_core.specs.Words.{HasVacant, Removes, Detaches, StaysValid, MayGrow, with_value};
 ghost use Rattle.slotmap_c.specs.Calls.{key_of, InsertSays, FindSays, DeleteSays, ReattachSays};
 ghost use Rattle.slotmap_c.specs.Status.{ok};
 
@@ -38,7 +38,7 @@ pub(crate) fn found(value: Option<u64>, out: &mut u64) -> u32
 #[unsafe(no_mangle)]
 pub extern "C" fn slotmap_insert(alloc: Global, this: &mut Handle, value: u64, out: &mut u64) -> u32
     ensures says { InsertSays this.old.is_open this.old.map value result out.old out.new this.new.map }
-    ensures reuses { this.old.is_open ≡ true → 0 < map.len this.old.map.next → result ≡ ok }
+    ensures reuses { this.old.is_open ≡ true → HasVacant this.old.map → result ≡ ok }
     ensures valid { this.old.is_open ≡ true → MayGrow true this.old.map (result ≢ ok) this.new.map }
     ensures open { this.new.is_open ≡ this.old.is_open }
 {

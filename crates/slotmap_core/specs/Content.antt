@@ -66,6 +66,10 @@ module _ {V : Type 0} where
   abbrev pub IsVacant : Content V → ℕ → Type 0
   IsVacant c i = map.contains_key c.next i ≡ true
 
+  -- a place is vacant
+  abbrev pub HasVacant : Content V → Type 0
+  HasVacant c = 0 < map.len c.next
+
   -- live or detached
   abbrev pub Stands : Content V → Key → Type 0
   Stands c k = IsLive c k ⊎ IsDetached c k

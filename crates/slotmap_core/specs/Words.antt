@@ -28,7 +28,7 @@ pub use Rattle.std.specs.Vec.{with_items}
 pub use Rattle.std.specs.Vec.Iter.{into_iter_items, into_iter_len, into_iter_steps}
 pub use Rattle.slotmap_core.specs.Key.{Key, key_cmp, IsKey, last_version, null_key, key_from, is_last, is_older, next_version, same_keys, hashed, coded_key}
 pub use Rattle.slotmap_core.specs.Key.{ffi}
-pub use Rattle.slotmap_core.specs.Content.{IsContent, Content, IsLive, most, used, places, Stands, IsDetached, content_code, Uses, IsStack, IsRetired, IsVacant}
+pub use Rattle.slotmap_core.specs.Content.{IsContent, Content, IsLive, most, used, places, Stands, IsDetached, content_code, Uses, IsStack, IsRetired, IsVacant, HasVacant}
 pub use Rattle.slotmap_core.specs.Listing.{IsListing, IsKeyListing, NoneBelow, ListsByIndex, IsValueListing, IsListingBut, with_entries}
 pub use Rattle.slotmap_core.specs.Draining.{KeepsLoan, ListsAlong, KeepsAlong, InOrderAlong, drain_count, Along}
 pub use Rattle.slotmap_core.specs.Transition.{Removes, Inserts, with_value, Leaves, Detaches, Reattaches, Keeps, IsNew, FreesByIndex, pushed_all}

@@ -2,7 +2,7 @@
 
 ghost use Rattle.std.specs.FinMap as map;
 ghost use Rattle.std.specs.Prelude.{◌≡◌, ◌+◌, ◌<◌, ◌≤◌, IfOk, OnErr, IfErr, IsOk, IsTrue, MatchResult, Ok, Err};
-ghost use Rattle.slotmap_core.specs.Words.{used, most, Keeps, Inserts, Refuses, RefusesCapacity, RefusesInsert, RefusesWith};
+ghost use Rattle.slotmap_core.specs.Words.{used, most, HasVacant, Keeps, Inserts, Refuses, RefusesCapacity, RefusesInsert, RefusesWith};
 ghost use Rattle.slotmap_hop.specs.Blocks.{shorter};
 ghost use Rattle.slotmap_hop.specs.HopContent.{GrowsHop, IsHopContent, MakesHopRoom, StaysHop};
 
@@ -42,7 +42,7 @@ impl<K: Key, V: Drop> HopSlotMap<K, V> {
     fn make_room(&mut self) -> Result<(), ReserveError>
         ensures makes_room { MakesHopRoom self.old 1 (IsOk result) self.new }
         ensures err { IfErr result (RefusesCapacity (used self.old.content + 1)) }
-        ensures reuses { 0 < map.len self.old.content.next → IsOk result }
+        ensures reuses { HasVacant self.old.content → IsOk result }
     {
         if self.has_room() {
             return Ok(());
@@ -55,7 +55,7 @@ impl<K: Key, V: Drop> HopSlotMap<K, V> {
     fn offer(&mut self) -> Result<K, InsertWithError>
         ensures key { IfOk result (λ key. K.data_of key ≡ self.new.content.offer) }
         ensures err { IfErr result (RefusesInsert self.old.content) }
-        ensures reuses { 0 < map.len self.old.content.next → IsOk result }
+        ensures reuses { HasVacant self.old.content → IsOk result }
         ensures makes_room { MakesHopRoom self.old 1 (IsOk result) self.new }
     {
         match self.make_room() {
@@ -117,7 +117,7 @@ impl<K: Key, V: Drop> HopSlotMap<K, V> {
         ensures unchanged { OnErr result (Keeps self.old.content self.new.content) }
 
         // If a slot is vacant, the call can't fail.
-        ensures reuses { 0 < map.len self.old.content.next → IsOk result }
+        ensures reuses { HasVacant self.old.content → IsOk result }
 
         ensures valid { GrowsHop self.old self.new }
     {
@@ -153,7 +153,7 @@ impl<K: Key, V: Drop> HopSlotMap<K, V> {
         ensures unchanged { OnErr result (Keeps self.old.content self.new.content) }
 
         // If a slot is vacant, the call can't fail.
-        ensures reuses { 0 < map.len self.old.content.next → IsOk result }
+        ensures reuses { HasVacant self.old.content → IsOk result }
 
         ensures valid { GrowsHop self.old self.new }
     {
