@@ -7,7 +7,7 @@ use Rattle.slotmap_links.specs.Lists.{Lists, times, with_owners, with_members}
 use Rattle.slotmap_links.specs.Linked.{followed}
 use Rattle.slotmap_links.specs.Kept.{bounds_at, link_at, listed, lists_by, bounds, neighbours, nobody, no_ends, no_link, AreKept}
 use Rattle.slotmap_links.specs.declared.{Ends.Ends, Link.Link}
-use Rattle.slotmap_links.proofs.{KeptLists.kept_empty, KeptLists.seen_owners, Splicing.linked_along}
+use Rattle.slotmap_links.proofs.{KeptLists.kept_empty, KeptLists.seen_owners, Linking.linked_along}
 
 pub below_or_past : (a b : ℕ) → (a < b) ⊎ (b ≤ a)
 below_or_past a b = search arith
