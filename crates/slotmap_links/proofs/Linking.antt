@@ -1,7 +1,7 @@
 -- Lists that are kept as links: a walk along them, and what a number that is put in or taken out does to them. For the structures.
-use Rattle.std.proofs.Common.{ℕ, nat_eq, ◌≡◌, ◌≢◌, ◌⊎◌, ◌+◌, ◌<◌, ◌≤◌, Option, Some, None, List, [], ◌∷◌, ◌++◌, length, cond, not, refl, sym, ap, ◌∙◌}
+use Rattle.std.proofs.Common.{ℕ, zero, suc, take, nat_eq, ◌≡◌, ◌≢◌, ◌⊎◌, ◌+◌, ◌<◌, ◌≤◌, Option, Some, None, List, [], ◌∷◌, ◌++◌, length, cond, not, refl, sym, ap, ◌∙◌}
 use Rattle.std.proofs.Common.{inl, inr, subst, arith, append_assoc}
-use Rattle.std.proofs.Math.Nat.{eq-zero-or-pos}
+use Rattle.std.proofs.Math.{Nat.eq-zero-or-pos, Seq.take-length}
 use Rattle.std.proofs.lemmas.Bool.Decides.{nat_tests}
 use Rattle.std.proofs.lemmas.List.Elements.{filter-append}
 use Rattle.std.proofs.lemmas.Option.{same_Some}
@@ -88,17 +88,19 @@ module _ (change : Neighbours → Neighbours) (link : ℕ → Neighbours) (q : �
   changed_elsewhere None other = refl
   changed_elsewhere (Some k) other = ap (λ b. cond b (change (link q)) (link q)) (is_other q k (λ e. other (ap Some (sym e))))
 
+-- from a place in a list, so many links lead to so many of the numbers behind it
+pub follow_is : (link : ℕ → Neighbours) (n : ℕ) (before rest : List ℕ) → ((b : List ℕ) (k : ℕ) (a : List ℕ) → before ++ rest ≡ b ++ k ∷ a → link k ≡ link_between b a)
+    → follow link n (first_or rest None) ≡ take n rest
+follow_is link zero before rest links = refl
+follow_is link (suc n) before [] links = refl
+follow_is link (suc n) before (k ∷ rest) links = ap (λ (l : Neighbours). k ∷ follow link n l.next) (links before k rest refl)
+    ∙ ap (λ l. k ∷ l) (follow_is link n (before ++ k ∷ []) rest (λ b x a is. links b x a (sym (append_assoc before (k ∷ []) rest) ∙ is)))
+
 -- lists that are kept as links
 module _ {ends : ℕ → Bounds} {link : ℕ → Neighbours} {lists : ℕ → List ℕ} (linked : AreLinked ends link lists) where
-  -- from a place in a list, the links lead to what is behind it
-  pub follow_is : (p : ℕ) (before after : List ℕ) → lists p ≡ before ++ after → follow link (length after) (first_or after None) ≡ after
-  follow_is p before [] is = refl
-  follow_is p before (k ∷ after) is = ap (λ (l : Neighbours). k ∷ follow link (length after) l.next) (linked.links_are p before k after is)
-      ∙ ap (λ l. k ∷ l) (follow_is p (before ++ k ∷ []) after (is ∙ sym (append_assoc before (k ∷ []) after)))
-
-  -- and from the ends of a list, to all of it
+  -- from the ends of a list, the links lead to all of it
   pub followed_is : (p : ℕ) → followed link (ends p) ≡ lists p
-  followed_is p = ap (followed link) (linked.ends_are p) ∙ follow_is p [] (lists p) refl
+  followed_is p = ap (followed link) (linked.ends_are p) ∙ follow_is link (length (lists p)) [] (lists p) (linked.links_are p) ∙ take-length (lists p)
 
   -- In the list of p the numbers between `before` and `after` are those of `now`. The number k is the only one of them whose link changed
   module _ (apart : AreApart lists) (p k : ℕ) (before mid now after : List ℕ) (is : lists p ≡ before ++ (mid ++ after))
