@@ -1,11 +1,11 @@
 -- Steps of an iterator along the links of a list, from either end.
-use Rattle.std.proofs.Common.{◌≡◌, ℕ, true, false, cond, nat_eq, ◌-◌, ◌<◌, ◌≤◌, ◌⊎◌, Option, Some, None, List, [], ◌∷◌, ◌++◌, length, take, get_or, inl, inr, refl}
+use Rattle.std.proofs.Common.{◌≡◌, ℕ, true, false, cond, nat_eq, ◌-◌, ◌<◌, ◌⊎◌, Some, None, List, [], ◌∷◌, ◌++◌, length, take, get_or, inl, inr, refl}
 use Rattle.std.proofs.Common.{sym, ap, ◌∙◌, arith, append_assoc, length-append}
 use Rattle.std.proofs.Math.Seq.{take-append_seam}
 use Rattle.std.proofs.lemmas.List.{take_all}
 use Rattle.slotmap_links.specs.Lists.{first_or, last_or, times}
 use Rattle.slotmap_links.specs.Kept.{link_at, nobody, no_link, unless_nobody}
-use Rattle.slotmap_links.specs.Linked.{Neighbours, link_between, follow}
+use Rattle.slotmap_links.specs.Linked.{Neighbours, follow}
 use Rattle.slotmap_links.specs.Segment.{IsSegment, IsTail}
 use Rattle.slotmap_links.specs.declared.Link.{Link}
 use Rattle.slotmap_links.proofs.Counts.{one_itself, times_first, times_joined}

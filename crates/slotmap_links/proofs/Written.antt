@@ -2,13 +2,14 @@
 use Rattle.std.proofs.Common.{◌≡◌, ◌≢◌, ℕ, ◌+◌, ◌-◌, ◌<◌, ◌≤◌, Option, Some, None, IfSome, cond, nat_eq, List, [], ◌∷◌, ◌++◌, length, get_or, set, refl, sym}
 use Rattle.std.proofs.Common.{ap, ◌∙◌, inl, inr, arith, append_assoc, append-nil, length-append}
 use Rattle.std.proofs.Math.Nat.{eq-zero-or-pos}
+use Rattle.std.proofs.lemmas.Bool.Decides.{nat_tests}
 use Rattle.std.proofs.lemmas.List.{length-set, get_or-set_same, get_or-set_other, get_or_default}
 use Rattle.slotmap_links.specs.Lists.{times, first_or, last_or, without}
 use Rattle.slotmap_links.specs.Linked.{Bounds, Neighbours, ends_of, link_between, AreLinked}
 use Rattle.slotmap_links.specs.Splice.{with_next, with_prev, own}
 use Rattle.slotmap_links.specs.Kept.{bounds_at, link_at, listed, bounds, neighbours, nobody, unless_nobody, no_ends, no_link, AreKept, Relists, IsGap}
 use Rattle.slotmap_links.specs.declared.{Ends.Ends, Link.Link}
-use Rattle.slotmap_links.proofs.Counts.{same, same_or_other, is_itself, is_other, one_itself, one_other, times_first, times_joined, few_below}
+use Rattle.slotmap_links.proofs.Counts.{is_itself, is_other, one_itself, one_other, times_first, times_joined, few_below}
 use Rattle.slotmap_links.proofs.Linking.{cons_not_nil, first_in, followed_is, in_midst, last_in, linked_now, linked_self, split_at, without_split}
 use Rattle.slotmap_links.proofs.Relisting.{apart_now, ends_spliced, within_now}
 
@@ -135,17 +136,8 @@ module _ (ends : List Ends) (links : List Link) (kept : AreKept ends links) (p :
 
     -- with k there are no more than members
     pub put_fits : (get_or new_ends p d).len + 1 ≤ nobody
-    put_fits =
-        let few = few_below (length links) (k ∷ list)
-        (λ x. (let f = times_first x k list in let o = kept.apart.once p x in elim (same_or_other x k) [
-          | inl is ↦ (let n = ap (λ x. times x list) is ∙ nowhere p in let t = ap (λ x. same k x) is ∙ one_itself k in omega arith)
-          | inr other ↦ (let t = one_other k x (λ e. other (sym e)) in omega arith)
-        ]))
-        (λ x more. elim (same_or_other x k) [
-          | inl is ↦ omega arith
-          | inr other ↦ kept.within p x (let f = times_first x k list in let t = one_other k x (λ e. other (sym e)) in omega arith)
-        ]) in
-        omega (arith, kept.few, was_long)
+    put_fits = let few = few_below (length links) (k ∷ list) (λ x. grind (arith, nat_tests, times_first x k list, kept.apart.once p x, nowhere p))
+        (λ x more. grind (arith, nat_tests, times_first x k list, kept.within p x)) in omega (arith, kept.few, was_long)
 
     pub put_written : (mid_links new_links : List Link) (members : length new_links ≡ length links)
         → ((q : ℕ) → link_at mid_links q ≡ with_next (unless_nobody link.prev) (unless_nobody k) (link_at (set links k link)) q)
