@@ -1,6 +1,5 @@
 -- What callers cite: what the calls leave of each list.
-use Rattle.std.proofs.Common.{◌≡◌, ◌≢◌, ℕ, ◌<◌, ◌-◌, List, [], length, ap, sym, ◌∙◌, inl, inr}
-use Rattle.std.proofs.Math.Nat.{eq-zero-or-pos}
+use Rattle.std.proofs.Common.{◌≡◌, ◌≢◌, ℕ, ◌<◌, ◌-◌, List, [], length, ap, ◌∙◌, arith}
 use Rattle.std.proofs.lemmas.List.{length-set, get_or-set_same, get_or-set_other}
 use Rattle.slotmap_links.specs.Lists.{Lists, times, list_of, with_list, with_owners, IsFree, IsIn, AreDisjoint, without}
 use Rattle.slotmap_links.proofs.{Counts.same_or_other, Counts.times_gone, Counts.without_none, Covers.read_padded}
@@ -23,13 +22,14 @@ list_covered s n q = read_padded s.lists (n - length s.lists) q []
 -- k is taken out of the list of p, and so of all lists
 module _ (s : Lists) (disjoint : AreDisjoint s) (p k : ℕ) (there : p < length s.lists) (inside : IsIn s p k) where
   pub list_without : (q : ℕ) → list_of (with_list s p (without k (list_of s p))) q ≡ without k (list_of s q)
-  list_without q = elim (same_or_other q p) [
-    | inl is ↦ ap (list_of (with_list s p (without k (list_of s p)))) is ∙ list_now s p (without k (list_of s p)) there ∙ ap (λ q. without k (list_of s q)) (sym is)
-    | inr other ↦ list_other s p (without k (list_of s p)) q other ∙ sym (without_none k (list_of s q) (elim (eq-zero-or-pos (times k (list_of s q))) [
-      | inl none ↦ none
-      | inr more ↦ absurd (other (disjoint.alone q p k more inside))
-    ]))
-  ]
+  list_without q = grind (
+    arith,
+    same_or_other q p,
+    list_now s p (without k (list_of s p)) there,
+    list_other s p (without k (list_of s p)) q,
+    without_none k (list_of s q),
+    disjoint.alone q p k,
+  )
 
   -- it is free then
   pub taken_free : IsFree (with_list s p (without k (list_of s p))) k

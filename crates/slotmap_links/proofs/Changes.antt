@@ -1,6 +1,6 @@
 -- What callers cite: what is in each list once a member was put behind the others, or was taken out.
 use Rattle.std.proofs.Common.{◌≡◌, ℕ, ◌+◌, ◌-◌, ◌<◌, ◌≤◌, ◌⊎◌, List, [], ◌∷◌, ◌++◌, length, length-append, replicate, max, zero, suc, refl, sym, ap, subst}
-use Rattle.std.proofs.Common.{◌∙◌, inl, inr, arith, Result, Ok, Err, OnOk, OnErr}
+use Rattle.std.proofs.Common.{◌∙◌, arith, Result, Ok, Err, OnOk, OnErr}
 use Rattle.slotmap_links.specs.Lists.{Lists, times, list_of, with_list, with_owners, with_members, IsIn, AreDisjoint, CoversMore}
 use Rattle.slotmap_links.proofs.Counts.{same, same_or_other, one_itself, one_other, times_first, times_joined}
 use Rattle.slotmap_links.proofs.Callers.{list_covered, list_now, list_other}
@@ -20,19 +20,10 @@ module _ (s : Lists) (p k : ℕ) (there : p < length s.lists) where
   pushed_here = omega (arith, pushed_at k, one_itself k)
 
   pub pushed_still : (q x : ℕ) → IsIn s q x → IsIn pushed q x
-  pushed_still q x inside = elim (same_or_other q p) [
-    | inl is ↦ rw is (omega (arith, pushed_at x, rw is at inside))
-    | inr other ↦ omega (arith, ap (times x) (list_other s p (list_of s p ++ k ∷ []) q other))
-  ]
+  pushed_still q x inside = grind (arith, same_or_other q p, pushed_at x, list_other s p (list_of s p ++ k ∷ []) q)
 
   pub pushed_was : (q x : ℕ) → IsIn pushed q x → IsIn s q x ⊎ ((q ≡ p) × (x ≡ k))
-  pushed_was q x inside = elim (same_or_other q p) [
-    | inl is ↦ elim (same_or_other x k) [
-      | inl at ↦ inr (is, at)
-      | inr apart ↦ inl (rw is (omega (arith, pushed_at x, one_other k x (λ e. apart (sym e)), rw is at inside)))
-    ]
-    | inr other ↦ inl (omega (arith, ap (times x) (list_other s p (list_of s p ++ k ∷ []) q other)))
-  ]
+  pushed_was q x inside = grind (arith, same_or_other q p, same_or_other x k, pushed_at x, one_other k x, list_other s p (list_of s p ++ k ∷ []) q)
 
 -- the same lists, where no fewer numbers may be members
 pub disjoint_still : (s t : Lists) → AreDisjoint s → ((p : ℕ) → list_of t p ≡ list_of s p) → s.members ≤ t.members → AreDisjoint t

@@ -1,7 +1,7 @@
 -- Lists that are kept as links: a walk along them, and what a number that is put in or taken out does to them. For the structures.
 use Rattle.std.proofs.Common.{ℕ, zero, suc, take, nat_eq, ◌≡◌, ◌≢◌, ◌⊎◌, ◌+◌, ◌<◌, ◌≤◌, Option, Some, None, List, [], ◌∷◌, ◌++◌, length, cond, not, refl, sym, ap, ◌∙◌}
 use Rattle.std.proofs.Common.{inl, inr, subst, arith, append_assoc}
-use Rattle.std.proofs.Math.{Nat.eq-zero-or-pos, Seq.take-length}
+use Rattle.std.proofs.Math.{Seq.take-length}
 use Rattle.std.proofs.lemmas.Bool.Decides.{nat_tests}
 use Rattle.std.proofs.lemmas.List.Elements.{filter-append}
 use Rattle.std.proofs.lemmas.Option.{same_Some}
@@ -111,10 +111,7 @@ module _ {ends : ℕ → Bounds} {link : ℕ → Neighbours} {lists : ℕ → Li
       (with_next (last_or before None) (first_or now (first_or after None)) link_mid) q) where
     -- a number of the list is in no other one, and at one place
     in_no_other : (q x : ℕ) → q ≢ p → 0 < times x (lists q) → times x (lists p) ≡ 0
-    in_no_other q x other more = elim (eq-zero-or-pos (times x (lists p))) [
-      | inl none ↦ none
-      | inr there ↦ absurd (other (apart.alone q p x more there))
-    ]
+    in_no_other q x other more = grind (arith, apart.alone q p x more, other)
 
     is_counted : (x : ℕ) → times x (lists p) ≡ times x before + (times x mid + times x after)
     is_counted x = ap (times x) is ∙ times_joined x before (mid ++ after) ∙ ap (λ n. times x before + n) (times_joined x mid after)

@@ -10,16 +10,10 @@ module _ (lists : ℕ → List ℕ) (apart : AreApart lists) (p k : ℕ) (ks : L
     (elsewhere : (q : ℕ) → q ≢ p → times k (lists q) ≡ 0) (lists' : ℕ → List ℕ) (here : lists' p ≡ ks) (others : (q : ℕ) → q ≢ p → lists' q ≡ lists q) where
   -- another number is in no list more often than before, and k is in no list but that of p
   no_more : (q x : ℕ) → x ≢ k → times x (lists' q) ≤ times x (lists q)
-  no_more q x other = elim (same_or_other q p) [
-    | inl is ↦ rw is (omega (arith, ap (times x) here, fewer x other))
-    | inr apart ↦ omega (arith, ap (times x) (others q apart))
-  ]
+  no_more q x other = grind (arith, same_or_other q p, here, others q, fewer x other)
 
   here_alone : (q : ℕ) → (times k (lists' q) ≤ 1) × (0 < times k (lists' q) → q ≡ p)
-  here_alone q = elim (same_or_other q p) [
-    | inl is ↦ (rw is (omega (arith, ap (times k) here, one)), λ more. is)
-    | inr other ↦ (let none = ap (times k) (others q other) ∙ elsewhere q other in (omega arith, λ more. absurd (omega arith)))
-  ]
+  here_alone q = grind (arith, same_or_other q p, here, one, others q, elsewhere q)
 
   pub apart_now : AreApart lists'
   apart_now = record {
