@@ -4,46 +4,26 @@ use Rattle.std.proofs.Common.{ap, arith}
 use Rattle.std.specs.{Ordering.nat_cmp, Cmp.nat_cmp_total}
 use Rattle.slotmap.specs.Words.{Key, key_cmp, Content, IsContent, IsLive, IsNew, Inserts, Removes, MakesRoom, StaysValid, IsCloneBy, IsCloneOf, is_last, places, used, with_value}
 use Rattle.slotmap.proofs.Callers.{clone_len, inserted_len, get-insert_here, leaves_by_removal, len_removed, keys_total, exact_keys, same_or_other, get-insert_other}
+use Rattle.slotmap_keylist.proofs.Alone.{alone-written, same_live}
 use Rattle.slotmap_bounded.specs.Bounded.{IsBounded, bounded}
 use Rattle.std.specs.FinMap as map
 use Rattle.std.specs.FinSet as set
 
 -- a write keeps a content well formed
 module _ {V : Type 0} (c : Content V) (well : IsContent true c) (k : Key) (live : IsLive c k) (v : V) where
-  same_live : (q : Key) → map.contains_key (map.insert c.live k v) q ≡ map.contains_key c.live q
-  same_live q = elim (same_or_other q k) [
-    | inl is ↦ rw is (ap is_some (get-insert_here c.live k v) ∙ sym live)
-    | inr other ↦ ap is_some (get-insert_other c.live k v q other)
-  ]
-
   same_len : map.len (map.insert c.live k v) ≡ map.len c.live
   same_len = map.len-insert keys_total c.live k v ∙ ap (λ b. cond b (map.len c.live) (map.len c.live + 1)) live
 
   written_valid : IsContent true (with_value c k v)
   written_valid = let lists = λ (stack : List ℕ) (is : c.stack ≡ Some stack). (well.stacked stack is).lists in
       let once = λ (stack : List ℕ) (is : c.stack ≡ Some stack). (well.stacked stack is).once in let top = λ (stack : List ℕ) (is : c.stack ≡ Some stack). (well.stacked stack is).top in
-      grind (arith, same_live, same_len, lists, once, top)
+      grind (arith, same_live c (with_value c k v) (alone-written c k v live), same_len, lists, once, top)
 
 module _ {V : Type 0} (c : Content V) (room capacity : ℕ) (is : IsBounded c room capacity) where
   pub bounded_valid : IsContent true (bounded c room capacity)
-  bounded_valid = let well = is.valid in record {
-    keys = well.keys;
-    vacancies = well.vacancies;
-    had_keys = well.had_keys;
-    last = well.last;
-    within = well.within;
-    vacant = well.vacant;
-    apart = well.apart;
-    not_live_and_detached = well.not_live_and_detached;
-    not_standing_and_retired = well.not_standing_and_retired;
-    not_used_and_vacant = well.not_used_and_vacant;
-    limit = well.limit;
-    offers = well.offers;
-    stacked = λ stack at. (let s = well.stacked stack at in record { lists = s.lists; once = s.once; top = s.top });
-    room_fits = omega (arith, well.room_fits, is.fits);
-    reused = λ _. is.vacant;
-    capacity_fits = omega (arith, is.exact);
-  }
+  bounded_valid = let well = is.valid in let lists = λ (stack : List ℕ) (at : c.stack ≡ Some stack). (well.stacked stack at).lists in
+      let once = λ (stack : List ℕ) (at : c.stack ≡ Some stack). (well.stacked stack at).once in let top = λ (stack : List ℕ) (at : c.stack ≡ Some stack). (well.stacked stack at).top in
+      grind (arith, lists, once, top)
 
 module _ {V : Type 0} (c : Content V) (room capacity : ℕ) (is : IsBounded c room capacity) where
   -- a value is written
@@ -69,19 +49,10 @@ module _ {V : Type 0} (c : Content V) (room capacity : ℕ) (is : IsBounded c ro
         ]
 
     pub inserted : 0 < room → IsContent true new → IsBounded new (room - 1) capacity
-    inserted some valid = record { valid = valid; vacant = vacant_less some; fits = omega (arith, inserts.room, is.fits); exact = omega (arith, used_more, is.exact) }
+    inserted some valid = grind (arith, vacant_less some, used_more)
 
     pub inserts_bounded : 0 < room → Inserts (bounded c room capacity) k v (bounded new (room - 1) capacity)
-    inserts_bounded some = record {
-      offered = inserts.offered;
-      below_limit = inserts.below_limit;
-      live = inserts.live;
-      detached = inserts.detached;
-      retired = inserts.retired;
-      next = inserts.next;
-      stack = inserts.stack;
-      room = omega arith;
-    }
+    inserts_bounded some = grind arith
 
     pub index_within : 0 < room → IsContent true new → k.index ≤ capacity
     index_within some valid = let there : IsLive new k = ap (λ m. map.contains_key m k) inserts.live ∙ ap is_some (get-insert_here c.live k v) in let now = inserted some valid in
@@ -93,29 +64,18 @@ module _ {V : Type 0} (c : Content V) (room capacity : ℕ) (is : IsBounded c ro
     same_places = (leaves_by_removal true c is.valid k live new removes).same_places
 
     removed_last : is_last k ≡ true → IsBounded new (room + 0) capacity
-    removed_last last =
-        let next : map.len new.next ≡ map.len c.next = ap map.len removes.next ∙ rw last refl in
-        let same = same_places in
-        record {
-          valid = valid;
-          vacant = omega (arith, is.vacant);
-          fits = (let more : c.room + 0 ≤ new.room = rw last at removes.room in omega (arith, is.fits));
-          exact = omega (arith, is.exact);
-        }
+    removed_last last = let next : map.len new.next ≡ map.len c.next = ap map.len removes.next ∙ rw last refl in let more : c.room + 0 ≤ new.room = rw last at removes.room in
+        let same = same_places in grind arith
 
     removed_other : is_last k ≡ false → IsBounded new (room + 1) capacity
     removed_other other =
         let retired : set.len new.retired ≡ set.len c.retired = ap set.len removes.retired ∙ rw other refl in
+        let more : c.room + 1 ≤ new.room = rw other at removes.room in
         let detached = ap set.len removes.detached in
         let less = ap map.len removes.live in
         let len = len_removed keys_total exact_keys c.live k live in
         let same = same_places in
-        record {
-          valid = valid;
-          vacant = omega (arith, is.vacant);
-          fits = (let more : c.room + 1 ≤ new.room = rw other at removes.room in omega (arith, is.fits));
-          exact = omega (arith, is.exact);
-        }
+        grind arith
 
     pub removed : IsBounded new (room + (if is_last k then 0 else 1)) capacity
     removed = elim (is_last k) as (λ b. is_last k ≡ b → IsBounded new (room + (if b then 0 else 1)) capacity) [
@@ -128,99 +88,29 @@ module _ {V : Type 0} (c : Content V) (room capacity : ℕ) (is : IsBounded c ro
 
   -- room is there, is made, or can't be made
   pub had_room : (n : ℕ) (ok : Type 0) → ok → n ≤ room → MakesRoom true (bounded c room capacity) n ok (bounded c room capacity)
-  had_room n ok done more = let valid = bounded_valid c room capacity is in record {
-    before = valid;
-    after = valid;
-    fits = λ _. omega (arith, valid.room_fits);
-    room = λ _. more;
-    live_and_more = λ _. omega (arith, valid.capacity_fits);
-    succeeds = λ _. done;
-    had_room = λ _. refl;
-    keeps = record { live = refl; detached = refl; retired = refl; next = refl; offer = refl; stack = refl; room = omega arith };
-    capacity = omega arith;
-  }
+  had_room n ok done more = let valid = bounded_valid c room capacity is in grind arith
 
   pub none_made : (n : ℕ) (ok : Type 0) → (ok → ⊥) → room < n → MakesRoom true (bounded c room capacity) n ok (bounded c room capacity)
-  none_made n ok failed less = let valid = bounded_valid c room capacity is in record {
-    before = valid;
-    after = valid;
-    fits = λ done. absurd (failed done);
-    room = λ done. absurd (failed done);
-    live_and_more = λ done. absurd (failed done);
-    succeeds = λ more. absurd (omega arith);
-    had_room = λ more. refl;
-    keeps = record { live = refl; detached = refl; retired = refl; next = refl; offer = refl; stack = refl; room = omega arith };
-    capacity = omega arith;
-  }
+  none_made n ok failed less = let valid = bounded_valid c room capacity is in grind arith
 
   module _ (n asked : ℕ) (ok : Type 0) (new : Content V) (makes : MakesRoom true c n ok new) (enough : asked ≤ n) (less : room < asked) where
     same_used : used new ≡ used c
     same_used = omega (arith, ap map.len makes.keeps.live, ap set.len makes.keeps.detached, ap set.len makes.keeps.retired)
 
     pub made : ok → IsBounded new n (capacity - room + n)
-    made done = record { valid = makes.after; vacant = omega (arith, ap map.len makes.keeps.next, is.vacant); fits = makes.room done; exact = omega (arith, same_used, is.exact) }
+    made done = let next = ap map.len makes.keeps.next in let same = same_used in grind (arith, makes.room)
 
     refused : IsBounded new room capacity
-    refused = record {
-      valid = makes.after;
-      vacant = omega (arith, ap map.len makes.keeps.next, is.vacant);
-      fits = omega (arith, is.fits, makes.keeps.room);
-      exact = omega (arith, same_used, is.exact);
-    }
+    refused = let next = ap map.len makes.keeps.next in let same = same_used in grind arith
 
     pub refused_same : bounded new room capacity ≡ bounded c room capacity
-    refused_same = let keeps = makes.keeps in λ i. record {
-      live = keeps.live i;
-      detached = keeps.detached i;
-      retired = keeps.retired i;
-      next = keeps.next i;
-      offer = keeps.offer i;
-      stack = keeps.stack i;
-      room = room;
-      capacity = capacity;
-    }
+    refused_same = let keeps = makes.keeps in cc
 
     pub made_room : ok → (fine : Type 0) → fine → MakesRoom true (bounded c room capacity) asked fine (bounded new n (capacity - room + n))
-    made_room done fine is_fine = let keeps = makes.keeps in record {
-      before = bounded_valid c room capacity is;
-      after = bounded_valid new n (capacity - room + n) (made done);
-      fits = λ _. omega (arith, makes.fits done);
-      room = λ _. omega arith;
-      live_and_more = λ _. omega (arith, ap map.len keeps.live, is.exact);
-      succeeds = λ more. absurd (omega arith);
-      had_room = λ more. absurd (omega arith);
-      keeps = record {
-        live = keeps.live;
-        detached = keeps.detached;
-        retired = keeps.retired;
-        next = keeps.next;
-        offer = keeps.offer;
-        stack = keeps.stack;
-        room = omega arith;
-      };
-      capacity = omega (arith, is.exact);
-    }
+    made_room done fine is_fine = let before = bounded_valid c room capacity is in let after = bounded_valid new n (capacity - room + n) (made done) in grind (arith, makes.fits)
 
     pub refused_room : (fine : Type 0) → (fine → ⊥) → MakesRoom true (bounded c room capacity) asked fine (bounded new room capacity)
-    refused_room fine failed = record {
-      before = bounded_valid c room capacity is;
-      after = bounded_valid new room capacity refused;
-      fits = λ done. absurd (failed done);
-      room = λ done. absurd (failed done);
-      live_and_more = λ done. absurd (failed done);
-      succeeds = λ more. absurd (omega arith);
-      had_room = λ more. absurd (omega arith);
-      keeps = (let keeps = makes.keeps in record {
-        live = keeps.live;
-        detached = keeps.detached;
-        retired = keeps.retired;
-        next = keeps.next;
-        offer = keeps.offer;
-        stack = keeps.stack;
-        room = omega arith;
-      });
-      capacity = omega arith;
-    }
+    refused_room fine failed = let before = bounded_valid c room capacity is in let after = bounded_valid new room capacity refused in grind arith
 
 -- the capacity stays
 pub stays : {V : Type 0} (c new : Content V) (room now capacity : ℕ) → IsBounded c room capacity → IsBounded new now capacity
@@ -241,28 +131,15 @@ module _ {V : Type 0} (c : Content V) (room capacity : ℕ) (is : IsBounded c ro
     (clones : IsCloneBy is_clone c mid) (ok : Type 0) (new : Content V) (makes : MakesRoom true mid room ok new) where
   pub copied : ok → IsBounded new room capacity
   copied done =
-      let keeps = makes.keeps in
       let live = clone_len is_clone c mid clones in
-      let same = ap map.len keeps.live in
-      let detached = ap set.len (keeps.detached ∙ clones.detached) in
-      let retired = ap set.len (keeps.retired ∙ clones.retired) in
-      let next = ap map.len (keeps.next ∙ clones.next) in
-      record {
-        valid = makes.after;
-        vacant = omega (arith, is.vacant);
-        fits = makes.room done;
-        exact = omega (arith, is.exact);
-      }
+      let same = ap map.len makes.keeps.live in
+      let detached = ap set.len (makes.keeps.detached ∙ clones.detached) in
+      let retired = ap set.len (makes.keeps.retired ∙ clones.retired) in
+      let next = ap map.len (makes.keeps.next ∙ clones.next) in
+      grind (arith, makes.room)
 
   pub copied_clones : IsCloneBy is_clone (bounded c room capacity) (bounded new room capacity)
-  copied_clones = let keeps = makes.keeps in record {
-    live = λ k. subst (λ m. IsCloneOf is_clone (map.get c.live k) (map.get m k)) (sym keeps.live) (clones.live k);
-    detached = keeps.detached ∙ clones.detached;
-    retired = keeps.retired ∙ clones.retired;
-    next = keeps.next ∙ clones.next;
-    offer = keeps.offer ∙ clones.offer;
-    stack = keeps.stack ∙ clones.stack;
-  }
+  copied_clones = grind (arith, clones.live)
 
 -- no key is live where none is at any index
 pub none_live : {V : Type 0} (c : Content V) (index : ℕ) → IsContent true c → places c < index → ((k : Key) → IsLive c k → index ≤ k.index) → c.live ≡ map.empty

@@ -21,8 +21,8 @@ pub use Rattle.slotmap_keylist.proofs.Counts.{times_pushed, times_there, without
 pub use Rattle.slotmap_keylist.proofs.Linking.{in_midst, split_at}
 pub use Rattle.slotmap_keylist.proofs.MapKeys.{key_live, key_there, keys_once}
 pub use Rattle.slotmap_keylist.specs.KeyLists.{is_key, same, times, without}
-pub use Rattle.slotmap_links.proofs.Callers.{list_now, list_other, owners_stay}
-pub use Rattle.slotmap_links.proofs.Changes.{list_cleared, list_without, pushed_here, pushed_still, pushed_was}
+pub use Rattle.slotmap_links.proofs.Callers.{list_now, list_other, list_without, owners_stay}
+pub use Rattle.slotmap_links.proofs.Changes.{list_cleared, pushed_here, pushed_still, pushed_was}
 pub use Rattle.slotmap_links.proofs.Counts.{one_itself as number_itself, times_first as often_first, times_without as often_without, times_gone as often_gone}
 pub use Rattle.slotmap_links.proofs.Linking.{cons_not_nil, cut_at}
 pub use Rattle.slotmap_links.specs.Lists.{CoversMore, first_or, number_after, AreDisjoint, IsFree, IsIn, Lists, list_of, with_list, times as often, without as without_number}

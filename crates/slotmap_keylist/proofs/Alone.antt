@@ -1,18 +1,15 @@
 -- A content without its values, which is one with the same value for each: what each change of a map does to it.
 use Rattle.std.proofs.Common.{◌≡◌, ℕ, true, Option, Some, None, is_some, refl, sym, ap, ◌∙◌, arith}
-use Rattle.slotmap.specs.Words.{Key, key_cmp, Content, IsContent, IsLive, IsSpent, KeepsSpent, IsNew, Inserts, Removes, Keeps, Leaves, MakesRoom, IsCopy, IsCloneBy, without_values, with_value, used}
+use Rattle.slotmap.specs.Words.{Key, key_cmp, Content, IsLive, IsNew, Inserts, Removes, Keeps, Leaves, MakesRoom, IsCopy, IsCloneBy, without_values, with_value, used}
 use Rattle.slotmap.specs.KeysAlone.{keys_of}
-use Rattle.slotmap.proofs.Callers.{clone_copies, contains-keys_of, len-keys_of, spent_alone, alone_spent, keeps_spent_alone, spent_finds_nothing, inserted_not_spent}
+use Rattle.slotmap.proofs.Callers.{clone_copies, contains-keys_of, len-keys_of}
 use Rattle.slotmap_keylist.specs.Mapped.{map_values}
 use Rattle.slotmap_keylist.proofs.Mapped.{mapped-new, mapped-inserts, mapped-removes, mapped-keeps, mapped-leaves, mapped-room, mapped-clones, mapped-written, get-mapped, len-mapped, some-mapped}
 use Rattle.slotmap_keylist.proofs.Mapped.{is_mapped}
 use Rattle.std.specs.FinMap as map
 
 same_units : (a b : Option (Unit {0})) → is_some a ≡ is_some b → a ≡ b
-same_units None None is = refl
-same_units None (Some y) is = absurd (cc)
-same_units (Some x) None is = absurd (cc)
-same_units (Some x) (Some y) is = refl
+same_units a b is = grind arith
 
 module _ {V : Type 0} where
   abbrev none : V → Unit {0}
@@ -67,18 +64,3 @@ module _ {V : Type 0} where
   -- contents with the same keys have the same live keys
   pub same_live : (old new : Content V) → without_values new ≡ without_values old → (q : Key) → map.contains_key new.live q ≡ map.contains_key old.live q
   same_live old new is q = sym (contains-keys_of new.live q) ∙ ap (λ (c : Content (Unit {0})). map.contains_key c.live q) is ∙ contains-keys_of old.live q
-
-  -- a key that is spent finds nothing
-  pub gone_finds_nothing : (c : Content V) (k : Key) → IsSpent (without_values c) k → map.get c.live k ≡ None
-  gone_finds_nothing c k spent = spent_finds_nothing c k (alone_spent c k spent)
-
-  -- what is spent, where a content has the keys that another one had once a call returned
-  pub gone_stays : (old mid : Content V) (new : Content (Unit {0})) → new ≡ without_values mid → KeepsSpent old mid → KeepsSpent (without_values old) new
-  gone_stays old mid new is keeps k spent = rw is (keeps_spent_alone old mid keeps k spent)
-
-  pub gone_here : (mid : Content V) (new : Content (Unit {0})) → new ≡ without_values mid → (k : Key) → IsSpent mid k → IsSpent new k
-  gone_here mid new is k spent = rw is (spent_alone mid k spent)
-
-  -- a key that is returned by an insert was not spent
-  pub new_not_gone : (old mid : Content V) → IsContent true old → (k : Key) (v : V) → Inserts old k v mid → IsSpent (without_values old) k → ⊥
-  new_not_gone old mid well k v inserts spent = inserted_not_spent old mid true well k v inserts k (alone_spent old k spent) refl

@@ -77,9 +77,6 @@ module _ {V W : Type 0} (f : V → W) where
     pub used-mapped : used (map_content f c) ≡ used c
     used-mapped = omega (arith, len-mapped c.live)
 
-    same_places : places (map_content f c) ≡ places c
-    same_places = omega (arith, len-mapped c.live)
-
     pub live-mapped : (k : Key) → IsLive c k → IsLive (map_content f c) k
     live-mapped k live = contains-mapped c.live k ∙ live
 

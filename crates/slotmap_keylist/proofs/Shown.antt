@@ -1,5 +1,5 @@
 -- What is known of a content, and of how a call changes it, where it has other live values under the same keys.
-use Rattle.std.proofs.Common.{◌≡◌, ℕ, ◌&&◌, ◌||◌, ◌⊎◌, Bool, not, sym, ap, ◌∙◌, inl, inr, arith}
+use Rattle.std.proofs.Common.{◌≡◌, ◌≤◌, ℕ, ◌&&◌, ◌||◌, ◌⊎◌, Bool, List, Some, not, sym, ap, ◌∙◌, inl, inr, arith}
 use Rattle.slotmap.specs.Words.{Key, key_cmp, Content, IsContent, IsSpent, Stands, IsRetired, Inserts, Removes, Keeps, Leaves, MakesRoom, is_last}
 use Rattle.slotmap_keylist.specs.Mapped.{with_live}
 use Rattle.std.specs.FinMap as map
@@ -7,38 +7,15 @@ use Rattle.std.specs.FinSet as set
 
 -- a content with other live values under the same keys
 module _ {V W : Type 0} (c : Content V) (m : map.FinMap key_cmp W) (same : (q : Key) → map.contains_key m q ≡ map.contains_key c.live q) (len : map.len m ≡ map.len c.live) where
-  shown_uses : (k : Key) → Stands (with_live c m) k ⊎ IsRetired (with_live c m) k → Stands c k ⊎ IsRetired c k
-  shown_uses k uses = elim uses [
-    | inl stands ↦ inl (elim stands [ inl live ↦ inl (sym (same k) ∙ live) | inr detached ↦ inr detached ])
-    | inr retired ↦ inr retired
-  ]
-
   pub shown_spent : (k : Key) → IsSpent c k → IsSpent (with_live c m) k
-  shown_spent k spent = record {
-    within = omega (arith, spent.within);
-    vacant = spent.vacant;
-    stands = λ u there at. spent.stands u (elim there [ inl live ↦ inl (sym (same u) ∙ live) | inr detached ↦ inr detached ]) at;
-  }
+  shown_spent k spent = grind (arith, same)
 
   pub shown_content : (reuses : Bool) → IsContent reuses c → IsContent reuses (with_live c m)
-  shown_content reuses well = record {
-    keys = λ k uses. well.keys k (shown_uses k uses);
-    vacancies = well.vacancies;
-    had_keys = well.had_keys;
-    last = well.last;
-    within = λ k uses. (let within = well.within k (shown_uses k uses) in (within.0, omega (arith, within.1)));
-    vacant = λ i vacant. (let within = well.vacant i vacant in (within.0, omega (arith, within.1)));
-    apart = λ a b of_a of_b at. well.apart a b (shown_uses a of_a) (shown_uses b of_b) at;
-    not_live_and_detached = λ k live. well.not_live_and_detached k (sym (same k) ∙ live);
-    not_standing_and_retired = λ k stands. well.not_standing_and_retired k (elim stands [ inl live ↦ inl (sym (same k) ∙ live) | inr detached ↦ inr detached ]);
-    not_used_and_vacant = λ k uses. well.not_used_and_vacant k (shown_uses k uses);
-    limit = omega (arith, well.limit);
-    offers = λ below. elim (well.offers (omega arith)) [ inl freed ↦ inl freed | inr made ↦ inr (made.0, omega (arith, made.1), made.2) ];
-    stacked = λ stack is. (let stacked = well.stacked stack is in record { lists = stacked.lists; once = stacked.once; top = λ below. stacked.top (omega arith) });
-    room_fits = omega (arith, well.room_fits);
-    reused = well.reused;
-    capacity_fits = omega (arith, well.capacity_fits);
-  }
+  shown_content reuses well =
+      let lists = λ (stack : List ℕ) (at : c.stack ≡ Some stack). (well.stacked stack at).lists in
+      let once = λ (stack : List ℕ) (at : c.stack ≡ Some stack). (well.stacked stack at).once in
+      let top = λ (stack : List ℕ) (at : c.stack ≡ Some stack). (well.stacked stack at).top in
+      grind (arith, same, lists, once, top)
 
 -- before a call, and after it
 module _ {V W : Type 0} (old new : Content V) (was now : map.FinMap key_cmp W)
@@ -61,32 +38,18 @@ module _ {V W : Type 0} (old new : Content V) (was now : map.FinMap key_cmp W)
   }
 
   pub shown_inserts : (k : Key) (v : V) (w : W) → now ≡ map.insert was k w → Inserts old k v new → Inserts (with_live old was) k w (with_live new now)
-  shown_inserts k v w live inserts = record {
-    offered = inserts.offered;
-    below_limit = omega (arith, inserts.below_limit);
-    live = live;
-    detached = inserts.detached;
-    retired = inserts.retired;
-    next = inserts.next;
-    stack = inserts.stack;
-    room = inserts.room;
-  }
+  shown_inserts k v w live inserts = grind arith
 
   pub shown_removes : (k : Key) → now ≡ map.remove was k → Removes old k new → Removes (with_live old was) k (with_live new now)
-  shown_removes k live removes = record { live = live; detached = removes.detached; retired = removes.retired; next = removes.next; stack = removes.stack; room = removes.room }
+  shown_removes k live removes = grind arith
 
   pub shown_keeps : now ≡ was → Keeps old new → Keeps (with_live old was) (with_live new now)
-  shown_keeps live keeps = record { live = live; detached = keeps.detached; retired = keeps.retired; next = keeps.next; offer = keeps.offer; stack = keeps.stack; room = keeps.room }
+  shown_keeps live keeps = grind arith
 
   pub shown_makes_room : now ≡ was → (reuses : Bool) (n : ℕ) (ok : Type 0) → MakesRoom reuses old n ok new → MakesRoom reuses (with_live old was) n ok (with_live new now)
-  shown_makes_room live reuses n ok makes = record {
-    before = shown_content old was same_was len_was reuses makes.before;
-    after = shown_content new now same_now len_now reuses makes.after;
-    fits = λ done. omega (arith, makes.fits done);
-    room = makes.room;
-    live_and_more = λ done. omega (arith, makes.live_and_more done);
-    succeeds = makes.succeeds;
-    had_room = λ more. (λ i. with_live (makes.had_room more i) (live i));
-    keeps = shown_keeps live makes.keeps;
-    capacity = makes.capacity;
-  }
+  shown_makes_room live reuses n ok makes =
+      let before = shown_content old was same_was len_was reuses makes.before in
+      let after = shown_content new now same_now len_now reuses makes.after in
+      let keeps = shown_keeps live makes.keeps in
+      let had_room : n ≤ old.room → with_live new now ≡ with_live old was = λ more. (λ i. with_live (makes.had_room more i) (live i)) in
+      grind (arith, had_room)

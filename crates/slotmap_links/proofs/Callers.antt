@@ -1,9 +1,8 @@
 -- What callers cite: what the calls leave of each list.
-use Rattle.std.proofs.Common.{◌≡◌, ◌≢◌, ℕ, ◌<◌, ◌-◌, List, [], length, ap, ◌∙◌, inl, inr}
-use Rattle.std.proofs.Math.Nat.{eq-zero-or-pos}
+use Rattle.std.proofs.Common.{◌≡◌, ◌≢◌, ℕ, ◌<◌, ◌-◌, List, [], length, ap, ◌∙◌, arith}
 use Rattle.std.proofs.lemmas.List.{length-set, get_or-set_same, get_or-set_other}
 use Rattle.slotmap_links.specs.Lists.{Lists, times, list_of, with_list, with_owners, IsFree, IsIn, AreDisjoint, without}
-use Rattle.slotmap_links.proofs.{Counts.same_or_other, Counts.times_gone, Covers.read_padded}
+use Rattle.slotmap_links.proofs.{Counts.same_or_other, Counts.times_gone, Counts.without_none, Covers.read_padded}
 
 -- where the list of p is another one, all others stay
 module _ (s : Lists) (p : ℕ) (ks : List ℕ) where
@@ -20,15 +19,18 @@ module _ (s : Lists) (p : ℕ) (ks : List ℕ) where
 pub list_covered : (s : Lists) (n q : ℕ) → list_of (with_owners s n) q ≡ list_of s q
 list_covered s n q = read_padded s.lists (n - length s.lists) q []
 
--- a member that is taken out is free
-pub taken_free : (s : Lists) → AreDisjoint s → (p k : ℕ) → p < length s.lists → IsIn s p k → IsFree (with_list s p (without k (list_of s p))) k
-taken_free s disjoint p k there inside = record {
-  within = disjoint.within p k inside;
-  nowhere = λ q. (elim (same_or_other q p) [
-    | inl is ↦ ap (λ q. times k (list_of (with_list s p (without k (list_of s p))) q)) is ∙ ap (times k) (list_now s p (without k (list_of s p)) there) ∙ times_gone k (list_of s p)
-    | inr other ↦ ap (times k) (list_other s p (without k (list_of s p)) q other) ∙ (elim (eq-zero-or-pos (times k (list_of s q))) [
-      | inl none ↦ none
-      | inr more ↦ absurd (other (disjoint.alone q p k more inside))
-    ])
-  ]);
-}
+-- k is taken out of the list of p, and so of all lists
+module _ (s : Lists) (disjoint : AreDisjoint s) (p k : ℕ) (there : p < length s.lists) (inside : IsIn s p k) where
+  pub list_without : (q : ℕ) → list_of (with_list s p (without k (list_of s p))) q ≡ without k (list_of s q)
+  list_without q = grind (
+    arith,
+    same_or_other q p,
+    list_now s p (without k (list_of s p)) there,
+    list_other s p (without k (list_of s p)) q,
+    without_none k (list_of s q),
+    disjoint.alone q p k,
+  )
+
+  -- it is free then
+  pub taken_free : IsFree (with_list s p (without k (list_of s p))) k
+  taken_free = record { within = disjoint.within p k inside; nowhere = λ q. ap (times k) (list_without q) ∙ times_gone k (list_of s q) }

@@ -1,9 +1,8 @@
 -- What callers cite: what is in each list once a member was put behind the others, or was taken out.
 use Rattle.std.proofs.Common.{◌≡◌, ℕ, ◌+◌, ◌-◌, ◌<◌, ◌≤◌, ◌⊎◌, List, [], ◌∷◌, ◌++◌, length, length-append, replicate, max, zero, suc, refl, sym, ap, subst}
-use Rattle.std.proofs.Common.{◌∙◌, inl, inr, arith, Result, Ok, Err, OnOk, OnErr}
-use Rattle.std.proofs.Math.Nat.{eq-zero-or-pos}
-use Rattle.slotmap_links.specs.Lists.{Lists, times, list_of, with_list, with_owners, with_members, IsIn, AreDisjoint, CoversMore, without}
-use Rattle.slotmap_links.proofs.Counts.{same, same_or_other, one_itself, one_other, times_first, times_joined, without_none}
+use Rattle.std.proofs.Common.{◌∙◌, arith, Result, Ok, Err, OnOk, OnErr}
+use Rattle.slotmap_links.specs.Lists.{Lists, times, list_of, with_list, with_owners, with_members, IsIn, AreDisjoint, CoversMore}
+use Rattle.slotmap_links.proofs.Counts.{same, same_or_other, one_itself, one_other, times_first, times_joined}
 use Rattle.slotmap_links.proofs.Callers.{list_covered, list_now, list_other}
 
 pub times_pushed : (x : ℕ) (ks : List ℕ) (k : ℕ) → times x (ks ++ k ∷ []) ≡ times x ks + same k x
@@ -14,36 +13,17 @@ module _ (s : Lists) (p k : ℕ) (there : p < length s.lists) where
   abbrev pushed : Lists
   pushed = with_list s p (list_of s p ++ k ∷ [])
 
+  pushed_at : (x : ℕ) → times x (list_of pushed p) ≡ times x (list_of s p) + same k x
+  pushed_at x = ap (times x) (list_now s p (list_of s p ++ k ∷ []) there) ∙ times_pushed x (list_of s p) k
+
   pub pushed_here : IsIn pushed p k
-  pushed_here = omega (arith, ap (times k) (list_now s p (list_of s p ++ k ∷ []) there) ∙ times_pushed k (list_of s p) k, one_itself k)
+  pushed_here = omega (arith, pushed_at k, one_itself k)
 
   pub pushed_still : (q x : ℕ) → IsIn s q x → IsIn pushed q x
-  pushed_still q x inside = elim (same_or_other q p) [
-    | inl is ↦ (let sum = ap (λ q. times x (list_of pushed q)) is ∙ ap (times x) (list_now s p (list_of s p ++ k ∷ []) there) ∙ times_pushed x (list_of s p) k in
-        let was = ap (λ q. times x (list_of s q)) is in omega arith)
-    | inr other ↦ (let same = ap (times x) (list_other s p (list_of s p ++ k ∷ []) q other) in omega arith)
-  ]
+  pushed_still q x inside = grind (arith, same_or_other q p, pushed_at x, list_other s p (list_of s p ++ k ∷ []) q)
 
   pub pushed_was : (q x : ℕ) → IsIn pushed q x → IsIn s q x ⊎ ((q ≡ p) × (x ≡ k))
-  pushed_was q x inside = elim (same_or_other q p) [
-    | inl is ↦ elim (same_or_other x k) [
-      | inl at ↦ inr (is, at)
-      | inr apart ↦ inl (let sum = ap (λ q. times x (list_of pushed q)) is ∙ ap (times x) (list_now s p (list_of s p ++ k ∷ []) there) ∙ times_pushed x (list_of s p) k in
-          let none = one_other k x (λ e. apart (sym e)) in let was = ap (λ q. times x (list_of s q)) is in omega arith)
-    ]
-    | inr other ↦ inl (let same = ap (times x) (list_other s p (list_of s p ++ k ∷ []) q other) in omega arith)
-  ]
-
--- k is taken out of the list of p, and so of all lists
-module _ (s : Lists) (disjoint : AreDisjoint s) (p k : ℕ) (there : p < length s.lists) (inside : IsIn s p k) where
-  pub list_without : (q : ℕ) → list_of (with_list s p (without k (list_of s p))) q ≡ without k (list_of s q)
-  list_without q = elim (same_or_other q p) [
-    | inl is ↦ ap (list_of (with_list s p (without k (list_of s p)))) is ∙ list_now s p (without k (list_of s p)) there ∙ ap (λ q. without k (list_of s q)) (sym is)
-    | inr other ↦ list_other s p (without k (list_of s p)) q other ∙ sym (without_none k (list_of s q) (elim (eq-zero-or-pos (times k (list_of s q))) [
-      | inl none ↦ none
-      | inr more ↦ absurd (other (disjoint.alone q p k more inside))
-    ]))
-  ]
+  pushed_was q x inside = grind (arith, same_or_other q p, same_or_other x k, pushed_at x, one_other k x, list_other s p (list_of s p ++ k ∷ []) q)
 
 -- the same lists, where no fewer numbers may be members
 pub disjoint_still : (s t : Lists) → AreDisjoint s → ((p : ℕ) → list_of t p ≡ list_of s p) → s.members ≤ t.members → AreDisjoint t

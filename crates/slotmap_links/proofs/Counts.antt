@@ -55,11 +55,7 @@ few_below (suc n) ks once below = omega (
   arith,
   length_without n ks,
   once n,
-  few_below n (without n ks)
-      (λ k. elim (same_or_other k n) [
-        | inl is ↦ omega (arith, times_gone n ks, ap (λ x. times x (without n ks)) is)
-        | inr other ↦ omega (arith, times_without n k ks other, once k)
-      ])
+  few_below n (without n ks) (λ k. grind (arith, same_or_other k n, times_gone n ks, times_without n k ks, once k))
       (λ k more. elim (same_or_other k n) [
         | inl is ↦ absurd (omega (arith, times_gone n ks, ap (λ x. times x (without n ks)) is))
         | inr other ↦ omega (arith, below k (omega (arith, times_without n k ks other)), other)

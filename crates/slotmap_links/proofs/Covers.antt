@@ -4,10 +4,10 @@ use Rattle.std.proofs.Common.{get_or, take, replicate, zero, suc, refl, sym, ap,
 use Rattle.std.proofs.Math.{ListN.get_or-append, ListN.get_or-eq_default, Seq.get_or-append_right}
 use Rattle.std.proofs.lemmas.List.{map-append, length-replicate, take_all, get_or-replicate}
 use Rattle.slotmap_links.specs.Lists.{Lists, times, with_owners, with_members}
-use Rattle.slotmap_links.specs.Linked.{followed}
+use Rattle.slotmap_links.specs.Linked.{followed, AreApart}
 use Rattle.slotmap_links.specs.Kept.{bounds_at, link_at, listed, lists_by, bounds, neighbours, nobody, no_ends, no_link, AreKept}
 use Rattle.slotmap_links.specs.declared.{Ends.Ends, Link.Link}
-use Rattle.slotmap_links.proofs.{KeptLists.kept_empty, KeptLists.seen_owners, Splicing.linked_along}
+use Rattle.slotmap_links.proofs.{KeptLists.kept_empty, KeptLists.seen_owners, Linking.linked_along}
 
 pub below_or_past : (a b : ℕ) → (a < b) ⊎ (b ≤ a)
 below_or_past a b = search arith
@@ -37,10 +37,7 @@ module _ (ends ends' : List Ends) (links links' : List Link) (same_ends : (q : �
   kept_along : AreKept ends links → length links ≤ length links' → length links' ≤ nobody → AreKept ends' links'
   kept_along kept more few = record {
     linked = linked_along same_ends same_links kept.linked;
-    apart = record {
-      once = λ p k. omega (arith, ap (times k) (list_stays p), kept.apart.once p k);
-      alone = λ p q k in_p in_q. kept.apart.alone p q k (omega (arith, ap (times k) (list_stays p))) (omega (arith, ap (times k) (list_stays q)));
-    };
+    apart = subst AreApart (λ i p. sym (list_stays p) i) kept.apart;
     within = λ p k inside. omega (arith, kept.within p k (omega (arith, ap (times k) (list_stays p))));
     few = few;
   }
@@ -73,35 +70,22 @@ module _ (ends : List Ends) (links : List Link) (kept : AreKept ends links) (n :
     seen_members_more : lists_by ends more_links ≡ with_members (lists_by ends links) n
     seen_members_more = λ i. record { lists = list_map (λ e. followed (λ q. neighbours (read_padded links (n - length links) q no_link i)) (bounds e)) ends; members = long i }
 
--- what `resize` leaves of the ends, and of the links
-module _ (ends : List Ends) (links : List Link) (kept : AreKept ends links) (n len : ℕ) where
-  module _ (len_is : len ≡ length ends) (more : length ends ≤ n) where
-    grown_ends : take n ends ++ replicate (n - len) no_ends ≡ more_ends ends links kept n
-    grown_ends = (λ i. take_all n ends more i ++ replicate (n - len_is i) no_ends)
+-- what `resize` leaves of a list, where these hold of it with more elements
+resized : {X A B : Type 0} (xs : List X) (n len : ℕ) (d : X) → len ≡ length xs → length xs ≤ n → (P Q : List X → Type 0) → P xs → P (xs ++ replicate (n - length xs) d)
+    → Q (xs ++ replicate (n - length xs) d) → (r : Result A B) (now : List X) → now ≡ (if is_ok r then take n xs ++ replicate (n - len) d else xs) → P now × OnOk r (Q now)
+resized xs n len d len_is more P Q same p q (Ok x) now is = let grown = is ∙ (λ i. take_all n xs more i ++ replicate (n - len_is i) d) in (subst P (sym grown) p, subst Q (sym grown) q)
+resized xs n len d len_is more P Q same p q (Err e) now is = (subst P (sym is) same, tt)
 
-    pub resized_owners : {A B : Type 0} (r : Result A B) (now : List Ends) → now ≡ (if is_ok r then take n ends ++ replicate (n - len) no_ends else ends) → AreKept now links
-    resized_owners (Ok x) now is = subst (λ l. AreKept l links) (sym (is ∙ grown_ends)) (kept_owners ends links kept n)
-    resized_owners (Err e) now is = subst (λ l. AreKept l links) (sym is) kept
+module _ {ends : List Ends} {links : List Link} (kept : AreKept ends links) {s : Lists} (seen : lists_by ends links ≡ s) (n len : ℕ) {A B : Type 0} where
+  pub resized_owners : len ≡ length ends → length ends ≤ n → (r : Result A B) (now : List Ends) → now ≡ (if is_ok r then take n ends ++ replicate (n - len) no_ends else ends)
+      → AreKept now links × OnOk r (lists_by now links ≡ with_owners s n)
+  resized_owners long more = resized ends n len no_ends long more (λ l. AreKept l links) (λ l. lists_by l links ≡ with_owners s n) kept (kept_owners ends links kept n)
+      (seen_owners_more ends links kept n ∙ ap (λ s. with_owners s n) seen)
 
-    pub seen_resized_owners : {A B : Type 0} (s : Lists) → lists_by ends links ≡ s → (r : Result A B) (now : List Ends)
-        → now ≡ (if is_ok r then take n ends ++ replicate (n - len) no_ends else ends)
-        → OnOk r (lists_by now links ≡ with_owners s n)
-    seen_resized_owners s seen (Ok x) now is = ap (λ l. lists_by l links) (is ∙ grown_ends) ∙ seen_owners_more ends links kept n ∙ ap (λ s. with_owners s n) seen
-    seen_resized_owners s seen (Err e) now is = tt
-
-  module _ (len_is : len ≡ length links) (more : length links ≤ n) (few : n ≤ nobody) where
-    grown_links : take n links ++ replicate (n - len) no_link ≡ more_links ends links kept n few
-    grown_links = (λ i. take_all n links more i ++ replicate (n - len_is i) no_link)
-
-    pub resized_members : {A B : Type 0} (r : Result A B) (now : List Link) → now ≡ (if is_ok r then take n links ++ replicate (n - len) no_link else links) → AreKept ends now
-    resized_members (Ok x) now is = subst (λ l. AreKept ends l) (sym (is ∙ grown_links)) (kept_members ends links kept n few)
-    resized_members (Err e) now is = subst (λ l. AreKept ends l) (sym is) kept
-
-    pub seen_resized_members : {A B : Type 0} (s : Lists) → lists_by ends links ≡ s → (r : Result A B) (now : List Link)
-        → now ≡ (if is_ok r then take n links ++ replicate (n - len) no_link else links)
-        → OnOk r (lists_by ends now ≡ with_members s n)
-    seen_resized_members s seen (Ok x) now is = ap (λ l. lists_by ends l) (is ∙ grown_links) ∙ seen_members_more ends links kept n few ∙ ap (λ s. with_members s n) seen
-    seen_resized_members s seen (Err e) now is = tt
+  pub resized_members : len ≡ length links → length links ≤ n → n ≤ nobody → (r : Result A B) (now : List Link)
+      → now ≡ (if is_ok r then take n links ++ replicate (n - len) no_link else links) → AreKept ends now × OnOk r (lists_by ends now ≡ with_members s n)
+  resized_members long more few = resized links n len no_link long more (λ l. AreKept ends l) (λ l. lists_by ends l ≡ with_members s n) kept (kept_members ends links kept n few)
+      (seen_members_more ends links kept n few ∙ ap (λ s. with_members s n) seen)
 
 -- all lists are emptied
 module _ (ends : List Ends) (links : List Link) (kept : AreKept ends links) (now : List Ends) (n : ℕ) (is : now ≡ replicate n no_ends) where

@@ -1,5 +1,5 @@
 -- Lists of numbers in two vectors: what a change of the links and of the ends makes of them, and how the user sees them.
-use Rattle.std.proofs.Common.{◌≡◌, ℕ, ◌<◌, ◌≤◌, List, [], ◌∷◌, ◌++◌, length, get_or, set, sym, ap, ◌∙◌, inl, inr, arith}
+use Rattle.std.proofs.Common.{◌≡◌, ℕ, ◌<◌, ◌≤◌, List, [], ◌∷◌, ◌++◌, length, get_or, set, sym, ap, ◌∙◌, arith}
 use Rattle.std.proofs.Math.ListN.{get_or-map as read_map, get_or-eq_default}
 use Rattle.std.proofs.lemmas.List.{length-map, length-set, get_or-set_same, get_or-set_other, ext_get_or}
 use Rattle.slotmap_links.specs.Lists.{times, list_of, with_list, AreDisjoint}
@@ -62,10 +62,17 @@ module _ (ends : List Ends) (links : List Link) (p : ℕ) (ks : List ℕ) (ends'
   long = seen_owners ends' links' ∙ relists.owners ∙ sym (seen_owners ends links) ∙ sym (length-set was p ks)
 
   at_each : (q : ℕ) → get_or now q [] ≡ get_or (set was p ks) q []
-  at_each q = elim (same_or_other q p) [
-    | inl is ↦ rw is (seen_list ends' links' p ∙ relists.list ∙ sym (get_or-set_same was p ks [] (omega (arith, seen_owners ends links))))
-    | inr other ↦ seen_list ends' links' q ∙ relists.others q other ∙ sym (seen_list ends links q) ∙ sym (get_or-set_other was p q ks [] other)
-  ]
+  at_each q = grind (
+    arith,
+    same_or_other q p,
+    seen_owners ends links,
+    seen_list ends' links' q,
+    seen_list ends links q,
+    relists.list,
+    relists.others q,
+    get_or-set_same was p ks [],
+    get_or-set_other was p q ks [],
+  )
 
   lists_are : now ≡ set was p ks
   lists_are = ext_get_or [] now (set was p ks) long (λ q _. at_each q)

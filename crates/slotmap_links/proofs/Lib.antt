@@ -8,5 +8,4 @@ pub mod Linking
 mod Relisting
 pub mod SeenLists
 mod Segments
-mod Splicing
 mod Written

@@ -1,13 +1,14 @@
 -- Lists that are kept as links: a walk along them, and what a number that is put in or taken out does to them. For the structures.
-use Rattle.std.proofs.Common.{ℕ, nat_eq, ◌≡◌, ◌≢◌, ◌⊎◌, ◌+◌, ◌<◌, ◌≤◌, Option, Some, None, List, [], ◌∷◌, ◌++◌, length, cond, not, refl, sym, ap, ◌∙◌}
-use Rattle.std.proofs.Common.{inl, inr, arith, append_assoc, append-nil}
-use Rattle.std.proofs.Math.Nat.{eq-zero-or-pos}
+use Rattle.std.proofs.Common.{ℕ, zero, suc, take, nat_eq, ◌≡◌, ◌≢◌, ◌⊎◌, ◌+◌, ◌<◌, ◌≤◌, Option, Some, None, List, [], ◌∷◌, ◌++◌, length, cond, not, refl, sym, ap, ◌∙◌}
+use Rattle.std.proofs.Common.{inl, inr, subst, arith, append_assoc}
+use Rattle.std.proofs.Math.{Seq.take-length}
 use Rattle.std.proofs.lemmas.Bool.Decides.{nat_tests}
 use Rattle.std.proofs.lemmas.List.Elements.{filter-append}
 use Rattle.std.proofs.lemmas.Option.{same_Some}
 use Rattle.slotmap_links.specs.Lists.{times, first_or, last_or, number_after, number_before, without}
-use Rattle.slotmap_links.specs.Linked.{Bounds, Neighbours, ends_of, link_between, follow, followed, AreLinked, AreApart, Relinks, IsListed}
-use Rattle.slotmap_links.proofs.Counts.{same, same_or_other, is_itself, one_itself, one_other, times_first, times_joined, without_none}
+use Rattle.slotmap_links.specs.Linked.{Bounds, Neighbours, ends_of, link_between, follow, followed, AreLinked, AreApart, IsListed}
+use Rattle.slotmap_links.specs.Splice.{with_link, with_next, with_prev}
+use Rattle.slotmap_links.proofs.Counts.{same, same_or_other, is_itself, is_other, one_itself, one_other, times_first, times_joined, without_none}
 
 pub first_or-append : (xs ys : List ℕ) (o : Option ℕ) → first_or (xs ++ ys) o ≡ first_or xs (first_or ys o)
 first_or-append [] ys o = refl
@@ -16,6 +17,9 @@ first_or-append (x ∷ xs) ys o = refl
 pub last_or-append : (xs ys : List ℕ) (o : Option ℕ) → last_or (xs ++ ys) o ≡ last_or ys (last_or xs o)
 last_or-append [] ys o = refl
 last_or-append (x ∷ xs) ys o = last_or-append xs ys (Some x)
+
+pub last_behind : (xs ys : List ℕ) (z : ℕ) (zs : List ℕ) → last_or (xs ++ (ys ++ z ∷ zs)) None ≡ last_or zs (Some z)
+last_behind xs ys z zs = last_or-append xs (ys ++ z ∷ zs) None ∙ last_or-append ys (z ∷ zs) (last_or xs None)
 
 -- the first number of a list is in it, and the last one too
 pub first_in : (ks : List ℕ) (f : ℕ) → first_or ks None ≡ Some f → 0 < times f ks
@@ -75,36 +79,39 @@ without_split k before after once = let sum = in_midst before k after in
     filter-append (λ q. not (nat_eq q k)) before (k ∷ after) ∙ ap (λ l. without k before ++ l) gone ∙ ap (λ l. l ++ without k after) (without_none k before (omega arith))
     ∙ ap (λ l. before ++ l) (without_none k after (omega arith))
 
+-- links of which one was changed
+module _ (change : Neighbours → Neighbours) (link : ℕ → Neighbours) (q : ℕ) where
+  changed_here : with_link (Some q) change link q ≡ change (link q)
+  changed_here = ap (λ b. cond b (change (link q)) (link q)) (is_itself q)
+
+  changed_elsewhere : (at : Option ℕ) → at ≢ Some q → with_link at change link q ≡ link q
+  changed_elsewhere None other = refl
+  changed_elsewhere (Some k) other = ap (λ b. cond b (change (link q)) (link q)) (is_other q k (λ e. other (ap Some (sym e))))
+
+-- from a place in a list, so many links lead to so many of the numbers behind it
+pub follow_is : (link : ℕ → Neighbours) (n : ℕ) (before rest : List ℕ) → ((b : List ℕ) (k : ℕ) (a : List ℕ) → before ++ rest ≡ b ++ k ∷ a → link k ≡ link_between b a)
+    → follow link n (first_or rest None) ≡ take n rest
+follow_is link zero before rest links = refl
+follow_is link (suc n) before [] links = refl
+follow_is link (suc n) before (k ∷ rest) links = ap (λ (l : Neighbours). k ∷ follow link n l.next) (links before k rest refl)
+    ∙ ap (λ l. k ∷ l) (follow_is link n (before ++ k ∷ []) rest (λ b x a is. links b x a (sym (append_assoc before (k ∷ []) rest) ∙ is)))
+
 -- lists that are kept as links
 module _ {ends : ℕ → Bounds} {link : ℕ → Neighbours} {lists : ℕ → List ℕ} (linked : AreLinked ends link lists) where
-  -- from a place in a list, the links lead to what is behind it
-  pub follow_is : (p : ℕ) (before after : List ℕ) → lists p ≡ before ++ after → follow link (length after) (first_or after None) ≡ after
-  follow_is p before [] is = refl
-  follow_is p before (k ∷ after) is = ap (λ (l : Neighbours). k ∷ follow link (length after) l.next) (linked.links_are p before k after is)
-      ∙ ap (λ l. k ∷ l) (follow_is p (before ++ k ∷ []) after (is ∙ sym (append_assoc before (k ∷ []) after)))
-
-  -- and from the ends of a list, to all of it
+  -- from the ends of a list, the links lead to all of it
   pub followed_is : (p : ℕ) → followed link (ends p) ≡ lists p
-  followed_is p = ap (followed link) (linked.ends_are p) ∙ follow_is p [] (lists p) refl
+  followed_is p = ap (followed link) (linked.ends_are p) ∙ follow_is link (length (lists p)) [] (lists p) (linked.links_are p) ∙ take-length (lists p)
 
-  -- the neighbours of a number
-  pub prev_in : (p : ℕ) (k l : ℕ) → 0 < times k (lists p) → (link k).prev ≡ Some l → 0 < times l (lists p)
-  prev_in p k l more is = let split = split_at k (lists p) more in let at = linked.links_are p split.0 k split.1 split.2 in
-      omega (arith, last_in split.0 l (sym (ap (λ (n : Neighbours). n.prev) at) ∙ is), ap (times l) split.2 ∙ times_joined l split.0 (k ∷ split.1))
-
-  pub next_in : (p : ℕ) (k f : ℕ) → 0 < times k (lists p) → (link k).next ≡ Some f → 0 < times f (lists p)
-  next_in p k f more is = let split = split_at k (lists p) more in let at = linked.links_are p split.0 k split.1 split.2 in
-      omega (arith, first_in split.1 f (sym (ap (λ (n : Neighbours). n.next) at) ∙ is), ap (times f) split.2 ∙ times_joined f split.0 (k ∷ split.1), times_first f k split.1)
-
-  -- In the list of p the numbers between `before` and `after` change. The number k is the only one of them whose link may change
-  module _ (apart : AreApart lists) (p k : ℕ) (before mid after : List ℕ) (is : lists p ≡ before ++ (mid ++ after))
-      (not_before : times k before ≡ 0) (not_after : times k after ≡ 0) (nowhere : (q : ℕ) → q ≢ p → times k (lists q) ≡ 0) where
+  -- In the list of p the numbers between `before` and `after` are those of `now`. The number k is the only one of them whose link changed
+  module _ (apart : AreApart lists) (p k : ℕ) (before mid now after : List ℕ) (is : lists p ≡ before ++ (mid ++ after))
+      (not_before : times k before ≡ 0) (not_after : times k after ≡ 0) (nowhere : (q : ℕ) → q ≢ p → times k (lists q) ≡ 0)
+      (link_mid link' : ℕ → Neighbours) (but : (q : ℕ) → q ≢ k → link_mid q ≡ link q)
+      (own : (b : List ℕ) (x : ℕ) (a : List ℕ) → now ≡ b ++ x ∷ a → (x ≡ k) × (link_mid k ≡ link_between (before ++ b) (a ++ after)))
+      (written : (q : ℕ) → link' q ≡ with_prev (first_or after None) (last_or now (last_or before None))
+      (with_next (last_or before None) (first_or now (first_or after None)) link_mid) q) where
     -- a number of the list is in no other one, and at one place
     in_no_other : (q x : ℕ) → q ≢ p → 0 < times x (lists q) → times x (lists p) ≡ 0
-    in_no_other q x other more = elim (eq-zero-or-pos (times x (lists p))) [
-      | inl none ↦ none
-      | inr there ↦ absurd (other (apart.alone q p x more there))
-    ]
+    in_no_other q x other more = grind (arith, apart.alone q p x more, other)
 
     is_counted : (x : ℕ) → times x (lists p) ≡ times x before + (times x mid + times x after)
     is_counted x = ap (times x) is ∙ times_joined x before (mid ++ after) ∙ ap (λ n. times x before + n) (times_joined x mid after)
@@ -115,85 +122,95 @@ module _ {ends : ℕ → Bounds} {link : ℕ → Neighbours} {lists : ℕ → Li
     not_first : (x : ℕ) → times x after ≡ 0 → first_or after None ≢ Some x
     not_first x none first = absurd (omega (arith, first_in after x first))
 
-    -- the links that numbers before the place, and behind it, have now
-    module _ (now : List ℕ) (link' : ℕ → Neighbours) (relinks : Relinks link link' k before after (first_or now (first_or after None)) (last_or now (last_or before None))) where
-      link_before : (b : List ℕ) (x : ℕ) (m : List ℕ) → before ≡ b ++ x ∷ m → link' x ≡ link_between b (m ++ (now ++ after))
-      link_before b x [] at =
-          relinks.prev x (ap (λ l. last_or l None) at ∙ last_or-append b (x ∷ []) None)
-          ∙ ap (λ (l : Neighbours). record l { next = first_or now (first_or after None) })
-          (linked.links_are p b x (mid ++ after) (is ∙ ap (λ l. l ++ (mid ++ after)) at ∙ append_assoc b (x ∷ []) (mid ++ after)))
-          ∙ ap (λ n. record { prev = last_or b None; next = n }) (sym (first_or-append now after None))
-      link_before b x (y ∷ m) at = let sum = is_counted x in let once = apart.once p x in let there = ap (times x) at ∙ in_midst b x (y ∷ m) in let no_k : x ≢ k =
-          λ e. (omega (arith, rw (← e) at not_before)) in let no_last : last_or before None ≢ Some x =
-          λ last. (omega (arith, last_of y m x (sym (last_or-append b (x ∷ y ∷ m) None) ∙ sym (ap (λ l. last_or l None) at) ∙ last))) in
-          relinks.others x no_k no_last (not_first x (omega arith))
-          ∙ linked.links_are p b x ((y ∷ m) ++ (mid ++ after)) (is ∙ ap (λ l. l ++ (mid ++ after)) at ∙ append_assoc b (x ∷ y ∷ m) (mid ++ after))
+    -- no number stands on both sides
+    not_both : (x : ℕ) → last_or before None ≡ Some x → first_or after None ≢ Some x
+    not_both x last first = absurd (omega (arith, last_in before x last, first_in after x first, is_counted x, apart.once p x))
 
-      link_after : (m : List ℕ) (x : ℕ) (a : List ℕ) → after ≡ m ++ x ∷ a → link' x ≡ link_between (before ++ (now ++ m)) a
-      link_after [] x a at =
-          relinks.next x (ap (λ l. first_or l None) at)
-          ∙ ap (λ (l : Neighbours). record l { prev = last_or now (last_or before None) })
-          (linked.links_are p (before ++ mid) x a (is ∙ ap (λ l. before ++ (mid ++ l)) at ∙ sym (append_assoc before mid (x ∷ a))))
-          ∙ ap (λ l. record { prev = l; next = first_or a None }) (sym (last_or-append before (now ++ []) None ∙ last_or-append now [] (last_or before None)))
-      link_after (y ∷ m) x a at =
-          let sum = is_counted x in
-          let once = apart.once p x in
-          let there = ap (times x) at ∙ in_midst (y ∷ m) x a in
-          let no_k : x ≢ k = λ e. (omega (arith, rw (← e) at not_after)) in
-          let no_first : first_or after None ≢ Some x = λ first.
-          (let again = same_Some y x (sym (ap (λ l. first_or l None) at) ∙ first) in omega (arith, ap (λ q. same q x) again ∙ one_itself x, times_first x y m)) in
-          let whole = is ∙ ap (λ l. before ++ (mid ++ l)) at ∙ ap (λ l. before ++ l) (sym (append_assoc mid (y ∷ m) (x ∷ a))) ∙ sym (append_assoc before (mid ++ y ∷ m) (x ∷ a)) in
-          let last : (ks : List ℕ) → last_or (before ++ (ks ++ y ∷ m)) None ≡ last_or m (Some y) = λ ks. last_or-append before (ks ++ y ∷ m) None
-          ∙ last_or-append ks (y ∷ m) (last_or before None) in
-          relinks.others x no_k (not_last x (omega arith)) no_first
-          ∙ linked.links_are p (before ++ (mid ++ y ∷ m)) x a whole
-          ∙ ap (λ l. record { prev = l; next = first_or a None }) (last mid ∙ sym (last now))
+    -- the links that the two beside the place have now, and all others
+    abbrev to_next : Neighbours → Neighbours
+    to_next n = record n { next = first_or now (first_or after None) }
 
-      module _ (own : (b : List ℕ) (x : ℕ) (a : List ℕ) → now ≡ b ++ x ∷ a → link' x ≡ link_between (before ++ b) (a ++ after)) where
-        link_here : (b : List ℕ) (x : ℕ) (a : List ℕ) → before ++ (now ++ after) ≡ b ++ x ∷ a → link' x ≡ link_between b a
-        link_here b x a at = elim (cut_at before (now ++ after) b x a at) [
-          | inl there ↦ link_before b x there.0 there.1 ∙ ap (link_between b) (sym there.2)
-          | inr there ↦ elim (cut_at now after there.0 x a there.2) [
-            | inl inner ↦ own there.0 x inner.0 inner.1 ∙ ap (λ l. link_between l (inner.0 ++ after)) (sym there.1) ∙ ap (link_between b) (sym inner.2)
-            | inr inner ↦ link_after inner.0 x a inner.2 ∙ ap (λ l. link_between l a) (ap (λ l. before ++ l) (sym inner.1) ∙ sym there.1)
-          ]
-        ]
+    abbrev to_prev : Neighbours → Neighbours
+    to_prev n = record n { prev = last_or now (last_or before None) }
 
-        link_elsewhere : (q : ℕ) → q ≢ p → (b : List ℕ) (x : ℕ) (a : List ℕ) → lists q ≡ b ++ x ∷ a → link' x ≡ link_between b a
-        link_elsewhere q other b x a at = let there = ap (times x) at ∙ in_midst b x a in let none = in_no_other q x other (omega arith) in let sum = is_counted x in let no_k : x ≢ k =
-            λ e. (omega (arith, rw (← e) at (nowhere q other))) in relinks.others x no_k (not_last x (omega arith)) (not_first x (omega arith)) ∙ linked.links_are q b x a at
+    abbrev half : ℕ → Neighbours
+    half = with_link (last_or before None) to_next link_mid
 
-        pub linked_now : {ends' : ℕ → Bounds} {lists' : ℕ → List ℕ} → IsListed lists lists' ends ends' p (before ++ (now ++ after)) → AreLinked ends' link' lists'
-        linked_now {ends'} {lists'} listed = record {
-          ends_are = λ q. (elim (same_or_other q p) [
-            | inl same ↦ rw same (listed.ends ∙ ap ends_of (sym listed.list))
-            | inr other ↦ listed.other_ends q other ∙ linked.ends_are q ∙ ap ends_of (sym (listed.others q other))
-          ]);
-          links_are = λ q b x a at. (elim (same_or_other q p) [
-            | inl same ↦ link_here b x a (sym listed.list ∙ ap lists' (sym same) ∙ at)
-            | inr other ↦ link_elsewhere q other b x a (sym (listed.others q other) ∙ at)
-          ]);
-        }
+    link_same : (x : ℕ) → last_or before None ≢ Some x → first_or after None ≢ Some x → link' x ≡ link_mid x
+    link_same x no_last no_first = written x ∙ changed_elsewhere to_prev half x (first_or after None) no_first ∙ changed_elsewhere to_next link_mid x (last_or before None) no_last
 
-  -- a number that is in no list is put between two parts of one
-  pub linked_put : AreApart lists → (p k : ℕ) (before after : List ℕ) → lists p ≡ before ++ after → ((q : ℕ) → times k (lists q) ≡ 0) → {link' : ℕ → Neighbours}
-      → link' k ≡ link_between before after → Relinks link link' k before after (Some k) (Some k)
-      → {ends' : ℕ → Bounds} {lists' : ℕ → List ℕ} → IsListed lists lists' ends ends' p (before ++ k ∷ after) → AreLinked ends' link' lists'
-  linked_put apart p k before after is none {link'} own relinks listed =
-      let sum = sym (ap (times k) is ∙ times_joined k before after) ∙ none p in
-      linked_now apart p k before [] after is (omega arith) (omega arith) (λ q _. none q) (k ∷ []) link' relinks (alone_between own) listed where
-        alone_between : link' k ≡ link_between before after → (b : List ℕ) (x : ℕ) (a : List ℕ) → k ∷ [] ≡ b ++ x ∷ a → link' x ≡ link_between (before ++ b) (a ++ after)
-        alone_between own [] x a at = let key : x ≡ k = (cc) in let rest : a ≡ [] = (cc) in ap link' key ∙ own ∙ ap (λ b. link_between b after) (sym (append-nil before))
-            ∙ ap (λ l. link_between (before ++ []) (l ++ after)) (sym rest)
-        alone_between own (q ∷ b) x a at = absurd (cons_not_nil b x a (cc))
+    link_last : (x : ℕ) → last_or before None ≡ Some x → link' x ≡ to_next (link x)
+    link_last x last = written x ∙ changed_elsewhere to_prev half x (first_or after None) (not_both x last) ∙ ap (λ o. with_link o to_next link_mid x) last
+        ∙ changed_here to_next link_mid x ∙ ap to_next (but x (λ e. not_last k not_before (last ∙ ap Some e)))
 
-  -- a number is taken out of a list
-  pub linked_taken : AreApart lists → (p k : ℕ) (before after : List ℕ) → lists p ≡ before ++ k ∷ after → {link' : ℕ → Neighbours}
-      → Relinks link link' k before after (first_or after None) (last_or before None)
-      → {ends' : ℕ → Bounds} {lists' : ℕ → List ℕ} → IsListed lists lists' ends ends' p (before ++ after) → AreLinked ends' link' lists'
-  linked_taken apart p k before after is {link'} relinks listed =
-      let sum = sym (ap (times k) is ∙ in_midst before k after) in
-      let once = apart.once p k in
-      linked_now apart p k before (k ∷ []) after is (omega arith) (omega arith)
-      (λ q other. elim (eq-zero-or-pos (times k (lists q))) [ inl none ↦ none | inr there ↦ absurd (other (apart.alone q p k there (omega arith))) ])
-      [] link' relinks (λ b x a at. absurd (cons_not_nil b x a at)) listed
+    link_first : (x : ℕ) → first_or after None ≡ Some x → link' x ≡ to_prev (link x)
+    link_first x first = written x ∙ ap (λ o. with_link o to_prev half x) first ∙ changed_here to_prev half x
+        ∙ ap to_prev (changed_elsewhere to_next link_mid x (last_or before None) (λ last. not_both x last first) ∙ but x (λ e. not_first k not_after (first ∙ ap Some e)))
+
+    link_before : (b : List ℕ) (x : ℕ) (m : List ℕ) → before ≡ b ++ x ∷ m → link' x ≡ link_between b (m ++ (now ++ after))
+    link_before b x [] at =
+        link_last x (ap (λ l. last_or l None) at ∙ last_or-append b (x ∷ []) None)
+        ∙ ap to_next
+        (linked.links_are p b x (mid ++ after) (is ∙ ap (λ l. l ++ (mid ++ after)) at ∙ append_assoc b (x ∷ []) (mid ++ after)))
+        ∙ ap (λ n. record { prev = last_or b None; next = n }) (sym (first_or-append now after None))
+    link_before b x (y ∷ m) at = let sum = is_counted x in let once = apart.once p x in let there = ap (times x) at ∙ in_midst b x (y ∷ m) in let no_k : x ≢ k =
+        λ e. (omega (arith, rw (← e) at not_before)) in let no_last : last_or before None ≢ Some x =
+        λ last. (omega (arith, last_of y m x (sym (last_or-append b (x ∷ y ∷ m) None) ∙ sym (ap (λ l. last_or l None) at) ∙ last))) in
+        link_same x no_last (not_first x (omega arith)) ∙ but x no_k
+        ∙ linked.links_are p b x ((y ∷ m) ++ (mid ++ after)) (is ∙ ap (λ l. l ++ (mid ++ after)) at ∙ append_assoc b (x ∷ y ∷ m) (mid ++ after))
+
+    link_after : (m : List ℕ) (x : ℕ) (a : List ℕ) → after ≡ m ++ x ∷ a → link' x ≡ link_between (before ++ (now ++ m)) a
+    link_after [] x a at =
+        link_first x (ap (λ l. first_or l None) at)
+        ∙ ap to_prev
+        (linked.links_are p (before ++ mid) x a (is ∙ ap (λ l. before ++ (mid ++ l)) at ∙ sym (append_assoc before mid (x ∷ a))))
+        ∙ ap (λ l. record { prev = l; next = first_or a None }) (sym (last_or-append before (now ++ []) None ∙ last_or-append now [] (last_or before None)))
+    link_after (y ∷ m) x a at =
+        let sum = is_counted x in
+        let once = apart.once p x in
+        let there = ap (times x) at ∙ in_midst (y ∷ m) x a in
+        let no_k : x ≢ k = λ e. (omega (arith, rw (← e) at not_after)) in
+        let no_first : first_or after None ≢ Some x = λ first.
+        (let again = same_Some y x (sym (ap (λ l. first_or l None) at) ∙ first) in omega (arith, ap (λ q. same q x) again ∙ one_itself x, times_first x y m)) in
+        let whole = is ∙ ap (λ l. before ++ (mid ++ l)) at ∙ ap (λ l. before ++ l) (sym (append_assoc mid (y ∷ m) (x ∷ a))) ∙ sym (append_assoc before (mid ++ y ∷ m) (x ∷ a)) in
+        link_same x (not_last x (omega arith)) no_first ∙ but x no_k
+        ∙ linked.links_are p (before ++ (mid ++ y ∷ m)) x a whole
+        ∙ ap (λ l. record { prev = l; next = first_or a None }) (last_behind before mid y m ∙ sym (last_behind before now y m))
+
+    link_here : (b : List ℕ) (x : ℕ) (a : List ℕ) → before ++ (now ++ after) ≡ b ++ x ∷ a → link' x ≡ link_between b a
+    link_here b x a at = elim (cut_at before (now ++ after) b x a at) [
+      | inl there ↦ link_before b x there.0 there.1 ∙ ap (link_between b) (sym there.2)
+      | inr there ↦ elim (cut_at now after there.0 x a there.2) [
+        | inl inner ↦ (let at_k = own there.0 x inner.0 inner.1 in ap link' at_k.0 ∙ link_same k (not_last k not_before) (not_first k not_after) ∙ at_k.1
+            ∙ ap (λ l. link_between l (inner.0 ++ after)) (sym there.1) ∙ ap (link_between b) (sym inner.2))
+        | inr inner ↦ link_after inner.0 x a inner.2 ∙ ap (λ l. link_between l a) (ap (λ l. before ++ l) (sym inner.1) ∙ sym there.1)
+      ]
+    ]
+
+    link_elsewhere : (q : ℕ) → q ≢ p → (b : List ℕ) (x : ℕ) (a : List ℕ) → lists q ≡ b ++ x ∷ a → link' x ≡ link_between b a
+    link_elsewhere q other b x a at = let there = ap (times x) at ∙ in_midst b x a in let none = in_no_other q x other (omega arith) in let sum = is_counted x in let no_k : x ≢ k =
+        λ e. (omega (arith, rw (← e) at (nowhere q other))) in link_same x (not_last x (omega arith)) (not_first x (omega arith)) ∙ but x no_k ∙ linked.links_are q b x a at
+
+    pub linked_now : {ends' : ℕ → Bounds} {lists' : ℕ → List ℕ} → IsListed lists lists' ends ends' p (before ++ (now ++ after)) → AreLinked ends' link' lists'
+    linked_now {ends'} {lists'} listed = record {
+      ends_are = λ q. (elim (same_or_other q p) [
+        | inl same ↦ rw same (listed.ends ∙ ap ends_of (sym listed.list))
+        | inr other ↦ listed.other_ends q other ∙ linked.ends_are q ∙ ap ends_of (sym (listed.others q other))
+      ]);
+      links_are = λ q b x a at. (elim (same_or_other q p) [
+        | inl same ↦ link_here b x a (sym listed.list ∙ ap lists' (sym same) ∙ at)
+        | inr other ↦ link_elsewhere q other b x a (sym (listed.others q other) ∙ at)
+      ]);
+    }
+
+-- lists that are kept as links are those that the links lead to
+pub linked_self : {ends : ℕ → Bounds} {link : ℕ → Neighbours} {lists : ℕ → List ℕ} → AreLinked ends link lists → AreLinked ends link (λ p. followed link (ends p))
+linked_self linked = record {
+  ends_are = λ p. linked.ends_are p ∙ ap ends_of (sym (followed_is linked p));
+  links_are = λ p before k after is. linked.links_are p before k after (sym (followed_is linked p) ∙ is);
+}
+
+-- the same ends and the same links
+module _ {ends ends' : ℕ → Bounds} {link link' : ℕ → Neighbours} (same_ends : (q : ℕ) → ends' q ≡ ends q) (same_links : (q : ℕ) → link' q ≡ link q) where
+  pub linked_along : AreLinked ends link (λ p. followed link (ends p)) → AreLinked ends' link' (λ p. followed link' (ends' p))
+  linked_along = subst (λ (x : (ℕ → Bounds) × (ℕ → Neighbours)). AreLinked x.0 x.1 (λ p. followed x.1 (x.0 p))) (λ i. ((λ q. sym (same_ends q) i), (λ q. sym (same_links q) i)))

@@ -41,13 +41,6 @@ pub record AreApart (lists : ℕ → List ℕ) : Type 0 where
   pub once : (p k : ℕ) → times k (lists p) ≤ 1
   pub alone : (p q k : ℕ) → 0 < times k (lists p) → 0 < times k (lists q) → p ≡ q
 
--- the last number of `before` leads on to this one now, the first number of `after` leads back to that one, and all links but these and that of k
--- are the same
-pub record Relinks (old new : ℕ → Neighbours) (k : ℕ) (before after : List ℕ) (on back : Option ℕ) : Type 0 where
-  pub prev : (l : ℕ) → last_or before None ≡ Some l → new l ≡ record (old l) { next = on }
-  pub next : (f : ℕ) → first_or after None ≡ Some f → new f ≡ record (old f) { prev = back }
-  pub others : (x : ℕ) → x ≢ k → last_or before None ≢ Some x → first_or after None ≢ Some x → new x ≡ old x
-
 -- this list is the one of p now, with its ends, and all other owners have theirs as before
 pub record IsListed (old new : ℕ → List ℕ) (old_ends new_ends : ℕ → Bounds) (p : ℕ) (ks : List ℕ) : Type 0 where
   pub list : new p ≡ ks

@@ -40,12 +40,11 @@ impl<'a> Model for Members<'a> {
 
     ghost use Rattle.slotmap_links.specs.Linked.{follow};
     ghost use Rattle.slotmap_links.specs.Kept.{link_at, unless_nobody};
-    ghost use Rattle.slotmap_links.specs.Segment.{AreBelow, IsSegment};
+    ghost use Rattle.slotmap_links.specs.Segment.{IsSegment};
 
     ghost view = { λ it. follow (link_at it.links.now) it.left (unless_nobody it.first) };
 
-    ghost invariant = { λ it. IsSegment (link_at it.links.now) it.left (unless_nobody it.first) (unless_nobody it.last)
-        × AreBelow (length it.links.now) (follow (link_at it.links.now) it.left (unless_nobody it.first)) };
+    ghost invariant = { λ it. IsSegment it.links.now it.left it.first it.last };
 }
 
 impl<'a> Iterator for Members<'a> {
@@ -130,12 +129,11 @@ impl<'a> Model for MembersFrom<'a> {
 
     ghost use Rattle.slotmap_links.specs.Linked.{follow};
     ghost use Rattle.slotmap_links.specs.Kept.{link_at, unless_nobody};
-    ghost use Rattle.slotmap_links.specs.Segment.{AreBelow, IsTail};
+    ghost use Rattle.slotmap_links.specs.Segment.{IsTail};
 
     ghost view = { λ it. follow (link_at it.links.now) (length it.links.now) (unless_nobody it.at) };
 
-    ghost invariant = { λ it. IsTail (link_at it.links.now) (length it.links.now) (unless_nobody it.at)
-        × AreBelow (length it.links.now) (follow (link_at it.links.now) (length it.links.now) (unless_nobody it.at)) };
+    ghost invariant = { λ it. IsTail it.links.now it.at };
 }
 
 impl<'a> Iterator for MembersFrom<'a> {

@@ -5,9 +5,9 @@ use Rattle.std.specs.List.{cons_option}
 use Rattle.slotmap.specs.Words.{Key, key_cmp}
 use Rattle.slotmap.proofs.Callers.{keys_total, exact_keys, tied}
 use Rattle.slotmap_links.specs.Lists.{times}
-use Rattle.slotmap_links.proofs.Counts.{is_itself, times_first, times_joined}
+use Rattle.slotmap_links.proofs.Counts.{times_first, times_joined}
 use Rattle.slotmap_links.proofs.Linking.{in_midst, split_at, without_split}
-use Rattle.slotmap_links.proofs.SeenLists.{after_there, before_there, not_first, not_later, put_before_there, put_behind_there}
+use Rattle.slotmap_links.proofs.SeenLists.{splits}
 use Rattle.slotmap_list.specs.Sequence.{value_of, key_after, key_before, from_key, put_after, put_before, without, IsOnce}
 use Rattle.slotmap_list.specs.Kept.{at_index, elements_at, key_there, AreLiveIndices}
 use Rattle.slotmap_bounded.specs.Indices.{AreApart}
@@ -21,12 +21,6 @@ use Rattle.slotmap_list.proofs.Indices.{at_is, at_live, as_often, elements_first
 use Rattle.std.specs.FinMap as map
 use Rattle.slotmap_links.specs.Lists as numbers
 use Rattle.slotmap_list.proofs.Elements as keys
-
--- the numbers from a number on
-from_there : (k : ℕ) (before after : List ℕ) → times k before ≡ 0 → numbers.numbers_from k (before ++ k ∷ after) ≡ k ∷ after
-from_there k [] after none = ap (λ b. cond b (k ∷ after) (numbers.numbers_from k after)) (is_itself k)
-from_there k (q ∷ before) after none =
-    ap (λ b. cond b (q ∷ (before ++ k ∷ after)) (numbers.numbers_from k (before ++ k ∷ after))) (not_first k after q before none) ∙ from_there k before after (not_later k after q before none)
 
 module _ {T : Type 0} (m : map.FinMap key_cmp T) where
   -- a key that isn't live has no element
@@ -92,15 +86,15 @@ module _ {T : Type 0} (m : map.FinMap key_cmp T) where
       value_there = ap (value_of k) s.elements ∙ value_of-split k v (elements_at m s.after) (elements_at m s.before) s.no_element
 
       pub next_there : key_there m (numbers.number_after k.index is) ≡ key_after k (elements_at m is)
-      next_there = ap (key_there m) (ap (numbers.number_after k.index) s.list ∙ after_there k.index s.after s.before s.not_before) ∙ first_at s.after s.after_indices
+      next_there = ap (key_there m) (ap (numbers.number_after k.index) s.list ∙ (splits k.index s.after s.before s.not_before).after_is) ∙ first_at s.after s.after_indices
           ∙ sym (ap (key_after k) s.elements ∙ key_after-split k v (elements_at m s.after) (elements_at m s.before) s.no_element)
 
       pub prev_there : key_there m (numbers.number_before None k.index is) ≡ key_before None k (elements_at m is)
-      prev_there = ap (key_there m) (ap (numbers.number_before None k.index) s.list ∙ before_there k.index s.after s.before None s.not_before) ∙ last_at s.before s.before_indices
+      prev_there = ap (key_there m) (ap (numbers.number_before None k.index) s.list ∙ (splits k.index s.after s.before s.not_before).before_is None) ∙ last_at s.before s.before_indices
           ∙ sym (ap (key_before None k) s.elements ∙ key_before-split k v (elements_at m s.after) None (elements_at m s.before) s.no_element)
 
       pub from_at : elements_at m (numbers.numbers_from k.index is) ≡ from_key k (elements_at m is)
-      from_at = ap (elements_at m) (ap (numbers.numbers_from k.index) s.list ∙ from_there k.index s.before s.after s.not_before)
+      from_at = ap (elements_at m) (ap (numbers.numbers_from k.index) s.list ∙ (splits k.index s.after s.before s.not_before).from_is)
           ∙ elements_first m k.index s.after (k, v) (at_live m all.apart k v found)
           ∙ sym (ap (from_key k) s.elements ∙ from_key-split k v (elements_at m s.after) (elements_at m s.before) s.no_element)
 
@@ -137,7 +131,7 @@ module _ {T : Type 0} (m : map.FinMap key_cmp T) where
           before = s.before;
           after = k.index ∷ s.after;
           list = s.list;
-          number = λ i. ap (numbers.put_before k.index i) s.list ∙ put_before_there k.index s.after i s.before s.not_before;
+          number = λ i. ap (numbers.put_before k.index i) s.list ∙ (splits k.index s.after s.before s.not_before).put_before_is i;
           element = λ x. ap (put_before k x) s.elements ∙ put_before-split k v.0 (elements_at m s.after) x (elements_at m s.before) s.no_element
               ∙ ap (λ l. elements_at m s.before ++ x ∷ l) (sym here);
         }
@@ -150,7 +144,7 @@ module _ {T : Type 0} (m : map.FinMap key_cmp T) where
           before = s.before ++ k.index ∷ [];
           after = s.after;
           list = s.list ∙ sym (append_assoc s.before (k.index ∷ []) s.after);
-          number = λ i. ap (numbers.put_behind k.index i) s.list ∙ put_behind_there k.index s.after i s.before s.not_before ∙ sym (append_assoc s.before (k.index ∷ []) (i ∷ s.after));
+          number = λ i. ap (numbers.put_behind k.index i) s.list ∙ (splits k.index s.after s.before s.not_before).put_behind_is i ∙ sym (append_assoc s.before (k.index ∷ []) (i ∷ s.after));
           element = λ x. ap (put_after k x) s.elements ∙ put_after-split k v.0 (elements_at m s.after) x (elements_at m s.before) s.no_element
               ∙ sym (append_assoc (elements_at m s.before) ((k, v.0) ∷ []) (x ∷ elements_at m s.after)) ∙ ap (λ l. l ++ x ∷ elements_at m s.after) (sym here);
         }

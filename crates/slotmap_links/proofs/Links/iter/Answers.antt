@@ -2,5 +2,4 @@ use Rattle.slotmap_links.proofs.Begins.{segment_begins}
 use Rattle.slotmap_links.proofs.Links.iter.Goals as goal
 
 pub invariant_of-result : goal.invariant_of-result
-invariant_of-result c = rw c.deref.ensures.value (segment_begins c.self.inside.ends.items c.self.inside.links.items c.self.invariant c.args.self.now c.self.view_is
-    c.args.owner c.index-ends.result.now c.index-ends.ensures c.requires)
+invariant_of-result c = rw c.deref.ensures.value (segment_begins c.self.invariant c.self.view_is c.args.owner c.index-ends.result.now c.index-ends.ensures c.requires)

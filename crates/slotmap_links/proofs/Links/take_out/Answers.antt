@@ -1,8 +1,8 @@
-use Rattle.slotmap_links.proofs.SeenLists.{seen_written, take_relists}
+use Rattle.std.proofs.Common.{ap, ◌∙◌}
+use Rattle.slotmap_links.specs.Lists.{with_list, without}
+use Rattle.slotmap_links.proofs.SeenLists.{list_here, seen_written}
 use Rattle.slotmap_links.proofs.Links.take_out.Goals as goal
 
 pub returns : goal.returns
-returns c = seen_written c.self.inside.ends c.self.inside.links c.args.owner _ c.take_between.new.ends c.take_between.new.links
-    (take_relists c.self.inside.ends.items c.self.inside.links.items c.args.self.now c.self.view_is c.args.owner c.deref_mut.result.now c.deref_mut-2.result.now
-    c.deref_mut.ensures.value c.deref_mut-2.ensures.value
-    c.args.member c.take_between.new.ends c.take_between.new.links c.take_between.ensures) c.args.self.now c.self.view_is c.requires.owner
+returns c = seen_written c.self.inside.ends c.self.inside.links c.args.owner _ _ _ (rw (c.deref_mut.ensures.value, c.deref_mut-2.ensures.value) at c.take_between.ensures)
+    c.args.self.now c.self.view_is c.requires.owner ∙ ap (λ l. with_list c.args.self.now c.args.owner (without c.args.member l)) (list_here c.self.invariant c.self.view_is c.args.owner)

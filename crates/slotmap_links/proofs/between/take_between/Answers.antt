@@ -15,14 +15,11 @@ set_prev-requires-clause-at c = rw (c.set_next.auto.links) (taken_next_below c.a
 pub overflow_sub-ends : goal.overflow_sub-ends
 overflow_sub-ends c =
     let fits = take_fits c.args.ends.now c.args.links.now c.requires.kept c.args.owner c.requires.owner c.args.member c.requires.listed (record { prev = 0; next = 0 })
-    c.set_next.new.links c.set_prev.new.links c.set_next.new.ends c.set_prev.new.ends
-    (c.set_prev.auto.links ∙ c.set_next.auto.links) (c.set_prev.auto.ends ∙ c.set_next.auto.ends)
-    c.set_next.ensures.links c.set_prev.ensures.links c.set_next.ensures.ends c.set_prev.ensures.ends (record { first = 0; last = 0; len = 0 }) in
+    c.set_next.new.ends c.set_prev.new.ends (c.set_prev.auto.ends ∙ c.set_next.auto.ends) c.set_next.ensures.ends c.set_prev.ensures.ends (record { first = 0; last = 0; len = 0 }) in
     omega arith
 
 pub returns : goal.returns
 returns c =
     take_written c.args.ends.now c.args.links.now c.requires.kept c.args.owner c.requires.owner c.args.member c.requires.listed (record { prev = 0; next = 0 })
-    c.set_next.new.links c.set_prev.new.links c.set_next.new.ends c.set_prev.new.ends
-    (c.set_prev.auto.links ∙ c.set_next.auto.links) (c.set_prev.auto.ends ∙ c.set_next.auto.ends)
-    c.set_next.ensures.links c.set_prev.ensures.links c.set_next.ensures.ends c.set_prev.ensures.ends (record { first = 0; last = 0; len = 0 })
+    c.set_next.new.ends c.set_prev.new.ends (c.set_prev.auto.ends ∙ c.set_next.auto.ends) c.set_next.ensures.ends c.set_prev.ensures.ends (record { first = 0; last = 0; len = 0 })
+    c.set_next.new.links c.set_prev.new.links (c.set_prev.auto.links ∙ c.set_next.auto.links) c.set_next.ensures.links c.set_prev.ensures.links
