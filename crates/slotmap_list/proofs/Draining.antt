@@ -1,5 +1,5 @@
 -- What the steps of a drain keep, and what they yield.
-use Rattle.std.proofs.Common.{◌≡◌, [], ◌∷◌, Option, Some, None, IsSome, IfSome, ◌⊎◌, inl, inr, refl, sym, ap, subst, ◌∙◌}
+use Rattle.std.proofs.Common.{◌≡◌, [], ◌∷◌, Option, Some, None, IsSome, IfSome, ◌⊎◌, inl, inr, refl, ap, subst, ◌∙◌}
 use Rattle.std.specs.Prelude.{option_map}
 use Rattle.slotmap.specs.Words.{Key, IsSpent, KeepsSpent, Leaves}
 use Rattle.slotmap.proofs.Callers.{leaves_in_turn}

@@ -16,7 +16,7 @@ use Rattle.slotmap_list.specs.declared.place.Place.{Place}
 use Rattle.slotmap_list.proofs.Elements.{splits}
 use Rattle.slotmap_list.proofs.Indices.{at_is, at_live, content_apart, element_of, elements_first, in_first, rest_indices as indices_behind}
 use Rattle.slotmap_list.proofs.Parts.{IsPlace, place_in, part_left, placed, put_between, number_without, element_without}
-use Rattle.slotmap_list.proofs.Seen.{once, inside_if, own, stands}
+use Rattle.slotmap_list.proofs.Seen.{once, own, stands}
 use Rattle.std.specs.FinMap as map
 use Rattle.slotmap_links.specs.Lists as numbers
 

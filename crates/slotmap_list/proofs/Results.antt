@@ -1,5 +1,5 @@
 -- Calls that fail, and what holds where a call succeeds.
-use Rattle.std.proofs.Common.{◌≡◌, ℕ, ◌<◌, ◌≤◌, true, Result, Ok, Err, IsOk, OnOk, IsErr, refl, sym, subst, arith}
+use Rattle.std.proofs.Common.{◌≡◌, ℕ, ◌<◌, ◌≤◌, true, Result, Ok, Err, IsOk, OnOk, IsErr, sym, subst, arith}
 use Rattle.slotmap.specs.Words.{Content, IsContent, MakesRoom, RefusesCapacity, most}
 use Rattle.slotmap.specs.declared.ReserveError.{ReserveError}
 use Rattle.slotmap.specs.declared.ReserveError.TheVariants.{TooGreat}

@@ -1,4 +1,4 @@
-use Rattle.std.proofs.Common.{◌≡◌, true, Some, is_some, refl, sym, ap, ◌∙◌}
+use Rattle.std.proofs.Common.{◌≡◌, true, Some, is_some, sym, ap, ◌∙◌}
 use Rattle.slotmap.proofs.Callers.{keeps_spent_alone, leaves_by_removal, leaves_none, removed_spent, spent_alone, spent_removes}
 use Rattle.slotmap_keylist.proofs.Alone.{alone-leaves, alone-removes}
 use Rattle.slotmap_list.proofs.Keeps.{elements_taken, get-remove_here, kept_taken}
