@@ -249,7 +249,8 @@ module _ {T : Type 0} (is_clone : T → T → Type 0) {c copy : Content T} {s : 
           (λ j. (sym (elements_first c.live i is e at) j, sym (elements_first copy.live i is (e.0, w) there) j)) ((refl, is_one), others)
 
   pub elements_cloned : AreClones is_clone (elements_at c.live (list_of s 0)) (elements_at copy.live (list_of s 0))
-  elements_cloned = clones_by (λ a b of_a of_b. kept.indices.apart a b (sym (clone_live is_clone c copy clones a) ∙ of_a) (sym (clone_live is_clone c copy clones b) ∙ of_b)) (list_of s 0) kept.indices
+  elements_cloned = clones_by (λ a b of_a of_b. kept.indices.apart a b (sym (clone_live is_clone c copy clones a) ∙ of_a) (sym (clone_live is_clone c copy clones b) ∙ of_b))
+      (list_of s 0) kept.indices
 
 -- where clones equal their values, so do the lists
 pub clones_are_same : {T : Type 0} (is_clone : T → T → Type 0) → ClonesEqual is_clone → (xs ys : List (Key × T)) → AreClones is_clone xs ys → ys ≡ xs

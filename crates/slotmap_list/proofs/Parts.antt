@@ -90,7 +90,8 @@ module _ {T : Type 0} (m : map.FinMap key_cmp T) where
     value_there = ap (value_of k) s.elements ∙ keys_split.value_is
 
     pub next_there : key_there m (numbers.number_after k.index is) ≡ key_after k (elements_at m is)
-    next_there = ap (key_there m) (ap (numbers.number_after k.index) s.list ∙ numbers_split.after_is) ∙ first_at s.after s.after_indices ∙ sym (ap (key_after k) s.elements ∙ keys_split.after_is)
+    next_there = ap (key_there m) (ap (numbers.number_after k.index) s.list ∙ numbers_split.after_is) ∙ first_at s.after s.after_indices
+        ∙ sym (ap (key_after k) s.elements ∙ keys_split.after_is)
 
     pub prev_there : key_there m (numbers.number_before None k.index is) ≡ key_before None k (elements_at m is)
     prev_there = ap (key_there m) (ap (numbers.number_before None k.index) s.list ∙ numbers_split.before_is None) ∙ last_at s.before s.before_indices

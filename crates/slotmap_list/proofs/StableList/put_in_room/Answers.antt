@@ -40,7 +40,8 @@ pub returns-clause-fresh : goal.returns-clause-fresh
 returns-clause-fresh g c = rw (← c.self.view_is) (value_at c.self.invariant (g.K.Key.data_of c.insert_reserved-key.result) ∙ c.insert_reserved-key.ensures.fresh)
 
 pub returns-clause-unspent : goal.returns-clause-unspent
-returns-clause-unspent g c = rw (← c.self.view_is) (λ spent. inserted_not_spent _ _ true c.insert_reserved-key.ensures.valid.before _ _ c.insert_reserved-key.ensures.inserts _ (alone_spent _ _ spent) refl)
+returns-clause-unspent g c =
+    rw (← c.self.view_is) (λ spent. inserted_not_spent _ _ true c.insert_reserved-key.ensures.valid.before _ _ c.insert_reserved-key.ensures.inserts _ (alone_spent _ _ spent) refl)
 
 pub returns-clause-cursors : goal.returns-clause-cursors
 returns-clause-cursors g c = rw (← c.self.view_is) (alone-inserts _ _ _ _ c.insert_reserved-key.ensures.inserts)

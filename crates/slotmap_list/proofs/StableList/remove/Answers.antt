@@ -18,7 +18,8 @@ returns-in_err-value-clause-value g c =
 
 pub returns-in_err-value-clause-removed : goal.returns-in_err-value-clause-removed
 returns-in_err-value-clause-removed g c =
-    rw (c.in_err-value.ensures.unchanged, ← c.self.view_is) (sym ((gone_from c.self.invariant (g.K.Key.data_of c.args.cursor) (ap is_some (sym (rw c.in_err-value.was at c.remove.ensures.value)))).without_is))
+    rw (c.in_err-value.ensures.unchanged, ← c.self.view_is)
+    (sym ((gone_from c.self.invariant (g.K.Key.data_of c.args.cursor) (ap is_some (sym (rw c.in_err-value.was at c.remove.ensures.value)))).without_is))
 
 pub returns-in_err-value-clause-absent : goal.returns-in_err-value-clause-absent
 returns-in_err-value-clause-absent g c =

@@ -38,7 +38,8 @@ returns-then-is_err-clause-err g c = let many = used_alone c.self.inside.values 
 
 pub invariant_of-self-2 : goal.invariant_of-self-2
 invariant_of-self-2 g c = let long = on_ok c.cover.result c.cover.ensures.covers c.if-is_err.ensures.negation in let value = c.in_ok-capacity.ensures.value in let made = c.reserve.ensures.capacity in
-    kept_alike c.self.invariant c.reserve.new.self (λ q. ap (λ m. map.contains_key m q) c.reserve.ensures.makes_room.keeps.live) c.cover.new.links c.cover.ensures.lists c.cover.ensures.more (omega arith)
+    kept_alike c.self.invariant c.reserve.new.self (λ q. ap (λ m. map.contains_key m q) c.reserve.ensures.makes_room.keeps.live) c.cover.new.links
+    c.cover.ensures.lists c.cover.ensures.more (omega arith)
 
 pub returns-clause-makes_room : goal.returns-clause-makes_room
 returns-clause-makes_room g c = rw (← c.self.view_is) (alone-room _ _ _ _ c.reserve.ensures.makes_room)
