@@ -4,49 +4,33 @@ use Rattle.std.proofs.Common.{ap, arith}
 use Rattle.std.specs.{Ordering.nat_cmp, Cmp.nat_cmp_total}
 use Rattle.slotmap.specs.Words.{Key, key_cmp, Content, IsContent, IsLive, IsNew, Inserts, Removes, MakesRoom, StaysValid, IsCloneBy, IsCloneOf, is_last, places, used, with_value}
 use Rattle.slotmap.proofs.Callers.{clone_len, inserted_len, get-insert_here, leaves_by_removal, len_removed, keys_total, exact_keys, same_or_other, get-insert_other}
-use Rattle.slotmap_keylist.proofs.Alone.{alone-written, same_live}
+use Rattle.slotmap_keylist.proofs.{Alone.alone-written, Alone.same_live, Shown.shown_content}
 use Rattle.slotmap_bounded.specs.Bounded.{IsBounded, bounded}
 use Rattle.std.specs.FinMap as map
 use Rattle.std.specs.FinSet as set
 
--- a write keeps a content well formed
-module _ {V : Type 0} (c : Content V) (well : IsContent true c) (k : Key) (live : IsLive c k) (v : V) where
-  same_len : map.len (map.insert c.live k v) ≡ map.len c.live
-  same_len = map.len-insert keys_total c.live k v ∙ ap (λ b. cond b (map.len c.live) (map.len c.live + 1)) live
-
-  written_valid : IsContent true (with_value c k v)
-  written_valid = let lists = λ (stack : List ℕ) (is : c.stack ≡ Some stack). (well.stacked stack is).lists in
-      let once = λ (stack : List ℕ) (is : c.stack ≡ Some stack). (well.stacked stack is).once in let top = λ (stack : List ℕ) (is : c.stack ≡ Some stack). (well.stacked stack is).top in
-      grind (arith, same_live c (with_value c k v) (alone-written c k v live), same_len, lists, once, top)
-
-module _ {V : Type 0} (c : Content V) (room capacity : ℕ) (is : IsBounded c room capacity) where
+module _ {V : Type 0} {c : Content V} {room capacity : ℕ} (is : IsBounded c room capacity) where
   pub bounded_valid : IsContent true (bounded c room capacity)
   bounded_valid = let well = is.valid in let lists = λ (stack : List ℕ) (at : c.stack ≡ Some stack). (well.stacked stack at).lists in
       let once = λ (stack : List ℕ) (at : c.stack ≡ Some stack). (well.stacked stack at).once in let top = λ (stack : List ℕ) (at : c.stack ≡ Some stack). (well.stacked stack at).top in
       grind (arith, lists, once, top)
 
-module _ {V : Type 0} (c : Content V) (room capacity : ℕ) (is : IsBounded c room capacity) where
+module _ {V : Type 0} {c : Content V} {room capacity : ℕ} (is : IsBounded c room capacity) where
   -- a value is written
   pub written : (k : Key) → IsLive c k → (v : V) → IsBounded (with_value c k v) room capacity
-  written k live v = let len = same_len c is.valid k live v in record { valid = written_valid c is.valid k live v; vacant = is.vacant; fits = is.fits; exact = (omega (arith, is.exact)) }
+  written k live v =
+      let len : map.len (map.insert c.live k v) ≡ map.len c.live = map.len-insert keys_total c.live k v ∙ ap (λ b. cond b (map.len c.live) (map.len c.live + 1)) live in
+      let valid = shown_content c (map.insert c.live k v) (same_live c (with_value c k v) (alone-written c k v live)) len true is.valid in
+      record { valid = valid; vacant = is.vacant; fits = is.fits; exact = (omega (arith, is.exact)) }
 
   -- a value comes
-  module _ (k : Key) (v : V) (new : Content V) (inserts : Inserts c k v new) where
+  module _ {k : Key} {v : V} {new : Content V} (inserts : Inserts c k v new) where
     used_more : used new ≡ used c + 1
     used_more = omega (arith, inserted_len true c k v new is.valid inserts, ap set.len inserts.detached, ap set.len inserts.retired)
 
     vacant_less : 0 < room → map.len new.next ≤ room - 1
     vacant_less some =
-        let vacant = is.vacant in
-        let next = ap map.len inserts.next ∙ map.len-remove nat_cmp_total c.next k.index in
-        elim (is.valid.offers inserts.below_limit) [
-          | inl there ↦ (let found : map.contains_key c.next k.index ≡ true = ap (λ (q : Key). map.contains_key c.next q.index) inserts.offered ∙ ap is_some there in
-              let less = next ∙ ap (λ b. cond b (map.len c.next - 1) (map.len c.next)) found in omega arith)
-          | inr made ↦ (let none = made.0 in elim (map.contains_key c.next k.index) as (λ b. map.len new.next ≡ cond b (map.len c.next - 1) (map.len c.next) → map.len new.next ≤ room - 1) [
-            | true ↦ λ at. omega arith
-            | false ↦ λ at. omega arith
-          ] next)
-        ]
+        let next = ap map.len inserts.next ∙ map.len-remove nat_cmp_total c.next k.index in let offers = is.valid.offers inserts.below_limit in grind (arith, is.vacant, inserts.offered)
 
     pub inserted : 0 < room → IsContent true new → IsBounded new (room - 1) capacity
     inserted some valid = grind (arith, vacant_less some, used_more)
@@ -59,41 +43,28 @@ module _ {V : Type 0} (c : Content V) (room capacity : ℕ) (is : IsBounded c ro
         omega (arith, (valid.within k (inl (inl there))).1, now.vacant, now.exact)
 
   -- a value goes
-  module _ (k : Key) (live : IsLive c k) (new : Content V) (removes : Removes c k new) (valid : IsContent true new) where
-    same_places : places new ≡ places c
-    same_places = (leaves_by_removal true c is.valid k live new removes).same_places
-
-    removed_last : is_last k ≡ true → IsBounded new (room + 0) capacity
-    removed_last last = let next : map.len new.next ≡ map.len c.next = ap map.len removes.next ∙ rw last refl in let more : c.room + 0 ≤ new.room = rw last at removes.room in
-        let same = same_places in grind arith
-
-    removed_other : is_last k ≡ false → IsBounded new (room + 1) capacity
-    removed_other other =
-        let retired : set.len new.retired ≡ set.len c.retired = ap set.len removes.retired ∙ rw other refl in
-        let more : c.room + 1 ≤ new.room = rw other at removes.room in
+  module _ {k : Key} (live : IsLive c k) {new : Content V} (removes : Removes c k new) (valid : IsContent true new) where
+    pub removed : IsBounded new (room + (if is_last k then 0 else 1)) capacity
+    removed =
         let detached = ap set.len removes.detached in
+        let retired = ap set.len removes.retired in
+        let next = ap map.len removes.next in
         let less = ap map.len removes.live in
         let len = len_removed keys_total exact_keys c.live k live in
-        let same = same_places in
-        grind arith
-
-    pub removed : IsBounded new (room + (if is_last k then 0 else 1)) capacity
-    removed = elim (is_last k) as (λ b. is_last k ≡ b → IsBounded new (room + (if b then 0 else 1)) capacity) [
-      | true ↦ removed_last
-      | false ↦ removed_other
-    ] refl
+        let same = (leaves_by_removal true c is.valid k live new removes).same_places in
+        grind (arith, removes.room)
 
     pub removes_bounded : Removes (bounded c room capacity) k (bounded new (room + (if is_last k then 0 else 1)) capacity)
     removes_bounded = record { live = removes.live; detached = removes.detached; retired = removes.retired; next = removes.next; stack = removes.stack; room = omega arith }
 
   -- room is there, is made, or can't be made
   pub had_room : (n : ℕ) (ok : Type 0) → ok → n ≤ room → MakesRoom true (bounded c room capacity) n ok (bounded c room capacity)
-  had_room n ok done more = let valid = bounded_valid c room capacity is in grind arith
+  had_room n ok done more = let valid = bounded_valid is in grind arith
 
   pub none_made : (n : ℕ) (ok : Type 0) → (ok → ⊥) → room < n → MakesRoom true (bounded c room capacity) n ok (bounded c room capacity)
-  none_made n ok failed less = let valid = bounded_valid c room capacity is in grind arith
+  none_made n ok failed less = let valid = bounded_valid is in grind arith
 
-  module _ (n asked : ℕ) (ok : Type 0) (new : Content V) (makes : MakesRoom true c n ok new) (enough : asked ≤ n) (less : room < asked) where
+  module _ {n : ℕ} {ok : Type 0} {new : Content V} (makes : MakesRoom true c n ok new) {asked : ℕ} (enough : asked ≤ n) (less : room < asked) where
     same_used : used new ≡ used c
     same_used = omega (arith, ap map.len makes.keeps.live, ap set.len makes.keeps.detached, ap set.len makes.keeps.retired)
 
@@ -107,15 +78,15 @@ module _ {V : Type 0} (c : Content V) (room capacity : ℕ) (is : IsBounded c ro
     refused_same = let keeps = makes.keeps in cc
 
     pub made_room : ok → (fine : Type 0) → fine → MakesRoom true (bounded c room capacity) asked fine (bounded new n (capacity - room + n))
-    made_room done fine is_fine = let before = bounded_valid c room capacity is in let after = bounded_valid new n (capacity - room + n) (made done) in grind (arith, makes.fits)
+    made_room done fine is_fine = let before = bounded_valid is in let after = bounded_valid (made done) in grind (arith, makes.fits)
 
     pub refused_room : (fine : Type 0) → (fine → ⊥) → MakesRoom true (bounded c room capacity) asked fine (bounded new room capacity)
-    refused_room fine failed = let before = bounded_valid c room capacity is in let after = bounded_valid new room capacity refused in grind arith
+    refused_room fine failed = let before = bounded_valid is in let after = bounded_valid refused in grind arith
 
 -- the capacity stays
-pub stays : {V : Type 0} (c new : Content V) (room now capacity : ℕ) → IsBounded c room capacity → IsBounded new now capacity
+pub stays : {V : Type 0} {c new : Content V} {room now capacity : ℕ} → IsBounded c room capacity → IsBounded new now capacity
     → StaysValid true (bounded c room capacity) (bounded new now capacity)
-stays c new room now capacity was is = record { before = bounded_valid c room capacity was; after = bounded_valid new now capacity is; capacity = refl }
+stays was is = record { before = bounded_valid was; after = bounded_valid is; capacity = refl }
 
 -- nothing was inserted yet
 pub starts : {V : Type 0} (c : Content V) (room : ℕ) → IsNew c → IsContent true c → room ≤ c.room → IsBounded c room room
@@ -127,8 +98,8 @@ starts {V} c room new valid fits =
     record { valid = valid; vacant = omega arith; fits = fits; exact = omega arith }
 
 -- a copy, where room was made as in the map that was copied
-module _ {V : Type 0} (c : Content V) (room capacity : ℕ) (is : IsBounded c room capacity) (is_clone : V → V → Type 0) (mid : Content V)
-    (clones : IsCloneBy is_clone c mid) (ok : Type 0) (new : Content V) (makes : MakesRoom true mid room ok new) where
+module _ {V : Type 0} {c : Content V} {room capacity : ℕ} (is : IsBounded c room capacity) {is_clone : V → V → Type 0} {mid : Content V}
+    (clones : IsCloneBy is_clone c mid) {ok : Type 0} {new : Content V} (makes : MakesRoom true mid room ok new) where
   pub copied : ok → IsBounded new room capacity
   copied done =
       let live = clone_len is_clone c mid clones in

@@ -1,6 +1,6 @@
 -- Lists that are kept as links: a walk along them, and what a number that is put in or taken out does to them. For the structures.
-use Rattle.std.proofs.Common.{ℕ, zero, suc, take, nat_eq, ◌≡◌, ◌≢◌, ◌⊎◌, ◌+◌, ◌<◌, ◌≤◌, Option, Some, None, List, [], ◌∷◌, ◌++◌, length, cond, not, refl, sym, ap, ◌∙◌}
-use Rattle.std.proofs.Common.{inl, inr, subst, arith, append_assoc}
+use Rattle.std.proofs.Common.{ℕ, zero, suc, take, nat_eq, ◌≡◌, ◌≢◌, ◌⊎◌, ◌+◌, ◌<◌, ◌≤◌, Option, Some, None, List, [], ◌∷◌, ◌++◌, length, cond, not}
+use Rattle.std.proofs.Common.{refl, sym, ap, ◌∙◌, inl, inr, subst, arith, append_assoc}
 use Rattle.std.proofs.Math.{Seq.take-length}
 use Rattle.std.proofs.lemmas.Bool.Decides.{nat_tests}
 use Rattle.std.proofs.lemmas.List.Elements.{filter-append}

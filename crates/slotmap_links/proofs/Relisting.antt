@@ -37,10 +37,12 @@ pub ends_spliced : (before mid now after : List ℕ) (e : Bounds) → e ≡ ends
     ≡ ends_of (before ++ (now ++ after))
 ends_spliced before mid now after e is n long = λ i. record { first = firsts before (ap (λ (e : Bounds). e.first) is) i; last = lasts after (ap (λ (e : Bounds). e.last) is) i; len = long i }
   where
-    firsts : (before : List ℕ) → e.first ≡ first_or (before ++ (mid ++ after)) None → own (last_or before None) e.first (first_or now (first_or after None)) ≡ first_or (before ++ (now ++ after)) None
+    firsts : (before : List ℕ) → e.first ≡ first_or (before ++ (mid ++ after)) None
+        → own (last_or before None) e.first (first_or now (first_or after None)) ≡ first_or (before ++ (now ++ after)) None
     firsts [] is = sym (first_or-append now after None)
     firsts (x ∷ before) is = last_some x before e.first (first_or now (first_or after None)) ∙ is
 
-    lasts : (after : List ℕ) → e.last ≡ last_or (before ++ (mid ++ after)) None → own (first_or after None) e.last (last_or now (last_or before None)) ≡ last_or (before ++ (now ++ after)) None
+    lasts : (after : List ℕ) → e.last ≡ last_or (before ++ (mid ++ after)) None
+        → own (first_or after None) e.last (last_or now (last_or before None)) ≡ last_or (before ++ (now ++ after)) None
     lasts [] is = sym (last_or-append before (now ++ []) None ∙ last_or-append now [] (last_or before None))
     lasts (y ∷ after) is = is ∙ last_behind before mid y after ∙ sym (last_behind before now y after)

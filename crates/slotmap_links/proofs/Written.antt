@@ -143,11 +143,13 @@ module _ (ends : List Ends) (links : List Link) (kept : AreKept ends links) (p :
         → ((q : ℕ) → link_at mid_links q ≡ with_next (unless_nobody link.prev) (unless_nobody k) (link_at (set links k link)) q)
         → ((q : ℕ) → link_at new_links q ≡ with_prev (unless_nobody link.next) (unless_nobody k) (link_at mid_links) q)
         → (place : IsGap list (unless_nobody link.prev) (unless_nobody link.next))
-        → Relists ends links p (place.before ++ k ∷ place.after) (set new_ends p (record { first = (get_or new_ends p d).first; last = (get_or new_ends p d).last; len = (get_or new_ends p d).len + 1 })) new_links
+        → Relists ends links p (place.before ++ k ∷ place.after)
+        (set new_ends p (record { first = (get_or new_ends p d).first; last = (get_or new_ends p d).last; len = (get_or new_ends p d).len + 1 })) new_links
     put_written mid_links new_links members links_one links_two place =
         let k_is = somebody k (omega (arith, kept.few)) in
         let none = sym (ap (times k) place.is ∙ times_joined k place.before place.after) ∙ nowhere p in
-        relists ends links kept p owner (unless_nobody link.prev) (unless_nobody k) (unless_nobody link.next) (unless_nobody k) mid_ends new_ends owners ends_one ends_two d ((get_or new_ends p d).len + 1) k below place.before [] (k ∷ []) place.after place.is
+        relists ends links kept p owner (unless_nobody link.prev) (unless_nobody k) (unless_nobody link.next) (unless_nobody k) mid_ends new_ends
+        owners ends_one ends_two d ((get_or new_ends p d).len + 1) k below place.before [] (k ∷ []) place.after place.is
         (omega (arith, was_long, ap length place.is ∙ length-append place.before place.after, length-append place.before (k ∷ place.after)))
         place.prev_is k_is place.next_is k_is (omega arith) (omega arith) (λ q _. nowhere q)
         (λ x other. omega (arith, times_first x k [], one_other k x (λ e. other (sym e)))) (omega (arith, times_first k k [], one_itself k))
@@ -196,7 +198,8 @@ module _ (ends : List Ends) (links : List Link) (kept : AreKept ends links) (p :
         (ends_two : (q : ℕ) → bounds_at new_ends q ≡ cond (nat_eq q p)
         (record (bounds_at mid_ends q) { last = own (unless_nobody link.next) (bounds_at mid_ends q).last (unless_nobody link.prev) }) (bounds_at mid_ends q)) (d' : Ends) where
       now_long : (get_or new_ends p d').len ≡ length before + (1 + length after)
-      now_long = long ends links kept p owner (unless_nobody link.prev) (unless_nobody link.next) (unless_nobody link.next) (unless_nobody link.prev) mid_ends new_ends owners ends_one ends_two d' ∙ ap length list_is ∙ omega (arith, length-append before (k ∷ after))
+      now_long = long ends links kept p owner (unless_nobody link.prev) (unless_nobody link.next) (unless_nobody link.next) (unless_nobody link.prev) mid_ends new_ends
+          owners ends_one ends_two d' ∙ ap length list_is ∙ omega (arith, length-append before (k ∷ after))
 
       -- the list had a member
       pub take_fits : 0 < (get_or new_ends p d').len
@@ -205,12 +208,14 @@ module _ (ends : List Ends) (links : List Link) (kept : AreKept ends links) (p :
       pub take_written : (mid_links new_links : List Link) (members : length new_links ≡ length links)
           → ((q : ℕ) → link_at mid_links q ≡ with_next (unless_nobody link.prev) (unless_nobody link.next) (link_at links) q)
           → ((q : ℕ) → link_at new_links q ≡ with_prev (unless_nobody link.next) (unless_nobody link.prev) (link_at mid_links) q)
-          → Relists ends links p (without k list) (set new_ends p (record { first = (get_or new_ends p d').first; last = (get_or new_ends p d').last; len = (get_or new_ends p d').len - 1 })) new_links
+          → Relists ends links p (without k list)
+          (set new_ends p (record { first = (get_or new_ends p d').first; last = (get_or new_ends p d').last; len = (get_or new_ends p d').len - 1 })) new_links
       take_written mid_links new_links members links_one links_two =
           let once = kept.apart.once p k in
           let sum = ap (times k) list_is ∙ in_midst before k after in
           rw (ap (without k) list_is, without_split k before after (omega (arith, ap (times k) list_is)))
-          (relists ends links kept p owner (unless_nobody link.prev) (unless_nobody link.next) (unless_nobody link.next) (unless_nobody link.prev) mid_ends new_ends owners ends_one ends_two d' ((get_or new_ends p d').len - 1) k (kept.within p k inside) before (k ∷ []) [] after list_is
+          (relists ends links kept p owner (unless_nobody link.prev) (unless_nobody link.next) (unless_nobody link.next) (unless_nobody link.prev) mid_ends new_ends
+          owners ends_one ends_two d' ((get_or new_ends p d').len - 1) k (kept.within p k inside) before (k ∷ []) [] after list_is
           (omega (arith, now_long, length-append before after)) prev_is next_is next_is prev_is (omega arith) (omega arith)
           (λ q other. elim (eq-zero-or-pos (times k (listed ends links q))) [ inl none ↦ none | inr more ↦ absurd (other (kept.apart.alone q p k more inside)) ])
           (λ x _. refl) (omega arith) links mid_links new_links members (λ q _. refl) (λ b x a at. absurd (cons_not_nil b x a at)) links_one links_two)

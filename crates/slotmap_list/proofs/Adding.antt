@@ -88,8 +88,16 @@ module _ {T : Type 0} where
     taken = λ k there. inl there;
   }
 
-  pub stands_or_first : (k : Key) (v : T) (es : List (Key × T)) (q : Key) → IsSome (value_of q ((k, v) ∷ es)) → IsSome (value_of q es) ⊎ (q ≡ k)
+  stands_or_first : (k : Key) (v : T) (es : List (Key × T)) (q : Key) → IsSome (value_of q ((k, v) ∷ es)) → IsSome (value_of q es) ⊎ (q ≡ k)
   stands_or_first k v es q there = grind (arith, tied keys_total exact_keys q k)
+
+  -- what stood before the first element was taken out still stands, or is spent
+  pub left_or_spent : (old new : Sequence T) (k : Key) (v : T) → old.elements ≡ (k, v) ∷ new.elements → IsSpent new.cursors k → (u : Key) → IsSome (value_of u old.elements)
+      → IsSome (value_of u new.elements) ⊎ IsSpent new.cursors u
+  left_or_spent old new k v takes spent u there = elim (stands_or_first k v new.elements u (subst (λ l. IsSome (value_of u l)) takes there)) [
+    | inl still ↦ inl still
+    | inr is ↦ inr (subst (IsSpent new.cursors) (sym is) spent)
+  ]
 
   pub moving_step : (old old_other now other next next_other : Sequence T) (k q : Key) (v : T) → Moving old old_other now other
       → TakesFront other.elements (Some (k, v)) next_other.elements → IsSpent next_other.cursors k → KeepsSpent other.cursors next_other.cursors
@@ -106,11 +114,5 @@ module _ {T : Type 0} where
     in_place = λ fits. in_place ∙ m.in_place fits;
     leaves_other = leaves_in_turn old_other.cursors other.cursors next_other.cursors m.leaves_other leaves_other;
     capacity_other = capacity_other ∙ m.capacity_other;
-    taken = λ u there. elim (m.taken u there) [
-      | inl here ↦ elim (stands_or_first k v next_other.elements u (subst (λ l. IsSome (value_of u l)) takes here)) [
-        | inl still ↦ inl still
-        | inr same ↦ inr (subst (IsSpent next_other.cursors) (sym same) spent)
-      ]
-      | inr gone ↦ inr (keeps_other u gone)
-    ];
+    taken = λ u there. elim (m.taken u there) [ inl here ↦ left_or_spent other next_other k v takes spent u here | inr gone ↦ inr (keeps_other u gone) ];
   }

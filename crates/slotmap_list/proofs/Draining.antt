@@ -1,23 +1,20 @@
 -- What the steps of a drain keep, and what they yield.
-use Rattle.std.proofs.Common.{◌≡◌, [], ◌∷◌, Option, Some, None, IsSome, IfSome, inl, inr, refl, sym, ap, subst, ◌∙◌}
+use Rattle.std.proofs.Common.{◌≡◌, [], ◌∷◌, Option, Some, None, IsSome, IfSome, ◌⊎◌, inl, inr, refl, ap, subst, ◌∙◌}
 use Rattle.std.specs.Prelude.{option_map}
 use Rattle.slotmap.specs.Words.{Key, IsSpent, KeepsSpent, Leaves}
 use Rattle.slotmap.proofs.Callers.{leaves_in_turn}
 use Rattle.slotmap_list.specs.Sequence.{Sequence, value_of, TakesFront}
 use Rattle.slotmap_list.specs.declared.drain.Drain.{Drain}
 use Rattle.slotmap_list.specs.Drain.{EmptiesList, SameLoan, KeepsLent, YieldsInOrder}
-use Rattle.slotmap_list.proofs.Adding.{stands_or_first}
+use Rattle.slotmap_list.proofs.Adding.{left_or_spent}
 
 module _ {T : Type 0} where
-  -- a list whose first element was taken out, and then the others
-  emptied_then : (old mid : Sequence T) (k : Key) (v : T) → old.elements ≡ (k, v) ∷ mid.elements → IsSpent mid.cursors k → KeepsSpent old.cursors mid.cursors
+  -- a list of which a part was taken out, and then the others
+  emptied_then : (old mid : Sequence T) → ((u : Key) → IsSome (value_of u old.elements) → IsSome (value_of u mid.elements) ⊎ IsSpent mid.cursors u) → KeepsSpent old.cursors mid.cursors
       → Leaves old.cursors mid.cursors → mid.cursors.capacity ≡ old.cursors.capacity → (end : Sequence T) → EmptiesList mid end → EmptiesList old end
-  emptied_then old mid k v takes spent keeps leaves capacity end empties = record {
+  emptied_then old mid left keeps leaves capacity end empties = record {
     empty = empties.empty;
-    for_good = λ u there. elim (stands_or_first k v mid.elements u (subst (λ l. IsSome (value_of u l)) takes there)) [
-      | inl still ↦ empties.for_good u still
-      | inr is_k ↦ subst (IsSpent end.cursors) (sym is_k) (empties.gone k spent)
-    ];
+    for_good = λ u there. elim (left u there) [ inl still ↦ empties.for_good u still | inr spent ↦ empties.gone u spent ];
     gone = λ u s. empties.gone u (keeps u s);
     leaves = leaves_in_turn old.cursors mid.cursors end.cursors leaves empties.leaves;
     capacity = empties.capacity ∙ capacity;
@@ -36,11 +33,5 @@ module _ {K T : Type 0} (data_of : K → Key) where
   pub emptied_after : (old mid : Sequence T) (r : Option (K × T)) → TakesFront old.elements (option_map (λ e. (data_of e.0, e.1)) r) mid.elements
       → IfSome r (λ e. IsSpent mid.cursors (data_of e.0)) → KeepsSpent old.cursors mid.cursors → Leaves old.cursors mid.cursors
       → mid.cursors.capacity ≡ old.cursors.capacity → (end : Sequence T) → EmptiesList mid end → EmptiesList old end
-  emptied_after old mid None takes spent keeps leaves capacity end empties = record {
-    empty = empties.empty;
-    for_good = λ u there. absurd (let some = subst (λ l. IsSome (value_of u l)) takes.0 there in cc);
-    gone = λ u s. empties.gone u (keeps u s);
-    leaves = leaves_in_turn old.cursors mid.cursors end.cursors leaves empties.leaves;
-    capacity = empties.capacity ∙ capacity;
-  }
-  emptied_after old mid (Some e) takes spent keeps leaves capacity end empties = emptied_then old mid (data_of e.0) e.1 takes spent keeps leaves capacity end empties
+  emptied_after old mid None takes spent = emptied_then old mid (λ u there. absurd (let some = subst (λ l. IsSome (value_of u l)) takes.0 there in cc))
+  emptied_after old mid (Some e) takes spent = emptied_then old mid (left_or_spent old mid (data_of e.0) e.1 takes spent)

@@ -127,38 +127,45 @@ module _ {T : Type 0} where
   ]
 
   -- what the words of a list say of a key that stands behind this part
-  module _ (k : Key) (v : T) (zs : List (Key × T)) where
-    pub value_of-split : (ys : List (Key × T)) → times k ys ≡ 0 → value_of k (ys ++ (k, v) ∷ zs) ≡ Some v
-    value_of-split [] none = let here = itself_first k in cc
-    value_of-split (y ∷ ys) none = let apart = apart_first k y.0 (omega arith) in let rest = value_of-split ys (omega arith) in cc
+  pub record Split (k : Key) (v : T) (zs ys : List (Key × T)) : Type 0 where
+    pub value_is : value_of k (ys ++ (k, v) ∷ zs) ≡ Some v
+    pub after_is : key_after k (ys ++ (k, v) ∷ zs) ≡ first_or zs None
+    pub before_is : (p : Option Key) → key_before p k (ys ++ (k, v) ∷ zs) ≡ last_or ys p
+    pub put_after_is : (x : Key × T) → put_after k x (ys ++ (k, v) ∷ zs) ≡ ys ++ (k, v) ∷ x ∷ zs
+    pub put_before_is : (x : Key × T) → put_before k x (ys ++ (k, v) ∷ zs) ≡ ys ++ x ∷ (k, v) ∷ zs
+    pub from_is : from_key k (ys ++ (k, v) ∷ zs) ≡ (k, v) ∷ zs
+    pub without_is : without k (ys ++ (k, v) ∷ zs) ≡ ys ++ zs
+    pub write_is : (w : T) → with_value_at k w (ys ++ (k, v) ∷ zs) ≡ ys ++ (k, w) ∷ zs
 
-    pub key_after-split : (ys : List (Key × T)) → times k ys ≡ 0 → key_after k (ys ++ (k, v) ∷ zs) ≡ first_or zs None
-    key_after-split [] none = let here = itself_first k in cc
-    key_after-split (y ∷ ys) none = let apart = apart_first k y.0 (omega arith) in let rest = key_after-split ys (omega arith) in cc
+  pub splits : (k : Key) (v : T) (zs ys : List (Key × T)) → times k ys ≡ 0 → Split k v zs ys
+  splits k v zs [] none = let here = itself_first k in
+      record { value_is = cc; after_is = cc; before_is = λ p. cc; put_after_is = λ x. cc; put_before_is = λ x. cc; from_is = cc; without_is = cc; write_is = λ w. cc }
+  splits k v zs (y ∷ ys) none = let apart = apart_first k y.0 (omega arith) in let rest = splits k v zs ys (omega arith) in record {
+    value_is = cc;
+    after_is = cc;
+    before_is = λ p. (let r = rest.before_is (Some y.0) in cc);
+    put_after_is = λ x. (let r = rest.put_after_is x in cc);
+    put_before_is = λ x. (let r = rest.put_before_is x in cc);
+    from_is = cc;
+    without_is = cc;
+    write_is = λ w. (let r = rest.write_is w in cc);
+  }
 
-    pub key_before-split : (p : Option Key) (ys : List (Key × T)) → times k ys ≡ 0 → key_before p k (ys ++ (k, v) ∷ zs) ≡ last_or ys p
-    key_before-split p [] none = let here = itself_first k in cc
-    key_before-split p (y ∷ ys) none = let apart = apart_first k y.0 (omega arith) in let rest = key_before-split (Some y.0) ys (omega arith) in cc
+  -- a key beside another one stands
+  first_stands : (q : Key) (es : List (Key × T)) → Some q ≡ first_or es None → IsSome (value_of q es)
+  first_stands q [] is = absurd (cc)
+  first_stands q (e ∷ es) is = grind (arith, itself_first q)
 
-    pub put_after-split : (x : Key × T) (ys : List (Key × T)) → times k ys ≡ 0 → put_after k x (ys ++ (k, v) ∷ zs) ≡ ys ++ (k, v) ∷ x ∷ zs
-    put_after-split x [] none = let here = itself_first k in cc
-    put_after-split x (y ∷ ys) none = let apart = apart_first k y.0 (omega arith) in let rest = put_after-split x ys (omega arith) in cc
+  pub after_stands : (k q : Key) (es : List (Key × T)) → Some q ≡ key_after k es → IsSome (value_of q es)
+  after_stands k q [] is = absurd (cc)
+  after_stands k q (e ∷ es) is = let there : IsSome (value_of q es) = grind (arith, first_stands q es, after_stands k q es) in grind arith
 
-    pub put_before-split : (x : Key × T) (ys : List (Key × T)) → times k ys ≡ 0 → put_before k x (ys ++ (k, v) ∷ zs) ≡ ys ++ x ∷ (k, v) ∷ zs
-    put_before-split x [] none = let here = itself_first k in cc
-    put_before-split x (y ∷ ys) none = let apart = apart_first k y.0 (omega arith) in let rest = put_before-split x ys (omega arith) in cc
+  before_one : (p : Option Key) (k q : Key) (es : List (Key × T)) → Some q ≡ key_before p k es → (p ≡ Some q) ⊎ IsSome (value_of q es)
+  before_one p k q [] is = absurd (cc)
+  before_one p k q (e ∷ es) is = grind (arith, before_one (Some e.0) k q es, itself_first q)
 
-    pub from_key-split : (ys : List (Key × T)) → times k ys ≡ 0 → from_key k (ys ++ (k, v) ∷ zs) ≡ (k, v) ∷ zs
-    from_key-split [] none = let here = itself_first k in cc
-    from_key-split (y ∷ ys) none = let apart = apart_first k y.0 (omega arith) in let rest = from_key-split ys (omega arith) in cc
-
-    pub without-split : (ys : List (Key × T)) → times k ys ≡ 0 → without k (ys ++ (k, v) ∷ zs) ≡ ys ++ zs
-    without-split [] none = let here = itself_first k in cc
-    without-split (y ∷ ys) none = let apart = apart_first k y.0 (omega arith) in let rest = without-split ys (omega arith) in cc
-
-    pub with_value-split : (w : T) (ys : List (Key × T)) → times k ys ≡ 0 → with_value_at k w (ys ++ (k, v) ∷ zs) ≡ ys ++ (k, w) ∷ zs
-    with_value-split w [] none = let here = itself_first k in cc
-    with_value-split w (y ∷ ys) none = let apart = apart_first k y.0 (omega arith) in let rest = with_value-split w ys (omega arith) in cc
+  pub before_stands : (k q : Key) (es : List (Key × T)) → Some q ≡ key_before None k es → IsSome (value_of q es)
+  before_stands k q es is = grind (arith, before_one None k q es is)
 
   -- what is found in a list with one more element
   pub value_of_pushed : (q : Key) (xs : List (Key × T)) (k : Key) (v w : T) → value_of q (xs ++ (k, v) ∷ []) ≡ Some w → (value_of q xs ≡ Some w) ⊎ (v ≡ w)
@@ -166,21 +173,16 @@ module _ {T : Type 0} where
   value_of_pushed q (x ∷ xs) k v w found = grind (arith, value_of_pushed q xs k v w)
 
   -- and of one that doesn't stand
-  pub key_after-absent : (k : Key) (xs : List (Key × T)) → times k xs ≡ 0 → key_after k xs ≡ None
-  key_after-absent k [] none = refl
-  key_after-absent k (x ∷ xs) none = let apart = apart_first k x.0 (omega arith) in let rest = key_after-absent k xs (omega arith) in cc
+  pub record Absent (k : Key) (xs : List (Key × T)) : Type 0 where
+    pub after_is : key_after k xs ≡ None
+    pub before_is : (p : Option Key) → key_before p k xs ≡ None
+    pub from_is : from_key k xs ≡ []
+    pub without_is : without k xs ≡ xs
 
-  pub key_before-absent : (k : Key) (p : Option Key) (xs : List (Key × T)) → times k xs ≡ 0 → key_before p k xs ≡ None
-  key_before-absent k p [] none = refl
-  key_before-absent k p (x ∷ xs) none = let apart = apart_first k x.0 (omega arith) in let rest = key_before-absent k (Some x.0) xs (omega arith) in cc
-
-  pub from_key-absent : (k : Key) (xs : List (Key × T)) → times k xs ≡ 0 → from_key k xs ≡ []
-  from_key-absent k [] none = refl
-  from_key-absent k (x ∷ xs) none = let apart = apart_first k x.0 (omega arith) in let rest = from_key-absent k xs (omega arith) in cc
-
-  pub without-absent : (k : Key) (xs : List (Key × T)) → times k xs ≡ 0 → without k xs ≡ xs
-  without-absent k [] none = refl
-  without-absent k (x ∷ xs) none = let apart = apart_first k x.0 (omega arith) in let rest = without-absent k xs (omega arith) in cc
+  pub absent : (k : Key) (xs : List (Key × T)) → times k xs ≡ 0 → Absent k xs
+  absent k [] none = record { after_is = refl; before_is = λ p. refl; from_is = refl; without_is = refl }
+  absent k (x ∷ xs) none = let apart = apart_first k x.0 (omega arith) in let rest = absent k xs (omega arith) in
+      record { after_is = cc; before_is = λ p. (let r = rest.before_is (Some x.0) in cc); from_is = cc; without_is = cc }
 
   -- a value that is written changes no key
   times-written : (q k : Key) (v : T) (xs : List (Key × T)) → times q (with_value_at k v xs) ≡ times q xs

@@ -1,14 +1,12 @@
 -- The value at the back of a list, and a write there.
-use Rattle.std.proofs.Common.{◌≡◌, ◌-◌, List, [], ◌∷◌, ◌++◌, length, map as list_map, Some, None, sym, ap, subst, refl, ◌∙◌, arith, length-append}
+use Rattle.std.proofs.Common.{◌≡◌, ◌-◌, List, [], ◌∷◌, ◌++◌, length, Some, None, sym, ap, subst, refl, ◌∙◌, arith, length-append}
 use Rattle.std.specs.List.{slice_get}
 use Rattle.slotmap.specs.Words.{Key}
 use Rattle.slotmap_list.specs.Sequence.{value_of, last_or, with_last, with_value_at, IsOnce}
-use Rattle.slotmap_list.proofs.Elements.{back_of, absent_before, value_of-split, with_value-split}
+use Rattle.slotmap_list.proofs.Adding.{values}
+use Rattle.slotmap_list.proofs.Elements.{back_of, absent_before, splits}
 
 module _ {T : Type 0} where
-  abbrev values : List (Key × T) → List T
-  values es = list_map (λ e. e.1) es
-
   -- an element behind all others
   value_behind : (ys : List (Key × T)) (x : Key × T) → slice_get (values (ys ++ x ∷ [])) (length ys) ≡ Some x.1
   value_behind [] x = refl
@@ -34,8 +32,8 @@ module _ {T : Type 0} where
         ap (λ l. slice_get (values l) (length l - 1)) split.2 ∙ ap (slice_get (values (before ++ (k, value) ∷ []))) end ∙ value_behind before (k, value)
 
     pub back_there : value_of k es ≡ slice_get (values es) (length es - 1)
-    back_there = ap (value_of k) split.2 ∙ value_of-split k value [] before (absent_before before k value [] (subst IsOnce split.2 once)).0 ∙ sym last_value
+    back_there = ap (value_of k) split.2 ∙ (splits k value [] before (absent_before before k value [] (subst IsOnce split.2 once)).0).value_is ∙ sym last_value
 
     pub last_there : (w : T) → with_value_at k w es ≡ with_last w es
-    last_there w = ap (with_value_at k w) split.2 ∙ with_value-split k value [] w before (absent_before before k value [] (subst IsOnce split.2 once)).0
+    last_there w = ap (with_value_at k w) split.2 ∙ (splits k value [] before (absent_before before k value [] (subst IsOnce split.2 once)).0).write_is w
         ∙ sym (ap (with_last w) split.2 ∙ written_behind w k value before)

@@ -1,5 +1,5 @@
 -- The live key with an index, and elements by the indices of their keys.
-use Rattle.std.proofs.Common.{◌≡◌, ◌≢◌, ℕ, ◌<◌, ◌≤◌, true, List, [], ◌∷◌, ◌++◌, length, Option, Some, None, IfSome, IfNone, is_some, inl, inr, refl, sym, ap, subst}
+use Rattle.std.proofs.Common.{◌≡◌, ◌≢◌, ℕ, ◌<◌, ◌≤◌, true, List, [], ◌∷◌, ◌++◌, length, Option, Some, None, IfSome, IfNone, is_some, inl, inr, refl, sym, ap}
 use Rattle.std.proofs.Common.{◌∙◌, arith}
 use Rattle.std.specs.{List.cons_option, Option.option_map}
 use Rattle.std.proofs.lemmas.List.Elements.{filter_map-append}
@@ -18,25 +18,12 @@ use Rattle.slotmap_list.proofs.Elements as keys
 module _ {T : Type 0} (m : map.FinMap key_cmp T) where
   with_value_is : (o : Option Key) (e : Key × T) → with_value m o ≡ Some e → (o ≡ Some e.0) × (map.get m e.0 ≡ Some e.1)
   with_value_is None e is = absurd (cc)
-  with_value_is (Some k) e is = by (map.get m k) refl is
-    where
-      by : (o : Option T) → map.get m k ≡ o → option_map (λ v. (k, v)) o ≡ Some e → (Some k ≡ Some e.0) × (map.get m e.0 ≡ Some e.1)
-      by None found is = absurd (cc)
-      by (Some v) found is = let same : (k, v) ≡ e = cc in subst (λ (e : Key × T). (Some k ≡ Some e.0) × (map.get m e.0 ≡ Some e.1)) same (refl, found)
+  with_value_is (Some k) e is = grind arith
 
   -- the key with an index is live and has it
   pub at_is : (i : ℕ) (e : Key × T) → at_index m i ≡ Some e → (e.0.index ≡ i) × (map.get m e.0 ≡ Some e.1)
   unfolding at_index
   at_is i e is = let w = with_value_is (found_at m i) e is in ((found_there m i e.0 w.0).1, w.1)
-
-  -- so it is live
-  pub there_live : (number : Option ℕ) (k : Key) → Some k ≡ key_there m number → map.contains_key m k ≡ true
-  there_live None k is = absurd (cc)
-  there_live (Some i) k is = by (at_index m i) refl is
-    where
-      by : (o : Option (Key × T)) → at_index m i ≡ o → Some k ≡ option_map (λ e. e.0) o → map.contains_key m k ≡ true
-      by None found is = absurd (cc)
-      by (Some e) found is = let same : k ≡ e.0 = cc in ap (map.contains_key m) same ∙ ap is_some (at_is i e found).1
 
   -- no key with this index is live
   pub none_at : (i : ℕ) → ((k : Key) → map.contains_key m k ≡ true → k.index ≢ i) → at_index m i ≡ None
@@ -51,10 +38,6 @@ module _ {T : Type 0} (m : map.FinMap key_cmp T) where
     pub at_live : (k : Key) (v : T) → map.get m k ≡ Some v → at_index m k.index ≡ Some (k, v)
     unfolding at_index
     at_live k v found = ap (with_value m) (found_only m apart k (ap is_some found)) ∙ ap (option_map (λ v. (k, v))) found
-
-    -- so there is one
-    pub some_at : (i : ℕ) (k : Key) → map.contains_key m k ≡ true → k.index ≡ i → is_some (at_index m i) ≡ true
-    some_at i k live index = let v = some_is (map.get m k) live in ap (λ i. is_some (at_index m i)) (sym index) ∙ ap is_some (at_live k v.0 v.1)
 
   -- what the elements are: that of the first index, and the others
   pub elements_first : (i : ℕ) (is : List ℕ) (e : Key × T) → at_index m i ≡ Some e → elements_at m (i ∷ is) ≡ e ∷ elements_at m is
@@ -82,18 +65,6 @@ module _ {T : Type 0} (m : map.FinMap key_cmp T) where
   as_often k [] = omega arith
   as_often k (i ∷ is) = often_by k i is (at_index m i) refl (as_often k is)
 
--- an index is that of a live key in two maps, where the keys with this index are the same
-module _ {T : Type 0} (m n : map.FinMap key_cmp T) (apart_m : AreApart m) (apart_n : AreApart n) (i : ℕ) (same_keys : (k : Key) → k.index ≡ i
-    → map.contains_key n k ≡ map.contains_key m k) where
-  pub some_alike : is_some (at_index n i) ≡ is_some (at_index m i)
-  some_alike = by (at_index m i) (at_index n i) refl refl
-    where
-      by : (o p : Option (Key × T)) → at_index m i ≡ o → at_index n i ≡ p → is_some p ≡ is_some o
-      by None None of_m of_n = refl
-      by (Some e) (Some f) of_m of_n = refl
-      by None (Some f) of_m of_n = let at = at_is n i f of_n in let some = some_at m apart_m i f.0 (sym (same_keys f.0 at.0) ∙ ap is_some at.1) at.0 in absurd (let none = ap is_some of_m in cc)
-      by (Some e) None of_m of_n = let at = at_is m i e of_m in let some = some_at n apart_n i e.0 (same_keys e.0 at.0 ∙ ap is_some at.1) at.0 in absurd (let none = ap is_some of_n in cc)
-
 -- what a map says of the key with an index
 module _ {T : Type 0} (c : Content T) where
   pub content_apart : IsContent true c → AreApart c.live
@@ -118,7 +89,8 @@ module _ {T : Type 0} {m : map.FinMap key_cmp T} where
 
   -- the element at an index of the list
   pub element_of : {is : List ℕ} → AreLiveIndices m is → (i : ℕ) → 0 < times i is → (e : Key × T) × (at_index m i ≡ Some e)
-  element_of all i more = some_is (at_index m i) (all.live i more)
+  element_of all i more = let own = all.live i more in let v = some_is (map.get m own.0) own.1 in
+      ((own.0, v.0), ap (at_index m) (sym own.2) ∙ at_live m all.apart own.0 v.0 v.1)
 
   -- one element for each index
   pub elements_long : (is : List ℕ) → AreLiveIndices m is → length (elements_at m is) ≡ length is
@@ -147,11 +119,6 @@ module _ {T : Type 0} {m : map.FinMap key_cmp T} where
 
 -- a step along a list of indices, from either end
 module _ {T : Type 0} {m : map.FinMap key_cmp T} {is : List ℕ} (all : AreLiveIndices m is) (i : ℕ) (rest : List ℕ) where
-  -- an index of the list is that of a live key
-  module _ (there : 0 < times i is) where
-    pub key_of_index : (k : Key) × (map.contains_key m k ≡ true) × (k.index ≡ i)
-    key_of_index = let e = element_of all i there in let at = at_is m i e.0 e.1 in (e.0.0, ap is_some at.1, at.0)
-
   module _ (k : Key) (v : T) (index : k.index ≡ i) (found : map.get m k ≡ Some v) where
     here : at_index m i ≡ Some (k, v)
     here = ap (at_index m) (sym index) ∙ at_live m all.apart k v found
@@ -167,3 +134,10 @@ module _ {T : Type 0} {m : map.FinMap key_cmp T} {is : List ℕ} (all : AreLiveI
 
   pub back_counted : is ≡ rest ++ i ∷ [] → 0 < times i is
   back_counted back = omega (arith, ap (times i) back ∙ times_joined i rest (i ∷ []), in_first i [])
+
+  -- the others are indices of live keys too
+  pub front_rest : is ≡ i ∷ rest → AreLiveIndices m rest
+  front_rest front = record { apart = all.apart; live = λ j more. all.live j (omega (arith, ap (times j) front, times_first j i rest)) }
+
+  pub back_rest : is ≡ rest ++ i ∷ [] → AreLiveIndices m rest
+  back_rest back = record { apart = all.apart; live = λ j more. all.live j (omega (arith, ap (times j) back ∙ times_joined j rest (i ∷ []))) }

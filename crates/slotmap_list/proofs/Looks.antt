@@ -2,7 +2,7 @@
 use Rattle.std.proofs.Common.{◌≡◌, List, [], ◌∷◌, ◌++◌, Some, inl, inr, refl, sym, ap, subst, ◌∙◌, append_assoc, append-nil}
 use Rattle.slotmap.specs.Words.{Key}
 use Rattle.slotmap_list.specs.Sequence.{value_of, IsOnce}
-use Rattle.slotmap_list.proofs.Elements.{absent_before, value_of-split, value_of_pushed}
+use Rattle.slotmap_list.proofs.Elements.{absent_before, value_of_pushed, splits}
 
 module _ {T : Type 0} where
   -- what stands in the list is still ahead, or was passed with this fact
@@ -20,7 +20,7 @@ module _ {T : Type 0} where
 
     -- the next element is one of the list
     pub look_here : IsOnce xs → value_of k xs ≡ Some v
-    look_here once = ap (value_of k) whole ∙ value_of-split k v rest looks.passed (absent_before looks.passed k v rest (subst IsOnce whole once)).0
+    look_here once = ap (value_of k) whole ∙ (splits k v rest looks.passed (absent_before looks.passed k v rest (subst IsOnce whole once)).0).value_is
 
     pub look_next : Passed v → Looks xs rest Passed
     look_next holds = record {

@@ -1,20 +1,12 @@
 -- An element that moves: which elements can, and what the list is then.
 use Rattle.std.proofs.Common.{◌≡◌, ◌≢◌, true, false, List, [], ◌∷◌, ◌++◌, Option, Some, None, is_some, if◌then◌else◌, refl, sym, ap, ◌∙◌, arith}
-use Rattle.slotmap.specs.Words.{Key, Content, same_keys}
-use Rattle.slotmap_list.specs.Sequence.{Sequence, is_same, value_of, put_again, without, are_two}
+use Rattle.slotmap.specs.Words.{Key, Content}
+use Rattle.slotmap_keylist.proofs.Counts.{is_itself}
+use Rattle.slotmap_list.specs.Sequence.{Sequence, value_of, put_again, without, are_two}
 use Rattle.slotmap_list.specs.ListPlaces.{insert_beside, is_place, put_by_place, is_move, moved_to}
 use Rattle.slotmap_list.specs.declared.place.Place.{Place}
 use Rattle.slotmap_list.specs.declared.place.Place.TheVariants.{Front, Back, Beside}
 use Rattle.slotmap_list.proofs.Callers.{without_other}
-
-pub is_itself : (k : Key) → is_same k k ≡ true
-is_itself k = (same_keys k k).1 refl
-
-pub is_other : (a b : Key) → a ≢ b → is_same a b ≡ false
-is_other a b other = elim (is_same a b) as (λ t. is_same a b ≡ t → is_same a b ≡ false) [
-  | true ↦ λ same. absurd (other ((same_keys a b).0 same))
-  | false ↦ λ is. is
-] refl
 
 module _ {T : Type 0} where
   -- what the model of a list is, by its parts

@@ -1,5 +1,5 @@
 -- Where a key stands in a list: the indices before it and behind it, and the elements there.
-use Rattle.std.proofs.Common.{◌≡◌, ◌≢◌, ℕ, ◌+◌, ◌<◌, ◌≤◌, true, cond, List, [], ◌∷◌, ◌++◌, Option, Some, None, is_some, refl, sym, ap, ◌∙◌, arith}
+use Rattle.std.proofs.Common.{◌≡◌, ◌≢◌, ℕ, ◌+◌, ◌<◌, ◌≤◌, true, List, [], ◌∷◌, ◌++◌, Option, Some, None, is_some, refl, sym, ap, ◌∙◌, arith}
 use Rattle.std.proofs.Common.{append_assoc, append-nil}
 use Rattle.std.specs.List.{cons_option}
 use Rattle.slotmap.specs.Words.{Key, key_cmp}
@@ -7,7 +7,7 @@ use Rattle.slotmap.proofs.Callers.{keys_total, exact_keys, tied}
 use Rattle.slotmap_links.specs.Lists.{times}
 use Rattle.slotmap_links.proofs.Counts.{times_first, times_joined}
 use Rattle.slotmap_links.proofs.Linking.{in_midst, split_at, without_split}
-use Rattle.slotmap_links.proofs.SeenLists.{splits}
+use Rattle.slotmap_links.proofs.SeenLists.{Split, splits as number_splits}
 use Rattle.slotmap_list.specs.Sequence.{value_of, key_after, key_before, from_key, put_after, put_before, without, IsOnce}
 use Rattle.slotmap_list.specs.Kept.{at_index, elements_at, key_there, AreLiveIndices}
 use Rattle.slotmap_bounded.specs.Indices.{AreApart}
@@ -15,7 +15,7 @@ use Rattle.slotmap_list.specs.ListPlaces.{has_place, is_place, put_by_place, put
 use Rattle.slotmap_list.specs.declared.place.Side.TheVariants.{Before, After}
 use Rattle.slotmap_list.specs.declared.place.Place.{Place}
 use Rattle.slotmap_list.specs.declared.place.Place.TheVariants.{Front, Back, Beside}
-use Rattle.slotmap_list.proofs.Elements.{times_some, times_none, once_if, value_of-split, key_after-split, key_before-split, from_key-split, put_after-split, put_before-split, without-split}
+use Rattle.slotmap_list.proofs.Elements.{times_some, times_none, once_if, splits}
 use Rattle.slotmap_bounded.proofs.Indices.{some_is}
 use Rattle.slotmap_list.proofs.Indices.{at_is, at_live, as_often, elements_first, elements-append, elements_stay, first_at, last_at}
 use Rattle.std.specs.FinMap as map
@@ -35,11 +35,7 @@ module _ {T : Type 0} (m : map.FinMap key_cmp T) where
 
   -- one that has an element is live, and its index is in the list
   value_in : (k : Key) (is : List ℕ) → is_some (value_of k (elements_at m is)) ≡ true → (is_some (map.get m k) ≡ true) × (0 < times k.index is)
-  value_in k is some = (by (map.get m k) refl, omega (arith, as_often m k is, times_some k (elements_at m is) some))
-    where
-      by : (o : Option T) → map.get m k ≡ o → is_some o ≡ true
-      by None none = absurd (let gone = ap is_some (value_none k is none) in cc)
-      by (Some v) found = refl
+  value_in k is some = (grind (arith, value_none k is), omega (arith, as_often m k is, times_some k (elements_at m is) some))
 
   -- no key has two elements
   pub elements_once : (is : List ℕ) → ((i : ℕ) → times i is ≤ 1) → IsOnce (elements_at m is)
@@ -54,6 +50,7 @@ module _ {T : Type 0} (m : map.FinMap key_cmp T) where
     pub not_after : times k.index after ≡ 0
     pub before_indices : AreLiveIndices m before
     pub after_indices : AreLiveIndices m after
+    pub here : at_index m k.index ≡ Some (k, v)
     pub elements : elements_at m is ≡ elements_at m before ++ (k, v) ∷ elements_at m after
     pub no_element : keys.times k (elements_at m before) ≡ 0
 
@@ -76,34 +73,39 @@ module _ {T : Type 0} (m : map.FinMap key_cmp T) where
                 apart = all.apart;
                 live = λ i more. all.live i (omega (arith, ap (times i) split.2 ∙ times_joined i split.0 (k.index ∷ split.1), times_first i k.index split.1));
               };
+          here = at_live m all.apart k v found;
           elements = ap (elements_at m) split.2 ∙ elements-append m split.0 (k.index ∷ split.1)
               ∙ ap (λ l. elements_at m split.0 ++ l) (elements_first m k.index split.1 (k, v) (at_live m all.apart k v found));
           no_element = omega (arith, as_often m k split.0);
         }
 
-    module _ (s : IsAt is k v) where
-      pub value_there : value_of k (elements_at m is) ≡ Some v
-      value_there = ap (value_of k) s.elements ∙ value_of-split k v (elements_at m s.after) (elements_at m s.before) s.no_element
+  module _ {is : List ℕ} {k : Key} {v : T} (s : IsAt is k v) where
+    keys_split : keys.Split k v (elements_at m s.after) (elements_at m s.before)
+    keys_split = splits k v (elements_at m s.after) (elements_at m s.before) s.no_element
 
-      pub next_there : key_there m (numbers.number_after k.index is) ≡ key_after k (elements_at m is)
-      next_there = ap (key_there m) (ap (numbers.number_after k.index) s.list ∙ (splits k.index s.after s.before s.not_before).after_is) ∙ first_at s.after s.after_indices
-          ∙ sym (ap (key_after k) s.elements ∙ key_after-split k v (elements_at m s.after) (elements_at m s.before) s.no_element)
+    numbers_split : Split k.index s.after s.before
+    numbers_split = number_splits k.index s.after s.before s.not_before
 
-      pub prev_there : key_there m (numbers.number_before None k.index is) ≡ key_before None k (elements_at m is)
-      prev_there = ap (key_there m) (ap (numbers.number_before None k.index) s.list ∙ (splits k.index s.after s.before s.not_before).before_is None) ∙ last_at s.before s.before_indices
-          ∙ sym (ap (key_before None k) s.elements ∙ key_before-split k v (elements_at m s.after) None (elements_at m s.before) s.no_element)
+    pub value_there : value_of k (elements_at m is) ≡ Some v
+    value_there = ap (value_of k) s.elements ∙ keys_split.value_is
 
-      pub from_at : elements_at m (numbers.numbers_from k.index is) ≡ from_key k (elements_at m is)
-      from_at = ap (elements_at m) (ap (numbers.numbers_from k.index) s.list ∙ (splits k.index s.after s.before s.not_before).from_is)
-          ∙ elements_first m k.index s.after (k, v) (at_live m all.apart k v found)
-          ∙ sym (ap (from_key k) s.elements ∙ from_key-split k v (elements_at m s.after) (elements_at m s.before) s.no_element)
+    pub next_there : key_there m (numbers.number_after k.index is) ≡ key_after k (elements_at m is)
+    next_there = ap (key_there m) (ap (numbers.number_after k.index) s.list ∙ numbers_split.after_is) ∙ first_at s.after s.after_indices
+        ∙ sym (ap (key_after k) s.elements ∙ keys_split.after_is)
 
-      pub number_without : numbers.without k.index is ≡ s.before ++ s.after
-      number_without = ap (numbers.without k.index) s.list ∙ without_split k.index s.before s.after (omega (arith, once k.index, ap (times k.index) s.list))
+    pub prev_there : key_there m (numbers.number_before None k.index is) ≡ key_before None k (elements_at m is)
+    prev_there = ap (key_there m) (ap (numbers.number_before None k.index) s.list ∙ numbers_split.before_is None) ∙ last_at s.before s.before_indices
+        ∙ sym (ap (key_before None k) s.elements ∙ keys_split.before_is None)
 
-      pub element_without : without k (elements_at m is) ≡ elements_at m (numbers.without k.index is)
-      element_without = ap (without k) s.elements ∙ without-split k v (elements_at m s.after) (elements_at m s.before) s.no_element
-          ∙ sym (ap (elements_at m) number_without ∙ elements-append m s.before s.after)
+    pub from_at : elements_at m (numbers.numbers_from k.index is) ≡ from_key k (elements_at m is)
+    from_at = ap (elements_at m) (ap (numbers.numbers_from k.index) s.list ∙ numbers_split.from_is) ∙ elements_first m k.index s.after (k, v) s.here
+        ∙ sym (ap (from_key k) s.elements ∙ keys_split.from_is)
+
+    pub number_without : numbers.without k.index is ≡ s.before ++ s.after
+    number_without = ap (numbers.without k.index) s.list ∙ without_split k.index s.before s.after (omega (arith, in_midst s.before k.index s.after, s.not_before, s.not_after))
+
+    pub element_without : without k (elements_at m is) ≡ elements_at m (numbers.without k.index is)
+    element_without = ap (without k) s.elements ∙ keys_split.without_is ∙ sym (ap (elements_at m) number_without ∙ elements-append m s.before s.after)
 
   -- a place in the list, and what stands before it and behind it
   pub record IsPlace (is : List ℕ) (place : Place) : Type 0 where
@@ -126,26 +128,26 @@ module _ {T : Type 0} (m : map.FinMap key_cmp T) where
         let in_list = value_in k is there in
         let v = some_is (map.get m k) in_list.0 in
         let s = stands_at is all once k v.0 v.1 in_list.1 in
-        let here = elements_first m k.index s.after (k, v.0) (at_live m all.apart k v.0 v.1) in
+        let here = elements_first m k.index s.after (k, v.0) s.here in
         record {
           before = s.before;
           after = k.index ∷ s.after;
           list = s.list;
-          number = λ i. ap (numbers.put_before k.index i) s.list ∙ (splits k.index s.after s.before s.not_before).put_before_is i;
-          element = λ x. ap (put_before k x) s.elements ∙ put_before-split k v.0 (elements_at m s.after) x (elements_at m s.before) s.no_element
+          number = λ i. ap (numbers.put_before k.index i) s.list ∙ (numbers_split s).put_before_is i;
+          element = λ x. ap (put_before k x) s.elements ∙ (keys_split s).put_before_is x
               ∙ ap (λ l. elements_at m s.before ++ x ∷ l) (sym here);
         }
     place_in (Beside After k) there =
         let in_list = value_in k is there in
         let v = some_is (map.get m k) in_list.0 in
         let s = stands_at is all once k v.0 v.1 in_list.1 in
-        let here = elements-append m s.before (k.index ∷ []) ∙ ap (λ l. elements_at m s.before ++ l) (elements_first m k.index [] (k, v.0) (at_live m all.apart k v.0 v.1)) in
+        let here = elements-append m s.before (k.index ∷ []) ∙ ap (λ l. elements_at m s.before ++ l) (elements_first m k.index [] (k, v.0) s.here) in
         record {
           before = s.before ++ k.index ∷ [];
           after = s.after;
           list = s.list ∙ sym (append_assoc s.before (k.index ∷ []) s.after);
-          number = λ i. ap (numbers.put_behind k.index i) s.list ∙ (splits k.index s.after s.before s.not_before).put_behind_is i ∙ sym (append_assoc s.before (k.index ∷ []) (i ∷ s.after));
-          element = λ x. ap (put_after k x) s.elements ∙ put_after-split k v.0 (elements_at m s.after) x (elements_at m s.before) s.no_element
+          number = λ i. ap (numbers.put_behind k.index i) s.list ∙ (numbers_split s).put_behind_is i ∙ sym (append_assoc s.before (k.index ∷ []) (i ∷ s.after));
+          element = λ x. ap (put_after k x) s.elements ∙ (keys_split s).put_after_is x
               ∙ sym (append_assoc (elements_at m s.before) ((k, v.0) ∷ []) (x ∷ elements_at m s.after)) ∙ ap (λ l. l ++ x ∷ elements_at m s.after) (sym here);
         }
 

@@ -1,5 +1,5 @@
 -- Calls that fail, and what holds where a call succeeds.
-use Rattle.std.proofs.Common.{◌≡◌, ℕ, ◌<◌, ◌≤◌, true, Result, Ok, Err, IsOk, OnOk, IsErr, refl, sym, subst, arith}
+use Rattle.std.proofs.Common.{◌≡◌, ℕ, ◌<◌, ◌≤◌, true, Result, Ok, Err, IsOk, OnOk, IsErr, sym, subst, arith}
 use Rattle.slotmap.specs.Words.{Content, IsContent, MakesRoom, RefusesCapacity, most}
 use Rattle.slotmap.specs.declared.ReserveError.{ReserveError}
 use Rattle.slotmap.specs.declared.ReserveError.TheVariants.{TooGreat}
@@ -19,14 +19,4 @@ refused_greatly n error is over = subst (RefusesCapacity n) (sym is) over
 
 -- a call that reserves room fails, and changes nothing
 pub no_room_made : {V : Type 0} (c : Content V) (n : ℕ) (ok : Type 0) → IsContent true c → (ok → ⊥) → (n ≤ c.room → ok) → MakesRoom true c n ok c
-no_room_made c n ok well never had = record {
-  before = well;
-  after = well;
-  fits = λ o. absurd (never o);
-  room = λ o. absurd (never o);
-  live_and_more = λ o. absurd (never o);
-  succeeds = had;
-  had_room = λ _. refl;
-  keeps = record { live = refl; detached = refl; retired = refl; next = refl; offer = refl; stack = refl; room = omega arith };
-  capacity = omega arith;
-}
+no_room_made c n ok well never had = grind arith

@@ -1,18 +1,18 @@
 -- What the parts of a list say of its elements.
-use Rattle.std.proofs.Common.{◌≡◌, ◌<◌, Bool, ℕ, ◌≤◌, true, false, cond, nat_eq, List, [], ◌∷◌, length, Option, Some, None, IsSome, is_some, option_map, option_copied, Bor}
-use Rattle.std.proofs.Common.{refl, sym, ap, subst, ◌∙◌, arith}
+use Rattle.std.proofs.Common.{◌≡◌, ◌<◌, ℕ, ◌≤◌, true, false, List, [], ◌∷◌, length, Option, Some, None, is_some, option_map, option_copied, Bor}
+use Rattle.std.proofs.Common.{refl, sym, ap, subst, ◌∙◌, arith, inl, inr}
+use Rattle.std.proofs.Math.Nat.{eq-zero-or-pos}
 use Rattle.slotmap.specs.Words.{Key, Content}
 use Rattle.slotmap_links.specs.Lists.{Lists, list_of, times, IsIn}
-use Rattle.slotmap_list.specs.Sequence.{value_of, first_or, last_or, key_after, key_before, from_key, without, IsOnce}
+use Rattle.slotmap_list.specs.Sequence.{value_of, first_or, last_or, key_after, key_before, from_key, IsOnce}
 use Rattle.slotmap_links.proofs.Counts.{times_first}
-use Rattle.slotmap_list.specs.Kept.{at_index, elements_at, key_there, AreLiveIndices, IsKept, IsRest}
-use Rattle.slotmap_list.proofs.Elements.{times_none, key_after-absent, key_before-absent, from_key-absent, without-absent}
+use Rattle.slotmap_list.specs.Kept.{elements_at, key_there, IsKept, IsRest}
+use Rattle.slotmap_list.proofs.Elements.{Absent, absent, times_none}
 use Rattle.slotmap_bounded.proofs.Indices.{some_is}
-use Rattle.slotmap_list.proofs.Indices.{elements_long, first_at, last_at, some_at}
+use Rattle.slotmap_list.proofs.Indices.{elements_long, first_at, last_at}
 use Rattle.slotmap_list.proofs.Parts.{IsAt, stands_at, value_none, value_there, next_there, prev_there, from_at, elements_once}
 use Rattle.std.specs.FinMap as map
 use Rattle.slotmap_links.specs.Lists as numbers
-use Rattle.slotmap_list.proofs.Elements as keys
 
 -- a look-up that copies nothing found nothing
 pub nothing_copied : {A : Type 0} (r : Option (Bor A)) → option_copied r ≡ None → r ≡ None
@@ -22,13 +22,7 @@ nothing_copied (Some x) is = absurd (cc)
 -- what is left of a list of indices from one on is part of it
 few_from : (k i : ℕ) (ks : List ℕ) → (times i (numbers.numbers_from k ks) ≤ times i ks) × (length (numbers.numbers_from k ks) ≤ length ks)
 few_from k i [] = (omega arith, omega arith)
-few_from k i (q ∷ ks) =
-    let first = times_first i q ks in
-    let rest = few_from k i ks in
-    elim (nat_eq q k) as (λ b. (times i (cond b (q ∷ ks) (numbers.numbers_from k ks)) ≤ times i (q ∷ ks)) × (length (cond b (q ∷ ks) (numbers.numbers_from k ks)) ≤ length (q ∷ ks))) [
-      | true ↦ (omega arith, omega arith)
-      | false ↦ (omega arith, omega arith)
-    ]
+few_from k i (q ∷ ks) = grind (arith, few_from k i ks, times_first i q ks)
 
 module _ {T : Type 0} {c : Content T} {s : Lists} (kept : IsKept c s) where
   abbrev is : List ℕ
@@ -37,29 +31,21 @@ module _ {T : Type 0} {c : Content T} {s : Lists} (kept : IsKept c s) where
   abbrev es : List (Key × T)
   es = elements_at c.live is
 
-  pub indices : AreLiveIndices c.live is
-  indices = record { apart = kept.apart; live = λ i more. by i (is_some (at_index c.live i)) refl (omega (arith, kept.each i)) }
-    where
-      by : (i : ℕ) (b : Bool) → is_some (at_index c.live i) ≡ b → 0 < cond b 1 0 → IsSome (at_index c.live i)
-      by i true some more = some
-      by i false none more = absurd (omega arith)
-
   pub once : (i : ℕ) → times i is ≤ 1
-  once i = rw (kept.each i) (by (is_some (at_index c.live i)))
-    where
-      by : (b : Bool) → cond b 1 0 ≤ 1
-      by true = omega arith
-      by false = omega arith
+  once i = elim (eq-zero-or-pos (times i is)) [
+    | inl none ↦ omega arith
+    | inr more ↦ (let own = kept.indices.live i more in omega (arith, kept.once own.0 own.1, ap (λ j. times j is) own.2))
+  ]
 
   pub inside_if : (k : Key) → map.contains_key c.live k ≡ true → 0 < times k.index is
-  inside_if k live = let one : times k.index is ≡ 1 = kept.each k.index ∙ ap (λ b. cond b 1 0) (some_at c.live kept.apart k.index k live refl) in omega arith
+  inside_if k live = omega (arith, kept.once k live)
 
   pub no_key_twice : IsOnce es
   no_key_twice = elements_once c.live is once
 
   -- a live key stands in the list
   pub stands : (k : Key) (v : T) → map.get c.live k ≡ Some v → IsAt c.live is k v
-  stands k v found = stands_at c.live is indices once k v found (inside_if k (ap is_some found))
+  stands k v found = stands_at c.live is kept.indices once k v found (inside_if k (ap is_some found))
 
   -- a key has the value that the map has under it
   pub value_at : (k : Key) → value_of k es ≡ map.get c.live k
@@ -67,45 +53,17 @@ module _ {T : Type 0} {c : Content T} {s : Lists} (kept : IsKept c s) where
     where
       by : (o : Option T) → map.get c.live k ≡ o → value_of k es ≡ o
       by None found = value_none c.live k is found
-      by (Some v) found = value_there c.live is indices once k v found (inside_if k (ap is_some found)) (stands k v found)
+      by (Some v) found = value_there c.live (stands k v found)
 
   pub stands_if : (k : Key) → map.contains_key c.live k ≡ is_some (value_of k es)
   stands_if k = sym (ap is_some (value_at k))
 
   -- a key that isn't live doesn't stand
-  module _ (k : Key) (gone : map.contains_key c.live k ≡ false) where
-    absent : keys.times k es ≡ 0
-    absent = times_none k es (by (map.get c.live k) (value_at k) gone)
-      where
-        by : (o : Option T) → value_of k es ≡ o → is_some o ≡ false → value_of k es ≡ None
-        by None is none = is
-        by (Some v) is none = absurd (cc)
+  pub gone_from : (k : Key) → map.contains_key c.live k ≡ false → Absent k es
+  gone_from k gone = let value = value_at k in absent k es (times_none k es (grind arith))
 
-    pub after_gone : None ≡ key_after k es
-    after_gone = sym (key_after-absent k es absent)
-
-    pub before_gone : None ≡ key_before None k es
-    before_gone = sym (key_before-absent k None es absent)
-
-    pub from_gone : [] ≡ from_key k es
-    from_gone = sym (from_key-absent k es absent)
-
-    pub without_gone : es ≡ without k es
-    without_gone = sym (without-absent k es absent)
-
-  -- what is beside a key that stands, by the indices
-  module _ (k : Key) (live : map.contains_key c.live k ≡ true) where
-    pub own : (v : T) × (map.get c.live k ≡ Some v)
-    own = some_is (map.get c.live k) live
-
-    after_live : key_there c.live (numbers.number_after k.index is) ≡ key_after k es
-    after_live = next_there c.live is indices once k own.0 own.1 (inside_if k live) (stands k own.0 own.1)
-
-    before_live : key_there c.live (numbers.number_before None k.index is) ≡ key_before None k es
-    before_live = prev_there c.live is indices once k own.0 own.1 (inside_if k live) (stands k own.0 own.1)
-
-    from_live : elements_at c.live (numbers.numbers_from k.index is) ≡ from_key k es
-    from_live = from_at c.live is indices once k own.0 own.1 (inside_if k live) (stands k own.0 own.1)
+  pub own : (k : Key) → map.contains_key c.live k ≡ true → (v : T) × (map.get c.live k ≡ Some v)
+  own k live = some_is (map.get c.live k) live
 
   -- there is a link for its index
   pub below : (k : Key) → map.contains_key c.live k ≡ true → (i : ℕ) → i ≡ k.index → i < s.members
@@ -114,20 +72,20 @@ module _ {T : Type 0} {c : Content T} {s : Lists} (kept : IsKept c s) where
   -- the keys beside one that stands, and those at the two ends, as the calls find them
   module _ {K : Type 0} (data_of : K → Key) (r : Option K) (number : Option ℕ) (finds : option_map data_of r ≡ key_there c.live number) where
     pub first_is : number ≡ numbers.first_or is None → option_map data_of r ≡ first_or es None
-    first_is at = finds ∙ ap (key_there c.live) at ∙ first_at is indices
+    first_is at = finds ∙ ap (key_there c.live) at ∙ first_at is kept.indices
 
     pub last_is : number ≡ numbers.last_or is None → option_map data_of r ≡ last_or es None
-    last_is at = finds ∙ ap (key_there c.live) at ∙ last_at is indices
+    last_is at = finds ∙ ap (key_there c.live) at ∙ last_at is kept.indices
 
     module _ (k : Key) (live : map.contains_key c.live k ≡ true) (i : ℕ) (same : i ≡ k.index) where
       inside : IsIn s 0 i
       inside = rw same (inside_if k live)
 
       pub after_is : ((p : ℕ) → IsIn s p i → number ≡ numbers.number_after i (list_of s p)) → option_map data_of r ≡ key_after k es
-      after_is at = finds ∙ ap (key_there c.live) (at 0 inside ∙ ap (λ j. numbers.number_after j is) same) ∙ after_live k live
+      after_is at = finds ∙ ap (key_there c.live) (at 0 inside ∙ ap (λ j. numbers.number_after j is) same) ∙ next_there c.live (stands k (own k live).0 (own k live).1)
 
       pub before_is : ((p : ℕ) → IsIn s p i → number ≡ numbers.number_before None i (list_of s p)) → option_map data_of r ≡ key_before None k es
-      before_is at = finds ∙ ap (key_there c.live) (at 0 inside ∙ ap (λ j. numbers.number_before None j is) same) ∙ before_live k live
+      before_is at = finds ∙ ap (key_there c.live) (at 0 inside ∙ ap (λ j. numbers.number_before None j is) same) ∙ prev_there c.live (stands k (own k live).0 (own k live).1)
 
   -- an iterator from a key on has what stands from there
   module _ (k : Key) (live : map.contains_key c.live k ≡ true) (i : ℕ) (same : i ≡ k.index) (from : List ℕ) (at : (p : ℕ) → IsIn s p i
@@ -137,9 +95,9 @@ module _ {T : Type 0} {c : Content T} {s : Lists} (kept : IsKept c s) where
 
     pub rest_begins : (most : ℕ) → most ≡ length es → IsRest c.live from most
     rest_begins most long = subst (λ l. IsRest c.live l most) (sym from_is) (record {
-      indices = record { apart = indices.apart; live = λ j more. indices.live j (omega (arith, (few_from k.index j is).0)) };
-      few = omega (arith, (few_from k.index 0 is).1, elements_long is indices);
+      indices = record { apart = kept.indices.apart; live = λ j more. kept.indices.live j (omega (arith, (few_from k.index j is).0)) };
+      few = omega (arith, (few_from k.index 0 is).1, elements_long is kept.indices);
     })
 
     pub tail_elements : elements_at c.live from ≡ from_key k es
-    tail_elements = ap (elements_at c.live) from_is ∙ from_live k live
+    tail_elements = ap (elements_at c.live) from_is ∙ from_at c.live (stands k (own k live).0 (own k live).1)

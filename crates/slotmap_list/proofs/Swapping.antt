@@ -3,14 +3,14 @@ use Rattle.std.proofs.Common.{◌≡◌, ◌≢◌, ◌<◌, true, not, ◌&&◌
 use Rattle.std.proofs.Common.{append_assoc, append-nil}
 use Rattle.std.proofs.Math.Nat.{eq-zero-or-pos}
 use Rattle.slotmap.specs.Words.{Key}
+use Rattle.slotmap_keylist.proofs.Counts.{is_itself, is_other}
 use Rattle.slotmap_list.specs.declared.place.Side.{Side}
 use Rattle.slotmap_list.specs.declared.place.Side.TheVariants.{Before, After}
 use Rattle.slotmap_list.specs.declared.place.Place.TheVariants.{Back, Beside}
 use Rattle.slotmap_list.specs.Sequence.{Sequence, value_of, first_or, key_after, put_again, are_two, IsOnce, Swaps}
 use Rattle.slotmap_list.specs.ListPlaces.{insert_beside, moved_to, before_or_back}
-use Rattle.slotmap_list.proofs.Elements.{one, one_itself, one_other, times, times-append, times-put, times_some, some_there, at_most_once, once_if, absent_before, once_drop, parts_at, value_of-split}
-use Rattle.slotmap_list.proofs.Elements.{without-split, key_after-split, put_after-split, put_before-split}
-use Rattle.slotmap_list.proofs.Moving.{is_itself, is_other, two}
+use Rattle.slotmap_list.proofs.Elements.{one, one_itself, one_other, times, times-append, times-put, times_some, some_there, at_most_once, once_if, absent_before, once_drop, parts_at, splits}
+use Rattle.slotmap_list.proofs.Moving.{two}
 
 module _ {T : Type 0} where
   two_are : (k other : Key) (es : List (Key × T)) → other ≢ k → 0 < times k es → 0 < times other es → are_two k other es ≡ true
@@ -23,8 +23,8 @@ module _ {T : Type 0} where
   -- an element is taken out of a list and put back in
   again-split : (put : Key × T → List (Key × T) → List (Key × T)) (k : Key) (v : T) (ys zs : List (Key × T)) → IsOnce (ys ++ (k, v) ∷ zs)
       → put_again put k (value_of k (ys ++ (k, v) ∷ zs)) (ys ++ (k, v) ∷ zs) ≡ put (k, v) (ys ++ zs)
-  again-split put k v ys zs once = let absent = (absent_before ys k v zs once).0 in ap (λ o. put_again put k o (ys ++ (k, v) ∷ zs)) (value_of-split k v zs ys absent)
-      ∙ ap (put (k, v)) (without-split k v zs ys absent)
+  again-split put k v ys zs once = let absent = (absent_before ys k v zs once).0 in ap (λ o. put_again put k o (ys ++ (k, v) ∷ zs)) ((splits k v zs ys absent).value_is)
+      ∙ ap (put (k, v)) ((splits k v zs ys absent).without_is)
 
   -- beside the element of c, which stands among the others
   module _ (k : Key) (v : T) (ys zs : List (Key × T)) (c : Key) (u : T) (us ws : List (Key × T)) (is : ys ++ zs ≡ us ++ (c, u) ∷ ws) (once : IsOnce (ys ++ (k, v) ∷ zs)) where
@@ -38,10 +38,10 @@ module _ {T : Type 0} where
     absent_c = (absent_before us c u ws (subst IsOnce is (once_drop ys (k, v) zs once))).0
 
     after_to : moved_to (Beside After c) k (ys ++ (k, v) ∷ zs) ≡ us ++ (c, u) ∷ (k, v) ∷ ws
-    after_to = beside-split After ∙ put_after-split c u ws (k, v) us absent_c
+    after_to = beside-split After ∙ (splits c u ws us absent_c).put_after_is (k, v)
 
     before_to : moved_to (Beside Before c) k (ys ++ (k, v) ∷ zs) ≡ us ++ (k, v) ∷ (c, u) ∷ ws
-    before_to = beside-split Before ∙ put_before-split c u ws (k, v) us absent_c
+    before_to = beside-split Before ∙ (splits c u ws us absent_c).put_before_is (k, v)
 
     once_after : IsOnce (us ++ (c, u) ∷ (k, v) ∷ ws)
     once_after =
@@ -93,7 +93,7 @@ module _ {T : Type 0} where
       let first = one_other other k they.0 in
       let there = times_some other es they.2 in
       let to : List (Key × T) → List (Key × T) = λ l. moved_to (before_or_back (key_after k l)) other (moved_to (Beside After other) k l) in
-      let next = key_after-split k a.1 a.2 a.0 (absent_before a.0 k a.1 a.2 (subst IsOnce a.3 once)).0 in
+      let next = (splits k a.1 a.2 a.0 (absent_before a.0 k a.1 a.2 (subst IsOnce a.3 once)).0).after_is in
       let made = elements_are again ∙ ap (moved_to (before_or_back (key_after k es)) other) (elements_are moved) ∙ ap to a.3
       ∙ ap (λ n. moved_to (before_or_back n) other (moved_to (Beside After other) k (a.0 ++ (k, a.1) ∷ a.2))) next in
       elim (eq-zero-or-pos (times other a.2)) [

@@ -5,29 +5,20 @@ use Rattle.std.specs.Fn.{Mut, Called, Takes}
 use Rattle.std.specs.Borrow.{MutBor}
 use Rattle.slotmap.specs.Words.{Key, IsSpent, KeepsSpent, Leaves}
 use Rattle.slotmap.proofs.Callers.{leaves_in_turn, leaves_none, same_or_other}
-use Rattle.slotmap_list.specs.Sequence.{Sequence, value_of, first_or, key_after, with_value_at, without, IsOnce}
+use Rattle.slotmap_list.specs.Sequence.{Sequence, value_of, first_or, key_after, from_key, with_value_at, without, IsOnce}
 use Rattle.slotmap_list.specs.Retain.{RetainsOne, RetainsEach, CallableInOrder}
-use Rattle.slotmap_list.proofs.Elements.{once-written, same, one_other, times, times-append, times_none, none_there, absent_before, apart_first, itself_first, once_drop, front_of, no_first}
-use Rattle.slotmap_list.proofs.Elements.{value_of-split, key_after-split, without-split, with_value-split}
+use Rattle.slotmap_list.proofs.Elements.{once-written, one_other, times, times-append, times_none, none_there, absent_before, once_drop, front_of, no_first, splits}
 use denote.Param.Always.{always_mut, mut_next}
 
 module _ {T : Type 0} where
-  -- the elements from a key on, and how many there are
-  abbrev pub from : Key → List (Key × T) → List (Key × T)
-  from k [] = []
-  from k (e ∷ es) = cond (same k e.0) (e ∷ es) (from k es)
-
+  -- how many elements there are from a key on
   abbrev pub ahead : Option Key → List (Key × T) → ℕ
   ahead None es = 0
-  ahead (Some k) es = length (from k es)
-
-  from-split : (ys : List (Key × T)) (k : Key) (v : T) (zs : List (Key × T)) → times k ys ≡ 0 → from k (ys ++ (k, v) ∷ zs) ≡ (k, v) ∷ zs
-  from-split [] k v zs none = let here = itself_first k in cc
-  from-split (y ∷ ys) k v zs none = let apart = apart_first k y.0 (omega arith) in let rest = from-split ys k v zs (omega arith) in cc
+  ahead (Some k) es = length (from_key k es)
 
   ahead-first : (ys zs : List (Key × T)) → IsOnce (ys ++ zs) → ahead (first_or zs None) (ys ++ zs) ≡ length zs
   ahead-first ys [] once = refl
-  ahead-first ys (z ∷ zs) once = ap length (from-split ys z.0 z.1 zs (absent_before ys z.0 z.1 zs once).0)
+  ahead-first ys (z ∷ zs) once = ap length (splits z.0 z.1 zs ys (absent_before ys z.0 z.1 zs once).0).from_is
 
 module _ {F K T : Type 0} {g : Mut F (K × (MutBor T × Unit {0})) (Bool × (MutBor T × Unit {0}))} {data_of : K → Key} where
   each_push : (f : F) (es left : List (Key × T)) (f' : F) (e : Key × T) (more : List (Key × T)) (f'' : F) → RetainsEach g data_of f es left f' → RetainsOne g data_of f' e more f''
@@ -84,7 +75,7 @@ module _ {F K T : Type 0} {g : Mut F (K × (MutBor T × Unit {0})) (Bool × (Mut
 
   -- it stands
   stands : value_of k now.elements ≡ Some here.0
-  stands = ap (value_of k) now_here ∙ value_of-split k here.0 here.1 r.left apart
+  stands = ap (value_of k) now_here ∙ (splits k here.0 here.1 r.left apart).value_is
 
   pub retaining_stands : IsSome (value_of k now.elements)
   retaining_stands = ap is_some stands
@@ -102,16 +93,16 @@ module _ {F K T : Type 0} {g : Mut F (K × (MutBor T × Unit {0})) (Bool × (Mut
 
     module _ {f'' : F} {stays : Bool} {after : MutBor T} (called : Called g f' (key, (shown, tt)) (stays, (after, tt)) f'') {next : Option Key} (goes : next ≡ key_after k now.elements) where
       next_is : next ≡ first_or here.1 None
-      next_is = goes ∙ ap (key_after k) now_here ∙ key_after-split k here.0 here.1 r.left apart
+      next_is = goes ∙ ap (key_after k) now_here ∙ (splits k here.0 here.1 r.left apart).after_is
 
       one : RetainsOne g data_of f' (k, here.0) (cond stays ((k, after.now) ∷ []) []) f''
       one = record { key = key; at = is; shown = shown; shows = shown_is shown.now shows; stays = stays; after = after; called = called; left_is = refl }
 
       written : with_value_at k after.now now.elements ≡ r.left ++ (k, after.now) ∷ here.1
-      written = ap (with_value_at k after.now) now_here ∙ with_value-split k here.0 here.1 after.now r.left apart
+      written = ap (with_value_at k after.now) now_here ∙ (splits k here.0 here.1 r.left apart).write_is after.now
 
       pub written_stands : IsSome (value_of k (with_value_at k after.now now.elements))
-      written_stands = ap is_some (ap (value_of k) written ∙ value_of-split k after.now here.1 r.left apart)
+      written_stands = ap is_some (ap (value_of k) written ∙ (splits k after.now here.1 r.left apart).value_is)
 
       ahead_here : ahead (Some k) now.elements ≡ length here.1 + 1
       ahead_here = let e : ahead (Some k) now.elements ≡ length ((k, here.0) ∷ here.1) = ap (ahead (Some k)) now_here ∙ ahead-first r.left ((k, here.0) ∷ here.1)
@@ -129,7 +120,7 @@ module _ {F K T : Type 0} {g : Mut F (K × (MutBor T × Unit {0})) (Bool × (Mut
       kept_less = ahead_less (with_value_at k after.now now.elements) (r.left ++ (k, after.now) ∷ []) kept_is (once-written k after.now now.elements once)
 
       dropped_is : {new : List (Key × T)} → new ≡ without k (with_value_at k after.now now.elements) → new ≡ r.left ++ here.1
-      dropped_is removed = removed ∙ ap (without k) written ∙ without-split k after.now here.1 r.left apart
+      dropped_is removed = removed ∙ ap (without k) written ∙ (splits k after.now here.1 r.left apart).without_is
 
       pub dropped_less : {new : List (Key × T)} → new ≡ without k (with_value_at k after.now now.elements) → ahead next new < ahead (Some k) now.elements
       dropped_less {new} removed = ahead_less new r.left (dropped_is removed) (subst IsOnce (sym (dropped_is removed)) (once_drop r.left (k, here.0) here.1 (subst IsOnce now_here once)))

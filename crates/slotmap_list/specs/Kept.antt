@@ -1,8 +1,8 @@
 -- How a list is kept: its values in a map, and the indices of their keys, in the order of the list, as a list of numbers.
-use Rattle.std.specs.Prelude.{◌≡◌, ℕ, ◌<◌, ◌≤◌, cond, List, [], length, Option, Some, None, option_map, IsSome, is_some}
+use Rattle.std.specs.Prelude.{◌≡◌, ℕ, ◌<◌, ◌≤◌, true, List, [], length, Option, Some, None, option_map}
 use Rattle.std.specs.List.{filter_map}
 use Rattle.std.specs.FinMap as map
-use Rattle.slotmap.specs.Words.{Key, key_cmp, Content}
+use Rattle.slotmap.specs.Words.{Key, key_cmp, Content, IsLive}
 use Rattle.slotmap_bounded.specs.Indices.{AreApart, found_at}
 use Rattle.slotmap_links.specs.Lists.{Lists, list_of, times}
 
@@ -28,13 +28,13 @@ module _ {T : Type 0} where
   -- each of these numbers is the index of a live key
   pub record AreLiveIndices (m : map.FinMap key_cmp T) (is : List ℕ) : Type 0 where
     pub apart : AreApart m
-    pub live : (i : ℕ) → 0 < times i is → IsSome (at_index m i)
+    pub live : (i : ℕ) → 0 < times i is → (k : Key) × (map.contains_key m k ≡ true) × (k.index ≡ i)
 
   -- the list of owner 0 has the index of each live key once
   pub record IsKept (values : Content T) (links : Lists) : Type 0 where
     pub owner : length links.lists ≡ 1
-    pub apart : AreApart values.live
-    pub each : (i : ℕ) → times i (list_of links 0) ≡ cond (is_some (at_index values.live i)) 1 0
+    pub indices : AreLiveIndices values.live (list_of links 0)
+    pub once : (k : Key) → IsLive values k → times k.index (list_of links 0) ≡ 1
     pub within : (i : ℕ) → 0 < times i (list_of links 0) → i < links.members
     -- there is a link for each index that a key can have
     pub covered : values.capacity < links.members

@@ -1,9 +1,10 @@
 -- A list as its user sees it: keys with their values, from front to back.
-use Rattle.std.specs.Prelude.{◌≡◌, refl, List, [], ◌∷◌, ◌++◌, Option, Some, None, Bool, cond, not, ◌⊎◌, ◌&&◌, nat_eq, is_some}
+use Rattle.std.specs.Prelude.{◌≡◌, refl, List, [], ◌∷◌, ◌++◌, Option, Some, None, Bool, cond, not, ◌⊎◌, ◌&&◌, is_some}
 use Rattle.std.specs.Coded.{Coded, code_by, coded×, coded_list}
 use Rattle.std.specs.Ordering.{eq_by_cmp}
 use Rattle.std.specs.FinMap.Entries.{find}
 use Rattle.slotmap.specs.Words.{Key, key_cmp, coded_key, Content, keys_code}
+use Rattle.slotmap_keylist.specs.KeyLists.{is_key}
 
 pub record Sequence (T : Type 0) : Type 0 where
   -- the elements from front to back: each cursor with its value
@@ -16,10 +17,6 @@ abbrev pub sequence_code : {T : Type 0} → Coded T → Coded (Sequence T)
 sequence_code {T} code =
     code_by (List (Key × T) × Content (Unit {0})) (coded× (coded_list (coded× coded_key code)) keys_code) (λ s. (s.elements, s.cursors))
     (λ p. record { elements = p.0; cursors = p.1 }) (λ _. refl)
-
--- whether two keys are one
-abbrev pub is_same : Key → Key → Bool
-is_same k q = nat_eq k.index q.index && nat_eq k.version q.version
 
 module _ {T : Type 0} where
   -- the value of a key
@@ -86,7 +83,7 @@ module _ {T : Type 0} where
 
   -- both keys are in the list, and they are two
   abbrev pub are_two : Key → Key → List (Key × T) → Bool
-  are_two k other es = not (is_same k other) && (is_some (value_of k es) && is_some (value_of other es))
+  are_two k other es = not (is_key k other) && (is_some (value_of k es) && is_some (value_of other es))
 
   -- the list once the value of k was written
   abbrev pub with_value_at : Key → T → List (Key × T) → List (Key × T)

@@ -3,7 +3,7 @@
 ghost use Rattle.std.specs.Prelude.{◌≡◌, Some, None, IfSome, option_map};
 ghost use Rattle.slotmap_list.specs.Sequence.{key_after, key_before, value_of};
 
-use crate::{StableList, key_at};
+use crate::StableList;
 use slotmap::Key;
 
 impl<K: Key, T: Drop> StableList<K, T> {
@@ -23,10 +23,7 @@ impl<K: Key, T: Drop> StableList<K, T> {
         ensures next { option_map (λ e. K.data_of e.0) result ≡ key_after (K.data_of cursor) self.now.elements }
         ensures value { IfSome result (λ e. value_of (K.data_of e.0) self.now.elements ≡ Some e.1.now) }
     {
-        if !self.values.contains_key(cursor) {
-            return None;
-        }
-        let next = key_at(&self.values, self.links.next(cursor.data().idx()))?;
+        let next = self.next(cursor)?;
         Some((next, self.values.value(next)))
     }
 
@@ -46,10 +43,7 @@ impl<K: Key, T: Drop> StableList<K, T> {
         ensures prev { option_map (λ e. K.data_of e.0) result ≡ key_before None (K.data_of cursor) self.now.elements }
         ensures value { IfSome result (λ e. value_of (K.data_of e.0) self.now.elements ≡ Some e.1.now) }
     {
-        if !self.values.contains_key(cursor) {
-            return None;
-        }
-        let prev = key_at(&self.values, self.links.prev(cursor.data().idx()))?;
+        let prev = self.prev(cursor)?;
         Some((prev, self.values.value(prev)))
     }
 }

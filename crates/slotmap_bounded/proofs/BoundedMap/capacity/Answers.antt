@@ -2,4 +2,4 @@ use Rattle.slotmap_bounded.proofs.Bounds.{bounded_valid}
 use Rattle.slotmap_bounded.proofs.BoundedMap.capacity.Goals as goal
 
 pub returns-clause-valid : goal.returns-clause-valid
-returns-clause-valid g c = rw (← c.self.view_is) (bounded_valid c.self.inside.map c.self.inside.room c.self.inside.capacity c.self.invariant)
+returns-clause-valid g c = rw (← c.self.view_is) (bounded_valid c.self.invariant)

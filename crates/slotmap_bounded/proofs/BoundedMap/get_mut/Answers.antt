@@ -5,7 +5,7 @@ use Rattle.slotmap_bounded.proofs.Bounds.{written}
 use Rattle.slotmap_bounded.proofs.BoundedMap.get_mut.Goals as goal
 
 pub invariant_of-self-lent : goal.invariant_of-self-lent
-invariant_of-self-lent g c w = written c.self.inside.map c.self.inside.room c.self.inside.capacity c.self.invariant (g.K.Key.data_of c.args.key) (ap is_some (sym c.in-Some.ensures.value)) w
+invariant_of-self-lent g c w = written c.self.invariant (g.K.Key.data_of c.args.key) (ap is_some (sym c.in-Some.ensures.value)) w
 
 pub returns-in-Some : goal.returns-in-Some
 returns-in-Some g c =

@@ -2,20 +2,14 @@ use Rattle.slotmap_bounded.proofs.Bounds.{index_within, inserted, inserts_bounde
 use Rattle.slotmap_bounded.proofs.BoundedMap.insert_reserved.Goals as goal
 
 pub invariant_of-self : goal.invariant_of-self
-invariant_of-self g c = inserted c.self.inside.map c.self.inside.room c.self.inside.capacity c.self.invariant (g.K.Key.data_of c.in-Ok.key) c.args.value c.insert.new.self
-    c.in-Ok.ensures.ok (rw (← c.self.view_is) at c.requires.room) c.insert.ensures.valid.after
+invariant_of-self g c = inserted c.self.invariant c.in-Ok.ensures.ok (rw (← c.self.view_is) at c.requires.room) c.insert.ensures.valid.after
 
 pub returns-clause-valid : goal.returns-clause-valid
 returns-clause-valid g c =
-    rw (← c.self.view_is)
-    (stays _ _ _ _ _ c.self.invariant (inserted c.self.inside.map c.self.inside.room c.self.inside.capacity c.self.invariant (g.K.Key.data_of c.in-Ok.key) c.args.value c.insert.new.self
-    c.in-Ok.ensures.ok (rw (← c.self.view_is) at c.requires.room) c.insert.ensures.valid.after))
+    rw (← c.self.view_is) (stays c.self.invariant (inserted c.self.invariant c.in-Ok.ensures.ok (rw (← c.self.view_is) at c.requires.room) c.insert.ensures.valid.after))
 
 pub returns-clause-inserts : goal.returns-clause-inserts
-returns-clause-inserts g c =
-    rw (← c.self.view_is) (inserts_bounded c.self.inside.map c.self.inside.room c.self.inside.capacity c.self.invariant (g.K.Key.data_of c.in-Ok.key) c.args.value c.insert.new.self
-    c.in-Ok.ensures.ok (rw (← c.self.view_is) at c.requires.room))
+returns-clause-inserts g c = rw (← c.self.view_is) (inserts_bounded c.self.invariant c.in-Ok.ensures.ok (rw (← c.self.view_is) at c.requires.room))
 
 pub returns-clause-within : goal.returns-clause-within
-returns-clause-within g c = index_within c.self.inside.map c.self.inside.room c.self.inside.capacity c.self.invariant (g.K.Key.data_of c.in-Ok.key) c.args.value c.insert.new.self
-    c.in-Ok.ensures.ok (rw (← c.self.view_is) at c.requires.room) c.insert.ensures.valid.after
+returns-clause-within g c = index_within c.self.invariant c.in-Ok.ensures.ok (rw (← c.self.view_is) at c.requires.room) c.insert.ensures.valid.after

@@ -1,10 +1,11 @@
 use Rattle.std.proofs.Common.{sym, ap, ◌∙◌}
 use Rattle.slotmap.specs.Words.{Key}
-use Rattle.slotmap_list.proofs.Seen.{after_gone, after_is, below, no_key_twice}
+use Rattle.slotmap_list.proofs.Seen.{gone_from, after_is, below, no_key_twice}
 use Rattle.slotmap_list.proofs.StableList.after.Goals as goal
 
 pub returns-then-not-contains_key-clause-value : goal.returns-then-not-contains_key-clause-value
-returns-then-not-contains_key-clause-value g c = rw (← c.self.view_is) (after_gone c.self.invariant (g.K.Key.data_of c.args.cursor) (sym c.contains_key.ensures.value ∙ c.if-not-contains_key.true))
+returns-then-not-contains_key-clause-value g c =
+    rw (← c.self.view_is) (sym ((gone_from c.self.invariant (g.K.Key.data_of c.args.cursor) (sym c.contains_key.ensures.value ∙ c.if-not-contains_key.true)).after_is))
 
 pub returns-then-not-contains_key-clause-once : goal.returns-then-not-contains_key-clause-once
 returns-then-not-contains_key-clause-once g c = rw (← c.self.view_is) (no_key_twice c.self.invariant)

@@ -1,5 +1,5 @@
 use Rattle.std.proofs.Common.{sym, ◌∙◌}
-use Rattle.slotmap_keylist.proofs.Alone.{gone_finds_nothing}
+use Rattle.slotmap.proofs.Callers.{alone_spent, spent_finds_nothing}
 use Rattle.slotmap_list.proofs.Seen.{nothing_copied, value_at}
 use Rattle.slotmap_list.proofs.StableList.get.Goals as goal
 
@@ -7,4 +7,4 @@ pub returns-clause-value : goal.returns-clause-value
 returns-clause-value g c = rw (← c.self.view_is) (c.get.ensures ∙ sym (value_at c.self.invariant (g.K.Key.data_of c.args.cursor)))
 
 pub returns-clause-gone : goal.returns-clause-gone
-returns-clause-gone g c = rw (← c.self.view_is) (λ spent. nothing_copied _ (c.get.ensures ∙ gone_finds_nothing _ _ spent))
+returns-clause-gone g c = rw (← c.self.view_is) (λ spent. nothing_copied _ (c.get.ensures ∙ spent_finds_nothing _ _ (alone_spent _ _ spent)))

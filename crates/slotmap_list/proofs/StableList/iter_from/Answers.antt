@@ -1,12 +1,12 @@
 use Rattle.std.proofs.Common.{sym, ap, length, ◌∙◌}
 use Rattle.slotmap.specs.Words.{Key}
 use Rattle.slotmap_list.specs.Sequence.{Sequence}
-use Rattle.slotmap_list.proofs.Seen.{from_gone, inside_if, rest_begins, tail_elements}
+use Rattle.slotmap_list.proofs.Seen.{gone_from, inside_if, rest_begins, tail_elements}
 use Rattle.slotmap_list.proofs.StableList.iter_from.Goals as goal
 
 pub returns-then-not-contains_key-clause-elements : goal.returns-then-not-contains_key-clause-elements
 returns-then-not-contains_key-clause-elements g c =
-    rw (← c.self.view_is) (from_gone c.self.invariant (g.K.Key.data_of c.args.cursor) (sym c.contains_key.ensures.value ∙ c.if-not-contains_key.true))
+    rw (← c.self.view_is) (sym ((gone_from c.self.invariant (g.K.Key.data_of c.args.cursor) (sym c.contains_key.ensures.value ∙ c.if-not-contains_key.true)).from_is))
 
 pub invariant_of-result-2 : goal.invariant_of-result-2
 invariant_of-result-2 g c =

@@ -1,10 +1,11 @@
-use Rattle.std.proofs.Common.{sym, ap, ◌∙◌}
+use Rattle.std.proofs.Common.{None, sym, ap, ◌∙◌}
 use Rattle.slotmap.specs.Words.{Key}
-use Rattle.slotmap_list.proofs.Seen.{before_gone, before_is, below}
+use Rattle.slotmap_list.proofs.Seen.{gone_from, before_is, below}
 use Rattle.slotmap_list.proofs.StableList.prev.Goals as goal
 
 pub returns-then-not-contains_key : goal.returns-then-not-contains_key
-returns-then-not-contains_key g c = rw (← c.self.view_is) (before_gone c.self.invariant (g.K.Key.data_of c.args.cursor) (sym c.contains_key.ensures.value ∙ c.if-not-contains_key.true))
+returns-then-not-contains_key g c =
+    rw (← c.self.view_is) (sym ((gone_from c.self.invariant (g.K.Key.data_of c.args.cursor) (sym c.contains_key.ensures.value ∙ c.if-not-contains_key.true)).before_is None))
 
 pub returns : goal.returns
 returns g c =

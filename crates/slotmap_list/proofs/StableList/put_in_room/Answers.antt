@@ -1,7 +1,7 @@
 use Rattle.std.proofs.Common.{◌≡◌, true, refl, ap, ◌∙◌, arith}
 use Rattle.slotmap.specs.Words.{Key}
-use Rattle.slotmap.proofs.Callers.{inserted_len, spent_inserts}
-use Rattle.slotmap_keylist.proofs.Alone.{alone-inserts, gone_stays, new_not_gone, used_alone}
+use Rattle.slotmap.proofs.Callers.{alone_spent, inserted_len, inserted_not_spent, keeps_spent_alone, spent_inserts}
+use Rattle.slotmap_keylist.proofs.Alone.{alone-inserts, used_alone}
 use Rattle.slotmap_links.specs.Lists.{list_of}
 use Rattle.slotmap_list.specs.{Kept.elements_at, Sequence.Sequence, ListPlaces.is_place}
 use Rattle.slotmap_list.proofs.Keeps.{free_one, kept_put, none_yet, elements_put}
@@ -40,7 +40,8 @@ pub returns-clause-fresh : goal.returns-clause-fresh
 returns-clause-fresh g c = rw (← c.self.view_is) (value_at c.self.invariant (g.K.Key.data_of c.insert_reserved-key.result) ∙ c.insert_reserved-key.ensures.fresh)
 
 pub returns-clause-unspent : goal.returns-clause-unspent
-returns-clause-unspent g c = rw (← c.self.view_is) (new_not_gone _ _ c.insert_reserved-key.ensures.valid.before _ _ c.insert_reserved-key.ensures.inserts)
+returns-clause-unspent g c =
+    rw (← c.self.view_is) (λ spent. inserted_not_spent _ _ true c.insert_reserved-key.ensures.valid.before _ _ c.insert_reserved-key.ensures.inserts _ (alone_spent _ _ spent) refl)
 
 pub returns-clause-cursors : goal.returns-clause-cursors
 returns-clause-cursors g c = rw (← c.self.view_is) (alone-inserts _ _ _ _ c.insert_reserved-key.ensures.inserts)
@@ -51,4 +52,4 @@ returns-clause-used g c = let made = c.insert_reserved-key.ensures in let more =
     rw (← c.self.view_is, used_alone c.self.inside.values, used_alone c.insert_reserved-key.new.self) (omega arith)
 
 pub returns-clause-gone : goal.returns-clause-gone
-returns-clause-gone g c = rw (← c.self.view_is) (gone_stays _ _ _ refl (spent_inserts _ _ true c.insert_reserved-key.ensures.valid.before _ _ c.insert_reserved-key.ensures.inserts))
+returns-clause-gone g c = rw (← c.self.view_is) (keeps_spent_alone _ _ (spent_inserts _ _ true c.insert_reserved-key.ensures.valid.before _ _ c.insert_reserved-key.ensures.inserts))

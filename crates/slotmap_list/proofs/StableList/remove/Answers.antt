@@ -1,9 +1,9 @@
-use Rattle.std.proofs.Common.{◌≡◌, true, Some, is_some, refl, sym, ap, ◌∙◌}
-use Rattle.slotmap.proofs.Callers.{leaves_by_removal, leaves_none, removed_spent, spent_removes}
-use Rattle.slotmap_keylist.proofs.Alone.{alone-leaves, alone-removes, gone_here, gone_stays}
+use Rattle.std.proofs.Common.{◌≡◌, true, Some, is_some, sym, ap, ◌∙◌}
+use Rattle.slotmap.proofs.Callers.{keeps_spent_alone, leaves_by_removal, leaves_none, removed_spent, spent_alone, spent_removes}
+use Rattle.slotmap_keylist.proofs.Alone.{alone-leaves, alone-removes}
 use Rattle.slotmap_list.proofs.Keeps.{elements_taken, get-remove_here, kept_taken}
 use Rattle.slotmap_list.proofs.Parts.{value_none}
-use Rattle.slotmap_list.proofs.Seen.{inside_if, value_at, without_gone}
+use Rattle.slotmap_list.proofs.Seen.{inside_if, value_at, gone_from}
 use Rattle.std.specs.FinMap as map
 use Rattle.slotmap_list.proofs.StableList.remove.Goals as goal
 use Rattle.slotmap_list.proofs.StableList.remove.Goals.{After-idx}
@@ -18,7 +18,8 @@ returns-in_err-value-clause-value g c =
 
 pub returns-in_err-value-clause-removed : goal.returns-in_err-value-clause-removed
 returns-in_err-value-clause-removed g c =
-    rw (c.in_err-value.ensures.unchanged, ← c.self.view_is) (without_gone c.self.invariant (g.K.Key.data_of c.args.cursor) (ap is_some (sym (rw c.in_err-value.was at c.remove.ensures.value))))
+    rw (c.in_err-value.ensures.unchanged, ← c.self.view_is)
+    (sym ((gone_from c.self.invariant (g.K.Key.data_of c.args.cursor) (ap is_some (sym (rw c.in_err-value.was at c.remove.ensures.value)))).without_is))
 
 pub returns-in_err-value-clause-absent : goal.returns-in_err-value-clause-absent
 returns-in_err-value-clause-absent g c =
@@ -51,13 +52,13 @@ returns-clause-cursors g c = rw (← c.self.view_is) (alone-removes _ _ (g.K.Key
 
 pub returns-clause-for_good : goal.returns-clause-for_good
 returns-clause-for_good g c =
-    gone_here _ _ refl (g.K.Key.data_of c.args.cursor)
+    spent_alone _ (g.K.Key.data_of c.args.cursor)
     (removed_spent _ _ true c.remove.ensures.valid.before _ (ap is_some (found g (goal.at.returns-clause-for_good g c).After-idx)) c.in_ok-value.ensures.removes)
 
 pub returns-clause-gone : goal.returns-clause-gone
 returns-clause-gone g c =
     rw (← c.self.view_is)
-    (gone_stays _ _ _ refl (spent_removes _ _ true c.remove.ensures.valid.before _ (ap is_some (found g (goal.at.returns-clause-gone g c).After-idx)) c.in_ok-value.ensures.removes))
+    (keeps_spent_alone _ _ (spent_removes _ _ true c.remove.ensures.valid.before _ (ap is_some (found g (goal.at.returns-clause-gone g c).After-idx)) c.in_ok-value.ensures.removes))
 
 pub returns-clause-leaves : goal.returns-clause-leaves
 returns-clause-leaves g c =

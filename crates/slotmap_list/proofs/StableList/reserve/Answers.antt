@@ -1,9 +1,10 @@
-use Rattle.std.proofs.Common.{◌≡◌, false, true, sym, ap, ◌∙◌, arith, rules}
+use Rattle.std.proofs.Common.{◌≡◌, false, true, refl, sym, ap, ◌∙◌, arith, rules}
 use Rattle.slotmap.specs.Words.{MakesRoom, used}
 use Rattle.slotmap_keylist.proofs.Alone.{alone-room, used_alone}
 use Rattle.slotmap_list.specs.Sequence.{Sequence}
-use Rattle.slotmap_list.proofs.Keeps.{kept_room}
+use Rattle.slotmap_list.proofs.Keeps.{kept_alike}
 use Rattle.slotmap_list.proofs.Results.{no_room_made, not_both, on_ok, refused_greatly}
+use Rattle.std.specs.FinMap as map
 use Rattle.slotmap_list.proofs.StableList.reserve.Goals as goal
 use Rattle.slotmap_list.proofs.StableList.reserve.Goals.{Then-is_err}
 
@@ -26,7 +27,7 @@ returns-in_err-capacity-clause-err g c = let over = rw c.in_err-capacity.was at 
 
 pub invariant_of-self : goal.invariant_of-self
 invariant_of-self g c = let covered = c.self.invariant.covered in let more = c.cover.ensures.more in
-    kept_room c.self.invariant c.self.inside.values (stuck g c).keeps c.cover.new.links c.cover.ensures.lists more (omega arith)
+    kept_alike c.self.invariant c.self.inside.values (λ q. refl) c.cover.new.links c.cover.ensures.lists more (omega arith)
 
 pub returns-then-is_err-clause-makes_room : goal.returns-then-is_err-clause-makes_room
 returns-then-is_err-clause-makes_room g c = rw (← c.self.view_is) (alone-room _ _ _ _ (stuck g (goal.at.returns-then-is_err-clause-makes_room g c).Then-is_err))
@@ -37,7 +38,8 @@ returns-then-is_err-clause-err g c = let many = used_alone c.self.inside.values 
 
 pub invariant_of-self-2 : goal.invariant_of-self-2
 invariant_of-self-2 g c = let long = on_ok c.cover.result c.cover.ensures.covers c.if-is_err.ensures.negation in let value = c.in_ok-capacity.ensures.value in let made = c.reserve.ensures.capacity in
-    kept_room c.self.invariant c.reserve.new.self c.reserve.ensures.makes_room.keeps c.cover.new.links c.cover.ensures.lists c.cover.ensures.more (omega arith)
+    kept_alike c.self.invariant c.reserve.new.self (λ q. ap (λ m. map.contains_key m q) c.reserve.ensures.makes_room.keeps.live) c.cover.new.links
+    c.cover.ensures.lists c.cover.ensures.more (omega arith)
 
 pub returns-clause-makes_room : goal.returns-clause-makes_room
 returns-clause-makes_room g c = rw (← c.self.view_is) (alone-room _ _ _ _ c.reserve.ensures.makes_room)
