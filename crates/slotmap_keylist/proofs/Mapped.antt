@@ -3,36 +3,43 @@ use Rattle.std.proofs.Common.{◌≡◌, ◌&&◌, ℕ, T, Bool, true, false, co
 use Rattle.std.proofs.Common.{inl, inr, arith}
 use Rattle.std.specs.{Option.option_map, Ordering.eq_by_cmp}
 use Rattle.std.specs.FinMap.Entries.{find, below_all, is_sorted}
-use Rattle.std.proofs.lemmas.List.{length-map}
+use Rattle.std.proofs.lemmas.{List.length-map, Simd.map-map}
 use Rattle.slotmap.specs.Words.{Key, key_cmp, Content, IsContent, IsLive, IsNew, Inserts, Removes, Keeps, Leaves, MakesRoom, StaysValid, IsCloneOf, IsCloneBy, with_value, used, places}
-use Rattle.slotmap.proofs.Callers.{keys_total, exact_keys, same_or_other, get-insert_here, get-insert_other}
+use Rattle.slotmap.proofs.Callers.{keys_total, exact_keys, same_or_other, get-insert_here, get-insert_other, tied}
 use Rattle.slotmap_keylist.specs.Mapped.{map_values, map_content}
 use Rattle.slotmap_keylist.proofs.Shown.{shown_content, shown_inserts, shown_removes, shown_keeps, shown_leaves, shown_makes_room}
 use Rattle.std.specs.FinMap as map
 
+-- a map with what f makes of each key and its value
+module _ {V W : Type 0} (f : Key → V → W) where
+  abbrev pub made : Key × V → Key × W
+  made e = (e.0, f e.0 e.1)
+
+  below-made : (k : Key) (es : List (Key × V)) → below_all key_cmp k (list_map made es) ≡ below_all key_cmp k es
+  below-made k [] = refl
+  below-made k (e ∷ es) = ap (λ b. is_lt (key_cmp k e.0) && b) (below-made k es)
+
+  sorted-made : (es : List (Key × V)) → is_sorted key_cmp (list_map made es) ≡ is_sorted key_cmp es
+  sorted-made [] = refl
+  sorted-made (e ∷ es) = ap (λ b. b && is_sorted key_cmp (list_map made es)) (below-made e.0 es) ∙ ap (λ b. below_all key_cmp e.0 es && b) (sorted-made es)
+
+  find-made : (k : Key) (es : List (Key × V)) → find key_cmp k (list_map made es) ≡ option_map (f k) (find key_cmp k es)
+  find-made k [] = refl
+  find-made k (e ∷ es) = elim (eq_by_cmp key_cmp k e.0) as
+      (λ b. eq_by_cmp key_cmp k e.0 ≡ b → cond b (Some (f e.0 e.1)) (find key_cmp k (list_map made es)) ≡ option_map (f k) (cond b (Some e.1) (find key_cmp k es))) [
+        | true ↦ λ tie. ap (λ q. Some (f q e.1)) (sym (tied keys_total exact_keys k e.0 tie))
+        | false ↦ λ _. find-made k es
+      ] refl
+
+  module _ (m : map.FinMap key_cmp V) where
+    pub entries-made : map.entries (map.from_sorted {R = key_cmp} (list_map made (map.entries m))) ≡ list_map made (map.entries m)
+    entries-made = map.entries-from_sorted key_cmp (list_map made (map.entries m)) (subst T (sym (sorted-made (map.entries m))) (map.entries_sorted m))
+
+    pub get-made : (k : Key) → map.get (map.from_sorted {R = key_cmp} (list_map made (map.entries m))) k ≡ option_map (f k) (map.get m k)
+    get-made k = map.get-from_sorted key_cmp (list_map made (map.entries m)) k (subst T (sym (sorted-made (map.entries m))) (map.entries_sorted m))
+        ∙ find-made k (map.entries m) ∙ ap (option_map (f k)) (sym (map.get-entries m k))
+
 module _ {V W : Type 0} (f : V → W) where
-  abbrev changed : Key × V → Key × W
-  changed e = (e.0, f e.1)
-
-  below-changed : (k : Key) (es : List (Key × V)) → below_all key_cmp k (list_map changed es) ≡ below_all key_cmp k es
-  below-changed k [] = refl
-  below-changed k (e ∷ es) = ap (λ b. is_lt (key_cmp k e.0) && b) (below-changed k es)
-
-  sorted-changed : (es : List (Key × V)) → is_sorted key_cmp (list_map changed es) ≡ is_sorted key_cmp es
-  sorted-changed [] = refl
-  sorted-changed (e ∷ es) = ap (λ b. b && is_sorted key_cmp (list_map changed es)) (below-changed e.0 es) ∙ ap (λ b. below_all key_cmp e.0 es && b) (sorted-changed es)
-
-  find-changed : (k : Key) (es : List (Key × V)) → find key_cmp k (list_map changed es) ≡ option_map f (find key_cmp k es)
-  find-changed k [] = refl
-  find-changed k (e ∷ es) = elim (eq_by_cmp key_cmp k e.0) as (λ b. cond b (Some (f e.1)) (find key_cmp k (list_map changed es)) ≡ option_map f (cond b (Some e.1) (find key_cmp k es))) [
-    | true ↦ refl
-    | false ↦ find-changed k es
-  ]
-
-  keys-changed : (es : List (Key × V)) → list_map (λ (e : Key × W). e.0) (list_map changed es) ≡ list_map (λ (e : Key × V). e.0) es
-  keys-changed [] = refl
-  keys-changed (e ∷ es) = ap (λ ks. e.0 ∷ ks) (keys-changed es)
-
   pub some-mapped : (o : Option V) → is_some (option_map f o) ≡ is_some o
   some-mapped None = refl
   some-mapped (Some v) = refl
@@ -40,19 +47,20 @@ module _ {V W : Type 0} (f : V → W) where
   module _ (m : map.FinMap key_cmp V) where
     pub entries-mapped : map.entries (map_values f m) ≡ list_map (λ (e : Key × V). (e.0, f e.1)) (map.entries m)
     unfolding map_values
-    entries-mapped = map.entries-from_sorted key_cmp (list_map changed (map.entries m)) (subst T (sym (sorted-changed (map.entries m))) (map.entries_sorted m))
+    entries-mapped = entries-made (λ _. f) m
 
     pub get-mapped : (k : Key) → map.get (map_values f m) k ≡ option_map f (map.get m k)
-    get-mapped k = map.get-entries (map_values f m) k ∙ ap (find key_cmp k) entries-mapped ∙ find-changed k (map.entries m) ∙ ap (option_map f) (sym (map.get-entries m k))
+    unfolding map_values
+    get-mapped = get-made (λ _. f) m
 
     pub contains-mapped : (k : Key) → map.contains_key (map_values f m) k ≡ map.contains_key m k
     contains-mapped k = ap is_some (get-mapped k) ∙ some-mapped (map.get m k)
 
     pub len-mapped : map.len (map_values f m) ≡ map.len m
-    len-mapped = map.len-entries (map_values f m) ∙ ap length entries-mapped ∙ length-map (map.entries m) changed ∙ sym (map.len-entries m)
+    len-mapped = map.len-entries (map_values f m) ∙ ap length entries-mapped ∙ length-map (map.entries m) (made (λ _. f)) ∙ sym (map.len-entries m)
 
     pub keys-mapped : map.keys (map_values f m) ≡ map.keys m
-    keys-mapped = ap (list_map (λ (e : Key × W). e.0)) entries-mapped ∙ keys-changed (map.entries m)
+    keys-mapped = ap (list_map (λ (e : Key × W). e.0)) entries-mapped ∙ map-map (λ (e : Key × W). e.0) (made (λ _. f)) (map.entries m)
 
     -- a map that finds the same is the same
     pub is_mapped : (w : map.FinMap key_cmp W) → ((q : Key) → map.get w q ≡ option_map f (map.get m q)) → map_values f m ≡ w

@@ -1,7 +1,6 @@
 -- What the proofs of this crate cite of std, of the crates below and of its own definitions, from one place. Declares nothing.
-pub use Rattle.std.proofs.Common.{Bool, Err, IfNone, IfOk, IfSome, IsErr, IsOk, List, None, Ok, OnErr, OnOk, Option, Result, Some, T, [], ap, append-nil, append_assoc, arith, cond, eqb-true}
-pub use Rattle.std.proofs.Common.{false, get_or, inl, inr, is_lt, is_ok, is_some, length, length-append, map as list_map, nat_eq, nat_lt, not, option_map, refl, replicate}
-pub use Rattle.std.proofs.Common.{rules, set, subst, suc, sym, take, true, zero, ℕ, ◌∙◌}
+pub use Rattle.std.proofs.Common.{Bool, Err, IfNone, IfOk, IfSome, IsErr, IsOk, IsSome, List, None, Ok, OnErr, Option, Result, Some, [], ap, append-nil, append_assoc, arith, cond, false, get_or, inl}
+pub use Rattle.std.proofs.Common.{inr, is_some, length, length-append, map as list_map, nat_eq, not, option_map, refl, rules, set, subst, suc, sym, take, true, zero, ℕ, ◌∙◌}
 pub use Rattle.std.proofs.Math.IntN.{+ℤ_assoc, ℤ}
 pub use Rattle.std.proofs.Math.ListN.{get_or-map}
 pub use Rattle.std.proofs.Math.Nat.{eq-zero-or-pos}
@@ -9,47 +8,43 @@ pub use Rattle.std.proofs.lemmas.Bool.Decides.{nat_tests}
 pub use Rattle.std.proofs.lemmas.Fn.{FoldsTo-push}
 pub use Rattle.std.proofs.lemmas.Grind.{common_steps}
 pub use Rattle.std.proofs.lemmas.Int.{int_wrap-add_left, int_wrap-add_right, wraps}
-pub use Rattle.std.proofs.lemmas.List.{get_or-set_other, get_or-set_same, get_or_default, length-map, length-replicate, length-set, map-append, map_push, take-append-le, take_all, take_more}
-pub use Rattle.std.proofs.lemmas.List.Elements.{All-cons, All-head, All-nil, All-push, All-tail, All-weaker}
-pub use Rattle.std.proofs.lemmas.Option.{same_Some}
+pub use Rattle.std.proofs.lemmas.List.{get_or-set_other, get_or-set_same, length-map, length-replicate, length-set, map-append, map_push, take-append-le, take_all, take_more}
+pub use Rattle.std.proofs.lemmas.List.Elements.{All-cons, All-head, All-nil, All-push, All-tail}
+pub use Rattle.std.proofs.lemmas.Option.{IfSome_then, same_Some}
 pub use Rattle.std.proofs.lemmas.Simd.{map-map}
 pub use Rattle.std.specs.Borrow.{Bor}
-pub use Rattle.std.specs.FinMap.Entries.{below_all, find, is_sorted}
 pub use Rattle.std.specs.Fn.{Mut, Takes}
 pub use Rattle.std.specs.Int.{int_wrap, w32}
-pub use Rattle.std.specs.List.{All, FoldsTo, each_same, fold}
-pub use Rattle.std.specs.Ordering.{eq_by_cmp}
-pub use Rattle.slotmap.proofs.Callers.{clone_copies, clone_live, exact_keys, get-insert_here, get-insert_other, inserted_fresh, itself, keys, keys_total, leaves_by_removal, leaves_by_write}
-pub use Rattle.slotmap.proofs.Callers.{leaves_in_turn, leaves_none, left_in, left_spent, len_removed, live-insert_still, none_of, same_lent, same_or_other, same_unlent, some_entry, spent_inserts}
-pub use Rattle.slotmap.proofs.Callers.{spent_keeps, spent_leaves, tied}
+pub use Rattle.std.specs.List.{All, FoldsTo, each_same, filter, fold}
+pub use Rattle.slotmap.proofs.Callers.{clone_copies, clone_live, exact_keys, get-insert_here, get-insert_other, inserted_fresh, keys, keys_total, leaves_by_removal, leaves_by_write, leaves_in_turn}
+pub use Rattle.slotmap.proofs.Callers.{leaves_none, left_spent, len_removed, live-insert_still, none_of, same_lent, same_or_other, same_unlent, some_entry, spent_inserts, spent_keeps, spent_leaves}
 pub use Rattle.slotmap.specs.Words.{ClonesEqual, Content, Inserts, IsCloneBy, IsCloneOf, IsContent, IsLive, Keeps, KeepsSpent, Key, Leaves, MakesRoom, key_cmp, most, same_keys, used}
-pub use Rattle.slotmap_bounded.proofs.Indices.{back_has, back_key, by_live, first_index, first_key, found_has, found_is, found_key, found_live, found_same, found_zero, front_has, front_key}
-pub use Rattle.slotmap_bounded.proofs.Indices.{indices_inserted, indices_still, key_at_live, keys_same, keys_without, last_key, later_indices, no_key, same_at, times_key}
-pub use Rattle.slotmap_bounded.specs.Bounded.{capacity_with, grown}
+pub use Rattle.slotmap_bounded.proofs.Indices.{back_has, back_key, by_live, first_index, first_key, found_has, found_live, found_same, found_zero, front_has, front_key, indices_inserted}
+pub use Rattle.slotmap_bounded.proofs.Indices.{indices_still, key_at_live, key_is, keys_same, keys_without, last_key, later_indices, no_key, same_at, some_is, times_key}
+pub use Rattle.slotmap_bounded.specs.Bounded.{capacity_with}
 pub use Rattle.slotmap_bounded.specs.Indices.{AreIndices, HasKey, HaveIndices, found_at, key_at, keys_at}
 pub use Rattle.slotmap_keylist.proofs.Alone.{len_alike}
 pub use Rattle.slotmap_keylist.proofs.Changed.{changed_gives, changed_here, changed_keeps, changed_other}
-pub use Rattle.slotmap_keylist.proofs.Counts.{is_itself, is_other, no_more_than, one_itself, one_other, times_first, times_gone, times_joined, times_pushed, times_without, without_none}
-pub use Rattle.slotmap_keylist.proofs.Counts.{without_pushed}
-pub use Rattle.slotmap_keylist.proofs.Linking.{none_last}
-pub use Rattle.slotmap_keylist.proofs.MapKeys.{key_live, keys_once}
-pub use Rattle.slotmap_keylist.proofs.Mapped.{some-mapped}
+pub use Rattle.slotmap_keylist.proofs.Counts.{is_itself, no_more_than, one_itself, one_other, times_first, times_gone, times_joined, times_pushed, times_without, without_none, without_pushed}
+pub use Rattle.slotmap_keylist.proofs.Linking.{in_midst, none_last}
+pub use Rattle.slotmap_keylist.proofs.MapKeys.{key_live, key_there, keys_once}
+pub use Rattle.slotmap_keylist.proofs.Mapped.{entries-made, get-made, made, some-mapped}
 pub use Rattle.slotmap_keylist.proofs.Shown.{shown_content, shown_inserts, shown_leaves, shown_makes_room, shown_spent}
-pub use Rattle.slotmap_keylist.specs.Changed.{changed}
+pub use Rattle.slotmap_keylist.specs.Changed.{changed, changed_in}
 pub use Rattle.slotmap_keylist.specs.KeyLists.{is_key, last_or, same, times, without}
 pub use Rattle.slotmap_links.proofs.Callers.{list_now, list_other, owners_stay}
 pub use Rattle.slotmap_links.proofs.Changes.{covered, list_cleared}
 pub use Rattle.slotmap_links.proofs.Counts.{one_itself as number_itself, one_other as number_other, same as same_number, same_or_other as same_or_other_number, times_first as often_first}
 pub use Rattle.slotmap_links.proofs.Counts.{times_gone as often_gone, times_joined as often_joined, times_without as often_without}
 pub use Rattle.slotmap_links.proofs.Linking.{after_inside, before_inside, first_in, last_in}
-pub use Rattle.slotmap_links.specs.Lists.{AreDisjoint, CoversMore, IsFree, IsIn, Lists, first_or, last_or as last_number, list_of, number_after, number_before, put_before, put_behind}
-pub use Rattle.slotmap_links.specs.Lists.{times as often, with_list, without as without_number}
-pub use Rattle.slotmap_scene.specs.Above.{GoesUp, HasRoot, keys_up, roots_by, roots_in}
+pub use Rattle.slotmap_links.specs.Lists.{AreDisjoint, CoversMore, IsFree, IsIn, Lists, first_or, last_or as last_number, list_of, number_after, number_before, times as often, with_list}
+pub use Rattle.slotmap_links.specs.Lists.{without as without_number}
+pub use Rattle.slotmap_scene.specs.Above.{GoesUp, HasRoot, keys_up, roots_in}
 pub use Rattle.slotmap_scene.specs.Below.{AreAhead, GoesDown, WalkStands, WalksBelow, all_below, keys_down, keys_from}
 pub use Rattle.slotmap_scene.specs.Climb.{ClimbsTo, IsTree, IsWithin, StepsTo, has_node, lacks_node, parent_in, parent_of, with_parent}
-pub use Rattle.slotmap_scene.specs.Family.{AreListed, IsMoved, IsNewChild, IsNodeClone, IsScene, SiblingSide, as_child, as_root, behind, beside_first, child, children_in, children_of}
-pub use Rattle.slotmap_scene.specs.Family.{children_under, forgets, in_front, is_parent, placed, siblings_of, value_of, with_children_in, with_children_of, with_value, without_child}
-pub use Rattle.slotmap_scene.specs.Kept.{AreCovered, HoldsMore, HoldsNodes, IsParent, family, node_at, nodes_by, owner_of, parent_at, parent_index, put_on, roots_of}
+pub use Rattle.slotmap_scene.specs.Family.{AreListed, IsMoved, IsNewChild, IsNodeClone, IsScene, SiblingSide, as_placed, behind, beside_first, child, children_in, children_of, children_under, forgets}
+pub use Rattle.slotmap_scene.specs.Family.{in_front, is_parent, placed, put_in_place, siblings_of, value_of, with_children_of, with_value, without_child}
+pub use Rattle.slotmap_scene.specs.Kept.{AreCovered, HoldsMore, HoldsNodes, IsParent, family, node_at, nodes_by, number_in_place, owner_of, parent_at, parent_index, put_on, roots_of}
 pub use Rattle.slotmap_scene.specs.Levels.{AreWorlds, GoesByLevel, children_of_each, keys_of_pairs}
 pub use Rattle.slotmap_scene.specs.Node.{Node, Nodes, key_and_value}
 pub use Rattle.slotmap_scene.specs.Offset.{shifted}

@@ -1,55 +1,27 @@
 -- What is seen of the values, the parents and the children of a scene together, and what a change of one of them shows.
-use Rattle.std.proofs.Common.{◌&&◌, ◌<◌, ◌∷◌, ◌≡◌, ◌≢◌, ◌≤◌, ◌⊎◌}
+use Rattle.std.proofs.Common.{◌<◌, ◌∷◌, ◌≡◌, ◌≢◌, ◌≤◌, ◌⊎◌}
 use Rattle.slotmap_scene.specs.Kept.{nodes_by}
-use Rattle.slotmap_scene.proofs.Common.{AreCovered, AreDisjoint, AreIndices, Bool, Content, HasKey, HaveIndices, HoldsNodes, IfNone, IfSome, IsFree, IsIn, IsLive, Key, List, Lists, Node, Nodes, None}
-use Rattle.slotmap_scene.proofs.Common.{Option, Some, T, [], ap, arith, behind, below_all, by_live, changed_gives, changed_keeps, changed_other, children_in, children_of, common_steps, cond}
-use Rattle.slotmap_scene.proofs.Common.{eq-zero-or-pos, eq_by_cmp, eqb-true, exact_keys, false, find, first_key, first_or, found_at, found_has, found_is, found_key, found_live, found_same, found_zero}
-use Rattle.slotmap_scene.proofs.Common.{get_or, get_or-set_other, get_or-set_same, get_or_default, in_front, inl, inr, is_lt, is_some, is_sorted, key_and_value, key_at, key_cmp, key_live, keys_at}
-use Rattle.slotmap_scene.proofs.Common.{keys_same, keys_total, last_key, last_number, last_or, length, length-map, length-set, list_map, list_now, list_of, list_other, nat_eq, no_key, node_at, not}
-use Rattle.slotmap_scene.proofs.Common.{number_after, number_before, number_itself, often, often_first, one_itself, option_map, owner_of, owners_stay, parent_at, parent_in, parent_index, parent_of}
-use Rattle.slotmap_scene.proofs.Common.{refl, roots_in, roots_of, same_Some, same_or_other, same_or_other_number, set, some-mapped, subst, sym, tied, times, times_first, times_key, true, value_of}
-use Rattle.slotmap_scene.proofs.Common.{with_children_in, with_list, with_parent, ℕ, ◌∙◌}
-use Rattle.slotmap_scene.proofs.Indices.{key_after, key_ahead}
+use Rattle.slotmap_scene.proofs.Common.{AreCovered, AreDisjoint, AreIndices, Bool, Content, HasKey, HaveIndices, HoldsNodes, IfSome, IsFree, IsIn, IsLive, Key, List, Lists, Node, Nodes, None, Option}
+use Rattle.slotmap_scene.proofs.Common.{Some, [], ap, arith, by_live, changed, changed_here, changed_other, children_in, children_of, common_steps, cond, entries-made, eq-zero-or-pos, exact_keys}
+use Rattle.slotmap_scene.proofs.Common.{false, filter, first_key, first_or, found_at, found_has, found_live, found_same, found_zero, get-made, get_or-set_other, get_or-set_same, indices_still, inl}
+use Rattle.slotmap_scene.proofs.Common.{inr, is_some, key_and_value, key_at, key_cmp, key_live, keys_at, keys_same, keys_total, last_key, last_number, last_or, length, length-map, length-set}
+use Rattle.slotmap_scene.proofs.Common.{list_map, list_now, list_of, list_other, made, map-map, nat_eq, nat_tests, no_key, node_at, not, number_itself, often, often_first, one_itself, option_map}
+use Rattle.slotmap_scene.proofs.Common.{owner_of, owners_stay, parent_at, parent_in, parent_index, parent_of, refl, roots_in, roots_of, same_or_other, same_or_other_number, set, some-mapped, subst}
+use Rattle.slotmap_scene.proofs.Common.{sym, times, times_first, times_key, true, value_of, with_children_of, with_list, with_parent, ℕ, ◌∙◌}
 use Rattle.std.specs.FinMap as map
 
--- nodes with the same values, parents and children are the same
-pub same_nodes : {V : Type 0} (a b : Nodes V) → ((q : Key) → value_of a q ≡ value_of b q) → ((q : Key) → parent_of a q ≡ parent_of b q)
-    → ((q : Key) → children_of a q ≡ children_of b q) → a ≡ b
-same_nodes {V} a b values parents children = map.same_map keys_total exact_keys a b (λ q. by (map.get a q) (map.get b q) (values q) (parents q) (children q))
-  where
-    by : (o p : Option (Node V)) → option_map (λ (n : Node V). n.value) o ≡ option_map (λ (n : Node V). n.value) p → parent_in o ≡ parent_in p
-        → children_in o ≡ children_in p → o ≡ p
-    by None None value parent children = refl
-    by None (Some n) value parent children = absurd (cc)
-    by (Some n) None value parent children = absurd (cc)
-    by (Some n) (Some m) value parent children = let same = same_Some n.value m.value value in
-        λ i. Some (record { value = same i; parent = parent i; children = children i })
+-- nodes that are the same but for one
+pub changed_is : {V : Type 0} (m n : Nodes V) (k : Key) (f : Node V → Node V) → ((q : Key) → q ≢ k → map.get n q ≡ map.get m q)
+    → map.get n k ≡ option_map f (map.get m k) → n ≡ changed m k f
+changed_is m n k f others here = map.same_map keys_total exact_keys n (changed m k f) (λ q. elim (same_or_other q k) [
+  | inl at ↦ rw at (here ∙ sym (changed_here m k f))
+  | inr other ↦ others q other ∙ sym (changed_other m k f q other)
+])
 
--- a map with what f makes of each key and its value
-module _ {V W : Type 0} (f : Key → V → W) where
-  abbrev made : Key × V → Key × W
-  made e = (e.0, f e.0 e.1)
-
-  below-made : (k : Key) (es : List (Key × V)) → below_all key_cmp k (list_map made es) ≡ below_all key_cmp k es
-  below-made k [] = refl
-  below-made k (e ∷ es) = ap (λ b. is_lt (key_cmp k e.0) && b) (below-made k es)
-
-  sorted-made : (es : List (Key × V)) → is_sorted key_cmp (list_map made es) ≡ is_sorted key_cmp es
-  sorted-made [] = refl
-  sorted-made (e ∷ es) = grind (arith, is_sorted key_cmp (list_map made es), list_map made es, below-made e.0 es, below_all key_cmp e.0 es, sorted-made es)
-
-  find-made : (k : Key) (es : List (Key × V)) → find key_cmp k (list_map made es) ≡ option_map (f k) (find key_cmp k es)
-  find-made k [] = refl
-  find-made k (e ∷ es) = elim (eq_by_cmp key_cmp k e.0) as
-      (λ b. eq_by_cmp key_cmp k e.0 ≡ b → cond b (Some (f e.0 e.1)) (find key_cmp k (list_map made es)) ≡ option_map (f k)
-      (cond b (Some e.1) (find key_cmp k es))) [
-        | true ↦ λ tie. ap (λ q. Some (f q e.1)) (sym (tied keys_total exact_keys k e.0 tie))
-        | false ↦ λ _. find-made k es
-      ] refl
-
-  keys-made : (es : List (Key × V)) → list_map (λ (e : Key × W). e.0) (list_map made es) ≡ list_map (λ (e : Key × V). e.0) es
-  keys-made [] = refl
-  keys-made (e ∷ es) = ap (λ ks. e.0 ∷ ks) (keys-made es)
+-- two tests of the keys in a list that come to the same
+filter_same : (p q : Key → Bool) (ks : List Key) → ((k : Key) → 0 < times k ks → p k ≡ q k) → filter p ks ≡ filter q ks
+filter_same p q [] same = refl
+filter_same p q (k ∷ ks) same = grind (arith, same k (omega (arith, times_first k k ks, one_itself k)), filter_same p q ks (λ x more. same x (omega (arith, times_first x k ks))))
 
 pub covers_less : (n m : ℕ) (ps : List ℕ) (ls : Lists) → AreCovered n ps ls → m ≤ n → AreCovered m ps ls
 covers_less n m ps ls covered less =
@@ -64,10 +36,6 @@ pub written_found : {V : Type 0} (c : Content V) → HaveIndices c → (o : Opti
 written_found c indices None is = found_zero indices
 written_found c indices (Some p) is = found_live indices p is
 
--- what is read of the parents
-pub read_above : (ps : List ℕ) (at i parent : ℕ) → parent ≡ get_or ps at parent → at ≡ i → i < length ps → parent ≡ parent_at ps i
-read_above ps at i parent read is there = read ∙ get_or_default ps at parent 0 (omega arith) ∙ ap (parent_at ps) is
-
 -- what is seen of each node
 module _ {V : Type 0} (live : map.FinMap key_cmp V) (parents : List ℕ) (children : Lists) where
   abbrev seen : Nodes V
@@ -75,12 +43,11 @@ module _ {V : Type 0} (live : map.FinMap key_cmp V) (parents : List ℕ) (childr
 
   seen_entries : map.entries seen ≡ list_map (made (node_at live parents children)) (map.entries live)
   unfolding nodes_by
-  seen_entries = map.entries-from_sorted key_cmp (list_map (made (node_at live parents children)) (map.entries live))
-      (subst T (sym (sorted-made (node_at live parents children) (map.entries live))) (map.entries_sorted live))
+  seen_entries = entries-made (node_at live parents children) live
 
   pub seen_get : (k : Key) → map.get seen k ≡ option_map (node_at live parents children k) (map.get live k)
-  seen_get k = map.get-entries seen k ∙ ap (find key_cmp k) seen_entries ∙ find-made (node_at live parents children) k (map.entries live)
-      ∙ ap (option_map (node_at live parents children k)) (sym (map.get-entries live k))
+  unfolding nodes_by
+  seen_get = get-made (node_at live parents children) live
 
   pub seen_has : (k : Key) → map.contains_key seen k ≡ map.contains_key live k
   seen_has k = ap is_some (seen_get k) ∙ some-mapped (node_at live parents children k) (map.get live k)
@@ -89,7 +56,7 @@ module _ {V : Type 0} (live : map.FinMap key_cmp V) (parents : List ℕ) (childr
   seen_len = map.len-entries seen ∙ ap length seen_entries ∙ length-map (map.entries live) (made (node_at live parents children)) ∙ sym (map.len-entries live)
 
   pub seen_keys : map.keys seen ≡ map.keys live
-  seen_keys = ap (list_map (λ (e : Key × Node V). e.0)) seen_entries ∙ keys-made (node_at live parents children) (map.entries live)
+  seen_keys = ap (list_map (λ (e : Key × Node V). e.0)) seen_entries ∙ map-map (λ (e : Key × Node V). e.0) (made (node_at live parents children)) (map.entries live)
 
   pub seen_pairs : list_map key_and_value (map.entries seen) ≡ map.entries live
   seen_pairs = ap (list_map key_and_value) seen_entries ∙ by (map.entries live)
@@ -161,16 +128,11 @@ module _ {V : Type 0} {c : Content V} {parents : List ℕ} {children : Lists} (k
   -- a child is a node, and is in the list of its parent
   pub child_in : (p k : Key) → 0 < times k (children_of nodes p) → IsLive c p × IsLive c k × IsIn children p.index k.index
   child_in p k more = by_live c.live p _
-      (λ there. by_live c.live k _
-      (λ live. (
-        there,
-        live,
-        let count = ap (times k) (children_live c.live parents children p there)
-            ∙ times_key kept.indices (list_of children p.index) (indices_at p.index) k live in omega arith,
-      ))
-      (λ gone. absurd (let count = ap (times k) (children_live c.live parents children p there)
-      ∙ no_key kept.indices (list_of children p.index) (indices_at p.index) k gone in omega arith)))
-      (λ gone. absurd (let none = ap (times k) (children_gone c.live parents children p gone) in omega arith))
+      (λ there. (
+      let seen = ap (times k) (children_live c.live parents children p there) in
+      by_live c.live k _ (λ live. (there, live, omega (arith, seen, times_key kept.indices (list_of children p.index) (indices_at p.index) k live)))
+      (λ gone. absurd (omega (arith, seen, no_key kept.indices (list_of children p.index) (indices_at p.index) k gone)))))
+      (λ gone. absurd (omega (arith, ap (times k) (children_gone c.live parents children p gone))))
 
   in_child : (p k : Key) → IsLive c p → IsLive c k → IsIn children p.index k.index → 0 < times k (children_of nodes p)
   in_child p k there live inside = grind (arith, children_live c.live parents children p there, times_key kept.indices (list_of children p.index) (indices_at p.index) k live, indices_at p.index)
@@ -201,36 +163,21 @@ module _ {V : Type 0} {c : Content V} {parents : List ℕ} {children : Lists} (k
   ]
 
   -- the roots are those with no index of a parent
-  found_above : (k : Key) → IsLive c k → is_some (found_at c.live (parent_at parents k.index)) ≡ not (nat_eq (parent_at parents k.index) 0)
-  found_above k live = elim (nat_eq (parent_at parents k.index) 0) as
-      (λ b. nat_eq (parent_at parents k.index) 0 ≡ b → is_some (found_at c.live (parent_at parents k.index)) ≡ not b) [
-        | true ↦ λ none. ap is_some (ap (found_at c.live) (eqb-true (parent_at parents k.index) 0 none) ∙ found_zero kept.indices)
-        | false ↦ λ some. (elim (kept.has_parent k live) [
-          | inl none ↦ absurd (let h = ap (λ n. nat_eq n 0) none in cc)
-          | inr has ↦ ap is_some (found_has kept.indices (parent_at parents k.index) has)
-        ])
-      ] refl
+  root_seen : (k : Key) → IsLive c k → nat_eq (parent_at parents k.index) 0 ≡ not (is_some (parent_of nodes k))
+  root_seen k live = elim (kept.has_parent k live) [
+    | inl none ↦ ap (λ n. nat_eq n 0) none ∙ sym (ap (λ o. not (is_some o)) (above_none k live none))
+    | inr has ↦ (let up = parent_live c.live parents children k live ∙ found_has kept.indices (parent_at parents k.index) has in
+        grind (arith, nat_tests, ap (λ o. not (is_some o)) up, (kept.indices.within has.0 has.1).0, has.2))
+  ]
 
-  pub roots_seen : roots_of parents (map.keys nodes) ≡ roots_in (map.entries nodes)
-  roots_seen = ap (roots_of parents) (seen_keys c.live parents children) ∙ by (map.entries c.live) (key_live c.live)
-      ∙ sym (ap roots_in (seen_entries c.live parents children))
-    where
-      one : (k : Key) (b r : Bool) → r ≡ not b → (ks ls : List Key) → ks ≡ ls → cond b (k ∷ ks) ks ≡ cond r ls (k ∷ ls)
-      one k true r is ks ls same = ap (λ l. k ∷ l) same ∙ sym (ap (λ r. cond r ls (k ∷ ls)) is)
-      one k false r is ks ls same = same ∙ sym (ap (λ r. cond r ls (k ∷ ls)) is)
+  pub roots_seen : roots_of parents (map.keys nodes) ≡ roots_in nodes
+  roots_seen = filter_same (λ k. nat_eq (parent_at parents k.index) 0) (λ k. not (is_some (parent_of nodes k))) (map.keys nodes)
+      (λ k more. root_seen k (sym (seen_has c.live parents children k) ∙ key_live nodes k more))
 
-      by : (es : List (Key × V)) → ((k : Key) → 0 < times k (list_map (λ (e : Key × V). e.0) es) → IsLive c k)
-          → roots_of parents (list_map (λ (e : Key × V). e.0) es) ≡ roots_in (list_map (made (node_at c.live parents children)) es)
-      by [] all = refl
-      by (e ∷ es) all = one e.0 (nat_eq (parent_at parents e.0.index) 0) (is_some (found_at c.live (parent_at parents e.0.index)))
-          (found_above e.0 (all e.0 (let first = times_first e.0 e.0 (list_map (λ (e : Key × V). e.0) es) in let own = one_itself e.0 in omega arith)))
-          _ _ (by es (λ k more. all k (let first = times_first k e.0 (list_map (λ (e : Key × V). e.0) es) in omega arith)))
-
-  -- the key that is found at an index that was returned
-  pub key_found : (number : Option ℕ) (i : ℕ) → number ≡ Some i → HasKey c i → (o : Option Key) → IfSome o (IsLive c)
-      → IfSome o (λ k. k.index ≡ i) → IfNone o ((k : Key) → IsLive c k → k.index ≢ i)
-      → o ≡ option_map (key_at c.live) number
-  key_found number i was has o live at none = grind (arith, found_is kept.indices i o live at none, found_key kept.indices i has, option_map (key_at c.live))
+  -- a number that is found in a list of children is the index of a node
+  pub has_if : {is : List ℕ} → AreIndices c is → (o : Option ℕ) → ((i : ℕ) → o ≡ Some i → 0 < often i is) → IfSome o (HasKey c)
+  has_if all None inside = tt
+  has_if all (Some i) inside = all.have i (inside i refl)
 
   -- the two ends of the children of a node
   pub first_seen : (k : Key) → option_map (key_at c.live) (first_or (list_of children (owner_of nodes k)) None) ≡ first_or (children_of nodes k) None
@@ -238,108 +185,6 @@ module _ {V : Type 0} {c : Content V} {parents : List ℕ} {children : Lists} (k
 
   pub last_seen : (k : Key) → option_map (key_at c.live) (last_number (list_of children (owner_of nodes k)) None) ≡ last_or (children_of nodes k) None
   last_seen k = sym (ap (λ ks. last_or ks None) (children_owned k) ∙ last_key kept.indices (list_of children (owner_of nodes k)) None)
-
-  -- those beside a child
-  module _ (p k : Key) (more : 0 < times k (children_of nodes p)) where
-    abbrev inside : IsLive c p × IsLive c k × IsIn children p.index k.index
-    inside = child_in p k more
-
-    pub next_seen : option_map (key_at c.live) (number_after k.index (list_of children p.index)) ≡ behind k (children_of nodes p)
-    next_seen = sym (ap (behind k) (children_live c.live parents children p inside.0) ∙ key_after kept.indices k inside.1 (list_of children p.index) (indices_at p.index))
-
-    pub prev_seen : option_map (key_at c.live) (number_before None k.index (list_of children p.index)) ≡ in_front None k (children_of nodes p)
-    prev_seen = grind (arith, children_live c.live parents children p inside.0, key_ahead kept.indices k inside.1 (list_of children p.index) (indices_at p.index) None, indices_at p.index)
-
-  -- the list of p is another one
-  module _ (p : Key) (there : IsLive c p) (is : List ℕ) (all : AreIndices c is) (f : List Key → List Key)
-      (made : keys_at c.live is ≡ f (keys_at c.live (list_of children p.index)))
-      (new : Lists) (new_is : new ≡ with_list children p.index is) where
-    list_here : list_of new p.index ≡ is
-    list_here = ap (λ l. list_of l p.index) new_is ∙ list_now children p.index is (has_place p there).owners
-
-    list_there : (q : ℕ) → q ≢ p.index → list_of new q ≡ list_of children q
-    list_there q other = ap (λ l. list_of l q) new_is ∙ list_other children p.index is q other
-
-    pub relisted : AreDisjoint new → HoldsNodes c parents new
-    relisted disjoint = record {
-      indices = kept.indices;
-      covered = record {
-        parents = kept.covered.parents;
-        owners = (let o = kept.covered.owners in let s = ap (λ (l : Lists). length l.lists) new_is ∙ owners_stay children p.index is in omega arith);
-        members = (let m = kept.covered.members in let s = ap (λ (l : Lists). l.members) new_is in omega arith);
-      };
-      disjoint = disjoint;
-      listed = λ q i inside. elim (same_or_other_number q p.index) [
-        | inl at ↦ ((p, there, sym at), all.have i (let now = ap (λ q. often i (list_of new q)) at ∙ ap (often i) list_here in omega arith))
-        | inr other ↦ kept.listed q i (let same = ap (often i) (list_there q other) in omega arith)
-      ];
-      has_parent = kept.has_parent;
-    }
-
-    abbrev fill : Node V → Node V
-    fill n = record n { children = f n.children }
-
-    pub relisted_seen : nodes_by c.live parents new ≡ with_children_in nodes p (map.get nodes p) f
-    relisted_seen = same_nodes (nodes_by c.live parents new) (with_children_in nodes p (map.get nodes p) f)
-        (λ q. seen_value c.live parents new q
-        ∙ sym (changed_keeps nodes p fill (option_map (λ n. n.value)) (λ n. refl) q ∙ seen_value c.live parents children q))
-        (λ q. seen_parent c.live parents new q ∙ sym (changed_keeps nodes p fill parent_in (λ n. refl) q ∙ seen_parent c.live parents children q))
-        (λ q. elim (same_or_other q p) [
-          | inl at ↦ rw at (children_live c.live parents new p there ∙ ap (keys_at c.live) list_here ∙ made
-              ∙ sym (changed_gives nodes p fill children_in f (λ n. refl) (seen_has c.live parents children p ∙ there)
-              ∙ ap f (children_live c.live parents children p there)))
-          | inr other ↦ by_live c.live q _
-              (λ live. children_live c.live parents new q live
-              ∙ ap (keys_at c.live) (list_there q.index (λ at. other (kept.indices.apart q p live there at)))
-              ∙ sym (children_live c.live parents children q live))
-              (λ gone. children_gone c.live parents new q gone ∙ sym (children_gone c.live parents children q gone))
-              ∙ sym (ap children_in (changed_other nodes p fill q other))
-        ])
-
-  -- another index is written as that of the parent of k
-  module _ (k : Key) (o : Option Key) (is_parent : IfSome o (IsLive c)) where
-    module _ (live : IsLive c k) (new : List ℕ) (new_is : new ≡ set parents k.index (parent_index o)) where
-      above_here : parent_at new k.index ≡ parent_index o
-      above_here = ap (λ l. parent_at l k.index) new_is ∙ get_or-set_same parents k.index (parent_index o) 0 (has_place k live).parents
-
-      above_there : (q : Key) → IsLive c q → q ≢ k → parent_at new q.index ≡ parent_at parents q.index
-      above_there q of_c other = grind (arith, get_or-set_other)
-
-      pub hung : HoldsNodes c new children
-      hung = record {
-        indices = kept.indices;
-        covered = record {
-          parents = (let n = ap length new_is ∙ length-set parents k.index (parent_index o) in let covered = kept.covered.parents in
-              omega arith);
-          owners = kept.covered.owners;
-          members = kept.covered.members;
-        };
-        disjoint = kept.disjoint;
-        listed = kept.listed;
-        has_parent = λ q of_c. elim (same_or_other q k) [
-          | inl at ↦ subst (λ i. (i ≡ 0) ⊎ HasKey c i) (sym (ap (λ (q : Key). parent_at new q.index) at ∙ above_here)) (written_has c o is_parent)
-          | inr other ↦ subst (λ i. (i ≡ 0) ⊎ HasKey c i) (sym (above_there q of_c other)) (kept.has_parent q of_c)
-        ];
-      }
-
-      abbrev hang : Node V → Node V
-      hang n = record n { parent = o }
-
-      pub hung_seen : nodes_by c.live new children ≡ with_parent nodes k o
-      hung_seen = same_nodes (nodes_by c.live new children) (with_parent nodes k o)
-          (λ q. seen_value c.live new children q
-          ∙ sym (changed_keeps nodes k hang (option_map (λ n. n.value)) (λ n. refl) q ∙ seen_value c.live parents children q))
-          (λ q. elim (same_or_other q k) [
-            | inl at ↦ rw at (parent_live c.live new children k live ∙ ap (found_at c.live) above_here ∙ written_found c kept.indices o is_parent
-                ∙ sym (changed_gives nodes k hang parent_in (λ _. o) (λ n. refl) (seen_has c.live parents children k ∙ live)))
-            | inr other ↦ by_live c.live q _
-                (λ of_c. parent_live c.live new children q of_c ∙ ap (found_at c.live) (above_there q of_c other)
-                ∙ sym (parent_live c.live parents children q of_c))
-                (λ gone. parent_gone c.live new children q gone ∙ sym (parent_gone c.live parents children q gone))
-                ∙ sym (ap parent_in (changed_other nodes k hang q other))
-          ])
-          (λ q. seen_children c.live new children q
-          ∙ sym (changed_keeps nodes k hang children_in (λ n. refl) q ∙ seen_children c.live parents children q))
 
   -- another content
   module _ (d : Content V) (also : HaveIndices d) (parents' : List ℕ) (children' : Lists) where
@@ -388,14 +233,110 @@ module _ {V : Type 0} {c : Content V} {parents : List ℕ} {children : Lists} (k
         has_parent = parents_are;
       }
 
-      -- the same nodes but for their values
-      module _ (same_keys : (q : Key) → IsLive d q → IsLive c q) (same_parents : (i : ℕ) → parent_at parents' i ≡ parent_at parents i) where
-        pub kept_along : AreCovered d.capacity parents' children' → AreDisjoint children' → HoldsNodes d parents' children'
-        kept_along covered disjoint = grind (arith, kept_still, above_still)
+  -- the same keys, parents and children in another content, with other values
+  module _ (d : Content V) (same_keys : (q : Key) → map.contains_key d.live q ≡ map.contains_key c.live q) (more : c.capacity ≤ d.capacity)
+      (parents' : List ℕ) (children' : Lists) (same_parents : (i : ℕ) → parent_at parents' i ≡ parent_at parents i)
+      (same_lists : (p : ℕ) → list_of children' p ≡ list_of children p) where
+    along_still : (q : Key) → IsLive c q → IsLive d q
+    along_still q live = same_keys q ∙ live
 
-        pub node_along : (q : Key) → IsLive c q → (v : V) → node_at d.live parents' children' q v ≡ node_at c.live parents children q v
-        node_along q live = node_still q live (same_parents q.index) (same_lists q.index) (λ p of_c _. still p of_c) (λ x of_c _. still x of_c)
+    along_indices : HaveIndices d
+    along_indices = indices_still kept.indices d (λ q live. sym (same_keys q) ∙ live) more
 
-        pub get_along : (q : Key) → IsLive c q → map.get (nodes_by d.live parents' children') q ≡ option_map (node_at c.live parents children q)
-            (map.get d.live q)
-        get_along q live = seen_get d.live parents' children' q ∙ ap (λ f. option_map f (map.get d.live q)) (λ i v. node_along q live v i)
+    pub kept_along : AreCovered d.capacity parents' children' → AreDisjoint children' → HoldsNodes d parents' children'
+    kept_along covered disjoint = kept_still d along_indices parents' children' along_still same_lists covered disjoint
+        (λ q live. above_still d along_indices parents' children' along_still same_lists (parent_at parents q.index) (parent_at parents' q.index) (same_parents q.index)
+        (kept.has_parent q (sym (same_keys q) ∙ live)))
+
+    pub node_along : (q : Key) → IsLive c q → (v : V) → node_at d.live parents' children' q v ≡ node_at c.live parents children q v
+    node_along q live = node_still d along_indices parents' children' q live (same_parents q.index) (same_lists q.index) (λ p of_c _. along_still p of_c) (λ x of_c _. along_still x of_c)
+
+    pub get_along : (q : Key) → IsLive c q → map.get (nodes_by d.live parents' children') q ≡ option_map (node_at c.live parents children q) (map.get d.live q)
+    get_along q live = seen_get d.live parents' children' q ∙ ap (λ f. option_map f (map.get d.live q)) (λ i v. node_along q live v i)
+
+    pub same_along : (q : Key) → map.get d.live q ≡ map.get c.live q → map.get (nodes_by d.live parents' children') q ≡ map.get nodes q
+    same_along q same = get_alike d along_indices parents' children' q same (node_along q)
+
+  -- the same values, with other parents or children, where only the node of k is another one
+  relinked : (parents' : List ℕ) (children' : Lists) (k : Key) (f : Node V → Node V)
+      → ((q : Key) → IsLive c q → q ≢ k → (v : V) → node_at c.live parents' children' q v ≡ node_at c.live parents children q v)
+      → ((v : V) → node_at c.live parents' children' k v ≡ f (node_at c.live parents children k v)) → nodes_by c.live parents' children' ≡ changed nodes k f
+  relinked parents' children' k f others here = changed_is nodes (nodes_by c.live parents' children') k f
+      (λ q other. get_alike c kept.indices parents' children' q refl (λ live. others q live other))
+      (seen_get c.live parents' children' k ∙ by (map.get c.live k) ∙ sym (ap (option_map f) (seen_get c.live parents children k)))
+    where
+      by : (o : Option V) → option_map (node_at c.live parents' children' k) o ≡ option_map f (option_map (node_at c.live parents children k) o)
+      by None = refl
+      by (Some v) = ap Some (here v)
+
+  -- the list of p is another one
+  module _ (p : Key) (there : IsLive c p) (is : List ℕ) (all : AreIndices c is) (f : List Key → List Key)
+      (made : keys_at c.live is ≡ f (keys_at c.live (list_of children p.index)))
+      (new : Lists) (new_is : new ≡ with_list children p.index is) where
+    list_here : list_of new p.index ≡ is
+    list_here = ap (λ l. list_of l p.index) new_is ∙ list_now children p.index is (has_place p there).owners
+
+    list_there : (q : ℕ) → q ≢ p.index → list_of new q ≡ list_of children q
+    list_there q other = ap (λ l. list_of l q) new_is ∙ list_other children p.index is q other
+
+    pub relisted : AreDisjoint new → HoldsNodes c parents new
+    relisted disjoint = record {
+      indices = kept.indices;
+      covered = record {
+        parents = kept.covered.parents;
+        owners = (let o = kept.covered.owners in let s = ap (λ (l : Lists). length l.lists) new_is ∙ owners_stay children p.index is in omega arith);
+        members = (let m = kept.covered.members in let s = ap (λ (l : Lists). l.members) new_is in omega arith);
+      };
+      disjoint = disjoint;
+      listed = λ q i inside. elim (same_or_other_number q p.index) [
+        | inl at ↦ ((p, there, sym at), all.have i (let now = ap (λ q. often i (list_of new q)) at ∙ ap (often i) list_here in omega arith))
+        | inr other ↦ kept.listed q i (let same = ap (often i) (list_there q other) in omega arith)
+      ];
+      has_parent = kept.has_parent;
+    }
+
+    abbrev fill : Node V → Node V
+    fill n = record n { children = f n.children }
+
+    pub relisted_seen : nodes_by c.live parents new ≡ with_children_of nodes (Some p) f
+    relisted_seen = relinked parents new p fill
+        (λ q live other v i. record {
+          value = v;
+          parent = found_at c.live (parent_at parents q.index);
+          children = keys_at c.live (list_there q.index (λ at. other (kept.indices.apart q p live there at)) i);
+        })
+        (λ v i. record { value = v; parent = found_at c.live (parent_at parents p.index); children = (ap (keys_at c.live) list_here ∙ made) i })
+
+  -- another index is written as that of the parent of k
+  module _ (k : Key) (o : Option Key) (is_parent : IfSome o (IsLive c)) where
+    module _ (live : IsLive c k) (new : List ℕ) (new_is : new ≡ set parents k.index (parent_index o)) where
+      above_here : parent_at new k.index ≡ parent_index o
+      above_here = ap (λ l. parent_at l k.index) new_is ∙ get_or-set_same parents k.index (parent_index o) 0 (has_place k live).parents
+
+      above_there : (q : Key) → IsLive c q → q ≢ k → parent_at new q.index ≡ parent_at parents q.index
+      above_there q of_c other = grind (arith, get_or-set_other)
+
+      pub hung : HoldsNodes c new children
+      hung = record {
+        indices = kept.indices;
+        covered = record {
+          parents = (let n = ap length new_is ∙ length-set parents k.index (parent_index o) in let covered = kept.covered.parents in
+              omega arith);
+          owners = kept.covered.owners;
+          members = kept.covered.members;
+        };
+        disjoint = kept.disjoint;
+        listed = kept.listed;
+        has_parent = λ q of_c. elim (same_or_other q k) [
+          | inl at ↦ subst (λ i. (i ≡ 0) ⊎ HasKey c i) (sym (ap (λ (q : Key). parent_at new q.index) at ∙ above_here)) (written_has c o is_parent)
+          | inr other ↦ subst (λ i. (i ≡ 0) ⊎ HasKey c i) (sym (above_there q of_c other)) (kept.has_parent q of_c)
+        ];
+      }
+
+      abbrev hang : Node V → Node V
+      hang n = record n { parent = o }
+
+      pub hung_seen : nodes_by c.live new children ≡ with_parent nodes k o
+      hung_seen = relinked new children k hang
+          (λ q of_c other v i. record { value = v; parent = found_at c.live (above_there q of_c other i); children = keys_at c.live (list_of children q.index) })
+          (λ v i. record { value = v; parent = (ap (found_at c.live) above_here ∙ written_found c kept.indices o is_parent) i; children = keys_at c.live (list_of children k.index) })

@@ -4,7 +4,6 @@ mod Climbs
 mod Common
 mod Descending
 mod Families
-mod Indices
 pub mod KeyLoops
 pub mod ListedWorlds
 mod Moved
@@ -12,5 +11,4 @@ pub mod Offsets
 mod Placing
 mod Removals
 mod SceneSteps
-mod WalkingDown
 pub mod Worlds

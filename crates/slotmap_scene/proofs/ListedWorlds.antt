@@ -1,17 +1,8 @@
 -- A list of nodes, each with its transform in the coordinates of its root.
 use Rattle.std.proofs.Common.{◌++◌, ◌<◌, ◌∷◌, ◌≡◌}
-use Rattle.slotmap_scene.proofs.Common.{All, All-head, All-push, All-tail, AreWorlds, IsComposed, IsPathFrom, IsWorldOf, Joins, Key, List, Nodes, None, Some, [], ap, arith, has_node, inl, inr}
-use Rattle.slotmap_scene.proofs.Common.{keys_of_pairs, one_other, parent_of, same_or_other, subst, sym, times, times_first, value_of}
+use Rattle.slotmap_scene.proofs.Common.{All, All-head, All-push, All-tail, AreWorlds, IsComposed, IsWorldOf, Joins, Key, List, Nodes, [], arith, has_node, inl, inr, keys_of_pairs, one_other}
+use Rattle.slotmap_scene.proofs.Common.{same_or_other, subst, times, times_first}
 use Rattle.slotmap_scene.proofs.Worlds.{one_world_of, path_live, world_composed}
-
--- the transforms on the way down
-module _ {T W : Type 0} (nodes : Nodes T) (under : W → W → W) (of : T → W) (k : Key) (v : T) (own : value_of nodes k ≡ Some v) where
-  pub world_of_root : parent_of nodes k ≡ None → IsWorldOf under of nodes k (of v)
-  world_of_root root = grind arith
-
-  pub world_of_child : (p : Key) (w : W) → parent_of nodes k ≡ Some p → IsWorldOf under of nodes p w → IsWorldOf under of nodes k (under (of v) w)
-  world_of_child p w up world =
-      record { own = v; above = world.own ∷ world.above; path = (own, subst (λ q. IsPathFrom nodes q (world.own ∷ world.above)) (sym up) world.path); made = ap (under (of v)) world.made }
 
 module _ {K T W : Type 0} (data_of : K → Key) (under : W → W → W) (of : T → W) (nodes : Nodes T) where
   abbrev IsPlaced : K × W → Type 0

@@ -1,13 +1,12 @@
 -- The parent and the children of each node, and what a scene is once a node became a root, was moved below another one, or came.
 use Rattle.std.proofs.Common.{◌++◌, ◌+◌, ◌<◌, ◌∷◌, ◌≡◌, ◌≢◌, ◌≤◌}
-use Rattle.slotmap_scene.proofs.Common.{After, AreListed, Before, ClonesEqual, Content, Err, IfOk, Inserts, IsCloneBy, IsCloneOf, IsMoved, IsNewChild, IsNodeClone, IsScene, IsWithin, Keeps}
-use Rattle.slotmap_scene.proofs.Common.{KeepsSpent, Key, Leaves, List, Node, Nodes, None, Ok, OnErr, Option, Result, Side, Some, StepsTo, [], ap, arith, as_child, as_root, beside_first, changed}
-use Rattle.slotmap_scene.proofs.Common.{changed_gives, changed_here, changed_keeps, changed_other, child, children_in, children_of, clone_live, cond, exact_keys, false, forgets, get-insert_here}
+use Rattle.slotmap_scene.proofs.Common.{After, AreListed, Before, ClonesEqual, Content, Err, IfOk, Inserts, IsCloneBy, IsCloneOf, IsMoved, IsNewChild, IsNodeClone, IsParent, IsScene, IsWithin, Keeps}
+use Rattle.slotmap_scene.proofs.Common.{KeepsSpent, Key, Leaves, List, Node, Nodes, None, Ok, OnErr, Option, Result, Side, Some, [], ap, arith, as_placed, beside_first, changed, changed_gives}
+use Rattle.slotmap_scene.proofs.Common.{changed_here, changed_in, changed_keeps, changed_other, child, children_in, children_of, clone_live, cond, exact_keys, false, forgets, get-insert_here}
 use Rattle.slotmap_scene.proofs.Common.{get-insert_other, has_node, inl, inr, is_key, is_parent, is_some, key_cmp, keys_total, lacks_node, leaves_by_write, leaves_none, len_alike, none_of, one_itself}
-use Rattle.slotmap_scene.proofs.Common.{one_other, option_map, parent_in, parent_of, placed, refl, same, same_or_other, shown_spent, subst, suc, sym, times, times_first, times_gone, times_pushed}
-use Rattle.slotmap_scene.proofs.Common.{times_without, true, value_of, with_children_in, with_children_of, with_parent, with_value, without, without_child, without_none, zero, ℕ}
-use Rattle.slotmap_scene.proofs.Common.{◌∙◌}
-use Rattle.slotmap_scene.proofs.Climbs.{parent_there, tree_moved, tree_same}
+use Rattle.slotmap_scene.proofs.Common.{one_other, option_map, parent_in, parent_of, placed, put_in_place, refl, same, same_or_other, shown_spent, subst, sym, times, times_first, times_gone}
+use Rattle.slotmap_scene.proofs.Common.{times_pushed, times_without, true, value_of, with_children_of, with_parent, with_value, without, without_child, without_none, ◌∙◌}
+use Rattle.slotmap_scene.proofs.Climbs.{alone_within, parent_there, tree_moved, tree_same}
 use Rattle.std.specs.FinMap as map
 
 -- who is a parent of whom
@@ -90,7 +89,7 @@ pub leaves_filled : {T : Type 0} (c : Content (Node T)) (o : Option Key) (f : Li
 leaves_filled c None f = leaves_none c
 leaves_filled {T} c (Some p) f = by (map.get c.live p) refl
   where
-    by : (o : Option (Node T)) → map.get c.live p ≡ o → Leaves c (record c { live = with_children_in c.live p o f })
+    by : (o : Option (Node T)) → map.get c.live p ≡ o → Leaves c (record c { live = changed_in c.live p o (λ n. record n { children = f n.children }) })
     by None is = leaves_none c
     by (Some n) is = leaves_by_write c p (record n { children = f n.children }) (ap is_some is)
 
@@ -113,8 +112,11 @@ module _ {T : Type 0} where
     filled_other None q other = refl
     filled_other (Some p) q other = changed_other nodes p fill q (λ same. other (ap Some (sym same)))
 
+    filled_gives : (o : Option Key) (p : Key) → o ≡ Some p → has_node nodes p → children_of (with_children_of nodes o f) p ≡ f (children_of nodes p)
+    filled_gives o p is there = ap (λ o. children_of (with_children_of nodes o f) p) is ∙ changed_gives nodes p fill children_in f (λ n. refl) there
+
   -- a node that has lost a child, and one that never had it
-  forgot : {X : Type 0} (k : Key) (P : Option (Node T) → X) (f : X → X) → P None ≡ f (P None) → ((n : Node T) → P (Some (forgets k n)) ≡ f (P (Some n))) → (o : Option (Node T))
+  pub forgot : {X : Type 0} (k : Key) (P : Option (Node T) → X) (f : X → X) → P None ≡ f (P None) → ((n : Node T) → P (Some (forgets k n)) ≡ f (P (Some n))) → (o : Option (Node T))
       → P (option_map (forgets k) o) ≡ f (P o)
   forgot k P f none some None = none
   forgot k P f none some (Some n) = some n
@@ -122,6 +124,9 @@ module _ {T : Type 0} where
   pub forgotten : (k : Key) (o : Option (Node T)) → times k (children_in o) ≡ 0 → option_map (forgets k) o ≡ o
   forgotten k None none = refl
   forgotten k (Some n) none = ap (λ l. Some (record n { children = l })) (without_none k n.children none)
+
+  named_there : (nodes : Nodes T) (o : Option Key) → IsParent nodes o → (p : Key) → o ≡ Some p → has_node nodes p
+  named_there nodes o there p is = subst (IsParent nodes) is there
 
   -- a node leaves the children of its parent
   module _ {nodes : Nodes T} (scene : IsScene nodes) (k : Key) where
@@ -146,66 +151,42 @@ module _ {T : Type 0} where
       hung_children : (q : Key) → children_of hung q ≡ without k (children_of nodes q)
       hung_children q = changed_keeps left k hang children_in (λ n. refl) q ∙ left_of children_in (without k) refl (λ n. refl) q
 
-      hung_values : (q : Key) → value_of hung q ≡ value_of nodes q
-      hung_values q = changed_keeps left k hang (option_map (λ n. n.value)) (λ n. refl) q ∙ left_of (option_map (λ n. n.value)) (λ x. x) refl (λ n. refl) q
-
       pub hung_keys : (q : Key) → map.contains_key hung q ≡ map.contains_key nodes q
       hung_keys q = changed_keeps left k hang is_some (λ n. refl) q ∙ left_of is_some (λ b. b) refl (λ n. refl) q
-
-      hung_parents : (q : Key) → q ≢ k → parent_of hung q ≡ parent_of nodes q
-      hung_parents q other = ap parent_in (changed_other left k hang q other) ∙ left_of parent_in (λ x. x) refl (λ n. refl) q
 
       pub hung_alone : (q : Key) → times k (children_of hung q) ≡ 0
       hung_alone q = ap (times k) (hung_children q) ∙ times_gone k (children_of nodes q)
 
-    -- so it is a root
-    pub moved_out : (put : List Key → List Key) → IsMoved nodes (as_root nodes k) k None put
-    moved_out put = record {
-      parent_is = ap parent_in (changed_here left k (hang None)) ∙ none (map.get left k);
-      parents = hung_parents None;
-      children_are = λ p is. absurd (cc);
-      other_children = λ q other. hung_children None q;
-    }
-      where
-        none : (o : Option (Node T)) → parent_in (option_map (hang None) o) ≡ None
-        none None = refl
-        none (Some n) = refl
+      -- a sibling of another one is still there once
+      pub hung_sibling : (p s : Key) → (parent_of nodes s ≡ Some p) × (k ≢ s) → times s (children_of hung p) ≡ 1
+      hung_sibling p s is = ap (times s) (hung_children p) ∙ times_without k s (children_of nodes p) (λ at. is.1 (sym at)) ∙ listed_once nodes scene.listed p s is.0
 
-    pub values_out : (q : Key) → value_of (as_root nodes k) q ≡ value_of nodes q
-    values_out = hung_values None
+      -- and is put among the children of that one
+      module _ (put : List Key → List Key) where
+        placed_keeps : {X : Type 0} (P : Option (Node T) → X) → ((n : Node T) (ks : List Key) → P (Some (record n { children = ks })) ≡ P (Some n)) → (q : Key)
+            → P (map.get (as_placed nodes k o put) q) ≡ P (map.get hung q)
+        placed_keeps P keeps = filled_keeps hung put P (λ n. keeps n (put n.children)) o
 
-    pub scene_out : has_node nodes k → IsScene (as_root nodes k)
-    scene_out live = scene_moved nodes (as_root nodes k) scene k None (λ ks. ks ++ k ∷ []) (moved_out (λ ks. ks ++ k ∷ [])) (λ x ks. times_pushed x ks k)
-        (λ q other. hung_keys None q) (hung_keys None k ∙ live) (λ p is. absurd (cc))
+        pub values_placed : (q : Key) → value_of (as_placed nodes k o put) q ≡ value_of nodes q
+        values_placed q = placed_keeps (option_map (λ n. n.value)) (λ n ks. refl) q ∙ changed_keeps left k hang (option_map (λ n. n.value)) (λ n. refl) q
+            ∙ left_of (option_map (λ n. n.value)) (λ x. x) refl (λ n. refl) q
 
-    -- or a child of p, put among its children
-    module _ (p : Key) (live : has_node nodes k) (there : has_node nodes p) (put : List Key → List Key) where
-      abbrev join : Node T → Node T
-      join n = record n { children = put n.children }
+        pub keys_placed : (q : Key) → map.contains_key (as_placed nodes k o put) q ≡ map.contains_key nodes q
+        keys_placed q = placed_keeps is_some (λ n ks. refl) q ∙ hung_keys q
 
-      pub moved_among : IsMoved nodes (as_child nodes k p put) k (Some p) put
-      moved_among = record {
-        parent_is = changed_keeps (hung (Some p)) p join parent_in (λ n. refl) k
-            ∙ changed_gives left k (hang (Some p)) parent_in (λ _. Some p) (λ n. refl) (left_of is_some (λ b. b) refl (λ n. refl) k ∙ live);
-        parents = λ q other. changed_keeps (hung (Some p)) p join parent_in (λ n. refl) q ∙ hung_parents (Some p) q other;
-        children_are = λ q is. (let at : p ≡ q = cc in rw (← at) (changed_gives (hung (Some p)) p join children_in put (λ n. refl) (hung_keys (Some p) p ∙ there)
-            ∙ ap put (hung_children (Some p) p)));
-        other_children = λ q other. ap children_in (changed_other (hung (Some p)) p join q (λ at. other (ap Some (sym at)))) ∙ hung_children (Some p) q;
-      }
+        module _ (live : has_node nodes k) (there : IsParent nodes o) where
+          pub moved_placed : IsMoved nodes (as_placed nodes k o put) k o put
+          moved_placed = record {
+            parent_is = placed_keeps parent_in (λ n ks. refl) k ∙ changed_gives left k hang parent_in (λ _. o) (λ n. refl) (left_of is_some (λ b. b) refl (λ n. refl) k ∙ live);
+            parents = λ q other. placed_keeps parent_in (λ n ks. refl) q ∙ ap parent_in (changed_other left k hang q other) ∙ left_of parent_in (λ x. x) refl (λ n. refl) q;
+            children_are = λ p is. filled_gives hung put o p is (hung_keys p ∙ named_there nodes o there p is) ∙ ap put (hung_children p);
+            other_children = λ q other. ap children_in (filled_other hung put o q other) ∙ hung_children q;
+          }
 
-      pub values_among : (q : Key) → value_of (as_child nodes k p put) q ≡ value_of nodes q
-      values_among q = changed_keeps (hung (Some p)) p join (option_map (λ n. n.value)) (λ n. refl) q ∙ hung_values (Some p) q
-
-      pub keys_among : (q : Key) → map.contains_key (as_child nodes k p put) q ≡ map.contains_key nodes q
-      keys_among q = changed_keeps (hung (Some p)) p join is_some (λ n. refl) q ∙ hung_keys (Some p) q
-
-      pub scene_among : ((x : Key) (ks : List Key) → times x (put ks) ≡ times x ks + same k x) → (IsWithin nodes p k → ⊥) → IsScene (as_child nodes k p put)
-      scene_among more out = scene_moved nodes (as_child nodes k p put) scene k (Some p) put moved_among more
-          (λ q other. keys_among q) (keys_among k ∙ live) (λ q is. (let at : p ≡ q = cc in rw (← at) (there, out)))
-
-    -- a sibling of another one is still there once
-    pub hung_sibling : (p s : Key) → k ≢ s → parent_of nodes s ≡ Some p → times s (children_of (hung (Some p)) p) ≡ 1
-    hung_sibling p s apart own = ap (times s) (hung_children (Some p) p) ∙ times_without k s (children_of nodes p) (λ at. apart (sym at)) ∙ listed_once nodes scene.listed p s own
+          pub scene_placed : ((x : Key) (ks : List Key) → times x (put ks) ≡ times x ks + same k x) → ((p : Key) → o ≡ Some p → IsWithin nodes p k → ⊥)
+              → IsScene (as_placed nodes k o put)
+          scene_placed more out = scene_moved nodes (as_placed nodes k o put) scene k o put moved_placed more
+              (λ q other. keys_placed q) (keys_placed k ∙ live) (λ p is. (named_there nodes o there p is, out p is))
 
   -- a key that no node has
   module _ (nodes : Nodes T) (scene : IsScene nodes) (k : Key) (fresh : lacks_node nodes k) where
@@ -221,15 +202,11 @@ module _ {T : Type 0} where
     pub gone_forgotten : (q : Key) → map.get nodes q ≡ option_map (forgets k) (map.get nodes q)
     gone_forgotten q = sym (forgotten k (map.get nodes q) (never q))
 
-    steps_gone : (i : ℕ) (q : Key) → StepsTo nodes i q k → lacks_node nodes q
-    steps_gone zero q same = rw same fresh
-    steps_gone (suc i) q steps = absurd (let above = steps_gone i steps.0 steps.1.1 in let there = parent_there nodes scene.tree q steps.0 steps.1.0 in cc)
-
     pub gone_within : (q : Key) → IsWithin nodes q k → lacks_node nodes q
-    gone_within q w = steps_gone w.0 q w.1
+    gone_within q w = rw (alone_within nodes k (λ q is. (let live = parent_there nodes scene.tree q k is in cc)) w.0 q w.1) fresh
 
     -- a node comes under it, and is put among the children of its parent
-    module _ (parent : Option Key) (there : (p : Key) → parent ≡ Some p → has_node nodes p) (v : T) (put : List Key → List Key) where
+    module _ (parent : Option Key) (there : IsParent nodes parent) (v : T) (put : List Key → List Key) where
       abbrev filled : Nodes T
       filled = with_children_of nodes parent put
 
@@ -237,7 +214,7 @@ module _ {T : Type 0} where
       with_node = map.insert filled k (child parent v)
 
       not_parent : (p : Key) → parent ≡ Some p → p ≢ k
-      not_parent p is same = let live = subst (has_node nodes) same (there p is) in cc
+      not_parent p is same = let live = subst (has_node nodes) same (named_there nodes parent there p is) in cc
 
       came_elsewhere : (q : Key) → q ≢ k → map.get with_node q ≡ map.get filled q
       came_elsewhere q other = get-insert_other filled k (child parent v) q other
@@ -246,8 +223,8 @@ module _ {T : Type 0} where
       came_moved = record {
         parent_is = ap parent_in (get-insert_here filled k (child parent v));
         parents = λ q other. ap parent_in (came_elsewhere q other) ∙ filled_keeps nodes put parent_in (λ n. refl) parent q;
-        children_are = λ p is. ap children_in (came_elsewhere p (not_parent p is)) ∙ ap (λ o. children_of (with_children_of nodes o put) p) is
-            ∙ changed_gives nodes p (fill nodes put) children_in put (λ n. refl) (there p is) ∙ ap put (sym (without_none k (children_of nodes p) (never p)));
+        children_are = λ p is. ap children_in (came_elsewhere p (not_parent p is)) ∙ filled_gives nodes put parent p is (named_there nodes parent there p is)
+            ∙ ap put (sym (without_none k (children_of nodes p) (never p)));
         other_children = λ q apart. elim (same_or_other q k) [
           | inl is ↦ rw is (ap children_in (get-insert_here filled k (child parent v)) ∙ sym (ap (λ o. without k (children_in o)) absent))
           | inr other ↦ ap children_in (came_elsewhere q other ∙ filled_other nodes put parent q apart) ∙ sym (without_none k (children_of nodes q) (never q))
@@ -257,7 +234,8 @@ module _ {T : Type 0} where
       came_scene : ((x : Key) (ks : List Key) → times x (put ks) ≡ times x ks + same k x) → IsScene with_node
       came_scene more = scene_moved nodes with_node scene k parent put came_moved more
           (λ q other. ap is_some (came_elsewhere q other) ∙ filled_keeps nodes put is_some (λ n. refl) parent q)
-          (ap is_some (get-insert_here filled k (child parent v))) (λ p is. (there p is, λ w. (let gone = gone_within p w in let live = there p is in cc)))
+          (ap is_some (get-insert_here filled k (child parent v))) (λ p is. (
+          let live = named_there nodes parent there p is in (live, λ w. (let gone = gone_within p w in cc))))
 
       came_child : (p : Key) → parent ≡ Some p → IsNewChild nodes with_node k p v (put (children_of nodes p))
       came_child p is = record {
@@ -283,7 +261,7 @@ pub root_added : {T E : Type 0} (old new : Content (Node T)) → IsScene old.liv
     → IfOk result (λ k. lacks_node old.live k)
     → OnErr result (Keeps old new) → IsScene new.live
 root_added old new scene v (Ok k) inserts fresh keeps =
-    subst IsScene (sym inserts.live) (came_scene old.live scene k fresh None (λ p is. absurd (cc)) v (λ ks. ks ++ k ∷ []) (λ x ks. times_pushed x ks k))
+    subst IsScene (sym inserts.live) (came_scene old.live scene k fresh None tt v (λ ks. ks ++ k ∷ []) (λ x ks. times_pushed x ks k))
 root_added old new scene v (Err e) inserts fresh keeps = subst IsScene (sym keeps.live) scene
 
 -- a node came that has a parent
@@ -309,15 +287,15 @@ module _ {T : Type 0} {old mid : Content (Node T)} {k p : Key} {v : T} (scene : 
   came_sibling s own = ap (λ o. times s (children_in o)) (came_get p parent_apart) ∙ listed_once old.live scene.listed p s own
 
   -- and is put among the children of its parent
-  module _ {new : Content (Node T)} (f : List Key → List Key) (put : new ≡ record mid { live = with_children_in mid.live p (map.get mid.live p) f }) where
-    child_live : new.live ≡ map.insert (with_children_in old.live p (map.get old.live p) f) k (child (Some p) v)
-    child_live = ap (λ c. c.live) put ∙ ap (λ m. with_children_in m p (map.get m p) f) came.live
+  module _ {new : Content (Node T)} (f : List Key → List Key) (put : new ≡ record mid { live = with_children_of mid.live (Some p) f }) where
+    child_live : new.live ≡ map.insert (with_children_of old.live (Some p) f) k (child (Some p) v)
+    child_live = ap (λ c. c.live) put ∙ ap (λ m. with_children_of m (Some p) f) came.live
         ∙ changed_later old.live k p (child (Some p) v) (λ n. record n { children = f n.children }) parent_apart
 
-    pub child_inserts : Inserts (record old { live = with_children_in old.live p (map.get old.live p) f }) k (child (Some p) v) new
+    pub child_inserts : Inserts (record old { live = with_children_of old.live (Some p) f }) k (child (Some p) v) new
     child_inserts = record {
       offered = came.offered;
-      below_limit = (let below = came.below_limit in let same = len_alike (with_children_in old.live p (map.get old.live p) f) old.live (filled_keeps old.live f is_some (λ n. refl) (Some p)) in
+      below_limit = (let below = came.below_limit in let same = len_alike (with_children_of old.live (Some p) f) old.live (filled_keeps old.live f is_some (λ n. refl) (Some p)) in
           omega arith);
       live = child_live;
       detached = ap (λ c. c.detached) put ∙ came.detached;
@@ -329,26 +307,28 @@ module _ {T : Type 0} {old mid : Content (Node T)} {k p : Key} {v : T} (scene : 
 
     pub child_gained : IsNewChild old.live new.live k p v (f (children_of old.live p))
     child_gained = subst (λ m. IsNewChild old.live m k p v (f (children_of old.live p))) (sym child_live)
-        (came_child old.live scene k fresh (Some p) (λ q is. subst (has_node old.live) (cc) there) v f p refl)
+        (came_child old.live scene k fresh (Some p) there v f p refl)
 
     pub child_scene : ((x : Key) (ks : List Key) → times x (f ks) ≡ times x ks + same k x) → IsScene new.live
-    child_scene more = subst IsScene (sym child_live) (came_scene old.live scene k fresh (Some p) (λ q is. subst (has_node old.live) (cc) there) v f more)
+    child_scene more = subst IsScene (sym child_live) (came_scene old.live scene k fresh (Some p) there v f more)
 
     pub child_spent : KeepsSpent old mid → KeepsSpent old new
     child_spent keeps k spent = rw put (spent_alike mid _ (filled_keeps mid.live f is_some (λ n. refl) (Some p)) k (keeps k spent))
 
--- a key that is put in front of others
-pub times_put : (x k : Key) (ks : List Key) → times x (k ∷ ks) ≡ times x ks + same k x
-times_put x k ks = omega (arith, times_first x k ks)
-
-module _ (side : Side) (s k : Key) where
-  pub times_placed : (x : Key) (ks : List Key) → times x (placed side s k ks) ≡ times x ks + same k x
-  times_placed x [] = let first = times_first x k [] in omega arith
-  times_placed x (q ∷ qs) = elim (is_key q s) as (λ b. times x (cond b (beside_first side k q qs) (q ∷ placed side s k qs)) ≡ times x (q ∷ qs) + same k x) [
+-- a list to which k comes has it once more
+module _ (k x : Key) where
+  times_placed : (side : Side) (s : Key) (ks : List Key) → times x (placed side s k ks) ≡ times x ks + same k x
+  times_placed side s [] = omega (arith, times_first x k [])
+  times_placed side s (q ∷ qs) = elim (is_key q s) as (λ b. times x (cond b (beside_first side k q qs) (q ∷ placed side s k qs)) ≡ times x (q ∷ qs) + same k x) [
     | true ↦ at_once side
-    | false ↦ (let first = times_first x q (placed side s k qs) in let was = times_first x q qs in let rest = times_placed x qs in omega arith)
+    | false ↦ omega (arith, times_first x q (placed side s k qs), times_first x q qs, times_placed side s qs)
   ]
     where
       at_once : (side : Side) → times x (beside_first side k q qs) ≡ times x (q ∷ qs) + same k x
-      at_once Before = let first = times_first x k (q ∷ qs) in omega arith
-      at_once After = let first = times_first x q (k ∷ qs) in let next = times_first x k qs in let was = times_first x q qs in omega arith
+      at_once Before = omega (arith, times_first x k (q ∷ qs))
+      at_once After = omega (arith, times_first x q (k ∷ qs), times_first x k qs, times_first x q qs)
+
+  pub times_put : (side : Side) (sibling : Option Key) (ks : List Key) → times x (put_in_place side sibling k ks) ≡ times x ks + same k x
+  times_put side (Some s) ks = times_placed side s ks
+  times_put Before None ks = times_pushed x ks k
+  times_put After None ks = omega (arith, times_first x k ks)

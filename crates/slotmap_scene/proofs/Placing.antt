@@ -1,33 +1,92 @@
 -- A node is put among the children of another one or taken out of them, or gets another parent: what is kept then, and what it shows.
 use Rattle.std.proofs.Common.{◌++◌, ◌+◌, ◌<◌, ◌∷◌, ◌≡◌, ◌≢◌, ◌≤◌}
-use Rattle.slotmap_scene.proofs.Common.{After, AreDisjoint, AreIndices, Before, Content, HasKey, HoldsNodes, IfSome, IsFree, IsIn, IsLive, IsParent, Key, List, Lists, Node, None, Option, Side, Some}
-use Rattle.slotmap_scene.proofs.Common.{[], ap, arith, children_of, cond, false, family, has_node, inl, inr, key_at, key_at_live, keys_at, keys_without, length, list_of, map-append, nat_eq}
-use Rattle.slotmap_scene.proofs.Common.{number_other, often, often_first, often_gone, often_joined, often_without, parent_at, parent_index, parent_of, placed, put_before, put_behind, put_on}
-use Rattle.slotmap_scene.proofs.Common.{same_number, same_or_other_number, set, subst, sym, times, true, with_children_in, with_list, with_parent, without, without_child, without_number, ℕ}
-use Rattle.slotmap_scene.proofs.Common.{◌∙◌}
-use Rattle.slotmap_scene.proofs.Indices.{key_beside}
-use Rattle.slotmap_scene.proofs.Families.{above_has, above_none, child_in, has_place, hung, hung_seen, indices_at, is_free, relisted, relisted_seen, seen_has}
+use Rattle.slotmap_scene.proofs.Common.{After, AreDisjoint, AreIndices, Before, Bool, Content, HasKey, HaveIndices, HoldsNodes, IfSome, IfSome_then, IsFree, IsIn, IsLive, IsParent, IsScene, IsSome}
+use Rattle.slotmap_scene.proofs.Common.{Key, List, Lists, Node, None, Option, Side, Some, [], ap, arith, behind, beside_first, children_of, children_under, cond, false, family, first_index, first_key}
+use Rattle.slotmap_scene.proofs.Common.{first_or, has_node, in_front, inl, inr, is_key, key_at, key_at_live, keys_at, keys_without, later_indices, length, list_of, map-append, nat_eq, number_after}
+use Rattle.slotmap_scene.proofs.Common.{number_before, number_in_place, number_other, often, often_first, often_gone, often_joined, often_without, option_map, parent_at, parent_index, parent_of}
+use Rattle.slotmap_scene.proofs.Common.{placed, put_in_place, put_on, refl, same_at, same_number, same_or_other_number, set, siblings_of, some_is, subst, sym, times, true, with_children_of, with_list}
+use Rattle.slotmap_scene.proofs.Common.{with_parent, without, without_child, without_number, ℕ, ◌∙◌}
+use Rattle.slotmap_scene.proofs.Families.{above_has, above_none, child_in, children_live, has_if, has_place, hung, hung_seen, indices_at, is_free, relisted, relisted_seen, seen_has}
+use Rattle.slotmap_scene.proofs.Climbs.{parent_there}
+use Rattle.slotmap_scene.proofs.Moved.{listed_once}
 use Rattle.std.specs.FinMap as map
 
+-- a number that is put beside another one is put beside the first one, or later
+first_on : (side : Side) (s k i : ℕ) (is : List ℕ) → put_on side s k (i ∷ is) ≡ cond (nat_eq i s) (beside_first side k i is) (i ∷ put_on side s k is)
+first_on Before s k i is = refl
+first_on After s k i is = refl
+
+module _ {T : Type 0} {c : Content T} (indices : HaveIndices c) where
+  module _ (s k : Key) (sibling : IsLive c s) (live : IsLive c k) where
+    later_there : (i : ℕ) (is : List ℕ) → nat_eq i s.index ≡ false → 0 < often s.index (i ∷ is) → 0 < often s.index is
+    later_there i is apart there = grind (arith, often_first s.index i is)
+
+    key_beside : (side : Side) (is : List ℕ) → AreIndices c is → 0 < often s.index is
+        → keys_at c.live (put_on side s.index k.index is) ≡ placed side s k (keys_at c.live is)
+    key_beside side [] all there = absurd (omega arith)
+    key_beside side (i ∷ is) all there =
+        let now = λ (b : Bool). cond b (beside_first side k (key_at c.live i) (keys_at c.live is)) (key_at c.live i ∷ placed side s k (keys_at c.live is)) in
+        ap (keys_at c.live) (first_on side s.index k.index i is) ∙ elim (nat_eq i s.index) as
+        (λ b. nat_eq i s.index ≡ b → is_key (key_at c.live i) s ≡ b
+        → keys_at c.live (cond b (beside_first side k.index i is) (i ∷ put_on side s.index k.index is)) ≡ placed side s k (keys_at c.live (i ∷ is))) [
+          | true ↦ λ _ at. at_once side ∙ sym (ap now at)
+          | false ↦ λ apart at. ap (λ l. key_at c.live i ∷ l) (key_beside side is (later_indices all) (later_there i is apart there))
+              ∙ sym (ap now at)
+        ] refl (same_at indices i (first_index all) s sibling)
+      where
+        at_once : (side : Side) → keys_at c.live (beside_first side k.index i is) ≡ beside_first side k (key_at c.live i) (keys_at c.live is)
+        at_once Before = λ n. key_at_live indices k live n ∷ key_at c.live i ∷ keys_at c.live is
+        at_once After = λ n. key_at c.live i ∷ key_at_live indices k live n ∷ keys_at c.live is
+
+  key_put : (side : Side) (sibling : Option Key) (k : Key) → IsLive c k → (is : List ℕ) → AreIndices c is → IfSome sibling (λ s. IsLive c s × (0 < often s.index is))
+      → keys_at c.live (number_in_place side sibling k.index is) ≡ put_in_place side sibling k (keys_at c.live is)
+  key_put side (Some s) k live is all there = key_beside s k there.0 live side is all there.1
+  key_put Before None k live is all there = map-append (key_at c.live) is (k.index ∷ []) ∙ ap (λ q. keys_at c.live is ++ q ∷ []) (key_at_live indices k live)
+  key_put After None k live is all there = λ n. key_at_live indices k live n ∷ keys_at c.live is
+
+  pub key_after : (k : Key) → IsLive c k → (is : List ℕ) → AreIndices c is
+      → behind k (keys_at c.live is) ≡ option_map (key_at c.live) (number_after k.index is)
+  key_after k live [] all = refl
+  key_after k live (i ∷ is) all =
+      ap (λ b. cond b (first_or (keys_at c.live is) None) (behind k (keys_at c.live is))) (same_at indices i (first_index all) k live)
+      ∙ elim (nat_eq i k.index) as
+      (λ b. cond b (first_or (keys_at c.live is) None) (behind k (keys_at c.live is)) ≡ option_map (key_at c.live)
+      (cond b (first_or is None) (number_after k.index is))) [
+        | true ↦ first_key indices is
+        | false ↦ key_after k live is (later_indices all)
+      ]
+
+  pub key_ahead : (o : Option ℕ) (k : Key) → IsLive c k → (is : List ℕ) → AreIndices c is
+      → in_front (option_map (key_at c.live) o) k (keys_at c.live is) ≡ option_map (key_at c.live) (number_before o k.index is)
+  key_ahead o k live [] all = refl
+  key_ahead o k live (i ∷ is) all =
+      ap (λ b. cond b (option_map (key_at c.live) o) (in_front (Some (key_at c.live i)) k (keys_at c.live is))) (same_at indices i (first_index all) k live)
+      ∙ elim (nat_eq i k.index) as
+      (λ b. cond b (option_map (key_at c.live) o) (in_front (Some (key_at c.live i)) k (keys_at c.live is)) ≡ option_map (key_at c.live)
+      (cond b o (number_before (Some i) k.index is))) [
+        | true ↦ refl
+        | false ↦ key_ahead (Some i) k live is (later_indices all)
+      ]
+
 -- a list to which k comes has no other number
-module _ (s k i : ℕ) where
-  before_few : (ks : List ℕ) → often i (put_before s k ks) ≤ often i ks + same_number k i
-  before_few [] = omega arith
-  before_few (q ∷ ks) = elim (nat_eq q s) as (λ b. often i (cond b (k ∷ q ∷ ks) (q ∷ put_before s k ks)) ≤ often i (q ∷ ks) + same_number k i) [
-    | true ↦ (let first = often_first i k (q ∷ ks) in omega arith)
-    | false ↦ (let first = often_first i q (put_before s k ks) in let was = often_first i q ks in let rest = before_few ks in omega arith)
-  ]
+module _ (k i : ℕ) where
+  beside_few : (side : Side) (s : ℕ) (ks : List ℕ) → often i (put_on side s k ks) ≤ often i ks + same_number k i
+  beside_few Before s [] = omega arith
+  beside_few After s [] = omega arith
+  beside_few side s (q ∷ ks) =
+      rw (first_on side s k q ks) (elim (nat_eq q s) as (λ b. often i (cond b (beside_first side k q ks) (q ∷ put_on side s k ks)) ≤ often i (q ∷ ks) + same_number k i) [
+        | true ↦ at_once side
+        | false ↦ omega (arith, often_first i q (put_on side s k ks), often_first i q ks, beside_few side s ks)
+      ])
+    where
+      at_once : (side : Side) → often i (beside_first side k q ks) ≤ often i (q ∷ ks) + same_number k i
+      at_once Before = omega (arith, often_first i k (q ∷ ks))
+      at_once After = omega (arith, often_first i q (k ∷ ks), often_first i k ks, often_first i q ks)
 
-  behind_few : (ks : List ℕ) → often i (put_behind s k ks) ≤ often i ks + same_number k i
-  behind_few [] = omega arith
-  behind_few (q ∷ ks) = elim (nat_eq q s) as (λ b. often i (cond b (q ∷ k ∷ ks) (q ∷ put_behind s k ks)) ≤ often i (q ∷ ks) + same_number k i) [
-    | true ↦ (let first = often_first i q (k ∷ ks) in let second = often_first i k ks in let was = often_first i q ks in omega arith)
-    | false ↦ (let first = often_first i q (put_behind s k ks) in let was = often_first i q ks in let rest = behind_few ks in omega arith)
-  ]
-
-  beside_few : (side : Side) (ks : List ℕ) → often i (put_on side s k ks) ≤ often i ks + same_number k i
-  beside_few Before = before_few
-  beside_few After = behind_few
+  few_more : (side : Side) (sibling : Option Key) (ks : List ℕ) → often i (number_in_place side sibling k ks) ≤ often i ks + same_number k i
+  few_more side (Some s) ks = beside_few side s.index ks
+  few_more Before None ks = omega (arith, often_joined i ks (k ∷ []), often_first i k [])
+  few_more After None ks = omega (arith, often_first i k ks)
 
 module _ {V : Type 0} {c : Content V} {parents : List ℕ} {children : Lists} (kept : HoldsNodes c parents children)
     {self : Content (Node V)} (view : family c parents children ≡ self) where
@@ -43,12 +102,42 @@ module _ {V : Type 0} {c : Content V} {parents : List ℕ} {children : Lists} (k
   pub free_there : (k : Key) → has_node self.live k → ((p : Key) → times k (children_of self.live p) ≡ 0) → IsFree children k.index
   free_there k there alone = is_free kept k (is_live k there) (λ p. ap (λ (s : Content (Node V)). times k (children_of s.live p)) view ∙ alone p)
 
-  pub child_there : (p k : Key) → 0 < times k (children_of self.live p) → IsIn children p.index k.index
-  child_there p k more = (child_in kept p k (let same = ap (λ (s : Content (Node V)). times k (children_of s.live p)) view in omega arith)).2
+  child_there : (p k : Key) → times k (children_of self.live p) ≡ 1 → IsLive c k × IsIn children p.index k.index
+  child_there p k once = let is = child_in kept p k (let same = ap (λ (s : Content (Node V)). times k (children_of s.live p)) view in omega arith) in (is.1, is.2)
+
+  -- what is found beside a child by its index
+  module _ (k : Key) (scene : IsScene self.live) (child : IsSome (parent_of self.live k)) where
+    own : (p : Key) × (parent_of self.live k ≡ Some p)
+    own = some_is (parent_of self.live k) child
+
+    there : IsLive c k × IsIn children own.0.index k.index
+    there = child_there own.0 k (listed_once self.live scene.listed own.0 k own.1)
+
+    pub member_there : k.index < children.members
+    member_there = (has_place kept k there.0).members
+
+    pub beside : (f : ℕ → List ℕ → Option ℕ) (g : Key → List Key → Option Key)
+        → (IsLive c k → (is : List ℕ) → AreIndices c is → g k (keys_at c.live is) ≡ option_map (key_at c.live) (f k.index is))
+        → ((i : ℕ) (is : List ℕ) → f k.index is ≡ Some i → 0 < often i is) → (number : Option ℕ)
+        → ((p : ℕ) → IsIn children p k.index → number ≡ f k.index (list_of children p))
+        → IfSome number (HasKey c) × (option_map (key_at c.live) number ≡ g k (siblings_of self.live k))
+    beside f g alike inside number found =
+        let is = list_of children own.0.index in
+        let at = found own.0.index there.1 in
+        let parent = is_live own.0 (parent_there self.live scene.tree k own.0 own.1) in (
+          has_if kept (indices_at kept own.0.index) number (λ i at_i. inside i is (sym at ∙ at_i)),
+          ap (option_map (key_at c.live)) at ∙ sym (alike there.0 is (indices_at kept own.0.index))
+              ∙ ap (g k) (sym (children_live c.live parents children own.0 parent) ∙ ap (λ (s : Content (Node V)). children_of s.live own.0) view)
+              ∙ ap (λ o. g k (children_under self.live o)) (sym own.1),
+        )
+
+  pub sibling_there : (p : Key) (sibling : Option Key) → IfSome sibling (λ s. times s (children_of self.live p) ≡ 1)
+      → IfSome sibling (λ s. IsLive c s × IsIn children p.index s.index)
+  sibling_there p sibling once = IfSome_then sibling once (child_there p)
 
   -- the children of p are others
   abbrev Relists : Key → Lists → (List Key → List Key) → Type 0
-  Relists p new f = HoldsNodes c parents new × (family c parents new ≡ record self { live = with_children_in self.live p (map.get self.live p) f })
+  Relists p new f = HoldsNodes c parents new × (family c parents new ≡ record self { live = with_children_of self.live (Some p) f })
 
   relists : (p : Key) → IsLive c p → (is : List ℕ) → ((i : ℕ) → 0 < often i is → HasKey c i) → (f : List Key → List Key)
       → keys_at c.live is ≡ f (keys_at c.live (list_of children p.index))
@@ -69,26 +158,11 @@ module _ {V : Type 0} {c : Content V} {parents : List ℕ} {children : Lists} (k
       | inr apart ↦ had.have i (let none = number_other k.index i apart in omega arith)
     ]
 
-    at_k : key_at c.live k.index ≡ k
-    at_k = key_at_live kept.indices k (is_live k node)
-
-    pub put_in_front : new ≡ with_list children p.index (k.index ∷ was_list) → AreDisjoint new → Relists p new (λ ks. k ∷ ks)
-    put_in_front = relists p (is_live p there) (k.index ∷ was_list)
-        (λ i more. came i (let first = often_first i k.index was_list in omega arith))
-        (λ ks. k ∷ ks) (λ n. at_k n ∷ keys_at c.live was_list) new
-
-    pub put_at_end : new ≡ with_list children p.index (was_list ++ k.index ∷ []) → AreDisjoint new → Relists p new (λ ks. ks ++ k ∷ [])
-    put_at_end = relists p (is_live p there) (was_list ++ k.index ∷ [])
-        (λ i more. came i (let joined = often_joined i was_list (k.index ∷ []) in let first = often_first i k.index [] in omega arith))
-        (λ ks. ks ++ k ∷ []) (map-append (key_at c.live) was_list (k.index ∷ []) ∙ ap (λ q. keys_at c.live was_list ++ q ∷ []) at_k) new
-
-    pub put_on_side : (side : Side) (s : Key) → 0 < times s (children_of self.live p)
-        → new ≡ with_list children p.index (put_on side s.index k.index was_list) → AreDisjoint new → Relists p new (placed side s k)
-    put_on_side side s sibling =
-        let inside = child_in kept p s (let same = ap (λ (s' : Content (Node V)). times s (children_of s'.live p)) view in omega arith) in
-        relists p (is_live p there) (put_on side s.index k.index was_list)
-        (λ i more. came i (let few = beside_few s.index k.index i side was_list in omega arith))
-        (placed side s k) (key_beside kept.indices s k inside.1 (is_live k node) side was_list had inside.2) new
+    pub puts : (side : Side) (sibling : Option Key) → IfSome sibling (λ s. times s (children_of self.live p) ≡ 1)
+        → new ≡ with_list children p.index (number_in_place side sibling k.index was_list) → AreDisjoint new → Relists p new (put_in_place side sibling k)
+    puts side sibling once = relists p (is_live p there) (number_in_place side sibling k.index was_list)
+        (λ i more. came i (omega (arith, few_more k.index i side sibling was_list)))
+        (put_in_place side sibling k) (key_put kept.indices side sibling k (is_live k node) was_list had (sibling_there p sibling once)) new
 
   -- k leaves the children of its parent, whose index was read, if it has one
   module _ (k : Key) (node : has_node self.live k) (parent : ℕ) (read : parent ≡ parent_at parents k.index) where
@@ -114,7 +188,7 @@ module _ {V : Type 0} {c : Content V} {parents : List ℕ} {children : Lists} (k
       left_below = subst (λ p. p < length children.lists) up.2 (has_place kept up.0 up.1).owners
 
       pub left_listed : ((p : Key) → parent_of self.live k ≡ Some p → times k (children_of self.live p) ≡ 1) → IsIn children parent k.index
-      left_listed once = subst (λ p. IsIn children p k.index) up.2 (child_there up.0 k (let one = once up.0 up.3 in omega arith))
+      left_listed once = subst (λ p. IsIn children p k.index) up.2 (child_there up.0 k (once up.0 up.3)).1
 
       pub left : (new : Lists) → new ≡ with_list children parent (without_number k.index (list_of children parent)) → AreDisjoint new
           → HoldsNodes c parents new × (family c parents new ≡ record self { live = without_child self.live (parent_of self.live k) k })
@@ -132,8 +206,7 @@ module _ {V : Type 0} {c : Content V} {parents : List ℕ} {children : Lists} (k
 
   -- k gets this parent
   pub parent_alive : (o : Option Key) → IsParent self.live o → IfSome o (IsLive c)
-  parent_alive None is = tt
-  parent_alive (Some p) is = is_live p is
+  parent_alive o is = IfSome_then o is is_live
 
   pub hangs : (k : Key) → has_node self.live k → (o : Option Key) → IsParent self.live o → (new : List ℕ)
       → new ≡ set parents k.index (parent_index o)

@@ -1,11 +1,11 @@
 -- How a node is removed with all that is below it: down by the last child as far as a leaf, which goes, and on from its parent.
 use Rattle.std.proofs.Common.{◌*◌, ◌++◌, ◌+◌, ◌-◌, ◌<◌, ◌∷◌, ◌≡◌, ◌≢◌, ◌≤◌}
 use Rattle.slotmap_keylist.proofs.Linking.{last_in}
-use Rattle.slotmap_scene.proofs.Common.{ClimbsTo, IsMoved, IsScene, IsTree, IsWithin, Key, Node, Nodes, None, Option, Some, StepsTo, [], ap, arith, children_in, children_of, exact_keys, false}
-use Rattle.slotmap_scene.proofs.Common.{forgets, has_node, inl, inr, is_some, keys, keys_total, keys_up, lacks_node, last_or, len_alike, len_removed, length, option_map, parent_in, parent_of, refl}
+use Rattle.slotmap_scene.proofs.Common.{IsMoved, IsScene, IsTree, IsWithin, Key, Node, Nodes, None, Option, Some, StepsTo, [], ap, arith, by_live, children_in, children_of, exact_keys, forgets}
+use Rattle.slotmap_scene.proofs.Common.{has_node, inl, inr, is_some, keys, keys_total, keys_up, lacks_node, last_or, len_alike, len_removed, length, option_map, parent_in, parent_of, refl}
 use Rattle.slotmap_scene.proofs.Common.{same_or_other, subst, suc, sym, times, times_pushed, value_of, without, without_child, zero, ℕ, ◌∙◌}
-use Rattle.slotmap_scene.proofs.Climbs.{has_parent, parent_there, step_up, within_up}
-use Rattle.slotmap_scene.proofs.Moved.{forgotten, left_get, left_of, listed_never, listed_once, listed_parent, moved_listed}
+use Rattle.slotmap_scene.proofs.Climbs.{alone_within, get_removed, has_parent, outside, parent_there, step_up, within_up}
+use Rattle.slotmap_scene.proofs.Moved.{forgot, forgotten, left_get, left_of, listed_never, listed_once, listed_parent, moved_listed}
 use Rattle.std.specs.FinMap as map
 
 -- the walk ends: each step down goes deeper, and each step up removes a node
@@ -45,31 +45,26 @@ module _ {T : Type 0} (nodes : Nodes T) (scene : IsScene nodes) (k : Key) (live 
   pruned_here = grind (arith, keys)
 
   pruned_get : (q : Key) → q ≢ k → map.get pruned q ≡ option_map (forgets k) (map.get nodes q)
-  pruned_get q other = (let kept : map.get pruned q ≡ map.get left q = grind (arith, keys) in kept) ∙ left_get scene k q
+  pruned_get q other = get_removed left k q other ∙ left_get scene k q
 
   pruned_of : {X : Type 0} (P : Option (Node T) → X) (f : X → X) → P None ≡ f (P None) → ((n : Node T) → P (Some (forgets k n)) ≡ f (P (Some n))) → (q : Key) → q ≢ k
       → P (map.get pruned q) ≡ f (P (map.get nodes q))
-  pruned_of P f none some q other = (let kept : map.get pruned q ≡ map.get left q = grind (arith, keys) in ap P kept) ∙ left_of scene k P f none some q
+  pruned_of P f none some q other = ap P (pruned_get q other) ∙ forgot k P f none some (map.get nodes q)
 
   -- no node has it as its parent
   pub childless : (q : Key) → parent_of nodes q ≡ Some k → ⊥
   childless q is = let one = listed_once nodes scene.listed k q is in let none = ap (times q) leaf in absurd (omega arith)
 
-  leads_past : (n : ℕ) (q : Key) → q ≢ k → ClimbsTo nodes n q → ClimbsTo pruned n q
-  leads_past zero q other leads = (pruned_of is_some (λ b. b) refl (λ n. refl) q other ∙ leads.0, pruned_of parent_in (λ o. o) refl (λ n. refl) q other ∙ leads.1)
-  leads_past (suc n) q other leads = (
-    leads.0,
-    (
-      pruned_of is_some (λ b. b) refl (λ n. refl) q other ∙ leads.1.0,
-      pruned_of parent_in (λ o. o) refl (λ n. refl) q other ∙ leads.1.1,
-      leads_past n leads.0 (λ is. childless q (leads.1.1 ∙ ap Some is)) leads.1.2,
-    ),
-  )
+  pruned_keys : (q : Key) → q ≢ k → map.contains_key pruned q ≡ map.contains_key nodes q
+  pruned_keys = pruned_of is_some (λ b. b) refl (λ n. refl)
+
+  pruned_parents : (q : Key) → q ≢ k → parent_of pruned q ≡ parent_of nodes q
+  pruned_parents = pruned_of parent_in (λ o. o) refl (λ n. refl)
 
   pruned_moved : IsMoved nodes pruned k None (λ ks. ks ++ k ∷ [])
   pruned_moved = record {
     parent_is = ap parent_in pruned_here;
-    parents = pruned_of parent_in (λ o. o) refl (λ n. refl);
+    parents = pruned_parents;
     children_are = λ p is. absurd (cc);
     other_children = λ q _. elim (same_or_other q k) [
       | inl is ↦ rw is (ap children_in pruned_here ∙ sym (ap (without k) leaf))
@@ -82,7 +77,10 @@ module _ {T : Type 0} (nodes : Nodes T) (scene : IsScene nodes) (k : Key) (live 
 
   pub pruned_scene : IsScene pruned
   pruned_scene = record {
-    tree = λ q there. (let other = pruned_other q there in let up = scene.tree q (sym (pruned_of is_some (λ b. b) refl (λ n. refl) q other) ∙ there) in (up.0, leads_past up.0 q other up.1));
+    tree = λ q there. (
+        let other = pruned_other q there in
+        let up = scene.tree q (sym (pruned_keys q other) ∙ there) in
+        (up.0, outside nodes pruned k pruned_keys pruned_parents up.0 q (λ w. other (alone_within nodes k childless w.0 q w.1)) up.1));
     listed = moved_listed nodes pruned scene k None (λ ks. ks ++ k ∷ []) pruned_moved (λ x ks. times_pushed x ks k);
   }
 
@@ -127,8 +125,8 @@ module _ {T : Type 0} where
       kept_after : (k : Key) → has_node after k → (parent_of after k ≡ parent_of old k) × (value_of after k ≡ value_of old k)
       kept_after k there =
           let other = pruned_other now removing.scene at removing.here leaf k there in
-          let was = removing.kept k (sym (pruned_of now removing.scene at removing.here leaf is_some (λ b. b) refl (λ n. refl) k other) ∙ there) in (
-            pruned_of now removing.scene at removing.here leaf parent_in (λ o. o) refl (λ n. refl) k other ∙ was.0,
+          let was = removing.kept k (sym (pruned_keys now removing.scene at removing.here leaf k other) ∙ there) in (
+            pruned_parents now removing.scene at removing.here leaf k other ∙ was.0,
             pruned_of now removing.scene at removing.here leaf (option_map (λ n. n.value)) (λ o. o) refl (λ n. refl) k other ∙ was.1,
           )
 
@@ -152,7 +150,7 @@ module _ {T : Type 0} where
             scene = pruned_scene now removing.scene at removing.here leaf;
             kept = kept_after;
             apart = apart_after;
-            here = pruned_of now removing.scene at removing.here leaf is_some (λ b. b) refl (λ n. refl) p (λ same. childless now removing.scene at removing.here leaf at (is ∙ ap Some same))
+            here = pruned_keys now removing.scene at removing.here leaf p (λ same. childless now removing.scene at removing.here leaf at (is ∙ ap Some same))
                 ∙ parent_there now removing.scene.tree at p is;
             within = parent_within;
           }
@@ -167,11 +165,9 @@ module _ {T : Type 0} where
             absurd (childless now removing.scene at removing.here leaf k (own ∙ ap Some above))
 
         pub all_removed : (k : Key) → IsWithin old k root → lacks_node after k
-        all_removed k w = elim (map.get after k) as (λ o. map.get after k ≡ o → is_some o ≡ false) [
-          | None ↦ λ _. refl
-          | Some n ↦ λ is. absurd (let there : has_node after k = ap is_some is in let other = pruned_other now removing.scene at removing.here leaf k there in
-              other (last_one w.0 k w.1 (sym (pruned_of now removing.scene at removing.here leaf is_some (λ b. b) refl (λ n. refl) k other) ∙ there)))
-        ] refl
+        all_removed k w = by_live after k _ (λ there. (
+            let other = pruned_other now removing.scene at removing.here leaf k there in
+            absurd (other (last_one w.0 k w.1 (sym (pruned_keys now removing.scene at removing.here leaf k other) ∙ there))))) (λ gone. gone)
 
         pub others_left : (k : Key) → (IsWithin old k root → ⊥) → map.get after k ≡ option_map (forgets root) (map.get old k)
         others_left k out = rw (← end) (pruned_get now removing.scene at removing.here leaf k (λ same. out (zero, same ∙ end)) ∙ ap (option_map (forgets at)) (removing.apart k out))

@@ -1,14 +1,14 @@
 -- What a call makes of the nodes of a scene, as a whole: nodes come or go, more places are made, a value is written, or all is copied.
-use Rattle.std.proofs.Common.{if◌then◌else◌, ◌++◌, ◌+◌, ◌-◌, ◌<◌, ◌∷◌, ◌≡◌, ◌≢◌, ◌≤◌, ◌⊎◌}
-use Rattle.slotmap_scene.proofs.Common.{AreCovered, Content, CoversMore, Err, HasKey, HaveIndices, HoldsMore, HoldsNodes, IfSome, Inserts, IsCloneBy, IsCloneOf, IsContent, IsErr, IsIn, IsLive}
-use Rattle.slotmap_scene.proofs.Common.{IsNodeClone, IsOk, Key, Leaves, List, Lists, MakesRoom, Node, Nodes, None, Ok, OnOk, Option, Result, Some, [], ap, arith, capacity_with, changed_here}
-use Rattle.slotmap_scene.proofs.Common.{changed_other, child, children_of, clone_live, exact_keys, false, family, found_at, found_live, get-insert_here, get-insert_other, get_or-set_other}
-use Rattle.slotmap_scene.proofs.Common.{get_or-set_same, indices_inserted, indices_still, inl, inr, inserted_fresh, is_ok, is_some, key_cmp, keys, keys_at, keys_total, length}
-use Rattle.slotmap_scene.proofs.Common.{length-append, length-replicate, length-set, list_of, live-insert_still, most, node_at, nodes_by, often, option_map, parent_at, parent_index, parent_of, refl}
-use Rattle.slotmap_scene.proofs.Common.{replicate, same_or_other, set, shown_content, shown_inserts, shown_leaves, shown_makes_room, subst, suc, sym, take, take_all, times, true, used, with_value}
-use Rattle.slotmap_scene.proofs.Common.{zero, ℕ, ◌∙◌}
-use Rattle.slotmap_scene.proofs.Families.{above_still, children_live, covers_less, get_alike, get_along, kept_along, kept_still, list_none, node_along, node_still, nowhere, parent_live, seen_get}
-use Rattle.slotmap_scene.proofs.Families.{seen_has, seen_len, written_found, written_has}
+use Rattle.std.proofs.Common.{◌+◌, ◌-◌, ◌∷◌, ◌≡◌, ◌≢◌, ◌≤◌, ◌⊎◌}
+use Rattle.slotmap_scene.proofs.Common.{AreCovered, Content, CoversMore, Err, HasKey, HaveIndices, HoldsMore, HoldsNodes, IfSome, IfSome_then, Inserts, IsCloneBy, IsCloneOf, IsContent, IsErr, IsIn}
+use Rattle.slotmap_scene.proofs.Common.{IsLive, IsNodeClone, IsOk, Key, Leaves, List, Lists, MakesRoom, Node, Nodes, None, Ok, Option, Result, Some, [], ap, arith, capacity_with, child, children_of}
+use Rattle.slotmap_scene.proofs.Common.{clone_live, exact_keys, family, found_at, found_live, get-insert_here, get-insert_other, get_or-set_other, get_or-set_same, indices_inserted, indices_still}
+use Rattle.slotmap_scene.proofs.Common.{inl, inr, inserted_fresh, is_some, key_cmp, keys, keys_at, keys_total, length, length-set, list_of, live-insert_still, most, node_at, nodes_by, often}
+use Rattle.slotmap_scene.proofs.Common.{option_map, parent_at, parent_index, parent_of, refl, same_or_other, set, shown_content, shown_inserts, shown_leaves, shown_makes_room, subst, sym, times, true}
+use Rattle.slotmap_scene.proofs.Common.{used, with_value, ℕ, ◌∙◌}
+use Rattle.slotmap_scene.proofs.Families.{above_still, changed_is, children_live, covers_less, get_alike, get_along, kept_along, kept_still, list_none, node_along, node_still, nowhere, parent_live}
+use Rattle.slotmap_scene.proofs.Families.{same_along, seen_get, seen_has, seen_len, written_found, written_has}
+use Rattle.slotmap_scene.proofs.Climbs.{get_removed}
 use Rattle.std.specs.FinMap as map
 use Rattle.slotmap.specs.Words as words
 
@@ -33,31 +33,7 @@ module _ {V : Type 0} (c : Content V) (parents : List ℕ) (children : Lists) wh
     family_room same = shown_makes_room c d seen_was seen_now (seen_has c.live parents children) (seen_len c.live parents children)
         (seen_has d.live parents' children') (seen_len d.live parents' children') same true
 
-    family_inserts : (k : Key) (v : V) (o : Option Key) → seen_now ≡ map.insert seen_was k (child o v) → Inserts c k v d
-        → Inserts (family c parents children) k (child o v) (family d parents' children')
-    family_inserts k v o live = shown_inserts c d seen_was seen_now (seen_has c.live parents children) (seen_len c.live parents children)
-        (seen_has d.live parents' children') (seen_len d.live parents' children') k v (child o v) live
-
--- places are made for parents
-padded : (ps : List ℕ) (n i : ℕ) → parent_at (ps ++ replicate n 0) i ≡ parent_at ps i
-padded [] zero i = refl
-padded [] (suc n) zero = refl
-padded [] (suc n) (suc i) = padded [] n i
-padded (p ∷ ps) n zero = refl
-padded (p ∷ ps) n (suc i) = padded ps n i
-
-pub held : (ps : List ℕ) (n len : ℕ) → len ≡ length ps → length ps ≤ n → {A B : Type 0} (r : Result A B) (now : List ℕ)
-    → now ≡ (if is_ok r then take n ps ++ replicate (n - len) 0 else ps)
-    → HoldsMore ps now × OnOk r (n ≤ length now)
-held ps n len long more (Ok x) now is =
-    let now_is : now ≡ ps ++ replicate (n - len) 0 = is ∙ ap (λ l. l ++ replicate (n - len) 0) (take_all n ps more) in
-    let now_long : length now ≡ length ps + length (replicate {A = ℕ} (n - len) 0) = ap length now_is ∙ length-append ps (replicate (n - len) 0) in
-    let zeros : length (replicate {A = ℕ} (n - len) 0) ≡ n - len = length-replicate (n - len) 0 in (
-      record { same = λ i. ap (λ l. parent_at l i) now_is ∙ padded ps (n - len) i; more = omega arith },
-      omega arith,
-    )
-held ps n len long more (Err e) now is = (record { same = λ i. ap (λ l. parent_at l i) is; more = (let same = ap length is in omega arith) }, tt)
-
+-- places that were there are there still
 covers_still : (n : ℕ) (ps qs : List ℕ) (old new : Lists) → AreCovered n ps old → HoldsMore ps qs → CoversMore old new → AreCovered n qs new
 covers_still n ps qs old new covered holds covers = grind arith
 
@@ -97,16 +73,11 @@ module _ {V : Type 0} {c : Content V} {parents : List ℕ} {children : Lists} (k
     same_live : (q : Key) → map.contains_key d.live q ≡ map.contains_key c.live q
     same_live q = ap (λ m. map.contains_key m q) same
 
-    grown_indices : HaveIndices d
-    grown_indices = indices_still kept.indices d (λ k live. sym (same_live k) ∙ live) more
-
     pub grown_kept : AreCovered d.capacity parents' children' → HoldsNodes d parents' children'
-    grown_kept covered = kept_along kept d grown_indices parents' children' (λ q live. same_live q ∙ live) grows.lists (λ q live. sym (same_live q) ∙ live) holds.same covered grows.disjoint
+    grown_kept covered = kept_along kept d same_live more parents' children' holds.same grows.lists covered grows.disjoint
 
     pub grown_seen : nodes_by d.live parents' children' ≡ nodes
-    grown_seen = map.same_map keys_total exact_keys _ _ (λ q. get_alike kept d grown_indices parents' children' q (ap (λ m. map.get m q) same)
-        (λ live. node_along kept d grown_indices parents' children' (λ q live. same_live q ∙ live) grows.lists
-        (λ q live. sym (same_live q) ∙ live) holds.same q live))
+    grown_seen = map.same_map keys_total exact_keys _ _ (λ q. same_along kept d same_live more parents' children' holds.same grows.lists q (ap (λ m. map.get m q) same))
 
   -- places are made, and no room
   module _ (parents' : List ℕ) (children' : Lists) (holds : HoldsMore parents parents') (covers : CoversMore children children') where
@@ -129,33 +100,25 @@ module _ {V : Type 0} {c : Content V} {parents : List ℕ} {children : Lists} (k
     stays : (q : Key) → IsLive c q → IsLive d q
     stays q live = ap (λ m. map.contains_key m q) inserts.live ∙ live-insert_still c.live k v q live
 
-    here : IsLive d k
-    here = ap (λ m. map.contains_key m k) inserts.live ∙ ap is_some (get-insert_here c.live k v)
-
-    fresh : map.contains_key c.live k ≡ false
-    fresh = inserted_fresh true c k v d valid inserts
-
     came_other : (q : Key) → q ≢ k → map.get d.live q ≡ map.get c.live q
     came_other q other = ap (λ m. map.get m q) inserts.live ∙ get-insert_other c.live k v q other
 
     no_other : (q : Key) → IsLive c q → q.index ≢ k.index
-    no_other q live at = let one : q ≡ k = after.apart q k (inl (inl (stays q live))) (inl (inl here)) at in let f = ap (map.contains_key c.live) (sym one) ∙ live in let gone = fresh in cc
+    no_other q live at =
+        let here : IsLive d k = ap (λ m. map.contains_key m k) inserts.live ∙ ap is_some (get-insert_here c.live k v) in
+        let one : q ≡ k = after.apart q k (inl (inl (stays q live))) (inl (inl here)) at in
+        let fresh = inserted_fresh true c k v d valid inserts in
+        let was = rw one at live in
+        cc
 
     came_indices : HaveIndices d
     came_indices = indices_inserted kept.indices k v d inserts after capacity within
 
-    place : k.index < length parents
-    place = let covered = kept.covered.parents in omega arith
-
     came_above : parent_at new k.index ≡ parent_index o
-    came_above = ap (λ l. parent_at l k.index) new_is ∙ get_or-set_same parents k.index (parent_index o) 0 place
+    came_above = ap (λ l. parent_at l k.index) new_is ∙ get_or-set_same parents k.index (parent_index o) 0 (omega (arith, kept.covered.parents))
 
     above_other : (q : Key) → IsLive c q → parent_at new q.index ≡ parent_at parents q.index
     above_other q live = ap (λ l. parent_at l q.index) new_is ∙ get_or-set_other parents k.index q.index (parent_index o) 0 (no_other q live)
-
-    parent_stays : (o : Option Key) → IfSome o (IsLive c) → IfSome o (IsLive d)
-    parent_stays None is = tt
-    parent_stays (Some p) is = stays p is
 
     pub came_kept : HoldsNodes d new children
     came_kept = kept_still kept d came_indices new children stays (λ p. refl)
@@ -167,7 +130,7 @@ module _ {V : Type 0} {c : Content V} {parents : List ℕ} {children : Lists} (k
         kept.disjoint
         (λ q live. elim (same_or_other q k) [
           | inl at ↦ subst (λ i. (i ≡ 0) ⊎ HasKey d i) (sym (ap (λ (q : Key). parent_at new q.index) at ∙ came_above))
-              (written_has d o (parent_stays o is_parent))
+              (written_has d o (IfSome_then o is_parent stays))
           | inr other ↦ (let was = sym (ap is_some (came_other q other)) ∙ live in
               above_still kept d came_indices new children stays (λ p. refl) (parent_at parents q.index) (parent_at new q.index) (above_other q was)
               (kept.has_parent q was))
@@ -179,7 +142,7 @@ module _ {V : Type 0} {c : Content V} {parents : List ℕ} {children : Lists} (k
           ∙ ap (option_map (node_at d.live new children k)) (ap (λ m. map.get m k) inserts.live ∙ get-insert_here c.live k v)
           ∙ (λ i. Some (record {
             value = v;
-            parent = (ap (found_at d.live) came_above ∙ written_found d came_indices o (parent_stays o is_parent)) i;
+            parent = (ap (found_at d.live) came_above ∙ written_found d came_indices o (IfSome_then o is_parent stays)) i;
             children = ap (keys_at d.live) (list_none kept k.index (λ x live. no_other x live)) i;
           }))
           ∙ sym (get-insert_here nodes k (child o v)))
@@ -189,20 +152,18 @@ module _ {V : Type 0} {c : Content V} {parents : List ℕ} {children : Lists} (k
     ])
 
     pub came_inserts : Inserts (family c parents children) k (child o v) (family d new children)
-    came_inserts = family_inserts c parents children d new children k v o came_seen inserts
+    came_inserts = shown_inserts c d nodes (nodes_by d.live new children) (seen_has c.live parents children) (seen_len c.live parents children)
+        (seen_has d.live new children) (seen_len d.live new children) k v (child o v) came_seen inserts
 
   -- a node goes that has no children, is no child and is no parent
   module _ (k : Key) (live : IsLive c k) (leaf : children_of nodes k ≡ []) (alone : (p : Key) → times k (children_of nodes p) ≡ 0)
       (childless : (q : Key) → parent_of nodes q ≢ Some k)
       (d : Content V) (is : d.live ≡ map.remove c.live k) (capacity : d.capacity ≡ c.capacity) where
     left_get : (q : Key) → q ≢ k → map.get d.live q ≡ map.get c.live q
-    left_get q other = ap (λ m. map.get m q) is ∙ grind (arith, keys)
+    left_get q other = ap (λ m. map.get m q) is ∙ get_removed c.live k q other
 
     gone_here : {W : Type 0} (m : map.FinMap key_cmp W) → map.get (map.remove m k) k ≡ None
     gone_here m = grind (arith, keys)
-
-    gone_other : {W : Type 0} (m : map.FinMap key_cmp W) (q : Key) → q ≢ k → map.get (map.remove m k) q ≡ map.get m q
-    gone_other m q other = grind (arith, keys)
 
     not_k : (q : Key) → IsLive d q → q ≢ k
     not_k q of_d at = grind (arith, gone_here c.live)
@@ -253,7 +214,7 @@ module _ {V : Type 0} {c : Content V} {parents : List ℕ} {children : Lists} (k
           (λ of_q. node_still kept d left_indices parents children q of_q refl refl
           (λ p of_c at. ap is_some (left_get p (λ e. not_above q of_q (sym at ∙ ap (λ (q : Key). q.index) e))) ∙ of_c)
           (λ x of_c inside. ap is_some (left_get x (λ e. unlisted q.index x.index inside (ap (λ (q : Key). q.index) e))) ∙ of_c))
-          ∙ sym (gone_other nodes q other)
+          ∙ sym (get_removed nodes k q other)
     ])
 
   -- a value is written
@@ -267,45 +228,28 @@ module _ {V : Type 0} {c : Content V} {parents : List ℕ} {children : Lists} (k
       | inr other ↦ ap is_some (get-insert_other c.live k v q other)
     ]
 
-    written_indices : HaveIndices written
-    written_indices = indices_still kept.indices written (λ q live. sym (written_keys q) ∙ live) (omega arith)
-
     pub written_kept : HoldsNodes written parents children
-    written_kept = kept_along kept written written_indices parents children (λ q live. written_keys q ∙ live) (λ p. refl)
-        (λ q live. sym (written_keys q) ∙ live) (λ i. refl) kept.covered kept.disjoint
+    written_kept = kept_along kept written written_keys (omega arith) parents children (λ i. refl) (λ p. refl) kept.covered kept.disjoint
 
     pub written_seen : nodes_by written.live parents children ≡ with_value nodes k v
-    written_seen = map.same_map keys_total exact_keys _ _ (λ q. elim (same_or_other q k) [
-      | inl at ↦ rw at (seen_get written.live parents children k
-          ∙ ap (option_map (node_at written.live parents children k)) (get-insert_here c.live k v) ∙ ap Some (along k (ap is_some there) v)
-          ∙ sym (changed_here nodes k (λ n. record n { value = v })
-          ∙ ap (option_map (λ (n : Node V). record n { value = v }))
-          (seen_get c.live parents children k ∙ ap (option_map (node_at c.live parents children k)) there)))
-      | inr other ↦ get_alike kept written written_indices parents children q (get-insert_other c.live k v q other) (along q)
-          ∙ sym (changed_other nodes k (λ n. record n { value = v }) q other)
-    ])
-      where
-        along : (q : Key) → IsLive c q → (x : V) → node_at written.live parents children q x ≡ node_at c.live parents children q x
-        along = node_along kept written written_indices parents children (λ q live. written_keys q ∙ live) (λ p. refl)
-            (λ q live. sym (written_keys q) ∙ live) (λ i. refl)
+    written_seen = changed_is nodes (nodes_by written.live parents children) k (λ n. record n { value = v })
+        (λ q other. same_along kept written written_keys (omega arith) parents children (λ i. refl) (λ p. refl) q (get-insert_other c.live k v q other))
+        (get_along kept written written_keys (omega arith) parents children (λ i. refl) (λ p. refl) k (ap is_some there)
+        ∙ ap (option_map (node_at c.live parents children k)) (get-insert_here c.live k v)
+        ∙ sym (ap (option_map (λ (n : Node V). record n { value = v })) (seen_get c.live parents children k ∙ ap (option_map (node_at c.live parents children k)) there)))
 
   -- a copy has the same parents and children
   module _ (is_clone : V → V → Type 0) (copy : Content V) (clones : IsCloneBy is_clone c copy) (capacity : copy.capacity ≡ c.capacity) where
     copied_keys : (q : Key) → map.contains_key copy.live q ≡ map.contains_key c.live q
     copied_keys = clone_live is_clone c copy clones
 
-    copied_indices : HaveIndices copy
-    copied_indices = indices_still kept.indices copy (λ q live. sym (copied_keys q) ∙ live) (omega arith)
-
     pub copied_kept : HoldsNodes copy parents children
-    copied_kept = kept_along kept copy copied_indices parents children (λ q live. copied_keys q ∙ live) (λ p. refl)
-        (λ q live. sym (copied_keys q) ∙ live) (λ i. refl)
+    copied_kept = kept_along kept copy copied_keys (omega arith) parents children (λ i. refl) (λ p. refl)
         (covers_less c.capacity copy.capacity parents children kept.covered (omega arith)) kept.disjoint
 
     pub copied_seen : IsCloneBy (IsNodeClone is_clone) (family c parents children) (family copy parents children)
     copied_seen = record {
-      live = λ q. subst (λ o. IsCloneOf (IsNodeClone is_clone) o (map.get (nodes_by copy.live parents children) q))
-          (sym (seen_get c.live parents children q)) (by q (map.get c.live q) refl (clones.live q));
+      live = λ q. rw (seen_get c.live parents children q, seen_get copy.live parents children q) (by q (map.get c.live q) (map.get copy.live q) refl (clones.live q));
       detached = clones.detached;
       retired = clones.retired;
       next = clones.next;
@@ -313,15 +257,10 @@ module _ {V : Type 0} {c : Content V} {parents : List ℕ} {children : Lists} (k
       stack = clones.stack;
     }
       where
-        at : (q : Key) (v : V) (p : Option V) → IsCloneOf is_clone (Some v) p
-            → IsCloneOf (IsNodeClone is_clone) (Some (node_at c.live parents children q v)) (option_map (node_at c.live parents children q) p)
-        at q v None is = is
-        at q v (Some w) is = (is, refl, refl)
-
-        by : (q : Key) (o : Option V) → map.get c.live q ≡ o → IsCloneOf is_clone o (map.get copy.live q)
-            → IsCloneOf (IsNodeClone is_clone) (option_map (node_at c.live parents children q) o) (map.get (nodes_by copy.live parents children) q)
-        by q None there is = seen_get copy.live parents children q ∙ ap (option_map (node_at copy.live parents children q)) is
-        by q (Some v) there is = subst (IsCloneOf (IsNodeClone is_clone) (Some (node_at c.live parents children q v)))
-            (sym (get_along kept copy copied_indices parents children (λ q live. copied_keys q ∙ live) (λ p. refl)
-            (λ q live. sym (copied_keys q) ∙ live) (λ i. refl) q (ap is_some there)))
-            (at q v (map.get copy.live q) is)
+        by : (q : Key) (o p : Option V) → map.get c.live q ≡ o → IsCloneOf is_clone o p
+            → IsCloneOf (IsNodeClone is_clone) (option_map (node_at c.live parents children q) o) (option_map (node_at copy.live parents children q) p)
+        by q None p there is = ap (option_map (node_at copy.live parents children q)) is
+        by q (Some v) None there is = is
+        by q (Some v) (Some w) there is =
+            let same = node_along kept copy copied_keys (omega arith) parents children (λ i. refl) (λ p. refl) q (ap is_some there) w in
+            (is, ap (λ (n : Node V). n.parent) same, ap (λ (n : Node V). n.children) same)

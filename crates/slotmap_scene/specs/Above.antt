@@ -1,7 +1,9 @@
 -- The keys above a node, up to its root, and the roots.
-use Rattle.std.specs.Prelude.{◌≡◌, ℕ, zero, suc, Option, Some, None, List, [], ◌∷◌, ⊤, cond, is_some}
+use Rattle.std.specs.Prelude.{◌≡◌, ℕ, zero, suc, Option, Some, None, IfSome, List, [], ◌∷◌, ⊤, is_some, not}
+use Rattle.std.specs.FinMap as map
+use Rattle.std.specs.List.{filter}
 use Rattle.slotmap.specs.Words.{Key}
-use Rattle.slotmap_scene.specs.Node.{Node, Nodes}
+use Rattle.slotmap_scene.specs.Node.{Nodes}
 use Rattle.slotmap_scene.specs.Climb.{ClimbsTo, parent_of}
 
 module _ {T : Type 0} where
@@ -20,14 +22,8 @@ module _ {T : Type 0} where
 
   -- there is a root above it, if it is a key
   abbrev pub HasRoot : Nodes T → Option Key → Type 0
-  HasRoot nodes None = ⊤
-  HasRoot nodes (Some k) = (n : ℕ) × ClimbsTo nodes n k
+  HasRoot nodes at = IfSome at (λ k. (n : ℕ) × ClimbsTo nodes n k)
 
--- the keys of those that have no parent
-abbrev pub roots_by : {N : Type 0} → (N → Option Key) → List (Key × N) → List Key
-roots_by parent [] = []
-roots_by parent (e ∷ es) = cond (is_some (parent e.1)) (roots_by parent es) (e.0 ∷ roots_by parent es)
-
--- the keys of the roots among these nodes
-abbrev pub roots_in : {T : Type 0} → List (Key × Node T) → List Key
-roots_in nodes = roots_by (λ node. node.parent) nodes
+-- the keys of the roots, by ascending index
+abbrev pub roots_in : {T : Type 0} → Nodes T → List Key
+roots_in nodes = filter (λ k. not (is_some (parent_of nodes k))) (map.keys nodes)

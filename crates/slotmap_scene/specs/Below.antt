@@ -1,5 +1,5 @@
 -- The keys below a node, in the order of the trees.
-use Rattle.std.specs.Prelude.{◌≡◌, ℕ, zero, suc, ⊤, cond, Option, Some, None, List, [], ◌∷◌, ◌++◌}
+use Rattle.std.specs.Prelude.{◌≡◌, ℕ, zero, suc, cond, Option, Some, None, IfSome, List, [], ◌∷◌, ◌++◌}
 use Rattle.std.specs.FinMap as map
 use Rattle.slotmap.specs.Words.{Key}
 use Rattle.slotmap_keylist.specs.KeyLists.{is_key}
@@ -48,12 +48,7 @@ module _ {T : Type 0} where
     pub goes : GoesDown nodes (children_of nodes k ++ ahead) rest
     pub is_ahead : AreAhead nodes node (suc steps) k ahead
 
-  -- the same, or it has come to its end
-  abbrev pub StandsOrEnds : Nodes T → Key → Option Key → Type 0
-  StandsOrEnds nodes node None = ⊤
-  StandsOrEnds nodes node (Some k) = WalkStands nodes node k
-
-  -- what holds of each walk
+  -- what holds of each walk: it stands at a key, or has come to its end
   pub record WalksBelow (nodes : Nodes T) (node : Key) (at : Option Key) : Type 0 where
     pub scene : IsScene nodes
-    pub stands : StandsOrEnds nodes node at
+    pub stands : IfSome at (WalkStands nodes node)

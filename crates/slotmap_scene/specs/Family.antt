@@ -6,7 +6,7 @@ use Rattle.slotmap_scene.specs.Node.{Node, Nodes}
 use Rattle.slotmap_scene.specs.Climb.{IsTree, parent_of, with_parent}
 use Rattle.slotmap_scene.specs.declared.tree.Side.{Side}
 use Rattle.slotmap_scene.specs.declared.tree.Side.TheVariants.{Before, After}
-use Rattle.slotmap_keylist.specs.Changed.{changed, changed_in}
+use Rattle.slotmap_keylist.specs.Changed.{changed}
 use Rattle.slotmap_keylist.specs.KeyLists.{is_key, same, times, without}
 use Rattle.slotmap_links.specs.Lists.{first_or}
 
@@ -35,7 +35,7 @@ abbrev pub right_behind : SiblingSide
 right_behind = After
 
 -- k on this side of q, which is in front of the others
-abbrev pub beside_first : Side → Key → Key → List Key → List Key
+abbrev pub beside_first : {A : Type 0} → Side → A → A → List A → List A
 beside_first Before k q qs = k ∷ q ∷ qs
 beside_first After k q qs = q ∷ k ∷ qs
 
@@ -43,6 +43,12 @@ beside_first After k q qs = q ∷ k ∷ qs
 abbrev pub placed : Side → Key → Key → List Key → List Key
 placed side s k [] = k ∷ []
 placed side s k (q ∷ qs) = cond (is_key q s) (beside_first side k q qs) (q ∷ placed side s k qs)
+
+-- the same, or before none at the end, and behind none at the front
+abbrev pub put_in_place : Side → Option Key → Key → List Key → List Key
+put_in_place side (Some s) k ks = placed side s k ks
+put_in_place Before None k ks = ks ++ k ∷ []
+put_in_place After None k ks = k ∷ ks
 
 module _ {T : Type 0} where
   -- the children of a node, if there is one
@@ -99,18 +105,14 @@ module _ {T : Type 0} where
   abbrev pub forgets : Key → Node T → Node T
   forgets k node = record node { children = without k node.children }
 
-  -- the node under p, if there is one, has other children
-  abbrev pub with_children_in : Nodes T → Key → Option (Node T) → (List Key → List Key) → Nodes T
-  with_children_in nodes p o f = changed_in nodes p o (λ n. record n { children = f n.children })
-
-  -- k is put behind the children of p
-  abbrev pub with_child : Nodes T → Key → Key → Nodes T
-  with_child nodes p k = with_children_in nodes p (map.get nodes p) (λ ks. ks ++ k ∷ [])
-
   -- the node under a parent, if there is one, has other children
   abbrev pub with_children_of : Nodes T → Option Key → (List Key → List Key) → Nodes T
   with_children_of nodes None f = nodes
-  with_children_of nodes (Some p) f = with_children_in nodes p (map.get nodes p) f
+  with_children_of nodes (Some p) f = changed nodes p (λ n. record n { children = f n.children })
+
+  -- k is put behind the children of p
+  abbrev pub with_child : Nodes T → Key → Key → Nodes T
+  with_child nodes p k = with_children_of nodes (Some p) (λ ks. ks ++ k ∷ [])
 
   -- k is taken from the children of p
   abbrev pub without_child : Nodes T → Option Key → Key → Nodes T
@@ -120,13 +122,16 @@ module _ {T : Type 0} where
   abbrev pub with_sibling : Side → Nodes T → Key → Key → Nodes T
   with_sibling side nodes s k = with_children_of nodes (parent_of nodes s) (placed side s k)
 
+  -- k has this parent, is put among its children, and no other node has it as a child
+  abbrev pub as_placed : Nodes T → Key → Option Key → (List Key → List Key) → Nodes T
+  as_placed nodes k parent put = with_children_of (with_parent (without_child nodes (parent_of nodes k) k) k parent) parent put
+
   -- k is a root, and no node has it as a child
   abbrev pub as_root : Nodes T → Key → Nodes T
-  as_root nodes k = with_parent (without_child nodes (parent_of nodes k) k) k None
+  as_root nodes k = as_placed nodes k None (λ ks. ks)
 
-  -- k is put among the children of p, and no other node has it as a child
   abbrev pub as_child : Nodes T → Key → Key → (List Key → List Key) → Nodes T
-  as_child nodes k p put = with_children_of (with_parent (without_child nodes (parent_of nodes k) k) k (Some p)) (Some p) put
+  as_child nodes k p put = as_placed nodes k (Some p) put
 
   -- k is the last child of p, and no other node has it as a child
   abbrev pub as_last_child : Nodes T → Key → Key → Nodes T

@@ -1,5 +1,5 @@
 -- How a scene is kept: its values in a map, and beside it, by the index of a key, the index of the parent and those of the children.
-use Rattle.std.specs.Prelude.{◌≡◌, ◌⊎◌, ℕ, ◌<◌, ◌≤◌, Option, Some, None, IfSome, List, length, map as list_map, nat_eq}
+use Rattle.std.specs.Prelude.{◌≡◌, ◌⊎◌, ℕ, ◌<◌, ◌≤◌, Option, Some, None, IfSome, List, [], ◌∷◌, ◌++◌, length, map as list_map, nat_eq}
 use Rattle.std.specs.Prelude.{slice_index_or, cond}
 use Rattle.std.specs.List.{filter}
 use Rattle.std.specs.FinMap as map
@@ -24,6 +24,12 @@ parent_index (Some k) = k.index
 abbrev pub put_on : Side → ℕ → ℕ → List ℕ → List ℕ
 put_on Before s k ks = put_before s k ks
 put_on After s k ks = put_behind s k ks
+
+-- the same beside a key, or before none at the end, and behind none at the front
+abbrev pub number_in_place : Side → Option Key → ℕ → List ℕ → List ℕ
+number_in_place side (Some s) k ks = put_on side s.index k ks
+number_in_place Before None k ks = ks ++ k ∷ []
+number_in_place After None k ks = k ∷ ks
 
 -- the keys, of some, that have no parent
 abbrev pub roots_of : List ℕ → List Key → List Key

@@ -1,6 +1,5 @@
 -- All nodes of a scene, level by level: the roots, their children, the children of these, and so on.
 use Rattle.std.specs.Prelude.{◌≡◌, List, [], ◌∷◌, ◌++◌, map as list_map}
-use Rattle.std.specs.FinMap as map
 use Rattle.std.specs.List.{All}
 use Rattle.slotmap.specs.Words.{Key}
 use Rattle.slotmap_scene.specs.Node.{Nodes}
@@ -24,4 +23,4 @@ module _ {T : Type 0} where
 
   -- first the roots, by ascending index, and behind them the children of each node that is listed, in turn
   abbrev pub GoesByLevel : Nodes T → List Key → Type 0
-  GoesByLevel nodes keys = keys ≡ roots_in (map.entries nodes) ++ children_of_each nodes keys
+  GoesByLevel nodes keys = keys ≡ roots_in nodes ++ children_of_each nodes keys

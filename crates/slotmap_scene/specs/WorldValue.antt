@@ -1,5 +1,5 @@
 -- The values on the way from a node up to its root, and what is made of them.
-use Rattle.std.specs.Prelude.{◌≡◌, Option, Some, None, List, [], ◌∷◌, ◌++◌, ⊤, map as list_map}
+use Rattle.std.specs.Prelude.{◌≡◌, Option, Some, None, List, [], ◌∷◌, ◌++◌, ⊤}
 use Rattle.std.specs.Fn.{Mut, Called, Takes}
 use Rattle.std.specs.Borrow.{Bor}
 use Rattle.std.specs.List.{FoldsTo, fold}
@@ -20,24 +20,22 @@ module _ {T : Type 0} where
   abbrev pub IsPathUp : Nodes T → Key → List T → Type 0
   IsPathUp nodes k values = IsPathFrom nodes (Some k) values
 
-  -- v, under p, where p is under what is above it, and so on
-  abbrev pub world_along : (T → T → T) → T → List T → T
-  world_along under v [] = v
-  world_along under v (p ∷ above) = under v (world_along under p above)
+module _ {T W : Type 0} (under : W → W → W) (of : T → W) where
+  -- the transform of v, under that of p, where p is under what is above it, and so on
+  abbrev pub world_along : T → List T → W
+  world_along v [] = of v
+  world_along v (p ∷ above) = under (of v) (world_along p above)
 
-  -- w is the value of k in the coordinates of its root: its own value under that of its parent, and so on up to the root
-  pub record IsWorld (under : T → T → T) (nodes : Nodes T) (k : Key) (w : T) : Type 0 where
+  -- w is the transform of k in the coordinates of its root: that of its own value under that of its parent, and so on up to the root
+  pub record IsWorldOf (nodes : Nodes T) (k : Key) (w : W) : Type 0 where
     pub own : T
     pub above : List T
     pub path : IsPathUp nodes k (own ∷ above)
-    pub made : w ≡ world_along under own above
+    pub made : w ≡ world_along own above
 
--- the same of transforms that the values have: w is that of k in the coordinates of its root
-pub record IsWorldOf {T W : Type 0} (under : W → W → W) (of : T → W) (nodes : Nodes T) (k : Key) (w : W) : Type 0 where
-  pub own : T
-  pub above : List T
-  pub path : IsPathUp nodes k (own ∷ above)
-  pub made : w ≡ world_along under (of own) (list_map of above)
+-- the same of values that are transforms themselves
+abbrev pub IsWorld : {T : Type 0} → (T → T → T) → Nodes T → Key → T → Type 0
+IsWorld under nodes k w = IsWorldOf under (λ v. v) nodes k w
 
 -- of three in a row, it doesn't matter which two are put together first
 abbrev pub Joins : {W : Type 0} → (W → W → W) → Type 0

@@ -2,7 +2,6 @@
 
 ghost use Rattle.std.specs.Prelude.{◌≡◌, nat_eq};
 ghost use Rattle.std.specs.Iterator.{YieldsFirstBy, item_count};
-ghost use Rattle.std.specs.FinMap as map;
 ghost use Rattle.slotmap_scene.specs.Climb.{parent_of};
 ghost use Rattle.slotmap_scene.specs.Above.{GoesUp, HasRoot, roots_in};
 ghost use Rattle.slotmap_scene.specs.Kept.{parent_at};
@@ -150,7 +149,7 @@ impl<K: Key, T: Drop> Scene<K, T> {
     /// assert_eq!(rt; roots.next(), None);
     /// ```
     pub fn roots(&self) -> Roots<'_, K, T>
-        ensures { result ≡ roots_in (map.entries self.now.live) }
+        ensures { result ≡ roots_in self.now.live }
     {
         Roots {
             nodes: self.nodes.keys(),

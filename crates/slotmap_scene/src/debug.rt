@@ -80,11 +80,11 @@ impl<K: Key, T: fmt::Debug + Drop> Scene<K, T> {
 
     // Goes on from a node that is done: to the next one beside it, or else back to the one above.
     fn go_on<W: fmt::Write>(&self, f: &mut fmt::Formatter<W>, walk: &mut Walk) -> fmt::Result {
-        if let Some(next) = self.nodes.next(walk.at) {
+        if let Some(next) = self.next_sibling(outer(walk.at)) {
             write_between(f, walk.depth)?;
-            walk.at = next;
+            walk.at = inner(next);
             walk.is_done = false;
-            return self.write_node(f, next);
+            return self.write_node(f, walk.at);
         }
         if let Some(parent) = self.parent_key(walk.at) {
             walk.depth = walk.depth.wrapping_sub(1);

@@ -1,6 +1,6 @@
 //! The nodes under their keys. A clause sees each with the keys of its parent and of its children.
 
-ghost use Rattle.std.specs.Prelude.{◌≡◌, ◌≢◌, ◌<◌, ◌≤◌, ◌+◌, ◌++◌, ◌∷◌, ◌↔◌, [], Some, None, IfOk, IfErr, IsOk, IsTrue, OnErr, List, true, map as list_map, option_copied, option_map};
+ghost use Rattle.std.specs.Prelude.{◌≡◌, ◌≢◌, ◌<◌, ◌≤◌, ◌+◌, ◌++◌, ◌∷◌, ◌↔◌, [], Some, None, IfOk, IfErr, IsOk, IsSome, IsTrue, OnErr, List, true, map as list_map, option_copied, option_map};
 ghost use Rattle.std.specs.FinMap as map;
 ghost use Rattle.std.specs.Borrow.{sem};
 ghost use Rattle.std.specs.Option.{option_copied_mut};
@@ -9,13 +9,13 @@ ghost use Rattle.slotmap_keylist.specs.KeyLists.{last_or, times};
 ghost use Rattle.slotmap_links.specs.Lists.{first_or};
 ghost use Rattle.slotmap_scene.specs.Above.{roots_in};
 ghost use Rattle.slotmap_scene.specs.Climb.{has_node, lacks_node, parent_of, with_parent};
-ghost use Rattle.slotmap_scene.specs.Family.{behind, child, children_of, in_front, value_of};
+ghost use Rattle.slotmap_scene.specs.Family.{IsScene, behind, child, children_of, in_front, siblings_of, value_of};
 ghost use Rattle.slotmap_scene.specs.Kept.{IsParent, owner_of, roots_of};
 ghost use Rattle.slotmap_scene.specs.Node.{key_and_value};
 ghost use Rattle.slotmap_scene.specs.Refusals.{RefusesNode};
 
 use crate::children::ChildKeys;
-use crate::links::{NOBODY, cover, index_of, parent_index};
+use crate::links::{NOBODY, cover, index_of, key_of, parent_index, parent_number};
 use slotmap::{DefaultKey, InsertError, Key, ReserveError, basic};
 use slotmap_bounded::BoundedMap;
 use slotmap_links::Links;
@@ -136,7 +136,7 @@ impl<T: Drop> Nodes<T> {
         requires { has_node self.now.live node }
         ensures { result ≡ parent_of self.now.live node }
     {
-        let parent = self.parents[index_of(node) as usize];
+        let parent = parent_number(&self.parents, node);
         if parent == NOBODY {
             return None;
         }
@@ -159,7 +159,7 @@ impl<T: Drop> Nodes<T> {
 
     // The indices of the parents, by which the roots are found.
     pub fn parents(&self) -> &[u32]
-        ensures { roots_of result.now (map.keys self.now.live) ≡ roots_in (map.entries self.now.live) }
+        ensures { roots_of result.now (map.keys self.now.live) ≡ roots_in self.now.live }
     {
         &self.parents
     }
@@ -189,36 +189,32 @@ impl<T: Drop> Nodes<T> {
     pub fn first(&self, node: DefaultKey) -> Option<DefaultKey>
         ensures { result ≡ first_or (children_of self.now.live node) None }
     {
-        let index = self.children.first(self.owner(node))?;
-        Some(self.values.live_key(index))
+        key_of(&self.values, self.children.first(self.owner(node)))
     }
 
     // The last child of a node.
     pub fn last(&self, node: DefaultKey) -> Option<DefaultKey>
         ensures { result ≡ last_or (children_of self.now.live node) None }
     {
-        let index = self.children.last(self.owner(node))?;
-        Some(self.values.live_key(index))
+        key_of(&self.values, self.children.last(self.owner(node)))
     }
 
     // The sibling behind a child.
     pub fn next(&self, node: DefaultKey) -> Option<DefaultKey>
-        ensures { (p : KeyOf) → 0 < times node (children_of self.now.live p) → result ≡ behind node (children_of self.now.live p) }
+        requires scene { IsScene self.now.live }
+        requires child { IsSome (parent_of self.now.live node) }
+        ensures { result ≡ behind node (siblings_of self.now.live node) }
     {
-        if !self.values.contains_key(node) {
-            return None;
-        }
-        self.values.key_at(self.children.next(index_of(node))?)
+        key_of(&self.values, self.children.next(index_of(node)))
     }
 
     // The sibling in front of a child.
     pub fn prev(&self, node: DefaultKey) -> Option<DefaultKey>
-        ensures { (p : KeyOf) → 0 < times node (children_of self.now.live p) → result ≡ in_front None node (children_of self.now.live p) }
+        requires scene { IsScene self.now.live }
+        requires child { IsSome (parent_of self.now.live node) }
+        ensures { result ≡ in_front None node (siblings_of self.now.live node) }
     {
-        if !self.values.contains_key(node) {
-            return None;
-        }
-        self.values.key_at(self.children.prev(index_of(node))?)
+        key_of(&self.values, self.children.prev(index_of(node)))
     }
 
     // Adds a node with this parent and no children. It is in no list.

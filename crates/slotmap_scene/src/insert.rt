@@ -38,9 +38,7 @@ impl<K: Key, T: Drop> Scene<K, T> {
         let Some(parent) = self.parent_key(sibling) else {
             return Err(AddError::GoneSibling(value));
         };
-        let key = self.nodes.insert(value, Some(parent))?;
-        self.nodes.attach_beside(key, side, sibling, parent);
-        Ok(key)
+        Ok(self.nodes.add(value, parent, side, Some(sibling))?)
     }
 
     /// Adds a node with no children right before another one, among the children of its parent, and

@@ -1,7 +1,6 @@
 //! The transforms of all nodes in the coordinates of their roots, in one pass from the roots down.
 
 ghost use Rattle.std.specs.Prelude.{◌≡◌, ◌<◌, ◌≤◌, ◌++◌, [], IfOk, OnOk};
-ghost use Rattle.std.specs.FinMap as map;
 ghost use Rattle.std.specs.List.{All};
 ghost use Rattle.slotmap.specs.Words.{Key as KeyOf};
 ghost use Rattle.slotmap_keylist.specs.KeyLists.{times};
@@ -20,7 +19,7 @@ impl<K: Key, T: HasTransform + Drop> Scene<K, T> {
     // Lists each root, with its own transform.
     fn push_roots(&self, all: &mut Vec<(K, T::Transform)>) -> Result<(), AllocError>
         requires { all.old.items ≡ [] }
-        ensures keys { OnOk result (keys_of_pairs K.data_of all.new.items ≡ roots_in (map.entries self.now.live)) }
+        ensures keys { OnOk result (keys_of_pairs K.data_of all.new.items ≡ roots_in self.now.live) }
         ensures each { OnOk result (AreWorlds K.data_of T.Transform.under T.transform_of self.now.live all.new.items) }
     {
         for root in self.roots() {

@@ -1,14 +1,16 @@
 //! What is kept beside the values of the nodes, by the indices of their keys: the parents and the
 //! children.
 
-ghost use Rattle.std.specs.Prelude.{◌≡◌, ◌<◌, ◌≤◌, ◌++◌, ◌∷◌, [], IsOk, OnOk, length};
+ghost use Rattle.std.specs.Prelude.{◌≡◌, ◌<◌, ◌≤◌, IfSome, IsOk, OnOk, length, option_map};
 ghost use Rattle.slotmap.specs.Words.{most};
+ghost use Rattle.slotmap_bounded.specs.Indices.{HasKey, HaveIndices, key_at};
 ghost use Rattle.slotmap_links.specs.Lists.{AreDisjoint, IsFree, IsIn, list_of, with_list, without};
-ghost use Rattle.slotmap_scene.specs.Kept.{AreCovered, HoldsMore, put_on, parent_index};
 ghost use Rattle.slotmap_links.specs.Lists.{CoversMore};
+ghost use Rattle.slotmap_scene.specs.Kept.{AreCovered, HoldsMore, number_in_place, parent_at, parent_index};
 
 use crate::tree::Side;
 use slotmap::{DefaultKey, Key};
+use slotmap_bounded::BoundedMap;
 use slotmap_links::Links;
 use std::alloc::AllocError;
 
@@ -30,6 +32,29 @@ pub(crate) fn parent_index(parent: Option<DefaultKey>) -> u32
         Some(parent) => index_of(parent),
         None => NOBODY,
     }
+}
+
+// The index of the parent of a node, or that of none.
+#[inline(always)]
+pub(crate) fn parent_number(parents: &[u32], node: DefaultKey) -> u32
+    requires { node.index < length parents.now }
+    ensures { result ≡ parent_at parents.now node.index }
+{
+    parents[index_of(node) as usize]
+}
+
+// The key of the node with an index, if there is one.
+#[inline(always)]
+pub(crate) fn key_of<T: Drop>(
+    values: &BoundedMap<DefaultKey, T>,
+    index: Option<u32>,
+) -> Option<DefaultKey>
+    requires indices { HaveIndices values.now }
+    requires there { IfSome index (HasKey values.now) }
+    ensures { result ≡ option_map (key_at values.now.live) index }
+{
+    let index = index?;
+    Some(values.live_key(index))
 }
 
 // Makes a place for the children of each index up to this one.
@@ -75,46 +100,32 @@ pub(crate) fn cover(
     cover_children(children, index)
 }
 
-// Puts a node in front of the children of a parent.
-pub(crate) fn put_first(children: &mut Links, parent: DefaultKey, node: DefaultKey)
-    requires parent { parent.index < length children.old.lists }
-    requires free { IsFree children.old node.index }
-    ensures list { children.new ≡ with_list children.old parent.index (node.index ∷ list_of children.old parent.index) }
-    ensures disjoint { AreDisjoint children.new }
-{
-    children.put_first(index_of(parent), index_of(node));
-    let _ = children.members();
-}
-
-// Puts a node behind the children of a parent.
-pub(crate) fn put_last(children: &mut Links, parent: DefaultKey, node: DefaultKey)
-    requires parent { parent.index < length children.old.lists }
-    requires free { IsFree children.old node.index }
-    ensures list { children.new ≡ with_list children.old parent.index (list_of children.old parent.index ++ node.index ∷ []) }
-    ensures disjoint { AreDisjoint children.new }
-{
-    children.put_last(index_of(parent), index_of(node));
-    let _ = children.members();
-}
-
-// Puts a node on this side of a sibling, among the children of a parent.
-pub(crate) fn put_beside(
+// Puts a node at a place among the children of a parent.
+#[inline(always)]
+pub(crate) fn put(
     children: &mut Links,
     parent: DefaultKey,
     side: Side,
-    sibling: DefaultKey,
+    sibling: Option<DefaultKey>,
     node: DefaultKey,
 )
     requires parent { parent.index < length children.old.lists }
-    requires sibling { IsIn children.old parent.index sibling.index }
+    requires sibling { IfSome sibling (λ s. IsIn children.old parent.index s.index) }
     requires free { IsFree children.old node.index }
-    ensures list { children.new ≡ with_list children.old parent.index (put_on side sibling.index node.index (list_of children.old parent.index)) }
+    ensures list { children.new ≡ with_list children.old parent.index (number_in_place side sibling node.index (list_of children.old parent.index)) }
     ensures disjoint { AreDisjoint children.new }
 {
     let owner = index_of(parent);
+    let member = index_of(node);
     match side {
-        Side::Before => children.put_before(owner, index_of(sibling), index_of(node)),
-        Side::After => children.put_behind(owner, index_of(sibling), index_of(node)),
+        Side::Before => match sibling {
+            Some(sibling) => children.put_before(owner, index_of(sibling), member),
+            None => children.put_last(owner, member),
+        },
+        Side::After => match sibling {
+            Some(sibling) => children.put_behind(owner, index_of(sibling), member),
+            None => children.put_first(owner, member),
+        },
     }
     let _ = children.members();
 }

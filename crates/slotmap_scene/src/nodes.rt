@@ -7,6 +7,7 @@ ghost use Rattle.slotmap_scene.specs.Climb.{IsWithin, has_node, lacks_node};
 ghost use Rattle.slotmap_scene.specs.Family.{IsMoved, IsNewChild, IsScene, as_last_child, as_root, child, children_of, forgets, value_of, with_child};
 ghost use Rattle.slotmap_scene.specs.Refusals.{RefusesNode, RefusesChild, RefusesParent};
 
+use crate::tree::Side;
 use crate::{AddError, ReparentError, Scene};
 use slotmap::{InsertError, Key};
 use slotmap_keylist::{inner, outer};
@@ -74,9 +75,7 @@ impl<K: Key, T: Drop> Scene<K, T> {
         if !self.nodes.contains_key(parent) {
             return Err(AddError::Gone(value));
         }
-        let key = self.nodes.insert(value, Some(parent))?;
-        self.nodes.attach(key, parent);
-        Ok(outer(key))
+        Ok(outer(self.nodes.add(value, parent, Side::Before, None)?))
     }
 
     /// Makes a node the last child of another one, with its subtree.
@@ -116,7 +115,7 @@ impl<K: Key, T: Drop> Scene<K, T> {
         }
         let node = inner(node);
         let parent = inner(parent);
-        self.nodes.move_below(node, parent);
+        self.nodes.move_to(node, parent, Side::Before, None);
         Ok(())
     }
 

@@ -130,7 +130,7 @@ impl<K: Key, T: Drop> Scene<K, T> {
         if self.is_below(sibling, parent, node) {
             return Err(MoveError::Cycle);
         }
-        self.nodes.move_beside(node, side, sibling, parent);
+        self.nodes.move_to(node, parent, side, Some(sibling));
         Ok(())
     }
 
@@ -223,7 +223,7 @@ impl<K: Key, T: Drop> Scene<K, T> {
         let Some(parent) = self.parent_key(node) else {
             return false;
         };
-        self.nodes.move_first(node, parent);
+        self.nodes.move_to(node, parent, Side::After, None);
         true
     }
 
@@ -253,7 +253,7 @@ impl<K: Key, T: Drop> Scene<K, T> {
         let Some(parent) = self.parent_key(node) else {
             return false;
         };
-        self.nodes.move_below(node, parent);
+        self.nodes.move_to(node, parent, Side::Before, None);
         true
     }
 }

@@ -1,17 +1,18 @@
 //! The trees of the nodes: a node becomes a child or a root, and a tree is removed.
 
-ghost use Rattle.std.specs.Prelude.{◌≡◌, ◌<◌, ◌≢◌, ◌++◌, ◌∷◌, [], List, Some, None, option_map};
+ghost use Rattle.std.specs.Prelude.{◌≡◌, ◌<◌, ◌≤◌, ◌≢◌, [], List, Some, None, IfErr, IfOk, IfSome, IsOk, OnErr, option_map};
 ghost use Rattle.std.specs.FinMap as map;
-ghost use Rattle.slotmap.specs.Words.{Key as KeyOf, KeepsSpent, Leaves};
+ghost use Rattle.slotmap.specs.Words.{Key as KeyOf, Inserts, IsSpent, Keeps, KeepsSpent, Leaves};
 ghost use Rattle.slotmap_keylist.specs.KeyLists.{times};
 ghost use Rattle.slotmap_scene.specs.Climb.{IsWithin, has_node, lacks_node, parent_of};
-ghost use Rattle.slotmap_scene.specs.Family.{IsMoved, IsScene, as_child, as_last_child, as_root, children_of, forgets, placed, value_of, with_child, with_children_in, without_child};
+ghost use Rattle.slotmap_scene.specs.Family.{IsMoved, IsNewChild, IsScene, as_child, as_root, child, children_of, forgets, put_in_place, value_of, with_children_of, without_child};
+ghost use Rattle.slotmap_scene.specs.Refusals.{RefusesNode};
 
 use crate::family::Nodes;
-use crate::links::{NOBODY, index_of, put_beside, put_first, put_last, take_out};
-use slotmap::DefaultKey;
+use crate::links::{NOBODY, parent_number, put, take_out};
+use slotmap::{DefaultKey, InsertError};
 
-// On which side of a sibling a node is put.
+// On which side of a sibling a node is put. Before none it comes last, and after none it comes first.
 #[derive(Clone, Copy, Debug, Drop)]
 pub(crate) enum Side {
     Before,
@@ -19,43 +20,53 @@ pub(crate) enum Side {
 }
 
 impl<T: Drop> Nodes<T> {
-    // Puts a node that is in no list in front of the children of another one.
-    pub fn attach_first(&mut self, node: DefaultKey, parent: DefaultKey)
-        requires node { has_node self.old.live node }
-        requires parent { has_node self.old.live parent }
-        requires alone { (p : KeyOf) → times node (children_of self.old.live p) ≡ 0 }
-        ensures { self.new ≡ record self.old { live = with_children_in self.old.live parent (map.get self.old.live parent) (λ ks. node ∷ ks) } }
-    {
-        put_first(&mut self.children, parent, node);
-    }
-
-    // Puts a node that is in no list behind the children of another one.
+    // Puts a node that is in no list among the children of a parent.
     #[inline(always)]
-    pub fn attach(&mut self, node: DefaultKey, parent: DefaultKey)
-        requires node { has_node self.old.live node }
-        requires parent { has_node self.old.live parent }
-        requires alone { (p : KeyOf) → times node (children_of self.old.live p) ≡ 0 }
-        ensures { self.new ≡ record self.old { live = with_child self.old.live parent node } }
-    {
-        put_last(&mut self.children, parent, node);
-    }
-
-    // Puts a node that is in no list among the children of a parent, right before a sibling, or right
-    // behind it.
-    pub fn attach_beside(
+    fn attach(
         &mut self,
         node: DefaultKey,
-        side: Side,
-        sibling: DefaultKey,
         parent: DefaultKey,
+        side: Side,
+        sibling: Option<DefaultKey>,
     )
         requires node { has_node self.old.live node }
         requires parent { has_node self.old.live parent }
-        requires sibling { times sibling (children_of self.old.live parent) ≡ 1 }
+        requires sibling { IfSome sibling (λ s. times s (children_of self.old.live parent) ≡ 1) }
         requires alone { (p : KeyOf) → times node (children_of self.old.live p) ≡ 0 }
-        ensures { self.new ≡ record self.old { live = with_children_in self.old.live parent (map.get self.old.live parent) (placed side sibling node) } }
+        ensures { self.new ≡ record self.old { live = with_children_of self.old.live (Some parent) (put_in_place side sibling node) } }
     {
-        put_beside(&mut self.children, parent, side, sibling, node);
+        put(&mut self.children, parent, side, sibling, node);
+    }
+
+    // Adds a node with no children at a place among the children of a parent.
+    #[inline(always)]
+    pub fn add(
+        &mut self,
+        value: T,
+        parent: DefaultKey,
+        side: Side,
+        sibling: Option<DefaultKey>,
+    ) -> Result<DefaultKey, InsertError<T>>
+        requires scene { IsScene self.old.live }
+        requires parent { has_node self.old.live parent }
+        requires sibling { IfSome sibling (λ s. parent_of self.old.live s ≡ Some parent) }
+        ensures adds { IfOk result (λ key. Inserts (record self.old { live = with_children_of self.old.live (Some parent) (put_in_place side sibling key) })
+            key (child (Some parent) value) self.new) }
+        ensures gains { IfOk result (λ key. IsNewChild self.old.live self.new.live key parent value (put_in_place side sibling key (children_of self.old.live parent))) }
+        ensures scene { IsScene self.new.live }
+        ensures fresh { IfOk result (λ key. lacks_node self.old.live key) }
+        ensures unspent { IfOk result (λ key. IsSpent self.old key → ⊥) }
+        ensures stale { KeepsSpent self.old self.new }
+        ensures err { IfErr result (RefusesNode self.old value) }
+        ensures reuses { 0 < map.len self.old.next → IsOk result }
+        ensures room { 0 < self.old.room → IsOk result }
+        ensures capacity { self.old.capacity ≤ self.new.capacity }
+        ensures in_place { 0 < self.old.room → self.new.capacity ≡ self.old.capacity }
+        ensures unchanged { OnErr result (Keeps self.old self.new) }
+    {
+        let key = self.insert(value, Some(parent))?;
+        self.attach(key, parent, side, sibling);
+        Ok(key)
     }
 
     // Takes a node out of the list of its parent, if it has one.
@@ -64,7 +75,7 @@ impl<T: Drop> Nodes<T> {
         requires scene { IsScene self.old.live }
         ensures { self.new ≡ record self.old { live = without_child self.old.live (parent_of self.old.live node) node } }
     {
-        let parent = self.parents[index_of(node) as usize];
+        let parent = parent_number(&self.parents, node);
         if parent != NOBODY {
             take_out(&mut self.children, parent, node);
         }
@@ -84,63 +95,28 @@ impl<T: Drop> Nodes<T> {
         self.set_parent(node, None);
     }
 
-    // Makes a node the last child of another one, which isn't below it.
-    pub fn move_below(&mut self, node: DefaultKey, parent: DefaultKey)
-        requires node { has_node self.old.live node }
-        requires parent { has_node self.old.live parent }
-        requires no_cycle { IsWithin self.old.live parent node → ⊥ }
-        requires scene { IsScene self.old.live }
-        ensures moved { self.new ≡ record self.old { live = as_last_child self.old.live node parent } }
-        ensures trees { IsMoved self.old.live self.new.live node (Some parent) (λ ks. ks ++ node ∷ []) }
-        ensures values { (k : KeyOf) → value_of self.new.live k ≡ value_of self.old.live k }
-        ensures scene { IsScene self.new.live }
-        ensures stale { KeepsSpent self.old self.new }
-    {
-        self.leave(node);
-        self.set_parent(node, Some(parent));
-        self.attach(node, parent);
-    }
-
-    // Makes a node the first child of another one, which isn't below it.
-    pub fn move_first(&mut self, node: DefaultKey, parent: DefaultKey)
-        requires node { has_node self.old.live node }
-        requires parent { has_node self.old.live parent }
-        requires no_cycle { IsWithin self.old.live parent node → ⊥ }
-        requires scene { IsScene self.old.live }
-        ensures moved { self.new ≡ record self.old { live = as_child self.old.live node parent (λ ks. node ∷ ks) } }
-        ensures trees { IsMoved self.old.live self.new.live node (Some parent) (λ ks. node ∷ ks) }
-        ensures values { (k : KeyOf) → value_of self.new.live k ≡ value_of self.old.live k }
-        ensures scene { IsScene self.new.live }
-        ensures stale { KeepsSpent self.old self.new }
-    {
-        self.leave(node);
-        self.set_parent(node, Some(parent));
-        self.attach_first(node, parent);
-    }
-
-    // Puts a node among the children of a parent, which isn't below it, right before another of them, or
-    // right behind it.
-    pub fn move_beside(
+    // Moves a node to a place among the children of a parent, which isn't below it.
+    pub fn move_to(
         &mut self,
         node: DefaultKey,
-        side: Side,
-        sibling: DefaultKey,
         parent: DefaultKey,
+        side: Side,
+        sibling: Option<DefaultKey>,
     )
         requires node { has_node self.old.live node }
-        requires sibling { parent_of self.old.live sibling ≡ Some parent }
-        requires apart { node ≢ sibling }
+        requires parent { has_node self.old.live parent }
+        requires sibling { IfSome sibling (λ s. (parent_of self.old.live s ≡ Some parent) × (node ≢ s)) }
         requires no_cycle { IsWithin self.old.live parent node → ⊥ }
         requires scene { IsScene self.old.live }
-        ensures moved { self.new ≡ record self.old { live = as_child self.old.live node parent (placed side sibling node) } }
-        ensures trees { IsMoved self.old.live self.new.live node (Some parent) (placed side sibling node) }
+        ensures moved { self.new ≡ record self.old { live = as_child self.old.live node parent (put_in_place side sibling node) } }
+        ensures trees { IsMoved self.old.live self.new.live node (Some parent) (put_in_place side sibling node) }
         ensures values { (k : KeyOf) → value_of self.new.live k ≡ value_of self.old.live k }
         ensures scene { IsScene self.new.live }
         ensures stale { KeepsSpent self.old self.new }
     {
         self.leave(node);
         self.set_parent(node, Some(parent));
-        self.attach_beside(node, side, sibling, parent);
+        self.attach(node, parent, side, sibling);
     }
 
     // Removes a node that has no children, and takes it out of the list of its parent.

@@ -1,6 +1,6 @@
-use Rattle.std.proofs.Common.{◌≢◌}
 use Rattle.slotmap_scene.proofs.Common.{arith, has_node, refl, same_keys, sym, zero, ◌∙◌}
-use Rattle.slotmap_scene.proofs.Climbs.{climbing_live, climbing_start, climbing_step, node_there, within_none, within_step}
+use Rattle.slotmap_scene.proofs.KeyLoops.{unlike}
+use Rattle.slotmap_scene.proofs.Climbs.{climbing_live, climbing_start, climbing_step, within_none, within_step}
 use Rattle.slotmap_scene.proofs.Scene.is_within.Goals as goal
 
 pub returns-then-not-contains_key : goal.returns-then-not-contains_key
@@ -23,24 +23,16 @@ returns-then-eq g c =
 
 pub returns-in-None : goal.returns-in-None
 returns-in-None g c =
-    let other : c.loop-step.at ≢ c.inner-other.result = λ same. (let t = (same_keys c.loop-step.at c.inner-other.result).1 same in
-    let f = c.if-eq.ensures in cc) in
-    let there = node_there _ _ (climbing_live _ _ _ _ c.loop-step.invariant.0) in (
+    let other = unlike c.loop-step.at c.inner-other.result refl refl c.if-eq.ensures in (
       λ t. absurd (cc),
-      λ w. absurd
-          (within_none _ _ _ _ c.loop-step.invariant.0 there.0 there.1 _ other
-          (there.2 ∙ sym (rw c.self.view_is at c.in-None.ensures)) c.loop-step.invariant.1 (rw c.inner-other.ensures w.1)),
+      λ w. absurd (within_none _ _ _ _ c.loop-step.invariant.0 _ other c.loop-step.invariant.1 (sym (rw c.self.view_is at c.in-None.ensures)) (rw c.inner-other.ensures w.1)),
     )
 
 pub loop-step-preserved : goal.loop-step-preserved
 loop-step-preserved g c =
-    let other : c.loop-step.at ≢ c.inner-other.result = λ same. (let t = (same_keys c.loop-step.at c.inner-other.result).1 same in
-    let f = c.if-eq.ensures in cc) in
-    let there = node_there _ _ (climbing_live _ _ _ _ c.loop-step.invariant.0) in
-    let up = there.2 ∙ sym (rw c.self.view_is at c.in-Some.ensures) in (
-      climbing_step _ _ _ _ c.loop-step.invariant.0 there.0 there.1 _ up,
-      within_step _ _ _ _ c.loop-step.invariant.0 there.0 there.1 _ _ other up c.loop-step.invariant.1,
-    )
+    let other = unlike c.loop-step.at c.inner-other.result refl refl c.if-eq.ensures in
+    let up = sym (rw c.self.view_is at c.in-Some.ensures) in
+    (climbing_step _ _ _ _ c.loop-step.invariant.0 _ up, within_step _ _ _ _ c.loop-step.invariant.0 _ other c.loop-step.invariant.1 _ up)
 
 pub up-requires : goal.up-requires
 up-requires g c = rw c.self.view_is (climbing_live _ _ _ _ c.loop-step.invariant.0)

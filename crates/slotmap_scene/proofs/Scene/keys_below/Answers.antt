@@ -1,4 +1,4 @@
-use Rattle.slotmap_scene.proofs.WalkingDown.{below_all, below_once, below_only, below_order, walk_begins}
+use Rattle.slotmap_scene.proofs.Descending.{below_all, below_once, below_only, below_order, walk_begins}
 use Rattle.slotmap_scene.proofs.Scene.keys_below.Goals as goal
 
 pub invariant_of-result : goal.invariant_of-result

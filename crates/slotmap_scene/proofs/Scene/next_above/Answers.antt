@@ -1,9 +1,7 @@
 use Rattle.std.proofs.Common.{◌≡◌}
-use Rattle.slotmap_scene.proofs.Common.{Some, arith, sym}
-use Rattle.slotmap_scene.proofs.WalkingDown.{GoesOn, rise_below, rise_beside, rise_end, rise_start, rise_up}
+use Rattle.slotmap_scene.proofs.Common.{arith, sym}
+use Rattle.slotmap_scene.proofs.Descending.{rise_below, rise_beside, rise_end, rise_start, rise_up}
 use Rattle.slotmap_scene.proofs.KeyLoops.{unlike}
-use Rattle.slotmap_scene.proofs.Scene.next_above.Goals.{In-Some}
-use Rattle.slotmap_scene.proofs.Scene.next_above.Given as given
 use Rattle.slotmap_scene.proofs.Scene.next_above.Goals as goal
 
 pub loop-step-init : goal.loop-step-init
@@ -13,16 +11,11 @@ pub returns-then-eq-clause-rest : goal.returns-then-eq-clause-rest
 returns-then-eq-clause-rest g c =
     let here : g.K.Key.data_of c.loop-step.at ≡ g.K.Key.data_of c.args.node = grind arith in (rise_end _ c.requires.walks.scene _ _ _ _ c.loop-step.invariant c.requires.leaf here).1
 
-beside : (g : given.Over) (c : In-Some g)
-    → GoesOn c.args.self.now.live (g.K.Key.data_of c.args.node) (g.K.Key.data_of c.args.key) (Some (g.K.Key.data_of c.in-Some.next))
-beside g c =
-    let other = unlike _ _ c.inner.ensures c.inner-end.ensures c.if-eq.ensures in rise_beside _ c.requires.walks.scene _ _ _ _ c.loop-step.invariant other c.requires.leaf _ (sym c.in-Some.ensures)
-
-pub returns-in-Some-clause-walks : goal.returns-in-Some-clause-walks
-returns-in-Some-clause-walks g c = (beside g c).0
-
-pub returns-in-Some-clause-rest : goal.returns-in-Some-clause-rest
-returns-in-Some-clause-rest g c = (beside g c).1
+pub returns-in-Some : goal.returns-in-Some
+returns-in-Some g c =
+    let other = unlike _ _ c.inner.ensures c.inner-end.ensures c.if-eq.ensures in
+    let goes = rise_beside _ c.requires.walks.scene _ _ _ _ c.loop-step.invariant other c.requires.leaf _ (sym c.in-Some.ensures) in
+    record { walks = goes.0; rest = goes.1 }
 
 pub returns-in_err-at-clause-rest : goal.returns-in_err-at-clause-rest
 returns-in_err-at-clause-rest g c =

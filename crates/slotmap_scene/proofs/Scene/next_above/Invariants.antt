@@ -1,4 +1,4 @@
-use Rattle.slotmap_scene.proofs.WalkingDown.{Rises}
+use Rattle.slotmap_scene.proofs.Descending.{Rises}
 use Rattle.slotmap_scene.proofs.Scene.next_above.Given as goal
 
 abbrev pub invariant-loop-step : goal.invariant-loop-step

@@ -1,5 +1,5 @@
 use Rattle.slotmap_scene.proofs.Common.{arith, refl, ◌∙◌}
-use Rattle.slotmap_scene.proofs.{ByLevel.parent_known, ListedWorlds.world_of_child, ListedWorlds.worlds_pushed, KeyLoops.first_ahead, KeyLoops.passed, Climbs.has_parent}
+use Rattle.slotmap_scene.proofs.{ByLevel.parent_known, Worlds.world_of_child, ListedWorlds.worlds_pushed, KeyLoops.first_ahead, KeyLoops.passed, Climbs.has_parent}
 use Rattle.slotmap_scene.proofs.Scene.push_children.Goals as goal
 
 pub loop-child-init : goal.loop-child-init

@@ -1,5 +1,5 @@
 use Rattle.slotmap_scene.proofs.Common.{All-nil, ap, arith, refl, times, ◌∙◌}
-use Rattle.slotmap_scene.proofs.{ByLevel.listed_root, ListedWorlds.world_of_root, ListedWorlds.worlds_pushed, KeyLoops.first_ahead, KeyLoops.passed}
+use Rattle.slotmap_scene.proofs.{ByLevel.listed_root, Worlds.world_of_root, ListedWorlds.worlds_pushed, KeyLoops.first_ahead, KeyLoops.passed}
 use Rattle.slotmap_scene.proofs.Scene.push_roots.Goals as goal
 
 pub loop-root-init : goal.loop-root-init

@@ -1,10 +1,10 @@
 use Rattle.slotmap_scene.proofs.Common.{ap, arith, get_or-map, length-map, rules, sym, ◌∙◌}
-use Rattle.slotmap_scene.proofs.ByLevel.{going_live, going_long, going_on, going_once, levels_all, levels_done}
+use Rattle.slotmap_scene.proofs.ByLevel.{going_on, levels_all, levels_done, levels_live, levels_long, levels_once}
 use Rattle.slotmap_scene.proofs.ListedWorlds.{worlds_composed}
 use Rattle.slotmap_scene.proofs.Scene.world_transforms.Goals as goal
 
 pub loop-at-smaller : goal.loop-at-smaller
-loop-at-smaller g c = grind (arith, going_long, length-map, c.self.invariant, c.loop-at.invariant.levels)
+loop-at-smaller g c = grind (arith, levels_long, length-map, c.self.invariant, c.loop-at.invariant.levels)
 
 pub loop-at-preserved : goal.loop-at-preserved
 loop-at-preserved g c =
@@ -24,7 +24,7 @@ returns g c =
       each = search rules;
       composed = λ joins. worlds_composed g.K.Key.data_of _ g.T.HasTransform.transform_of _ _ joins c.loop-at.invariant.each;
       order = levels_done _ _ _ c.loop-at.invariant.levels (omega arith);
-      all = levels_all _ scene _ (levels_done _ _ _ c.loop-at.invariant.levels (omega arith));
-      only = going_live _ scene _ _ c.loop-at.invariant.levels;
-      once = going_once _ scene _ _ c.loop-at.invariant.levels;
+      all = levels_all _ scene _ _ c.loop-at.invariant.levels (omega arith);
+      only = levels_live _ scene _ _ c.loop-at.invariant.levels;
+      once = levels_once _ scene _ _ c.loop-at.invariant.levels;
     }

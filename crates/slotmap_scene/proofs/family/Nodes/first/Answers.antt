@@ -1,25 +1,13 @@
-use Rattle.slotmap_scene.proofs.Common.{Content, Node, None, Some, ap, arith, first_in, first_or, key_at, list_of, option_map, owner_of, sym, ◌∙◌}
-use Rattle.slotmap_scene.proofs.Families.{first_seen, indices_at, key_found, owner_below}
+use Rattle.slotmap_scene.proofs.Common.{arith, first_in, sym, ◌∙◌}
+use Rattle.slotmap_scene.proofs.Families.{has_if, indices_at, owner_below, first_seen}
 use Rattle.slotmap_scene.proofs.family.Nodes.first.Goals as goal
 
 pub first-requires : goal.first-requires
 first-requires g c = rw (c.owner.ensures, ← c.self.view_is) (owner_below c.self.invariant c.args.node)
 
-pub returns-in_err-index : goal.returns-in_err-index
-returns-in_err-index g c =
-    grind (arith, option_map (key_at c.self.inside.values.live), first_seen c.self.invariant c.args.node, c.from_residual.ensures, c.first.ensures, c.owner.ensures, c.self.invariant)
-
-pub live_key-requires : goal.live_key-requires
-live_key-requires g c = (indices_at c.self.invariant c.owner.result).have c.in_ok-index.index
-    (first_in (list_of c.self.inside.children c.owner.result) c.in_ok-index.index (sym c.first.ensures ∙ c.in_ok-index.was))
+pub key_of-requires : goal.key_of-requires
+key_of-requires g c =
+    record { indices = c.self.invariant.indices; there = has_if c.self.invariant (indices_at c.self.invariant c.owner.result) _ (λ i at. first_in _ i (sym c.first.ensures ∙ at)) }
 
 pub returns : goal.returns
-returns g c =
-    let has = (indices_at c.self.invariant c.owner.result).have c.in_ok-index.index
-    (first_in (list_of c.self.inside.children c.owner.result) c.in_ok-index.index (sym c.first.ensures ∙ c.in_ok-index.was)) in
-    rw (← c.self.view_is) (
-    key_found c.self.invariant c.first.result c.in_ok-index.index c.in_ok-index.was has (Some c.live_key.result)
-    c.live_key.ensures.live c.live_key.ensures.index tt
-    ∙ ap (option_map (key_at c.self.inside.values.live)) (c.first.ensures ∙ ap (λ p. first_or (list_of c.self.inside.children p) None)
-    (c.owner.ensures ∙ ap (λ (s : Content (Node g.row.T.Denot)). owner_of s.live c.args.node) (sym c.self.view_is)))
-    ∙ first_seen c.self.invariant c.args.node)
+returns g c = grind (arith, first_seen c.self.invariant c.args.node, c.key_of.ensures, c.first.ensures, c.owner.ensures, c.self.invariant)

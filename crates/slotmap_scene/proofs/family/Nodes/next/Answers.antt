@@ -1,24 +1,17 @@
-use Rattle.std.proofs.Common.{◌≡◌}
-use Rattle.slotmap_scene.proofs.Common.{after_inside, ap, key_at, list_of, number_after, option_map, sym, ◌∙◌}
-use Rattle.slotmap_scene.proofs.Families.{child_in, indices_at, key_found, next_seen}
+use Rattle.slotmap_scene.proofs.Common.{after_inside, behind, number_after, ◌∙◌}
+use Rattle.slotmap_scene.proofs.{Placing.key_after, Placing.beside, Placing.member_there}
 use Rattle.slotmap_scene.proofs.family.Nodes.next.Goals as goal
 
-pub returns-then-not-contains_key : goal.returns-then-not-contains_key
-returns-then-not-contains_key g c =
-    rw (← c.self.view_is) (λ p more. absurd (let live = (child_in c.self.invariant p c.args.node more).1 in let none = (sym c.contains_key.ensures.value ∙ c.if-not-contains_key.true) in cc))
+pub next-requires : goal.next-requires
+next-requires g c = rw c.index_of.ensures (member_there c.self.invariant c.self.view_is c.args.node c.requires.scene c.requires.child)
 
-pub returns-in_err-next : goal.returns-in_err-next
-returns-in_err-next g c = rw (c.from_residual.ensures, ← c.self.view_is) (λ p more.
-    ap (option_map (key_at c.self.inside.values.live))
-    (sym c.in_err-next.was ∙ (rw c.index_of.ensures at c.next.ensures) p.index (child_in c.self.invariant p c.args.node more).2)
-    ∙ next_seen c.self.invariant p c.args.node more)
+pub key_of-requires : goal.key_of-requires
+key_of-requires g c = record {
+  indices = c.self.invariant.indices;
+  there = (beside c.self.invariant c.self.view_is c.args.node c.requires.scene c.requires.child number_after behind (key_after c.self.invariant.indices c.args.node)
+      (after_inside c.args.node.index) _ (rw c.index_of.ensures at c.next.ensures)).0;
+}
 
 pub returns : goal.returns
-returns g c = rw (← c.self.view_is) (λ p more.
-    let number : c.next.result ≡ number_after c.args.node.index
-    (list_of c.self.inside.children p.index) = (rw c.index_of.ensures at c.next.ensures) p.index (child_in c.self.invariant p c.args.node more).2 in
-    let has = (indices_at c.self.invariant p.index).have c.in_ok-next.field-0
-    (after_inside c.args.node.index c.in_ok-next.field-0 (list_of c.self.inside.children p.index) (sym number ∙ c.in_ok-next.was)) in
-    key_found c.self.invariant c.next.result c.in_ok-next.field-0 c.in_ok-next.was has c.key_at.result c.key_at.ensures.live c.key_at.ensures.index
-    c.key_at.ensures.none
-    ∙ ap (option_map (key_at c.self.inside.values.live)) number ∙ next_seen c.self.invariant p c.args.node more)
+returns g c = c.key_of.ensures ∙ (beside c.self.invariant c.self.view_is c.args.node c.requires.scene c.requires.child number_after behind (key_after c.self.invariant.indices c.args.node)
+    (after_inside c.args.node.index) _ (rw c.index_of.ensures at c.next.ensures)).1

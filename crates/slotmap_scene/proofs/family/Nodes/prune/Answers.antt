@@ -3,17 +3,14 @@ use Rattle.slotmap_scene.proofs.{Moved.leaves_filled, Moved.left_of, Removals.ch
 use Rattle.slotmap_scene.proofs.family.Nodes.prune.Goals as goal
 
 pub remove-requires : goal.remove-requires
-remove-requires g c = record {
-  there = rw (c.leave.ensures) (left_of c.requires.scene c.args.node is_some (λ b. b) refl (λ n. refl) c.args.node ∙ c.requires.there);
-  leaf = rw (c.leave.ensures)
-      (left_of c.requires.scene c.args.node children_in (without c.args.node) refl (λ n. refl) c.args.node
-      ∙ ap (without c.args.node) c.requires.leaf);
-  alone = λ q. (let k = c.args.node in
-      rw (c.leave.ensures) (ap (times k) (left_of c.requires.scene k children_in (without k) refl (λ n. refl) q)
-      ∙ times_gone k (children_of c.args.self.now.live q)));
-  childless = λ q is. childless c.args.self.now.live c.requires.scene c.args.node c.requires.there c.requires.leaf q
-      (sym (left_of c.requires.scene c.args.node parent_in (λ o. o) refl (λ n. refl) q) ∙ (rw c.leave.ensures at is));
-}
+remove-requires g c =
+    let k = c.args.node in
+    rw (c.leave.ensures) (record {
+      there = left_of c.requires.scene k is_some (λ b. b) refl (λ n. refl) k ∙ c.requires.there;
+      leaf = left_of c.requires.scene k children_in (without k) refl (λ n. refl) k ∙ ap (without k) c.requires.leaf;
+      alone = λ q. ap (times k) (left_of c.requires.scene k children_in (without k) refl (λ n. refl) q) ∙ times_gone k (children_of c.args.self.now.live q);
+      childless = λ q is. childless c.args.self.now.live c.requires.scene k c.requires.there c.requires.leaf q (sym (left_of c.requires.scene k parent_in (λ o. o) refl (λ n. refl) q) ∙ is);
+    })
 
 pub returns : goal.returns
 returns g c = record {

@@ -1,5 +1,5 @@
-use Rattle.std.proofs.Common.{◌≢◌}
-use Rattle.slotmap_scene.proofs.Common.{arith, children_of, leaves_in_turn, leaves_none, none_last, rules, same_keys, sym, ◌∙◌}
+use Rattle.slotmap_scene.proofs.Common.{arith, children_of, leaves_in_turn, leaves_none, none_last, refl, rules, same_keys, sym, ◌∙◌}
+use Rattle.slotmap_scene.proofs.KeyLoops.{unlike}
 use Rattle.slotmap_scene.proofs.Removals.{all_removed, down_smaller, goes_down, goes_up, others_left, pruned_scene, removing_start, up_smaller}
 use Rattle.slotmap_scene.proofs.family.Nodes.remove_tree.Goals as goal
 
@@ -22,18 +22,18 @@ pub prune-value-requires-clause-leaf : goal.prune-value-requires-clause-leaf
 prune-value-requires-clause-leaf g c = none_last (children_of c.loop-child.self.live c.loop-child.at) (sym c.in-None.ensures)
 
 pub returns-then-eq : goal.returns-then-eq
-returns-then-eq g c = record {
-  removed = rw (c.prune-value.ensures.live)
-      (all_removed _ _ _ _ c.loop-child.invariant.removing (none_last _ (sym c.in-None.ensures))
-      ((same_keys c.loop-child.at c.args.root).0 (sym c.if-eq.ensures)));
-  others = rw (c.prune-value.ensures.live)
-      (others_left _ _ _ _ c.loop-child.invariant.removing (none_last _ (sym c.in-None.ensures))
-      ((same_keys c.loop-child.at c.args.root).0 (sym c.if-eq.ensures)));
-  scene = rw (c.prune-value.ensures.live) (pruned_scene _ c.loop-child.invariant.removing.scene c.loop-child.at c.loop-child.invariant.removing.here (none_last _ (sym c.in-None.ensures)));
-  leaves = leaves_in_turn _ _ _ c.loop-child.invariant.leaves c.prune-value.ensures.leaves;
-  capacity = c.prune-value.ensures.capacity ∙ c.loop-child.invariant.capacity;
-  value = search rules;
-}
+returns-then-eq g c =
+    let removing = c.loop-child.invariant.removing in
+    let leaf = none_last _ (sym c.in-None.ensures) in
+    let end = (same_keys c.loop-child.at c.args.root).0 (sym c.if-eq.ensures) in
+    record {
+      removed = rw (c.prune-value.ensures.live) (all_removed _ _ _ _ removing leaf end);
+      others = rw (c.prune-value.ensures.live) (others_left _ _ _ _ removing leaf end);
+      scene = rw (c.prune-value.ensures.live) (pruned_scene _ removing.scene c.loop-child.at removing.here leaf);
+      leaves = leaves_in_turn _ _ _ c.loop-child.invariant.leaves c.prune-value.ensures.leaves;
+      capacity = c.prune-value.ensures.capacity ∙ c.loop-child.invariant.capacity;
+      value = search rules;
+    }
 
 pub loop-child-smaller : goal.loop-child-smaller
 loop-child-smaller g c = rw (c.prune-value.ensures.live)
@@ -42,7 +42,7 @@ loop-child-smaller g c = rw (c.prune-value.ensures.live)
 
 pub loop-child-preserved : goal.loop-child-preserved
 loop-child-preserved g c =
-    let below : c.loop-child.at ≢ c.args.root = λ same. (let t = (same_keys c.loop-child.at c.args.root).1 same in let f = c.if-eq.ensures in cc) in
+    let below = unlike c.loop-child.at c.args.root refl refl c.if-eq.ensures in
     record {
       removing = rw (c.prune-value.ensures.live)
           (goes_up _ _ _ _ c.loop-child.invariant.removing (none_last _ (sym c.in-None.ensures)) c.in-Some-parent.parent
