@@ -1,7 +1,6 @@
 -- What callers of a scheduler cite: which jobs a loop over `pop_due` took out, which `retain` left, and that none is due sooner.
 use Rattle.std.proofs.Common.{◌++◌, ◌<◌, ◌∷◌, ◌≡◌, ◌≤◌}
-use Rattle.slotmap_scheduler.proofs.Common.{All, All-cons, All-head, All-nil, All-tail, IsByTime, Key, Waiting, [], ap, arith, cond, due_at, false, in_turn, left_at, nat_lt, nat_tests, refl, sym}
-use Rattle.slotmap_scheduler.proofs.Common.{true, ℕ, ◌∙◌}
+use Rattle.slotmap_scheduler.proofs.Common.{All, All-cons, All-head, All-nil, All-tail, IsByTime, Key, Waiting, [], ap, arith, due_at, in_turn, left_at, nat_tests, refl, sym, ℕ, ◌∙◌}
 pub use Rattle.slotmap_scheduler.proofs.Retained.{retained_jobs, retained_where}
 pub use Rattle.slotmap_scheduler.proofs.Visiting.{callable_on_jobs}
 
@@ -18,10 +17,7 @@ module _ {T : Type 0} (now : ℕ) where
 
   all_due : (ws : Waiting T) → All IsDue (due_at now ws)
   all_due [] = All-nil IsDue
-  all_due (e ∷ ws) = elim (nat_lt now e.1.0) as (λ b. nat_lt now e.1.0 ≡ b → All IsDue (cond b [] (e ∷ due_at now ws))) [
-    | true ↦ λ later. All-nil IsDue
-    | false ↦ λ due. All-cons IsDue e (due_at now ws) (grind (arith, nat_tests)) (all_due ws)
-  ] refl
+  all_due (e ∷ ws) = grind (arith, nat_tests, All-nil IsDue, All-cons IsDue, all_due ws)
 
   none_taken : (ws : Waiting T) → All IsLater ws → left_at now ws ≡ ws
   none_taken [] later = refl
@@ -38,10 +34,7 @@ module _ {T : Type 0} (time : ℕ) where
 
   pub none_sooner : (x : Key × (ℕ × T)) (es : Waiting T) → time ≤ x.1.0 → All (λ e. time ≤ e.1.0) es → All (λ e. time ≤ e.1.0) (in_turn x es)
   none_sooner x [] low all = All-cons NoSooner x [] low all
-  none_sooner x (e ∷ es) low all = elim (nat_lt x.1.0 e.1.0) as (λ b. All NoSooner (cond b (x ∷ e ∷ es) (e ∷ in_turn x es))) [
-    | true ↦ All-cons NoSooner x (e ∷ es) low all
-    | false ↦ All-cons NoSooner e (in_turn x es) (All-head NoSooner e es all) (none_sooner x es low (All-tail NoSooner e es all))
-  ]
+  none_sooner x (e ∷ es) low all = grind (arith, All-cons NoSooner, All-head NoSooner e es all, none_sooner x es low (All-tail NoSooner e es all))
 
 -- of two jobs that are taken out one after the other, the first is due no later
 pub first_no_later : {T : Type 0} (a b : Key × (ℕ × T)) (es fs gs : Waiting T) → IsByTime es → es ≡ a ∷ fs → fs ≡ b ∷ gs → a.1.0 ≤ b.1.0

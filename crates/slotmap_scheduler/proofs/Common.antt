@@ -1,5 +1,5 @@
 -- What the proofs of this crate cite of std, of the crates below and of its own definitions, from one place. Declares nothing.
-pub use Rattle.std.proofs.Common.{Bool, Bor, Err, IsOk, List, None, Option, Result, Some, T, [], ap, append-nil, append_assoc, arith, cond, false, get_or, inl, inr, is_some, length, option_copied}
+pub use Rattle.std.proofs.Common.{Bool, Bor, Err, IsOk, List, None, Option, Result, Some, T, [], ap, append-nil, append_assoc, arith, cond, false, get_or, is_some, length, option_copied}
 pub use Rattle.std.proofs.Common.{refl, rules, set as list_set, subst, suc, sym, true, vec_len, zero, ℕ, ◌∙◌}
 pub use Rattle.std.proofs.lemmas.Bool.Decides.{nat_tests}
 pub use Rattle.std.proofs.lemmas.Cmp.{on_total, then_total}
@@ -19,13 +19,13 @@ pub use Rattle.std.specs.Fn.{Called, Mut, Takes}
 pub use Rattle.std.specs.List.{All, AllByRecursion, AllZip, FoldsTo, SwappedAt, filter, filter_map, slice_get}
 pub use Rattle.std.specs.Option.{option_and_then}
 pub use Rattle.std.specs.Ordering.{eq_by_cmp, is_lt, nat_cmp}
-pub use Rattle.std.specs.Prelude.{map as list_map, min, nat_eq, nat_lt, not, option_map, unwrap_or, vec_capacity}
+pub use Rattle.std.specs.Prelude.{map as list_map, min, nat_eq, nat_lt, not, option_map, vec_capacity}
 pub use Rattle.std.specs.declared.cmp.Ordering.{Ordering}
 pub use Rattle.std.specs.declared.cmp.Ordering.TheVariants.{Less}
 pub use Rattle.std.specs.declared.vec.Vec.{Vec}
 pub use Rattle.slotmap.proofs.Callers.{alike_or_apart, alone_spent, clone_len, contains-keys_of, exact_keys, get-insert_here, get-insert_other, get_after_insert, get_after_remove, inserted_fresh}
 pub use Rattle.slotmap.proofs.Callers.{inserted_len, inserted_not_spent, itself, keys, keys_total, leaves_by_removal, leaves_in_turn, leaves_none, left_spent, len-keys_of, len_removed}
-pub use Rattle.slotmap.proofs.Callers.{live-insert_still, live-remove_other, none_of, removed_len, removed_spent, same_lent, same_or_other, same_unlent, some_entry, spent_alone, spent_inserts}
+pub use Rattle.slotmap.proofs.Callers.{live-insert_still, none_of, removed_len, removed_spent, same_lent, same_or_other, same_unlent, some_entry, spent_alone, spent_inserts}
 pub use Rattle.slotmap.proofs.Callers.{spent_leaves, spent_removes, tied, untied, vacant_at_most}
 pub use Rattle.slotmap.specs.Words.{AreClones, Content, Inserts, IsCloneBy, IsCloneOf, IsContent, IsCopy, IsLive, IsNew, IsSpent, KeepsSpent, Key, Leaves, MakesRoom, Removes, index_after, key_cmp}
 pub use Rattle.slotmap.specs.Words.{used, with_value, without_values}
@@ -40,7 +40,7 @@ pub use Rattle.slotmap_scheduler.specs.Heap.{IsAbove, IsFirstBelow, IsHeap, IsHe
 pub use Rattle.slotmap_scheduler.specs.Heap.{no_entry, spot_of, timed, turn_at, unplaced, up}
 pub use Rattle.slotmap_scheduler.specs.Inverse.{IsInverse}
 pub use Rattle.slotmap_scheduler.specs.Listed.{Due, IsDueClone, ListsJobs, TakesDue, due_at, left_at, shown}
-pub use Rattle.slotmap_scheduler.specs.Retain.{CallableOnJobs, CallsForJob, JobVisit, RetainsJobs, SeesEachOnce, after_visit, after_visits, jobs_seen}
+pub use Rattle.slotmap_scheduler.specs.Retain.{CallableOnJobs, CallsForJob, JobVisit, RetainsJobs, after_visit, after_visits, jobs_seen}
 pub use Rattle.slotmap_scheduler.specs.Schedule.{IsByTime, IsOnce, Schedule, Waiting, in_turn, job_of, with_job, without}
 pub use Rattle.slotmap_scheduler.specs.Timed.{InOrder, Timed, Turn, as_seen, turn_cmp, waiting_of}
 pub use Rattle.slotmap_scheduler.specs.declared.Job.{Job}

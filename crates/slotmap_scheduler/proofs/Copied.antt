@@ -1,10 +1,10 @@
 -- A copy of a scheduler: the same handles, times and places, each with a clone of its job.
 use Rattle.std.proofs.Common.{◌∷◌, ◌≡◌, ◌≤◌}
 use Rattle.slotmap_scheduler.proofs.Common.{AllZip, AreClones, Content, Entry, InOrder, IsCloneBy, IsCloneOf, IsContent, IsDueClone, IsInverse, IsSchedule, Job, Key, List, None, Option, Some, Timed}
-use Rattle.slotmap_scheduler.proofs.Common.{Turn, Vec, [], ap, arith, as_seen, by_turn, clone_len, content-mapped, heap_entry, len-mapped, list_map, mapped-clones, option_map, refl, spot_of, sym}
-use Rattle.slotmap_scheduler.proofs.Common.{timed, true, unplaced, vec_capacity, vec_len, waiting_of, ℕ, ◌∙◌}
-use Rattle.slotmap_scheduler.proofs.Inverse.{alike}
-use Rattle.slotmap_scheduler.proofs.Sorted.{entries_alike, len_alike, none_there}
+use Rattle.slotmap_scheduler.proofs.Common.{Turn, Vec, [], arith, as_seen, by_turn, clone_len, content-mapped, len-mapped, list_map, mapped-clones, refl, spot_of, sym, timed, true, unplaced}
+use Rattle.slotmap_scheduler.proofs.Common.{vec_capacity, vec_len, waiting_of, ℕ, ◌∙◌}
+use Rattle.std.proofs.lemmas.Slice.Zip.{AllZip-long}
+use Rattle.slotmap_scheduler.proofs.Sorted.{entries_alike, none_there}
 use Rattle.slotmap_scheduler.proofs.Timed.{exact_turns, inverse, turns_total}
 use Rattle.std.specs.FinMap as map
 
@@ -27,7 +27,7 @@ module _ {A : Type 0} (is_clone : A → A → Type 0) where
   seen_clones [] [] are = tt
   seen_clones [] (f ∷ fs) are = absurd are
   seen_clones (e ∷ es) [] are = absurd are
-  seen_clones (e ∷ es) (f ∷ fs) are = ((are.0.1.0, (ap (λ (t : Turn). t.0) are.0.0, are.0.1.1)), seen_clones es fs are.1)
+  seen_clones (e ∷ es) (f ∷ fs) are = grind (arith, seen_clones es fs)
 
   module _ (jobs copy : Timed A) (count : ℕ) (is : InOrder jobs count) (clones : (k : Key) → IsCloneOf Clones (map.get jobs k) (map.get copy k)) (len : map.len copy ≡ map.len jobs) where
     one_handle : (k q : Key) (t : Turn) (x y : A) → map.get copy k ≡ Some (t, x) → map.get copy q ≡ Some (t, y) → k ≡ q
@@ -38,20 +38,19 @@ module _ {A : Type 0} (is_clone : A → A → Type 0) where
 
     turn_clones : (t : Turn) → IsCloneOf Clones (map.get (by_turn jobs) t) (map.get (by_turn copy) t)
     turn_clones t = elim (map.get (by_turn jobs) t) as (λ o. map.get (by_turn jobs) t ≡ o → IsCloneOf Clones o (map.get (by_turn copy) t)) [
-      | None ↦ λ none. none_there _ (λ x there. let was = back (map.get jobs x.0) (map.get copy x.0) (clones x.0) t x.1 (by.from t x.0 x.1 there) in
-          let at = is.turns.to x.0 t was.0 was.1 in absurd (cc))
-      | Some x ↦ λ some. (let now = forth (map.get jobs x.0) (map.get copy x.0) (clones x.0) t x.1 (is.turns.from t x.0 x.1 some) in rw (by.to x.0 t now.0 now.1) (refl, now.2))
+      | None ↦ λ none. none_there _ (λ x there. grind (arith, back (map.get jobs x.0) (map.get copy x.0) (clones x.0), by.from t x.0 x.1, is.turns.to x.0 t))
+      | Some x ↦ λ some. grind (arith, forth (map.get jobs x.0) (map.get copy x.0) (clones x.0), is.turns.from t x.0 x.1, by.to x.0 t)
     ] refl
+
+    alike_turns : AllZip (λ (e f : Turn × (Key × A)). (f.0 ≡ e.0) × Clones e.1 f.1) (map.entries (by_turn jobs)) (map.entries (by_turn copy))
+    alike_turns = entries_alike turns_total exact_turns Clones (by_turn jobs) (by_turn copy) turn_clones
 
     copied_order : InOrder copy count
     copied_order = record {
       turns = by;
-      len = len_alike turns_total exact_turns Clones (by_turn jobs) (by_turn copy) turn_clones ∙ is.len ∙ sym len;
+      len = map.len-entries (by_turn copy) ∙ AllZip-long _ _ _ alike_turns ∙ sym (map.len-entries (by_turn jobs)) ∙ is.len ∙ sym len;
       numbered = λ k t y there. (let was = back (map.get jobs k) (map.get copy k) (clones k) t y there in is.numbered k t was.0 was.1);
     }
-
-    copied_waits : AreClones (IsDueClone is_clone) (waiting_of jobs) (waiting_of copy)
-    copied_waits = seen_clones _ _ (entries_alike turns_total exact_turns Clones (by_turn jobs) (by_turn copy) turn_clones)
 
   module _ {Z : Type 0} (jobs copy : Content (Job A)) (clones : IsCloneBy clones_job jobs copy) (count : ℕ) (heap : Vec Entry Z) (is : IsSchedule jobs count heap) where
     pub timed_clones : IsCloneBy (Clones {B = Turn}) (timed jobs) (timed copy)
@@ -61,22 +60,15 @@ module _ {A : Type 0} (is_clone : A → A → Type 0) where
     len_copied = clone_len Clones (timed jobs) (timed copy) timed_clones
 
     pub waiting_copied : AreClones (IsDueClone is_clone) (waiting_of (timed jobs).live) (waiting_of (timed copy).live)
-    waiting_copied = copied_waits (timed jobs).live (timed copy).live count is.order timed_clones.live len_copied
+    waiting_copied = seen_clones _ _ (alike_turns (timed jobs).live (timed copy).live count is.order timed_clones.live len_copied)
 
-    same_spot : (o p : Option (Job A)) → IsCloneOf clones_job o p
-        → option_map {U = ℕ × Turn} (λ (j : Job A). (j.place, j.turn)) p ≡ option_map {U = ℕ × Turn} (λ (j : Job A). (j.place, j.turn)) o
-    same_spot o p are = grind arith
+    same_spot : (q : Key) → spot_of copy.live q ≡ spot_of jobs.live q
+    same_spot q = grind (arith, clones.live q)
 
     -- the copy is a scheduler, if its heap has a place for each slot that has none live or retired
     pub schedule_copied : (heap' : Vec Entry Z) → heap'.items ≡ heap.items → vec_len heap' ≡ vec_len heap → IsContent true copy
         → copy.capacity ≤ vec_capacity heap' → IsSchedule copy count heap'
-    schedule_copied heap' items len well capacity = record {
-      order = copied_order (timed jobs).live (timed copy).live count is.order timed_clones.live len_copied;
-      valid = content-mapped unplaced copy true well;
-      indexed = record {
-        placed = rw items (alike (spot_of jobs.live) _ (heap_entry heap.items) _ (λ q. same_spot (map.get jobs.live q) (map.get copy.live q) (clones.live q)) (λ i. refl) is.indexed.placed);
-        ordered = rw items is.indexed.ordered;
-        len = len ∙ is.indexed.len ∙ sym len_copied;
-      };
-      room = (let fits = well.capacity_fits in let reused = well.reused refl in let same = len-mapped unplaced copy.live in omega arith);
-    }
+    schedule_copied heap' items len well capacity =
+        let order = copied_order (timed jobs).live (timed copy).live count is.order timed_clones.live len_copied in
+        let valid = content-mapped unplaced copy true well in
+        grind (arith, same_spot, is.indexed, items, len_copied, well.capacity_fits, well.reused, len-mapped unplaced copy.live)

@@ -13,7 +13,7 @@ emptied_then old mid fewer end ends =
 module _ {K T : Type 0} (data_of : K → Key) where
   pub keeps_lent : (first : Drain K T) → KeepsLent data_of first
   keeps_lent first [] later run = subst (SameLoan first) run (refl, λ end ends. ends)
-  keeps_lent first (item ∷ items) later run = grind (arith, keeps_lent run.0 items later run.2, (keeps_lent run.0 items later run.2).0, run.1.1.0)
+  keeps_lent first (item ∷ items) later run = grind (arith, keeps_lent run.0 items later run.2, run.1.1)
 
   pub yields_in_order : (first : Drain K T) → YieldsInOrder data_of first
   yields_in_order first [] later run = ap (λ (d : Drain K T). d.scheduler.now.waiting) run

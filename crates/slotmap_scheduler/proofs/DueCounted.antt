@@ -1,41 +1,12 @@
 -- How many of the jobs that wait are due, counted by their places in the heap.
-use Rattle.std.proofs.Common.{◌&&◌, ◌+◌, ◌<◌, ◌∷◌, ◌≡◌, ◌≢◌, ◌≤◌}
-use Rattle.slotmap_scheduler.proofs.Common.{All, All-head, All-tail, Bool, Content, Entry, IsByTime, IsOnce, IsSchedule, Job, Key, None, Some, Vec, Waiting, [], ap, arith, cond, count_below, due_at}
-use Rattle.slotmap_scheduler.proofs.Common.{eq_by_cmp, exact_keys, false, filter, get-mapped, get_or, heap_entry, is_due_at, is_under, itself, job_of, key_cmp, keys_total, length, nat_lt, nat_tests}
-use Rattle.slotmap_scheduler.proofs.Common.{nil_from_length, no_entry, not, option_map, refl, slice_get-get_or, spot_of, suc, sym, tied, timed, true, turn_at, unplaced, waiting_of, without, zero, ℕ}
-use Rattle.slotmap_scheduler.proofs.Common.{◌∙◌}
-use Rattle.slotmap_scheduler.proofs.{Results.without_none, Counting.count_alike, Counting.under_top, HeapPlaces.one_place, Order.job_is, Order.len_is, Seen.job_there}
-use Rattle.slotmap_scheduler.proofs.Waits.{waits_by_time, waits_once}
+use Rattle.std.proofs.Common.{◌&&◌, ◌+◌, ◌<◌, ◌∷◌, ◌≡◌, ◌≤◌}
+use Rattle.slotmap_scheduler.proofs.Common.{All, All-head, All-tail, Bool, Content, Entry, IsByTime, IsOnce, IsSchedule, Job, Key, Some, Vec, Waiting, [], ap, arith, cond, count_below, due_at}
+use Rattle.slotmap_scheduler.proofs.Common.{exact_keys, filter, get-mapped, get_or, heap_entry, is_due_at, is_under, job_of, keys_total, length, nat_lt, nat_tests, nil_from_length, no_entry, not}
+use Rattle.slotmap_scheduler.proofs.Common.{option_map, refl, slice_get-get_or, suc, sym, tied, timed, turn_at, unplaced, waiting_of, without, zero, ℕ, ◌∙◌}
+use Rattle.slotmap_scheduler.proofs.{Counting.count_alike, Counting.under_top, Order.job_is, Order.len_is, Seen.job_there, Waits.waits_by_time, Waits.waits_once}
+use Rattle.slotmap_scheduler.proofs.Found.{count_without, found_without, len_without, once_without}
 unfoldable use Rattle.slotmap_scheduler.proofs.Common.{due_under}
 use Rattle.std.specs.FinMap as map
-
-module _ {T : Type 0} (k : Key) where
-  pub other_found : (q : Key) (ws : Waiting T) → q ≢ k → job_of q (without k ws) ≡ job_of q ws
-  other_found q [] other = refl
-  other_found q (e ∷ ws) other =
-      grind (arith, tied keys_total exact_keys k e.0, tied keys_total exact_keys q e.0, itself keys_total exact_keys k, itself keys_total exact_keys q, other_found q ws other)
-
-  none_without : (q : Key) (ws : Waiting T) → job_of q ws ≡ None → job_of q (without k ws) ≡ None
-  none_without q [] none = refl
-  none_without q (e ∷ ws) none = grind (arith, none_without q ws)
-
-  pub once_without : (ws : Waiting T) → IsOnce ws → IsOnce (without k ws)
-  once_without [] once = tt
-  once_without (e ∷ ws) once = elim (eq_by_cmp key_cmp k e.0) as (λ b. IsOnce (cond (not b) (e ∷ without k ws) (without k ws))) [
-    | true ↦ once_without ws once.1
-    | false ↦ (none_without e.0 ws once.0, once_without ws once.1)
-  ]
-
-  -- a job among others, which are counted without it
-  module _ (test : Key × (ℕ × T) → Bool) where
-    count_without : (ws : Waiting T) (x : ℕ × T) → IsOnce ws → job_of k ws ≡ Some x
-        → length (filter test ws) ≡ cond (test (k, x)) 1 0 + length (filter test (without k ws))
-    count_without [] x once there = absurd (cc)
-    count_without (e ∷ ws) x once there = grind (arith, tied keys_total exact_keys k e.0, itself keys_total exact_keys k, without_none k ws, count_without ws x once.1)
-
-  pub len_without : (ws : Waiting T) (x : ℕ × T) → IsOnce ws → job_of k ws ≡ Some x → length ws ≡ 1 + length (without k ws)
-  len_without [] x once there = absurd (cc)
-  len_without (e ∷ ws) x once there = grind (arith, tied keys_total exact_keys k e.0, itself keys_total exact_keys k, without_none k ws, len_without ws x once.1)
 
 module _ {T : Type 0} (now : ℕ) where
   abbrev is_due : Key × (ℕ × T) → Bool
@@ -44,8 +15,7 @@ module _ {T : Type 0} (now : ℕ) where
   none_passes : (time : ℕ) (ws : Waiting T) → now < time → All (λ (x : Key × (ℕ × T)). time ≤ x.1.0) ws → filter is_due ws ≡ []
   none_passes time [] later all = refl
   none_passes time (e ∷ ws) later all =
-      let first = All-head (λ (x : Key × (ℕ × T)). time ≤ x.1.0) e ws all in
-      grind (arith, nat_tests, none_passes time ws later (All-tail (λ (x : Key × (ℕ × T)). time ≤ x.1.0) e ws all))
+      grind (arith, nat_tests, All-head (λ (x : Key × (ℕ × T)). time ≤ x.1.0) e ws all, none_passes time ws later (All-tail (λ (x : Key × (ℕ × T)). time ≤ x.1.0) e ws all))
 
   -- those that are due are the first
   due_first : (ws : Waiting T) → IsByTime ws → due_at now ws ≡ filter is_due ws
@@ -62,7 +32,7 @@ module _ {T : Type 0} (now : ℕ) where
       let rest = due_placed n handle time (without (handle n) ws) (once_without (handle n) ws once)
       (let more = len_without (handle n) ws (time n, last.0) once last.1 in omega arith)
       (λ c below. let at = there c (omega arith) in
-      (at.0, other_found (handle n) (handle c) ws (λ same. (let one = apart c n (omega arith) (omega arith) same in omega arith)) ∙ at.1))
+      (at.0, found_without (handle n) (handle c) ws ∙ (let apart = apart c n in let tie = tied keys_total exact_keys (handle c) (handle n) in grind (arith, at.1))))
       (λ c d one two. apart c d (omega arith) (omega arith)) in
       count_without (handle n) is_due ws (time n, last.0) once last.1 ∙ ap (λ m. cond (not (nat_lt now (time n))) 1 0 + m) rest
 
@@ -75,16 +45,11 @@ module _ {T Z : Type 0} {jobs : Content (Job T)} {count : ℕ} {heap : Vec Entry
   entry_at c inside = ap (option_map (λ (e : Entry). (e.handle, e.turn))) (slice_get-get_or heap.items c no_entry inside)
 
   job_at : (c : ℕ) → c < length heap.items → (x : T) × (job_of (handle_at c) (waiting_of (timed jobs).live) ≡ Some ((turn_at heap.items c).0, x))
-  job_at c inside =
-      let placed = is.indexed.placed.from c (handle_at c) (turn_at heap.items c) (entry_at c inside) in
-      let there = job_there (map.get jobs.live (handle_at c)) c (turn_at heap.items c) placed in
+  job_at c inside = let there = job_there (map.get jobs.live (handle_at c)) c (turn_at heap.items c) (is.indexed.placed.from c (handle_at c) (turn_at heap.items c) (entry_at c inside)) in
       (there.0, job_is (timed jobs).live count is.order (handle_at c) ∙ ap (option_map _) (get-mapped unplaced jobs.live (handle_at c) ∙ there.1))
 
   lone_place : (c d : ℕ) → c < length heap.items → d < length heap.items → handle_at c ≡ handle_at d → c ≡ d
-  lone_place c d one two same =
-      let at = is.indexed.placed.from c (handle_at c) (turn_at heap.items c) (entry_at c one) in
-      let there = is.indexed.placed.from d (handle_at d) (turn_at heap.items d) (entry_at d two) in
-      one_place (spot_of jobs.live (handle_at c)) at (ap (spot_of jobs.live) same ∙ there)
+  lone_place c d one two same = grind (arith, is.indexed.placed.from, entry_at c one, entry_at d two)
 
   pub due_counted : (now : ℕ) → due_under now 0 heap.items ≡ length (due_at now (waiting_of (timed jobs).live))
   unfolding due_under

@@ -2,10 +2,10 @@
 use Rattle.std.proofs.Common.{◌+◌, ◌-◌, ◌≡◌, ◌≤◌}
 use Rattle.slotmap.specs.KeysAlone.{keys_of}
 use Rattle.slotmap_keylist.specs.Mapped.{map_values}
-use Rattle.slotmap_scheduler.proofs.Common.{Content, Entry, Inserts, IsCloneBy, IsContent, IsCopy, IsLive, IsNew, IsSpent, Job, KeepsSpent, Key, Leaves, List, MakesRoom, Removes, Some, Turn, Vec}
-use Rattle.slotmap_scheduler.proofs.Common.{alone-copy, alone-inserts, alone-keeps, alone-new, alone-removes, alone-written, alone_spent, ap, arith, contains-keys_of, handles_of, inserted_not_spent}
-use Rattle.slotmap_scheduler.proofs.Common.{key_cmp, len-keys_of, mapped-empty, min, refl, shown_content, shown_leaves, spent_alone, timed, true, unplaced, used, used-mapped, used_alone}
-use Rattle.slotmap_scheduler.proofs.Common.{vacant_at_most, vec_capacity, vec_len, with_value, without_values, ℕ, ◌∙◌}
+use Rattle.slotmap_scheduler.proofs.Common.{Content, Entry, Inserts, IsCloneBy, IsContent, IsCopy, IsLive, IsNew, IsSpent, Job, KeepsSpent, Key, Leaves, List, Removes, Some, Turn, Vec, alone-copy}
+use Rattle.slotmap_scheduler.proofs.Common.{alone-inserts, alone-new, alone-removes, alone-written, alone_spent, ap, arith, contains-keys_of, handles_of, inserted_not_spent, key_cmp, len-keys_of}
+use Rattle.slotmap_scheduler.proofs.Common.{mapped-empty, min, refl, shown_content, shown_leaves, spent_alone, timed, true, unplaced, used, used-mapped, used_alone, vacant_at_most, vec_capacity}
+use Rattle.slotmap_scheduler.proofs.Common.{vec_len, with_value, without_values, ℕ, ◌∙◌}
 use Rattle.std.specs.FinMap as map
 
 pub empty_keys : {V : Type 0} (m : map.FinMap key_cmp V) → m ≡ map.empty → keys_of m ≡ map.empty
@@ -46,21 +46,8 @@ module _ {T Z : Type 0} where
     pub same_capacity : new.capacity ≡ old.capacity → vec_capacity heap' ≡ vec_capacity heap → (handles_of new heap').capacity ≡ (handles_of old heap).capacity
     same_capacity map heap i = min (map i) (heap i)
 
-    same_handles : new ≡ old → vec_len heap' ≡ vec_len heap → vec_capacity heap' ≡ vec_capacity heap → handles_of new heap' ≡ handles_of old heap
+    pub same_handles : new ≡ old → vec_len heap' ≡ vec_len heap → vec_capacity heap' ≡ vec_capacity heap → handles_of new heap' ≡ handles_of old heap
     same_handles same len capacity i = record (without_values (same i)) { room = min (same i).room (capacity i - len i); capacity = min (same i).capacity (capacity i) }
-
-    -- room was made in the map and in the heap
-    pub handles_room : (n : ℕ) (made ok : Type 0) → MakesRoom true old n made new → IsContent true (handles_of old heap)
-        → IsContent true (handles_of new heap') → vec_len heap ≡ map.len old.live
-        → vec_len heap' ≡ vec_len heap → vec_capacity heap ≤ vec_capacity heap' → (vec_len heap + n ≤ vec_capacity heap → vec_capacity heap' ≡ vec_capacity heap)
-        → (ok → made × (vec_len heap' + n ≤ vec_capacity heap')) → (n ≤ old.room → vec_len heap + n ≤ vec_capacity heap → ok)
-        → MakesRoom true (handles_of old heap) n ok (handles_of new heap')
-    handles_room n made ok makes before after all len more same has had =
-        let same_used = used_alone old in
-        let live = len-keys_of old.live in
-        let keeps = alone-keeps old new makes.keeps in
-        let had_room = λ (room : n ≤ (handles_of old heap).room). same_handles (makes.had_room (omega arith)) len (same (omega (arith, heap.ok.1))) in
-        grind (arith, makes.fits, makes.room, makes.live_and_more, has, had, had_room, heap.ok.1, makes.keeps.room, makes.capacity)
 
     -- a job that is written changes no handle
     pub handles_written : (k : Key) (v : Turn × T) → IsLive old k → new ≡ with_value old k v → vec_len heap' ≡ vec_len heap

@@ -1,6 +1,6 @@
 -- A heap of turns: what each step leaves that moves an entry up or down, and which entry is first.
 use Rattle.std.proofs.Common.{◌<◌, ◌≡◌, ◌≢◌, ◌≤◌, ◌⊎◌}
-use Rattle.slotmap_scheduler.proofs.Common.{Bool, Content, Entry, IsAbove, IsFirstBelow, IsHeap, IsHeapBut, IsPlaced, Job, List, Resettled, Swapped, SwappedAt, Turn, Vec, alike_or_apart, ap, arith}
+use Rattle.slotmap_scheduler.proofs.Common.{Bool, Content, Entry, IsAbove, IsFirstBelow, IsHeap, IsHeapBut, IsPlaced, Job, List, Resettled, Swapped, SwappedAt, Turn, Vec, alike_or_apart, arith}
 use Rattle.slotmap_scheduler.proofs.Common.{exact_unsigned, false, get_or, get_or_read_under, length, nat_cmp_total, nat_tests, no_entry, precedes, refl, suc, true, turn_at, up, vec_len, zero, ℕ}
 use Rattle.slotmap_scheduler.proofs.Common.{◌∙◌}
 
@@ -30,8 +30,7 @@ module _ {T Z : Type 0} where
 pub compared : {Z : Type 0} (heap : Vec Entry Z) (i j : ℕ) (x y : Entry) → i < vec_len heap → j < vec_len heap → x ≡ get_or heap.items i x
     → y ≡ get_or heap.items j y → (b : Bool) → precedes x.turn y.turn ≡ b
     → precedes (turn_at heap.items i) (turn_at heap.items j) ≡ b
-compared heap i j x y in_i in_j is_x is_y b test =
-    grind (arith, get_or_read_under heap.items i (vec_len heap) x no_entry is_x in_i heap.ok.0, get_or_read_under heap.items j (vec_len heap) y no_entry is_y in_j heap.ok.0)
+compared heap i j x y in_i in_j is_x is_y b test = grind (arith, get_or_read_under, heap.ok.0)
 
 -- the first entry is before no other one
 pub top_first : (heap : List Entry) → IsHeap heap → (fuel i : ℕ) → i ≤ fuel → i < length heap → precedes (turn_at heap i) (turn_at heap 0) ≡ false
@@ -45,32 +44,28 @@ module _ (heap : List Entry) (at : ℕ) (but : IsHeapBut at heap) where
   settled above under c low inside = grind (arith, same_or_not (up c) at, same_or_not c at, but.pairs c, under c)
 
   pub heap_settled : IsAbove at heap → (child : ℕ) → IsFirstBelow at child heap → precedes (turn_at heap child) (turn_at heap at) ≡ false → IsHeap heap
-  heap_settled above child first not_before = settled above (λ c low below inside. across (turn_at heap at) (turn_at heap child) (turn_at heap c) not_before (first.least c low below inside))
+  heap_settled above child first not_before = grind (arith, settled, across (turn_at heap at) (turn_at heap child), first.least)
 
   -- or there are none
   pub heap_ended : IsAbove at heap → ((c : ℕ) → 0 < c → up c ≡ at → length heap ≤ c) → IsHeap heap
-  heap_ended above none = settled above (λ c low below inside. absurd (let past = none c low below in omega arith))
+  heap_ended above none = grind (arith, settled, none)
 
   module _ (new : List Entry) (len : length new ≡ length heap) where
     swapped : (a b : ℕ) → SwappedAt heap new a b → Swapped (turn_at heap) (turn_at new) a b
-    swapped a b by = (ap (λ (e : Entry). e.turn) (by.0 no_entry), ap (λ (e : Entry). e.turn) (by.1 no_entry), λ i na nb. ap (λ (e : Entry). e.turn) (by.2 i no_entry na nb))
+    swapped a b by = grind (arith, by.0 no_entry, by.1 no_entry, by.2)
 
     -- it is exchanged with that above it
     pub risen : 0 < at → SwappedAt heap new (up at) at → IsHeapBut (up at) new
     risen some by =
-        let turns = swapped (up at) at by in
         let high = across (turn_at heap (up (up at))) (turn_at heap (up at)) in
-        record {
-          pairs = λ c low inside apart far. grind (arith, same_or_not (up c) at, turns.0, turns.1, turns.2 c, turns.2 (up c), but.pairs c, but.bridges c);
-          bridges = λ c low inside below top. grind (arith, same_or_not c at, turns.0, turns.1, turns.2 c, turns.2 (up (up at)), but.pairs c, but.pairs (up at), high (turn_at heap c));
-        }
+        grind (arith, swapped (up at) at by, same_or_not, but.pairs, but.bridges, high)
 
     -- it is exchanged with the first of those below it
     pub sunk : (child : ℕ) → IsFirstBelow at child heap → SwappedAt heap new at child → IsHeapBut child new
     sunk child first by = grind (arith, swapped at child by, same_or_not, (swapped at child by).0, (swapped at child by).1)
 
     pub sunk_above : (child : ℕ) → IsFirstBelow at child heap → SwappedAt heap new at child → precedes (turn_at heap child) (turn_at heap at) ≡ true → IsAbove child new
-    sunk_above child first by before low = let turns = swapped at child by in rw (first.below, turns.1, turns.0) (once (turn_at heap child) (turn_at heap at) before)
+    sunk_above child first by before low = grind (arith, swapped at child by, first.below, once (turn_at heap child) (turn_at heap at))
 
 module _ (old new : List Entry) (ordered : IsHeap old) where
   -- an entry has another turn, or is new at the end

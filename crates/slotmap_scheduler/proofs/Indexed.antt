@@ -5,7 +5,7 @@ use Rattle.slotmap_scheduler.proofs.Common.{arith, content-mapped, get-mapped, g
 use Rattle.slotmap_scheduler.proofs.Common.{length, length-set, list_set, mapped-insert, mapped-inserts, no_entry, none_of, option_map, refl, removed_len, slice_get-get_or, spot_of, sym, timed, true}
 use Rattle.slotmap_scheduler.proofs.Common.{unplaced, vec_len, with_value, ℕ, ◌∙◌}
 use Rattle.slotmap_scheduler.proofs.Heaps.{heap_put}
-use Rattle.slotmap_scheduler.proofs.HeapPlaces.{entry_is, entry_within, in_heap, one_place, placed_put, read_alike}
+use Rattle.slotmap_scheduler.proofs.HeapPlaces.{entry_is, entry_within, in_heap, placed_put, read_alike}
 use Rattle.std.specs.FinMap as map
 
 pub same_job : {T : Type 0} (o : Option (Job T)) (i j : Job T) → o ≡ Some i → o ≡ Some j → i ≡ j
@@ -39,7 +39,7 @@ module _ {T Z : Type 0} where
         (λ i t there. absurd (let was = is.placed.from i k t there in let none = free in cc)))
 
     pub put_but : IsHeapBut (vec_len heap) pushed.items
-    put_but = heap_put heap.items pushed.items is.ordered (vec_len heap) (λ i inside other. (omega (arith, heap.ok.0, pushed.ok.0), below i no_entry (omega (arith, pushed.ok.0))))
+    put_but = grind (arith, heap_put heap.items pushed.items is.ordered (vec_len heap), heap.ok.0, pushed.ok.0, below)
 
     put_inserts : Inserts (timed jobs) k (turn, job) (timed mid)
     put_inserts = mapped-inserts unplaced jobs mid k _ inserts
@@ -51,11 +51,7 @@ module _ {T Z : Type 0} where
     -- it was taken out, and its entry
     pub left_indexed : (jobs' : Content (Job T)) (heap' : Vec Entry Z) → Removes (timed jobs) k (timed jobs') → IsPlaced jobs'.live heap'.items
         → IsHeap heap'.items → vec_len heap' + 1 ≡ vec_len heap → IsIndexed jobs' heap'
-    left_indexed jobs' heap' removes placed ordered len = record {
-      placed = placed;
-      ordered = ordered;
-      len = (let had = is.len in let less = removed_len (timed jobs) k (unplaced j) (timed jobs') (get-mapped unplaced jobs.live k ∙ ap (option_map unplaced) found) removes in omega arith);
-    }
+    left_indexed jobs' heap' removes placed ordered len = grind (arith, is.len, removed_len (timed jobs) k (unplaced j) (timed jobs'), get-mapped unplaced jobs.live k, found)
 
     pub turned_len : (turn : Turn) → vec_len heap ≡ map.len (timed (with_value jobs k (record j { turn = turn }))).live
     turned_len turn = is.len ∙ sym (ap map.len (mapped-insert unplaced jobs.live k (record j { turn = turn })) ∙ grind (arith, keys, get-mapped unplaced jobs.live k, found))
@@ -81,11 +77,10 @@ module _ {T Z : Type 0} where
       long = length-set heap.items j.place (record e { turn = turn })
 
       pub turned_placed : IsPlaced (map.insert jobs.live k (record j { turn = turn })) now
-      turned_placed = placed_put jobs.live heap.items is.placed now k (record j { turn = turn }) j.place refl
-          (ap (option_map _) (slice_get-get_or now j.place no_entry (omega (arith, long, inside))
-          ∙ ap Some (get_or-set_same heap.items j.place (record e { turn = turn }) no_entry inside)) ∙ ap (λ h. Some (h, turn)) mine)
-          (λ i other. read_alike heap.items now i i (λ low. (omega (arith, long), get_or-set_other heap.items j.place i (record e { turn = turn }) no_entry other)) (λ past. omega (arith, long)))
-          (λ q t there. grind (arith, is.placed.to q j.place t there, is.placed.to k j.place j.turn spot)) (λ i t there. one_place _ (is.placed.from i k t there) spot)
+      turned_placed =
+          let put = placed_put jobs.live heap.items is.placed now k (record j { turn = turn }) j.place refl in
+          let read = slice_get-get_or now j.place no_entry in
+          grind (arith, put, long, inside, mine, read_alike, get_or-set_other, get_or-set_same, is.placed, spot)
 
       pub turned_but : IsHeapBut j.place now
-      turned_but = heap_put heap.items now is.ordered j.place (λ i low other. (omega (arith, long), get_or-set_other heap.items j.place i (record e { turn = turn }) no_entry other))
+      turned_but = grind (arith, heap_put heap.items now is.ordered j.place, long, get_or-set_other)

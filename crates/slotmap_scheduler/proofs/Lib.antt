@@ -4,13 +4,12 @@ mod Copied
 mod Counting
 mod Draining
 mod DueCounted
+mod Found
 mod Handles
 mod HeapPlaces
 mod Heaps
 mod Indexed
-mod Inverse
 mod Order
-mod Results
 pub mod Retained
 mod Schedules
 mod Seen

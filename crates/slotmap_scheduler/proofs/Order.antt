@@ -1,11 +1,9 @@
 -- How a change of the jobs changes the order in which they are returned.
 use Rattle.std.proofs.Common.{◌+◌, ◌<◌, ◌∷◌, ◌≡◌, ◌≢◌, ◌≤◌}
-use Rattle.slotmap_scheduler.proofs.Common.{All, All-from_recursion, All-map, AllByRecursion, InOrder, IsInverse, Key, Less, List, None, Some, Timed, Turn, [], alike_or_apart, ap, arith, as_seen}
-use Rattle.slotmap_scheduler.proofs.Common.{by_order, by_turn, cond, eq_by_cmp, exact_keys, false, get_after_insert, get_after_remove, in_turn, is_some, itself, job_of, key_cmp, keys_total}
-use Rattle.slotmap_scheduler.proofs.Common.{len_removed, length, length-map, list_map, nat_lt, nat_tests, nil_from_length, option_map, precedes, put, refl, same_or_other, sym, tied, turn_cmp}
-use Rattle.slotmap_scheduler.proofs.Common.{waiting_of, with_job, without, ℕ, ◌∙◌}
-use Rattle.slotmap_scheduler.proofs.Inverse.{dropped, put as inverse_put}
-use Rattle.slotmap_scheduler.proofs.Sorted.{all_of, drops, entries_put, insert_same, none_there, puts}
+use Rattle.slotmap_scheduler.proofs.Common.{All, All-from_recursion, All-map, AllByRecursion, InOrder, Key, Less, List, None, Some, Timed, Turn, [], ap, arith, as_seen, by_order, by_turn, cond}
+use Rattle.slotmap_scheduler.proofs.Common.{exact_keys, false, get_after_insert, get_after_remove, in_turn, is_some, itself, job_of, keys_total, len_removed, length, length-map, list_map, nat_lt}
+use Rattle.slotmap_scheduler.proofs.Common.{nat_tests, nil_from_length, option_map, precedes, put, refl, sym, tied, turn_cmp, waiting_of, with_job, without, ℕ, ◌∙◌}
+use Rattle.slotmap_scheduler.proofs.Sorted.{all_of, entries_put, insert_same, inverse_put, inverse_removed, none_there}
 use Rattle.slotmap_scheduler.proofs.Timed.{exact_turns, in_order, turns_total}
 use Rattle.std.specs.FinMap as map
 
@@ -27,31 +25,29 @@ module _ {T : Type 0} where
     abbrev IsOther : Turn × (Key × T) → Type 0
     IsOther e = k ≢ e.1.0
 
-    apart : (e : Turn × (Key × T)) → IsOther e → eq_by_cmp key_cmp k e.1.0 ≡ false
-    apart e other = grind (arith, tied keys_total exact_keys k e.1.0)
-
     none_found : (es : List (Turn × (Key × T))) → AllByRecursion IsOther es → job_of k (list_map as_seen es) ≡ None
     none_found [] all = refl
-    none_found (e ∷ es) all = rw (apart e all.0) (none_found es all.1)
+    none_found (e ∷ es) all = grind (arith, tied keys_total exact_keys k e.1.0, none_found es all.1)
 
     all_kept : (es : List (Turn × (Key × T))) → AllByRecursion IsOther es → without k (list_map as_seen es) ≡ list_map as_seen es
     all_kept [] all = refl
-    all_kept (e ∷ es) all = rw (apart e all.0) (ap (λ l. as_seen e ∷ l) (all_kept es all.1))
+    all_kept (e ∷ es) all = grind (arith, tied keys_total exact_keys k e.1.0, all_kept es all.1)
 
     module _ (t : Turn) (job : T) where
       put_found : (es : List (Turn × (Key × T))) → AllByRecursion IsOther es → job_of k (list_map as_seen (put turn_cmp t (k, job) es)) ≡ Some (t.0, job)
       put_found [] all = grind (arith, itself keys_total exact_keys k)
-      put_found (e ∷ es) all = grind (arith, itself keys_total exact_keys k, apart e all.0, put_found es all.1)
+      put_found (e ∷ es) all = grind (arith, itself keys_total exact_keys k, tied keys_total exact_keys k e.1.0, put_found es all.1)
 
       put_with_job : (w : T) (es : List (Turn × (Key × T))) → AllByRecursion IsOther es
           → with_job k w (list_map as_seen (put turn_cmp t (k, job) es)) ≡ list_map as_seen (put turn_cmp t (k, w) es)
       put_with_job w [] all = grind (arith, itself keys_total exact_keys k)
-      put_with_job w (e ∷ es) all = grind (arith, itself keys_total exact_keys k, apart e all.0, put_with_job w es all.1)
+      put_with_job w (e ∷ es) all = grind (arith, itself keys_total exact_keys k, tied keys_total exact_keys k e.1.0, put_with_job w es all.1)
 
       put_without : (es : List (Turn × (Key × T))) → AllByRecursion IsOther es → AllByRecursion (λ (e : Turn × (Key × T)). t ≢ e.0) es
           → without k (list_map as_seen (put turn_cmp t (k, job) es)) ≡ list_map as_seen es
       put_without [] all turns = grind (arith, itself keys_total exact_keys k)
-      put_without (e ∷ es) all turns = grind (arith, itself keys_total exact_keys k, apart e all.0, all_kept es all.1, put_without es all.1 turns.1, exact_turns t e.0, turns.0)
+      put_without (e ∷ es) all turns =
+          grind (arith, itself keys_total exact_keys k, tied keys_total exact_keys k e.1.0, all_kept es all.1, put_without es all.1 turns.1, exact_turns t e.0, turns.0)
 
   put_last : (time count : ℕ) (k : Key) (job : T) (es : List (Turn × (Key × T))) → AllByRecursion (λ (e : Turn × (Key × T)). e.0.1 < count) es
       → list_map as_seen (put turn_cmp (time, count) (k, job) es) ≡ in_turn (k, (time, job)) (list_map as_seen es)
@@ -64,14 +60,11 @@ module _ {T : Type 0} where
 
     -- a new job is behind all of its time
     module _ (k : Key) (time : ℕ) (job : T) (new : map.get jobs k ≡ None) where
-      added_inverse : IsInverse (map.get (map.insert jobs k ((time, count), job))) (map.get (map.insert (by_turn jobs) (time, count) (k, job)))
-      added_inverse = inverse_put same_or_other (alike_or_apart turns_total exact_turns) _ _ _ _ is.turns k (time, count) job
-          (puts keys_total exact_keys jobs k (time, count) job (λ q x there. absurd (let less = is.numbered q (time, count) x there in omega arith)))
-          (puts turns_total exact_turns (by_turn jobs) (time, count) k job (λ t x there. absurd (let was = is.turns.from t k x there in cc)))
-
       pub added : InOrder (map.insert jobs k ((time, count), job)) (count + 1) × (waiting_of (map.insert jobs k ((time, count), job)) ≡ in_turn (k, (time, job)) (waiting_of jobs))
       added =
-          let with = in_order (map.insert jobs k ((time, count), job)) (count + 1) (map.insert (by_turn jobs) (time, count) (k, job)) added_inverse
+          let with = in_order (map.insert jobs k ((time, count), job)) (count + 1) (map.insert (by_turn jobs) (time, count) (k, job))
+          (inverse_put keys_total exact_keys turns_total exact_turns jobs (by_turn jobs) is.turns k (time, count) job
+          (λ q x there. absurd (let less = is.numbered q (time, count) x there in omega arith)) (λ t x there. absurd (let was = is.turns.from t k x there in cc)))
           (grind (arith, map.len-insert turns_total (by_turn jobs) (time, count) (k, job), map.len-insert keys_total jobs k ((time, count), job), is.len, free time))
           (λ q t x there. grind (arith, get_after_insert keys_total exact_keys jobs k ((time, count), job) q (t, x) there, is.numbered q t x)) in
           let before = all_of turns_total exact_turns (λ t x. t.1 < count) (by_turn jobs) (λ t x there. is.numbered x.0 t x.1 (is.turns.from t x.0 x.1 there)) in
@@ -96,14 +89,13 @@ module _ {T : Type 0} where
       among = ap map.entries (sym (insert_same turns_total exact_turns (by_turn jobs) t (k, job) turn_at)) ∙ entries_put turns_total exact_turns (by_turn jobs) t (k, job)
 
       others_wait : list_map as_seen others ≡ without k (waiting_of jobs)
-      others_wait = sym (ap (λ es. without k (list_map as_seen es)) among
-          ∙ put_without k t job others other_keys (all_of turns_total exact_turns (λ u x. t ≢ u) (map.remove (by_turn jobs) t) other_turn))
+      others_wait = grind (arith, among, put_without k t job others other_keys, all_of turns_total exact_turns (λ u x. t ≢ u) (map.remove (by_turn jobs) t) other_turn)
 
       -- without a job the others keep their order
       pub removed : InOrder (map.remove jobs k) count × (waiting_of (map.remove jobs k) ≡ without k (waiting_of jobs))
       removed =
           let with = in_order (map.remove jobs k) count (map.remove (by_turn jobs) t)
-          (dropped same_or_other (alike_or_apart turns_total exact_turns) _ _ _ _ is.turns k t job at (drops keys_total exact_keys jobs k) (drops turns_total exact_turns (by_turn jobs) t))
+          (inverse_removed keys_total exact_keys turns_total exact_turns jobs (by_turn jobs) is.turns k t job at)
           (let a = len_removed keys_total exact_keys jobs k (ap is_some at) in let b = len_removed turns_total exact_turns (by_turn jobs) t (ap is_some turn_at) in let c = is.len in omega arith)
           (λ q u x there. is.numbered q u x (get_after_remove keys_total exact_keys jobs k q (u, x) there).1) in
           (with.0, with.1 ∙ others_wait)
@@ -112,9 +104,8 @@ module _ {T : Type 0} where
       module _ (w : T) where
         pub written : InOrder (map.insert jobs k (t, w)) count × (waiting_of (map.insert jobs k (t, w)) ≡ with_job k w (waiting_of jobs))
         written =
-            let with = in_order (map.insert jobs k (t, w)) count (map.insert (by_turn jobs) t (k, w)) (inverse_put same_or_other (alike_or_apart turns_total exact_turns) _ _ _ _ is.turns k t w
-            (puts keys_total exact_keys jobs k t w (λ q x there. grind (arith, is.turns.to q t x there, turn_at)))
-            (puts turns_total exact_turns (by_turn jobs) t k w (λ u x there. grind (arith, is.turns.from u k x there, at))))
+            let with = in_order (map.insert jobs k (t, w)) count (map.insert (by_turn jobs) t (k, w)) (inverse_put keys_total exact_keys turns_total exact_turns jobs (by_turn jobs) is.turns k t w
+            (λ q x there. grind (arith, is.turns.to q t x there, turn_at)) (λ u x there. grind (arith, is.turns.from u k x there, at)))
             (grind (arith, map.len-insert turns_total (by_turn jobs) t (k, w), map.len-insert keys_total jobs k (t, w), is.len, at, turn_at))
             (λ q u x there. grind (arith, get_after_insert keys_total exact_keys jobs k (t, w) q (u, x) there, is.numbered q u x, is.numbered k t job at)) in (
               with.0,
@@ -126,7 +117,7 @@ module _ {T : Type 0} where
       module _ (least : (q : Key) (u : Turn) (x : T) → map.get jobs q ≡ Some (u, x) → precedes u t ≡ false) where
         put_first : (es : List (Turn × (Key × T))) → AllByRecursion (λ (e : Turn × (Key × T)). turn_cmp t e.0 ≡ Less) es → put turn_cmp t (k, job) es ≡ (t, (k, job)) ∷ es
         put_first [] all = refl
-        put_first (e ∷ es) all = ap (λ o. by_order o ((t, (k, job)) ∷ e ∷ es) ((e.0, (k, job)) ∷ es) (e ∷ put turn_cmp t (k, job) es)) all.0
+        put_first (e ∷ es) all = grind (arith, all.0)
 
         pub waits_first : waiting_of jobs ≡ (k, (t.0, job)) ∷ without k (waiting_of jobs)
         waits_first =
@@ -138,7 +129,7 @@ module _ {T : Type 0} where
         pub none_due : (now : ℕ) → now < t.0 → All (λ e. now < e.1.0) (waiting_of jobs)
         none_due now later = All-map (λ (e : Key × (ℕ × T)). now < e.1.0) as_seen (map.entries (by_turn jobs))
             (All-from_recursion (λ (e : Turn × (Key × T)). now < e.0.0) (map.entries (by_turn jobs))
-            (all_of turns_total exact_turns (λ u x. now < u.0) (by_turn jobs) (λ u x there. let up = time_up_to t u (least x.0 u x.1 (is.turns.from u x.0 x.1 there)) in omega arith)))
+            (all_of turns_total exact_turns (λ u x. now < u.0) (by_turn jobs) (λ u x there. grind (arith, time_up_to t u, least x.0 u x.1, is.turns.from u x.0 x.1))))
 
     -- which time and which job a handle has
     pub job_is : (k : Key) → job_of k (waiting_of jobs) ≡ option_map (λ (x : Turn × T). (x.0.0, x.1)) (map.get jobs k)
@@ -155,12 +146,5 @@ module _ {T : Type 0} where
     pub none_wait : map.len jobs ≡ 0 → waiting_of jobs ≡ []
     none_wait none = nil_from_length (waiting_of jobs) (len_is ∙ none)
 
-  -- a handle that finds the same has the same time and job
-  pub job_stays : (old : Timed T) (before : ℕ) → InOrder old before → (new : Timed T) (count : ℕ) → InOrder new count → (k : Key) → map.get new k ≡ map.get old k
-      → job_of k (waiting_of new) ≡ job_of k (waiting_of old)
-  job_stays old before was new count now k same = job_is new count now k ∙ ap (option_map (λ (x : Turn × T). (x.0.0, x.1))) same ∙ sym (job_is old before was k)
-
   pub none_in_order : (jobs : Timed T) (count : ℕ) → jobs ≡ map.empty → InOrder jobs count
-  none_in_order jobs count is = rw is (in_order map.empty count map.empty
-      (record { to = λ k t x there. absurd (let e = map.get-empty {X = Turn × T} key_cmp k in cc); from = λ t k x there. absurd (let e = map.get-empty {X = Key × T} turn_cmp t in cc) })
-      (map.len-empty turn_cmp (Key × T) ∙ sym (map.len-empty key_cmp (Turn × T))) (λ k t x there. absurd (let e = map.get-empty {X = Turn × T} key_cmp k in cc))).0
+  none_in_order jobs count is = (rw is (grind (arith, in_order {T = T} map.empty count map.empty, map.get-empty, map.len-empty)))

@@ -62,9 +62,8 @@ module _ {K T : Type 0} (data_of : K → Key) where
         → ((k : Key) (due : ℕ × T) → job_of k ws ≡ Some due → job_of k (jobs_seen data_of xs) ≡ Some due) → filter_map (left_by_all xs) ws ≡ filter_map (left_of left) ws
     all_seen xs leaves once [] once_ws all = refl
     all_seen xs leaves once (e ∷ ws) once_ws all =
-        let here = seen xs leaves once e (all e.0 e.1 (grind (arith, itself keys_total exact_keys e.0))) in
-        let rest = all_seen xs leaves once ws once_ws.1 (λ k due there. all k due (grind (arith, once_ws.0, tied keys_total exact_keys k e.0, itself keys_total exact_keys k))) in
-        grind (arith, here, rest)
+        let rest = all_seen xs leaves once ws once_ws.1 (λ k due there. all k due (grind (arith, once_ws.0, tied keys_total exact_keys k e.0))) in
+        grind (arith, seen xs leaves once e, all e.0 e.1, itself keys_total exact_keys e.0)
 
 -- what `retain` leaves, in the same order: of each job what a call for it leaves, as `left` says, where the calls keep a fact of the closure
 module _ {F K T : Type 0} {g : Mut F (K × (ℕ × (MutBor T × Unit {0}))) (Bool × (MutBor T × Unit {0}))} {data_of : K → Key} (left : Key → ℕ → T → Option T) (Holds : F → Type 0)

@@ -1,23 +1,20 @@
 -- What holds of every scheduler, after each call.
-use Rattle.std.proofs.Common.{◌+◌, ◌≡◌, ◌≢◌, ◌≤◌, ◌⊎◌}
-use Rattle.slotmap_scheduler.proofs.Common.{Content, Entry, InOrder, Inserts, IsContent, IsIndexed, IsLive, IsSchedule, Job, Key, Leaves, MakesRoom, None, Removes, Schedule, Some, Turn, Vec, [], ap}
-use Rattle.slotmap_scheduler.proofs.Common.{arith, cond, content-mapped, exact_keys, exact_unsigned, get-insert_here, get-insert_other, get-mapped, handles_of, heap_entry, in_turn, inl, inr}
-use Rattle.slotmap_scheduler.proofs.Common.{inserted_fresh, inserted_len, is_some, job_of, key_cmp, keys, keys_total, leaves_by_removal, len-mapped, length, map_values, mapped-empty, mapped-insert}
+use Rattle.std.proofs.Common.{◌+◌, ◌≡◌, ◌≤◌, ◌⊎◌}
+use Rattle.slotmap_scheduler.proofs.Common.{alone-keeps, eq_by_cmp, itself, len-keys_of, used_alone, Content, Entry, InOrder, Inserts, IsContent, IsIndexed, IsLive, IsSchedule, Job, Key, Leaves}
+use Rattle.slotmap_scheduler.proofs.Common.{MakesRoom, None, Removes, Schedule, Some, Turn, Vec, [], ap, arith, cond, content-mapped, exact_keys, exact_unsigned, get-mapped, handles_of, in_turn}
+use Rattle.slotmap_scheduler.proofs.Common.{inserted_fresh, inserted_len, is_some, job_of, key_cmp, keys, keys_total, leaves_by_removal, len-mapped, map_values, mapped-empty, mapped-insert}
 use Rattle.slotmap_scheduler.proofs.Common.{mapped-room, mapped-with, nat_cmp_total, none_of, option_map, refl, removed_len, shown_content, some_entry, spot_of, sym, tied, timed, true, unplaced}
 use Rattle.slotmap_scheduler.proofs.Common.{vacant_at_most, vec_capacity, vec_len, waiting_of, with_job, with_value, without, ℕ, ◌∙◌}
-use Rattle.slotmap_scheduler.proofs.Order.{added, job_is, job_stays, len_is, none_in_order, none_wait, removed, written}
-use Rattle.slotmap_scheduler.proofs.Handles.{handles_content, handles_room, handles_written}
-use Rattle.slotmap_scheduler.proofs.{Inverse.alike, HeapPlaces.entry_within}
+use Rattle.slotmap_scheduler.proofs.Order.{added, job_is, none_in_order, none_wait, removed, written}
+use Rattle.slotmap_scheduler.proofs.{Found.found_in_turn, Found.found_without, HeapPlaces.entry_within}
+use Rattle.slotmap_scheduler.proofs.Handles.{handles_content, handles_written, same_handles}
 use Rattle.std.specs.FinMap as map
-
--- a job that is found without another one
-get-removed_other : {V : Type 0} (m : map.FinMap key_cmp V) (k q : Key) → q ≢ k → map.get (map.remove m k) q ≡ map.get m q
-get-removed_other m k q other = grind (arith, map.get-remove keys_total m k q, tied keys_total exact_keys q k)
 
 -- a value that is written under a live key
 content_written : {V : Type 0} (c : Content V) → IsContent true c → (k : Key) → IsLive c k → (v : V) → IsContent true (with_value c k v)
-content_written c valid k live v = shown_content c (map.insert c.live k v) (λ q. grind (arith, map.get-insert keys_total c.live k v q, tied keys_total exact_keys q k, live))
-    (map.len-insert keys_total c.live k v ∙ ap (λ b. cond b (map.len c.live) (map.len c.live + 1)) live) true valid
+content_written c valid k live v =
+    shown_content c (map.insert c.live k v) (λ q. grind (arith, map.get-insert keys_total c.live k v q, tied keys_total exact_keys q k, live))
+    (grind (arith, map.len-insert keys_total c.live k v, live)) true valid
 
 module _ {T : Type 0} (jobs : Content (Job T)) (empty : jobs.live ≡ map.empty) where
   none_live : (timed jobs).live ≡ map.empty
@@ -31,19 +28,10 @@ module _ {T : Type 0} (jobs : Content (Job T)) (empty : jobs.live ≡ map.empty)
 
   -- no job is there
   pub schedule_none : {Z : Type 0} (count : ℕ) (heap : Vec Entry Z) → IsContent true jobs → vec_len heap ≡ 0 → map.len jobs.next ≤ vec_capacity heap → IsSchedule jobs count heap
-  schedule_none count heap valid none room = record {
-    order = none_in_order (timed jobs).live count none_live;
-    valid = content-mapped unplaced jobs true valid;
-    indexed = record {
-      placed = record {
-        to = λ k l x there. absurd (let e = ap (λ m. spot_of m k) empty in let f = map.get-empty {X = Job T} key_cmp k in cc);
-        from = λ l k x there. absurd (let within = entry_within heap.items l (k, x) there in omega (arith, heap.ok.0));
-      };
-      ordered = λ c low high. absurd (omega (arith, heap.ok.0));
-      len = none ∙ sym no_len;
-    };
-    room = (let len = no_len in omega arith);
-  }
+  schedule_none count heap valid none room =
+      let order = none_in_order (timed jobs).live count none_live in
+      let content = content-mapped unplaced jobs true valid in
+      grind (arith, entry_within, map.get-empty {X = Job T} key_cmp, empty, heap.ok.0, no_len)
 
 -- the handles are a content
 pub schedule_content : {T Z : Type 0} {jobs : Content (Job T)} {count : ℕ} {heap : Vec Entry Z} → IsSchedule jobs count heap → IsContent true (handles_of (timed jobs) heap)
@@ -61,45 +49,25 @@ module _ {T Z : Type 0} {jobs : Content (Job T)} {count : ℕ} {heap : Vec Entry
     unused = none_of (map.get (timed jobs).live k) (inserted_fresh true (timed jobs) k ((time, count), job) (timed jobs') is.valid inserts)
 
     put_next : (map.len jobs'.next + 1 ≡ map.len jobs.next) ⊎ (map.len jobs'.next ≡ 0)
-    put_next = grind (
-      arith,
-      is.valid.offers inserts.below_limit,
-      map.len-remove nat_cmp_total jobs.next k.index,
-      ap map.len inserts.next,
-      inserts.offered,
-      some_entry nat_cmp_total exact_unsigned jobs.next k.index,
-    )
+    put_next =
+        let less = map.len-remove nat_cmp_total jobs.next k.index in
+        let some = some_entry nat_cmp_total exact_unsigned jobs.next k.index in
+        grind (arith, is.valid.offers inserts.below_limit, ap map.len inserts.next, inserts.offered, some)
 
-    put_order : InOrder (timed jobs').live (count + 1) × (waiting_of (timed jobs').live ≡ in_turn (k, (time, job)) (waiting_of (timed jobs).live))
+    pub put_order : InOrder (timed jobs').live (count + 1) × (waiting_of (timed jobs').live ≡ in_turn (k, (time, job)) (waiting_of (timed jobs).live))
     put_order = rw inserts.live (added (timed jobs).live count is.order k time job unused)
 
     pub put_len : map.len (timed jobs').live ≡ map.len (timed jobs).live + 1
     put_len = inserted_len true (timed jobs) k ((time, count), job) (timed jobs') is.valid inserts
 
     pub put_schedule : (heap' : Vec Entry Z) → IsContent true (timed jobs') → IsIndexed jobs' heap' → vec_capacity heap' ≡ vec_capacity heap → IsSchedule jobs' (count + 1) heap'
-    put_schedule heap' valid indexed capacity = record {
-      order = put_order.0;
-      valid = valid;
-      indexed = indexed;
-      room = (let more = put_len in let len = indexed.len in let room = is.room in elim put_next [ inl fewer ↦ omega arith | inr none ↦ omega (arith, heap'.ok.1) ]);
-    }
-
-    pub put_waits : waiting_of (timed jobs').live ≡ in_turn (k, (time, job)) (waiting_of (timed jobs).live)
-    put_waits = put_order.1
+    put_schedule heap' valid indexed capacity = grind (arith, put_order.0, put_len, put_next, is.room, heap'.ok.1)
 
     pub put_fresh : job_of k (waiting_of (timed jobs).live) ≡ None
     put_fresh = job_is (timed jobs).live count is.order k ∙ ap (option_map (λ (x : Turn × T). (x.0.0, x.1))) unused
 
-    pub put_more : length (waiting_of (timed jobs').live) ≡ length (waiting_of (timed jobs).live) + 1
-    put_more = len_is (timed jobs').live (count + 1) put_order.0 ∙ put_len ∙ ap (λ n. n + 1) (sym (len_is (timed jobs).live count is.order))
-
-    pub put_there : job_of k (waiting_of (timed jobs').live) ≡ Some (time, job)
-    put_there = job_is (timed jobs').live (count + 1) put_order.0 k
-        ∙ ap (option_map (λ (x : Turn × T). (x.0.0, x.1))) (ap (λ m. map.get m k) inserts.live ∙ get-insert_here (timed jobs).live k ((time, count), job))
-
-    pub put_others : (q : Key) → q ≢ k → job_of q (waiting_of (timed jobs').live) ≡ job_of q (waiting_of (timed jobs).live)
-    put_others q other = job_stays (timed jobs).live count is.order (timed jobs').live (count + 1) put_order.0 q
-        (ap (λ m. map.get m q) inserts.live ∙ get-insert_other (timed jobs).live k ((time, count), job) q other)
+    pub put_found : (q : Key) → job_of q (waiting_of (timed jobs').live) ≡ cond (eq_by_cmp key_cmp q k) (Some (time, job)) (job_of q (waiting_of (timed jobs).live))
+    put_found q = ap (job_of q) put_order.1 ∙ found_in_turn k q (time, job) (waiting_of (timed jobs).live) put_fresh
 
   module _ (k : Key) (j : Job T) (found : map.get jobs.live k ≡ Some j) where
     had : map.get (timed jobs).live k ≡ Some (j.turn, j.job)
@@ -119,22 +87,11 @@ module _ {T Z : Type 0} {jobs : Content (Job T)} {count : ℕ} {heap : Vec Entry
       left_order : InOrder (timed jobs').live count
       left_order = rw removes.live less.0
 
-      pub left_less : length (waiting_of (timed jobs').live) + 1 ≡ length (waiting_of (timed jobs).live)
-      left_less = ap (λ n. n + 1) (len_is (timed jobs').live count left_order) ∙ left_len ∙ sym (len_is (timed jobs).live count is.order)
-
-      pub left_others : (q : Key) → q ≢ k → job_of q (waiting_of (timed jobs').live) ≡ job_of q (waiting_of (timed jobs).live)
-      left_others q other = job_stays (timed jobs).live count is.order (timed jobs').live count left_order q (ap (λ m. map.get m q) removes.live ∙ get-removed_other (timed jobs).live k q other)
-
       pub left_leaves : Leaves (timed jobs) (timed jobs')
       left_leaves = leaves_by_removal true (timed jobs) is.valid k (ap is_some had) (timed jobs') removes
 
       pub left_schedule : (heap' : Vec Entry Z) → IsContent true (timed jobs') → IsIndexed jobs' heap' → vec_capacity heap' ≡ vec_capacity heap → IsSchedule jobs' count heap'
-      left_schedule heap' valid indexed capacity = record {
-        order = left_order;
-        valid = valid;
-        indexed = indexed;
-        room = (let fewer = left_len in let e = ap map.len removes.next in let more = λ (n : ℕ) (v : ℕ). map.len-insert nat_cmp_total jobs.next n v in let room = is.room in grind (arith, e));
-      }
+      left_schedule heap' valid indexed capacity = grind (arith, left_order, left_len, ap map.len removes.next, map.len-insert nat_cmp_total jobs.next, is.room)
 
     -- it has another turn
     module _ (time : ℕ) (jobs' : Content (Job T)) (turned : timed jobs' ≡ with_value (timed jobs) k ((time, count), j.job)) where
@@ -144,7 +101,7 @@ module _ {T Z : Type 0} {jobs : Content (Job T)} {count : ℕ} {heap : Vec Entry
       turned_live : (timed jobs').live ≡ again
       turned_live = ap (λ (c : Content (Turn × T)). c.live) turned ∙ grind (arith, keys)
 
-      turned_order : InOrder (timed jobs').live (count + 1) × (waiting_of (timed jobs').live ≡ in_turn (k, (time, j.job)) (without k (waiting_of (timed jobs).live)))
+      pub turned_order : InOrder (timed jobs').live (count + 1) × (waiting_of (timed jobs').live ≡ in_turn (k, (time, j.job)) (without k (waiting_of (timed jobs).live)))
       turned_order =
           let none : map.get (map.remove (timed jobs).live k) k ≡ None = grind (arith, keys) in
           let put = added (map.remove (timed jobs).live k) count less.0 k time j.job none in
@@ -153,20 +110,10 @@ module _ {T Z : Type 0} {jobs : Content (Job T)} {count : ℕ} {heap : Vec Entry
       turned_len : map.len (timed jobs').live ≡ map.len (timed jobs).live
       turned_len = ap (λ (c : Content (Turn × T)). map.len c.live) turned ∙ grind (arith, keys, had)
 
-      pub turned_there : job_of k (waiting_of (timed jobs').live) ≡ option_map {U = ℕ × T} (λ (due : ℕ × T). (time, due.1)) (job_of k (waiting_of (timed jobs).live))
-      turned_there = job_is (timed jobs').live (count + 1) turned_order.0 k
-          ∙ ap (option_map (λ (x : Turn × T). (x.0.0, x.1))) (ap (λ m. map.get m k) turned_live ∙ get-insert_here (map.remove (timed jobs).live k) k ((time, count), j.job))
-          ∙ sym (ap (option_map {U = ℕ × T} (λ (due : ℕ × T). (time, due.1))) (job_is (timed jobs).live count is.order k ∙ ap (option_map (λ (x : Turn × T). (x.0.0, x.1))) had))
-
-      pub turned_others : (q : Key) → q ≢ k → job_of q (waiting_of (timed jobs').live) ≡ job_of q (waiting_of (timed jobs).live)
-      turned_others q other = job_stays (timed jobs).live count is.order (timed jobs').live (count + 1) turned_order.0 q
-          (ap (λ m. map.get m q) turned_live ∙ get-insert_other (map.remove (timed jobs).live k) k ((time, count), j.job) q other ∙ get-removed_other (timed jobs).live k q other)
-
-      pub turned_more : length (waiting_of (timed jobs').live) ≡ length (waiting_of (timed jobs).live)
-      turned_more = len_is (timed jobs').live (count + 1) turned_order.0 ∙ turned_len ∙ sym (len_is (timed jobs).live count is.order)
-
-      pub turned_waits : waiting_of (timed jobs').live ≡ in_turn (k, (time, j.job)) (without k (waiting_of (timed jobs).live))
-      turned_waits = turned_order.1
+      pub turned_found : (q : Key) → job_of q (waiting_of (timed jobs').live) ≡ cond (eq_by_cmp key_cmp q k) (Some (time, j.job)) (job_of q (waiting_of (timed jobs).live))
+      turned_found q =
+          let was = waiting_of (timed jobs).live in
+          ap (job_of q) turned_order.1 ∙ grind (arith, found_in_turn k q (time, j.job) (without k was), found_without k k was, found_without k q was, itself keys_total exact_keys k)
 
       module _ (heap' : Vec Entry Z) (indexed : IsIndexed jobs' heap') (capacity : vec_capacity heap' ≡ vec_capacity heap) where
         pub turned_schedule : IsSchedule jobs' (count + 1) heap'
@@ -202,7 +149,7 @@ module _ {T Z : Type 0} {jobs : Content (Job T)} {count : ℕ} {heap : Vec Entry
         order = rw live_written now_written.0;
         valid = rw (mapped-with unplaced jobs jobs k (record j { job = w })) (content_written (timed jobs) is.valid k (ap is_some had) (j.turn, w));
         indexed = record {
-          placed = alike (spot_of jobs.live) _ (heap_entry heap.items) _ same_spot (λ i. refl) is.indexed.placed;
+          placed = record { to = λ q p y at. is.indexed.placed.to q p y (sym (same_spot q) ∙ at); from = λ p q y at. same_spot q ∙ is.indexed.placed.from p q y at };
           ordered = is.indexed.ordered;
           len = is.indexed.len ∙ sym len_written;
         };
@@ -222,16 +169,19 @@ module _ {T Z : Type 0} {jobs : Content (Job T)} {count : ℕ} {heap : Vec Entry
       → (ok → made × (vec_len heap' + n ≤ vec_capacity heap')) → (n ≤ jobs.room → vec_len heap + n ≤ vec_capacity heap → ok)
       → MakesRoom true (handles_of (timed jobs) heap) n ok (handles_of (timed jobs') heap')
   reserved_room jobs' heap' n made ok makes items len more same has had =
-      handles_room (timed jobs) (timed jobs') heap heap' n made ok (mapped-room unplaced jobs jobs' n made makes) (schedule_content is)
-      (schedule_content (reserved_schedule jobs' heap' n made makes items len more)) is.indexed.len len more same has had
+      let room = mapped-room unplaced jobs jobs' n made makes in
+      let before = schedule_content is in
+      let after = schedule_content (reserved_schedule jobs' heap' n made makes items len more) in
+      let same_used = used_alone (timed jobs) in
+      let live = len-keys_of (timed jobs).live in
+      let all = is.indexed.len in
+      let keeps = alone-keeps (timed jobs) (timed jobs') room.keeps in
+      let had_room = λ (fits : n ≤ (handles_of (timed jobs) heap).room). same_handles (timed jobs) (timed jobs') heap heap' (room.had_room (omega arith)) len (same (omega (arith, heap.ok.1))) in
+      grind (arith, room.fits, room.room, room.live_and_more, has, had, had_room, heap.ok.1, room.keeps.room, room.capacity)
 
 -- all jobs were taken out
 pub schedule_cleared : {T Z : Type 0} (jobs jobs' : Content (Job T)) (count : ℕ) (heap heap' : Vec Entry Z) → IsSchedule jobs count heap
     → IsContent true jobs' → jobs'.live ≡ map.empty → Leaves jobs jobs'
     → vec_len heap' ≡ 0 → vec_capacity heap' ≡ vec_capacity heap → IsSchedule jobs' count heap'
 schedule_cleared {T} jobs jobs' count heap heap' is valid empty leaves none capacity =
-    let live = ap map.len empty ∙ map.len-empty key_cmp (Job T) in
-    let was = len-mapped unplaced jobs.live in
-    let vacant = vacant_at_most jobs jobs' leaves in
-    let room = is.room in
-    schedule_none jobs' empty count heap' valid none (omega arith)
+    schedule_none jobs' empty count heap' valid none (omega (arith, ap map.len empty ∙ map.len-empty key_cmp (Job T), len-mapped unplaced jobs.live, vacant_at_most jobs jobs' leaves, is.room))

@@ -1,10 +1,11 @@
 -- What a scheduler's user sees, by what its map holds.
 use Rattle.std.proofs.Common.{◌<◌, ◌∷◌, ◌≡◌, ◌≤◌}
-use Rattle.slotmap_scheduler.proofs.Common.{All, Bor, Content, Entry, IsContent, IsLive, IsSchedule, Job, Key, List, ListsJobs, None, Option, Some, Turn, Vec, [], ap, arith, false, find, get-mapped}
-use Rattle.slotmap_scheduler.proofs.Common.{heap_entry, inl, is_some, job_of, key_cmp, len-mapped, length, length-map, list_map, no_entry, option_copied, option_map, precedes, refl, shown, slice_get}
+use Rattle.slotmap_scheduler.proofs.Common.{All, Bor, Content, Entry, IsContent, IsLive, IsSchedule, Job, Key, List, ListsJobs, None, Option, Some, Turn, Vec, [], ap, arith, false, get-mapped}
+use Rattle.slotmap_scheduler.proofs.Common.{heap_entry, is_some, job_of, len-mapped, length, length-map, list_map, no_entry, option_copied, option_map, precedes, refl, shown, slice_get}
 use Rattle.slotmap_scheduler.proofs.Common.{slice_get-get_or, sym, timed, true, turn_at, unplaced, waiting_of, without, ℕ, ◌∙◌}
 use Rattle.slotmap_scheduler.proofs.Order.{job_is, len_is, none_due, none_wait, waits_first}
-use Rattle.slotmap_scheduler.proofs.{Heaps.top_first, HeapPlaces.entry_within, Waits.least_first, Waits.waits_by_time}
+use Rattle.slotmap_scheduler.proofs.{Heaps.top_first, HeapPlaces.entry_within}
+use Rattle.slotmap_scheduler.proofs.Waits.{find-shown, least_first, waits_by_time}
 use Rattle.std.specs.FinMap as map
 
 -- a reference that is not there
@@ -28,10 +29,6 @@ module _ {T Z : Type 0} {jobs : Content (Job T)} {count : ℕ} {heap : Vec Entry
   pub none_seen : map.get jobs.live k ≡ None → job_of k (waiting_of (timed jobs).live) ≡ None
   none_seen none = grind (arith, seen_is)
 
-  -- the job of a handle that was found
-  pub seen_job : (j : Job T) → map.get jobs.live k ≡ Some j → (before : ℕ) (job : T) → job_of k (waiting_of (timed jobs).live) ≡ Some (before, job) → j.job ≡ job
-  seen_job j found before job seen = grind (arith, seen_is)
-
 -- a job as it is in the map: with its place, and without
 spot_there : {T : Type 0} (o : Option (Job T)) (t : Turn) (x : T) → option_map unplaced o ≡ Some (t, x) → (p : ℕ)
     × (option_map {U = ℕ × Turn} (λ (j : Job T). (j.place, j.turn)) o ≡ Some (p, t))
@@ -53,14 +50,11 @@ module _ {T Z : Type 0} {jobs : Content (Job T)} {count : ℕ} {heap : Vec Entry
     top_entry = ap (option_map _) top
 
     top_job : (job : T) × (map.get (timed jobs).live e.handle ≡ Some (e.turn, job))
-    top_job = let there = job_there (map.get jobs.live e.handle) 0 e.turn (is.indexed.placed.from 0 e.handle e.turn top_entry) in (there.0, get-mapped unplaced jobs.live e.handle ∙ there.1)
+    top_job = grind (arith, job_there (map.get jobs.live e.handle) 0 e.turn (is.indexed.placed.from 0 e.handle e.turn top_entry), get-mapped unplaced jobs.live e.handle)
 
     least : (q : Key) (u : Turn) (x : T) → map.get (timed jobs).live q ≡ Some (u, x) → precedes u e.turn ≡ false
     least q u x there =
-        let spot = spot_there (map.get jobs.live q) u x (sym (get-mapped unplaced jobs.live q) ∙ there) in
-        let at = is.indexed.placed.to q spot.0 u spot.1 in
-        let within = entry_within heap.items spot.0 (q, u) at in
-        (λ n. precedes (sym (turn_there spot.0 q u at) n) (sym (turn_there 0 e.handle e.turn top_entry) n)) ∙ top_first heap.items is.indexed.ordered spot.0 spot.0 (omega arith) within
+        grind (arith, get-mapped unplaced jobs.live q, spot_there (map.get jobs.live q) u x, is.indexed.placed.to q, turn_there, entry_within, top_entry, top_first heap.items is.indexed.ordered)
 
     pub top_waits : (job : T) × (waiting_of (timed jobs).live ≡ (e.handle, (e.turn.0, job)) ∷ without e.handle (waiting_of (timed jobs).live))
     top_waits = (top_job.0, waits_first (timed jobs).live count is.order e.handle e.turn top_job.0 top_job.1 least)
@@ -80,23 +74,19 @@ module _ {T Z : Type 0} {jobs : Content (Job T)} {count : ℕ} {heap : Vec Entry
 
 -- the jobs as an iterator yields them
 module _ {T Z : Type 0} {jobs : Content (Job T)} {count : ℕ} {heap : Vec Entry Z} (is : IsSchedule jobs count heap) where
-  find-shown : (es : List (Key × Job T)) (k : Key) → job_of k (list_map shown es) ≡ option_map (λ (j : Job T). (j.turn.0, j.job)) (find key_cmp k es)
-  find-shown [] k = refl
-  find-shown (e ∷ es) k = grind (arith, find-shown es k)
-
   pub lists_jobs : ListsJobs (waiting_of (timed jobs).live) (list_map shown (map.entries jobs.live))
-  lists_jobs = record {
-    same = λ k. find-shown (map.entries jobs.live) k ∙ ap (option_map (λ (j : Job T). (j.turn.0, j.job))) (sym (map.get-entries jobs.live k)) ∙ sym (seen_is is k);
-    count = length-map (map.entries jobs.live) shown ∙ sym (map.len-entries jobs.live) ∙ sym (len_is (timed jobs).live count is.order ∙ len-mapped unplaced jobs.live);
-  }
+  lists_jobs =
+      let same = find-shown (map.entries jobs.live) in
+      let found = map.get-entries jobs.live in
+      let count = length-map (map.entries jobs.live) shown ∙ sym (map.len-entries jobs.live) ∙ sym (len_is (timed jobs).live count is.order ∙ len-mapped unplaced jobs.live) in
+      grind (arith, same, found, seen_is is)
 
 -- a handle that the map finds, and the least one from an index on
 module _ {T Z : Type 0} {jobs : Content (Job T)} {count : ℕ} {heap : Vec Entry Z} (is : IsSchedule jobs count heap) (k : Key) where
-  pub found_waits : (j : Job T) → map.get jobs.live k ≡ Some j → (x : T) × (job_of k (waiting_of (timed jobs).live) ≡ Some (j.turn.0, x))
-  found_waits j found = (j.job, seen_is is k ∙ ap (option_map (λ (y : Job T). (y.turn.0, y.job))) found)
+  pub found_waits : (j : Job T) → map.get jobs.live k ≡ Some j → job_of k (waiting_of (timed jobs).live) ≡ Some (j.turn.0, j.job)
+  found_waits j found = seen_is is k ∙ ap (option_map (λ (y : Job T). (y.turn.0, y.job))) found
 
   pub alone_at : IsContent true jobs → (j : Job T) → map.get jobs.live k ≡ Some j → (floor : ℕ)
       → ((other : Key) → IsLive jobs other → floor ≤ other.index → k.index ≤ other.index)
       → (q : Key) → is_some (job_of q (waiting_of (timed jobs).live)) ≡ true → floor ≤ q.index → q.index ≤ k.index → q ≡ k
-  alone_at well j found floor first q there from up =
-      let live : IsLive jobs q = contains_seen is q ∙ there in let least = first q live from in well.apart q k (inl (inl live)) (inl (inl (ap is_some found))) (omega arith)
+  alone_at well j found floor first q there from up = grind (arith, contains_seen is q, first q, well.apart q k)

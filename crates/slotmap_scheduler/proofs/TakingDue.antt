@@ -1,6 +1,6 @@
 -- A loop that takes out the jobs that are due.
 use Rattle.std.proofs.Common.{◌++◌, ◌+◌, ◌∷◌, ◌≡◌, ◌≤◌}
-use Rattle.slotmap_scheduler.proofs.Common.{All, All-nil, All-push, Due, IsByTime, Key, List, Schedule, TakesDue, Vec, Waiting, [], ap, append-nil, append_assoc, arith, cond, due_at, false, length}
+use Rattle.slotmap_scheduler.proofs.Common.{All, All-nil, All-push, Due, IsByTime, Key, List, Schedule, TakesDue, Vec, Waiting, [], ap, append-nil, append_assoc, arith, due_at, false, length}
 use Rattle.slotmap_scheduler.proofs.Common.{map_push, nat_lt, nat_tests, refl, sym, vec_capacity, vec_len, ℕ, ◌∙◌}
 use Rattle.slotmap_scheduler.proofs.TakingOut.{HasFewer, same_fewer, still_fewer}
 use Rattle.slotmap_scheduler.proofs.Waits.{sorted_first}
@@ -14,7 +14,7 @@ module _ {T : Type 0} (now : ℕ) where
 
   -- where the first job is due, the others that are come behind it
   pub first_due : (e : Key × (ℕ × T)) (es ws : Waiting T) → e.1.0 ≤ now → ws ≡ e ∷ es → length (due_at now ws) ≡ length (due_at now es) + 1
-  first_due e es ws le is = ap (λ l. length (due_at now l)) is ∙ ap (λ b. length (cond b [] (e ∷ due_at now es))) (not_later e le) ∙ omega arith
+  first_due e es ws le is = grind (arith, not_later e le)
 
 module _ {K T Z : Type 0} (data_of : K → Key) (now : ℕ) where
   -- some jobs were taken out, and put into the vector
@@ -55,15 +55,7 @@ module _ {K T Z : Type 0} (data_of : K → Key) (now : ℕ) where
 
   pub taking_end : (old : Schedule T) (start : Vec (K × T) Z) (s : Schedule T) (due : Vec (K × T) Z) → Taking old start s due → IsByTime old.waiting
       → (all : List (K × T)) → all ≡ due.items → TakesDue data_of now old.waiting start.items all s.waiting
-  taking_end old start s due t sorted all same = record {
-    first = t.first;
-    taken = t.taken;
-    waited = t.waited;
-    due = t.all_due;
-    sorted = sorted_first t.first s.waiting (rw t.waited at sorted);
-    returned = t.returned;
-    added = same ∙ t.added;
-  }
+  taking_end old start s due t sorted all same = grind (arith, t, sorted_first t.first s.waiting, same, sorted)
 
 -- nothing was taken out
 pub takes_none : {K T : Type 0} (data_of : K → Key) (now : ℕ) (ws : Waiting T) (items all : List (K × T)) → all ≡ items → TakesDue data_of now ws items all ws

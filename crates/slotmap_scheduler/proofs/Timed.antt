@@ -1,8 +1,7 @@
 -- Jobs by their turns: no two have one turn, so each is found by its turn.
 use Rattle.std.proofs.Common.{◌<◌, ◌∷◌, ◌≡◌}
 use Rattle.slotmap_scheduler.proofs.Common.{AllByRecursion, CmpEqualImpliesEq, InOrder, IsInverse, IsTotalOrder, Key, List, Some, Timed, Turn, [], arith, as_seen, by_turn, exact_keys, exact_pairs}
-use Rattle.slotmap_scheduler.proofs.Common.{exact_unsigned, find, key_cmp, keys_total, list_map, nat_cmp, nat_cmp_total, on_total, sym, then_total, tied, turn_cmp, untied, waiting_of, ℕ}
-use Rattle.slotmap_scheduler.proofs.Common.{◌∙◌}
+use Rattle.slotmap_scheduler.proofs.Common.{exact_unsigned, find, key_cmp, keys_total, list_map, nat_cmp, nat_cmp_total, on_total, sym, then_total, tied, turn_cmp, untied, waiting_of, ℕ, ◌∙◌}
 use Rattle.slotmap_scheduler.proofs.Sorted.{all_of, same_option}
 use Rattle.std.specs.FinMap as map
 
@@ -44,8 +43,7 @@ module _ {T : Type 0} where
     one_handle turns is k q t x y at there = grind (arith, is.to k t x at, is.to q t y there)
 
     by_turn_is : (turns : map.FinMap turn_cmp (Key × T)) → IsInverse (map.get jobs) (map.get turns) → by_turn jobs ≡ turns
-    by_turn_is turns is =
-        let by = inverse (one_handle turns is) in
+    by_turn_is turns is = let by = inverse (one_handle turns is) in
         map.same_map turns_total exact_turns (by_turn jobs) turns
         (λ t. same_option _ _ (λ x there. is.to x.0 t x.1 (by.from t x.0 x.1 there)) (λ x there. by.to x.0 t x.1 (is.from t x.0 x.1 there)))
 

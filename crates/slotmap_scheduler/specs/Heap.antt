@@ -1,15 +1,15 @@
 -- How a scheduler keeps its jobs: each in the map, with its place in a heap of turns.
-use Rattle.std.specs.Prelude.{◌≡◌, ◌≢◌, ℕ, zero, suc, ◌+◌, ◌-◌, ◌/◌, ◌<◌, ◌≤◌, ◌&&◌, ◌||◌, Bool, true, false, not}
-use Rattle.std.specs.Prelude.{cond, nat_eq, nat_lt, List, Option, get_or, length, min, vec_len, vec_capacity, slice_get, option_map}
+use Rattle.std.specs.Prelude.{◌≡◌, ◌≢◌, ℕ, zero, suc, ◌+◌, ◌-◌, ◌/◌, ◌<◌, ◌≤◌, ◌&&◌, ◌||◌, Bool, true, false, not, cond, nat_eq, nat_lt, List, Option}
+use Rattle.std.specs.Prelude.{get_or, length, min, vec_len, vec_capacity, slice_get, option_map}
 use Rattle.std.specs.declared.vec.Vec.{Vec}
 use Rattle.std.specs.Ordering.{is_lt}
-use Rattle.std.specs.FinMap as map
 use Rattle.slotmap.specs.Words.{Key, key_cmp, Content, IsContent, without_values}
 use Rattle.slotmap_keylist.specs.Mapped.{map_content}
 use Rattle.slotmap_scheduler.specs.declared.Job.{Job}
 use Rattle.slotmap_scheduler.specs.declared.heap.Entry.{Entry}
 use Rattle.slotmap_scheduler.specs.Inverse.{IsInverse}
 use Rattle.slotmap_scheduler.specs.Timed.{Turn, turn_cmp, InOrder}
+use Rattle.std.specs.FinMap as map
 
 -- whether turn a is before turn b
 unfoldable pub precedes : Turn → Turn → Bool

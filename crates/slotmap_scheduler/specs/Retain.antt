@@ -1,8 +1,8 @@
 -- What `retain` does to the jobs that wait.
-use Rattle.std.specs.Prelude.{◌≡◌, ℕ, Bool, Some, None, List, [], ◌∷◌, if◌then◌else◌}
+use Rattle.std.specs.Prelude.{◌≡◌, ℕ, Bool, Some, None, List, map as list_map, if◌then◌else◌}
 use Rattle.std.specs.Fn.{Mut, Called, Takes}
 use Rattle.std.specs.Borrow.{MutBor}
-use Rattle.std.specs.List.{FoldsTo}
+use Rattle.std.specs.List.{FoldsTo, fold}
 use Rattle.slotmap.specs.Words.{Key}
 use Rattle.slotmap_scheduler.specs.Schedule.{Waiting, job_of, with_job, without, IsOnce}
 use Rattle.slotmap_scheduler.specs.Listed.{ListsJobs}
@@ -18,8 +18,7 @@ pub record JobVisit (K T : Type 0) : Type 0 where
 module _ {K T : Type 0} (data_of : K → Key) where
   -- the jobs that the calls saw
   abbrev pub jobs_seen : List (JobVisit K T) → Waiting T
-  jobs_seen [] = []
-  jobs_seen (x ∷ xs) = (data_of x.handle, (x.time, x.before)) ∷ jobs_seen xs
+  jobs_seen visits = list_map (λ x. (data_of x.handle, (x.time, x.before))) visits
 
   -- the jobs after a call: that job has what the call wrote, or isn't there
   abbrev pub after_visit : JobVisit K T → Waiting T → Waiting T
@@ -27,8 +26,7 @@ module _ {K T : Type 0} (data_of : K → Key) where
 
   -- the jobs after all calls, in the same order
   abbrev pub after_visits : List (JobVisit K T) → Waiting T → Waiting T
-  after_visits [] jobs = jobs
-  after_visits (x ∷ xs) jobs = after_visits xs (after_visit x jobs)
+  after_visits visits jobs = fold (λ left x. after_visit x left) jobs visits
 
   -- the calls saw jobs that wait, each once
   pub record SeesEachOnce (jobs : Waiting T) (visits : List (JobVisit K T)) : Type 0 where

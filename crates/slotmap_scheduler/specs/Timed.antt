@@ -1,12 +1,11 @@
 -- Jobs without their places, and the order in which they will be returned.
-use Rattle.std.specs.Prelude.{◌≡◌, ℕ, ◌<◌, Some}
-use Rattle.std.specs.Prelude.{map as list_map}
+use Rattle.std.specs.Prelude.{◌≡◌, ℕ, ◌<◌, Some, map as list_map}
 use Rattle.std.specs.declared.cmp.Ordering.{Ordering}
 use Rattle.std.specs.Ordering.{ordering_then, nat_cmp}
-use Rattle.std.specs.FinMap as map
 use Rattle.slotmap.specs.Words.{Key, key_cmp}
 use Rattle.slotmap_scheduler.specs.Inverse.{IsInverse}
 use Rattle.slotmap_scheduler.specs.Schedule.{Waiting}
+use Rattle.std.specs.FinMap as map
 
 -- the time at which a job is due, and its number among all that were scheduled
 abbrev pub Turn : Type 0

@@ -1,7 +1,11 @@
-use Rattle.slotmap_scheduler.proofs.Common.{Job, ap, arith, is_some, live-mapped, option_map, removed_spent, rules, spent_removes, sym, timed, true, unplaced, waiting_of, ◌∙◌}
-use Rattle.slotmap_scheduler.proofs.Schedules.{left_leaves, left_len, left_less, left_others, left_schedule, left_waits}
+use Rattle.std.proofs.Common.{◌+◌}
+use Rattle.slotmap_scheduler.proofs.Common.{length, exact_keys, keys_total, tied, Job, ap, arith, is_some, live-mapped, option_map, removed_spent, rules, spent_removes, sym, timed, true, unplaced}
+use Rattle.slotmap_scheduler.proofs.Common.{waiting_of, ◌∙◌}
+use Rattle.slotmap_scheduler.proofs.Schedules.{left_leaves, left_len, left_schedule, left_waits}
+use Rattle.slotmap_scheduler.proofs.Found.{found_without, len_without, without_none}
+use Rattle.slotmap_scheduler.proofs.Waits.{waits_once}
 use Rattle.slotmap_scheduler.proofs.Handles.{handles_left, handles_removed, handles_spent, handles_stale, same_capacity}
-use Rattle.slotmap_scheduler.proofs.{Seen.job_seen, Seen.none_seen, Results.without_none}
+use Rattle.slotmap_scheduler.proofs.Seen.{found_waits, job_seen, none_seen}
 use Rattle.slotmap_scheduler.proofs.Scheduler.cancel.Goals as goal
 
 pub invariant_of-self-2 : goal.invariant_of-self-2
@@ -19,11 +23,14 @@ returns g c =
     let fewer = left_len c.self.invariant c.inner.result c.in_ok-removed.removed found c.take_out.new.jobs removes in
     let len = c.self.invariant.indexed.len in
     let now = out.indexed.len in
+    let waits = left_waits c.self.invariant c.inner.result c.in_ok-removed.removed found c.take_out.new.jobs removes in
+    let was = waiting_of (timed c.self.inside.jobs).live in
     record {
       job = rw (← c.self.view_is, ← c.inner.ensures) (ap (option_map (λ (j : Job g.row.T.Denot). j.job)) (sym found) ∙ job_seen c.self.invariant c.inner.result);
-      removed = rw (← c.self.view_is, ← c.inner.ensures) (left_waits c.self.invariant c.inner.result c.in_ok-removed.removed found c.take_out.new.jobs removes);
-      one_less = rw (← c.self.view_is) (left_less c.self.invariant c.inner.result c.in_ok-removed.removed found c.take_out.new.jobs removes);
-      others = rw (← c.self.view_is, ← c.inner.ensures) (left_others c.self.invariant c.inner.result c.in_ok-removed.removed found c.take_out.new.jobs removes);
+      removed = rw (← c.self.view_is, ← c.inner.ensures) waits;
+      one_less = rw (← c.self.view_is) (let more = len_without c.inner.result was _ (waits_once _ _ c.self.invariant.order)
+          (found_waits c.self.invariant c.inner.result c.in_ok-removed.removed found) in ap (λ ws. length ws + 1) waits ∙ omega arith);
+      others = rw (← c.self.view_is, ← c.inner.ensures) (λ q other. grind (arith, waits, found_without c.inner.result q was, tied keys_total exact_keys q c.inner.result));
       handles = rw (← c.self.view_is, ← c.inner.ensures)
           (handles_removed (timed c.self.inside.jobs) (timed c.take_out.new.jobs) c.self.inside.heap c.take_out.new.heap c.inner.result removes (omega arith) out.capacity);
       turns = search rules;

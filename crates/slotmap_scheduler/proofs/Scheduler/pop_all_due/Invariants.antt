@@ -1,6 +1,5 @@
 use Rattle.std.proofs.Common.{◌≡◌}
-use Rattle.slotmap_scheduler.proofs.Common.{length, vec_capacity}
-use Rattle.slotmap_scheduler.proofs.TakingDue.{Taking}
+use Rattle.slotmap_scheduler.proofs.{Common.length, Common.vec_capacity, TakingDue.Taking}
 use Rattle.slotmap_scheduler.proofs.Scheduler.pop_all_due.Given as goal
 
 abbrev pub invariant-loop-job : goal.invariant-loop-job

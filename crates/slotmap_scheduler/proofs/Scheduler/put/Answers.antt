@@ -1,5 +1,6 @@
-use Rattle.slotmap_scheduler.proofs.Common.{arith, rules, spent_inserts, timed, true}
-use Rattle.slotmap_scheduler.proofs.Schedules.{put_fresh, put_len, put_more, put_others, put_schedule, put_there, put_waits}
+use Rattle.slotmap_scheduler.proofs.Common.{ap, arith, exact_keys, itself, keys_total, length, tied, ◌∙◌, rules, spent_inserts, timed, true}
+use Rattle.slotmap_scheduler.proofs.Schedules.{put_found, put_fresh, put_len, put_order, put_schedule}
+use Rattle.slotmap_scheduler.proofs.Found.{len_in_turn}
 use Rattle.slotmap_scheduler.proofs.Handles.{handles_inserted, handles_stale, handles_unspent, same_capacity}
 use Rattle.slotmap_scheduler.proofs.Scheduler.put.Goals as goal
 
@@ -18,11 +19,13 @@ returns g c =
     let more = put_len c.self.invariant c.put_in-handle.new.jobs c.put_in-handle.result c.args.time c.args.job put.inserts in
     let len = c.self.invariant.indexed.len in
     let now = put.indexed.len in
+    let waits = (put_order c.self.invariant c.put_in-handle.new.jobs c.put_in-handle.result c.args.time c.args.job put.inserts).1 in
+    let found = put_found c.self.invariant c.put_in-handle.new.jobs c.put_in-handle.result c.args.time c.args.job put.inserts in
     record {
-      waits = rw (← c.self.view_is, c.outer.ensures) (put_waits c.self.invariant c.put_in-handle.new.jobs c.put_in-handle.result c.args.time c.args.job put.inserts);
-      there = rw (c.outer.ensures) (put_there c.self.invariant c.put_in-handle.new.jobs c.put_in-handle.result c.args.time c.args.job put.inserts);
-      others = rw (← c.self.view_is, c.outer.ensures) (put_others c.self.invariant c.put_in-handle.new.jobs c.put_in-handle.result c.args.time c.args.job put.inserts);
-      one_more = rw (← c.self.view_is) (put_more c.self.invariant c.put_in-handle.new.jobs c.put_in-handle.result c.args.time c.args.job put.inserts);
+      waits = rw (← c.self.view_is, c.outer.ensures) waits;
+      there = rw (c.outer.ensures) (grind (arith, found c.put_in-handle.result, itself keys_total exact_keys c.put_in-handle.result));
+      others = rw (← c.self.view_is, c.outer.ensures) (λ q other. grind (arith, found q, tied keys_total exact_keys q c.put_in-handle.result));
+      one_more = rw (← c.self.view_is) (ap length waits ∙ len_in_turn _ _);
       fresh = rw (← c.self.view_is, c.outer.ensures) (put_fresh c.self.invariant c.put_in-handle.new.jobs c.put_in-handle.result c.args.time c.args.job put.inserts);
       unspent = rw (← c.self.view_is, c.outer.ensures) (handles_unspent (timed c.self.inside.jobs) (timed c.put_in-handle.new.jobs) c.self.inside.heap c.put_in-handle.new.heap _ _ put.inserts well);
       handles = rw (← c.self.view_is, c.outer.ensures)

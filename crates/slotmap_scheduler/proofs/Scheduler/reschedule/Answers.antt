@@ -1,8 +1,12 @@
-use Rattle.slotmap_scheduler.proofs.Common.{arith, none_of, rules, sym, ◌∙◌}
-use Rattle.slotmap_scheduler.proofs.Schedules.{turned_handles, turned_more, turned_others, turned_schedule, turned_there, turned_waits}
-use Rattle.slotmap_scheduler.proofs.Seen.{contains_seen, none_seen, seen_job}
-use Rattle.slotmap_scheduler.proofs.Results.{some_is}
+use Rattle.std.proofs.Common.{◌≡◌}
+use Rattle.slotmap_scheduler.proofs.Common.{Option, Some, true, ap, arith, exact_keys, is_some, itself, keys_total, none_of, rules, sym, tied, timed, waiting_of, ◌∙◌}
+use Rattle.slotmap_scheduler.proofs.Schedules.{turned_found, turned_handles, turned_order, turned_schedule}
+use Rattle.slotmap_scheduler.proofs.{Found.len_in_turn, Found.len_without, Seen.found_waits, Seen.none_seen, Waits.waits_once}
 use Rattle.slotmap_scheduler.proofs.Scheduler.reschedule.Goals as goal
+
+-- what is there
+some_is : {A : Type 0} (o : Option A) → is_some o ≡ true → (x : A) × (o ≡ Some x)
+some_is o is = grind arith
 
 pub returns-then-not-contains_key-clause-err : goal.returns-then-not-contains_key-clause-err
 returns-then-not-contains_key-clause-err g c =
@@ -17,16 +21,20 @@ invariant_of-self g c =
 pub returns : goal.returns
 returns g c =
     let j = some_is _ (sym c.contains_key.ensures.value ∙ c.if-not-contains_key.false) in
+    let written = c.set_turn.ensures.written j.0 j.1 in
+    let waits = (turned_order c.self.invariant c.inner-key.result j.0 j.1 c.args.time c.set_turn.new.jobs written).1 in
+    let found = turned_found c.self.invariant c.inner-key.result j.0 j.1 c.args.time c.set_turn.new.jobs written in
+    let there = found_waits c.self.invariant c.inner-key.result j.0 j.1 in
+    let was = waiting_of (timed c.self.inside.jobs).live in
     record {
-      moved = λ before job seen. (let same = seen_job c.self.invariant c.inner-key.result j.0 j.1 before job (rw (← c.self.view_is, ← c.inner-key.ensures) at seen) in
-          rw (← c.self.view_is, ← c.inner-key.ensures, ← same) (turned_waits c.self.invariant c.inner-key.result j.0 j.1 c.args.time c.set_turn.new.jobs (c.set_turn.ensures.written j.0 j.1)));
-      there = rw (← c.self.view_is, ← c.inner-key.ensures) (turned_there c.self.invariant c.inner-key.result j.0 j.1 c.args.time c.set_turn.new.jobs (c.set_turn.ensures.written j.0 j.1));
-      others = rw (← c.self.view_is, ← c.inner-key.ensures) (turned_others c.self.invariant c.inner-key.result j.0 j.1 c.args.time c.set_turn.new.jobs (c.set_turn.ensures.written j.0 j.1));
-      as_many = rw (← c.self.view_is) (turned_more c.self.invariant c.inner-key.result j.0 j.1 c.args.time c.set_turn.new.jobs (c.set_turn.ensures.written j.0 j.1));
-      waits = grind (arith, contains_seen c.self.invariant c.inner-key.result, c.inner-key.ensures, c.self.invariant, c.contains_key.ensures.value);
+      moved = rw (← c.self.view_is, ← c.inner-key.ensures) (λ before job seen. grind (arith, waits, there));
+      there = rw (← c.self.view_is, ← c.inner-key.ensures) (grind (arith, found c.inner-key.result, there, itself keys_total exact_keys c.inner-key.result));
+      others = rw (← c.self.view_is, ← c.inner-key.ensures) (λ q other. grind (arith, found q, tied keys_total exact_keys q c.inner-key.result));
+      as_many = rw (← c.self.view_is) (grind (arith, waits, len_in_turn, len_without c.inner-key.result was _ (waits_once _ _ c.self.invariant.order) there));
+      waits = rw (← c.self.view_is, ← c.inner-key.ensures) (ap is_some there);
       turns = search rules;
       err = tt;
       unchanged = tt;
       handles = rw (← c.self.view_is) (turned_handles c.self.invariant c.inner-key.result j.0 j.1 c.args.time c.set_turn.new.jobs
-          (c.set_turn.ensures.written j.0 j.1) c.set_turn.new.heap c.set_turn.ensures.indexed c.set_turn.ensures.capacity);
+          written c.set_turn.new.heap c.set_turn.ensures.indexed c.set_turn.ensures.capacity);
     }

@@ -1,5 +1,11 @@
-use Rattle.slotmap_scheduler.proofs.{Common.arith, Common.refl, Schedules.reserved_room, Schedules.reserved_schedule, Handles.used_handles, Results.if_ok}
+use Rattle.slotmap_scheduler.proofs.Common.{Err, IsOk, Result, arith, refl}
+use Rattle.slotmap_scheduler.proofs.{Schedules.reserved_room, Schedules.reserved_schedule, Handles.used_handles}
+use Rattle.std.proofs.Common.{◌≡◌}
 use Rattle.slotmap_scheduler.proofs.Scheduler.reserve.Goals as goal
+
+-- what is there where it isn't refused
+if_ok : {A B : Type 0} (r : Result A B) → ((e : B) → r ≡ Err e → ⊥) → IsOk r
+if_ok r not_err = grind arith
 
 pub invariant_of-self : goal.invariant_of-self
 invariant_of-self g c = reserved_schedule c.self.invariant c.reserve.new.self c.self.inside.heap c.args.additional _ c.reserve.ensures.makes_room refl refl (omega arith)

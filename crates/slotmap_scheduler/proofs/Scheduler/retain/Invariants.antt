@@ -1,6 +1,5 @@
 use Rattle.std.proofs.Common.{◌-◌, ◌^◌}
-use Rattle.slotmap_scheduler.proofs.Common.{index_after}
-use Rattle.slotmap_scheduler.proofs.Visiting.{Visiting}
+use Rattle.slotmap_scheduler.proofs.{Common.index_after, Visiting.Visiting}
 use Rattle.slotmap_scheduler.proofs.Scheduler.retain.Given as goal
 
 abbrev pub invariant-loop-next : goal.invariant-loop-next
