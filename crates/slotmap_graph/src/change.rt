@@ -5,7 +5,7 @@ ghost use Rattle.std.specs.Prelude.{IfNone, option_map, true, false, cond};
 ghost use Rattle.std.specs.Option.{option_and_then};
 ghost use Rattle.std.specs.List.{filter};
 ghost use Rattle.std.specs.FinMap as map;
-ghost use Rattle.slotmap.specs.Words.{Key as KeyOf, Inserts, Removes, Keeps, Leaves, IsLive, IsSpent, IsContent, KeepsSpent, Refuses};
+ghost use Rattle.slotmap.specs.Words.{Key as KeyOf, HasVacant, Inserts, Removes, Keeps, Leaves, IsLive, IsSpent, IsContent, KeepsSpent, Refuses};
 ghost use Rattle.slotmap_keylist.specs.KeyLists.{without};
 ghost use Rattle.slotmap_graph.specs.Parts.{SeenEdge, avoids, touches, from, to, value, edges_at, ListsEdges, PutsBehind, SameEdges, RefusesEdge};
 
@@ -88,7 +88,7 @@ impl<K: Key, N: Drop, E: Drop> Graph<K, N, E> {
 
         // Why the call failed, and what that leaves.
         ensures err { IfErr result (Refuses self.old.nodes node) }
-        ensures reuses { 0 < map.len self.old.nodes.next → IsOk result }
+        ensures reuses { HasVacant self.old.nodes → IsOk result }
         ensures room { 0 < self.old.nodes.room → IsOk result }
         ensures capacity { self.old.nodes.capacity ≤ self.new.nodes.capacity }
         ensures in_place { 0 < self.old.nodes.room → self.new.nodes.capacity ≡ self.old.nodes.capacity }
@@ -130,7 +130,7 @@ impl<K: Key, N: Drop, E: Drop> Graph<K, N, E> {
 
         // Why the call failed, and what that leaves.
         ensures err { IfErr result (RefusesEdge self.old.nodes self.old.edges (K.data_of from) (K.data_of to) edge) }
-        ensures reuses { IsLive self.old.nodes (K.data_of from) → IsLive self.old.nodes (K.data_of to) → 0 < map.len self.old.edges.next → IsOk result }
+        ensures reuses { IsLive self.old.nodes (K.data_of from) → IsLive self.old.nodes (K.data_of to) → HasVacant self.old.edges → IsOk result }
         ensures room { IsLive self.old.nodes (K.data_of from) → IsLive self.old.nodes (K.data_of to) → 0 < self.old.edges.room → IsOk result }
         ensures capacity { self.old.edges.capacity ≤ self.new.edges.capacity }
         ensures in_place { 0 < self.old.edges.room → self.new.edges.capacity ≡ self.old.edges.capacity }

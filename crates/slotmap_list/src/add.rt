@@ -1,8 +1,7 @@
 //! The calls that add an element.
 
 ghost use Rattle.std.specs.Prelude.{◌≡◌, ◌+◌, ◌<◌, ◌≤◌, ◌++◌, ◌∷◌, [], IsOk, IfOk, OnOk, IfErr, OnErr, IsSome, IsTrue, ◌↔◌, None, true};
-ghost use Rattle.std.specs.FinMap as map;
-ghost use Rattle.slotmap.specs.Words.{Inserts, IsSpent, Keeps, KeepsSpent, used};
+ghost use Rattle.slotmap.specs.Words.{HasVacant, Inserts, IsSpent, Keeps, KeepsSpent, used};
 ghost use Rattle.slotmap_list.specs.Sequence.{value_of, put_after, put_before};
 ghost use Rattle.slotmap_list.specs.ListPlaces.{insert_beside, is_place, put_by_place};
 ghost use Rattle.slotmap_list.specs.Refused.{RefusesPlace, RefusesPush};
@@ -22,7 +21,7 @@ impl<K: Key, T: Drop> StableList<K, T> {
         ensures cursors { IfOk result (λ key. Inserts self.old.cursors (K.data_of key) tt self.new.cursors) }
         ensures used { OnOk result (used self.new.cursors ≡ used self.old.cursors + 1) }
         ensures err { IfErr result (RefusesPush self.old.cursors value) }
-        ensures reuses { 0 < map.len self.old.cursors.next → IsOk result }
+        ensures reuses { HasVacant self.old.cursors → IsOk result }
         ensures room { 0 < self.old.cursors.room → IsOk result }
         ensures capacity { self.old.cursors.capacity ≤ self.new.cursors.capacity }
         ensures in_place { 0 < self.old.cursors.room → self.new.cursors.capacity ≡ self.old.cursors.capacity }
@@ -85,7 +84,7 @@ impl<K: Key, T: Drop> StableList<K, T> {
         ensures cursors { IfOk result (λ key. Inserts self.old.cursors (K.data_of key) tt self.new.cursors) }
         ensures used { OnOk result (used self.new.cursors ≡ used self.old.cursors + 1) }
         ensures err { IfErr result (RefusesPush self.old.cursors value) }
-        ensures reuses { 0 < map.len self.old.cursors.next → IsOk result }
+        ensures reuses { HasVacant self.old.cursors → IsOk result }
         ensures room { 0 < self.old.cursors.room → IsOk result }
         ensures capacity { self.old.cursors.capacity ≤ self.new.cursors.capacity }
         ensures in_place { 0 < self.old.cursors.room → self.new.cursors.capacity ≡ self.old.cursors.capacity }
@@ -115,7 +114,7 @@ impl<K: Key, T: Drop> StableList<K, T> {
         ensures cursors { IfOk result (λ key. Inserts self.old.cursors (K.data_of key) tt self.new.cursors) }
         ensures used { OnOk result (used self.new.cursors ≡ used self.old.cursors + 1) }
         ensures err { IfErr result (RefusesPush self.old.cursors value) }
-        ensures reuses { 0 < map.len self.old.cursors.next → IsOk result }
+        ensures reuses { HasVacant self.old.cursors → IsOk result }
         ensures room { 0 < self.old.cursors.room → IsOk result }
         ensures capacity { self.old.cursors.capacity ≤ self.new.cursors.capacity }
         ensures in_place { 0 < self.old.cursors.room → self.new.cursors.capacity ≡ self.old.cursors.capacity }
@@ -135,7 +134,7 @@ impl<K: Key, T: Drop> StableList<K, T> {
         ensures used { OnOk result (used self.new.cursors ≡ used self.old.cursors + 1) }
         ensures stands { OnOk result (IsSome (value_of (K.data_of cursor) self.old.elements)) }
         ensures err { IfErr result (RefusesPlace self.old (K.data_of cursor) value) }
-        ensures reuses { IsSome (value_of (K.data_of cursor) self.old.elements) → 0 < map.len self.old.cursors.next → IsOk result }
+        ensures reuses { IsSome (value_of (K.data_of cursor) self.old.elements) → HasVacant self.old.cursors → IsOk result }
         ensures room { IsSome (value_of (K.data_of cursor) self.old.elements) → 0 < self.old.cursors.room → IsOk result }
         ensures capacity { self.old.cursors.capacity ≤ self.new.cursors.capacity }
         ensures in_place { 0 < self.old.cursors.room → self.new.cursors.capacity ≡ self.old.cursors.capacity }
@@ -175,7 +174,7 @@ impl<K: Key, T: Drop> StableList<K, T> {
         ensures used { OnOk result (used self.new.cursors ≡ used self.old.cursors + 1) }
         ensures stands { OnOk result (IsSome (value_of (K.data_of cursor) self.old.elements)) }
         ensures err { IfErr result (RefusesPlace self.old (K.data_of cursor) value) }
-        ensures reuses { IsSome (value_of (K.data_of cursor) self.old.elements) → 0 < map.len self.old.cursors.next → IsOk result }
+        ensures reuses { IsSome (value_of (K.data_of cursor) self.old.elements) → HasVacant self.old.cursors → IsOk result }
         ensures room { IsSome (value_of (K.data_of cursor) self.old.elements) → 0 < self.old.cursors.room → IsOk result }
         ensures capacity { self.old.cursors.capacity ≤ self.new.cursors.capacity }
         ensures in_place { 0 < self.old.cursors.room → self.new.cursors.capacity ≡ self.old.cursors.capacity }
@@ -208,7 +207,7 @@ impl<K: Key, T: Drop> StableList<K, T> {
         ensures used { OnOk result (used self.new.cursors ≡ used self.old.cursors + 1) }
         ensures stands { OnOk result (IsSome (value_of (K.data_of cursor) self.old.elements)) }
         ensures err { IfErr result (RefusesPlace self.old (K.data_of cursor) value) }
-        ensures reuses { IsSome (value_of (K.data_of cursor) self.old.elements) → 0 < map.len self.old.cursors.next → IsOk result }
+        ensures reuses { IsSome (value_of (K.data_of cursor) self.old.elements) → HasVacant self.old.cursors → IsOk result }
         ensures room { IsSome (value_of (K.data_of cursor) self.old.elements) → 0 < self.old.cursors.room → IsOk result }
         ensures capacity { self.old.cursors.capacity ≤ self.new.cursors.capacity }
         ensures in_place { 0 < self.old.cursors.room → self.new.cursors.capacity ≡ self.old.cursors.capacity }

@@ -4,7 +4,7 @@ ghost use Rattle.std.specs.Prelude.{◌≡◌, ◌≢◌, ◌<◌, ◌≤◌, �
 ghost use Rattle.std.specs.FinMap as map;
 ghost use Rattle.std.specs.Borrow.{sem};
 ghost use Rattle.std.specs.Option.{option_copied_mut};
-ghost use Rattle.slotmap.specs.Words.{Key as KeyOf, IsContent, IsNew, IsSpent, KeepsSpent, Inserts, Keeps, Leaves, MakesRoom, RefusesCapacity, used};
+ghost use Rattle.slotmap.specs.Words.{Key as KeyOf, HasVacant, IsContent, IsNew, IsSpent, KeepsSpent, Inserts, Keeps, Leaves, MakesRoom, RefusesCapacity, used};
 ghost use Rattle.slotmap_keylist.specs.KeyLists.{last_or, times};
 ghost use Rattle.slotmap_links.specs.Lists.{first_or};
 ghost use Rattle.slotmap_scene.specs.Above.{roots_in};
@@ -230,7 +230,7 @@ impl<T: Drop> Nodes<T> {
         ensures unspent { IfOk result (λ key. IsSpent self.old key → ⊥) }
         ensures stale { KeepsSpent self.old self.new }
         ensures err { IfErr result (RefusesNode self.old value) }
-        ensures reuses { 0 < map.len self.old.next → IsOk result }
+        ensures reuses { HasVacant self.old → IsOk result }
         ensures room { 0 < self.old.room → IsOk result }
         ensures capacity { self.old.capacity ≤ self.new.capacity }
         ensures in_place { 0 < self.old.room → self.new.capacity ≡ self.old.capacity }

@@ -1,8 +1,7 @@
 //! The calls that add a node beside another one.
 
 ghost use Rattle.std.specs.Prelude.{◌≡◌, ◌<◌, ◌≤◌, Some, IfOk, IfErr, IsOk, OnOk, OnErr, IsSome};
-ghost use Rattle.std.specs.FinMap as map;
-ghost use Rattle.slotmap.specs.Words.{Key as KeyOf, Inserts, IsSpent, Keeps, KeepsSpent};
+ghost use Rattle.slotmap.specs.Words.{Key as KeyOf, HasVacant, Inserts, IsSpent, Keeps, KeepsSpent};
 ghost use Rattle.slotmap_scene.specs.Climb.{lacks_node, parent_of};
 ghost use Rattle.slotmap_scene.specs.Family.{IsNewChild, child, children_of, placed, right_before, right_behind, with_sibling};
 ghost use Rattle.slotmap_scene.specs.Refusals.{RefusesSibling};
@@ -29,7 +28,7 @@ impl<K: Key, T: Drop> Scene<K, T> {
         ensures stale { KeepsSpent self.old self.new }
         ensures parent { OnOk result (IsSome (parent_of self.old.live sibling)) }
         ensures err { IfErr result (RefusesSibling self.old sibling value) }
-        ensures reuses { IsSome (parent_of self.old.live sibling) → 0 < map.len self.old.next → IsOk result }
+        ensures reuses { IsSome (parent_of self.old.live sibling) → HasVacant self.old → IsOk result }
         ensures room { IsSome (parent_of self.old.live sibling) → 0 < self.old.room → IsOk result }
         ensures capacity { self.old.capacity ≤ self.new.capacity }
         ensures in_place { 0 < self.old.room → self.new.capacity ≡ self.old.capacity }
@@ -69,7 +68,7 @@ impl<K: Key, T: Drop> Scene<K, T> {
         ensures stale { KeepsSpent self.old self.new }
         ensures parent { OnOk result (IsSome (parent_of self.old.live (K.data_of sibling))) }
         ensures err { IfErr result (RefusesSibling self.old (K.data_of sibling) value) }
-        ensures reuses { IsSome (parent_of self.old.live (K.data_of sibling)) → 0 < map.len self.old.next → IsOk result }
+        ensures reuses { IsSome (parent_of self.old.live (K.data_of sibling)) → HasVacant self.old → IsOk result }
         ensures room { IsSome (parent_of self.old.live (K.data_of sibling)) → 0 < self.old.room → IsOk result }
         ensures capacity { self.old.capacity ≤ self.new.capacity }
         ensures in_place { 0 < self.old.room → self.new.capacity ≡ self.old.capacity }
@@ -106,7 +105,7 @@ impl<K: Key, T: Drop> Scene<K, T> {
         ensures stale { KeepsSpent self.old self.new }
         ensures parent { OnOk result (IsSome (parent_of self.old.live (K.data_of sibling))) }
         ensures err { IfErr result (RefusesSibling self.old (K.data_of sibling) value) }
-        ensures reuses { IsSome (parent_of self.old.live (K.data_of sibling)) → 0 < map.len self.old.next → IsOk result }
+        ensures reuses { IsSome (parent_of self.old.live (K.data_of sibling)) → HasVacant self.old → IsOk result }
         ensures room { IsSome (parent_of self.old.live (K.data_of sibling)) → 0 < self.old.room → IsOk result }
         ensures capacity { self.old.capacity ≤ self.new.capacity }
         ensures in_place { 0 < self.old.room → self.new.capacity ≡ self.old.capacity }

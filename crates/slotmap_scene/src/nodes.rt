@@ -2,7 +2,7 @@
 
 ghost use Rattle.std.specs.Prelude.{◌≡◌, ◌↔◌, ◌<◌, ◌≤◌, ◌++◌, ◌∷◌, [], Some, None, IfOk, IfErr, IsOk, OnOk, OnErr, IfSome, IfNone, OnSome, IsTrue, true, option_map};
 ghost use Rattle.std.specs.FinMap as map;
-ghost use Rattle.slotmap.specs.Words.{Key as KeyOf, IsSpent, KeepsSpent, Inserts, Keeps, Leaves};
+ghost use Rattle.slotmap.specs.Words.{Key as KeyOf, HasVacant, IsSpent, KeepsSpent, Inserts, Keeps, Leaves};
 ghost use Rattle.slotmap_scene.specs.Climb.{IsWithin, has_node, lacks_node};
 ghost use Rattle.slotmap_scene.specs.Family.{IsMoved, IsNewChild, IsScene, as_last_child, as_root, child, children_of, forgets, value_of, with_child};
 ghost use Rattle.slotmap_scene.specs.Refusals.{RefusesNode, RefusesChild, RefusesParent};
@@ -31,7 +31,7 @@ impl<K: Key, T: Drop> Scene<K, T> {
         ensures unspent { IfOk result (λ key. IsSpent self.old (K.data_of key) → ⊥) }
         ensures stale { KeepsSpent self.old self.new }
         ensures err { IfErr result (RefusesNode self.old value) }
-        ensures reuses { 0 < map.len self.old.next → IsOk result }
+        ensures reuses { HasVacant self.old → IsOk result }
         ensures room { 0 < self.old.room → IsOk result }
         ensures capacity { self.old.capacity ≤ self.new.capacity }
         ensures in_place { 0 < self.old.room → self.new.capacity ≡ self.old.capacity }
@@ -65,7 +65,7 @@ impl<K: Key, T: Drop> Scene<K, T> {
         ensures stale { KeepsSpent self.old self.new }
         ensures live { OnOk result (has_node self.old.live (K.data_of parent)) }
         ensures err { IfErr result (RefusesChild self.old (K.data_of parent) value) }
-        ensures reuses { has_node self.old.live (K.data_of parent) → 0 < map.len self.old.next → IsOk result }
+        ensures reuses { has_node self.old.live (K.data_of parent) → HasVacant self.old → IsOk result }
         ensures room { has_node self.old.live (K.data_of parent) → 0 < self.old.room → IsOk result }
         ensures capacity { self.old.capacity ≤ self.new.capacity }
         ensures in_place { 0 < self.old.room → self.new.capacity ≡ self.old.capacity }

@@ -2,7 +2,7 @@
 
 ghost use Rattle.std.specs.Prelude.{◌≡◌, ◌<◌, ◌≤◌, ◌≢◌, [], List, Some, None, IfErr, IfOk, IfSome, IsOk, OnErr, option_map};
 ghost use Rattle.std.specs.FinMap as map;
-ghost use Rattle.slotmap.specs.Words.{Key as KeyOf, Inserts, IsSpent, Keeps, KeepsSpent, Leaves};
+ghost use Rattle.slotmap.specs.Words.{Key as KeyOf, HasVacant, Inserts, IsSpent, Keeps, KeepsSpent, Leaves};
 ghost use Rattle.slotmap_keylist.specs.KeyLists.{times};
 ghost use Rattle.slotmap_scene.specs.Climb.{IsWithin, has_node, lacks_node, parent_of};
 ghost use Rattle.slotmap_scene.specs.Family.{IsMoved, IsNewChild, IsScene, as_child, as_root, child, children_of, forgets, put_in_place, value_of, with_children_of, without_child};
@@ -58,7 +58,7 @@ impl<T: Drop> Nodes<T> {
         ensures unspent { IfOk result (λ key. IsSpent self.old key → ⊥) }
         ensures stale { KeepsSpent self.old self.new }
         ensures err { IfErr result (RefusesNode self.old value) }
-        ensures reuses { 0 < map.len self.old.next → IsOk result }
+        ensures reuses { HasVacant self.old → IsOk result }
         ensures room { 0 < self.old.room → IsOk result }
         ensures capacity { self.old.capacity ≤ self.new.capacity }
         ensures in_place { 0 < self.old.room → self.new.capacity ≡ self.old.capacity }

@@ -3,7 +3,7 @@
 ghost use Rattle.std.specs.Prelude.{◌≡◌, ◌≢◌, ℕ, ◌+◌, ◌<◌, ◌≤◌, ◌∷◌, [], Some, None, IfOk, OnOk, IfErr, OnErr, IfSome, OnSome, IfNone, IsOk, IsTrue, is_some, true, false, option_map, length, vec_len, vec_capacity};
 ghost use Rattle.std.specs.List.{All};
 ghost use Rattle.std.specs.FinMap as map;
-ghost use Rattle.slotmap.specs.Words.{Key as KeyOf, IsContent, MakesRoom, Inserts, Removes, Keeps, Leaves, IsSpent, KeepsSpent, RefusesCapacity, used};
+ghost use Rattle.slotmap.specs.Words.{Key as KeyOf, HasVacant, IsContent, MakesRoom, Inserts, Removes, Keeps, Leaves, IsSpent, KeepsSpent, RefusesCapacity, used};
 ghost use Rattle.slotmap_scheduler.specs.Schedule.{job_of, in_turn, without, last_turn, IsOnce, IsByTime, RefusesJob, RefusesMove};
 ghost use Rattle.slotmap_scheduler.specs.Listed.{TakesDue, due_at};
 
@@ -95,7 +95,7 @@ impl<K: Key, T: Drop> Scheduler<K, T> {
         // If there is room, it can't fail, and the capacity stays. For each vacant slot there is room.
         ensures room { 0 < self.old.handles.room → self.old.turns < last_turn → IsOk result }
         ensures in_place { 0 < self.old.handles.room → self.new.handles.capacity ≡ self.old.handles.capacity }
-        ensures reuses { 0 < map.len self.old.handles.next → self.old.turns < last_turn → IsOk result }
+        ensures reuses { HasVacant self.old.handles → self.old.turns < last_turn → IsOk result }
         ensures capacity { self.old.handles.capacity ≤ self.new.handles.capacity }
         ensures valid { IsContent true self.old.handles }
 
