@@ -1,5 +1,5 @@
 -- What a call makes of the nodes of a scene, as a whole: nodes come or go, more places are made, a value is written, or all is copied.
-use Rattle.std.proofs.Common.{◌+◌, ◌-◌, ◌∷◌, ◌≡◌, ◌≢◌, ◌≤◌, ◌⊎◌}
+use Rattle.std.proofs.Common.{◌+◌, ◌∷◌, ◌≡◌, ◌≢◌, ◌≤◌, ◌⊎◌}
 use Rattle.slotmap_scene.proofs.Common.{AreCovered, Content, CoversMore, Err, HasKey, HaveIndices, HoldsMore, HoldsNodes, IfSome, IfSome_then, Inserts, IsCloneBy, IsCloneOf, IsContent, IsErr, IsIn}
 use Rattle.slotmap_scene.proofs.Common.{IsLive, IsNodeClone, IsOk, Key, Leaves, List, Lists, MakesRoom, Node, Nodes, None, Ok, Option, Result, Some, [], ap, arith, capacity_with, child, children_of}
 use Rattle.slotmap_scene.proofs.Common.{clone_live, exact_keys, family, found_at, found_live, get-insert_here, get-insert_other, get_or-set_other, get_or-set_same, indices_inserted, indices_still}

@@ -1,5 +1,5 @@
 use Rattle.std.proofs.Common.{◌≡◌}
-use Rattle.slotmap_scene.proofs.Common.{HasRoot, Inserts, ap, child, parent_of, placed, subst, sym, with_children_of, ◌∙◌}
+use Rattle.slotmap_scene.proofs.Common.{Inserts, ap, child, parent_of, placed, subst, sym, with_children_of, ◌∙◌}
 use Rattle.slotmap_scene.proofs.Climbs.{rooted_there}
 use Rattle.slotmap_scene.proofs.Scene.insert.Goals as goal
 

@@ -1,4 +1,4 @@
-use Rattle.slotmap_scene.proofs.Common.{IfSome_then, Some, put_in_place, rules, same_Some, sym, ◌∙◌}
+use Rattle.slotmap_scene.proofs.Common.{IfSome_then, Some, put_in_place, rules, same_Some, ◌∙◌}
 use Rattle.slotmap_scene.proofs.Moved.{hung_alone, hung_keys, hung_sibling, keys_placed, moved_placed, scene_placed, spent_alike, times_put, values_placed}
 use Rattle.slotmap_scene.proofs.family.Nodes.move_to.Goals as goal
 
