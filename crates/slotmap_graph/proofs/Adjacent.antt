@@ -1,7 +1,6 @@
 -- The lists of the edges of each node: what a change of the edges asks of them.
 use Rattle.std.proofs.Common.{◌≡◌, ◌≢◌, ◌<◌, ◌≤◌, ◌∷◌, ◌∙◌}
-use Rattle.slotmap_graph.proofs.Common.{Some, None, List, [], refl, ap, arith, Key, same, times, without, one_itself, one_other, times_first, without_none, SeenEdge, Edges}
-use Rattle.slotmap_graph.proofs.Common.{ends_at, ListsEdges}
+use Rattle.slotmap_graph.proofs.Common.{Some, None, List, [], refl, ap, arith, Key, same, times, without, one_itself, one_other, times_first, without_none, SeenEdge, Edges, ends_at, ListsEdges}
 use Rattle.std.specs.FinMap as map
 
 module _ {E : Type 0} (end : SeenEdge E → Key) (edges : Edges E) where

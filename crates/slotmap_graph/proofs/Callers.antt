@@ -1,8 +1,8 @@
 -- What callers of a graph cite: the nodes that a search didn't find, loops along the edges of a node, and written values.
 use Rattle.std.proofs.Common.{◌≡◌, ◌≢◌, ◌<◌, ◌≤◌, ◌∷◌, ◌++◌, ◌∙◌, map as list_map}
-use Rattle.slotmap_graph.proofs.Common.{ℕ, suc, false, cond, Option, Some, None, List, [], length, get_or, refl, sym, ap, arith, Key, is_key, times, times_first, append-nil}
-use Rattle.slotmap_graph.proofs.Common.{append_assoc, same_Some, same_or_other, is_itself, one_other, times_pushed, without, first_or, key_after, in_midst, Content, Edges, SeenEdge, ListsEdges}
-use Rattle.slotmap_graph.proofs.Common.{with_edge, get-insert_here, get-insert_other}
+use Rattle.slotmap_graph.proofs.Common.{ℕ, suc, false, cond, Option, Some, None, List, [], length, get_or, refl, sym, ap, arith, Key, is_key, times, times_first, append-nil, append_assoc, same_Some}
+use Rattle.slotmap_graph.proofs.Common.{same_or_other, is_itself, one_other, times_pushed, without, first_or, key_after, in_midst, Content, Edges, SeenEdge, ListsEdges, with_edge, get-insert_here}
+use Rattle.slotmap_graph.proofs.Common.{get-insert_other}
 use Rattle.slotmap_graph.proofs.Adjacent.{listed_once}
 use Rattle.std.specs.FinMap as map
 

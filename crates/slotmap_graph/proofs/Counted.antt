@@ -1,7 +1,7 @@
 -- How many edges lead to each node: the nodes are counted one after the other.
 use Rattle.std.proofs.Common.{if◌then◌else◌, ◌≡◌, ◌≢◌, ◌∷◌, ◌++◌}
-use Rattle.slotmap_graph.proofs.Common.{ℕ, Some, List, [], length, nat_eq, ap, arith, Key, IsLive, Pairs, get, same_or_other, beside_empty, times}
-use Rattle.slotmap_graph.proofs.Common.{one_itself, one_other, times_pushed, Seen, edges_at, Counting}
+use Rattle.slotmap_graph.proofs.Common.{ℕ, Some, List, [], length, nat_eq, ap, arith, Key, IsLive, Pairs, get, same_or_other, beside_empty, times, one_itself, one_other, times_pushed, Seen}
+use Rattle.slotmap_graph.proofs.Common.{edges_at, Counting}
 use Rattle.std.specs.FinMap as map
 
 -- one more node is counted

@@ -1,8 +1,8 @@
 -- The search for an edge that closes a cycle: back from a node to one before it, until one comes again.
 use Rattle.std.proofs.Common.{◌≡◌, ◌≢◌, ◌+◌, ◌<◌, ◌≤◌, ◌++◌, ◌∷◌, ◌∙◌}
-use Rattle.slotmap_graph.proofs.Common.{ℕ, zero, suc, true, false, Option, Some, IfNone, List, [], length, length-append, is_some, option_map, refl, sym, ap, arith}
-use Rattle.slotmap_graph.proofs.Common.{Key, IsBeside, Pairs, get, contains_key, same_or_other, secondary, same_Some, no_more_than, Edges, Seen, from, AllLed, AreSeen, HasEdge, LeadsBy, marked}
-use Rattle.slotmap_graph.proofs.Common.{ClosesCycle, ComesFromLeft, IsLeft, SeenEdge, times, times_pushed, one_other, IsLive}
+use Rattle.slotmap_graph.proofs.Common.{ℕ, zero, suc, true, false, Option, Some, IfNone, List, [], length, length-append, is_some, option_map, refl, sym, ap, arith, Key, IsBeside, Pairs, get}
+use Rattle.slotmap_graph.proofs.Common.{contains_key, same_or_other, secondary, same_Some, no_more_than, Edges, Seen, from, AllLed, AreSeen, HasEdge, LeadsBy, marked, ClosesCycle, ComesFromLeft}
+use Rattle.slotmap_graph.proofs.Common.{IsLeft, SeenEdge, times, times_pushed, one_other, IsLive}
 use Rattle.std.specs.Prelude.{IsSome}
 use Rattle.slotmap_graph.proofs.Searches.{are_none, listed_once, listed_seen, unseen_unlisted}
 use Rattle.std.specs.FinMap as map

@@ -1,9 +1,8 @@
 -- The ends of the edges of a list, one after the other.
 use Rattle.std.proofs.Common.{◌≡◌, ◌+◌, ◌<◌, ◌≤◌, ◌∷◌, ◌++◌, ◌∙◌}
 use Rattle.slotmap_graph.proofs.Common.{ℕ, suc, true, false, cond, Option, Some, None, is_some, List, [], length, get_or, take, option_map, refl, sym, ap, arith, append-nil, append_assoc, nat_eq}
-use Rattle.slotmap_graph.proofs.Common.{cons_option, find, fold, take_more, take_all, take-append-le, filter_map-append, find-append, fold-append, Key, is_key, times, one_itself}
-use Rattle.slotmap_graph.proofs.Common.{times_first, times_joined, SeenEdge, Edges, ListsEdges, from, to, GoesOn, HasEdge, IsBreadthFirst, ends_along, entries_along, first_or, goes_to}
-use Rattle.slotmap_graph.proofs.Common.{marked, MatchOption}
+use Rattle.slotmap_graph.proofs.Common.{cons_option, find, fold, take_more, take_all, take-append-le, filter_map-append, find-append, fold-append, Key, is_key, times, one_itself, times_first}
+use Rattle.slotmap_graph.proofs.Common.{times_joined, SeenEdge, Edges, ListsEdges, from, to, GoesOn, HasEdge, IsBreadthFirst, ends_along, entries_along, first_or, goes_to, marked, MatchOption}
 use Rattle.slotmap_graph.proofs.Adjacent.{listed_edge}
 use Rattle.std.specs.FinMap as map
 

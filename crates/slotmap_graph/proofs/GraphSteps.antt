@@ -2,9 +2,9 @@
 use Rattle.std.proofs.Common.{◌≡◌, ◌≢◌, ◌<◌, ◌≤◌, ◌⊎◌, ◌∷◌, ◌++◌, ◌∙◌}
 use Rattle.slotmap_graph.proofs.Common.{ℕ, Bool, true, false, Option, Some, None, OnSome, IfSome, IfNone, MatchOption, List, [], length, is_some, option_map, refl, sym, ap, subst, inl, inr, arith}
 use Rattle.slotmap_graph.proofs.Common.{Key, key_cmp, Content, IsContent, IsLive, Inserts, Removes, Leaves, Pairs, IsBeside, with_value, keys, same_or_other, get-insert_here, get-insert_other}
-use Rattle.slotmap_graph.proofs.Common.{get-put_live, get-put_other, leaves_none, leaves_by_removal, inserted_fresh, live-insert_still, times, without, is_itself, is_other, times_first}
-use Rattle.slotmap_graph.proofs.Common.{one_itself, Lists, AreDisjoint, list_of, often, SeenEdge, Edges, IsJoined, ListsEdges, PutsAlone, SameEdges, edges_at, from, to, touches, HaveIndices}
-use Rattle.slotmap_graph.proofs.Common.{IsThreaded, IsGraph, CoversMore, by_node, IsFree, PutsBehind, with_list, ClonesEqual, IsCloneBy, IsCloneOf, clones_edge, clone_live}
+use Rattle.slotmap_graph.proofs.Common.{get-put_live, get-put_other, leaves_none, leaves_by_removal, inserted_fresh, live-insert_still, times, without, is_itself, is_other, times_first, one_itself}
+use Rattle.slotmap_graph.proofs.Common.{Lists, AreDisjoint, list_of, often, SeenEdge, Edges, IsJoined, ListsEdges, PutsAlone, SameEdges, edges_at, from, to, touches, HaveIndices, IsThreaded, IsGraph}
+use Rattle.slotmap_graph.proofs.Common.{CoversMore, by_node, IsFree, PutsBehind, with_list, ClonesEqual, IsCloneBy, IsCloneOf, clones_edge, clone_live}
 use Rattle.slotmap_graph.proofs.Adjacent.{absent_unlisted, listed_edge, none_listed, nothing_listed}
 use Rattle.slotmap_bounded.proofs.Indices.{indices_inserted, indices_still}
 use Rattle.slotmap_graph.proofs.Threaded.{at_none, empty_at, lists, other_nodes, put_free, put_seen, put_threaded, same_seen, threaded_along}
@@ -101,9 +101,9 @@ module _ {N E : Type 0} {end : SeenEdge E → Key} {nodes : Content N} {edges : 
     pub node_seen : SameEdges (by_node nodes.live edges.live links) (by_node new.live edges.live links)
     node_seen =
         let none : list_of links k.index ≡ [] = empty_at t k.index (λ x e there at. (
-            let live = t.ends x e there in
-            let here : IsLive new k = ap (λ m. map.contains_key m k) inserts.live ∙ ap is_some (get-insert_here nodes.live k v) in
-            grind (arith, valid.apart (end e) k (inl (inl (still_node (end e) live))) (inl (inl here)) at, inserted_fresh true nodes k v new was inserts))) in
+        let live = t.ends x e there in
+        let here : IsLive new k = ap (λ m. map.contains_key m k) inserts.live ∙ ap is_some (get-insert_here nodes.live k v) in
+        grind (arith, valid.apart (end e) k (inl (inl (still_node (end e) live))) (inl (inl here)) at, inserted_fresh true nodes k v new was inserts))) in
         other_nodes t new (λ q. grind (arith, same_or_other q k, none, inserts.live, get-insert_other nodes.live k v q))
 
   -- an edge comes

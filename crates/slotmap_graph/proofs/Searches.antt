@@ -1,9 +1,9 @@
 -- A search from a node, along the edges.
 use Rattle.std.proofs.Common.{if◌then◌else◌, ◌≡◌, ◌≢◌, ◌+◌, ◌<◌, ◌≤◌, ◌⊎◌, ◌∷◌, ◌++◌, ◌∙◌}
 use Rattle.slotmap_graph.proofs.Common.{ℕ, zero, suc, ⊎_elim, Bool, true, false, Some, List, [], length, get_or, drop, append_assoc, is_some, option_map, refl, sym, ap, inl, inr, arith, Key}
-use Rattle.slotmap_graph.proofs.Common.{Content, IsLive, Pairs, IsBeside, get, contains_key, same_or_other, secondary, append-nil, drop-append-le, times, one_itself, one_other}
-use Rattle.slotmap_graph.proofs.Common.{times_first, times_joined, times_there, here_or_behind, none_behind, no_more_than, SeenEdge, Edges, ListsEdges, from, to, HasEdge, LeadsBy, Leads}
-use Rattle.slotmap_graph.proofs.Common.{AllLed, HasNext, AreSeen, GoesOn, Finds}
+use Rattle.slotmap_graph.proofs.Common.{Content, IsLive, Pairs, IsBeside, get, contains_key, same_or_other, secondary, append-nil, drop-append-le, times, one_itself, one_other, times_first}
+use Rattle.slotmap_graph.proofs.Common.{times_joined, times_there, here_or_behind, none_behind, no_more_than, SeenEdge, Edges, ListsEdges, from, to, HasEdge, LeadsBy, Leads, AllLed, HasNext, AreSeen}
+use Rattle.slotmap_graph.proofs.Common.{GoesOn, Finds}
 use Rattle.std.specs.FinMap as map
 
 module _ (seen : Pairs (Unit {0})) (found : List Key) (listed : AreSeen seen found) (x : Key) where
@@ -106,8 +106,10 @@ module _ {N E : Type 0} (nodes : Content N) (edges : Edges E) (start : Key) wher
         by x had true was = ⊎_elim
             (λ some. ⊎_elim (λ (one : x ≡ a). inr (rw one next)) (λ behind. inl (still x behind)) (here_or_behind found at a x below is some))
             (λ (goes : HasNext edges x seen). inr (λ b join. finds.kept b (goes b join))) (searching.done x was)
-        by x had false was = inl (grind (arith, unseen_unlisted seen found searching.listed x was, seen_listed new now finds.listed x had, finds.behind.1, times_joined x found finds.behind.0, longer,
-            times_joined x (drop (at + 1) found) finds.behind.0))
+        by x had false was =
+            let now_is = times_joined x found finds.behind.0 in
+            let left = times_joined x (drop (at + 1) found) finds.behind.0 in
+            inl (grind (arith, unseen_unlisted seen found searching.listed x was, seen_listed new now finds.listed x had, finds.behind.1, longer))
 
     module _ (past : length found ≤ at) where
       goes_on : (x : Key) → contains_key seen x ≡ true → HasNext edges x seen

@@ -1,17 +1,16 @@
 -- The lists of the edges of each node: what is seen of them, and what a change of nodes or edges leaves of them.
 use Rattle.std.proofs.Common.{◌≡◌, ◌≢◌, ◌⊎◌, ◌<◌, ◌∷◌, ◌++◌, ◌∙◌}
-use Rattle.slotmap_graph.proofs.Common.{ℕ, true, false, cond, Option, Some, None, List, [], list_map, length, is_some, option_map, refl, sym, ap, subst, inl, inr, arith, Key, key_cmp}
-use Rattle.slotmap_graph.proofs.Common.{Content, IsLive, keys, keys_total, exact_keys, tied, same_or_other, get-insert_here, get-insert_other, live-insert_still, times, without}
-use Rattle.slotmap_graph.proofs.Common.{is_itself, is_other, one_itself, one_other, map-append, often, often_first, often_gone, often_without, number_itself, without_number, list_now, list_other}
-use Rattle.slotmap_graph.proofs.Common.{owners_stay, list_without, pushed_here, pushed_still, pushed_was, with_list, list_of, Lists, IsIn, IsFree, AreDisjoint, SeenEdge, Edges, edges_at, ends_at}
-use Rattle.slotmap_graph.proofs.Common.{ListsEdges, key_after, key_at, number_after, option_and_then, PutsBehind, SameEdges, AreIndices, HaveIndices, IsThreaded, keys_at, eq-zero-or-pos}
+use Rattle.slotmap_graph.proofs.Common.{ℕ, true, false, cond, Option, Some, None, List, [], list_map, length, is_some, option_map, refl, sym, ap, subst, inl, inr, arith, Key, key_cmp, Content}
+use Rattle.slotmap_graph.proofs.Common.{IsLive, keys, keys_total, exact_keys, tied, same_or_other, get-insert_here, get-insert_other, live-insert_still, times, without, is_itself, is_other}
+use Rattle.slotmap_graph.proofs.Common.{one_itself, one_other, map-append, often, often_first, often_gone, often_without, number_itself, without_number, list_now, list_other, owners_stay}
+use Rattle.slotmap_graph.proofs.Common.{list_without, pushed_here, pushed_still, pushed_was, with_list, list_of, Lists, IsIn, IsFree, AreDisjoint, SeenEdge, Edges, edges_at, ends_at, ListsEdges}
+use Rattle.slotmap_graph.proofs.Common.{key_after, key_at, number_after, option_and_then, PutsBehind, SameEdges, AreIndices, HaveIndices, IsThreaded, keys_at, eq-zero-or-pos}
 use Rattle.slotmap_graph.specs.Threads.{by_node}
 use Rattle.slotmap_graph.proofs.{Adjacent.listed_edge, Indices.after_at}
 use Rattle.slotmap_links.proofs.Linking.{after_inside}
 use Rattle.slotmap_bounded.proofs.Indices.{indices_still, key_at_live, keys_same, keys_without, no_key, some_is, times_key}
-use Rattle.std.specs.Ordering.{eq_by_cmp}
+use Rattle.std.specs.{Ordering.eq_by_cmp, List.list_any}
 use Rattle.std.specs.FinMap.Entries.{find}
-use Rattle.std.specs.List.{list_any}
 use Rattle.std.specs.FinMap as map
 
 -- under each key what f makes of it
@@ -76,8 +75,10 @@ module _ {N E : Type 0} {end : SeenEdge E → Key} {nodes : Content N} {edges : 
   -- the list of a node has each edge with that end, once, and nothing else
   listed_live : (k x : Key) → IsLive nodes k → (o : Option (SeenEdge E)) → map.get edges.live x ≡ o → times x (keys_at edges.live (list_of links k.index)) ≡ ends_at end k o
   listed_live k x live None is = no_key t.edge_indices (list_of links k.index) (indices_at k.index) x (ap is_some is)
-  listed_live k x live (Some e) is = grind (arith, times_key t.edge_indices (list_of links k.index) (indices_at k.index) x (ap is_some is), same_or_other (end e) k, one_itself k, one_other (end e) k,
-      t.listed x e is, t.disjoint.once k.index x.index, t.node_indices.apart (end e) k (t.ends x e is) live, edge_at x e is k.index)
+  listed_live k x live (Some e) is =
+      let counted = times_key t.edge_indices (list_of links k.index) (indices_at k.index) x (ap is_some is) in
+      let apart = t.node_indices.apart (end e) k (t.ends x e is) live in
+      grind (arith, same_or_other (end e) k, one_itself k, one_other (end e) k, t.listed x e is, t.disjoint.once k.index x.index, edge_at x e is k.index)
 
   pub lists : (k : Key) → ListsEdges end edges.live k (edges_at (by_node nodes.live edges.live links) k)
   lists k x = let o = map.get edges.live x in
@@ -89,8 +90,9 @@ module _ {N E : Type 0} {end : SeenEdge E → Key} {nodes : Content N} {edges : 
     number_is e there = at (end e).index (rw same (t.listed x e there)) ∙ ap (λ j. number_after j (list_of links (end e).index)) same
 
     after_one : (e : SeenEdge E) → map.get edges.live x ≡ Some e → option_map (key_at edges.live) number ≡ key_after x (edges_at (by_node nodes.live edges.live links) (end e))
-    after_one e there = grind (arith, number_is e there, at_node nodes.live edges.live links (end e) (t.ends x e there),
-        after_at t.edge_indices (list_of links (end e).index) (indices_at (end e).index) x)
+    after_one e there =
+        let after = after_at t.edge_indices (list_of links (end e).index) (indices_at (end e).index) x (ap is_some there) in
+        grind (arith, number_is e there, at_node nodes.live edges.live links (end e) (t.ends x e there))
 
     pub after_is : IsLive edges x → option_map (key_at edges.live) number ≡ option_and_then (λ e. key_after x (edges_at (by_node nodes.live edges.live links) (end e))) (map.get edges.live x)
     after_is live = let e = some_is (map.get edges.live x) live in rw e.1 (after_one e.0 e.1)
@@ -181,8 +183,8 @@ module _ {N E : Type 0} {end : SeenEdge E → Key} {nodes : Content N} {edges : 
         members = omega (arith, t.members, ap (λ (l : Lists). l.members) now_is);
         disjoint = disjoint;
         ends = λ x d there. grind (arith, same_or_other x k, there_now, others x, live, t.ends x d);
-        listed = λ x d there. grind (arith, same_or_other x k, there_now, others x, here, now_is, t.listed x d,
-            pushed_still links (end e).index k.index (owner_within (end e) live) (end d).index x.index);
+        listed = λ x d there. (let still = pushed_still links (end e).index k.index (owner_within (end e) live) (end d).index x.index in
+            grind (arith, same_or_other x k, there_now, others x, here, now_is, t.listed x d));
         live = λ p i inside. (elim (pushed_was links (end e).index k.index (owner_within (end e) live) p i (subst (λ l. IsIn l p i) now_is inside)) [
           | inl before ↦ (let l = t.live p i before in (l.0, l.1, others l.0 (not_k l.0 l.1 l.2) ∙ l.2, l.3, l.4))
           | inr at ↦ (k, e, there_now, sym at.1, sym at.0)
@@ -193,17 +195,21 @@ module _ {N E : Type 0} {end : SeenEdge E → Key} {nodes : Content N} {edges : 
       keys_still p = keys_same t.edge_indices indices (list_of links p) (indices_at p) (λ x of_edges _. still_live x of_edges)
 
       put_at : keys_at new.live (list_of now (end e).index) ≡ keys_at edges.live (list_of links (end e).index) ++ k ∷ []
-      put_at = grind (arith, now_is, list_now links (end e).index (list_of links (end e).index ++ k.index ∷ []) (owner_within (end e) live),
-          map-append (key_at new.live) (list_of links (end e).index) (k.index ∷ []), keys_still (end e).index, key_at_live indices k (ap is_some there_now))
+      put_at =
+          let joined = map-append (key_at new.live) (list_of links (end e).index) (k.index ∷ []) in
+          let here = list_now links (end e).index (list_of links (end e).index ++ k.index ∷ []) (owner_within (end e) live) in
+          grind (arith, now_is, keys_still (end e).index, key_at_live indices k (ap is_some there_now))
 
       put_beside : (q : Key) → IsLive nodes q → q ≢ end e → keys_at new.live (list_of now q.index) ≡ keys_at edges.live (list_of links q.index)
-      put_beside q of_nodes other = grind (arith, now_is, keys_still q.index, t.node_indices.apart q (end e) of_nodes live,
-          list_other links (end e).index (list_of links (end e).index ++ k.index ∷ []) q.index)
+      put_beside q of_nodes other =
+          let same = list_other links (end e).index (list_of links (end e).index ++ k.index ∷ []) q.index in
+          grind (arith, now_is, same, keys_still q.index, t.node_indices.apart q (end e) of_nodes live)
 
       pub put_seen : PutsBehind (by_node nodes.live edges.live links) (end e) k (by_node nodes.live new.live now)
       put_seen q =
-          grind (arith, same_or_other q (end e), at_node nodes.live new.live now q, at_none nodes.live new.live now q, at_node nodes.live edges.live links q, at_none nodes.live edges.live links q,
-          put_at, put_beside q, is_itself (end e), is_other q (end e), live)
+          let now_at = seen_at nodes.live new.live now q in
+          let was_at = seen_at nodes.live edges.live links q in
+          grind (arith, same_or_other q (end e), put_at, put_beside q, is_itself (end e), is_other q (end e), live)
 
   -- an edge goes
   module _ (k : Key) {e : SeenEdge E} (there : map.get edges.live k ≡ Some e) (new : Content (SeenEdge E)) (is : new.live ≡ map.remove edges.live k) (capacity : new.capacity ≡ edges.capacity)
@@ -229,8 +235,8 @@ module _ {N E : Type 0} {end : SeenEdge E → Key} {nodes : Content N} {edges : 
       disjoint = disjoint;
       ends = λ x d found. t.ends x d (left x d found).1;
       listed = λ x d found. (let l = left x d found in
-          grind (arith, t.listed x d l.1, lists_left (end d).index, often_without k.index x.index (list_of links (end d).index),
-          t.edge_indices.apart x k (ap is_some l.1) (ap is_some there), l.0));
+          let apart = t.edge_indices.apart x k (ap is_some l.1) (ap is_some there) in
+          grind (arith, t.listed x d l.1, lists_left (end d).index, often_without k.index x.index (list_of links (end d).index), l.0));
       live = λ p i inside. (
           let now_in = ap (often i) (lists_left p) in
           let apart : i ≢ k.index = λ at. (let gone = ap (λ j. often j (without_number k.index (list_of links p))) at ∙ often_gone k.index (list_of links p) in omega arith) in
@@ -241,8 +247,10 @@ module _ {N E : Type 0} {end : SeenEdge E → Key} {nodes : Content N} {edges : 
 
     pub left_seen : (q : Key) → edges_at (by_node nodes.live new.live now) q ≡ without k (edges_at (by_node nodes.live edges.live links) q)
     left_seen q =
-        grind (arith, at_node nodes.live new.live now q, at_none nodes.live new.live now q, at_node nodes.live edges.live links q, at_none nodes.live edges.live links q, lists_left q.index,
-        keys_without t.edge_indices left_indices k (ap is_some there) (λ x live other. ap is_some (left_others x other) ∙ live) (list_of links q.index) (indices_at q.index))
+        let now_at = seen_at nodes.live new.live now q in
+        let was_at = seen_at nodes.live edges.live links q in
+        let still = λ (x : Key) (live : IsLive edges x) (other : x ≢ k). ap is_some (left_others x other) ∙ live in
+        grind (arith, lists_left q.index, keys_without t.edge_indices left_indices k (ap is_some there) still (list_of links q.index) (indices_at q.index))
 
   -- nodes come or go at which no edge is
   pub other_nodes : (new : Content N) → ((q : Key) → (map.contains_key new.live q ≡ map.contains_key nodes.live q) ⊎ (list_of links q.index ≡ []))

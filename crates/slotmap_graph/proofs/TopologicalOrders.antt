@@ -1,9 +1,9 @@
 -- An order of the nodes in which each edge goes forward: how it is found, and that there is a cycle where there is none.
 use Rattle.std.proofs.Common.{if◌then◌else◌, ◌≡◌, ◌≢◌, ◌+◌, ◌-◌, ◌<◌, ◌≤◌, ◌⊎◌, ◌∷◌, ◌++◌, ◌∙◌}
-use Rattle.slotmap_graph.proofs.Common.{ℕ, zero, suc, Bool, true, false, Some, List, [], length, take, drop, get_or, nat_eq, option_map, refl, sym, ap, subst, append-nil, append_assoc}
-use Rattle.slotmap_graph.proofs.Common.{inl, inr, arith, eq-zero-or-pos, take-append-le, take_all, sum_by-take-drop, nat_tests, Key, IsLive, Pairs, get, same_or_other, same, times, one_itself}
-use Rattle.slotmap_graph.proofs.Common.{one_other, times_first, times_there, times_pushed, times_joined, behind_split, no_more_than, cut_at, split_at, in_midst, cons_not_nil, Seen, SeenEdge, Edges}
-use Rattle.slotmap_graph.proofs.Common.{ByNode, IsJoined, edges_at, ends_at, from, to, GoesOn, LeadsBy, GoesForward, HasCycle, edges_out, passed_of, Sorting, Counting, ComesFromLeft, IsLeft, key_live}
+use Rattle.slotmap_graph.proofs.Common.{ℕ, zero, suc, Bool, true, false, Some, List, [], length, take, drop, get_or, nat_eq, option_map, refl, sym, ap, subst, append-nil, append_assoc, inl, inr}
+use Rattle.slotmap_graph.proofs.Common.{arith, eq-zero-or-pos, take-append-le, take_all, sum_by-take-drop, nat_tests, Key, IsLive, Pairs, get, same_or_other, same, times, one_itself, one_other}
+use Rattle.slotmap_graph.proofs.Common.{times_first, times_there, times_pushed, times_joined, behind_split, no_more_than, cut_at, split_at, in_midst, cons_not_nil, Seen, SeenEdge, Edges, ByNode}
+use Rattle.slotmap_graph.proofs.Common.{IsJoined, edges_at, ends_at, from, to, GoesOn, LeadsBy, GoesForward, HasCycle, edges_out, passed_of, Sorting, Counting, ComesFromLeft, IsLeft, key_live}
 use Rattle.slotmap_graph.proofs.Common.{key_there, contains_key, is_some}
 use Rattle.slotmap_graph.proofs.{Adjacent.listed_edge, Adjacent.edge_listed, Followed.next_seen, Followed.taken}
 use Rattle.std.specs.FinMap as map
