@@ -1,7 +1,6 @@
 -- The lists of the edges of each node: what a change of the edges asks of them.
 use Rattle.std.proofs.Common.{◌≡◌, ◌≢◌, ◌<◌, ◌≤◌, ◌∷◌, ◌∙◌}
-use Rattle.slotmap_graph.proofs.Common.{Some, None, List, [], refl, ap, inl, inr, arith, Key, same_or_other, same, times, without, one_itself, one_other, times_first, without_none, SeenEdge, Edges}
-use Rattle.slotmap_graph.proofs.Common.{ends_at, ListsEdges}
+use Rattle.slotmap_graph.proofs.Common.{Some, None, List, [], refl, ap, arith, Key, same, times, without, one_itself, one_other, times_first, without_none, SeenEdge, Edges, ends_at, ListsEdges}
 use Rattle.std.specs.FinMap as map
 
 module _ {E : Type 0} (end : SeenEdge E → Key) (edges : Edges E) where
@@ -18,10 +17,7 @@ module _ {E : Type 0} (end : SeenEdge E → Key) (edges : Edges E) where
     some_listed : (x : Key) → 0 < ends_at end k (map.get edges x) → (e : SeenEdge E) × (map.get edges x ≡ Some e) × (end e ≡ k)
     some_listed x more = elim (map.get edges x) as (λ o. map.get edges x ≡ o → 0 < ends_at end k o → (e : SeenEdge E) × (map.get edges x ≡ Some e) × (end e ≡ k)) [
       | None ↦ λ is less. absurd (omega arith)
-      | Some e ↦ λ is less. elim (same_or_other (end e) k) [
-        | inl at ↦ (e, is, at)
-        | inr other ↦ absurd (omega (arith, one_other (end e) k other))
-      ]
+      | Some e ↦ λ is less. (e, is, grind (arith, one_other (end e) k))
     ] refl more
 
     module _ (ks : List Key) (lists : ListsEdges end edges k ks) where

@@ -1,8 +1,8 @@
 -- What callers of a graph cite: the nodes that a search didn't find, loops along the edges of a node, and written values.
 use Rattle.std.proofs.Common.{◌≡◌, ◌≢◌, ◌<◌, ◌≤◌, ◌∷◌, ◌++◌, ◌∙◌, map as list_map}
-use Rattle.slotmap_graph.proofs.Common.{ℕ, suc, false, cond, Option, Some, None, List, [], length, get_or, refl, sym, ap, subst, inl, inr, arith, Key, is_key, times, times_first, append-nil}
-use Rattle.slotmap_graph.proofs.Common.{append_assoc, same_Some, same_or_other, is_itself, one_other, times_pushed, without, first_or, key_after, in_midst, Content, Edges, SeenEdge, ListsEdges}
-use Rattle.slotmap_graph.proofs.Common.{with_edge, with_edge_in, get-insert_here, get-insert_other}
+use Rattle.slotmap_graph.proofs.Common.{ℕ, suc, false, cond, Option, Some, None, List, [], length, get_or, refl, sym, ap, arith, Key, is_key, times, times_first, append-nil, append_assoc, same_Some}
+use Rattle.slotmap_graph.proofs.Common.{same_or_other, is_itself, one_other, times_pushed, without, first_or, key_after, in_midst, Content, Edges, SeenEdge, ListsEdges, with_edge, get-insert_here}
+use Rattle.slotmap_graph.proofs.Common.{get-insert_other}
 use Rattle.slotmap_graph.proofs.Adjacent.{listed_once}
 use Rattle.std.specs.FinMap as map
 
@@ -52,7 +52,7 @@ module _ (k : Key) (rest : List Key) where
 -- what stands first
 first_is : (ks : List Key) (k : Key) → Some k ≡ first_or ks None → (rest : List Key) × (ks ≡ k ∷ rest)
 first_is [] k is = absurd (cc)
-first_is (q ∷ ks) k is = (ks, let same = same_Some _ _ is in ap (λ x. x ∷ ks) (sym same))
+first_is (q ∷ ks) k is = (ks, grind arith)
 
 pub none_first : (ks : List Key) → None ≡ first_or ks None → ks ≡ []
 none_first [] is = refl
@@ -86,25 +86,20 @@ module _ (all : List Key) (k : Key) (Passed : Key → Type 0) (along : GoesAlong
     list = whole ∙ sym (append_assoc along.passed (k ∷ []) rest_of.0);
     here = is ∙ next_is;
     once = along.once;
-    each = λ q more. (elim (same_or_other q k) [
-      | inl at ↦ subst New (sym at) holds
-      | inr other ↦ still q other (along.each q (omega (arith, times_pushed q along.passed k, one_other k q (λ e. other (sym e)))))
-    ]);
+    each = λ q more. grind (arith, same_or_other q k, holds, still q, along.each q, times_pushed q along.passed k, one_other k q);
   }
 
   pub along_less : (next : Option Key) → next ≡ key_after k all → left_along next all < left_along (Some k) all
-  along_less next is = let now : left_from k all ≡ suc (length rest_of.0) = ap (left_from k) whole ∙ left_split k rest_of.0 along.passed not_passed in by rest_of.0 whole now (is ∙ next_is)
+  along_less next is = by rest_of.0 whole (grind (arith, whole, left_split k rest_of.0 along.passed not_passed)) (is ∙ next_is)
     where
       by : (rest : List Key) → all ≡ along.passed ++ k ∷ rest → left_from k all ≡ suc (length rest) → next ≡ first_or rest None → left_along next all < left_from k all
       by [] all_is now at = omega (arith, ap (λ o. left_along o all) at)
-      by (q ∷ rest) all_is now at = let split : all ≡ (along.passed ++ k ∷ []) ++ q ∷ rest = all_is ∙ sym (append_assoc along.passed (k ∷ []) (q ∷ rest)) in let once = along.once q in
-          let sum = ap (times q) split ∙ in_midst (along.passed ++ k ∷ []) q rest in
-          omega (arith, ap (λ o. left_along o all) at ∙ ap (left_from q) split ∙ left_split q rest (along.passed ++ k ∷ []) (omega arith))
+      by (q ∷ rest) all_is now at = let split : all ≡ (along.passed ++ k ∷ []) ++ q ∷ rest = all_is ∙ sym (append_assoc along.passed (k ∷ []) (q ∷ rest)) in
+          grind (arith, at, split, along.once q, in_midst (along.passed ++ k ∷ []) q rest, left_split q rest (along.passed ++ k ∷ []), now)
 
 -- after the loop each edge of the node was passed
 pub along_end : (all : List Key) (Passed : Key → Type 0) → GoesAlong all None Passed → (k : Key) → 0 < times k all → Passed k
-along_end all Passed along k more = let same : all ≡ along.passed = along.list ∙ ap (λ l. along.passed ++ l) (none_first along.ahead along.here) ∙ append-nil along.passed in
-    along.each k (omega (arith, ap (times k) same))
+along_end all Passed along k more = grind (arith, along.list, none_first along.ahead along.here, append-nil along.passed, along.each k)
 
 -- a loop that removes the first edge of a node, until there is none
 less_without : (k : Key) (ks : List Key) → length (without k ks) ≤ length ks
@@ -118,15 +113,7 @@ first_less (q ∷ ks) k is = grind (arith, ap (λ x. is_key x k) (sym (same_Some
 -- a value that is written through the reference to it
 module _ {E : Type 0} (edges : Content (SeenEdge E)) (k : Key) (v : E) where
   pub value_written : (e : SeenEdge E) → map.get (with_edge edges k v).live k ≡ Some e → e.value ≡ v
-  value_written e found = by (map.get edges.live k) refl found
-    where
-      by : (o : Option (SeenEdge E)) → map.get edges.live k ≡ o → map.get (with_edge_in edges k v o).live k ≡ Some e → e.value ≡ v
-      by None is found = absurd (cc)
-      by (Some was) is found = ap (λ (e : SeenEdge E). e.value) (same_Some _ _ (sym found ∙ get-insert_here edges.live k (record was { value = v })))
+  value_written e found = grind (arith, get-insert_here edges.live k)
 
   pub others_unwritten : (q : Key) → q ≢ k → map.get (with_edge edges k v).live q ≡ map.get edges.live q
-  others_unwritten q other = by (map.get edges.live k)
-    where
-      by : (o : Option (SeenEdge E)) → map.get (with_edge_in edges k v o).live q ≡ map.get edges.live q
-      by None = refl
-      by (Some was) = get-insert_other edges.live k (record was { value = v }) q other
+  others_unwritten q other = grind (arith, get-insert_other edges.live k)

@@ -1,23 +1,19 @@
 -- The search for an edge that closes a cycle: back from a node to one before it, until one comes again.
 use Rattle.std.proofs.Common.{◌≡◌, ◌≢◌, ◌+◌, ◌<◌, ◌≤◌, ◌++◌, ◌∷◌, ◌∙◌}
-use Rattle.slotmap_graph.proofs.Common.{ℕ, zero, suc, true, false, Option, Some, None, IfNone, List, [], cond, nat_eq, length, length-append, is_some, option_map, refl, sym, ap, inl, inr, arith}
-use Rattle.slotmap_graph.proofs.Common.{Key, IsBeside, Pairs, get, contains_key, same_or_other, secondary, same_Some, no_more_than, Edges, Seen, from, AllLed, AreSeen, HasEdge, LeadsBy, marked}
-use Rattle.slotmap_graph.proofs.Common.{ClosesCycle, ComesFromLeft, IsLeft, SeenEdge, times, times_pushed, one_other, subst, IsLive}
+use Rattle.slotmap_graph.proofs.Common.{ℕ, zero, suc, true, false, Option, Some, IfNone, List, [], length, length-append, is_some, option_map, refl, sym, ap, arith, Key, IsBeside, Pairs, get}
+use Rattle.slotmap_graph.proofs.Common.{contains_key, same_or_other, secondary, same_Some, no_more_than, Edges, Seen, from, AllLed, AreSeen, HasEdge, LeadsBy, marked, ClosesCycle, ComesFromLeft}
+use Rattle.slotmap_graph.proofs.Common.{IsLeft, SeenEdge, times, times_pushed, one_other, IsLive}
 use Rattle.std.specs.Prelude.{IsSome}
 use Rattle.slotmap_graph.proofs.Searches.{are_none, listed_once, listed_seen, unseen_unlisted}
 use Rattle.std.specs.FinMap as map
 
 -- what holds of the keys of a list, and of one more
 pub each_pushed : (P : Key → Type 0) (ks : List Key) (y : Key) → ((x : Key) → 0 < times x ks → P x) → P y → (x : Key) → 0 < times x (ks ++ y ∷ []) → P x
-each_pushed P ks y each here x more = elim (same_or_other x y) [
-  | inl is ↦ subst P (sym is) here
-  | inr other ↦ each x (omega (arith, times_pushed x ks y, one_other y x (λ e. other (sym e))))
-]
+each_pushed P ks y each here x more = grind (arith, same_or_other x y, each x, times_pushed x ks y, one_other y x)
 
 -- an answer that must be there
 pub must_be : (P : Type 0) (answer : Option Key) → IfNone answer (P → ⊥) → P → IsSome answer
-must_be P None none some = absurd (none some)
-must_be P (Some k) none some = refl
+must_be P answer none some = grind arith
 
 leads_from : {E : Type 0} (edges : Edges E) (y h x : Key) → HasEdge edges y h → (n : ℕ) → LeadsBy edges n h x → LeadsBy edges (suc n) y x
 leads_from edges y h x join zero is = (y, refl, rw (← is) join)
@@ -30,8 +26,7 @@ module _ {N E : Type 0} (s : Seen N E) (counts : Pairs ℕ) where
     comes_left e live more = let is : e.0.from ≡ p = same_Some _ _ (sym (ap (option_map from) e.1) ∙ begins) in (e.0, e.1, e.2, rw is (live, n, count, more))
 
     pub comes_found : n ≤ 0 → ComesFromLeft s counts y k → ⊥
-    comes_found none comes = let is : comes.0.from ≡ p = same_Some _ _ (sym (ap (option_map from) comes.1) ∙ begins) in
-        let same_count : comes.3.1 ≡ n = (let h = sym comes.3.2 ∙ ap (get counts) is ∙ count in cc) in absurd (omega (arith, comes.3.3))
+    comes_found none comes = grind (arith, comes.1, begins, comes.3.2, count, comes.3.3)
 
   -- this node wasn't found, and leads to each one that was passed
   pub record GoesBack (seen : Pairs (Unit {0})) (passed : List Key) (node : Key) : Type 0 where
@@ -42,16 +37,9 @@ module _ {N E : Type 0} (s : Seen N E) (counts : Pairs ℕ) where
     pub led : AllLed s.edges.live node seen
 
   pub back_start : (none : Pairs (Unit {0})) (passed : List Key) (start : Key) → none ≡ map.empty → passed ≡ [] → IsLeft s counts start → GoesBack none passed start
-  back_start none passed start empty no_key left = record {
-    listed = are_none none passed empty no_key;
-    beside = λ q had. absurd (let gone = nothing q in cc);
-    left = left;
-    new = nothing start;
-    led = λ q had. absurd (let gone = nothing q in cc);
-  }
-    where
-      nothing : (q : Key) → contains_key none q ≡ false
-      nothing q = let gone : get none q ≡ None = rw empty (grind (arith, secondary)) in ap is_some gone
+  back_start none passed start empty no_key left =
+      let nothing : (q : Key) → contains_key none q ≡ false = λ q. grind (arith, secondary, empty) in
+      grind (arith, are_none none passed empty no_key, left, nothing)
 
   -- the node is marked, and an edge leads to it from p
   module _ (seen : Pairs (Unit {0})) (passed : List Key) (node : Key) (back : GoesBack seen passed node) (new : Pairs (Unit {0})) (now : List Key) (listed : AreSeen new now)
@@ -60,16 +48,10 @@ module _ {N E : Type 0} (s : Seen N E) (counts : Pairs ℕ) where
     was_seen q other had = ap is_some (sym (others q other)) ∙ had
 
     led_here : AllLed s.edges.live node new
-    led_here q had = elim (same_or_other q node) [
-      | inl is ↦ (zero, sym is)
-      | inr other ↦ back.led q (was_seen q other had)
-    ]
+    led_here q had = grind (arith, same_or_other q node, back.led q, was_seen q)
 
     beside_now : IsBeside s.nodes new
-    beside_now q had = elim (same_or_other q node) [
-      | inl is ↦ rw is back.left.0
-      | inr other ↦ back.beside q (was_seen q other had)
-    ]
+    beside_now q had = grind (arith, same_or_other q node, back.left.0, back.beside q, was_seen q)
 
     module _ (k p : Key) (comes : ComesFromLeft s counts node k) (begins : option_map from (map.get s.edges.live k) ≡ Some p) where
       from_is : comes.0.from ≡ p
@@ -90,5 +72,7 @@ module _ {N E : Type 0} (s : Seen N E) (counts : Pairs ℕ) where
 
     -- fewer nodes are left
     pub back_fits : now ≡ marked passed node → (length now ≡ length passed + 1) × (length now ≤ map.len s.nodes.live)
-    back_fits is = let none = unseen_unlisted seen passed back.listed node back.new in let longer = ap length (is ∙ ap (λ t. cond (nat_eq t 0) (passed ++ node ∷ []) passed) none)
-        ∙ length-append passed (node ∷ []) in (longer, no_more_than now s.nodes.live (λ q. listed_once new now listed q) (λ q more. beside_now q (listed_seen new now listed q more)))
+    back_fits is = (
+      grind (arith, is, unseen_unlisted seen passed back.listed node back.new, length-append passed (node ∷ [])),
+      no_more_than now s.nodes.live (λ q. listed_once new now listed q) (λ q more. beside_now q (listed_seen new now listed q more)),
+    )

@@ -1,28 +1,25 @@
 -- The ends of the edges of a list, one after the other.
 use Rattle.std.proofs.Common.{◌≡◌, ◌+◌, ◌<◌, ◌≤◌, ◌∷◌, ◌++◌, ◌∙◌}
 use Rattle.slotmap_graph.proofs.Common.{ℕ, suc, true, false, cond, Option, Some, None, is_some, List, [], length, get_or, take, option_map, refl, sym, ap, arith, append-nil, append_assoc, nat_eq}
-use Rattle.slotmap_graph.proofs.Common.{option_or, cons_option, find, fold, same_Some, take_more, take_all, take-append-le, filter_map-append, find-append, fold-append, Key, is_key, times, one_itself}
-use Rattle.slotmap_graph.proofs.Common.{times_first, times_joined, SeenEdge, Edges, ListsEdges, from, to, GoesOn, HasEdge, IsBreadthFirst, arrives_at, ends_along, entries_along, first_or, goes_to}
-use Rattle.slotmap_graph.proofs.Common.{marked, MatchOption}
+use Rattle.slotmap_graph.proofs.Common.{cons_option, find, fold, take_more, take_all, take-append-le, filter_map-append, find-append, fold-append, Key, is_key, times, one_itself, times_first}
+use Rattle.slotmap_graph.proofs.Common.{times_joined, SeenEdge, Edges, ListsEdges, from, to, GoesOn, HasEdge, IsBreadthFirst, ends_along, entries_along, first_or, goes_to, marked, MatchOption}
 use Rattle.slotmap_graph.proofs.Adjacent.{listed_edge}
 use Rattle.std.specs.FinMap as map
 
 -- a walk along a list: what was passed, and what is ahead
 pub walked_on : (passed ahead rest all : List Key) (x : Key) → passed ++ ahead ≡ all → ahead ≡ x ∷ rest → (passed ++ x ∷ []) ++ rest ≡ all
-walked_on passed ahead rest all x so_far next = append_assoc passed (x ∷ []) rest ∙ ap (λ l. passed ++ l) (sym next) ∙ so_far
+walked_on passed ahead rest all x so_far next = grind (arith, append_assoc passed (x ∷ []) rest)
 
 pub walked_in : (passed ahead rest all : List Key) (x : Key) → passed ++ ahead ≡ all → ahead ≡ x ∷ rest → 0 < times x all
-walked_in passed ahead rest all x so_far next =
-    omega (arith, sym (times_joined x passed (x ∷ rest)) ∙ ap (times x) (ap (λ l. passed ++ l) (sym next) ∙ so_far), times_first x x rest, one_itself x)
+walked_in passed ahead rest all x so_far next = grind (arith, times_joined x passed (x ∷ rest), times_first x x rest, one_itself x)
 
 pub walked : (passed ahead all : List Key) → passed ++ ahead ≡ all → ahead ≡ [] → passed ≡ all
-walked passed ahead all so_far none = sym (append-nil passed) ∙ ap (λ l. passed ++ l) (sym none) ∙ so_far
+walked passed ahead all so_far none = grind (arith, append-nil passed)
 
 -- each edge has one end at most
 module _ {E : Type 0} (end : SeenEdge E → Key) (edges : Edges E) where
   one_end : (o : Option Key) (ends : List Key) (n : ℕ) → length ends ≤ n → length (cons_option o ends) ≤ suc n
-  one_end None ends n less = omega (arith, less)
-  one_end (Some k) ends n less = omega (arith, less)
+  one_end o ends n less = grind (arith, less)
 
   pub ends_less : (ks : List Key) → length (ends_along end edges ks) ≤ length ks
   ends_less [] = omega arith
@@ -30,7 +27,7 @@ module _ {E : Type 0} (end : SeenEdge E → Key) (edges : Edges E) where
 
   -- the end of the first edge comes first
   pub first_end : (k : Key) (e : SeenEdge E) (ks : List Key) → map.get edges k ≡ Some e → ends_along end edges (k ∷ ks) ≡ end e ∷ ends_along end edges ks
-  first_end k e ks there = ap (λ o. cons_option (option_map end o) (ends_along end edges ks)) there
+  first_end k e ks there = grind (arith, there)
 
 -- the edge of the first key comes first
 pub first_entry : {E : Type 0} (edges : Edges E) (k : Key) (e : SeenEdge E) (ks : List Key) → map.get edges k ≡ Some e → entries_along edges (k ∷ ks) ≡ (k, e) ∷ entries_along edges ks
@@ -38,8 +35,7 @@ first_entry edges k e ks there = ap (λ o. cons_option (option_map (λ e. (k, e)
 
 -- what the first step of an iterator over a list yields
 pub first_step : (ks rest : List Key) (found : Option Key) → MatchOption found ((ks ≡ []) × (rest ≡ [])) (λ x. ks ≡ x ∷ rest) → found ≡ first_or ks None
-first_step ks rest None step = sym (ap (λ l. first_or l None) step.0)
-first_step ks rest (Some x) step = sym (ap (λ l. first_or l None) step)
+first_step ks rest found step = grind arith
 
 -- the next edge of a walk along the edges of a node
 module _ {E : Type 0} (end : SeenEdge E → Key) (edges : Edges E) (node : Key) (all : List Key) (lists : ListsEdges end edges node all) (passed ahead rest : List Key)
@@ -56,31 +52,24 @@ module _ {E : Type 0} (edges : Edges E) (node : Key) (all : List Key) (lists : L
   this = next_edge from edges node all lists passed ahead rest x so_far next
 
   pub next_seen : (b : Key) → option_map to (map.get edges x) ≡ Some b → (v : E) × (map.get edges x ≡ Some (record { from = node; to = b; value = v }))
-  next_seen b arrives =
-      let to_is = same_Some this.0.to b (ap (option_map to) (sym this.1) ∙ arrives) in
-      (this.0.value, this.1 ∙ (λ i. Some (record { from = this.2 i; to = to_is i; value = this.0.value })))
+  next_seen b arrives = (this.0.value, grind (arith, this.1, this.2))
 
   pub next_joins : (b : Key) → option_map to (map.get edges x) ≡ Some b → HasEdge edges node b
   next_joins b arrives = let seen = next_seen b arrives in (x, record { from = node; to = b; value = seen.0 }, seen.1, refl, refl)
 
 module _ {E : Type 0} (edges : Edges E) (passed : List Key) (x : Key) where
   pub one_more : (end : SeenEdge E → Key) (b : Key) → option_map end (map.get edges x) ≡ Some b → ends_along end edges (passed ++ x ∷ []) ≡ ends_along end edges passed ++ b ∷ []
-  one_more end b is = filter_map-append (λ k. option_map end (map.get edges k)) passed (x ∷ []) ∙ ap (λ o. ends_along end edges passed ++ cons_option o []) is
+  one_more end b is = grind (arith, filter_map-append (λ k. option_map end (map.get edges k)) passed (x ∷ []))
 
   module _ (a b : Key) (arrives : option_map to (map.get edges x) ≡ Some a) (before : find (goes_to edges b) passed ≡ None) where
     at_x : goes_to edges b x ≡ is_key a b
-    at_x = by (map.get edges x) arrives
-      where
-        by : (o : Option (SeenEdge E)) → option_map to o ≡ Some a → arrives_at b o ≡ is_key a b
-        by None is = absurd (cc)
-        by (Some e) is = ap (λ k. is_key k b) (same_Some _ _ is)
+    at_x = grind (arith, arrives)
 
     pub not_found : is_key a b ≡ false → find (goes_to edges b) (passed ++ x ∷ []) ≡ None
-    not_found other = find-append (goes_to edges b) passed (x ∷ []) ∙ ap (λ o. option_or o (cond (goes_to edges b x) (Some x) None)) before ∙ ap (λ t. cond t (Some x) None) (at_x ∙ other)
+    not_found other = grind (arith, find-append (goes_to edges b) passed (x ∷ []), before, at_x)
 
     pub found_first : (ahead rest all : List Key) → passed ++ ahead ≡ all → ahead ≡ x ∷ rest → is_key a b ≡ true → find (goes_to edges b) all ≡ Some x
-    found_first ahead rest all so_far next this = ap (find (goes_to edges b)) (sym so_far ∙ ap (λ l. passed ++ l) next) ∙ find-append (goes_to edges b) passed (x ∷ rest)
-        ∙ ap (λ o. option_or o (cond (goes_to edges b x) (Some x) (find (goes_to edges b) rest))) before ∙ ap (λ t. cond t (Some x) (find (goes_to edges b) rest)) (at_x ∙ this)
+    found_first ahead rest all so_far next this = grind (arith, so_far, next, find-append (goes_to edges b) passed (x ∷ rest), before, at_x)
 
 pub taken : (ks : List Key) (i : ℕ) (x : Key) → i < length ks → x ≡ get_or ks i x → take (i + 1) ks ≡ take i ks ++ x ∷ []
 taken ks i x below is = take_more ks i x below ∙ ap (λ q. take i ks ++ q ∷ []) (sym is)
@@ -101,7 +90,7 @@ module _ (next : Key → List Key) (start : Key) (found : List Key) (at : ℕ) (
       → now ≡ fold (λ ks k. fold marked ks (next k)) (start ∷ []) (take (at + 1) now)
   order_step a below is now more made = let step : List Key → Key → List Key = λ ks k. fold marked ks (next k) in
       let front : take (at + 1) now ≡ take at found ++ a ∷ [] = ap (take (at + 1)) more.1 ∙ take-append-le (at + 1) found more.0 (omega arith) ∙ taken found at a below is in
-      sym (ap (fold step (start ∷ [])) front ∙ fold-append step (start ∷ []) (take at found) (a ∷ []) ∙ ap (λ ks. step ks a) (sym so_far) ∙ sym made)
+      grind (arith, front, fold-append step (start ∷ []) (take at found) (a ∷ []), so_far, made)
 
   pub order_end : length found ≤ at → IsBreadthFirst next start found
   order_end past = so_far ∙ ap (fold (λ ks k. fold marked ks (next k)) (start ∷ [])) (take_all at found past)

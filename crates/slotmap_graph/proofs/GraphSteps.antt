@@ -1,10 +1,10 @@
 -- What a call makes of a graph, as a whole.
-use Rattle.std.proofs.Common.{◌≡◌, ◌≢◌, ◌<◌, ◌≤◌, ◌⊎◌, ◌∷◌, ◌++◌, ◌||◌, ◌∙◌}
+use Rattle.std.proofs.Common.{◌≡◌, ◌≢◌, ◌<◌, ◌≤◌, ◌⊎◌, ◌∷◌, ◌++◌, ◌∙◌}
 use Rattle.slotmap_graph.proofs.Common.{ℕ, Bool, true, false, Option, Some, None, OnSome, IfSome, IfNone, MatchOption, List, [], length, is_some, option_map, refl, sym, ap, subst, inl, inr, arith}
 use Rattle.slotmap_graph.proofs.Common.{Key, key_cmp, Content, IsContent, IsLive, Inserts, Removes, Leaves, Pairs, IsBeside, with_value, keys, same_or_other, get-insert_here, get-insert_other}
-use Rattle.slotmap_graph.proofs.Common.{get-put_live, get-put_other, leaves_none, leaves_by_removal, inserted_fresh, live-insert_still, is_key, times, without, is_itself, is_other, times_first}
-use Rattle.slotmap_graph.proofs.Common.{one_itself, Lists, AreDisjoint, list_of, often, SeenEdge, Edges, IsJoined, ListsEdges, PutsAlone, SameEdges, edges_at, from, to, touches, HaveIndices}
-use Rattle.slotmap_graph.proofs.Common.{IsThreaded, IsGraph, CoversMore, by_node, IsFree, PutsBehind, with_list, ClonesEqual, IsCloneBy, IsCloneOf, clones_edge, clone_live}
+use Rattle.slotmap_graph.proofs.Common.{get-put_live, get-put_other, leaves_none, leaves_by_removal, inserted_fresh, live-insert_still, times, without, is_itself, is_other, times_first, one_itself}
+use Rattle.slotmap_graph.proofs.Common.{Lists, AreDisjoint, list_of, often, SeenEdge, Edges, IsJoined, ListsEdges, PutsAlone, SameEdges, edges_at, from, to, touches, HaveIndices, IsThreaded, IsGraph}
+use Rattle.slotmap_graph.proofs.Common.{CoversMore, by_node, IsFree, PutsBehind, with_list, ClonesEqual, IsCloneBy, IsCloneOf, clones_edge, clone_live}
 use Rattle.slotmap_graph.proofs.Adjacent.{absent_unlisted, listed_edge, none_listed, nothing_listed}
 use Rattle.slotmap_bounded.proofs.Indices.{indices_inserted, indices_still}
 use Rattle.slotmap_graph.proofs.Threaded.{at_none, empty_at, lists, other_nodes, put_free, put_seen, put_threaded, same_seen, threaded_along}
@@ -16,23 +16,21 @@ puts_alone nodes m k beside live well = record { here = get-put_live true nodes 
 -- a removal, whatever it returns, lets no key come
 pub node_leaves : {N : Type 0} (old new : Content N) (reuses : Bool) → IsContent reuses old → (k : Key) (answer : Option N) → answer ≡ map.get old.live k
     → OnSome answer (Removes old k new) → IfNone answer (new ≡ old) → Leaves old new
-node_leaves old new reuses well k None is removes unchanged = rw unchanged (leaves_none old)
-node_leaves old new reuses well k (Some n) is removes unchanged = leaves_by_removal reuses old well k (ap is_some (sym is)) new removes
+node_leaves old new reuses well k answer is removes unchanged = grind (arith, leaves_none old, leaves_by_removal reuses old well k)
 
 module _ {E : Type 0} (edges : Edges E) (k : Key) where
   -- an edge of a list touches the node
   pub out_touches : (ks : List Key) → ListsEdges from edges k ks → (x : Key) → 0 < times x ks → (e : SeenEdge E) × (map.get edges x ≡ Some e) × (touches k e ≡ true)
-  out_touches ks lists x more = let found = listed_edge from edges k ks lists x more in
-      (found.0, found.1, let here : is_key found.0.from k ≡ true = rw found.2 (is_itself k) in ap (λ b. b || is_key found.0.to k) here)
+  out_touches ks lists x more = let found = listed_edge from edges k ks lists x more in (found.0, found.1, grind (arith, found.2, is_itself k))
 
   into_touches : (ks : List Key) → ListsEdges to edges k ks → (x : Key) → 0 < times x ks → (e : SeenEdge E) × (map.get edges x ≡ Some e) × (touches k e ≡ true)
-  into_touches ks lists x more = let found = listed_edge to edges k ks lists x more in (found.0, found.1, let here : is_key found.0.to k ≡ true = rw found.2 (is_itself k) in grind arith)
+  into_touches ks lists x more = let found = listed_edge to edges k ks lists x more in (found.0, found.1, grind (arith, found.2, is_itself k))
 
   -- if both lists are empty, no edge does
   none_touches : (ks js : List Key) → ListsEdges from edges k ks → ks ≡ [] → ListsEdges to edges k js → js ≡ [] → (x : Key) (e : SeenEdge E)
       → map.get edges x ≡ Some e → touches k e ≡ false
-  none_touches ks js out no_out into no_into x e there = let apart_from = is_other e.from k (none_listed from edges k ks out no_out x e there) in
-      let apart_to = is_other e.to k (none_listed to edges k js into no_into x e there) in ap (λ b. b || is_key e.to k) apart_from ∙ apart_to
+  none_touches ks js out no_out into no_into x e there =
+      grind (arith, is_other e.from k (none_listed from edges k ks out no_out x e there), is_other e.to k (none_listed to edges k js into no_into x e there))
 
 -- the first key of a list is in it
 pub first_there : (ks : List Key) (x : Key) (rest : List Key) → ks ≡ x ∷ rest → 0 < times x ks
@@ -47,18 +45,15 @@ into_found edges k ks rest lists (Some x) step = into_touches edges k ks lists x
 
 pub into_none : {E : Type 0} (edges : Edges E) (k : Key) (js ks rest : List Key) → ListsEdges from edges k js → js ≡ [] → ListsEdges to edges k ks → (found : Option Key)
     → MatchOption found ((ks ≡ []) × (rest ≡ [])) (λ x. ks ≡ x ∷ rest) → IfNone found ((x : Key) (e : SeenEdge E) → map.get edges x ≡ Some e → touches k e ≡ false)
-into_none edges k js ks rest out none lists None step = none_touches edges k js ks out none lists step.0
-into_none edges k js ks rest out none lists (Some x) step = tt
+into_none edges k js ks rest out none lists found step = grind (arith, none_touches edges k js ks out none lists)
 
 -- a node that no edge touches has no edge in its lists
 module _ {E : Type 0} (edges : Edges E) (k : Key) (untouched : (x : Key) (e : SeenEdge E) → map.get edges x ≡ Some e → touches k e ≡ false) (ks : List Key) where
   pub none_from : ListsEdges from edges k ks → ks ≡ []
-  none_from lists = nothing_listed from edges k ks lists (λ x e there at. let none = untouched x e there in let h : is_key e.from k ≡ true = rw at (is_itself k) in
-      let t : touches k e ≡ true = ap (λ b. b || is_key e.to k) h in absurd (cc))
+  none_from lists = nothing_listed from edges k ks lists (λ x e there at. grind (arith, untouched x e there, is_itself k))
 
   pub none_to : ListsEdges to edges k ks → ks ≡ []
-  none_to lists = nothing_listed to edges k ks lists (λ x e there at. let none = untouched x e there in let h : is_key e.to k ≡ true = rw at (is_itself k) in
-      let t : touches k e ≡ true = grind arith in absurd (cc))
+  none_to lists = nothing_listed to edges k ks lists (λ x e there at. grind (arith, untouched x e there, is_itself k))
 
 -- every graph is joined
 pub graph_joined : {N E : Type 0} (nodes : Content N) (edges : Content (SeenEdge E)) (outs intos : Lists) → IsGraph nodes edges outs intos
@@ -78,12 +73,10 @@ module _ {N E : Type 0} {end : SeenEdge E → Key} {nodes : Content N} {edges : 
 
     pub grown : nodes'.capacity < length links'.lists → edges'.capacity < links'.members → IsThreaded end nodes' edges' links'
     grown owners members = threaded_along t end nodes' edges' links' (λ x. ap (λ m. option_map end (map.get m x)) same_edges) grows.lists
-        (indices_still t.node_indices nodes' (λ k live. sym (ap (λ m. map.contains_key m k) same_nodes) ∙ live) more_nodes) grown_edges owners members grows.disjoint
-        (λ x e there. ap (λ m. map.contains_key m (end e)) same_nodes ∙ t.ends x e there)
+        (indices_still t.node_indices nodes' (λ k live. grind (arith, same_nodes)) more_nodes) grown_edges owners members grows.disjoint (λ x e there. grind (arith, same_nodes, t.ends x e there))
 
     pub grown_seen : SameEdges (by_node nodes.live edges.live links) (by_node nodes'.live edges'.live links')
-    grown_seen k = ap (λ b. edges_at b k) (same_seen t end nodes' edges' links' (λ x. ap (λ m. option_map end (map.get m x)) same_edges) grows.lists grown_edges
-        (λ k. ap (λ m. map.contains_key m k) same_nodes))
+    grown_seen k = grind (arith, same_seen t end nodes' edges' links' (λ x. ap (λ m. option_map end (map.get m x)) same_edges) grows.lists grown_edges, same_nodes)
 
   pub covered_threaded : {links' : Lists} → CoversMore links links' → IsThreaded end nodes edges links'
   covered_threaded grows = grown nodes edges refl refl (omega arith) (omega arith) grows (omega (arith, t.owners, grows.owners)) (omega (arith, t.members, grows.members))
@@ -106,15 +99,12 @@ module _ {N E : Type 0} {end : SeenEdge E → Key} {nodes : Content N} {edges : 
     node_threaded = threaded_beside new (indices_inserted t.node_indices k v new inserts valid capacity within) capacity (λ x e there. still_node (end e) (t.ends x e there))
 
     pub node_seen : SameEdges (by_node nodes.live edges.live links) (by_node new.live edges.live links)
-    node_seen = other_nodes t new (λ q. elim (same_or_other q k) [
-      | inl is ↦ inr (ap (λ (q : Key). list_of links q.index) is ∙ empty_at t k.index (λ x e there at. (
-          let live = t.ends x e there in
-          let here : IsLive new k = ap (λ m. map.contains_key m k) inserts.live ∙ ap is_some (get-insert_here nodes.live k v) in
-          let one : end e ≡ k = valid.apart (end e) k (inl (inl (still_node (end e) live))) (inl (inl here)) at in
-          let gone = inserted_fresh true nodes k v new was inserts in
-          let f = ap (map.contains_key nodes.live) (sym one) ∙ live in cc)))
-      | inr other ↦ inl (ap is_some (ap (λ m. map.get m q) inserts.live ∙ get-insert_other nodes.live k v q other))
-    ])
+    node_seen =
+        let none : list_of links k.index ≡ [] = empty_at t k.index (λ x e there at. (
+        let live = t.ends x e there in
+        let here : IsLive new k = ap (λ m. map.contains_key m k) inserts.live ∙ ap is_some (get-insert_here nodes.live k v) in
+        grind (arith, valid.apart (end e) k (inl (inl (still_node (end e) live))) (inl (inl here)) at, inserted_fresh true nodes k v new was inserts))) in
+        other_nodes t new (λ q. grind (arith, same_or_other q k, none, inserts.live, get-insert_other nodes.live k v q))
 
   -- an edge comes
   module _ {k : Key} {e : SeenEdge E} {new : Content (SeenEdge E)} (inserts : Inserts edges k e new) (fresh : map.get edges.live k ≡ None) (valid : IsContent true new)
@@ -140,11 +130,7 @@ module _ {N E : Type 0} {end : SeenEdge E → Key} {nodes : Content N} {edges : 
     left_nodes q other = ap (λ m. map.contains_key m q) is ∙ grind (arith, keys)
 
     was_node : (q : Key) → IsLive new q → IsLive nodes q
-    was_node q live = elim (same_or_other q k) [
-      | inl at ↦ absurd (let gone : map.contains_key (map.remove nodes.live k) k ≡ false = grind (arith, keys) in let f = ap (λ m. map.contains_key m q) is in
-          let g = ap (map.contains_key (map.remove nodes.live k)) at in cc)
-      | inr other ↦ sym (left_nodes q other) ∙ live
-    ]
+    was_node q live = grind (arith, keys, same_or_other q k, left_nodes q, is)
 
     pub gone_threaded : IsThreaded end new edges links
     gone_threaded = threaded_beside new (indices_still t.node_indices new was_node (omega arith)) capacity (λ x e there. left_nodes (end e) (apart x e there) ∙ t.ends x e there)
@@ -162,10 +148,7 @@ module _ {N E : Type 0} {end : SeenEdge E → Key} {nodes : Content N} {edges : 
 
 -- the ends of an edge that doesn't touch a node
 pub ends_apart : {E : Type 0} (k : Key) (e : SeenEdge E) → touches k e ≡ false → (e.from ≢ k) × (e.to ≢ k)
-ends_apart k e none = (
-  λ at. (let h : is_key e.from k ≡ true = ap (λ q. is_key q k) at ∙ is_itself k in let t : touches k e ≡ true = ap (λ b. b || is_key e.to k) h in cc),
-  λ at. (let h : is_key e.to k ≡ true = ap (λ q. is_key q k) at ∙ is_itself k in let t : touches k e ≡ true = grind arith in cc),
-)
+ends_apart k e none = grind (arith, is_itself k)
 
 -- nothing is listed where there is no node and no edge
 module _ {N E : Type 0} (end : SeenEdge E → Key) (nodes : Content N) (edges : Content (SeenEdge E)) (links : Lists) (no_nodes : nodes.live ≡ map.empty) (no_edges : edges.live ≡ map.empty) where
@@ -177,17 +160,13 @@ module _ {N E : Type 0} (end : SeenEdge E → Key) (nodes : Content N) (edges : 
 
   pub bare_threaded : ((p : ℕ) → list_of links p ≡ []) → nodes.capacity < length links.lists → edges.capacity < links.members → IsThreaded end nodes edges links
   bare_threaded none owners members = record {
-    node_indices = record { within = λ k live. absurd (let gone = no_node k in cc); apart = λ a b live. absurd (let gone = no_node a in cc) };
-    edge_indices = record { within = λ k live. absurd (let gone = no_edge k in cc); apart = λ a b live. absurd (let gone = no_edge a in cc) };
+    node_indices = grind (arith, no_node);
+    edge_indices = grind (arith, no_edge);
     owners = owners;
     members = members;
-    disjoint = record {
-      once = λ p k. omega (arith, ap (often k) (none p));
-      alone = λ p q k inside. absurd (omega (arith, ap (often k) (none p)));
-      within = λ p k inside. absurd (omega (arith, ap (often k) (none p)));
-    };
-    ends = λ x e there. absurd (let gone = no_edge x in let f = ap is_some there in cc);
-    listed = λ x e there. absurd (let gone = no_edge x in let f = ap is_some there in cc);
+    disjoint = grind (arith, none);
+    ends = λ x e there. absurd (grind (arith, no_edge x));
+    listed = λ x e there. absurd (grind (arith, no_edge x));
     live = λ p i inside. absurd (omega (arith, ap (often i) (none p)));
   }
 
@@ -208,50 +187,37 @@ module _ {N E : Type 0} {end : SeenEdge E → Key} {nodes : Content N} {edges : 
       (omega (arith, t.owners)) (omega (arith, t.members)) t.disjoint (λ x e there. clone_live clones_node nodes new cloned (end e) ∙ t.ends x e there))
 
   pub copied_seen : {now : Lists} → now ≡ links → SameEdges (by_node nodes.live edges.live links) (by_node new.live copies.live now)
-  copied_seen is k = ap (λ l. edges_at (by_node new.live copies.live l) k) is
-      ∙ ap (λ b. edges_at b k) (same_seen t end new copies links (λ x. same _ _ (clones.live x)) (λ p. refl) edge_copies (clone_live clones_node nodes new cloned))
+  copied_seen is k = grind (arith, is, same_seen t end new copies links (λ x. same _ _ (clones.live x)) (λ p. refl) edge_copies (clone_live clones_node nodes new cloned))
 
 pub copied_from : {E : Type 0} (clones_value : E → E → Type 0) (o p : Option (SeenEdge E)) → IsCloneOf (clones_edge clones_value) o p → option_map from p ≡ option_map from o
-copied_from clones_value None p is = ap (option_map from) is
-copied_from clones_value (Some e) None is = absurd is
-copied_from clones_value (Some e) (Some copy) is = ap Some is.0
+copied_from clones_value o p is = grind arith
 
 pub copied_to : {E : Type 0} (clones_value : E → E → Type 0) (o p : Option (SeenEdge E)) → IsCloneOf (clones_edge clones_value) o p → option_map to p ≡ option_map to o
-copied_to clones_value None p is = ap (option_map to) is
-copied_to clones_value (Some e) None is = absurd is
-copied_to clones_value (Some e) (Some copy) is = ap Some is.1
+copied_to clones_value o p is = grind arith
 
 pub edges_equal : {E : Type 0} (is_clone : E → E → Type 0) → ClonesEqual is_clone → ClonesEqual (clones_edge is_clone)
-edges_equal is_clone same e copy is = λ i. record { from = is.0 i; to = is.1 i; value = same e.value copy.value is.2 i }
+edges_equal is_clone same e copy is = grind (arith, same)
 
 -- a value is written
 module _ {N E : Type 0} {end : SeenEdge E → Key} {nodes : Content N} {edges : Content (SeenEdge E)} {links : Lists} (t : IsThreaded end nodes edges links) where
   module _ (k : Key) (was v : N) (there : map.get nodes.live k ≡ Some was) where
     same_node : (q : Key) → map.contains_key (map.insert nodes.live k v) q ≡ map.contains_key nodes.live q
-    same_node q = elim (same_or_other q k) [
-      | inl is ↦ rw is (ap is_some (get-insert_here nodes.live k v) ∙ sym (ap is_some there))
-      | inr other ↦ ap is_some (get-insert_other nodes.live k v q other)
-    ]
+    same_node q = grind (arith, same_or_other q k, get-insert_here nodes.live k v, get-insert_other nodes.live k v q, there)
 
     pub node_written : IsThreaded end (with_value nodes k v) edges links
-    node_written = threaded_beside t (with_value nodes k v) (indices_still t.node_indices (with_value nodes k v) (λ q live. sym (same_node q) ∙ live) (omega arith)) refl
-        (λ x e found. same_node (end e) ∙ t.ends x e found)
+    node_written = threaded_beside t (with_value nodes k v) (indices_still t.node_indices (with_value nodes k v) (λ q live. grind (arith, same_node q)) (omega arith)) refl
+        (λ x e found. grind (arith, same_node (end e), t.ends x e))
 
     pub node_written_seen : by_node (map.insert nodes.live k v) edges.live links ≡ by_node nodes.live edges.live links
     node_written_seen = same_seen t end (with_value nodes k v) edges links (λ x. refl) (λ p. refl) t.edge_indices same_node
 
   module _ (k : Key) (was e : SeenEdge E) (there : map.get edges.live k ≡ Some was) (same_end : end e ≡ end was) where
     same_ends : (x : Key) → option_map end (map.get (map.insert edges.live k e) x) ≡ option_map end (map.get edges.live x)
-    same_ends x = elim (same_or_other x k) [
-      | inl is ↦ rw is (ap (option_map end) (get-insert_here edges.live k e) ∙ ap Some same_end ∙ sym (ap (option_map end) there))
-      | inr other ↦ ap (option_map end) (get-insert_other edges.live k e x other)
-    ]
+    same_ends x = grind (arith, same_or_other x k, get-insert_here edges.live k e, get-insert_other edges.live k e x, same_end, there)
 
     written_indices : HaveIndices (with_value edges k e)
-    written_indices = indices_still t.edge_indices (with_value edges k e) (λ q live. elim (same_or_other q k) [
-      | inl is ↦ ap (map.contains_key edges.live) is ∙ ap is_some there
-      | inr other ↦ sym (ap is_some (get-insert_other edges.live k e q other)) ∙ live
-    ]) (omega arith)
+    written_indices =
+        indices_still t.edge_indices (with_value edges k e) (λ q live. grind (arith, same_or_other q k, get-insert_other edges.live k e q, there)) (omega arith)
 
     pub edge_written : IsThreaded end nodes (with_value edges k e) links
     edge_written = threaded_along t end nodes (with_value edges k e) links same_ends (λ p. refl) t.node_indices written_indices t.owners t.members t.disjoint t.ends

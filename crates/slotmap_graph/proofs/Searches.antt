@@ -1,9 +1,9 @@
 -- A search from a node, along the edges.
-use Rattle.std.proofs.Common.{◌≡◌, ◌≢◌, ◌+◌, ◌<◌, ◌≤◌, ◌⊎◌, ◌∷◌, ◌++◌, if◌then◌else◌, ◌∙◌}
-use Rattle.slotmap_graph.proofs.Common.{ℕ, zero, suc, ⊎_elim, Bool, true, false, Some, None, List, [], length, get_or, drop, append_assoc, is_some, option_map, refl, sym, ap, inl, inr, arith, Key}
-use Rattle.slotmap_graph.proofs.Common.{Content, IsLive, Pairs, IsBeside, get, contains_key, same_or_other, secondary, append-nil, drop-append-le, same_Some, same, times, one_itself, one_other}
-use Rattle.slotmap_graph.proofs.Common.{times_first, times_joined, times_there, here_or_behind, none_behind, no_more_than, SeenEdge, Edges, ListsEdges, ends_at, from, to, HasEdge, LeadsBy, Leads}
-use Rattle.slotmap_graph.proofs.Common.{AllLed, HasNext, AreSeen, GoesOn, Finds}
+use Rattle.std.proofs.Common.{if◌then◌else◌, ◌≡◌, ◌≢◌, ◌+◌, ◌<◌, ◌≤◌, ◌⊎◌, ◌∷◌, ◌++◌, ◌∙◌}
+use Rattle.slotmap_graph.proofs.Common.{ℕ, zero, suc, ⊎_elim, Bool, true, false, Some, List, [], length, get_or, drop, append_assoc, is_some, option_map, refl, sym, ap, inl, inr, arith, Key}
+use Rattle.slotmap_graph.proofs.Common.{Content, IsLive, Pairs, IsBeside, get, contains_key, same_or_other, secondary, append-nil, drop-append-le, times, one_itself, one_other, times_first}
+use Rattle.slotmap_graph.proofs.Common.{times_joined, times_there, here_or_behind, none_behind, no_more_than, SeenEdge, Edges, ListsEdges, from, to, HasEdge, LeadsBy, Leads, AllLed, HasNext, AreSeen}
+use Rattle.slotmap_graph.proofs.Common.{GoesOn, Finds}
 use Rattle.std.specs.FinMap as map
 
 module _ (seen : Pairs (Unit {0})) (found : List Key) (listed : AreSeen seen found) (x : Key) where
@@ -14,24 +14,15 @@ module _ (seen : Pairs (Unit {0})) (found : List Key) (listed : AreSeen seen fou
   unseen_unlisted there = listed x ∙ ap (λ b. if b then 1 else 0) there
 
   pub listed_seen : 0 < times x found → contains_key seen x ≡ true
-  listed_seen more = elim (contains_key seen x) as (λ b. contains_key seen x ≡ b → contains_key seen x ≡ true) [
-    | true ↦ λ is. is
-    | false ↦ λ is. absurd (omega (arith, unseen_unlisted is))
-  ] refl
+  listed_seen more = grind (arith, listed x)
 
   pub listed_once : times x found ≤ 1
-  listed_once = elim (contains_key seen x) as (λ b. contains_key seen x ≡ b → times x found ≤ 1) [
-    | true ↦ λ is. omega (arith, seen_listed is)
-    | false ↦ λ is. omega (arith, unseen_unlisted is)
-  ] refl
+  listed_once = grind (arith, listed x)
 
 -- a mark keeps those that were marked
 pub marked_keeps : (mid new : Pairs (Unit {0})) (k : Key) → contains_key new k ≡ true → ((q : Key) → q ≢ k → get new q ≡ get mid q) → (q : Key)
     → contains_key mid q ≡ true → contains_key new q ≡ true
-marked_keeps mid new k marked others q had = elim (same_or_other q k) [
-  | inl is ↦ rw is marked
-  | inr other ↦ ap is_some (others q other) ∙ had
-]
+marked_keeps mid new k marked others q had = grind (arith, same_or_other q k, marked, others q)
 
 -- the edges of a node whose ends aren't among the nodes found are in this list
 abbrev pub Pending : {E : Type 0} → Edges E → Key → List Key → Pairs (Unit {0}) → Type 0
@@ -39,20 +30,15 @@ Pending {E} edges node ks seen = (k : Key) (e : SeenEdge E) → map.get edges k 
 
 module _ {E : Type 0} (edges : Edges E) (node : Key) where
   pub pending_start : (ks : List Key) (seen : Pairs (Unit {0})) → ListsEdges from edges node ks → Pending edges node ks seen
-  pending_start ks seen lists k e there at =
-      inl (let one : ends_at from node (Some e) ≡ 1 = ap (λ q. same q node) at ∙ one_itself node in omega (arith, lists k ∙ ap (ends_at from node) there ∙ one))
+  pending_start ks seen lists k e there at = inl (grind (arith, lists k, one_itself node))
 
   pub pending_step : (ks rest : List Key) (x b : Key) (seen new : Pairs (Unit {0})) → ks ≡ x ∷ rest → option_map to (map.get edges x) ≡ Some b → contains_key new b ≡ true
       → ((q : Key) → contains_key seen q ≡ true → contains_key new q ≡ true) → Pending edges node ks seen → Pending edges node rest new
-  pending_step ks rest x b seen new next arrives marked kept pending k d found at = elim (same_or_other k x) [
-    | inl is ↦ inr (rw (same_Some d.to b (ap (option_map to) (sym found) ∙ ap (λ q. option_map to (map.get edges q)) is ∙ arrives)) marked)
-    | inr other ↦ ⊎_elim
-        (λ more. inl (omega (arith, one_other x k (λ s. other (sym s)), ap (times k) next ∙ times_first k x rest)))
-        (λ had. inr (kept d.to had)) (pending k d found at)
-  ]
+  pending_step ks rest x b seen new next arrives marked kept pending k d found at =
+      grind (arith, same_or_other k x, one_other x k, times_first k x rest, next, arrives, marked, kept d.to, pending k d found at)
 
   pub pending_end : (ks : List Key) (seen : Pairs (Unit {0})) → ks ≡ [] → Pending edges node ks seen → HasNext edges node seen
-  pending_end ks seen past pending b join = ⊎_elim (λ more. absurd (omega (arith, ap (times join.0) past))) (λ had. rw (← join.4) had) (pending join.0 join.1 join.2 join.3)
+  pending_end ks seen past pending b join = grind (arith, pending join.0 join.1 join.2 join.3, join.4)
 
 module _ {N E : Type 0} (nodes : Content N) (edges : Edges E) (a : Key) (seen : Pairs (Unit {0})) (found : List Key) where
   pub finds_start : AreSeen seen found → IsBeside nodes seen → Finds nodes edges a seen found seen found
@@ -63,23 +49,17 @@ module _ {N E : Type 0} (nodes : Content N) (edges : Edges E) (a : Key) (seen : 
       → Finds nodes edges a seen found new now
   finds_step mid half finds b live join new now listed behind marked others = record {
     listed = listed;
-    live = λ q had. elim (same_or_other q b) [
-      | inl is ↦ rw is live
-      | inr other ↦ finds.live q (ap is_some (sym (others q other)) ∙ had)
-    ];
+    live = λ q had. grind (arith, same_or_other q b, live, others q, finds.live q);
     behind = (finds.behind.0 ++ behind.0, behind.1 ∙ ap (λ q. q ++ behind.0) finds.behind.1 ∙ append_assoc found finds.behind.0 behind.0);
-    kept = λ q had. kept q (finds.kept q had);
+    kept = λ q had. marked_keeps mid new b marked others q (finds.kept q had);
     led = λ start leads all q had. elim (same_or_other q b) [
       | inl is ↦ rw is (suc leads.0, (a, leads.1, join))
       | inr other ↦ finds.led start leads all q (ap is_some (sym (others q other)) ∙ had)
     ];
   }
-    where
-      kept : (q : Key) → contains_key mid q ≡ true → contains_key new q ≡ true
-      kept = marked_keeps mid new b marked others
 
 pub are_none : (seen : Pairs (Unit {0})) (found : List Key) → seen ≡ map.empty → found ≡ [] → AreSeen seen found
-are_none seen found empty none x = let gone : get seen x ≡ None = rw empty (grind (arith, secondary)) in ap (times x) none ∙ sym (ap (λ o. if is_some o then 1 else 0) gone)
+are_none seen found empty none x = grind (arith, secondary, empty, none)
 
 -- a search that went as far as the node at an index
 pub record Searching {N E : Type 0} (nodes : Content N) (edges : Edges E) (start : Key) (seen : Pairs (Unit {0})) (found : List Key) (at : ℕ) : Type 0 where
@@ -103,10 +83,7 @@ module _ {N E : Type 0} (nodes : Content N) (edges : Edges E) (start : Key) wher
   }
     where
       only : (q : Key) → contains_key seen q ≡ true → q ≡ start
-      only q had = elim (same_or_other q start) [
-        | inl is ↦ is
-        | inr other ↦ absurd (let gone : get none q ≡ None = rw empty (grind (arith, secondary)) in let f = others q other ∙ gone in let g = ap is_some f in cc)
-      ]
+      only q had = grind (arith, secondary, same_or_other q start, others q, empty)
 
   module _ (seen : Pairs (Unit {0})) (found : List Key) (at : ℕ) (searching : Searching nodes edges start seen found at) where
     pub searching_step : (a : Key) → at < length found → a ≡ get_or found at a → (new : Pairs (Unit {0})) (now : List Key)
@@ -119,9 +96,6 @@ module _ {N E : Type 0} (nodes : Content N) (edges : Edges E) (start : Key) wher
       done = λ x had. by x had (contains_key seen x) refl;
     }
       where
-        more : List Key
-        more = finds.behind.0
-
         longer : drop (at + 1) now ≡ drop (at + 1) found ++ finds.behind.0
         longer = ap (drop (at + 1)) finds.behind.1 ∙ drop-append-le (at + 1) found finds.behind.0 (omega arith)
 
@@ -133,14 +107,9 @@ module _ {N E : Type 0} (nodes : Content N) (edges : Edges E) (start : Key) wher
             (λ some. ⊎_elim (λ (one : x ≡ a). inr (rw one next)) (λ behind. inl (still x behind)) (here_or_behind found at a x below is some))
             (λ (goes : HasNext edges x seen). inr (λ b join. finds.kept b (goes b join))) (searching.done x was)
         by x had false was =
-            inl (omega (
-              arith,
-              unseen_unlisted seen found searching.listed x was,
-              seen_listed new now finds.listed x had,
-              ap (times x) finds.behind.1
-                  ∙ times_joined x found finds.behind.0,
-              ap (times x) longer ∙ times_joined x (drop (at + 1) found) finds.behind.0,
-            ))
+            let now_is = times_joined x found finds.behind.0 in
+            let left = times_joined x (drop (at + 1) found) finds.behind.0 in
+            inl (grind (arith, unseen_unlisted seen found searching.listed x was, seen_listed new now finds.listed x had, finds.behind.1, longer))
 
     module _ (past : length found ≤ at) where
       goes_on : (x : Key) → contains_key seen x ≡ true → HasNext edges x seen

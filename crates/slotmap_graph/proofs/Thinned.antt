@@ -1,7 +1,7 @@
 -- Edges that are taken out one after the other, each of which touches a node.
 use Rattle.std.proofs.Common.{◌≡◌, ◌≢◌, ◌⊎◌, ◌∙◌}
-use Rattle.slotmap_graph.proofs.Common.{⊎_elim, Bool, true, false, Option, Some, None, not, cond, List, is_some, refl, sym, ap, inl, inr, arith, option_and_then, filter, Key, Content, IsSpent}
-use Rattle.slotmap_graph.proofs.Common.{KeepsSpent, keys, same_or_other, is_key, without, is_other, filter_less, filter_all, SeenEdge, Edges, touches, avoids, ListsEdges}
+use Rattle.slotmap_graph.proofs.Common.{true, false, Some, None, not, cond, List, is_some, refl, sym, ap, inl, inr, arith, option_and_then, filter, Key, Content, IsSpent, KeepsSpent, keys}
+use Rattle.slotmap_graph.proofs.Common.{same_or_other, is_key, without, is_other, filter_less, filter_all, SeenEdge, Edges, touches, avoids, ListsEdges}
 use Rattle.slotmap_graph.proofs.Adjacent.{listed_edge}
 use Rattle.std.specs.FinMap as map
 
@@ -44,41 +44,16 @@ module _ {E : Type 0} (node : Key) (old now : Content (SeenEdge E)) where
         elsewhere k other (inr t) = inr (record { edge = t.edge; was = t.was; touched = t.touched; gone = stays k other ∙ t.gone; for_good = keeps k t.for_good })
 
     module _ (none : (k : Key) (e : SeenEdge E) → map.get now.live k ≡ Some e → touches node e ≡ false) where
-      abbrev kept : Option (SeenEdge E) → Option (SeenEdge E)
-      kept o = option_and_then (λ e. cond (avoids node e) (Some e) None) o
-
-      kept_touched : (e : SeenEdge E) → touches node e ≡ true → kept (Some e) ≡ None
-      kept_touched e t = ap (λ b. cond (not b) (Some e) None) t
-
-      kept_untouched : (e : SeenEdge E) → touches node e ≡ false → kept (Some e) ≡ Some e
-      kept_untouched e t = ap (λ b. cond (not b) (Some e) None) t
-
       pub thinned_end : (k : Key) → map.get now.live k ≡ option_and_then (λ e. cond (avoids node e) (Some e) None) (map.get old.live k)
-      thinned_end k = by (thinned.each k)
-        where
-          same_kept : (o : Option (SeenEdge E)) → map.get now.live k ≡ o → o ≡ kept o
-          same_kept None is = refl
-          same_kept (Some e) is = sym (kept_untouched e (none k e is))
-
-          by : (map.get now.live k ≡ map.get old.live k) ⊎ IsTaken node old now k → map.get now.live k ≡ kept (map.get old.live k)
-          by (inl same) = rw (← same) (same_kept (map.get now.live k) refl)
-          by (inr t) = t.gone ∙ sym (ap kept t.was ∙ kept_touched t.edge t.touched)
+      thinned_end k = grind (arith, thinned.each k, none k)
 
       pub thinned_spent : (k : Key) (e : SeenEdge E) → map.get old.live k ≡ Some e → touches node e ≡ true → IsSpent now k
-      thinned_spent k e was touched = ⊎_elim (λ same. absurd (let f = none k e (same ∙ was) in cc)) (λ (t : IsTaken node old now k). t.for_good) (thinned.each k)
+      thinned_spent k e was touched = grind (arith, none k e, thinned.each k)
 
 -- what is left touches the node no more
 pub none_left : {E : Type 0} (node : Key) (old now : Edges E) → ((k : Key) → map.get now k ≡ option_and_then (λ e. cond (avoids node e) (Some e) None) (map.get old k))
     → (k : Key) (e : SeenEdge E) → map.get now k ≡ Some e → touches node e ≡ false
-none_left {E} node old now each k e found = by (map.get old k) (sym found ∙ each k)
-  where
-    by : (o : Option (SeenEdge E)) → Some e ≡ option_and_then (λ e. cond (avoids node e) (Some e) None) o → touches node e ≡ false
-    by None is = absurd (cc)
-    by (Some d) is = at (touches node d) refl
-      where
-        at : (b : Bool) → touches node d ≡ b → touches node e ≡ false
-        at true t = absurd (let h = is ∙ ap (λ b. cond (not b) (Some d) None) t in cc)
-        at false t = let h = is ∙ ap (λ b. cond (not b) (Some d) None) t in let one : e ≡ d = cc in ap (touches node) one ∙ t
+none_left {E} node old now each k e found = grind (arith, each k)
 
 -- a list, where each time the edge that goes is taken out
 module _ {E : Type 0} (edges : Edges E) (first now : List Key) (so_far : filter (map.contains_key edges) first ≡ filter (map.contains_key edges) now) where
@@ -93,10 +68,7 @@ module _ {E : Type 0} (edges : Edges E) (first now : List Key) (so_far : filter 
       gone = grind (arith, keys)
 
       apart : (q : Key) → map.contains_key (map.remove edges x) q ≡ true → not (is_key q x) ≡ true
-      apart q there = elim (same_or_other q x) [
-        | inl is ↦ absurd (let f = ap (map.contains_key (map.remove edges x)) is ∙ gone in cc)
-        | inr other ↦ ap not (is_other q x other)
-      ]
+      apart q there = grind (arith, keys, same_or_other q x, is_other q x)
 
   pub thin_end : (end : SeenEdge E → Key) (k : Key) → ListsEdges end edges k now → now ≡ filter (map.contains_key edges) first
   thin_end end k lists = sym (so_far ∙ filter_all (map.contains_key edges) now (λ x more. ap is_some (listed_edge end edges k now lists x more).1))

@@ -1,18 +1,15 @@
 -- An order of the nodes in which each edge goes forward: how it is found, and that there is a cycle where there is none.
-use Rattle.std.proofs.Common.{◌≡◌, ◌≢◌, ◌+◌, ◌-◌, ◌<◌, ◌≤◌, ◌⊎◌, ◌∷◌, ◌++◌, if◌then◌else◌, ◌∙◌}
-use Rattle.slotmap_graph.proofs.Common.{ℕ, zero, suc, ⊎_elim, Bool, true, false, Some, List, [], length, take, drop, get_or, nat_eq, option_map, refl, sym, ap, subst, append-nil, append_assoc}
-use Rattle.slotmap_graph.proofs.Common.{inl, inr, arith, eq-zero-or-pos, take-append-le, take_all, sum_by-take-drop, nat_tests, Key, IsLive, Pairs, get, same_or_other, same, times, one_itself}
-use Rattle.slotmap_graph.proofs.Common.{one_other, times_first, times_there, times_pushed, times_joined, behind_split, no_more_than, cut_at, split_at, in_midst, cons_not_nil, Seen, SeenEdge, Edges}
-use Rattle.slotmap_graph.proofs.Common.{ByNode, IsJoined, edges_at, ends_at, from, to, GoesOn, LeadsBy, GoesForward, HasCycle, edges_out, passed_of, Sorting, Counting, ComesFromLeft, IsLeft, key_live}
+use Rattle.std.proofs.Common.{if◌then◌else◌, ◌≡◌, ◌≢◌, ◌+◌, ◌-◌, ◌<◌, ◌≤◌, ◌⊎◌, ◌∷◌, ◌++◌, ◌∙◌}
+use Rattle.slotmap_graph.proofs.Common.{ℕ, zero, suc, Bool, true, false, Some, List, [], length, take, drop, get_or, nat_eq, option_map, refl, sym, ap, subst, append-nil, append_assoc, inl, inr}
+use Rattle.slotmap_graph.proofs.Common.{arith, eq-zero-or-pos, take-append-le, take_all, sum_by-take-drop, nat_tests, Key, IsLive, Pairs, get, same_or_other, same, times, one_itself, one_other}
+use Rattle.slotmap_graph.proofs.Common.{times_first, times_there, times_pushed, times_joined, behind_split, no_more_than, cut_at, split_at, in_midst, cons_not_nil, Seen, SeenEdge, Edges, ByNode}
+use Rattle.slotmap_graph.proofs.Common.{IsJoined, edges_at, ends_at, from, to, GoesOn, LeadsBy, GoesForward, HasCycle, edges_out, passed_of, Sorting, Counting, ComesFromLeft, IsLeft, key_live}
 use Rattle.slotmap_graph.proofs.Common.{key_there, contains_key, is_some}
 use Rattle.slotmap_graph.proofs.{Adjacent.listed_edge, Adjacent.edge_listed, Followed.next_seen, Followed.taken}
 use Rattle.std.specs.FinMap as map
 
 same_turned : (a b : Key) → same a b ≡ same b a
-same_turned a b = elim (same_or_other a b) [
-  | inl is ↦ rw is refl
-  | inr other ↦ one_other a b other ∙ sym (one_other b a (λ e. other (sym e)))
-]
+same_turned a b = grind (arith, same_or_other a b, one_other a b, one_other b a)
 
 -- one more edge is passed
 passed_more : (passed : List Key) (x : Key) (js : List Key) → passed_of (passed ++ x ∷ []) js ≡ passed_of passed js + times x js
@@ -31,28 +28,7 @@ module _ (passed : List Key) (once : (x : Key) → times x passed ≤ 1) where
   -- not all were passed, if one was not
   passed_less : (x : Key) (js : List Key) → 0 < times x js → times x passed ≡ 0 → passed_of passed js < length js
   passed_less x [] more none = absurd (omega arith)
-  passed_less x (j ∷ js) more none = elim (same_or_other j x) [
-    | inl is ↦ omega (arith, passed_most js, ap (λ q. times q passed) is ∙ none)
-    | inr other ↦ (let first = times_first x j js in let no = one_other j x other in omega (arith, passed_less x js (omega arith) none, once j))
-  ]
-
-test_one : (n : ℕ) → nat_eq n 1 ≡ true → n ≡ 1
-test_one n is = grind (arith, nat_tests)
-
-test_more : (n : ℕ) → 0 < n → nat_eq n 1 ≡ false → nat_eq (n - 1) 0 ≡ false
-test_more n more is = grind (arith, nat_tests)
-
-not_zero : (n : ℕ) → 0 < n → nat_eq n 0 ≡ false
-not_zero n more = grind (arith, nat_tests)
-
-at_most_one : (n t : ℕ) → t ≡ (if nat_eq n 0 then 1 else 0) → t ≤ 1
-at_most_one n t is = grind (arith, nat_tests)
-
-none_left : (n t : ℕ) → t ≡ (if nat_eq n 0 then 1 else 0) → t ≡ 0 → 0 < n
-none_left n t is none = grind (arith, nat_tests)
-
-is_zero : (n t : ℕ) → t ≡ (if nat_eq n 0 then 1 else 0) → 0 < t → n ≡ 0
-is_zero n t is more = grind (arith, nat_tests)
+  passed_less x (j ∷ js) more none = grind (arith, same_or_other j x, passed_most js, times_first x j js, one_other j x, passed_less x js, once j)
 
 module _ {N E : Type 0} (s : Seen N E) (joined : IsJoined s) where
   -- an edge is passed: the count of its end goes down, and its end comes into the list once no edge is left
@@ -62,8 +38,7 @@ module _ {N E : Type 0} (s : Seen N E) (joined : IsJoined s) where
     in_list = edge_listed to s.edges.live e.to (edges_at s.into e.to) (joined.into e.to) x e there refl
 
     some_left : (n : ℕ) → get counts e.to ≡ Some n → 0 < n
-    some_left n is = let entry = sorting.table e.to live in let same_count : entry.0 ≡ n = (let h = entry.1 in cc) in
-        omega (arith, passed_less passed sorting.once x (edges_at s.into e.to) (omega (arith, in_list)) new, entry.2, same_count)
+    some_left n is = let entry = sorting.table e.to live in grind (arith, passed_less passed sorting.once x (edges_at s.into e.to), in_list, entry)
 
     can_pass : (n : ℕ) × (get counts e.to ≡ Some n) × (0 < n)
     can_pass = let entry = sorting.table e.to live in (entry.0, entry.1, some_left entry.0 entry.1)
@@ -78,58 +53,34 @@ module _ {N E : Type 0} (s : Seen N E) (joined : IsJoined s) where
       more_left = some_left count (sorting.table e.to live).1
 
       not_yet : times e.to found ≡ 0
-      not_yet = (sorting.table e.to live).3 ∙ ap (λ b. if b then 1 else 0) (not_zero count more_left)
+      not_yet = grind (arith, nat_tests, (sorting.table e.to live).3, more_left)
 
       -- the end of the edge comes into the list, or the list stays
       either : ((found' ≡ found ++ e.to ∷ []) × (count ≡ 1)) ⊎ ((found' ≡ found) × (nat_eq (count - 1) 0 ≡ false))
-      either = elim (nat_eq count 1) as (λ b. nat_eq count 1 ≡ b → found' ≡ (if b then found ++ e.to ∷ [] else found)
-          → ((found' ≡ found ++ e.to ∷ []) × (count ≡ 1)) ⊎ ((found' ≡ found) × (nat_eq (count - 1) 0 ≡ false))) [
-            | true ↦ λ one is. inl (is, test_one count one)
-            | false ↦ λ more is. inr (is, test_more count more_left more)
-          ] refl (found_is count (sorting.table e.to live).1)
+      either = grind (arith, nat_tests, found_is count (sorting.table e.to live).1, more_left)
 
       others_found : (q : Key) → q ≢ e.to → times q found' ≡ times q found
-      others_found q other = ⊎_elim (λ last. omega (arith, ap (times q) last.0 ∙ times_pushed q found e.to, one_other e.to q (λ s. other (sym s)))) (λ stays. ap (times q) stays.0) either
+      others_found q other = grind (arith, either, times_pushed q found e.to, one_other e.to q)
 
       here_found : times e.to found' ≡ (if nat_eq (count - 1) 0 then 1 else 0)
-      here_found = ⊎_elim
-          (λ last. (let sum = ap (times e.to) last.0 ∙ times_pushed e.to found e.to in let one = one_itself e.to in let none = not_yet in
-          let sure : times e.to found' ≡ 1 = omega arith in sure ∙ sym (ap (λ n. if nat_eq (n - 1) 0 then 1 else 0) last.1)))
-          (λ stays. ap (times e.to) stays.0 ∙ not_yet ∙ sym (ap (λ b. if b then 1 else 0) stays.1)) either
+      here_found = grind (arith, either, times_pushed e.to found e.to, one_itself e.to, not_yet)
 
       kept_found : (q : Key) → 0 < times q found → 0 < times q found'
-      kept_found q more = elim (same_or_other q e.to) [
-        | inl is ↦ absurd (omega (arith, ap (λ k. times k found) is ∙ not_yet))
-        | inr other ↦ omega (arith, others_found q other)
-      ]
+      kept_found q more = grind (arith, same_or_other q e.to, not_yet, others_found q)
 
       once_pushed : (q : Key) → times q (passed ++ x ∷ []) ≤ 1
-      once_pushed q = elim (same_or_other q x) [
-        | inl is ↦ omega (arith, times_pushed q passed x, ap (λ k. times k passed) is ∙ new, ap (same x) is ∙ one_itself x)
-        | inr other ↦ omega (arith, times_pushed q passed x, one_other x q (λ s. other (sym s)), sorting.once q)
-      ]
+      once_pushed q = grind (arith, same_or_other q x, times_pushed q passed x, new, one_itself x, one_other x q, sorting.once q)
 
       -- each edge to a node that comes into the list was passed
       all_passed : count ≡ 1 → (j : Key) → 0 < times j (edges_at s.into e.to) → 0 < times j (passed ++ x ∷ [])
-      all_passed one j there_too = elim (eq-zero-or-pos (times j (passed ++ x ∷ []))) [
-        | inl none ↦ absurd (
-            omega (arith, passed_less (passed ++ x ∷ []) once_pushed j (edges_at s.into e.to) there_too none, passed_more passed x (edges_at s.into e.to), (sorting.table e.to live).2, in_list, one))
-        | inr more ↦ more
-      ]
+      all_passed one j there_too =
+          grind (arith, passed_less (passed ++ x ∷ []) once_pushed j (edges_at s.into e.to), passed_more passed x (edges_at s.into e.to), (sorting.table e.to live).2, in_list)
 
       began_now : (k : Key) (d : SeenEdge E) → map.get s.edges.live k ≡ Some d → 0 < times k (passed ++ x ∷ []) → 0 < times d.from found
-      began_now k d at more = elim (same_or_other k x) [
-        | inl is ↦ (let one : d ≡ e = (let h = sym (ap (map.get s.edges.live) (sym is) ∙ at) ∙ there in cc) in rw one start)
-        | inr other ↦ sorting.began k d at (omega (arith, times_pushed k passed x, one_other x k (λ s. other (sym s))))
-      ]
+      began_now k d at more = grind (arith, same_or_other k x, there, times_pushed k passed x, one_other x k, sorting.began k d, start)
 
       forward_now : GoesForward s.edges.live found'
-      forward_now k d before after at split = ⊎_elim
-          (λ last. elim (cut_at found (e.to ∷ []) before d.to after (sym last.0 ∙ split)) [
-            | inl old ↦ sorting.forward k d before old.0 at old.1
-            | inr end ↦ at_end last.1 end.0 end.1 end.2
-          ])
-          (λ stays. sorting.forward k d before after at (sym stays.0 ∙ split)) either
+      forward_now k d before after at split = grind (arith, either, cut_at found (e.to ∷ []) before d.to after, sorting.forward k d before, at_end)
         where
           at_end : count ≡ 1 → (m : List Key) → before ≡ found ++ m → e.to ∷ [] ≡ m ++ d.to ∷ after → 0 < times d.from before
           at_end one [] is last = let same_end : d.to ≡ e.to = (cc) in let mine = edge_listed to s.edges.live e.to (edges_at s.into e.to) (joined.into e.to) k d at same_end in
@@ -153,10 +104,7 @@ module _ {N E : Type 0} (s : Seen N E) (joined : IsJoined s) where
               let more = more_left in (count - 1, counted count entry.1, omega (arith, entry.2, sum, mine, more), here_found)
 
       live_now : (y : Key) → 0 < times y found' → IsLive s.nodes y
-      live_now y more = elim (same_or_other y e.to) [
-        | inl is ↦ rw is live
-        | inr other ↦ sorting.live y (omega (arith, others_found y other))
-      ]
+      live_now y more = grind (arith, same_or_other y e.to, live, others_found y, sorting.live y)
 
       sorting_step : Sorting s counts' found' (passed ++ x ∷ [])
       sorting_step = record { table = table_now; live = live_now; forward = forward_now; began = λ k d at more. kept_found d.from (began_now k d at more); once = once_pushed }
@@ -166,22 +114,12 @@ module _ {N E : Type 0} (s : Seen N E) (joined : IsJoined s) where
   sorting_start counts found counting = record {
     table = λ y live. (
         let entry = counting.table y (key_there s.nodes.live y live) in
-        let none = passed_none (edges_at s.into y) in
-        (length (edges_at s.into y), entry.0, omega arith, entry.1));
-    live = λ y more. key_live s.nodes.live y (elim (eq-zero-or-pos (times y (map.keys s.nodes.live))) [
-      | inl none ↦ absurd (omega (arith, counting.others y none))
-      | inr there ↦ there
-    ]);
+        (length (edges_at s.into y), entry.0, omega (arith, passed_none (edges_at s.into y)), entry.1));
+    live = λ y more. key_live s.nodes.live y (grind (arith, counting.others y));
     forward = λ k e before after at split. absurd (
         let there : 0 < times e.to found = (omega (arith, ap (times e.to) split ∙ in_midst before e.to after)) in
         let listed = edge_listed to s.edges.live e.to (edges_at s.into e.to) (joined.into e.to) k e at refl in
-        elim (eq-zero-or-pos (times e.to (map.keys s.nodes.live))) [
-          | inl none ↦ omega (arith, counting.others e.to none)
-          | inr known ↦ (
-              let entry = counting.table e.to known in
-              let empty : length (edges_at s.into e.to) ≡ 0 = is_zero (length (edges_at s.into e.to)) (times e.to found) entry.1 there in
-              none_in k (edges_at s.into e.to) empty listed)
-        ]);
+        grind (arith, nat_tests, counting.others e.to, counting.table e.to, none_in k (edges_at s.into e.to)));
     began = λ x e at more. absurd (omega arith);
     once = λ x. omega arith;
   }
@@ -193,10 +131,7 @@ module _ {N E : Type 0} (s : Seen N E) (joined : IsJoined s) where
 -- each node is found once
 module _ {N E : Type 0} (s : Seen N E) (counts : Pairs ℕ) (found passed : List Key) (sorting : Sorting s counts found passed) where
   pub found_once : (x : Key) → times x found ≤ 1
-  found_once x = elim (eq-zero-or-pos (times x found)) [
-    | inl none ↦ omega arith
-    | inr more ↦ at_most_one (sorting.table x (sorting.live x more)).0 (times x found) (sorting.table x (sorting.live x more)).3
-  ]
+  found_once x = let entry = sorting.table x in grind (arith, nat_tests, sorting.live x, entry)
 
   pub found_fits : length found ≤ map.len s.nodes.live
   found_fits = no_more_than found s.nodes.live found_once sorting.live
@@ -212,19 +147,11 @@ module _ {N E : Type 0} (s : Seen N E) (joined : IsJoined s) where
   next_new : (done passed rest : List Key) (a x : Key) (e : SeenEdge E) → map.get s.edges.live x ≡ Some e → e.from ≡ a → times a done ≡ 0 → passed ++ x ∷ rest ≡ edges_at s.out a
       → times x (edges_out s.out done ++ passed) ≡ 0
   next_new done passed rest a x e there at none split =
-      omega (
-        arith,
-        out_times done x e there ∙ ap (λ q. times q done) at ∙ none,
-        joined.out a x ∙ ap (ends_at from a) there ∙ ap (λ q. same q a) at
-            ∙ one_itself a,
-        ap (times x) split,
-        times_joined x (edges_out s.out done) passed,
-        in_midst passed x rest,
-      )
+      grind (arith, out_times done x e there, joined.out a x, one_itself a, times_joined x (edges_out s.out done) passed, in_midst passed x rest)
 
 edges_out_more : (out : ByNode) (ks : List Key) (a : Key) → edges_out out (ks ++ a ∷ []) ≡ edges_out out ks ++ edges_at out a
 edges_out_more out [] a = append-nil (edges_at out a)
-edges_out_more out (k ∷ ks) a = ap (λ l. edges_at out k ++ l) (edges_out_more out ks a) ∙ sym (append_assoc (edges_at out k) (edges_out out ks) (edges_at out a))
+edges_out_more out (k ∷ ks) a = grind (arith, edges_out_more out ks a, append_assoc (edges_at out k) (edges_out out ks) (edges_at out a))
 
 -- an edge that was not passed
 some_unpassed : (passed js : List Key) → passed_of passed js < length js → (j : Key) × (0 < times j js) × (times j passed ≡ 0)
@@ -241,21 +168,17 @@ module _ {N E : Type 0} (s : Seen N E) (counts : Pairs ℕ) (found : List Key) (
 
   -- an edge leads to a node that wasn't found, from another one
   pub left_before : IsJoined s → (y : Key) → IsLeft s counts y → (k : Key) × ComesFromLeft s counts y k
-  left_before joined y left = let entry = sorting.table y left.0 in let same_count : entry.0 ≡ left.1 = (let h = sym entry.1 ∙ left.2 in cc) in
-      let some = some_unpassed (edges_out s.out found) (edges_at s.into y) (omega (arith, entry.2, same_count, left.3)) in
-      let e = listed_edge to s.edges.live y (edges_at s.into y) (joined.into y) some.0 some.1 in let live = (joined.ends some.0 e.0 e.1).0 in let from = sorting.table e.0.from live in
-      let missing : times e.0.from found ≡ 0 = sym (out_times s joined found some.0 e.0 e.1)
-      ∙ some.2 in (some.0, (e.0, e.1, e.2, (live, from.0, from.1, none_left from.0 (times e.0.from found) from.3 missing)))
+  left_before joined y left =
+      let entry = sorting.table y left.0 in
+      let some = some_unpassed (edges_out s.out found) (edges_at s.into y) (grind (arith, entry.1, entry.2, left.2, left.3)) in
+      let e = listed_edge to s.edges.live y (edges_at s.into y) (joined.into y) some.0 some.1 in
+      let live = (joined.ends some.0 e.0 e.1).0 in
+      let from = sorting.table e.0.from live in
+      (some.0, (e.0, e.1, e.2, (live, from.0, from.1, grind (arith, nat_tests, from.3, out_times s joined found some.0 e.0 e.1, some.2))))
 
   -- where none is left, each node is in the list once
   each_once : ((y : Key) → IsLive s.nodes y → get counts y ≡ Some 0) → (x : Key) → times x found ≡ (if map.contains_key s.nodes.live x then 1 else 0)
-  each_once none x = elim (map.contains_key s.nodes.live x) as (λ b. map.contains_key s.nodes.live x ≡ b → times x found ≡ (if b then 1 else 0)) [
-    | true ↦ λ live. (
-        let entry = sorting.table x live in
-        let zero_count : entry.0 ≡ 0 = (let h = sym entry.1 ∙ none x live in cc) in
-        entry.3 ∙ ap (λ n. if nat_eq n 0 then 1 else 0) zero_count)
-    | false ↦ λ gone. (elim (eq-zero-or-pos (times x found)) [ inl never ↦ never | inr more ↦ absurd (let live = sorting.live x more in cc) ])
-  ] refl
+  each_once none x = let entry = sorting.table x in grind (arith, nat_tests, sorting.live x, entry, none x)
 
 -- what leads to a node of an order is before it
 module _ {E : Type 0} (edges : Edges E) (ks : List Key) (forward : GoesForward edges ks) where
@@ -266,34 +189,23 @@ module _ {E : Type 0} (edges : Edges E) (ks : List Key) (forward : GoesForward e
       let there : 0 < times path.0 before = rw (← e.3) (forward e.0 e.1 before after e.2 (split ∙ ap (λ q. before ++ q ∷ after) (sym e.4))) in
       let inner = split_at path.0 before there in
       let whole : ks ≡ inner.0 ++ path.0 ∷ (inner.1 ++ y ∷ after) = split ∙ ap (λ l. l ++ y ∷ after) inner.2 ∙ append_assoc inner.0 (path.0 ∷ inner.1) (y ∷ after) in
-      elim (led_before n x path.0 inner.0 (inner.1 ++ y ∷ after) whole path.1) [
-        | inl is ↦ inr (rw is there)
-        | inr more ↦ inr (omega (arith, ap (times x) inner.2 ∙ times_joined x inner.0 (path.0 ∷ inner.1)))
-      ]
+      let sum = ap (times x) inner.2 ∙ times_joined x inner.0 (path.0 ∷ inner.1) in
+      elim (led_before n x path.0 inner.0 (inner.1 ++ y ∷ after) whole path.1) [ inl is ↦ inr (rw is there) | inr more ↦ inr (omega arith) ]
 
   -- so there is no cycle of nodes that are in it, each once
   no_cycle : ((x : Key) → times x ks ≤ 1) → ((k : Key) (e : SeenEdge E) → map.get edges k ≡ Some e → 0 < times e.to ks) → HasCycle edges → ⊥
   no_cycle once there cycle =
-      let k = cycle.0 in
       let e = cycle.1.0 in
-      let found = cycle.1.1 in
       let path = cycle.1.2 in
-      let split = split_at e.to ks (there k e found) in
-      let first : 0 < times e.from split.0 = forward k e split.0 split.1 found split.2 in
-      let inner = split_at e.from split.0 first in
+      let split = split_at e.to ks (there cycle.0 e cycle.1.1) in
+      let inner = split_at e.from split.0 (forward cycle.0 e split.0 split.1 cycle.1.1 split.2) in
       let whole : ks ≡ inner.0 ++ e.from ∷ (inner.1 ++ e.to ∷ split.1) = split.2 ∙ ap (λ l. l ++ e.to ∷ split.1) inner.2 ∙ append_assoc inner.0 (e.from ∷ inner.1) (e.to ∷ split.1) in
-      let few = once e.to in
-      let sum = ap (times e.to) split.2 ∙ in_midst split.0 e.to split.1 in
-      let part = ap (times e.to) inner.2 ∙ times_joined e.to inner.0 (e.from ∷ inner.1) in
-      elim (led_before path.0 e.to e.from inner.0 (inner.1 ++ e.to ∷ split.1) whole path.1) [
-        | inl is ↦ omega (arith, ap (λ q. times q split.0) is)
-        | inr more ↦ omega arith
-      ]
+      let led = led_before path.0 e.to e.from inner.0 (inner.1 ++ e.to ∷ split.1) whole path.1 in
+      grind (arith, led, once e.to, split.2, in_midst split.0 e.to split.1, inner.2, times_joined e.to inner.0 (e.from ∷ inner.1))
 
 -- a key that is in a list once isn't before its place
 fresh_at : (ks : List Key) (i : ℕ) (k : Key) → i < length ks → k ≡ get_or ks i k → times k ks ≤ 1 → times k (take i ks) ≡ 0
-fresh_at ks i k below is once = let sum : times k (take i ks) + times k (drop i ks) ≡ times k ks = sum_by-take-drop (λ q. same q k) ks i in
-    omega (arith, ap (times k) (behind_split ks i k below is) ∙ times_first k k (drop (i + 1) ks), one_itself k)
+fresh_at ks i k below is once = grind (arith, sum_by-take-drop (λ q. same q k) ks i, behind_split ks i k below is, times_first k k (drop (i + 1) ks), one_itself k)
 
 goes_more : (b : Bool) (old found found' : List Key) (y : Key) → found' ≡ (if b then found ++ y ∷ [] else found) → GoesOn old found → GoesOn old found'
 goes_more true old found found' y is goes = (goes.0 ++ y ∷ [], is ∙ ap (λ l. l ++ y ∷ []) goes.1 ∙ append_assoc old goes.0 (y ∷ []))
@@ -329,10 +241,9 @@ module _ {N E : Type 0} (s : Seen N E) (joined : IsJoined s) (old : List Key) (a
 pub pass_end : {N E : Type 0} (s : Seen N E) (old : List Key) (at : ℕ) (a : Key) → at < length old → a ≡ get_or old at a
     → (counts : Pairs ℕ) (found yielded : List Key) → GoesOn old found → yielded ≡ edges_at s.out a
     → Sorting s counts found (edges_out s.out (take at old) ++ yielded) → Sorting s counts found (edges_out s.out (take (at + 1) found))
-pass_end s old at a within is counts found yielded goes all sorting = let front : take (at + 1) found ≡ take at old ++ a ∷ [] = ap (take (at + 1)) goes.1
-    ∙ take-append-le (at + 1) old goes.0 (omega (arith, within)) ∙ taken old at a within is in
-    let passed : edges_out s.out (take at old) ++ yielded ≡ edges_out s.out (take (at + 1) found) = ap (λ l. edges_out s.out (take at old) ++ l) all ∙ sym (edges_out_more s.out (take at old) a)
-    ∙ ap (edges_out s.out) (sym front) in subst (Sorting s counts found) passed sorting
+pass_end s old at a within is counts found yielded goes all sorting =
+    let front = take-append-le (at + 1) old goes.0 (omega (arith, within)) in
+    grind (arith, front, goes.1, taken old at a within is, all, edges_out_more s.out (take at old) a, sorting)
 
 -- the list has each node once, each edge goes forward in it, and there is no cycle
 pub record IsOrder {N E : Type 0} (s : Seen N E) (found : List Key) : Type 0 where
@@ -351,6 +262,4 @@ pub ordered : {N E : Type 0} (s : Seen N E) (joined : IsJoined s) (counts : Pair
 ordered s joined counts found sorting none =
     let once = each_once s counts found sorting none in
     let few = found_once s counts found (edges_out s.out found) sorting in
-    let there : (k : Key) (e : SeenEdge _) → map.get s.edges.live k ≡ Some e → 0 < times e.to found =
-    λ k e found_there. (omega (arith, once e.to ∙ ap (λ b. if b then 1 else 0) (joined.ends k e found_there).1)) in
-    record { once = once; forward = sorting.forward; acyclic = no_cycle s.edges.live found sorting.forward few there }
+    record { once = once; forward = sorting.forward; acyclic = no_cycle s.edges.live found sorting.forward few (λ k e there. grind (arith, once e.to, joined.ends k e there)) }

@@ -11,7 +11,7 @@ use Rattle.slotmap_graph.specs.Parts.{SeenEdge, Edges, ByNode, from, to}
 module _ {N E : Type 0} where
   -- for each node the edges that are listed at its index
   unfoldable pub by_node : map.FinMap key_cmp N → Edges E → Lists → ByNode
-  by_node nodes edges links = map.from_sorted (list_map (λ e. (e.0, keys_at edges (list_of links e.0.index))) (map.entries nodes))
+  by_node nodes edges links = map.from_entries (list_map (λ k. (k, keys_at edges (list_of links k.index))) (map.keys nodes))
 
   -- each edge is listed at one of its ends, which is a node, and nothing else is listed
   pub record IsThreaded (end : SeenEdge E → Key) (nodes : Content N) (edges : Content (SeenEdge E)) (links : Lists) : Type 0 where
