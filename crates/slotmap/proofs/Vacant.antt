@@ -5,7 +5,7 @@ use Rattle.std.specs.FinSet as set
 use Rattle.std.specs.{List.list_any, Ordering.eq_by_cmp, Ordering.nat_cmp, Cmp.nat_cmp_total}
 use Rattle.std.proofs.Common.{◌≡◌, ◌+◌, ◌<◌, ◌≤◌, ◌∙◌, ℕ, zero, suc, Bool, true, false, List, [], ◌∷◌, inl, inr, refl, sym, ap, arith}
 use Rattle.slotmap_core.proofs.General.KeyLemmas.{keys_total, exact_keys, itself, tied}
-use Rattle.slotmap.specs.Words.{Key, key_cmp, Content, IsContent, IsLive, IsNew, Inserts, Removes, Leaves, is_last, next_version, places}
+use Rattle.slotmap.specs.Words.{Key, key_cmp, Content, IsContent, IsLive, IsNew, HasVacant, Inserts, Removes, Leaves, is_last, next_version, places}
 
 some_item : (s : set.FinSet key_cmp) (n : ℕ) (ks : List Key) → set.items s ≡ ks → set.len s ≡ suc n → (k : Key) × (set.contains s k ≡ true)
 some_item s n [] at len =
@@ -50,7 +50,7 @@ module _ {V : Type 0} (old new : Content V) where
   room_again leaves empty not_last = omega (arith, leaves.room, vacant_again leaves empty not_last)
 
   -- once a key was removed that wasn't the last of its slot, this slot is vacant, and there is room for one key
-  pub freed_one : (k : Key) → Removes old k new → is_last k ≡ false → (0 < map.len new.next) × (0 < new.room)
+  pub freed_one : (k : Key) → Removes old k new → is_last k ≡ false → HasVacant new × (0 < new.room)
   freed_one k removes not_last = (
     grind (arith, not_last, removes.next, map.get-insert {X = ℕ} nat_cmp_total old.next k.index (next_version k) k.index, map.empty_of_len new.next, map.get-empty {X = ℕ} nat_cmp k.index),
     grind (arith, not_last, removes.room),

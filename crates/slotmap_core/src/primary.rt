@@ -9,7 +9,7 @@
 
 ghost use Rattle.std.specs.FinMap as map;
 ghost use Rattle.std.specs.Prelude.{◌≡◌, ◌↔◌, ◌+◌, ◌<◌, ◌≤◌, ◌++◌, IsTrue, IfOk, IfErr, IfNone, OnErr, OnOk, OnSome, IsOk, IsErr, IsSome, option_copied, Bool};
-ghost use Rattle.slotmap_core.specs.Words.{true, false, Ok, Err, Some, List, map as list_map, Content, IsContent, used, most, IsNew, Inserts, Removes};
+ghost use Rattle.slotmap_core.specs.Words.{true, false, Ok, Err, Some, List, map as list_map, Content, IsContent, HasVacant, used, most, IsNew, Inserts, Removes};
 ghost use Rattle.slotmap_core.specs.Words.{Detaches, Reattaches, Leaves, with_value, StaysValid, MayGrow, MakesRoom, IsListing, IsKeyListing, RetainsBy};
 ghost use Rattle.slotmap_core.specs.Words.{CallableOnEach, Refuses, RefusesInsert, RefusesWith, RefusesCapacity, RefusesReattach};
 
@@ -153,7 +153,7 @@ pub trait Primary<K: Key, V>: Sized {
         ensures err { IfErr result (λ error. Refuses (content self.old) value error) }
 
         // If a slot is vacant, in a map with `REUSES`, the call can't fail.
-        ensures reuses { REUSES ≡ true → 0 < map.len (content self.old).next → IsOk result }
+        ensures reuses { REUSES ≡ true → HasVacant (content self.old) → IsOk result }
 
         ensures valid { MayGrow REUSES (content self.old) (IsErr result) (content self.new) };
 
@@ -206,7 +206,7 @@ pub trait Primary<K: Key, V>: Sized {
             RefusesWith K.data_of (F.post f) (content self.old) error) }
 
         // If a slot is vacant, in a map with `REUSES`, memory can't run out.
-        ensures reuses { REUSES ≡ true → 0 < map.len (content self.old).next → (result ≡ Err TryInsertError.Memory → ⊥) }
+        ensures reuses { REUSES ≡ true → HasVacant (content self.old) → (result ≡ Err TryInsertError.Memory → ⊥) }
 
         ensures valid { MayGrow REUSES (content self.old) (IsErr result) (content self.new) };
 
@@ -231,7 +231,7 @@ pub trait Primary<K: Key, V>: Sized {
         ensures err { IfErr result (RefusesInsert (content self.old)) }
 
         // If a slot is vacant, in a map with `REUSES`, the call can't fail.
-        ensures reuses { REUSES ≡ true → 0 < map.len (content self.old).next → IsOk result }
+        ensures reuses { REUSES ≡ true → HasVacant (content self.old) → IsOk result }
 
         ensures valid { MayGrow REUSES (content self.old) (IsErr result) (content self.new) };
 
