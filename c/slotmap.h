@@ -135,7 +135,7 @@ slotmap_status slotmap_set(slotmap_t *map, uint64_t key, uint64_t value, uint64_
  * SLOTMAP_OK or SLOTMAP_NOT_LIVE. */
 slotmap_status slotmap_remove(slotmap_t *map, uint64_t key, uint64_t *value_out);
 
-/* The same, for who doesn't want the value.
+/* The same, for a caller who does not want the value.
  * SLOTMAP_OK or SLOTMAP_NOT_LIVE. */
 slotmap_status slotmap_delete(slotmap_t *map, uint64_t key);
 

@@ -155,7 +155,7 @@ def fault_of_readme(found):
     every, alone = size_of(roots(found)), size_of(roots(words_of_clauses(["slotmap_basic"])))
     plain = roots_of_call("slotmap_run", "run_new")
     both = size_of(plain + [it for it in roots_of_call("slotmap_run", "run_detaching_new") if it not in plain])
-    wanted = "on some {} definitions of {:,} lines in all, those of `SlotMap` on {} of {}, and the run theorem on {} of {}, with detached keys on {} of {}".format(
+    wanted = "on some {} definitions of {:,} lines in all: those of `SlotMap` on {} of {}. The run theorem rests on {} of {}, with detached keys on {} of {}".format(
         *(round(it, -1) for it in (*every, *alone)), *size_of(plain), *both
     )
     with open(os.path.join(TOP, "README.md"), encoding="utf-8") as file:

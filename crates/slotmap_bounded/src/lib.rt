@@ -100,9 +100,9 @@ fn grown(used: usize, additional: usize) -> usize
 impl<K: Key, V: Drop> BoundedMap<K, V> {
     ghost use Rattle.slotmap_bounded.specs.Lends.{lends_get};
 
-    /// Makes a map with no key and room for so many.
+    /// Makes a map with no key and room for `capacity` keys.
     ///
-    /// It fails with `TooGreat` if they are over 4294967294, and else with `Memory` if memory runs out.
+    /// It fails with `TooGreat` if these are over 4294967294, and else with `Memory` if memory runs out.
     ///
     /// ```
     /// let map: BoundedMap<DefaultKey, &str> = BoundedMap::with_capacity(alloc, 2)?;
@@ -170,7 +170,7 @@ impl<K: Key, V: Drop> BoundedMap<K, V> {
         self.room > 0
     }
 
-    /// Returns the capacity that [`BoundedMap::reserve`] would leave, in constant time.
+    /// Returns the greatest capacity that [`BoundedMap::reserve`] would leave, in constant time.
     ///
     /// It fails with `TooGreat` where `reserve` does.
     ///
@@ -199,10 +199,10 @@ impl<K: Key, V: Drop> BoundedMap<K, V> {
 
     /// Reserves room for `additional` more keys. If there is room, it changes nothing.
     ///
-    /// Where it makes room, it makes room for as many keys as there are, and for four at least, if that is
-    /// more. So inserts that reserve room for one key each take constant time on average.
+    /// Where it has to make room, it makes room for at least as many keys as there are, and for at least
+    /// four, within the limit. So inserts that reserve room for one key each take constant time on average.
     ///
-    /// The capacity is that of [`BoundedMap::capacity_for`] then. It fails with `TooGreat` if more than
+    /// The capacity is at most that of [`BoundedMap::capacity_for`] then. It fails with `TooGreat` if more than
     /// 4294967294 keys would be there, counting those that are retired, and with `Memory` if memory runs
     /// out. It has changed nothing then.
     ///

@@ -64,7 +64,7 @@ pub trait CloneTables<K: Key>: Tables<K> {
         ensures clones { IfOk result (are_clones self.now) }
         ensures same { IfOk result (λ copy. (q : KeyOf) → Self.Tables.has copy q ≡ Self.Tables.has self.now q) };
 
-    // Then each entity has the same in a copy.
+    // Where clones equal their components, each entity has the same in a copy.
     ghost same_parts: { (t u : Self) (k : KeyOf) → clones_equal → are_clones t u → Self.Tables.parts u k ≡ Self.Tables.parts t k };
 }
 

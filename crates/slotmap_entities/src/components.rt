@@ -16,7 +16,7 @@ pub enum AttachError<C> {
     /// The entity doesn't exist.
     #[error("the entity is gone")]
     Gone(C),
-    /// The allocation fails.
+    /// An allocation failed.
     #[error("out of memory")]
     Memory(C),
 }
@@ -58,7 +58,7 @@ impl<K: Key, E: Drop, T: Tables<K>> World<K, E, T> {
 
     /// Gives an entity a component, and returns the one of this kind that it had.
     ///
-    /// If the call fails, the error holds the component, and the world has the same components. Memory
+    /// It fails with `Gone` exactly if the entity doesn't exist. If the call fails, the error holds the component, and the world has the same components. Memory
     /// can't run out where the entity has such a component already, nor where there is room, as after
     /// [`World::reserve_components`]. A call that fails or replaces a component takes up no room. Constant
     /// time, unless the table grows.
@@ -101,7 +101,7 @@ impl<K: Key, E: Drop, T: Tables<K>> World<K, E, T> {
     }
 
     /// Makes room in the table of a kind for `additional` more components, of entities whose index is
-    /// at most `last`: to attach them can't fail then.
+    /// at most `last`: attaching them can't fail then.
     ///
     /// A `SecondaryMap` takes memory for each index up to `last`, and a `SparseSecondaryMap` for
     /// `additional` components. The first `n` entities of a world have the indices 1 to `n`, and those

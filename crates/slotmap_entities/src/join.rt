@@ -14,6 +14,7 @@ use std::marker::Model;
 /// An iterator over the entities that have a component of one kind: see [`World::with`].
 ///
 /// A contract sees it as the list of the entities that it will still yield, each with its component.
+/// After its end it yields nothing.
 #[derive(Drop)]
 pub struct With<'a, K: Key, E, M: Table<K>> {
     keys: Keys<'a, K, E>,
@@ -62,7 +63,7 @@ where
 /// An iterator over the entities that have components of two kinds: see [`World::with_both`].
 ///
 /// A contract sees it as the list of the entities that it will still yield, each with both
-/// components.
+/// components. After its end it yields nothing.
 #[derive(Drop)]
 pub struct WithBoth<'a, K: Key, E, A: Table<K>, B: Table<K>> {
     keys: Keys<'a, K, E>,

@@ -14,7 +14,7 @@ use std::marker::Model;
 /// An iterator over the entities that have components of three kinds: see [`World::with_three`].
 ///
 /// A contract sees it as the list of the entities that it will still yield, each with its three
-/// components.
+/// components. After its end it yields nothing.
 #[derive(Drop)]
 pub struct WithThree<'a, K: Key, E, A: Table<K>, B: Table<K>, C: Table<K>> {
     keys: Keys<'a, K, E>,

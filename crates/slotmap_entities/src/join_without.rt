@@ -15,6 +15,7 @@ use std::marker::Model;
 /// [`World::with_without`].
 ///
 /// A contract sees it as the list of the entities that it will still yield, each with its component.
+/// After its end it yields nothing.
 #[derive(Drop)]
 pub struct WithWithout<'a, K: Key, E, A: Table<K>, B: Table<K>> {
     keys: Keys<'a, K, E>,

@@ -90,7 +90,7 @@ pub trait Apart<K: Key, T: Tables<K>, B: Kind<K, T>>: Kind<K, T> {
 /// The kind of the first table.
 pub enum First {}
 
-/// The kind after those of the first table: `Then<C>` is the kind `C` of the further tables.
+/// `Then<C>` is the kind `C` of the tables behind the first one.
 pub struct Then<C>(PhantomData<C>);
 
 /// The kind of the second table.

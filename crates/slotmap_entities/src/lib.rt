@@ -6,17 +6,20 @@
 //! - A component is never seen under a later entity, even if that has the same slot.
 //! - Only live entities have components.
 //! - A call on one entity changes no component of another, and none of another kind.
-//! - A call that fails leaves the same entities with the same components, and returns what it was given.
-//! - If there is room for an entity, as after [`World::reserve`], it can't be refused, and the capacity
-//!   stays. If there is room in its table, as after [`World::reserve_components`], no component can be
-//!   refused.
+//! - A call that fails leaves the same entities with the same components. One that adds something
+//!   returns it.
+//! - If there is room for an entity, as after [`World::reserve`], `spawn` can't be refused, and the
+//!   capacity stays. If there is room in its table, as after [`World::reserve_components`], no component
+//!   of an existing entity can be refused.
 //! - Only `reserve` and the calls that spawn an entity change the capacity for entities.
 //!
 //! The entities are in a `DenseSlotMap`, packed for iteration. The tables are nested pairs of
 //! secondary maps: a `SecondaryMap` for a kind that most entities have, a `SparseSecondaryMap` for a
 //! rare one. A call names the kind that it is about by a type: [`First`], [`Second`] and so on, best
-//! under a name of your own. A call on one entity takes constant time, unless a table grows. A step of
-//! a join may pass many entities, and `clear`, `clone` and `retain_components` go through all slots.
+//! under a name of your own. A call on one entity takes constant time, unless the map or a table grows.
+//! A step of a join may pass many entities. `clear` takes time linear in the number of entities and the
+//! sizes of the tables, `clone` in that of slots and these sizes, and `retain_components` in the size of
+//! one table. `reserve` takes time linear in the number of slots if the map grows, else constant time.
 //!
 //! ```
 //! type Position = First;
@@ -168,8 +171,8 @@ impl<K: Key, E: Drop, T: Tables<K>> World<K, E, T> {
         Ok(World { entities, tables })
     }
 
-    /// Reserves room for `additional` more entities: to spawn them can't fail then. The tables grow
-    /// by themselves.
+    /// Reserves room for `additional` more entities. Then [`World::spawn`] can't fail for them, and the
+    /// capacity stays. For their components see [`World::reserve_components`].
     ///
     /// It fails with `TooGreat` if more than 4294967294 entities would be there, counting those whose
     /// slots are retired, and with `Memory` if memory runs out. The world has the same entities then.
@@ -250,7 +253,7 @@ impl<K: Key, E: Drop, T: Tables<K>> World<K, E, T> {
     /// Adds an entity with no component, and returns its key, which no entity had before.
     ///
     /// If there is room, it can't fail, and the capacity stays. If the call fails, the error holds the
-    /// value, and the world is unchanged.
+    /// value, and the world has the same entities and components.
     ///
     /// ```
     /// let mut world: World<DefaultKey, u8, ()> = World::new(alloc)?;
@@ -287,8 +290,9 @@ impl<K: Key, E: Drop, T: Tables<K>> World<K, E, T> {
     }
 
     /// Removes an entity with its components. It returns the entity's value and what it had in each
-    /// table, or `None` if it doesn't exist. The key is never used again. The capacity stays, and there is
-    /// room for one more entity, unless the key was the last of its slot.
+    /// table. The key is never used again. The capacity stays, and there is room for one more entity,
+    /// unless the key was the last of its slot. If the entity doesn't exist, the call returns `None` and
+    /// changes nothing.
     ///
     /// ```
     /// let mut world: World<DefaultKey, u8, (SecondaryMap<DefaultKey, u32>, ())> = World::new(alloc)?;
@@ -378,7 +382,8 @@ impl<K: Key, E: Drop, T: Tables<K>> World<K, E, T> {
         }
     }
 
-    /// Returns the tables, as to go through a table of few components. Only entities have components.
+    /// Returns the tables, for example to go through one with few components. Only entities have
+    /// components.
     ///
     /// ```
     /// let mut world: World<DefaultKey, u8, (SparseSecondaryMap<DefaultKey, u32>, ())> = World::new(alloc)?;

@@ -1,4 +1,4 @@
-//! Entities that are spawned with one component, or with two.
+//! Entities that are spawned with one component, and why a spawn with components fails.
 
 ghost use Rattle.std.specs.Prelude.{◌≡◌, ◌≢◌, ℕ, ◌+◌, ◌<◌, ◌≤◌, Some, None, IfOk, IsOk, OnOk, IfErr, OnErr};
 ghost use Rattle.std.specs.FinMap as map;
@@ -17,7 +17,7 @@ pub enum SpawnError<E, C> {
     /// The map of the entities holds as many keys as it can.
     #[error("no key is left for an entity")]
     Full(E, C),
-    /// The allocation fails.
+    /// An allocation failed.
     #[error("out of memory")]
     Memory(E, C),
 }

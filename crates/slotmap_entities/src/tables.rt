@@ -27,7 +27,7 @@ pub trait Table<K: Key>: Drop {
     // The table once the entity has another component.
     ghost with_value: { Self → KeyOf → Self.Component → Self };
 
-    // That so many more components fit, of entities whose index is at most the first number: to insert
+    // That so many more components fit, of entities whose index is at most the first number: inserting
     // them can't fail.
     ghost fits: { Self → ℕ → ℕ → Type 0 };
 
@@ -45,8 +45,8 @@ pub trait Table<K: Key>: Drop {
         ensures empty { IfOk result (λ table. pairs table ≡ map.empty) }
         ensures err { IfErr result (λ error. error ≡ ReserveError.Memory) };
 
-    /// Makes room for `additional` more components, of entities whose index is at most `last`: to
-    /// insert them can't fail then.
+    /// Makes room for `additional` more components, of entities whose index is at most `last`:
+    /// inserting them can't fail then.
     ///
     /// A `SecondaryMap` takes memory for each index up to `last`, and fails with `TooGreat` if `last`
     /// exceeds 4294967294. A `SparseSecondaryMap` takes it for `additional` components, and fails with
@@ -110,6 +110,9 @@ pub trait Table<K: Key>: Drop {
     /// Inserts a component, and returns the one that the entity had. If memory runs out, the error
     /// holds the component, and the table has the same components. A call that fails or replaces a
     /// component takes up no room.
+    ///
+    /// A null key, or one older than that at its index, changes nothing: the component is dropped, and
+    /// the result is `Ok(None)`. A newer key replaces an older one at its index.
     ///
     /// ```
     /// let hero = DefaultKey::from(KeyData::new(1, 1));
@@ -321,7 +324,7 @@ impl<K: Key, C: Drop> Table<K> for SparseSecondaryMap<K, C> {
 
 /// The tables of a world: pairs of a [`Table`] and further tables, down to `()`.
 ///
-/// Any number of kinds of components is a nest of pairs. A struct of tables can have an impl of its
+/// Pairs nest, for any number of kinds. A struct of tables can have an impl of its
 /// own, and each of its kinds one of [`Kind`]. With the attribute below that needs no proof file:
 ///
 /// ```text
@@ -335,7 +338,8 @@ impl<K: Key, C: Drop> Table<K> for SparseSecondaryMap<K, C> {
 ///
 ///     ghost no_parts = { (None, None) };
 ///
-///     ghost keeps_room = { λ old new. old.health.capacity ≤ new.health.capacity };
+///     ghost keeps_room = { λ old new. (old.health.capacity ≤ new.health.capacity)
+///         × (old.armour.capacity ≤ new.armour.capacity) };
 ///     ..
 ///     ghost has_none = { λ tables k none. Prim.grind arith };
 /// }

@@ -69,7 +69,7 @@ impl<K: Key, N: Drop, E: Drop> Graph<K, N, E> {
     /// Adds a node with no edge, and returns its key, which no node had before.
     ///
     /// If a slot is vacant or room was reserved, the call can't fail, and the capacity stays. If the
-    /// call fails, the error holds the value, and the graph is unchanged.
+    /// call fails, the error holds the value, and the graph has the same nodes and edges.
     ///
     /// ```
     /// let mut graph: Graph<NodeKey, &str, u64> = Graph::new(alloc)?;
@@ -106,9 +106,10 @@ impl<K: Key, N: Drop, E: Drop> Graph<K, N, E> {
 
     /// Adds an edge from one node to another, and returns its key, which no edge had before.
     ///
-    /// It is the last of the outgoing edges of the one, and of the incoming edges of the other. If
-    /// a slot is vacant or room was reserved, memory can't run out, and the capacity stays. If the call
-    /// fails, the error holds the value, and the graph is unchanged.
+    /// It is the last of the outgoing edges of the one, and of the incoming edges of the other. The call
+    /// fails with `Gone` exactly if one of the two nodes doesn't exist. If a slot is vacant or room was
+    /// reserved, it fails for no other reason, and the capacity stays. If it fails, the error holds the
+    /// value, and the graph has the same nodes and edges.
     ///
     /// ```
     /// let mut graph: Graph<NodeKey, &str, u64> = Graph::new(alloc)?;
@@ -153,8 +154,9 @@ impl<K: Key, N: Drop, E: Drop> Graph<K, N, E> {
         Ok(self.put_edge(from, to, edge))
     }
 
-    /// Removes an edge, and returns its value, or `None` if it doesn't exist. Its key is never used
-    /// again. The room and the capacity stay. Constant time.
+    /// Removes an edge, and returns its value. Its key is never used again. If the edge doesn't exist,
+    /// the call returns `None` and changes nothing. No room is lost, and the capacity stays. Constant
+    /// time.
     ///
     /// ```
     /// let mut graph: Graph<NodeKey, &str, u64> = Graph::new(alloc)?;
@@ -197,8 +199,8 @@ impl<K: Key, N: Drop, E: Drop> Graph<K, N, E> {
         }
     }
 
-    /// Removes every edge from a node or to it, and no other. Their keys are spent for good. The room
-    /// and the capacity stay. It takes time linear in their number.
+    /// Removes every edge from a node or to it, and no other. Their keys are never used again. No room
+    /// is lost, and the capacity stays. It takes time linear in their number.
     ///
     /// ```
     /// let mut graph: Graph<NodeKey, &str, u64> = Graph::new(alloc)?;
@@ -225,9 +227,10 @@ impl<K: Key, N: Drop, E: Drop> Graph<K, N, E> {
         }
     }
 
-    /// Removes a node, and every edge from it or to it. It returns the node's value, or `None` if
-    /// the node doesn't exist. The key of the node and those of its edges are never used again. The
-    /// room and the capacity stay. It takes time linear in the number of its edges.
+    /// Removes a node, and every edge from it or to it, and returns the node's value. The key of the
+    /// node and those of its edges are never used again. If the node doesn't exist, the call returns
+    /// `None` and changes nothing. No room is lost, and the capacities stay. It takes time linear in the
+    /// number of its edges.
     ///
     /// ```
     /// let mut graph: Graph<NodeKey, &str, u64> = Graph::new(alloc)?;
@@ -262,8 +265,8 @@ impl<K: Key, N: Drop, E: Drop> Graph<K, N, E> {
         self.nodes.remove(node)
     }
 
-    /// Removes all nodes and all edges. Their keys are never used again. The room and the
-    /// capacity stay.
+    /// Removes all nodes and all edges. Their keys are never used again. No room is lost, and the
+    /// capacities stay.
     ///
     /// It takes time linear in the two capacities.
     ///

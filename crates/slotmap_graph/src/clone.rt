@@ -22,7 +22,7 @@ impl<K: Key, N: Clone, E: Clone> Graph<K, N, E> {
     ///
     /// The edges of each node are listed in the same order, and both graphs will return the same new
     /// keys. If memory runs out, or the clone of a value fails, the call fails, and what was copied is
-    /// dropped. It takes time linear in the number of slots.
+    /// dropped. It takes time linear in the two capacities.
     ///
     /// ```
     /// let mut graph: Graph<NodeKey, &str, u64> = Graph::new(alloc)?;

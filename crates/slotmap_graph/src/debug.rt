@@ -1,4 +1,4 @@
-//! What a graph shows in a debugger: its nodes and its edges, under their keys.
+//! What a graph prints with `{:?}`: its nodes and its edges, under their keys.
 
 use crate::{Edge, Graph};
 use slotmap::Key;

@@ -7,7 +7,8 @@
 //!   others.
 //! - A removed key stays stale, also that of an edge.
 //! - The edges of a node are listed in the order in which they were added.
-//! - A call that fails changes nothing, and returns the value.
+//! - A call that fails leaves the same nodes and edges. One that adds a node or an edge returns its
+//!   value.
 //! - Where there is room, no node or edge is refused for memory, and the capacity stays. No removal
 //!   loses room or changes a capacity.
 //!
@@ -21,8 +22,9 @@
 //!   edges.
 //! - [`Graph::reachable`] takes time linear in the number of nodes that it finds and of their edges, and
 //!   in the largest index of one of them.
-//! - [`Graph::topological_order`] and [`Graph::clone`] take time linear in the number of slots of nodes
-//!   and edges, and [`Graph::clear`] in the two capacities.
+//! - [`Graph::topological_order`] takes time linear in the number of slots of nodes and edges.
+//! - [`Graph::clone`], [`Graph::clear`], [`Graph::with_capacity`] and [`Graph::with_capacity_and_key`]
+//!   take time linear in the two capacities.
 //!
 //! Memory is asked for only by the calls that make a graph, reserve room, add or copy, and by those that
 //! take an `alloc`.
@@ -109,16 +111,16 @@ impl<K, N, E> Model for Graph<K, N, E> {
     ghost invariant = { λ g. IsGraph g.nodes g.edges g.out g.into };
 }
 
-/// An edge was not added. The graph is unchanged, and the error holds the edge's value.
+/// An edge was not added. The graph has the same nodes and edges, and the error holds the edge's value.
 #[derive(Debug, Drop, Error)]
 pub enum EdgeError<E> {
     /// One of its two nodes doesn't exist.
     #[error("a node is gone")]
     Gone(E),
-    /// There are as many edges as a map can hold.
+    /// The edges and the retired slots are as many as a map can hold, 4294967294.
     #[error("the graph is full")]
     Full(E),
-    /// The allocation fails.
+    /// An allocation failed.
     #[error("out of memory")]
     Memory(E),
 }
@@ -140,11 +142,11 @@ impl<N: Drop, E: Drop> Graph<NodeKey, N, E> {
         Graph::with_key(alloc)
     }
 
-    /// Makes a graph with no node and with room for so many nodes and edges, whose nodes have keys of
-    /// type `NodeKey`.
+    /// Makes a graph with no node and with room for `nodes` nodes and `edges` edges, whose nodes have
+    /// keys of type `NodeKey`.
     ///
     /// It fails with `TooGreat` if one of the two is over 4294967294, and else with `Memory` if memory
-    /// runs out.
+    /// runs out. It takes time linear in `nodes` and `edges`.
     ///
     /// ```
     /// let mut graph: Graph<NodeKey, &str, u64> = Graph::with_capacity(alloc, 2, 4)?;
@@ -178,11 +180,11 @@ impl<K: Key, N: Drop, E: Drop> Graph<K, N, E> {
         Graph::with_capacity_and_key(alloc, 0, 0)
     }
 
-    /// Makes a graph with no node and with room for so many nodes and edges, with any type of keys of
-    /// nodes.
+    /// Makes a graph with no node and with room for `nodes` nodes and `edges` edges, with any type of
+    /// keys of nodes.
     ///
     /// It fails with `TooGreat` if one of the two is over 4294967294, and else with `Memory` if memory
-    /// runs out.
+    /// runs out. It takes time linear in `nodes` and `edges`.
     ///
     /// ```
     /// let graph: Graph<DefaultKey, &str, u64> = Graph::with_capacity_and_key(alloc, 2, 4)?;
@@ -215,8 +217,8 @@ impl<K: Key, N: Drop, E: Drop> Graph<K, N, E> {
         })
     }
 
-    /// Reserves room for `additional` more nodes: to add them can't fail then, and the
-    /// capacity stays.
+    /// Reserves room for `additional` more nodes: adding them can't fail then, and the capacity stays.
+    /// It takes constant time if there is room already, else time linear in the capacity.
     ///
     /// It fails with `TooGreat` if more than 4294967294 nodes would be there, counting those whose slots
     /// are retired, and with `Memory` if memory runs out. The graph has the same nodes then.
@@ -240,8 +242,9 @@ impl<K: Key, N: Drop, E: Drop> Graph<K, N, E> {
         self.nodes.reserve(additional)
     }
 
-    /// Reserves room for `additional` more edges: to add them can't fail then, if their nodes exist,
-    /// and the capacity stays.
+    /// Reserves room for `additional` more edges: adding them can't fail then, if their nodes exist,
+    /// and the capacity stays. It takes constant time if there is room already, else time linear in the
+    /// capacity.
     ///
     /// It fails with `TooGreat` if more than 4294967294 edges would be there, counting those whose slots
     /// are retired, and with `Memory` if memory runs out. The graph has the same edges then.
@@ -266,7 +269,8 @@ impl<K: Key, N: Drop, E: Drop> Graph<K, N, E> {
         self.edges.reserve(additional)
     }
 
-    /// Returns for how many nodes there is memory, those that are there among them, in constant time.
+    /// Returns how many nodes there can be before more room is made, in constant time. It counts the
+    /// slots that are retired.
     ///
     /// ```
     /// let graph: Graph<NodeKey, &str, u64> = Graph::with_capacity_and_key(alloc, 2, 4)?;
@@ -279,7 +283,8 @@ impl<K: Key, N: Drop, E: Drop> Graph<K, N, E> {
         self.nodes.capacity()
     }
 
-    /// Returns for how many edges there is memory, those that are there among them, in constant time.
+    /// Returns how many edges there can be before more room is made, in constant time. It counts the
+    /// slots that are retired.
     ///
     /// ```
     /// let graph: Graph<NodeKey, &str, u64> = Graph::with_capacity_and_key(alloc, 2, 4)?;

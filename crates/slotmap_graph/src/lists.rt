@@ -23,7 +23,9 @@ pub(crate) enum Direction {
 
 pub(crate) type Edges<E> = BoundedMap<EdgeKey, Edge<E>>;
 
-/// An edge from one node to another, or to itself, with its value.
+/// An edge from one node to another, or to itself, with its value. It stands only in the type of
+/// [`Graph::edges`](crate::Graph::edges). Read an edge by [`Graph::edge`](crate::Graph::edge) and
+/// [`Graph::edge_ends`](crate::Graph::edge_ends).
 #[derive(Drop)]
 pub struct Edge<E> {
     from: DefaultKey,

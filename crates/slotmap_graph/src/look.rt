@@ -90,7 +90,8 @@ impl<K: Key, N: Drop, E: Drop> Graph<K, N, E> {
     }
 
     /// Returns the nodes where an edge begins and ends, or `None` if the edge doesn't exist, in
-    /// constant time. Both nodes exist, so a look-up of one of them right after this call tests nothing.
+    /// constant time. Both nodes exist. If the compiler inlines this call, a look-up of one of them
+    /// right after it needs no test.
     ///
     /// ```
     /// let mut graph: Graph<NodeKey, &str, u64> = Graph::new(alloc)?;
@@ -114,7 +115,7 @@ impl<K: Key, N: Drop, E: Drop> Graph<K, N, E> {
     /// Returns an iterator over the keys of a node's outgoing edges, each once, in the order in which
     /// they were added.
     ///
-    /// Constant time. A removed node has none.
+    /// Constant time. A node that doesn't exist has none.
     ///
     /// ```
     /// let mut graph: Graph<NodeKey, &str, u64> = Graph::new(alloc)?;
@@ -136,7 +137,7 @@ impl<K: Key, N: Drop, E: Drop> Graph<K, N, E> {
     /// Returns an iterator over the keys of a node's incoming edges, each once, in the order in which
     /// they were added.
     ///
-    /// Constant time. A removed node has none.
+    /// Constant time. A node that doesn't exist has none.
     ///
     /// ```
     /// let mut graph: Graph<NodeKey, &str, u64> = Graph::new(alloc)?;
@@ -153,7 +154,7 @@ impl<K: Key, N: Drop, E: Drop> Graph<K, N, E> {
         edges_of(&self.nodes, &self.edges, &self.into, node)
     }
 
-    /// Returns how many edges go out of a node, in constant time.
+    /// Returns how many edges go out of a node, in constant time: 0 if the node doesn't exist.
     ///
     /// ```
     /// let mut graph: Graph<NodeKey, &str, u64> = Graph::new(alloc)?;
@@ -169,7 +170,7 @@ impl<K: Key, N: Drop, E: Drop> Graph<K, N, E> {
         self.edges_from(node).len()
     }
 
-    /// Returns how many edges come into a node, in constant time.
+    /// Returns how many edges come into a node, in constant time: 0 if the node doesn't exist.
     ///
     /// ```
     /// let mut graph: Graph<NodeKey, &str, u64> = Graph::new(alloc)?;

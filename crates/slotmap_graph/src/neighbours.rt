@@ -69,7 +69,7 @@ impl<K: Key, N: Drop, E: Drop> Graph<K, N, E> {
     /// Returns an iterator over the nodes where this node's outgoing edges end, one for each edge, in the
     /// order of [`Graph::edges_from`].
     ///
-    /// Constant time. It needs no memory. A removed node has none.
+    /// Constant time. It needs no memory. A node that doesn't exist has none.
     ///
     /// ```
     /// let mut graph: Graph<NodeKey, &str, u64> = Graph::new(alloc)?;
@@ -89,7 +89,7 @@ impl<K: Key, N: Drop, E: Drop> Graph<K, N, E> {
     /// Returns an iterator over the nodes where this node's incoming edges begin, one for each edge, in
     /// the order of [`Graph::edges_to`].
     ///
-    /// Constant time. It needs no memory. A removed node has none.
+    /// Constant time. It needs no memory. A node that doesn't exist has none.
     ///
     /// ```
     /// let mut graph: Graph<NodeKey, &str, u64> = Graph::new(alloc)?;

@@ -30,7 +30,8 @@ impl<K: Key, N: Drop, E: Drop> Graph<K, N, E> {
     /// Returns the first of a node's outgoing edges, or `None` if it has none.
     ///
     /// With [`Graph::next_from`] it goes along the edges in the order of [`Graph::edges_from`]. It
-    /// borrows nothing meanwhile, so values and edges may change on the way. Constant time.
+    /// borrows nothing meanwhile, so values and edges may change on the way. To remove the edge at
+    /// hand, take the next one first. Constant time.
     ///
     /// ```
     /// let mut graph: Graph<NodeKey, &str, u64> = Graph::new(alloc)?;
@@ -51,7 +52,8 @@ impl<K: Key, N: Drop, E: Drop> Graph<K, N, E> {
     /// Returns the first of a node's incoming edges, or `None` if it has none.
     ///
     /// With [`Graph::next_to`] it goes along the edges in the order of [`Graph::edges_to`]. It borrows
-    /// nothing meanwhile, so values and edges may change on the way. Constant time.
+    /// nothing meanwhile, so values and edges may change on the way. To remove the edge at hand, take
+    /// the next one first. Constant time.
     ///
     /// ```
     /// let mut graph: Graph<NodeKey, &str, u64> = Graph::new(alloc)?;

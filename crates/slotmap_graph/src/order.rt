@@ -25,7 +25,7 @@ pub enum OrderError {
     /// From the end of this edge a path leads back to its start.
     #[error("the graph has a cycle")]
     Cycle(EdgeKey),
-    /// The allocation fails.
+    /// An allocation failed.
     #[error("out of memory")]
     Memory,
 }
@@ -61,10 +61,10 @@ impl From<AllocError> for OrderError {
     }
 }
 
-// How many edges into each node weren't passed yet.
+// How many edges into each node haven't been passed yet.
 type Counts<K> = SecondaryMap<K, usize>;
 
-// No node was counted yet.
+// No node has been counted yet.
 fn no_counts<K: Key>(alloc: Global) -> Result<Counts<K>, AllocError>
     ensures { IfOk result (λ counts. counts.pairs ≡ map.empty) }
 {

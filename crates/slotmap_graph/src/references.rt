@@ -156,10 +156,11 @@ impl<K: Key, N: Drop, E: Drop> Graph<K, N, E> {
             key_type: PhantomData,
         }
     }
+
     /// Returns an iterator over a node's outgoing edges, in the order of [`Graph::edges_from`]: the key of
     /// each, the nodes where it begins and ends, and its value.
     ///
-    /// Constant time. A step looks up one edge. A removed node has none.
+    /// Constant time. A step looks up one edge. A node that doesn't exist has none.
     ///
     /// ```
     /// let mut graph: Graph<NodeKey, &str, u64> = Graph::new(alloc)?;
@@ -179,7 +180,7 @@ impl<K: Key, N: Drop, E: Drop> Graph<K, N, E> {
     /// Returns an iterator over a node's incoming edges, in the order of [`Graph::edges_to`]: the key of
     /// each, the nodes where it begins and ends, and its value.
     ///
-    /// Constant time. A step looks up one edge. A removed node has none.
+    /// Constant time. A step looks up one edge. A node that doesn't exist has none.
     ///
     /// ```
     /// let mut graph: Graph<NodeKey, &str, u64> = Graph::new(alloc)?;

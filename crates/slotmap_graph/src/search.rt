@@ -16,7 +16,7 @@ use std::alloc::{AllocError, Global};
 // The nodes that were found.
 pub(crate) type Seen<K> = SecondaryMap<K, ()>;
 
-// No node was found yet.
+// No node has been found yet.
 pub(crate) fn none_seen<K: Key>(alloc: Global) -> Result<Seen<K>, AllocError>
     ensures { IfOk result (λ seen. seen.pairs ≡ map.empty) }
 {
@@ -70,7 +70,7 @@ impl<K: Key, N: Drop, E: Drop> Graph<K, N, E> {
     }
 
     /// Returns the nodes where this node's outgoing edges end, one for each edge, in the order of
-    /// [`Graph::edges_from`].
+    /// [`Graph::edges_from`]. For a node that doesn't exist the vector is empty.
     ///
     /// It fails only if memory runs out.
     ///

@@ -1,7 +1,7 @@
 //! What structures over the maps share: lists of keys, and keys of one type inside of them.
 //!
-//! A structure with keys of any type `K` keeps those of the default type, and changes them by [`inner`]
-//! and [`outer`] where its calls take and return them. The words of lists of keys, with lemmas about
+//! A scene and a scheduler keep keys of the default type, and so do the ends of a graph's edges.
+//! [`inner`] and [`outer`] convert them where a call takes or returns keys of type `K`. The words of lists of keys, with lemmas about
 //! them, stand in `specs` and `proofs`.
 #![tactic(auto, using(slotmap::proofs::Callers::keys))]
 

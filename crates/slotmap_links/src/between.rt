@@ -63,7 +63,7 @@ fn set_prev(ends: &mut [Ends], links: &mut [Link], owner: u32, at: u32, to: u32)
     }
 }
 
-// Puts a member that is in no list between two others of an owner's list, or at an end of it.
+// Puts a number that is in no list between two members of an owner's list, or at an end of it.
 pub(crate) fn put_between(
     ends: &mut [Ends],
     links: &mut [Link],

@@ -1,19 +1,20 @@
 //! Lists of numbers that are kept as links, beside whatever the numbers name.
 //!
-//! [`Links`] has a list for each *owner*. The owners are the numbers below [`Links::owners`], and a
-//! *member* of a list is a number below [`Links::members`]. Each number is in one list at most, and
-//! there once. What the numbers name is the caller's: slots of a map, say, or rows of a table.
+//! [`Links`] has a list for each *owner*. The owners are the numbers below [`Links::owners`]. The
+//! numbers below [`Links::members`] may be *members* of a list, each of one at most, and once. What
+//! the numbers name is the caller's: slots of a map, say, or rows of a table. The caller proves that
+//! each owner that it passes is one, and that each number that it passes may be a member.
 //!
-//! A member takes two numbers of 4 bytes, for the one before it and the one after it, in a vector of
-//! its own. An owner takes three: the two ends of its list, and its length. So a step along a list
-//! reads 8 bytes, and no value lies between two links.
+//! Each number that may be a member has 8 bytes in one vector, for the member before it and the one
+//! after it. Each owner has 12 bytes in another, for the two ends of its list, and its length. So a
+//! step along a list reads 8 bytes, and no value lies between two links.
 //!
 //! Each call takes constant time, with these exceptions:
 //!
 //! - [`Links::cover_owners`] and [`Links::cover_members`] take time linear in what they add, and may
 //!   move what is there.
-//! - [`Links::clear`] takes time linear in the number of owners, and [`Links::clone`] in that of owners
-//!   and of members.
+//! - [`Links::clear`] takes time linear in [`Links::owners`], and [`Links::clone`] in [`Links::owners`]
+//!   and [`Links::members`].
 //!
 //! The two covers and `clone` are the only calls that ask for memory.
 //!
@@ -126,7 +127,8 @@ impl Links {
         self.ends.resize(owners, NO_ENDS)
     }
 
-    /// Lets all numbers below `members` be members of a list. Those that are new are in none.
+    /// Lets all numbers below `members` be members of a list. Those that are new are in none. The caller
+    /// proves that `members` is below 4294967296.
     ///
     /// If there are so many already, it changes nothing. It fails only if memory runs out, and has
     /// changed nothing then.
@@ -282,8 +284,8 @@ impl Links {
         option_of(self.ends[owner as usize].last)
     }
 
-    /// Returns the member after this one in its list, or `None` if it is the last. Of a number that is
-    /// in no list it may return any.
+    /// Returns the member after this one in its list, or `None` if it is the last. For a number that is
+    /// in no list the result may be anything.
     ///
     /// ```
     /// let mut links = Links::new(alloc);
@@ -301,8 +303,8 @@ impl Links {
         option_of(self.links[member as usize].next)
     }
 
-    /// Returns the member before this one in its list, or `None` if it is the first. Of a number that
-    /// is in no list it may return any.
+    /// Returns the member before this one in its list, or `None` if it is the first. For a number that
+    /// is in no list the result may be anything.
     ///
     /// ```
     /// let mut links = Links::new(alloc);

@@ -11,7 +11,7 @@ impl<K: Key, T: Clone> StableList<K, T> {
     /// Returns a copy of the list, with clones of the values under the same cursors.
     ///
     /// Both lists will return the same new cursors. If memory runs out, or the clone of a value fails, the
-    /// call fails, and what was copied is dropped. It takes time linear in the number of slots.
+    /// call fails, and what was copied is dropped. It takes time linear in the capacity.
     ///
     /// ```
     /// let mut list = StableList::new(alloc)?;

@@ -7,7 +7,8 @@ use slotmap::{Key, KeyData};
 use std::marker::Model;
 
 /// The cursor of an element of a [`StableList`](super::StableList). It is a key type of its own, so a
-/// key of another map can't be passed for it.
+/// `DefaultKey` or a `NodeKey` can't be passed for it. A cursor of another list can, and may find an
+/// element of this one.
 #[derive(Clone, Copy, PartialEq, Eq, PartialOrd, Ord, Hash, Debug)]
 pub struct Cursor(KeyData);
 

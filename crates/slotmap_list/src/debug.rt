@@ -1,4 +1,4 @@
-//! What a list shows in a debugger: its values, in their order.
+//! What a list prints with `{:?}`: its values, in their order.
 
 use crate::{IntoIter, StableList};
 use slotmap::Key;

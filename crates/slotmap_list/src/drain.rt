@@ -62,8 +62,8 @@ impl<K: Key, T: Drop> StableList<K, T> {
     /// Returns an iterator that takes out the elements and yields them with their cursors, from front
     /// to back. The cursors are never used again.
     ///
-    /// Dropping the iterator early removes the remaining elements too. The list is empty then, and its
-    /// room and its capacity stay. The iterator is made in constant time.
+    /// Dropping the iterator early removes the remaining elements too. The list is empty then, has lost
+    /// no room, and its capacity stays. The iterator is made in constant time.
     ///
     /// ```
     /// let mut list = StableList::new(alloc)?;

@@ -39,6 +39,8 @@ impl<K: Key, T: Drop> StableList<K, T> {
         ensures reuses { OnErr result (map.len self.old.cursors.next + length self.old.elements ≤ length self.new.elements) }
         ensures in_place { OnOk result (length self.new.elements ≤ self.old.cursors.room + length self.old.elements
             → self.new.cursors.capacity ≡ self.old.cursors.capacity) }
+
+        // What never comes again.
         ensures gone { KeepsSpent self.old.cursors self.new.cursors }
     {
         for value in iter {
@@ -93,8 +95,9 @@ impl<K: Key, T: Drop> StableList<K, T> {
     /// Room is made first. So if the call fails, both lists have the same elements. It fails with
     /// `TooGreat` if more than 4294967294 elements would be there, counting those whose slots are
     /// retired, and with `Memory` if memory runs out. Where there is room for the values, the call can't
-    /// fail, and the capacity stays. The room and the capacity of the other list stay. It takes time
-    /// linear in the number of elements of the other list.
+    /// fail, and the capacity stays. The other list loses no room, and its capacity stays. It takes time
+    /// linear in the number of elements of the other list. If this list has to grow, it also takes time
+    /// linear in its capacity.
     ///
     /// ```
     /// let mut list = StableList::new(alloc)?;
@@ -118,7 +121,7 @@ impl<K: Key, T: Drop> StableList<K, T> {
         ensures keeps { OnErr result (Keeps self.old.cursors self.new.cursors) }
         ensures same_other { OnErr result (other.new ≡ other.old) }
 
-        // What stays: the capacity, if there is room, and the room and the capacity of the other list.
+        // What stays: the capacity, if there is room, and that of the other list, which loses no room.
         ensures in_place { length other.old.elements ≤ self.old.cursors.room → self.new.cursors.capacity ≡ self.old.cursors.capacity }
         ensures leaves_other { Leaves other.old.cursors other.new.cursors }
         ensures capacity_other { other.new.cursors.capacity ≡ other.old.cursors.capacity }

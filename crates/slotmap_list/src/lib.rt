@@ -6,7 +6,7 @@
 //! - A clause sees the list as its cursors with their values, from front to back. Each call's
 //!   contract gives the resulting list.
 //! - The cursor of a removed element is never used again for another element.
-//! - A call with a cursor that isn't in the list is refused, and returns the value.
+//! - A call with a cursor that isn't in the list changes nothing. An insert returns its value then.
 //! - An element that is moved keeps its cursor, and the capacity stays.
 //! - Where there is room, no added element is refused for memory, and the capacity stays. No removal
 //!   loses room or changes the capacity.
@@ -14,9 +14,10 @@
 //!
 //! A call takes constant time, with these exceptions:
 //!
-//! - `to_vec`, `retain`, `clear`, `extend`, `from_iter` and dropping a `Drain` take time linear in the
-//!   number of elements that they pass, remove or add, and `append` in that of the other list's elements.
-//! - `clone` takes time linear in the number of slots: that of the most elements that there were at once.
+//! - `to_vec`, `retain` and `clear` take time linear in the number of elements, and so does dropping a
+//!   `Drain` in that of those left. `extend` and `from_iter` take it in the number of values that they
+//!   add, and `append` in that of the other list's elements.
+//! - `clone`, `with_capacity` and `with_capacity_and_key` take time linear in the capacity.
 //! - A push or an insert may have to grow the vectors of the list, and takes constant time on average.
 //!
 //! The values lie in a map. Their order lies apart from them, in 8 bytes a slot: links of 4 bytes
@@ -105,10 +106,10 @@ impl<K, T> Model for StableList<K, T> {
 /// An element was not added at an end. The error holds its value.
 #[derive(Debug, Drop, Error)]
 pub enum PushError<T> {
-    /// There are as many elements as a map can hold.
+    /// The elements and the retired slots are as many as a map can hold, 4294967294.
     #[error("the list is full")]
     Full(T),
-    /// The allocation fails.
+    /// An allocation failed.
     #[error("out of memory")]
     Memory(T),
 }
@@ -119,10 +120,10 @@ pub enum PlaceError<T> {
     /// The cursor isn't in the list.
     #[error("the cursor isn't in the list")]
     Gone(T),
-    /// There are as many elements as a map can hold.
+    /// The elements and the retired slots are as many as a map can hold, 4294967294.
     #[error("the list is full")]
     Full(T),
-    /// The allocation fails.
+    /// An allocation failed.
     #[error("out of memory")]
     Memory(T),
 }
@@ -142,7 +143,7 @@ fn one_list(alloc: Global, members: usize) -> Result<Links, AllocError>
 }
 
 // Lets the numbers below `needed` be in the list. Where links have to be added, at least 64 are, as
-// long as there may be so many. So most pushes add none.
+// long as there may be so many. So a list that grows from nothing to 64 elements adds links once.
 fn cover(links: &mut Links, needed: usize) -> Result<(), AllocError>
     requires { needed < 2 ^ 32 }
     ensures covers { OnOk result (needed ≤ links.new.members) }
@@ -185,8 +186,9 @@ impl<T: Drop> StableList<Cursor, T> {
 
     /// Makes an empty list with room for `capacity` elements, whose cursors are of type `Cursor`.
     ///
-    /// To add the next `capacity` elements can't fail. The call fails with `TooGreat` if `capacity`
-    /// is over 4294967294, and with `Memory` if memory runs out.
+    /// Adding the next `capacity` elements can't fail, except with `Gone`. The call fails with
+    /// `TooGreat` if `capacity` is over 4294967294, and with `Memory` if memory runs out. It takes
+    /// time linear in `capacity`.
     ///
     /// ```
     /// let mut list: StableList<Cursor, u64> = StableList::with_capacity(alloc, 2)?;
@@ -222,8 +224,9 @@ impl<K: Key, T: Drop> StableList<K, T> {
 
     /// Makes an empty list with room for `capacity` elements, with any type of cursors.
     ///
-    /// To add the next `capacity` elements can't fail. The call fails with `TooGreat` if `capacity`
-    /// is over 4294967294, and with `Memory` if memory runs out.
+    /// Adding the next `capacity` elements can't fail, except with `Gone`. The call fails with
+    /// `TooGreat` if `capacity` is over 4294967294, and with `Memory` if memory runs out. It takes
+    /// time linear in `capacity`.
     ///
     /// ```
     /// let list: StableList<NodeKey, u64> = StableList::with_capacity_and_key(alloc, 2)?;
@@ -244,9 +247,9 @@ impl<K: Key, T: Drop> StableList<K, T> {
 
     /// Reserves room for `additional` more elements.
     ///
-    /// To add the next `additional` elements can't fail, and the capacity stays then. If there is room
-    /// for them already, the call succeeds and changes nothing. The errors are these; either leaves
-    /// the same elements:
+    /// Adding the next `additional` elements can't fail, except with `Gone`, and the capacity stays then.
+    /// If there is room for them already, the call succeeds and changes nothing, in constant time. Else
+    /// it takes time linear in the capacity. The errors are these; either leaves the same elements:
     ///
     /// - `TooGreat`: more than 4294967294 elements would be there, counting those whose slots are
     ///   retired.
@@ -436,7 +439,7 @@ impl<K: Key, T: Drop> StableList<K, T> {
     }
 
     /// Returns an iterator over the elements with their cursors, from front to back. It can be
-    /// turned round, and yields from both ends.
+    /// reversed, and yields from both ends.
     ///
     /// It is made in constant time, and each step takes constant time.
     ///
@@ -459,7 +462,8 @@ impl<K: Key, T: Drop> StableList<K, T> {
         }
     }
 
-    /// Returns the values from front to back, in time linear in their number.
+    /// Returns the values from front to back, in time linear in their number. It fails only if memory
+    /// runs out.
     ///
     /// ```
     /// let mut list = StableList::new(alloc)?;

@@ -94,7 +94,8 @@ impl<K: Key, T: Drop> StableList<K, T> {
         }
     }
 
-    /// Moves the element of a cursor to the front. It returns `false` if the cursor isn't in the list.
+    /// Moves the element of a cursor to the front. It returns `false`, and changes nothing, if the
+    /// cursor isn't in the list.
     ///
     /// Constant time. The element keeps its cursor, and the capacity stays.
     ///
@@ -114,7 +115,8 @@ impl<K: Key, T: Drop> StableList<K, T> {
         self.move_to(cursor, Place::Front)
     }
 
-    /// Moves the element of a cursor to the back. It returns `false` if the cursor isn't in the list.
+    /// Moves the element of a cursor to the back. It returns `false`, and changes nothing, if the
+    /// cursor isn't in the list.
     ///
     /// Constant time. The element keeps its cursor, and the capacity stays.
     ///

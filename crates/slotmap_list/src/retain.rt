@@ -40,8 +40,8 @@ impl<K: Key, T: Drop> StableList<K, T> {
     /// returns `false`.
     ///
     /// The closure gets the cursor and a mutable reference to the value. What it writes is kept. The
-    /// cursor of a removed element is never used again. The room and the capacity stay. It takes
-    /// time linear in the number of elements.
+    /// cursor of a removed element is never used again. No room is lost, and the capacity stays. It
+    /// takes time linear in the number of elements.
     ///
     /// ```
     /// let mut list = StableList::from_iter(alloc, vec![in alloc; 1, 2, 3]?).unwrap();

@@ -8,8 +8,9 @@ use crate::{StableList, key_at};
 use slotmap::Key;
 
 impl<K: Key, T: Drop> StableList<K, T> {
-    /// Removes the element of a cursor, and returns its value, or `None` if the cursor isn't in the
-    /// list. The cursor is never used again. The room and the capacity stay.
+    /// Removes the element of a cursor, and returns its value. The cursor is never used again. If the
+    /// cursor isn't in the list, the call returns `None` and changes nothing. No room is lost, and the
+    /// capacity stays.
     ///
     /// ```
     /// let mut list = StableList::new(alloc)?;
@@ -34,7 +35,7 @@ impl<K: Key, T: Drop> StableList<K, T> {
     }
 
     /// Removes the element at the front, and returns its cursor and its value, or `None` if the list
-    /// is empty. The cursor is never used again. The room and the capacity stay.
+    /// is empty. The cursor is never used again. No room is lost, and the capacity stays.
     ///
     /// ```
     /// let mut list = StableList::new(alloc)?;
@@ -58,7 +59,7 @@ impl<K: Key, T: Drop> StableList<K, T> {
     }
 
     /// Removes the element at the back, and returns its cursor and its value, or `None` if the list
-    /// is empty. The cursor is never used again. The room and the capacity stay.
+    /// is empty. The cursor is never used again. No room is lost, and the capacity stays.
     ///
     /// ```
     /// let mut list = StableList::new(alloc)?;
@@ -81,7 +82,8 @@ impl<K: Key, T: Drop> StableList<K, T> {
         Some((cursor, value))
     }
 
-    /// Removes all elements. Their cursors are never used again. The room and the capacity stay.
+    /// Removes all elements. Their cursors are never used again. No room is lost, and the capacity
+    /// stays.
     ///
     /// ```
     /// let mut list = StableList::new(alloc)?;

@@ -11,7 +11,8 @@ use std::marker::Model;
 
 /// An iterator over the cursors of a list, from both ends: see [`StableList::cursors`].
 ///
-/// A contract sees it as the list of the cursors that it will still yield, from front to back.
+/// A contract sees it as the list of the cursors that it will still yield, from front to back. After
+/// its end it yields nothing.
 #[derive(Drop)]
 pub struct Cursors<'a, K, T> {
     elements: Iter<'a, K, T>,
@@ -70,7 +71,8 @@ impl<'a, K: Key, T: Drop> FusedIterator for Cursors<'a, K, T> {}
 
 /// An iterator over the values of a list, from both ends: see [`StableList::values`].
 ///
-/// A contract sees it as the list of the values that it will still yield, from front to back.
+/// A contract sees it as the list of the values that it will still yield, from front to back. After
+/// its end it yields nothing.
 #[derive(Drop)]
 pub struct Values<'a, K, T> {
     elements: Iter<'a, K, T>,
@@ -159,8 +161,8 @@ impl<K: Key, T: Drop> StableList<K, T> {
         self.values().next_back()
     }
 
-    /// Returns an iterator over the cursors, from front to back. It can be turned round, and yields
-    /// from both ends.
+    /// Returns an iterator over the cursors, from front to back. It can be reversed, and yields from
+    /// both ends.
     ///
     /// It is made in constant time, and each step takes constant time.
     ///
@@ -180,8 +182,8 @@ impl<K: Key, T: Drop> StableList<K, T> {
         }
     }
 
-    /// Returns an iterator over the values, from front to back. It can be turned round, and yields from
-    /// both ends.
+    /// Returns an iterator over the values, from front to back. It can be reversed, and yields from both
+    /// ends.
     ///
     /// It is made in constant time, and each step takes constant time.
     ///

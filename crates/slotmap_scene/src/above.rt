@@ -56,7 +56,7 @@ impl<'a, K: Key, T: Drop> FusedIterator for Ancestors<'a, K, T> {}
 
 /// An iterator over the keys of the roots: see [`Scene::roots`].
 ///
-/// A contract sees it as the list of the keys that it will still yield.
+/// A contract sees it as the list of the keys that it will still yield. After its end it yields nothing.
 #[derive(Drop)]
 pub struct Roots<'a, K, T> {
     nodes: basic::Keys<'a, DefaultKey, T>,
@@ -115,8 +115,8 @@ impl<K: Key, T: Drop> Scene<K, T> {
     /// Returns an iterator over the keys of the nodes above a node: its parent first, and its root
     /// last.
     ///
-    /// A root and a removed node have none. It is made in constant time, and each step takes constant
-    /// time.
+    /// A root has none, and neither has a node that doesn't exist. It is made in constant time, and each
+    /// step takes constant time.
     ///
     /// ```
     /// let mut scene: Scene<DefaultKey, &str> = Scene::new(alloc)?;
@@ -138,7 +138,7 @@ impl<K: Key, T: Drop> Scene<K, T> {
 
     /// Returns an iterator over the keys of the roots, by ascending index.
     ///
-    /// It is made in constant time. All its steps together read each node once.
+    /// It is made in constant time. All its steps together read each slot once.
     ///
     /// ```
     /// let mut scene: Scene<DefaultKey, &str> = Scene::new(alloc)?;

@@ -57,8 +57,8 @@ impl<'a, K: Key, T: Drop> Iterator for KeysBelow<'a, K, T> {
 impl<'a, K: Key, T: Drop> FusedIterator for KeysBelow<'a, K, T> {}
 
 impl<K: Key, T: Drop> Scene<K, T> {
-    // The key behind this one, which has no children, on a walk through all that is below a node: the next
-    // sibling of the first node on the way up that has one.
+    // The key behind this one on a walk through all that is below a node. This one has no children, so it
+    // is the next sibling of the first node on the way up that has one.
     fn next_above(&self, node: K, key: K) -> Option<K>
         requires walks { WalksBelow self.now.live (K.data_of node) (Some (K.data_of key)) }
         requires leaf { children_of self.now.live (K.data_of key) ≡ [] }
@@ -97,7 +97,7 @@ impl<K: Key, T: Drop> Scene<K, T> {
     /// those below it, and the children of each in their order.
     ///
     /// They are those of [`Scene::descendants`], which lists them in a vector. The node itself isn't
-    /// among them, and a removed node has none. It allocates nothing: it goes by the links between the
+    /// among them, and a node that doesn't exist has none. It allocates nothing: it goes by the links between the
     /// nodes. It is made in constant time. All its steps together take time linear in the number of keys,
     /// and one of them at most in the depth of the trees.
     ///
@@ -132,8 +132,8 @@ impl<K: Key, T: Drop> Scene<K, T> {
     /// Returns the keys of the nodes below a node, depth-first: each node comes before those below it,
     /// and the children of each in their order.
     ///
-    /// The node itself isn't among them, and a removed node has none. If memory runs out, the call
-    /// fails; [`Scene::keys_below`] needs none. It takes time linear in the number of keys that it
+    /// The node itself isn't among them, and a node that doesn't exist has none. If memory runs out, the
+    /// call fails; [`Scene::keys_below`] needs none. It takes time linear in the number of keys that it
     /// returns.
     ///
     /// ```

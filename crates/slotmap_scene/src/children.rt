@@ -14,8 +14,8 @@ use std::marker::{Model, PhantomData};
 
 /// An iterator over the keys of a node's children, in order, from both ends: see [`Scene::children`].
 ///
-/// A contract sees it as the list of the keys that it will still yield. A clone yields the same keys;
-/// cloning can't fail.
+/// A contract sees it as the list of the keys that it will still yield. After its end it yields
+/// nothing. A clone yields the same keys; cloning can't fail.
 ///
 /// [`Scene::children`]: crate::Scene::children
 #[derive(Drop)]

@@ -36,7 +36,7 @@ impl<K: Key, T: Drop> Scene<K, T> {
         None
     }
 
-    /// Returns whether a node exists and is another one, or below it.
+    /// Returns whether a node exists, and is the other node or below it.
     ///
     /// ```
     /// let mut scene: Scene<DefaultKey, &str> = Scene::new(alloc)?;

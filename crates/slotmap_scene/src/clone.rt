@@ -26,7 +26,7 @@ impl<K: Key, T: Clone> Scene<K, T> {
     /// Returns a copy of the scene: the same trees, with clones of the values under the same keys.
     ///
     /// Both scenes will return the same new keys. If memory runs out, or the clone of a value fails, the
-    /// call fails, and what was copied is dropped. It takes time linear in the number of slots.
+    /// call fails, and what was copied is dropped. It takes time linear in the capacity.
     ///
     /// ```
     /// let mut scene: Scene<DefaultKey, u64> = Scene::new(alloc)?;

@@ -1,4 +1,4 @@
-//! What a scene shows in a debugger: its trees.
+//! What a scene prints with `{:?}`: its trees.
 
 use crate::Scene;
 use slotmap::{DefaultKey, Key};

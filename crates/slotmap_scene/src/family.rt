@@ -87,7 +87,7 @@ impl<T: Drop> Nodes<T> {
         self.values.len()
     }
 
-    // For how many nodes memory is allocated.
+    // How many nodes there can be before more room is made.
     pub fn capacity(&self) -> usize
         ensures { result ≡ self.now.capacity }
     {

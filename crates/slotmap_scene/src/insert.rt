@@ -41,12 +41,11 @@ impl<K: Key, T: Drop> Scene<K, T> {
     }
 
     /// Adds a node with no children right before another one, among the children of its parent, and
-    /// returns its key, which no node had before. It takes constant time, unless the map of the nodes
-    /// grows.
+    /// returns its key, which no node had before. It takes constant time, unless the scene grows.
     ///
     /// It fails with `GoneSibling` exactly if the sibling is a root or doesn't exist. If a slot is vacant
     /// or room was reserved, it fails for no other reason, and the capacity stays. If the call fails,
-    /// the error holds the value, and the scene is unchanged.
+    /// the error holds the value, and the scene has the same trees.
     ///
     /// ```
     /// let mut scene: Scene<DefaultKey, &str> = Scene::new(alloc)?;
@@ -67,6 +66,8 @@ impl<K: Key, T: Drop> Scene<K, T> {
         ensures unspent { IfOk result (λ key. IsSpent self.old (K.data_of key) → ⊥) }
         ensures stale { KeepsSpent self.old self.new }
         ensures parent { OnOk result (IsSome (parent_of self.old.live (K.data_of sibling))) }
+
+        // Why the call failed, and what that leaves.
         ensures err { IfErr result (RefusesSibling self.old (K.data_of sibling) value) }
         ensures reuses { IsSome (parent_of self.old.live (K.data_of sibling)) → HasVacant self.old → IsOk result }
         ensures room { IsSome (parent_of self.old.live (K.data_of sibling)) → 0 < self.old.room → IsOk result }
@@ -78,12 +79,11 @@ impl<K: Key, T: Drop> Scene<K, T> {
     }
 
     /// Adds a node with no children right behind another one, among the children of its parent, and
-    /// returns its key, which no node had before. It takes constant time, unless the map of the nodes
-    /// grows.
+    /// returns its key, which no node had before. It takes constant time, unless the scene grows.
     ///
     /// It fails with `GoneSibling` exactly if the sibling is a root or doesn't exist. If a slot is vacant
     /// or room was reserved, it fails for no other reason, and the capacity stays. If the call fails,
-    /// the error holds the value, and the scene is unchanged.
+    /// the error holds the value, and the scene has the same trees.
     ///
     /// ```
     /// let mut scene: Scene<DefaultKey, &str> = Scene::new(alloc)?;
@@ -104,6 +104,8 @@ impl<K: Key, T: Drop> Scene<K, T> {
         ensures unspent { IfOk result (λ key. IsSpent self.old (K.data_of key) → ⊥) }
         ensures stale { KeepsSpent self.old self.new }
         ensures parent { OnOk result (IsSome (parent_of self.old.live (K.data_of sibling))) }
+
+        // Why the call failed, and what that leaves.
         ensures err { IfErr result (RefusesSibling self.old (K.data_of sibling) value) }
         ensures reuses { IsSome (parent_of self.old.live (K.data_of sibling)) → HasVacant self.old → IsOk result }
         ensures room { IsSome (parent_of self.old.live (K.data_of sibling)) → 0 < self.old.room → IsOk result }

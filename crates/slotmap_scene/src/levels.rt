@@ -49,8 +49,8 @@ impl<K: Key, T: HasTransform + Drop> Scene<K, T> {
         Ok(())
     }
 
-    /// Returns each node with its transform in the coordinates of its root, where the transform of each
-    /// is composed once: it is the node's own under that of its parent in these coordinates.
+    /// Returns each node with its transform in the coordinates of its root. Each transform is composed
+    /// once: the node's own under that of its parent in these coordinates.
     ///
     /// The roots come first, by ascending index, then their children, then the children of these, and so
     /// on. So a parent comes before its children. Where it doesn't matter which two of three transforms
@@ -71,7 +71,7 @@ impl<K: Key, T: HasTransform + Drop> Scene<K, T> {
         ensures composed { Joins T.Transform.under
             → IfOk result (λ all. All (λ e. IsComposed T.Transform.under T.transform_of self.now.live (K.data_of e.0) e.1) all.items) }
 
-        // Each node is there once, and no other key is.
+        // The order; and each node is there once, and no other key.
         ensures order { IfOk result (λ all. GoesByLevel self.now.live (keys_of_pairs K.data_of all.items)) }
         ensures all { IfOk result (λ all. (k : KeyOf) → has_node self.now.live k → 0 < times k (keys_of_pairs K.data_of all.items)) }
         ensures only { IfOk result (λ all. (k : KeyOf) → 0 < times k (keys_of_pairs K.data_of all.items) → has_node self.now.live k) }

@@ -1,36 +1,38 @@
 //! A scene: nodes in trees, where each has a parent or is a root, and an ordered list of children.
 //!
-//! A [`Scene`] gives each node a key, and keeps for each the key of its parent and those of its
-//! children. What is proved of it:
+//! A [`Scene`] gives each node a key, and knows the parent and the children of each. What is proved
+//! of it:
 //!
 //! - The nodes form trees: each has a root above it, [`Scene::depth`] steps away.
 //! - Each node appears exactly once in its parent's list of children, and in no other.
 //! - [`Scene::descendants`] lists the nodes below a node, each once: depth-first, in the order of the
 //!   children. [`Scene::keys_below`] yields them one by one, and needs no memory.
 //! - [`Scene::reparent`] moves a node with its subtree, as the last child of its new parent, and
-//!   [`Scene::move_before`] and [`Scene::move_after`] to a place beside a sibling. A move is refused
-//!   exactly if a node doesn't exist or the move would make a cycle.
+//!   [`Scene::move_before`] and [`Scene::move_after`] to a place beside a sibling. `reparent` is refused
+//!   exactly if a node doesn't exist or the move would make a cycle. A move beside a sibling is also
+//!   refused if the sibling is a root or the node itself.
 //! - [`Scene::remove`] removes a node with its subtree, and no other node. Their keys are never used
 //!   again.
-//! - A call that fails changes nothing, and returns what it was given. It uses up no key.
+//! - A call that fails leaves the same trees, and uses up no key. One that adds a node returns its value.
 //!
 //! The children of a node are kept as links between siblings, beside the map of the values, by the
-//! indices of their keys. So only a new node may need memory, and
-//! none if a node was removed or room was reserved; the capacity stays then. No move and no removal
-//! changes the capacity, and no removal loses room.
+//! indices of their keys. Of the calls that add, move or remove nodes, only those that add one may need
+//! memory. They need none if a slot is vacant or room was reserved, and the capacity stays then. No
+//! move and no removal changes the capacity, and no removal loses room.
 //!
-//! A call takes constant time, unless the map of the nodes grows, with these exceptions:
+//! A call takes constant time, unless the scene grows, with these exceptions:
 //!
-//! - [`Scene::depth`], [`Scene::fold_up`], [`Scene::world`] and [`Scene::is_within`] take time linear in
-//!   the number of nodes above the node. So does [`Scene::reparent`] in the number of those above the new
+//! - [`Scene::depth`], [`Scene::fold_up`], [`Scene::world`], [`Scene::world_transform`] and
+//!   [`Scene::is_within`] take time linear in the number of nodes above the node. So does [`Scene::reparent`] in the number of those above the new
 //!   parent. [`Scene::move_before`] and [`Scene::move_after`] take time linear in the number of those above
 //!   the sibling, unless both nodes have the same parent.
 //! - [`Scene::remove`] takes time linear in the number of nodes that it removes, and
 //!   [`Scene::descendants`] in the number of those that it lists. So do all steps of
 //!   [`Scene::keys_below`] together, and one of them at most in the depth of the trees.
-//! - [`Scene::clear`] takes time linear in the capacity, and [`Scene::clone`] and
-//!   [`Scene::world_transforms`] in the number of slots. So do all steps of [`Scene::iter`],
-//!   [`Scene::keys`] or [`Scene::values`] together.
+//! - [`Scene::clear`], [`Scene::clone`], [`Scene::with_capacity`] and [`Scene::with_capacity_and_key`]
+//!   take time linear in the capacity.
+//! - [`Scene::world_transforms`] takes time linear in the number of slots. So do all steps of
+//!   [`Scene::iter`], [`Scene::keys`], [`Scene::values`] or [`Scene::roots`] together.
 //!
 //! ```
 //! let mut scene: Scene<DefaultKey, &str> = Scene::new(alloc)?;
@@ -86,7 +88,7 @@ pub mod world;
 
 /// Nodes in trees, under keys of type `K`.
 ///
-/// A clause sees the content of the map of the nodes. Its `live` is the finite map from the keys to the
+/// A clause sees a content, as of a map of nodes. Its `live` is the finite map from the keys to the
 /// nodes, each with its value, its parent and its children, and `IsSpent` says which keys are never used
 /// again.
 #[derive(Drop)]
@@ -119,10 +121,10 @@ pub enum AddError<T> {
     /// The sibling doesn't exist, or is a root.
     #[error("the sibling is gone, or a root")]
     GoneSibling(T),
-    /// There are as many nodes as a map can hold.
+    /// The nodes and the retired slots are as many as a map can hold, 4294967294.
     #[error("the scene is full")]
     Full(T),
-    /// The allocation fails.
+    /// An allocation failed.
     #[error("out of memory")]
     Memory(T),
 }
@@ -190,6 +192,7 @@ impl<T: Drop> Scene<DefaultKey, T> {
     /// Makes a scene with no node and with room for `capacity` nodes, with the default type of keys.
     ///
     /// It fails with `TooGreat` if `capacity` is over 4294967294, and with `Memory` if memory runs out.
+    /// It takes time linear in `capacity`.
     ///
     /// ```
     /// let scene: Scene<DefaultKey, &str> = Scene::with_capacity(alloc, 2)?;
@@ -225,6 +228,7 @@ impl<K: Key, T: Drop> Scene<K, T> {
     /// Makes a scene with no node and with room for `capacity` nodes, with any type of keys.
     ///
     /// It fails with `TooGreat` if `capacity` is over 4294967294, and with `Memory` if memory runs out.
+    /// It takes time linear in `capacity`.
     ///
     /// ```
     /// let scene: Scene<NodeKey, &str> = Scene::with_capacity_and_key(alloc, 2)?;
@@ -243,8 +247,9 @@ impl<K: Key, T: Drop> Scene<K, T> {
         })
     }
 
-    /// Reserves room for `additional` more nodes: to add so many, roots or children, can't fail then, and
-    /// the capacity stays.
+    /// Reserves room for `additional` more nodes. Adding them can't fail then, if their parents or
+    /// siblings exist, and the capacity stays. It takes constant time if there is room already, else time
+    /// linear in the capacity.
     ///
     /// It fails with `TooGreat` if more than 4294967294 nodes would be there, counting those whose slots
     /// are retired, and with `Memory` if memory runs out. The scene has the same nodes then.
@@ -278,7 +283,7 @@ impl<K: Key, T: Drop> Scene<K, T> {
         self.nodes.len()
     }
 
-    /// Returns for how many nodes memory is allocated, in constant time.
+    /// Returns how many nodes there can be before more room is made, in constant time.
     ///
     /// It counts the slots of nodes, of removed nodes, and those that have had no node yet.
     ///
@@ -358,7 +363,7 @@ impl<K: Key, T: Drop> Scene<K, T> {
     /// Returns an iterator over the keys of the children of a node, in order: each node whose parent it
     /// is, once.
     ///
-    /// A removed node has none. It is made in constant time, and each step takes constant time.
+    /// A node that doesn't exist has none. It is made in constant time, and each step takes constant time.
     ///
     /// ```
     /// let mut scene: Scene<DefaultKey, &str> = Scene::new(alloc)?;

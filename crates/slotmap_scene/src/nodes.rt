@@ -16,7 +16,7 @@ impl<K: Key, T: Drop> Scene<K, T> {
     /// Adds a root with no children, and returns its key, which no node had before.
     ///
     /// If a slot is vacant or room was reserved, the call can't fail, and the capacity stays. If the
-    /// call fails, the error holds the value, and the scene is unchanged.
+    /// call fails, the error holds the value, and the scene has the same trees.
     ///
     /// ```
     /// let mut scene: Scene<DefaultKey, &str> = Scene::new(alloc)?;
@@ -44,7 +44,7 @@ impl<K: Key, T: Drop> Scene<K, T> {
     /// had before.
     ///
     /// If a slot is vacant or room was reserved, it fails exactly if the parent doesn't exist, and the
-    /// capacity stays. If the call fails, the error holds the value, and the scene is unchanged.
+    /// capacity stays. If the call fails, the error holds the value, and the scene has the same trees.
     ///
     /// ```
     /// let mut scene: Scene<DefaultKey, &str> = Scene::new(alloc)?;
@@ -64,6 +64,8 @@ impl<K: Key, T: Drop> Scene<K, T> {
         ensures unspent { IfOk result (λ key. IsSpent self.old (K.data_of key) → ⊥) }
         ensures stale { KeepsSpent self.old self.new }
         ensures live { OnOk result (has_node self.old.live (K.data_of parent)) }
+
+        // Why the call failed, and what that leaves.
         ensures err { IfErr result (RefusesChild self.old (K.data_of parent) value) }
         ensures reuses { has_node self.old.live (K.data_of parent) → HasVacant self.old → IsOk result }
         ensures room { has_node self.old.live (K.data_of parent) → 0 < self.old.room → IsOk result }
@@ -146,10 +148,10 @@ impl<K: Key, T: Drop> Scene<K, T> {
         true
     }
 
-    /// Removes a node with its subtree, and returns its value, or `None` if it doesn't exist. Their keys
-    /// are never used again.
+    /// Removes a node with its subtree, and returns its value. Their keys are never used again.
     ///
-    /// It can't fail. The room and the capacity stay.
+    /// If the node doesn't exist, the call returns `None` and changes nothing. No room is lost, and the
+    /// capacity stays.
     ///
     /// ```
     /// let mut scene: Scene<DefaultKey, &str> = Scene::new(alloc)?;
@@ -176,8 +178,8 @@ impl<K: Key, T: Drop> Scene<K, T> {
         Some(self.nodes.remove_tree(node))
     }
 
-    /// Removes all nodes. Their keys are never used again, as none is that was used up before. The room and
-    /// the capacity stay.
+    /// Removes all nodes. Their keys, and those that were spent before, are never used again. No room is
+    /// lost, and the capacity stays.
     ///
     /// ```
     /// let mut scene: Scene<DefaultKey, &str> = Scene::new(alloc)?;

@@ -1,4 +1,4 @@
-//! The trees of the nodes: a node becomes a child or a root, and a tree is removed.
+//! The trees of the nodes: a child is added, a node moves or becomes a root, and a tree is removed.
 
 ghost use Rattle.std.specs.Prelude.{◌≡◌, ◌<◌, ◌≤◌, ◌≢◌, [], List, Some, None, IfErr, IfOk, IfSome, IsOk, OnErr, option_map};
 ghost use Rattle.std.specs.FinMap as map;
@@ -95,7 +95,7 @@ impl<T: Drop> Nodes<T> {
         self.set_parent(node, None);
     }
 
-    // Moves a node to a place among the children of a parent, which isn't below it.
+    // Moves a node to a place among the children of a parent, which is neither the node nor below it.
     pub fn move_to(
         &mut self,
         node: DefaultKey,

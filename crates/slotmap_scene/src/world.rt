@@ -8,12 +8,12 @@
 //! - The closure is called once for each value from the node's own to the root's, in that order.
 //! - The result of `world` and `world_transform` is the node's own transform composed with its
 //!   ancestors', up to the root, each under the next one up. So it is for floats too.
-//! - Where it doesn't matter which two of three transforms are composed first, the result is also the
-//!   node's own transform under that of its parent in the coordinates of the root.
+//! - If it doesn't matter which two of three transforms are composed first, the result is also the
+//!   node's own transform under its parent's in root coordinates.
 //! - They return `None` exactly if the node doesn't exist.
 //!
-//! They take time linear in the number of nodes above the one that they are given. None of them fails
-//! for memory.
+//! These three take time linear in the number of nodes above the given one, and none of them fails for
+//! memory.
 //!
 //! ```
 //! let mut arm: Scene<DefaultKey, Offset> = Scene::new(alloc)?;

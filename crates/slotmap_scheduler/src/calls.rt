@@ -116,10 +116,10 @@ impl<K: Key, T: Drop> Scheduler<K, T> {
         }
     }
 
-    /// Cancels the job of a handle, and returns it, or `None` if no job waits under it. It is never
-    /// returned later, and its handle is never used again.
+    /// Cancels the job of a handle, and returns it. It is never returned later, and its handle is never
+    /// used again.
     ///
-    /// The capacity stays. It takes time logarithmic in the number of jobs.
+    /// If no job waits under the handle, the call returns `None` and changes nothing. The capacity stays. It takes time logarithmic in the number of jobs.
     ///
     /// ```
     /// let mut scheduler: Scheduler<DefaultKey, &str> = Scheduler::new(alloc)?;
@@ -152,8 +152,9 @@ impl<K: Key, T: Drop> Scheduler<K, T> {
     /// Moves the job of a handle to another time, behind all jobs of that time. The handle stays the
     /// same.
     ///
-    /// If the call fails, nothing has changed. The capacity stays. It takes time logarithmic in the
-    /// number of jobs.
+    /// It fails with `Gone` if no job waits under the handle, else with `Full` if all turns were given
+    /// out, and has changed nothing then. It uses up a turn. The capacity stays. It takes time logarithmic
+    /// in the number of jobs.
     ///
     /// ```
     /// let mut scheduler: Scheduler<DefaultKey, &str> = Scheduler::new(alloc)?;
@@ -218,8 +219,8 @@ impl<K: Key, T: Drop> Scheduler<K, T> {
     /// Removes the next job, whenever it is due, and returns it with its time and its handle. It is
     /// never returned again, and its handle is never used again.
     ///
-    /// Of the jobs that wait it is the one of the least time, and of those of that time the one that
-    /// was scheduled first. `None` means that no job waits. The capacity stays. It takes time
+    /// It is the waiting job with the least time. Of several with that time it is the one whose
+    /// `schedule` or last `reschedule` came first. `None` means that no job waits. The capacity stays. It takes time
     /// logarithmic in the number of jobs.
     ///
     /// ```
@@ -299,8 +300,8 @@ impl<K: Key, T: Drop> Scheduler<K, T> {
     /// Removes the next job, if it is due at `now`, and returns it with its handle. It is never
     /// returned again, and its handle is never used again.
     ///
-    /// Of the jobs that wait it is the one of the least time, and of those of that time the one that
-    /// was scheduled first. `None` means that no job is due. The capacity stays. It takes time
+    /// It is the waiting job with the least time. Of several with that time it is the one whose
+    /// `schedule` or last `reschedule` came first. `None` means that no job is due. The capacity stays. It takes time
     /// logarithmic in the number of jobs. [`Scheduler::pop_due_with_time`] returns the job's time too.
     ///
     /// ```

@@ -1,4 +1,4 @@
-//! What a scheduler shows in a debugger: the jobs that wait, by their times.
+//! What a scheduler prints with `{:?}`: the jobs that wait, by their times.
 
 use crate::Scheduler;
 use slotmap::Key;

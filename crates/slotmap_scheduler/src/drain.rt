@@ -67,8 +67,8 @@ impl<K: Key, T: Drop> Scheduler<K, T> {
     /// Returns an iterator that takes out the jobs and yields each with its handle and its time, in the
     /// order in which they are due. The handles are never used again.
     ///
-    /// Dropping the iterator early removes the remaining jobs too. No job waits then, and the room and
-    /// the capacity stay. The iterator is made in constant time. Each step takes time logarithmic in the
+    /// Dropping the iterator early removes the remaining jobs too. No job waits then, no room is lost, and
+    /// the capacity stays. The iterator is made in constant time. Each step takes time logarithmic in the
     /// number of jobs, and the drop takes time linear in the number of slots.
     ///
     /// ```

@@ -77,7 +77,8 @@ impl<'a, K: Key, T: Drop> IntoIterator for &'a Scheduler<K, T> {
 
 /// An iterator over the handles that wait: see [`Scheduler::keys`].
 ///
-/// A contract sees it as the list of the handles that it will still yield.
+/// A contract sees it as the list of the handles that it will still yield. After its end it yields
+/// nothing.
 #[derive(Drop)]
 pub struct Keys<'a, K, T> {
     jobs: Iter<'a, K, T>,
@@ -125,7 +126,7 @@ impl<'a, K: Key, T: Drop> FusedIterator for Keys<'a, K, T> {}
 
 /// An iterator over the jobs that wait: see [`Scheduler::values`].
 ///
-/// A contract sees it as the list of the jobs that it will still yield.
+/// A contract sees it as the list of the jobs that it will still yield. After its end it yields nothing.
 #[derive(Drop)]
 pub struct Values<'a, K, T> {
     jobs: Iter<'a, K, T>,

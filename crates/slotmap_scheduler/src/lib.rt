@@ -4,10 +4,12 @@
 //! [`Scheduler::pop_due`] returns the next due job. A clause sees the jobs that wait as one list, in
 //! the order in which they will be returned. What is proved of it:
 //!
-//! - Jobs are returned by ascending time; ties go in scheduling order. Each handle waits once.
+//! - Jobs are returned by ascending time. Of jobs with the same time, the one whose `schedule` or last
+//!   `reschedule` came first is returned first. Each handle waits once.
 //! - A job that was cancelled or returned is never returned again. Its handle is never used again, so
 //!   it finds no later job either.
-//! - A call that fails returns the job, and leaves the same jobs waiting. It uses up no handle.
+//! - A call that fails leaves the same jobs waiting, and uses up no handle. A `schedule` that fails
+//!   returns the job.
 //! - If there is room, a schedule can't fail, unless all turns were given out, and the capacity stays.
 //!   There is room after [`Scheduler::reserve`], and for each vacant slot.
 //! - The capacity changes in [`Scheduler::schedule`] and [`Scheduler::reserve`] alone, where it can
@@ -15,10 +17,10 @@
 //!
 //! The jobs are in a `SlotMap`, and their turns in a heap in a `Vec`; each job has its place in the
 //! heap. So `schedule`, `reschedule`, `cancel` and the calls that pop a job take time logarithmic in the
-//! number of jobs, unless a vector grows, and `pop_all_due` that for each job that is due. `clear`,
-//! `retain`, `clone` and all steps of `iter`, `keys` or `values` together take time linear in the
-//! number of slots; `retain` and `drain` also take logarithmic time for each job that they take out.
-//! `peek`, `get`, `due`, `len` and the like take constant time.
+//! number of jobs, unless a vector grows. `pop_all_due` takes that for each job that is due. `clear`,
+//! `retain` and `clone` take time linear in the number of slots, and so do all steps of `iter`, `keys`
+//! or `values` together. `retain` and `drain` also take logarithmic time for each job that they take
+//! out. `reserve` takes time linear in the number of slots if a vector grows, else constant time. `peek`, `get`, `due`, `len` and the like take constant time.
 //!
 //! ```
 //! let mut scheduler: Scheduler<DefaultKey, &str> = Scheduler::new(alloc)?;
@@ -57,8 +59,8 @@ use std::marker::{Model, PhantomData};
 use std::ops::Index;
 use thiserror::Error;
 
-// A job that waits: its time and its number among all that were scheduled, and its place in the
-// heap.
+// A job that waits: its time, the number of its `schedule` or last `reschedule` among all of them, and
+// its place in the heap.
 #[derive(Drop)]
 struct Job<T> {
     turn: (u64, u64),
@@ -68,9 +70,9 @@ struct Job<T> {
 
 /// Jobs that wait, each under a handle of the key type `K`.
 ///
-/// A clause sees `waiting`, which has each handle with its time and its job, in the order in which
-/// they will be returned; `handles`, by which it says which handles are never used again; and
-/// `turns`, how many turns were given out.
+/// A clause sees `waiting`, each handle with its time and its job, in the order in which they will be
+/// returned. `handles` says which handles are never used again, and `turns` how many turns were given
+/// out.
 #[derive(Drop)]
 pub struct Scheduler<K, T> {
     jobs: Jobs<T>,
@@ -97,10 +99,11 @@ impl<K, T> Model for Scheduler<K, T> {
 /// A job was not scheduled. The error holds it.
 #[derive(Debug, Drop, Error)]
 pub enum ScheduleError<T> {
-    /// As many jobs wait as a map can hold, or all turns were given out.
+    /// The waiting jobs and the retired slots are as many as a map can hold, 4294967294, or all turns
+    /// were given out.
     #[error("no turn is left")]
     Full(T),
-    /// The allocation fails.
+    /// An allocation failed.
     #[error("out of memory")]
     Memory(T),
 }

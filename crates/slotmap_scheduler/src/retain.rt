@@ -57,8 +57,8 @@ impl<K: Key, T: Drop> Scheduler<K, T> {
     ///
     /// The closure gets the handle, the time and a mutable reference to the job. What it writes is kept.
     /// The jobs are visited in no particular order. Those that stay keep their turns, and the handle of
-    /// a removed one is never used again. The room and the capacity stay. It takes time linear in the
-    /// number of slots, and logarithmic in the number of jobs for each that it removes.
+    /// a removed one is never used again. No room is lost, and the capacity stays. It takes time linear in
+    /// the number of slots, and logarithmic in the number of jobs for each that it removes.
     ///
     /// ```
     /// let mut scheduler: Scheduler<DefaultKey, &str> = Scheduler::new(alloc)?;
