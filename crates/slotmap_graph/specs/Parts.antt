@@ -121,13 +121,8 @@ pub record PutsAlone {V : Type 0} (m : Pairs V) (k : Key) : Type 0 where
   pub here : (v : V) → get (put m k v) k ≡ Some v
   pub others : (v : V) (q : Key) → (q ≡ k → ⊥) → get (put m k v) q ≡ get m q
 
--- an edge whose nodes are live isn't added: `Full` if and only if the limit is reached, else `Memory`, where no room was promised
-abbrev pub RefusesLiveEdge : {V E : Type 0} → Content V → E → EdgeError E → Type 0
-RefusesLiveEdge edges e (Gone back) = ⊥
-RefusesLiveEdge edges e (Full back) = (used edges ≡ most) × (back ≡ e)
-RefusesLiveEdge edges e (Memory back) = LacksRoom edges × (back ≡ e)
-
--- the same, or `Gone` if and only if one of the two nodes isn't live; the error holds the value
+-- an edge isn't added: `Gone` if and only if one of the two nodes isn't live, else `Full` if and only if the limit is reached, else `Memory`,
+-- where no room was promised; the error holds the value
 abbrev pub RefusesEdge : {N E : Type 0} → Content N → Content (SeenEdge E) → Key → Key → E → EdgeError E → Type 0
 RefusesEdge nodes edges from to e (Gone back) = ((IsLive nodes from × IsLive nodes to) → ⊥) × (back ≡ e)
 RefusesEdge nodes edges from to e (Full back) = IsLive nodes from × IsLive nodes to × (used edges ≡ most) × (back ≡ e)
