@@ -16,7 +16,7 @@
  * 5. No call is made from a signal handler, or from the forked child of a process with threads.
  *
  * All else is answered: any number may be passed as a key, and a closed slotmap_t reads as an empty map. A call that can fail
- * returns a status. Where it fails, it leaves its `out` variables and the map as they were.
+ * returns a status. Where it fails, it leaves its `out` variables as they were, and the map holds what it held.
  *
  * The low half of a key is its index, from 1 on; the high half is its version, which is odd. So keys can be guessed: they are no
  * secret. A number with an even version is read as the key with the next version. So slotmap_contains(&map, 1) is true if the
@@ -100,8 +100,8 @@ slotmap_status slotmap_clone(slotmap_t *map, slotmap_t *copy);
 /* Returns the number of live keys. */
 size_t slotmap_len(slotmap_t *map);
 
-/* Returns the number of slots for which memory is allocated: those of live, detached, vacant and retired keys together. No key
- * that the map returned has a greater index. */
+/* Returns for how many slots memory is allocated: those of live, detached and retired keys, vacant ones, and those not made yet.
+ * No key that the map returned has a greater index. */
 size_t slotmap_capacity(slotmap_t *map);
 
 /* Reserves room for `additional` more keys: the next `additional` calls of slotmap_insert and slotmap_reattach can't fail for
@@ -114,8 +114,8 @@ void slotmap_clear(slotmap_t *map);
 
 /* ---- One key ---- */
 
-/* Inserts a value, and writes its new key. The slot freed last is reused; then the call can't fail. Constant time, unless the
- * map grows.
+/* Inserts a value, and writes its new key. If a slot is vacant, the one freed last is reused, and the call can't fail. Constant
+ * time, unless the map grows.
  * SLOTMAP_OK, SLOTMAP_FULL, SLOTMAP_NO_MEMORY or SLOTMAP_CLOSED. */
 slotmap_status slotmap_insert(slotmap_t *map, uint64_t value, uint64_t *key_out);
 
@@ -160,7 +160,8 @@ slotmap_status slotmap_reattach(slotmap_t *map, uint64_t key, uint64_t value);
  * SLOTMAP_OK or SLOTMAP_NO_MORE. */
 slotmap_status slotmap_next(slotmap_t *map, uint64_t key, uint64_t *key_out, uint64_t *value_out);
 
-/* Writes the first live keys and their values, by ascending index, as far as both arrays go. Returns how many it wrote. */
+/* Writes the first live keys and their values, by ascending index, as far as both arrays go. Returns how many it wrote.
+ * Linear in the number of slots that it passes over. */
 size_t slotmap_list(slotmap_t *map, uint64_t *keys, size_t keys_len, uint64_t *values, size_t values_len);
 
 /* The same of the live keys whose index is above that of `key`. So a loop over all keys takes arrays of any length:
@@ -168,14 +169,15 @@ size_t slotmap_list(slotmap_t *map, uint64_t *keys, size_t keys_len, uint64_t *v
  *     uint64_t keys[64] = {0}, values[64] = {0}, last = SLOTMAP_START;
  *     size_t count;
  *     while ((count = slotmap_list_after(&map, last, keys, 64, values, 64)) > 0) { last = keys[count - 1]; .. }
- */
+ *
+ * Linear in the number of slots that it passes over. */
 size_t slotmap_list_after(slotmap_t *map, uint64_t key, uint64_t *keys, size_t keys_len, uint64_t *values, size_t values_len);
 
 /* ---- Side tables ----
  *
- * A side table has further values under the keys of a map. It has one value for each index. A put under a newer key takes the
- * place of an older one, never the reverse: so a value that was put under a removed key is never found under the next key of that
- * slot. Versions wrap around: of two versions more than 2147483648 apart, the larger one is the older.
+ * A side table has further values under the keys of a map. It has at most one value for each index. A put under a newer key takes
+ * the place of an older one, never the reverse. So a value that was put under a removed key is never found under the next key of
+ * that slot. Versions wrap around: of two versions more than 2147483648 apart, the larger one is the older.
  *
  * A table knows nothing of removals. A value under a removed key is found, and may be put again, until a newer key is put at its
  * index: so remove a key from its tables too. Numbers of index 0 are keys like any other here, and all of them share one entry.
@@ -212,8 +214,8 @@ slotmap_status slotmap_side_reserve(slotmap_side_t *side, size_t capacity);
 void slotmap_side_clear(slotmap_side_t *side);
 
 /* Puts a value under a key, in place of the value of this key or of an older one at its index, which is lost: slotmap_side_exchange
- * hands it out. A table takes 16 bytes for each index up to the largest that was put. So one key from outside may take 64 GiB: ask
- * the map first whether it is live. Constant time, unless the table grows.
+ * hands it out. A table takes 16 bytes for each index up to its capacity, which a put that grows it may double. So one key from
+ * outside may take 64 GiB or more: ask the map first whether it is live. Constant time, unless the table grows.
  * SLOTMAP_OK, SLOTMAP_NO_ENTRY, SLOTMAP_NO_MEMORY or SLOTMAP_CLOSED. */
 slotmap_status slotmap_side_put(slotmap_side_t *side, uint64_t key, uint64_t value);
 
@@ -233,7 +235,8 @@ slotmap_status slotmap_side_get(slotmap_side_t *side, uint64_t key, uint64_t *va
  * SLOTMAP_OK or SLOTMAP_NOT_LIVE. */
 slotmap_status slotmap_side_remove(slotmap_side_t *side, uint64_t key, uint64_t *value_out);
 
-/* Writes the keys and their values, by ascending index, as far as both arrays go. Returns how many it wrote. */
+/* Writes the keys and their values, by ascending index, as far as both arrays go. Returns how many it wrote. Linear
+ * in the number of slots that it passes over. */
 size_t slotmap_side_list(slotmap_side_t *side, uint64_t *keys, size_t keys_len, uint64_t *values, size_t values_len);
 
 #ifdef __cplusplus

@@ -1,15 +1,16 @@
 /* slotmap.hpp: the maps of slotmap.h as classes, for C++17.
  *
- *     slotmaps::slot_map<T>       values of any type, in a std::vector; the proved map makes and retires their keys
+ *     slotmaps::slot_map<T>       values of any type, in a std::vector; the proved map makes and removes their keys
  *     slotmaps::word_map<T>       values of at most 8 bytes, in the proved map itself
  *     slotmaps::side_table<T>     further values of at most 8 bytes under the keys of a map
  *
  * Each frees what it has at the end of its scope. It can be moved and copied; a copy has the same keys. A call that can't get memory
- * throws std::bad_alloc, and one over 4294967294 keys std::length_error; it changes nothing then. The calls of slotmap.h are proved,
- * and these classes aren't.
+ * throws std::bad_alloc, and one over 4294967294 keys std::length_error; the map then holds what it held. If `emplace` or `insert`
+ * of a slot_map throws after the key was made, that key is used up. The calls of slotmap.h are proved, and these classes aren't.
  *
- * One thread at a time calls a word_map or a side_table, also to read. Of a slot_map many may read at once, since `find`, `size`
- * and iterations use only the vector.
+ * One thread at a time calls a word_map or a side_table, also to read. Many threads may read a slot_map at once by `find`,
+ * `contains`, `at`, `size`, `empty` and iteration, which use only the vector. Copying one writes to its handle, so only one thread
+ * at a time may copy it.
  */
 #ifndef SLOTMAP_HPP
 #define SLOTMAP_HPP
@@ -158,7 +159,7 @@ public:
     }
     bool reattach(key at, const T &value) { return slotmap_reattach(map.get(), at.id, word::of(value)) == SLOTMAP_OK; }
 
-    /* By ascending index. The map may change meanwhile; it doesn't move. */
+    /* By ascending index. The map may change during the iteration, but must not be moved. */
     class iterator {
         slotmap_t *map;
         key at;
@@ -254,7 +255,7 @@ public:
     }
 };
 
-/* Values of any type. The proved map makes and retires the keys; the values stand in a vector at their keys' indices, each beside
+/* Values of any type. The proved map makes and removes the keys; the values stand in a vector at their keys' indices, each beside
  * its key. A look-up compares the two, and calls nothing. */
 template <class T> class slot_map {
     struct slot {
