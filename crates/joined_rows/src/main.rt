@@ -14,10 +14,10 @@
 //! `insert_many N` is N commands: inserts of the numbers from 1 on. `looks` gives how often the last
 //! run called `look`. A run that is refused is made once more with the commands that it hands back.
 //!
-//! The commands are `insert N`, `remove K`, `put K N`, `look K`, `take K`, `detach K` and `reattach
-//! K N`, where K is the number of the insert whose key is meant. Their replies are a key, `taken
-//! N`, `old N`, `looked N`, `taken second N`, `done`, `not detached N`, `no key`, `no key first N`
-//! and `no key second N`, or `none` instead of N.
+//! The commands are `insert N`, `remove K`, `put K N`, `look K`, `take K`, `detach K` and
+//! `reattach K N`. K is the number of the insert whose key is meant. The replies are a key, `taken N`,
+//! `old N`, `looked N`, `taken second N`, `done`, `full N` and `not detached N`. If K names no key they
+//! are `no key`, `no key first N` and `no key second N`. Without a value `none` stands for N.
 //!
 //! The values are plain numbers, which need no counting.
 #![tactic(auto)]

@@ -2,10 +2,9 @@
 //!
 //! The arguments are the names of files of rows, whose form `slotmap_rows` says. Each file is held to each kind of map that its
 //! rows are for: `basic`, `dense` and `hop` are `SlotMap`, `DenseSlotMap` and `HopSlotMap`, on which each call is made. In
-//! `run-basic`, `run-dense` and `run-hop` the row's calls up to this one are the commands of a run by `run_new`, and then once
-//! more of two by `run_new` and `run`, and the result is the last reply. In `detaching-basic` and `detaching-dense` the runs are
-//! those of maps whose keys can be detached. The status is 1 where a result differs, and 3 where a file can't be read, the
-//! output can't be written or memory runs out twice.
+//! `run-basic`, `run-dense` and `run-hop` the row's calls up to this one are commands. They are run once by `run_new`, and once
+//! more in two runs, by `run_new` and `run`. The result is the last reply. In `detaching-basic` and `detaching-dense` the runs are
+//! those of maps whose keys can be detached. The statuses are those of `run_program`.
 //!
 //! `slotmap_rows_primary` says which calls the maps have, and how keys, values and slots are written.
 //!

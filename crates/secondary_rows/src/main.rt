@@ -55,13 +55,13 @@
 //!
 //! # Runs
 //!
-//! A call is the next command of a list. With each call all of them are run anew on new maps, and
-//! the result is the last reply. `next_list` ends a list: the next one is run on the same maps.
-//! `insert_many N` is N commands: inserts of the numbers from 1 on, in `run_secondary` under the keys
-//! `1v1`, `2v1` and so on. `looks` says how often the last run called `look`. A run that is refused is
+//! A call is the next command of a list. With each call all of them are run anew on a new map, and
+//! the result is the last reply. `next_list` ends a list: the next one is run on the same map.
+//! `insert_many N` is N commands: inserts of the numbers from 1 on, under the keys `1v1`, `2v1` and
+//! so on. `looks` says how often the last run called `look`. A run that is refused is
 //! made once more with the commands that it hands back.
 //!
-//! `run_secondary` has `insert`, `get`, `contains_key`, `remove`, `or_put` and `len` with the
+//! Both kinds of runs have `insert`, `get`, `contains_key`, `remove`, `or_put` and `len` with the
 //! results above.
 //!
 //! Where memory runs out the call is made once more. `extend` and `extend_refs` then go on with

@@ -1,5 +1,6 @@
 //! Who comes to the pond.
 
+/// An animal.
 #[derive(Clone, Copy, Debug, PartialEq, Eq)]
 pub enum Animal {
     Frog,
@@ -8,6 +9,7 @@ pub enum Animal {
 }
 
 impl Animal {
+    /// Its name.
     pub fn name(self) -> &'static str {
         match self {
             Animal::Frog => "frog",

@@ -14,6 +14,7 @@ pub struct Log {
 }
 
 impl Log {
+    /// Makes a log with a leaf, or returns `None` if memory runs out.
     pub fn new(alloc: Global) -> Option<Log> {
         let mut scene = Scene::new(alloc).ok()?;
         let log = scene.add_root(Offset { x: 1, y: 0 }).ok()?;

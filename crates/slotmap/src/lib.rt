@@ -10,8 +10,8 @@
 //! - [`SparseSecondaryMap`] does the same for few of them. Its iterators and entries are in
 //!   [`sparse_secondary`].
 //!
-//! Keys, errors, lists of slots and the traits of the maps are from `slotmap_core`, their JSON
-//! from `slotmap_json`, runs of commands from `slotmap_run`.
+//! Keys, errors, lists of slots and the traits of the maps are from `slotmap_core`, the JSON of keys
+//! and of lists of slots from `slotmap_json`, runs of commands from `slotmap_run`.
 #![tactic(auto)]
 
 /// The iterators of [`SlotMap`].

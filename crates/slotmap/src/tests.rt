@@ -1,5 +1,5 @@
 //! Tests of what no row of calls can say: names, keys, messages, JSON, `Debug` and runs one after the other, over
-//! the names of this crate. Rows of calls lie in `crates/primary_rows` and `crates/secondary_rows`. Expected values were worked out
+//! the names of this crate. Rows of calls lie in `crates/primary_rows`, `crates/secondary_rows` and `crates/joined_rows`. Expected values were worked out
 //! by hand or are from the Rust crate, never from this port's own results.
 
 mod clones;

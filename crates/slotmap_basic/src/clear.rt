@@ -30,8 +30,8 @@ impl<K: Key, V: Drop> SlotMap<K, V> {
 
     /// Appends every live key to `out`, by ascending index.
     ///
-    /// Room for all keys is allocated first. If that fails, the list doesn't change. Linear in the
-    /// number of slots. Rust lacks this call.
+    /// Room for all keys is allocated first. If that fails, `out` doesn't change. Linear in the number
+    /// of slots, and in the length of `out` if it has to grow. Rust lacks this call.
     ///
     /// ```
     /// let mut keys = Vec::new(alloc);
@@ -55,8 +55,8 @@ impl<K: Key, V: Drop> SlotMap<K, V> {
     /// Removes every live key, and appends the keys with their values to `out`, by ascending index.
     ///
     /// The keys are removed as `remove` does, and detached keys stay detached. Room for all pairs
-    /// is allocated first. If that fails, neither the map nor the list changes. Linear in the
-    /// number of slots. Rust lacks this call.
+    /// is allocated first. If that fails, neither the map nor `out` changes. Linear in the number of
+    /// slots, and in the length of `out` if it has to grow. Rust lacks this call.
     ///
     /// ```
     /// let mut pairs = Vec::new(alloc);

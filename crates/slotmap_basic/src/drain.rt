@@ -13,7 +13,8 @@ use std::iter::FusedIterator;
 /// An iterator that takes the pairs out of a map, by ascending index.
 ///
 /// `SlotMap::drain` makes it. Dropping it removes the keys that it hasn't yielded. So no key of the
-/// map is live then.
+/// map is live then. `next`, and the promise about the drop, require `DrainCanStep`. `drain` ensures
+/// it, and each step keeps it. A function that takes a `Drain` as a parameter has to require it.
 pub struct Drain<'a, K: Key, V> {
     map: &'a mut SlotMap<K, V>,
     // Where the next occupied slot is looked for.

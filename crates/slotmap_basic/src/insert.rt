@@ -102,9 +102,9 @@ impl<K: Key, V: Drop> SlotMap<K, V> {
 
     /// Inserts the value that a closure returns for the new key, or fails as the closure does.
     ///
-    /// It behaves as `insert_with_key`. If the closure fails, nothing changes, and its error is
-    /// returned in `Closure`. The next insert returns the key that the closure was called with.
-    /// Costs as `insert`.
+    /// It behaves as `insert_with_key`. If the closure fails, the map holds what it held, and the
+    /// closure's error is returned in `Closure`. The next insert returns the key that the closure
+    /// was called with. Costs as `insert`. In Rust the closure's error alone is returned.
     ///
     /// ```
     /// let made: Result<DefaultKey, TryInsertError<u64>> = map.try_insert_with_key(|_| Err(7));

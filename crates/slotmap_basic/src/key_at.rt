@@ -10,7 +10,7 @@ use slotmap_slots::layout::Layout;
 impl<K: Key, V: Drop> SlotMap<K, V> {
     /// Returns the live key with this index, or `None` if no live key has it.
     ///
-    /// No two live keys have one index. So a table beside the map may name a key by its index, in 4
+    /// No two live keys have the same index. So a table beside the map may name a key by its index, in 4
     /// bytes. Constant time; allocates nothing. Rust lacks this call.
     ///
     /// ```

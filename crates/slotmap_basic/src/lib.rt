@@ -100,7 +100,7 @@ impl<K, V> SlotMap<K, V> {
 impl<V: Drop> SlotMap<DefaultKey, V> {
     /// Makes an empty map with the default key type.
     ///
-    /// It allocates the sentinel's slot, and fails with `Memory` if memory runs out. Constant time,
+    /// It allocates slot 0, which no key uses, and fails with `Memory` if memory runs out. Constant time,
     /// the allocations aside.
     ///
     /// ```
@@ -142,7 +142,7 @@ impl<V: Drop> SlotMap<DefaultKey, V> {
 impl<K: Key, V: Drop> SlotMap<K, V> {
     /// Makes an empty map with any key type.
     ///
-    /// It allocates the sentinel's slot, and fails with `Memory` if memory runs out. Constant time,
+    /// It allocates slot 0, which no key uses, and fails with `Memory` if memory runs out. Constant time,
     /// the allocations aside.
     ///
     /// ```
@@ -211,9 +211,10 @@ impl<K: Key, V: Drop> SlotMap<K, V> {
         self.len() == 0
     }
 
-    /// Returns the number of slots for which memory is allocated.
+    /// Returns for how many slots memory is allocated, without slot 0.
     ///
-    /// It counts the slots of live, detached, vacant and retired keys together. Constant time.
+    /// The slots of live, detached and retired keys count, as do vacant slots and those that aren't
+    /// made yet. Constant time.
     ///
     /// ```
     /// let before = map.capacity();
@@ -275,7 +276,8 @@ impl<K: Key, V: Drop> SlotMap<K, V> {
     }
 }
 
-/// Prints the pairs, each key before its value, as Rust's own maps do.
+/// Prints the pairs in the order of `iter`, each key before its value. In Rust the derived `Debug`
+/// prints the fields of the map.
 impl<K: Key, V: fmt::Debug> fmt::Debug for SlotMap<K, V> {
     fn fmt<W: fmt::Write>(&self, f: &mut fmt::Formatter<W>) -> fmt::Result {
         f.debug_map().entries(self.iter()).finish()

@@ -1,4 +1,4 @@
-//! The calls of `SlotMap` for C, as `c/slotmap.h` declares them.
+//! The calls of `SlotMap` and `SecondaryMap` for C, as `c/slotmap.h` declares them.
 //!
 //! A handle is open, with a map from keys to numbers of 64 bits, or closed. A closed handle reads as
 //! an empty map. A key crosses as the number that `as_ffi` returns. A call that can fail returns a

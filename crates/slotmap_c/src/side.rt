@@ -154,7 +154,7 @@ pub extern "C" fn slotmap_side_clear(alloc: Global, this: &mut SideHandle)
     }
 }
 
-// Puts a value under a key that has an entry.
+// Puts a value under a key, unless the key has no entry.
 fn put(inside: &mut Side, key: DefaultKey, value: u64) -> u32
     ensures says { PutSays inside.old key value result inside.new }
     ensures room { key.index ≤ inside.old.capacity → result ≢ no_memory }

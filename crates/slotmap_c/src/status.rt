@@ -15,7 +15,7 @@ pub(crate) const CLOSED: u32 = 3;
 /// The handle is open already.
 pub(crate) const OPEN: u32 = 4;
 
-/// The key isn't live.
+/// The key isn't live, or isn't in the side table.
 pub(crate) const NOT_LIVE: u32 = 5;
 
 /// The key isn't detached.

@@ -1,8 +1,9 @@
 //! The errors of the maps.
 //!
-//! A call that fails leaves the contents of the map unchanged. (`extend` of the secondary maps is
-//! the exception: it keeps what it put before memory ran out.) A value that was to be stored is
-//! returned in the error; a closure or a list is dropped. Each type is an `Error` with a short
+//! A call that fails leaves the contents of the map unchanged. (`extend` and `extend_refs` of the
+//! secondary maps keep what they put before memory ran out.) A value that was to be stored is returned
+//! in the error. A closure, a list, and the pairs that `from_iter` had put are dropped. An older key
+//! that a sparse entry removed stays removed. Each type is an `Error` with a short
 //! message, so `?` passes it on, to `anyhow` too.
 
 ghost use Rattle.std.specs.Prelude.{◌≡◌};

@@ -6,7 +6,7 @@
 /// A command to a primary map and a secondary map beside it.
 ///
 /// Each variant names its reply, a variant of [`JoinedReply`]. `look` is the closure that the run
-/// is given. The reply is `NoKey` or a variant of it if the number names no key.
+/// is given. If the number names no key, nothing changes, and the reply is `NoKey` or `NoKeySecond`.
 ///
 /// ```
 /// let mut map: SlotMap<DefaultKey, u64> = SlotMap::new(alloc)?;
@@ -23,8 +23,9 @@ pub enum JoinedCommand<V, W> {
     Insert(V),
     /// Removes this key from the primary map: `Taken`, or `NoKey`.
     Remove(usize),
-    /// Inserts the value under this key into the secondary map: `Old`; or `NoRoom` or
-    /// `NoKeySecond`, with the value.
+    /// Inserts the value under this key into the secondary map: `Old`; or `NoRoom` or `NoKeySecond`,
+    /// with the value. If the key is older than the map's key at its index, the value is dropped:
+    /// `Old(None)`.
     Put(usize, W),
     /// Looks at the value of this key in the secondary map: `Looked`, or `NoKey`.
     Look(usize),

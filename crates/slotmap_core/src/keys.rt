@@ -156,7 +156,7 @@ impl KeyData {
 /// Returns whether version `a` is older than version `b`, where versions of 32 bits wrap around.
 ///
 /// It is older if `(a - b) mod 2^32` is at least 2^31. So at a distance of exactly 2^31 each of the
-/// two is older than the other. Constant time.
+/// two is older than the other. Constant time. In Rust it is private.
 ///
 /// ```
 /// assert!(rt; is_older_version(1, 3));
@@ -207,7 +207,8 @@ impl fmt::Debug for KeyData {
 ///
 /// If each map has a key type of its own, the compiler rejects a key of another map. `DefaultKey`
 /// is the key type of a map that names no other. To make a key type, copy
-/// `crates/slotmap_list/src/cursor.rt`, whose imports are those of a crate above.
+/// `crates/slotmap_list/src/cursor.rt`, whose imports are those of a crate above. Rust has the macro
+/// `new_key_type!` for it.
 ///
 /// Every key type proves that it behaves as its data do:
 ///

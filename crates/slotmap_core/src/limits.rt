@@ -1,6 +1,6 @@
 //! The limits of a map's size.
 
-/// The largest number of live, detached and retired keys of one map.
+/// The largest number of live, detached and retired keys of one primary map.
 ///
 /// An index has 32 bits. Of the 2^32 indices, 0 is the sentinel's and 4294967295 is the null key's.
 pub const MOST_KEYS: usize = 4294967294;

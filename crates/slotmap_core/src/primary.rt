@@ -5,7 +5,8 @@
 //! - the live keys with their values, the detached keys and the retired keys
 //! - the version that the next key at each vacant index will have
 //! - the key that the next insert returns
-//! - for how many more keys there is room
+//! - the vacant indices, with the one freed last first, if the map reuses them so
+//! - for how many more keys there is room, and the capacity
 
 ghost use Rattle.std.specs.FinMap as map;
 ghost use Rattle.std.specs.Prelude.{◌≡◌, ◌↔◌, ◌+◌, ◌<◌, ◌≤◌, ◌++◌, IsTrue, IfOk, IfErr, IfNone, OnErr, OnOk, OnSome, IsOk, IsErr, IsSome, option_copied, Bool};
@@ -23,7 +24,7 @@ use std::alloc::Global;
 ///
 /// Each contract says, for every key, what the call changes. It also says when the call fails, and
 /// that the map then holds the same keys and values. A call on one key takes constant time, unless
-/// the vectors grow. The methods of each map say more about cost.
+/// the vectors grow. The methods of each map say more about cost. Rust lacks this trait.
 ///
 /// ```
 /// let mut map: SlotMap<DefaultKey, u64> = Primary::with_key(alloc)?;
@@ -179,8 +180,8 @@ pub trait Primary<K: Key, V>: Sized {
     /// Inserts the value that a closure returns for the new key, and returns the key.
     ///
     /// Room is made first. Then the closure is called once, with the key that the call returns. If
-    /// the closure fails, nothing changes, the error is returned in `Closure`, and the next insert
-    /// uses the same key. The other errors are those of `insert`; for these the closure isn't
+    /// the closure fails, the map holds what it held, and the error is returned in `Closure`. The next
+    /// insert uses the same key. The other errors are those of `insert`; for these the closure isn't
     /// called.
     ///
     /// ```
@@ -260,8 +261,8 @@ pub trait Primary<K: Key, V>: Sized {
     ///
     /// The next `additional` inserts and reattaches succeed. It fails with `TooGreat` if the live,
     /// detached and retired keys plus `additional` are more than 4294967294, and with `Memory` if
-    /// memory runs out. Then nothing changes but, perhaps, the capacity. If there is room already,
-    /// the call succeeds and nothing changes.
+    /// memory runs out. Then the map holds what it held; its room and its capacity may be greater. If
+    /// there is room already, the call succeeds and nothing changes.
     ///
     /// ```
     /// let mut map: SlotMap<DefaultKey, u64> = SlotMap::new(alloc)?;
@@ -332,8 +333,8 @@ pub trait Primary<K: Key, V>: Sized {
 
     /// Removes every live key, and appends the keys with their values to `out`.
     ///
-    /// Room for all pairs is allocated first. If that fails, neither the map nor the list changes.
-    /// At most linear in the number of slots.
+    /// Room for all pairs is allocated first. If that fails, neither the map nor `out` changes. At most
+    /// linear in the number of slots, and in the length of `out` if it has to grow.
     ///
     /// ```
     /// let mut map: SlotMap<DefaultKey, u64> = SlotMap::new(alloc)?;
@@ -356,8 +357,8 @@ pub trait Primary<K: Key, V>: Sized {
 
     /// Appends every live key to `out`.
     ///
-    /// Room for all keys is allocated first. If that fails, the list doesn't change. At most linear
-    /// in the number of slots.
+    /// Room for all keys is allocated first. If that fails, `out` doesn't change. At most linear in the
+    /// number of slots, and in the length of `out` if it has to grow.
     ///
     /// ```
     /// let mut map: SlotMap<DefaultKey, u64> = SlotMap::new(alloc)?;
@@ -377,7 +378,7 @@ pub trait Primary<K: Key, V>: Sized {
 /// A primary map whose keys can be detached.
 ///
 /// The value of a detached key is taken out, and its slot is kept until the key is bound to a value
-/// again. Such a map reuses the slot freed last first.
+/// again. Such a map reuses the slot freed last first. Rust lacks this trait.
 ///
 /// ```
 /// let mut map: SlotMap<DefaultKey, u64> = SlotMap::new(alloc)?;

@@ -153,7 +153,7 @@ impl<K: Key, V: Drop> DenseSlotMap<K, V> {
     ///
     /// If one of the keys isn't live, or two are equal, nothing changes, and the new values are
     /// returned as the error. It looks up each key and compares each two, and allocates nothing.
-    /// Its time doesn't depend on the size of the map.
+    /// Its time doesn't depend on the size of the map. Rust lacks this call.
     ///
     /// ```
     /// assert_eq!(rt; map.replace_disjoint([a, b], [5, 6]), Ok([1, 2]));
@@ -258,8 +258,8 @@ impl<K: Key, V: Drop> DenseSlotMap<K, V> {
         }
     }
 
-    /// Returns mutable references to the values of two keys that are live and not equal, with no
-    /// look-up.
+    /// Returns mutable references to the values of two keys that are live and not equal, without
+    /// checking their versions.
     ///
     /// The contract requires that the keys are live and not equal. So this call is safe; Rust's is
     /// `unsafe`. As at `get_disjoint_mut`, the contract doesn't say what the map holds once the

@@ -34,8 +34,8 @@ impl<K: Key, V: Drop> DenseSlotMap<K, V> {
 
     /// Appends every live key to `out`, in packed order.
     ///
-    /// Room for all keys is allocated first. If that fails, the list doesn't change. Linear in the
-    /// number of live keys. Rust lacks this call.
+    /// Room for all keys is allocated first. If that fails, `out` doesn't change. Linear in the number
+    /// of live keys, and in the length of `out` if it has to grow. Rust lacks this call.
     ///
     /// ```
     /// let mut keys = Vec::new(alloc);
@@ -58,8 +58,8 @@ impl<K: Key, V: Drop> DenseSlotMap<K, V> {
     /// the packed order.
     ///
     /// The keys are removed as `remove` does, and detached keys stay detached. Room for all pairs
-    /// is allocated first. If that fails, neither the map nor the list changes. Linear in the
-    /// number of live keys. Rust lacks this call.
+    /// is allocated first. If that fails, neither the map nor `out` changes. Linear in the number of
+    /// live keys, and in the length of `out` if it has to grow. Rust lacks this call.
     ///
     /// ```
     /// let mut pairs = Vec::new(alloc);

@@ -48,7 +48,7 @@ impl<K: Key, V: Clone> DenseSlotMap<K, V> {
     ///
     /// A key that this map returned earlier may then have another value, or be returned again. The
     /// copy is made before the old content is dropped. So if the call fails, as `clone` can, the
-    /// map stays as it was. Linear in the number of slots of the source.
+    /// map stays as it was. At most linear in the number of slots of both maps.
     ///
     /// ```
     /// let mut copy: DenseSlotMap<DefaultKey, u64> = DenseSlotMap::new(alloc)?;

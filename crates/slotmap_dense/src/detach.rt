@@ -44,7 +44,7 @@ impl<K: Key, V: Drop> DenseSlotMap<K, V> {
     /// The key and the value are appended to the packed order. If the key isn't detached, it fails
     /// with `NotDetached`; Rust panics. It fails with `Memory` if the lists of keys and values have
     /// to grow and memory runs out. The error holds the value, and the map holds what it held.
-    /// After a `reserve` it doesn't fail so, and the capacity stays. Constant time, unless the
+    /// If room was reserved, it doesn't fail with `Memory`, and the capacity stays. Constant time, unless the
     /// vectors grow.
     ///
     /// ```

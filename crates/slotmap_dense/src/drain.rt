@@ -74,7 +74,7 @@ impl<K: Key, V: Drop> DenseSlotMap<K, V> {
     ///
     /// Each key is removed when it is yielded, as `remove` does, and no other pair moves. Dropping
     /// the iterator early removes the remaining keys too. Detached keys stay detached. Each step
-    /// takes constant time.
+    /// takes constant time. Dropping it takes time linear in the number of keys that are left.
     ///
     /// ```
     /// let mut sum = 0;

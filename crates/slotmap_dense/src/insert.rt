@@ -136,7 +136,7 @@ impl<K: Key, V: Drop> DenseSlotMap<K, V> {
     ///
     /// It behaves as `insert_with_key`. If the closure fails, the map holds what it held, and the
     /// closure's error is returned in `Closure`. The next insert returns the key that the closure
-    /// was called with. Costs as `insert`.
+    /// was called with. Costs as `insert`. In Rust the closure's error alone is returned.
     ///
     /// ```
     /// let made: Result<DefaultKey, TryInsertError<u64>> = map.try_insert_with_key(|_| Err(7));

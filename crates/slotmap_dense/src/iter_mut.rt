@@ -14,7 +14,8 @@ use std::marker::PhantomData;
 use std::{fmt, slice};
 
 /// An iterator over the live keys and mutable references to their values, in packed order: see
-/// [`DenseSlotMap::iter_mut`].
+/// [`DenseSlotMap::iter_mut`]. `next` requires `IterMutCanStep`. `iter_mut` ensures it, and each step
+/// keeps it. A function that takes an `IterMut` as a parameter has to require it.
 #[derive(Drop)]
 pub struct IterMut<'a, K, V> {
     keys: slice::Iter<'a, K>,

@@ -125,7 +125,7 @@ fn make_room_in_slots(slots: &mut Slots<u32, Rows>, additional: usize) -> Result
 impl<V: Drop> DenseSlotMap<DefaultKey, V> {
     /// Makes an empty map with the default key type.
     ///
-    /// It allocates the sentinel's slot, and fails with `Memory` if memory runs out. Constant time,
+    /// It allocates slot 0, which no key uses, and fails with `Memory` if memory runs out. Constant time,
     /// the allocations aside.
     ///
     /// ```
@@ -169,7 +169,7 @@ impl<V: Drop> DenseSlotMap<DefaultKey, V> {
 impl<K: Key, V: Drop> DenseSlotMap<K, V> {
     /// Makes an empty map with any key type.
     ///
-    /// It allocates the sentinel's slot, and fails with `Memory` if memory runs out. Constant time,
+    /// It allocates slot 0, which no key uses, and fails with `Memory` if memory runs out. Constant time,
     /// the allocations aside.
     ///
     /// ```
@@ -257,7 +257,8 @@ impl<K: Key, V: Drop> DenseSlotMap<K, V> {
 
     /// Returns the number of keys for which memory is allocated.
     ///
-    /// It is the smallest capacity of the vectors of slots, keys and values. Constant time.
+    /// It is the smallest capacity of the vectors of slots (without slot 0), keys and values. The slots
+    /// of detached and retired keys count too. Constant time.
     ///
     /// ```
     /// let before = map.capacity();
@@ -320,7 +321,8 @@ impl<K: Key, V: Drop> DenseSlotMap<K, V> {
     }
 }
 
-/// Prints the pairs, each key before its value, as Rust's own maps do.
+/// Prints the pairs in the order of `iter`, each key before its value. In Rust the derived `Debug`
+/// prints the fields of the map.
 impl<K: Key, V: fmt::Debug> fmt::Debug for DenseSlotMap<K, V> {
     fn fmt<W: fmt::Write>(&self, f: &mut fmt::Formatter<W>) -> fmt::Result {
         f.debug_map().entries(self.iter()).finish()

@@ -90,8 +90,9 @@ impl<K: Key, V: Drop> DenseSlotMap<K, V> {
     ///   and an odd version.
     /// - `Memory`: memory runs out.
     ///
-    /// Three passes over the list. In Rust `Deserialize` reads such a list, and version 0 is that
-    /// of a vacant slot, so the versions of a slot wrap around.
+    /// Two passes over the list, and two over a list of positions of the same length. In Rust
+    /// `Deserialize` reads such a list, and version 0 is that of a vacant slot, so the versions of a
+    /// slot wrap around.
     ///
     /// ```
     /// let mut list = Vec::new(alloc);

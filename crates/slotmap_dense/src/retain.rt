@@ -1,4 +1,4 @@
-//! The calls that visit all live keys of a map.
+//! The call that visits all live keys of a map, in packed order, and keeps or removes each.
 
 ghost use Rattle.std.specs.Prelude.{◌≡◌, ◌<◌, ◌≤◌, ◌+◌, Some, map as list_map, length, slice_get};
 ghost use Rattle.slotmap_core.specs.Words.{Leaves, RetainsBy, CallableOnEach, Key as KeyOf};

@@ -17,9 +17,8 @@
 //! secondary maps: a `SecondaryMap` for a kind that most entities have, a `SparseSecondaryMap` for a
 //! rare one. A call names the kind that it is about by a type: [`First`], [`Second`] and so on, best
 //! under a name of your own. A call on one entity takes constant time, unless the map or a table grows.
-//! A step of a join may pass many entities. `clear` takes time linear in the number of entities and the
-//! sizes of the tables, `clone` in that of slots and these sizes, and `retain_components` in the size of
-//! one table. `reserve` takes time linear in the number of slots if the map grows, else constant time.
+//! A step of a join may pass many entities. `clear` takes time linear in the entities and the sizes of
+//! the tables, `clone` in the slots and these sizes, `retain_components` in the size of one table.
 //!
 //! ```
 //! type Position = First;

@@ -23,8 +23,8 @@ fn make<K: Key>(_key: K) -> Result<u64, OutOfMemory> {
     Err(OutOfMemory)
 }
 
-/// Runs the same commands on a new `SlotMap` and on a new `DenseSlotMap`. If they are inserts,
-/// removals, detaches and reattaches, and none fails, both return the same keys.
+/// Runs the same commands on a new `SlotMap` and on a new `DenseSlotMap`. If all
+/// are `Insert`, `Remove`, `Detach` or `Reattach`, and none fails, both return the same keys.
 pub fn run_on_both<K: Key>(
     alloc: Global,
     commands: Commands<K>,

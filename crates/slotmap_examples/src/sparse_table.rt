@@ -1,5 +1,5 @@
-//! A side table for few keys. Its clauses are those of the other one; it allocates only if nothing
-//! is at the key's index, and refuses nothing while there is room.
+//! A side table for few keys. Its clauses are those of the other one; an `insert` allocates only
+//! if nothing is at the key's index, and never fails while there is room.
 
 ghost use Rattle.std.specs.Prelude.{◌≡◌, ◌≢◌, ◌<◌, Some, true};
 ghost use Rattle.std.specs.FinMap as map;

@@ -6,7 +6,7 @@ ghost use Rattle.slotmap.specs.Words.{IsLive, IsSpent};
 
 use slotmap::{DefaultKey, InsertError, SlotMap};
 
-/// Takes a value out, and stores another one, for which the same slot is reused.
+/// Takes a value out, and stores another one, in the same slot unless that is retired.
 pub fn renew(
     store: &mut SlotMap<DefaultKey, u64>,
     key: DefaultKey,

@@ -50,7 +50,7 @@ pub fn look_for_put<M: Detaching<DefaultKey, u64> + Drop>(
     Some(seen)
 }
 
-/// A value that was replaced is the new one.
+/// After a `Replace` the key has the new value.
 pub fn take_replaced<M: Detaching<DefaultKey, u64> + Drop>(
     alloc: Global,
     key: DefaultKey,

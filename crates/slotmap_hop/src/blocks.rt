@@ -30,8 +30,8 @@ fn relink<V>(slots: &mut [Slot<V>], before: u32, after: u32, to: u32, from: u32)
     set_next(slots, before, to);
 }
 
-// The next four functions make the links of vacant slots ready for one more, which isn't vacant yet:
-// as soon as it gets the links that are returned, it has joined the blocks. So its links are written
+// The next four functions make the links of vacant slots ready for one more, which isn't vacant yet.
+// As soon as it gets the links that are returned, it has joined the blocks. So its links are written
 // after all others.
 
 // Neither neighbour is vacant: a new block, at the end of the list.

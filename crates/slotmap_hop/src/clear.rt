@@ -68,9 +68,9 @@ impl<K: Key, V: Drop> HopSlotMap<K, V> {
 
     /// Appends every live key to `out`, by ascending index.
     ///
-    /// Room for all keys is allocated first. If that fails, the list doesn't change. A block of
-    /// vacant slots is skipped in one step. At most linear in the number of slots. Rust lacks this
-    /// call.
+    /// Room for all keys is allocated first. If that fails, `out` doesn't change. A block of vacant
+    /// slots is skipped in one step. At most linear in the number of slots, and in the length of `out`
+    /// if it has to grow. Rust lacks this call.
     ///
     /// ```
     /// let mut keys = Vec::new(alloc);
@@ -94,8 +94,9 @@ impl<K: Key, V: Drop> HopSlotMap<K, V> {
     /// Removes every live key, and appends the keys with their values to `out`, by ascending index.
     ///
     /// The keys are removed as `remove` does. Room for all pairs is allocated first. If that fails,
-    /// neither the map nor the list changes. A block of vacant slots is skipped in one step. At
-    /// most linear in the number of slots. Rust lacks this call.
+    /// neither the map nor `out` changes. A block of vacant slots is skipped in one step. At most
+    /// linear in the number of slots, and in the length of `out` if it has to grow. Rust lacks this
+    /// call.
     ///
     /// ```
     /// let mut pairs = Vec::new(alloc);

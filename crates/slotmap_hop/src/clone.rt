@@ -77,7 +77,7 @@ impl<K: Key, V: Clone> HopSlotMap<K, V> {
     ///
     /// A key that this map returned earlier may then have another value, or be returned again. The
     /// copy is made before the old content is dropped. So if the call fails, the map is unchanged.
-    /// Linear in the number of slots of the source.
+    /// At most linear in the number of slots of both maps.
     ///
     /// ```
     /// let mut copy: HopSlotMap<DefaultKey, u64> = HopSlotMap::new(alloc)?;
@@ -103,7 +103,8 @@ impl<K: Key, V: Clone> HopSlotMap<K, V> {
     }
 }
 
-/// By the method `clone`, for what is generic over clones, as a derived `Clone` of a struct.
+/// Calls the method `clone`. It is for code that is generic over `Clone`, such as the derived `Clone`
+/// of a struct.
 impl<K: Key, V: Clone> Clone for HopSlotMap<K, V> {
     ghost is_clone = { λ m copy. IsCloneBy V.is_clone m.content copy.content × (copy.blocks ≡ m.blocks) × IsHopContent copy };
 

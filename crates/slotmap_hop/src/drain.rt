@@ -13,7 +13,8 @@ use std::iter::FusedIterator;
 /// An iterator that takes the pairs out of a map, by ascending index.
 ///
 /// `HopSlotMap::drain` makes it. Dropping it removes the keys that it hasn't yielded. So no key of
-/// the map is live then.
+/// the map is live then. `next` requires `HopDrainCanStep`. `drain` ensures it, and each step keeps it.
+/// A function that takes a `Drain` as a parameter has to require it.
 pub struct Drain<'a, K: Key, V> {
     map: &'a mut HopSlotMap<K, V>,
     // The key that comes next.

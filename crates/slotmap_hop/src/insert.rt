@@ -27,7 +27,7 @@ impl<K: Key, V: Drop> HopSlotMap<K, V> {
         KeyData::exact(self.slots.len() as u32, 1)
     }
 
-    // Whether the next insert allocates nothing.
+    // Whether there is room for one more key.
     #[inline(always)]
     fn has_room(&self) -> bool
         ensures room { IsTrue result → 0 < self.now.content.room }
@@ -167,7 +167,7 @@ impl<K: Key, V: Drop> HopSlotMap<K, V> {
     ///
     /// It behaves as `insert_with_key`. If the closure fails, the map holds what it held, and the
     /// closure's error is returned in `Closure`. The next insert returns the key that the closure
-    /// was called with. Costs as `insert`.
+    /// was called with. Costs as `insert`. In Rust the closure's error alone is returned.
     ///
     /// ```
     /// let made: Result<DefaultKey, TryInsertError<u64>> = map.try_insert_with_key(|_| Err(7));

@@ -94,7 +94,7 @@ impl<K, V: Clone> IntoIter<K, V> {
     }
 }
 
-/// By the method `clone`, for what is generic over clones.
+/// Calls the method `clone`. It is for code that is generic over `Clone`.
 impl<K, V: Clone> Clone for IntoIter<K, V> {
     ghost is_clone = { λ it copy. AreClones V.is_clone it copy };
 

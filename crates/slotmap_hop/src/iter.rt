@@ -45,7 +45,7 @@ impl<'a, K, V> Model for Iter<'a, K, V> {
     ghost invariant = { λ it. IsIter it.counted.slots it.counted.reads it.counted.index it.left };
 }
 
-// Goes to the next live slot from the place on, and returns it. All iterators find their slots here.
+// Goes to the next live slot from the place on, and returns it. All iterators but `Drain` find their slots here.
 // Since there is one, no place is compared with the end. Unless a slot is retired, the loop ends in
 // its first round.
 pub(crate) fn next_live<'a, V>(counted: &mut CountedSlots<'a, V>) -> &'a Slot<V>
@@ -97,7 +97,7 @@ impl<'a, K, V> Iter<'a, K, V> {
         self.left
     }
 
-    /// Returns how many slots `next` has read since the iterator was made.
+    /// Returns how many slots `next` has read. A clone goes on from the count of its original.
     ///
     /// Constant time. Rust lacks this call.
     ///
@@ -225,7 +225,7 @@ impl<'a, K, V> Keys<'a, K, V> {
         self.pairs.len()
     }
 
-    /// Returns how many slots `next` has read since the iterator was made.
+    /// Returns how many slots `next` has read. A clone goes on from the count of its original.
     ///
     /// Constant time. Rust lacks this call.
     ///
@@ -324,7 +324,7 @@ impl<'a, K, V> Values<'a, K, V> {
         self.pairs.len()
     }
 
-    /// Returns how many slots `next` has read since the iterator was made.
+    /// Returns how many slots `next` has read. A clone goes on from the count of its original.
     ///
     /// Constant time. Rust lacks this call.
     ///

@@ -63,7 +63,8 @@ use std::marker::{Model, PhantomData};
 /// a map read from a list start anew. At most 4294967294 keys can be live or retired.
 ///
 /// Neighbouring vacant slots form a block, and the blocks form a list. An insert uses the last slot
-/// of the first block in the list. A removal adds its slot to the blocks beside it. If there is
+/// of the first block in the list, or of the block of slot 0 if the list is empty. A removal adds its
+/// slot to the blocks beside it. If there is
 /// none, it appends a new block to the list. An iterator skips a block in one step.
 ///
 /// ```
@@ -108,7 +109,7 @@ impl<K, V> HopSlotMap<K, V> {
 impl<V: Drop> HopSlotMap<DefaultKey, V> {
     /// Makes an empty map with the default key type.
     ///
-    /// It allocates the sentinel's slot, and fails with `Memory` if memory runs out. Constant time,
+    /// It allocates slot 0, which no key uses, and fails with `Memory` if memory runs out. Constant time,
     /// the allocations aside.
     ///
     /// ```
@@ -150,7 +151,7 @@ impl<V: Drop> HopSlotMap<DefaultKey, V> {
 impl<K: Key, V: Drop> HopSlotMap<K, V> {
     /// Makes an empty map with any key type.
     ///
-    /// It allocates the sentinel's slot, and fails with `Memory` if memory runs out. Constant time,
+    /// It allocates slot 0, which no key uses, and fails with `Memory` if memory runs out. Constant time,
     /// the allocations aside.
     ///
     /// ```
@@ -230,9 +231,10 @@ impl<K: Key, V: Drop> HopSlotMap<K, V> {
         self.len() == 0
     }
 
-    /// Returns the number of slots for which memory is allocated.
+    /// Returns for how many slots memory is allocated, without slot 0.
     ///
-    /// It counts the slots of live, vacant and retired keys together. Constant time.
+    /// The slots of live and retired keys count, as do vacant slots and those that aren't made yet.
+    /// Constant time.
     ///
     /// ```
     /// let before = map.capacity();
@@ -312,7 +314,8 @@ impl<K: Key, V: Drop> HopSlotMap<K, V> {
     }
 }
 
-/// Prints the pairs, each key before its value, as Rust's own maps do.
+/// Prints the pairs in the order of `iter`, each key before its value. In Rust the derived `Debug`
+/// prints the fields of the map.
 impl<K: Key, V: fmt::Debug> fmt::Debug for HopSlotMap<K, V> {
     fn fmt<W: fmt::Write>(&self, f: &mut fmt::Formatter<W>) -> fmt::Result {
         f.debug_map().entries(self.iter()).finish()

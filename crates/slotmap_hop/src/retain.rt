@@ -34,8 +34,9 @@ impl<K: Key, V: Drop> HopSlotMap<K, V> {
         while let Some(index) = next {
             let key = self.key_at(index);
             let stays = f(key, self.get_unchecked_mut(key));
-            // The slot after this one is looked for before a removal, which may join blocks. From the
-            // key its index would wait for the version, which a key is packed with. Each branch has
+            // The slot after this one is looked for before a removal, which may join blocks. The index
+            // comes from the search: taken from the key, it would wait for the version, with which it is
+            // packed. Each branch has
             // its own search: so after a key that stays, what was found is tested once.
             if stays {
                 next = self.first_place(index + 1);

@@ -35,7 +35,8 @@ pub fn key_to_value<K: Key>(alloc: Global, key: K) -> Result<Value, OutOfMemory>
 
 /// Reads a key from JSON.
 ///
-/// The members `idx` and `version` must be whole numbers from 0 to 4294967295; if not, the call
+/// The members `idx` and `version` must be whole numbers from 0 to 4294967295, written without a
+/// point or an exponent; if not, the call
 /// fails with `JsonError::Shape`. Other members are ignored. The key is that of `KeyData::new`: an
 /// even version is raised to the next odd one, and the index 4294967295 gives the null key. The
 /// call allocates nothing. It costs two look-ups among the members.
@@ -68,7 +69,7 @@ fn u32_member(value: &Value, name: &str) -> Option<u32>
 /// into null is read back as no value.
 ///
 /// It fails with `OutOfMemory` if memory runs out or `f` fails; an empty list never fails. `f` is
-/// called once for each value.
+/// called at most once for each value, in order.
 ///
 /// ```
 /// let list = [
@@ -159,7 +160,8 @@ where
 
 /// Reads the record of a slot from JSON, with `g` for its value.
 ///
-/// - `version` is read first: a whole number from 0 to 4294967295, or the call fails with `Shape`.
+/// - `version` is read first: a whole number from 0 to 4294967295, written without a point or an
+///   exponent, or the call fails with `Shape`.
 /// - A `value` that is null or absent is no value. Any other is read by `g`, and may fail as `g`
 ///   does.
 /// - Other members are ignored.

@@ -14,9 +14,8 @@
 //!
 //! A call takes constant time, with these exceptions:
 //!
-//! - `to_vec`, `retain` and `clear` take time linear in the number of elements, and so does dropping a
-//!   `Drain` in that of those left. `extend` and `from_iter` take it in the number of values that they
-//!   add, and `append` in that of the other list's elements.
+//! - `to_vec`, `retain`, `clear` and dropping a `Drain` take time linear in the elements that are there.
+//!   `extend` and `from_iter` take it in the values added, and `append` in the other list's elements.
 //! - `clone`, `with_capacity` and `with_capacity_and_key` take time linear in the capacity.
 //! - A push or an insert may have to grow the vectors of the list, and takes constant time on average.
 //!

@@ -48,8 +48,9 @@ fn hold_files<R: AllocGlobal + Env + Files>(
     Ok(is_well)
 }
 
-/// A row program: its status is 1 where a result differs, and 3 where a file can't be read, the
-/// output can't be written or memory runs out twice.
+/// A row program: its status is 1 where a result differs, as it does where memory runs out twice for a
+/// call. It is 3 where a file can't be read, the output can't be written, or memory runs out for the
+/// program's own work or twice for the maps of a row.
 pub fn run_program<R: AllocGlobal + Env + Files>(
     rt: &R,
     kinds: &impl Kinds,

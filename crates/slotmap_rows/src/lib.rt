@@ -32,8 +32,9 @@
 //!
 //! A call that runs out of memory is made once more, since it must change nothing. No
 //! value may be lost or left over by it, but for a displaced pair, and the second call must have the result of the row. So a
-//! program prints the same whichever of its allocations fails, but for the number of calls made
-//! twice. Where no allocation fails it is 0.
+//! program prints the same if one request of a call is refused, but for the number of calls made
+//! twice. Where no allocation fails it is 0. If memory for the program's own work runs out, it ends
+//! with status 3.
 #![tactic(auto)]
 
 mod call;

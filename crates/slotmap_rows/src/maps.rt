@@ -1,4 +1,4 @@
-//! What both row programs do with their maps.
+//! What `primary_rows` and `secondary_rows` do with their maps.
 
 use crate::number::{Number, Supply};
 use crate::stop::Stop;

@@ -117,7 +117,7 @@ where
 /// secondary map, by its `insert`, `get` and `remove`. So each command is a step of one of the two
 /// maps' machines, or of none.
 ///
-/// Take a primary map that never had a slot, an empty secondary map and fewer than 2^31 commands.
+/// Take a primary map that has no slot but slot 0, an empty secondary map and fewer than 2^31 commands.
 /// Then the replies for live and detached keys are those of a plain dictionary, which knows nothing
 /// of versions and indices. For each such key it holds the value that was last put under exactly
 /// that key, and not taken since. `Look` shows that value, `Take` returns it, and `Put` returns the

@@ -188,7 +188,8 @@ where
 ///
 /// So what was put is what is got: each reply agrees with what the commands before it and their
 /// replies tell of its key. Fewer than 2^32 commands retire no slot. For these, no index exceeds the
-/// largest number of keys that were live or detached at one moment, counted from the replies.
+/// largest number of keys that were live or detached at one moment. Where that is counted from the
+/// replies, the keys that a `Retain` removed still count.
 ///
 /// The closures are those of [`run`]. Memory for the replies is allocated first, then the map is
 /// made. If either fails no command is run, and the error holds the commands. After that all
@@ -293,7 +294,7 @@ where
 /// The replies and the content are a run of one machine, as [`run_detaching_new`] says, from every
 /// state of the machine that fits the map. The state at the end fits the map again. So several runs
 /// on one map count as one run, even if each has its own closures, and the laws hold of all their
-/// lists together. No insert returns a detached key, which stays free to be reattached.
+/// lists together. No insert returns a detached key, which can still be reattached.
 ///
 /// The closures, the allocations, the failures and the cost are those of
 /// [`run`].
@@ -366,10 +367,10 @@ where
 ///
 /// For every list of commands, with any keys, the replies and the content are a run of one machine
 /// over live and detached keys, as [`run_new`] says. No insert returns a
-/// detached key, which stays free to be reattached.
+/// detached key, which can still be reattached.
 ///
-/// If the commands only insert, remove, detach and reattach, and none fails, inserts reuse the slot
-/// that was freed last. So all maps of the trait `Detaching` return the same keys.
+/// If all commands are `Insert`, `Remove`, `Detach` or `Reattach`, and no reply is `Full` or `Memory`,
+/// inserts reuse the slot that was freed last. So all maps of the trait `Detaching` return the same keys.
 ///
 /// The closures, the allocations, the failures and the cost are those of `run_new`.
 ///

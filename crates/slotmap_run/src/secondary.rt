@@ -85,8 +85,9 @@ where
         IfOk result (λ replies. Run (SideStep what)
         (S.pairs map.old) commands.items replies.items (S.pairs map.new)) }
 
-    // If `look` always returns what f returns, each other map that held the same returns the same
-    // replies, whatever closure tells f there, and if no allocation fails.
+    // If `look` always returns what f returns, this is a run of the machine that shows f. Any other run
+    // from the same pairs that shows f gives the same replies and leaves the same pairs, if no
+    // allocation fails.
     ensures run_seen { let what = given_secondary K.data_of L.Fn look in
         IfOk result (λ replies. (f : V → R) → Shows what.looks f →
         Run (SideStep (seen_by K.data_of f))

@@ -28,11 +28,11 @@ pub trait Listed: Sized {
     // The lists that it may be written as, the map that a list may be read as, and why a list isn't read.
     ghost lists: { SlotLists Self } = { record { writes = λ _ _. ⊤; reads = λ _ _. ⊤; refuses = λ _ _. ⊤ } };
 
-    /// The map as a list of slots.
+    /// The map as a list of slots. It fails only if memory runs out.
     fn to_slots(&self) -> Result<Vec<SlotRecord<i32>>, OutOfMemory>
         ensures { IfOk result (λ slots. lists.writes self.now slots.items) };
 
-    /// The map that a list of slots describes.
+    /// The map that a list of slots describes. [`SlotsError`] says why it fails.
     fn from_slots(alloc: Global, list: Vec<SlotRecord<i32>>) -> Result<Self, SlotsError>
         ensures reads { IfOk result (λ made. lists.reads list.items made) }
         ensures err { IfErr result (lists.refuses list.items) };
@@ -77,13 +77,15 @@ impl Listed for HopSlotMap<DefaultKey, i32> {
 /// Why a map isn't read from a text.
 #[derive(Drop)]
 pub enum LoadError {
-    /// The text is not JSON, or not that of a list of slots with values of 32 bits.
+    /// The text isn't JSON, or isn't a list of slots with values of 32 bits; or memory ran out while it
+    /// was read.
     Json(JsonError),
-    /// No map is written as this list.
+    /// The list isn't read as a map: [`SlotsError`] says why.
     Slots(SlotsError),
 }
 
-/// Writes a map's list of slots as a line of compact JSON, record by record.
+/// Writes a map's list of slots as a line of compact JSON, record by record, or `memory` if there is no
+/// memory for the list. It fails only if the output can't be written.
 pub fn write_slots<M: Listed, W: Write>(map: &M, output: &mut W) -> io::Result<()>
     ensures { OnOk result ((text : List ℕ) × PrintsSlots M.lists map.now text
         × Appends (W.contents output.old) (W.contents output.new) text) }
@@ -118,8 +120,9 @@ fn write_slot<W: Write>(output: &mut W, slot: &SlotRecord<i32>) -> io::Result<()
     }
 }
 
-/// Replaces the map by the one that the text describes, and writes `done`. If that fails, the map
-/// stays and the reason is written.
+/// Replaces the map by the one that the text describes, and writes `done`. If no map is read, the old
+/// one stays, and the reason is written. It fails only if the output can't be written; the map may be
+/// the new one then.
 pub fn load<M: Listed + Drop, W: Write>(
     alloc: Global,
     map: &mut M,

@@ -14,7 +14,7 @@ use std::io::Write;
 /// A reply to a line.
 pub type LineReply = Reply<DefaultKey, i32, i32, OutOfMemory>;
 
-/// Writes replies, each as a line of its own.
+/// Writes replies, each that a line can lead to as a line of its own.
 pub fn write_replies<W: Write>(output: &mut W, replies: Vec<LineReply>) -> io::Result<()>
     ensures { OnOk result ((text : List ℕ) × PrintsReplies replies.items text
         × Appends (W.contents output.old) (W.contents output.new) text) }
@@ -26,8 +26,8 @@ pub fn write_replies<W: Write>(output: &mut W, replies: Vec<LineReply>) -> io::R
     Ok(())
 }
 
-/// Writes a reply as a line of its own. Keys are written by ascending index; `reply` is sorted in
-/// place for that.
+/// Writes a reply as a line of its own, and nothing for a reply that no line of a script leads to.
+/// Keys are written by ascending index; `reply` is sorted in place for that.
 pub fn write_reply<W: Write>(output: &mut W, reply: &mut LineReply) -> io::Result<()>
     ensures { OnOk result ((text : List ℕ) × IsReplyText reply.old text
         × Appends (W.contents output.old) (W.contents output.new) text) }

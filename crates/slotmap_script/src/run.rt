@@ -147,7 +147,9 @@ fn run_hop<R: Read, W: Write>(alloc: Global, input: &mut R, output: &mut W) -> R
     run_on::<HopSlotMap<DefaultKey, i32>, Plain, R, W>(alloc, input, output)
 }
 
-/// Parses all lines of a script, and runs it on a new map.
+/// Parses all lines of a script, and runs it on a new map. It fails with `NoScript` if the input can't be
+/// read or memory runs out, with `BadLine` if a line is wrong, and with `Output` if the output can't be
+/// written.
 pub fn run_on<M, C, R, W>(alloc: Global, input: &mut R, output: &mut W) -> Result<(), Stop>
 where
     M: Primary<DefaultKey, i32> + Listed + Drop,
@@ -171,8 +173,9 @@ where
     run_stretches(alloc, map, stretches, output)
 }
 
-/// Runs the stretches of a script on a map, one after another, and writes the replies. It stops at
-/// the first for whose replies there is no memory.
+/// Runs the stretches of a script on a map, one after another, and writes the replies. It stops
+/// with `NoScript` at the first for whose replies there is no memory, and with `Output` if the output
+/// can't be written.
 pub fn run_stretches<M, C, W>(
     alloc: Global,
     map: M,

@@ -11,7 +11,9 @@ use std::mem;
 /// Commands for one run, and what follows them.
 #[derive(Drop)]
 pub struct Stretch<'a, C> {
+    /// The commands, in order.
     pub commands: Vec<C>,
+    /// What follows them.
     pub end: End<'a>,
 }
 
@@ -33,7 +35,8 @@ enum Line<'a, C> {
     End(End<'a>),
 }
 
-/// Parses every line of a script. The last line may lack its line feed.
+/// Parses every line of a script. The last line may lack its line feed. It fails with `BadLine` at the
+/// first line that isn't one of these commands, and with `NoScript` if memory runs out.
 pub fn parse<'a, M, C: Commands<M>>(
     alloc: Global,
     script: &'a [u8],

@@ -1,7 +1,8 @@
 //! `SecondaryMap`: values under the keys of another map, in one vector.
 //!
-//! Clauses see a map as its content: for each index at most one version with its value (`Pairs` in
-//! `slotmap_core`); the number of slots; and the largest index for which there is memory.
+//! Clauses see a map as its content. It has for each index at most one version with its value (`Pairs`
+//! in `slotmap_core`). It also has the number of slots, and the largest index for which there is
+//! memory.
 //!
 //! Names of clauses: `value` is what a look-up or a removal returns. `ok` is what a success did.
 //! `err` is why a call fails and what its error holds. `unchanged` is what a failure leaves.
@@ -60,6 +61,7 @@ use std::marker::{Model, PhantomData};
 ///   under a removed key is never found under the next key of that slot. This holds in any run of
 ///   commands on both maps; `clone_from` and a map read from a list start anew.
 /// - Versions wrap around: of two versions more than 2147483648 apart, the larger one is the older.
+///   If they are exactly that far apart, the key in the map stays.
 /// - Index 0, which no primary map hands out, is an index like any other here.
 ///
 /// It has a slot for each index from 0 to the largest one that a key was inserted at, or that had a
@@ -96,7 +98,8 @@ impl<K, V> Model for SecondaryMap<K, V> {
     ghost invariant = { λ m. IsSound m.slots.items m.len };
 }
 
-/// Prints the pairs, each key before its value, as Rust's own maps do.
+/// Prints the pairs in the order of `iter`, each key before its value. In Rust the derived `Debug`
+/// prints the fields of the map.
 impl<K: Key, V: fmt::Debug> fmt::Debug for SecondaryMap<K, V> {
     fn fmt<W: fmt::Write>(&self, f: &mut fmt::Formatter<W>) -> fmt::Result {
         f.debug_map().entries(self.iter()).finish()

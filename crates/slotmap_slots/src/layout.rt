@@ -38,7 +38,7 @@ pub trait Layout<P>: Sized {
     // The same slots with another payload at an index.
     ghost with_payload_at: { Self → ℕ → P → Self };
 
-    /// Makes an empty list with room for `count` slots.
+    /// Makes an empty list with room for `count` slots. Fails if memory runs out.
     fn with_capacity(alloc: Global, count: usize) -> Result<Self, AllocError>
         requires { count < 2 ^ 32 }
         ensures none { IfOk result (λ made. slots made ≡ []) }
@@ -56,7 +56,7 @@ pub trait Layout<P>: Sized {
         ensures value { result ≡ fits self.now }
         ensures limit { result < 2 ^ 32 };
 
-    /// Makes room for `additional` more slots.
+    /// Makes room for `additional` more slots. Fails if memory runs out.
     fn reserve(&mut self, additional: usize) -> Result<(), AllocError>
         requires { length (slots self.old) + additional < 2 ^ 32 }
         ensures room { OnOk result (length (slots self.old) + additional ≤ fits self.new) }
@@ -128,7 +128,8 @@ pub trait Layout<P>: Sized {
 
 /// A layout whose slots can be copied.
 pub trait CopyLayout<P: Clone>: Layout<P> {
-    /// Returns a copy of the slots, with clones of the payloads.
+    /// Returns a copy of the slots, with clones of the payloads. Fails if memory runs out or the clone
+    /// of a payload fails.
     fn copy(&self) -> Result<Self, AllocError>
         requires few { length (Self.slots self.now) < 2 ^ 32 }
         ensures clones { IfOk result (λ copy. AreSlotClones P.is_clone (Self.slots self.now) (Self.slots copy)) }

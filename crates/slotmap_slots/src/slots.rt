@@ -51,7 +51,8 @@ impl<P, L: Layout<P>> Model for Slots<P, L> {
 }
 
 impl<P: Drop, L: Layout<P> + Drop> Slots<P, L> {
-    /// Makes slots with no key, with room for `capacity` keys.
+    /// Makes slots with no key, with room for `capacity` keys. Fails with `TooGreat` beyond 4294967294
+    /// keys, and with `Memory` if memory runs out.
     pub fn with_capacity(alloc: Global, capacity: usize) -> Result<Self, ReserveError>
         ensures starts { IfOk result IsNew }
         ensures stack { IfOk result (λ made. made.stack ≡ Some []) }
@@ -107,7 +108,7 @@ impl<P, L: Layout<P>> Slots<P, L> {
         self.layout
     }
 
-    /// Returns the number of slots for which memory is allocated.
+    /// Returns for how many slots memory is allocated, without the sentinel.
     pub fn capacity(&self) -> usize
         ensures value { result ≡ self.now.capacity }
         ensures valid { IsContent true self.now }
@@ -133,7 +134,8 @@ impl<P, L: Layout<P>> Slots<P, L> {
         self.used_count as usize
     }
 
-    /// Makes room for `additional` more keys.
+    /// Makes room for `additional` more keys. Fails with `TooGreat` beyond 4294967294 keys, and with
+    /// `Memory` if memory runs out.
     #[inline(never)]
     pub fn reserve(&mut self, additional: usize) -> Result<(), ReserveError>
         ensures makes_room { MakesRoom true self.old additional (IsOk result) self.new }
@@ -151,7 +153,7 @@ impl<P, L: Layout<P>> Slots<P, L> {
         Ok(())
     }
 
-    /// Returns whether the next insert allocates nothing.
+    /// Returns whether there is room for one more key.
     #[inline(always)]
     pub fn has_room(&self) -> bool
         ensures room { IsTrue result → 0 < self.now.room }
@@ -160,7 +162,8 @@ impl<P, L: Layout<P>> Slots<P, L> {
         self.first_vacant != 0 || self.layout.len() < self.layout.capacity()
     }
 
-    /// Makes room for one more key.
+    /// Makes room for one more key. Fails with `TooGreat` beyond 4294967294 keys, and with `Memory` if
+    /// memory runs out.
     #[inline(always)]
     pub fn make_room(&mut self) -> Result<(), ReserveError>
         ensures makes_room { MakesRoom true self.old 1 (IsOk result) self.new }

@@ -18,7 +18,7 @@ impl<K: Key, V: Clone, S: BuildHasher + Clone> SparseSecondaryMap<K, V, S> {
     ///
     /// If an allocation fails, or the clone of a value does, there is no copy, and what was copied
     /// by then is dropped. It also fails if the clone of the hasher hashes in another way. Takes
-    /// time linear in the number of keys. The copy has memory for its keys, and maybe for no more.
+    /// time linear in the capacity. The copy has memory for its keys, and maybe for no more.
     ///
     /// ```
     /// let mut copy = map.clone()?;
@@ -44,7 +44,7 @@ impl<K: Key, V: Clone, S: BuildHasher + Clone> SparseSecondaryMap<K, V, S> {
     /// held.
     ///
     /// If it fails, nothing changes. The copy is made first, so for a while there are both. Takes
-    /// time linear in the number of the source's keys.
+    /// time at most linear in the source's capacity and in the number of this map's keys.
     ///
     /// ```
     /// let mut copy: SparseSecondaryMap<DefaultKey, u64> = SparseSecondaryMap::new(alloc)?;
@@ -67,7 +67,8 @@ impl<K: Key, V: Clone, S: BuildHasher + Clone> SparseSecondaryMap<K, V, S> {
     }
 }
 
-/// By the method `clone`, for what is generic over clones, as a derived `Clone` of a struct.
+/// Calls the method `clone`. It is for code that is generic over `Clone`, such as the derived `Clone`
+/// of a struct.
 impl<K: Key, V: Clone, S: BuildHasher + Clone> Clone for SparseSecondaryMap<K, V, S> {
     ghost is_clone = { λ m copy. HasClones V.is_clone m.pairs copy.pairs × IsSparseContent copy };
 

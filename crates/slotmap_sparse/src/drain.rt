@@ -71,7 +71,8 @@ impl<K: Key, V: Drop, S: BuildHasher + Drop> SparseSecondaryMap<K, V, S> {
     /// Returns an iterator that removes the keys and yields them with their values, in any order.
     ///
     /// The iterator may be dropped at any step. Then the keys that are left are removed too, so the
-    /// map is empty. The map keeps its memory. Each step takes constant time.
+    /// map is empty. The map keeps its memory. Each step takes constant time. Dropping it
+    /// takes time linear in the capacity.
     ///
     /// ```
     /// for (key, value) in map.drain() {

@@ -19,8 +19,8 @@ use std::{fmt, mem};
 
 /// The entry of a key: occupied if the key is in the map, vacant if it can be inserted.
 ///
-/// [`SparseSecondaryMap::entry`] and [`SparseSecondaryMap::try_entry`] return it. The contracts of
-/// its calls require `IsSparseInPlace`, which these two ensure.
+/// [`SparseSecondaryMap::entry`] and [`SparseSecondaryMap::try_entry`] return it. The contract of
+/// each of its calls but `key` requires `IsSparseInPlace`, which these two ensure.
 #[derive(Drop)]
 pub enum Entry<'a, K, V, S: BuildHasher = DefaultHasher> {
     /// The key is in the map.
@@ -156,7 +156,8 @@ impl<'a, K: Key, V: Drop, S: BuildHasher + Drop> Entry<'a, K, V, S> {
     ///
     /// The reference is valid for as long as the map is borrowed. It allocates only if the key has
     /// no value. If the allocation fails, the error holds `value`, and the map is as the entry left
-    /// it. Takes constant time, except if the keys move.
+    /// it. Takes constant time, except if the table grows or is built anew. In Rust it returns the
+    /// reference, not a `Result`.
     ///
     /// ```
     /// *map.try_entry(a)?.or_insert(7)? = 5;
@@ -243,7 +244,8 @@ impl<'a, K: Key, V: Drop, S: BuildHasher + Drop> VacantEntry<'a, K, V, S> {
     /// Inserts the value and returns a mutable reference to it.
     ///
     /// If the allocation fails, the error holds the value, and the map is as the entry left it.
-    /// Takes constant time, except if the keys move.
+    /// Takes constant time, except if the table grows or is built anew. In Rust it returns the
+    /// reference, not a `Result`.
     ///
     /// ```
     /// if let sparse_secondary::Entry::Vacant(entry) = map.try_entry(b)? {

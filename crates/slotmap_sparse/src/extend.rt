@@ -15,7 +15,7 @@ impl<K: Key, V: Drop, S: BuildHasher + Drop> SparseSecondaryMap<K, V, S> {
     /// Inserts each pair of an iterator, in its order, as `insert` does.
     ///
     /// A pair whose key is null, or older than the key at its index, is dropped. If an allocation
-    /// fails, the error holds the pair that it was for. The pairs before it are then in the map,
+    /// fails, the error holds the pair that it was for. The pairs before it have been inserted then,
     /// and the rest of the iterator is dropped. It never fails while the map holds fewer keys than
     /// `capacity()` was before. The iterator has to end. Each pair costs what `insert` does. In
     /// Rust this is the trait `Extend`.
@@ -89,8 +89,9 @@ impl<K: Key, V: Drop, S: BuildHasher + Drop> SparseSecondaryMap<K, V, S> {
     /// Makes a map with this hasher of the pairs of an iterator, inserted in its order as by
     /// `extend`.
     ///
-    /// If an allocation fails there is no map, and the error holds the pair that it was for. The
-    /// iterator has to end. Costs as `extend`. In Rust this is `FromIterator`, for a hasher that
+    /// If an allocation fails there is no map: the pairs before the fault and the rest of the iterator
+    /// are dropped. The error is `Some`, with the pair that memory ran out for. The iterator has to end.
+    /// Costs as `extend`. In Rust this is `FromIterator`, for a hasher that
     /// has a default.
     ///
     /// If strangers choose the keys, use a `RandomState`.
@@ -128,8 +129,9 @@ impl<K: Key, V: Drop> SparseSecondaryMap<K, V> {
     /// Makes a map with the default hasher of the pairs of an iterator, inserted in its order as by
     /// `extend`.
     ///
-    /// If an allocation fails there is no map, and the error holds the pair that it was for. The
-    /// iterator has to end. Costs as `extend`. In Rust this is `FromIterator`. If strangers choose
+    /// If an allocation fails there is no map: the pairs before the fault and the rest of the iterator
+    /// are dropped. The error is `Some`, with the pair that memory ran out for. The iterator has to end.
+    /// Costs as `extend`. In Rust this is `FromIterator`. If strangers choose
     /// the keys, call [`SparseSecondaryMap::from_iter_with_hasher`]: the default hasher's seed is
     /// fixed and public.
     ///

@@ -76,7 +76,7 @@ impl<K: Key, V: Drop, S: BuildHasher + Drop> SparseSecondaryMap<K, V, S> {
     ///
     /// If the allocation fails, the map holds what it held and the error holds the value; Rust
     /// aborts. A call allocates only if nothing is at the key's index, and never fails while the
-    /// map holds fewer keys than `capacity()`. Takes constant time, except if the keys move.
+    /// map holds fewer keys than `capacity()`. Takes constant time, except if the table grows or is built anew.
     ///
     /// ```
     /// assert_eq!(rt; map.insert(a, 5)?, Some(1));
@@ -125,8 +125,8 @@ impl<K: Key, V: Drop, S: BuildHasher + Drop> SparseSecondaryMap<K, V, S> {
     /// - `Placed`: the value was inserted, as by `insert`.
     /// - `Kept`: the key has a value already.
     /// - `NoEntry`: `entry` would return `None`.
-    /// - `Memory`: the allocation failed. A call allocates only if nothing is at the key's index.
-    ///   So an older key stays in the map, which `entry` would have removed.
+    /// - `Memory`: the allocation failed. A call allocates only if nothing is at the key's index, so
+    ///   it can't fail where an older key is. There `entry` removes the older key before it inserts.
     ///
     /// Only `Placed` changes what the map holds. It costs what `insert` does. Rust lacks this call.
     ///

@@ -51,7 +51,7 @@ use std::fmt;
 use std::hash::{BuildHasher, BuildHasherDefault, FoldHasher};
 use std::marker::{Model, PhantomData};
 
-/// The hasher of a map that names no other.
+/// The hasher of a map that names no other. In Rust the default is `RandomState`.
 ///
 /// Its seed is fixed and public. Whoever chooses the keys can choose many whose hashes collide, and
 /// then each call takes time linear in their number. If strangers choose the keys, or write a list
@@ -67,11 +67,12 @@ pub type DefaultHasher = BuildHasherDefault<FoldHasher>;
 ///   under a removed key is never found under the next key of that slot. This holds in any run of
 ///   commands on both maps; `clone_from` and a map read from a list start anew.
 /// - Versions wrap around: of two versions more than 2147483648 apart, the larger one is the older.
+///   If they are exactly that far apart, the key in the map stays. In Rust `entry` takes it out.
 /// - Index 0, which no primary map hands out, is an index like any other here.
 ///
 /// It needs memory only for its own keys, where `SecondaryMap` needs it for each index up to the
-/// largest. A call on one key takes constant time if the hasher spreads the indices. Iterators
-/// yield in any order.
+/// largest. A call on one key takes constant time if the hasher spreads the indices, except if the
+/// table grows or is built anew. Iterators yield in any order.
 ///
 /// The default hasher has a fixed, public seed, so keys can be chosen that make it slow. If
 /// strangers choose the keys, name another hasher, such as `RandomState`: see [`DefaultHasher`].
@@ -108,7 +109,8 @@ impl<K, V, S: BuildHasher> Model for SparseSecondaryMap<K, V, S> {
     ghost invariant = { λ m. IsSound m.slots.entries };
 }
 
-/// Prints the pairs, each key before its value, as Rust's own maps do.
+/// Prints the pairs in the order of `iter`, each key before its value. In Rust the derived `Debug`
+/// prints the fields of the map.
 impl<K: Key, V: fmt::Debug, S: BuildHasher> fmt::Debug for SparseSecondaryMap<K, V, S> {
     fn fmt<W: fmt::Write>(&self, f: &mut fmt::Formatter<W>) -> fmt::Result {
         f.debug_map().entries(self.iter()).finish()
@@ -267,8 +269,8 @@ impl<K: Key, V: Drop, S: BuildHasher + Drop> SparseSecondaryMap<K, V, S> {
     ///
     /// Fails with `TooGreat` if and only if the keys plus `additional` exceed 4294967295, else with
     /// `Memory` if the allocation fails. In either case the map holds what it held. If there is
-    /// memory already, it never fails, and nothing changes. Takes time linear in the number of keys
-    /// if they move, else constant time.
+    /// memory already, it never fails, and nothing changes. Takes constant time if there is memory
+    /// already, else time linear in the new capacity.
     ///
     /// ```
     /// map.reserve(100)?;

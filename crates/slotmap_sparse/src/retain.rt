@@ -17,7 +17,7 @@ impl<K: Key, V: Drop, S: BuildHasher + Drop> SparseSecondaryMap<K, V, S> {
     ///
     /// What `f` writes to a value that stays is kept. So a closure that writes and returns true
     /// replaces Rust's `iter_mut` and `values_mut`. The keys are visited in any order. Takes time
-    /// linear in the number of keys, and allocates nothing. The map then has memory for at least as
+    /// linear in the capacity, and allocates nothing. The map then has memory for at least as
     /// many more keys as before.
     ///
     /// ```

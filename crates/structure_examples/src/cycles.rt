@@ -45,7 +45,7 @@ pub fn bare(graph: &mut Graph<NodeKey, u64, u64>, node: NodeKey) -> usize
     graph.out_degree(node) + graph.in_degree(node)
 }
 
-/// Removes all nodes. Then no key has edges.
+/// Removes all nodes, and returns how many edges lead from a key then: none.
 pub fn cleared(graph: &mut Graph<NodeKey, u64, u64>, node: NodeKey) -> usize
     ensures { result ≡ 0 }
 {

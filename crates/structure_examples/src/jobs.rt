@@ -9,7 +9,8 @@ use slotmap::DefaultKey;
 use slotmap_scheduler::Scheduler;
 use std::alloc::{AllocError, Global};
 
-/// Takes out all jobs, in the order of their times, each once.
+/// Takes out all jobs, in the order of their times, each once. If memory runs out, those taken so far
+/// are dropped, and the others still wait.
 pub fn run_all(
     scheduler: &mut Scheduler<DefaultKey, u64>,
     alloc: Global,
@@ -28,7 +29,8 @@ pub fn run_all(
     Ok(ran)
 }
 
-/// Takes out the next job and schedules it again later. No job that waits then is due before it.
+/// Takes out the next job, schedules it again after `period`, and returns when it was due: no job that
+/// waits then is due earlier. If it can't be scheduled, it is dropped.
 pub fn run_again(scheduler: &mut Scheduler<DefaultKey, u64>, period: u64) -> Option<u64>
     ensures floor { IfSome result (λ time. All (λ e. time ≤ e.1.0) scheduler.new.waiting) }
 {

@@ -169,7 +169,8 @@ fn write_along(graph: &mut Numbers, node: NodeKey) {
     }
 }
 
-// Prints the numbers of nodes in their order, and returns whether there were some and it did.
+// Prints the numbers of nodes in their order. Returns false if the call that listed them failed, or the
+// line couldn't be printed.
 fn tell_nodes<E: Drop>(
     rt: &HostRuntime,
     what: &str,
@@ -411,7 +412,8 @@ fn make(rt: &HostRuntime, size: u64) -> bool {
     run_in(rt, &mut graph, &mut nodes, &mut Random::new(2), size)
 }
 
-/// Runs all calls of a graph, and returns whether they succeeded.
+/// Makes the calls of a graph that may ask for memory or go over all elements, and returns whether they
+/// succeeded.
 pub fn run(rt: &HostRuntime, size: u64) -> bool {
     println!(rt; " graph").is_ok() && make(rt, size)
 }

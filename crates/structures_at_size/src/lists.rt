@@ -332,7 +332,8 @@ fn run_extend(rt: &HostRuntime, size: u64) -> bool {
     }
 }
 
-/// Runs all calls of a list, and returns whether they succeeded.
+/// Makes the calls of a list that may ask for memory or go over all elements, and returns whether they
+/// succeeded.
 pub fn run(rt: &HostRuntime, size: u64) -> bool {
     println!(rt; " list").is_ok()
         && run_reserved(rt, size)

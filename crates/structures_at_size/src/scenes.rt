@@ -365,7 +365,8 @@ fn make(rt: &HostRuntime, shape: Shape, size: u64) -> bool {
     run_shape(rt, shape, &mut scene, &mut nodes, size)
 }
 
-/// Runs all calls of a scene, and returns whether they succeeded.
+/// Makes the calls of a scene that may ask for memory or go over all elements, and returns whether they
+/// succeeded.
 pub fn run(rt: &HostRuntime, size: u64) -> bool {
     println!(rt; " scene").is_ok()
         && make(rt, Shape::Wide, size)

@@ -235,7 +235,8 @@ fn make(rt: &HostRuntime, size: u64) -> bool {
     run_in(rt, &mut jobs, &mut handles, &mut Random::new(5), size)
 }
 
-/// Runs all calls of a scheduler, and returns whether they succeeded.
+/// Makes the calls of a scheduler that may ask for memory or go over all elements, and returns whether they
+/// succeeded.
 pub fn run(rt: &HostRuntime, size: u64) -> bool {
     println!(rt; " scheduler").is_ok() && make(rt, size)
 }

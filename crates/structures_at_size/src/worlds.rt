@@ -370,7 +370,8 @@ where
     run_calls::<(A, (B, ())), First, Second>(rt, size)
 }
 
-/// Runs all calls of a world, and returns whether they succeeded.
+/// Makes the calls of a world that may ask for memory or go over all elements, and returns whether they
+/// succeeded.
 pub fn run(rt: &HostRuntime, size: u64) -> bool {
     println!(rt; " world").is_ok()
         && run_tables::<SecondaryMap<DefaultKey, u64>, SparseSecondaryMap<DefaultKey, u64>>(

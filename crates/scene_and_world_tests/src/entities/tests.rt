@@ -1,4 +1,4 @@
-//! Calls on their happy path. They stand in functions over any tables, and [`do_well`] alone names the tables, since each
+//! Calls, with what they return and what they refuse. They stand in functions over any tables, and [`do_well`] alone names the tables, since each
 //! call where they are named costs the prover as much as a whole test.
 
 use slotmap::{DefaultKey, ReserveError, SecondaryMap, SparseSecondaryMap};

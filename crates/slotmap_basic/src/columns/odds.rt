@@ -10,7 +10,7 @@ use std::simd::prelude::*;
 // How many versions are looked at together.
 const CHUNK: usize = 64;
 
-// The first chunk that is looked at begins at a multiple of this.
+// Odd versions up to the next multiple of this are looked at one by one.
 const NEAR: usize = 16;
 
 // A bit for each lane that is odd.
@@ -70,8 +70,8 @@ fn next_chunk(versions: &[u32], start: usize) -> (usize, u64)
     (at + CHUNK, bits_of_tail(versions, at))
 }
 
-/// Where a loop over the odd versions is, by ascending index, and what is known of the versions
-/// ahead of it: a run of odd ones, or else what is left of a chunk of 64 versions.
+/// Where a loop over the odd versions is, by ascending index. It also has what is known of the versions
+/// ahead: a run of odd ones, or else the rest of a chunk of 64.
 #[derive(Clone, Copy)]
 pub struct OddCursor {
     // The next index to look at.
@@ -139,8 +139,8 @@ fn near_run(versions: &[u32], at: usize) -> usize
 }
 
 // Looks for odd versions from `at` on. Returns the index after a chunk, and a bit for each of its odd
-// versions, or 0 if there are no more. If all bits are set, the index is that after a run. Up to the
-// next multiple of `NEAR` no chunk is looked at, so the first steps cost little.
+// versions, or 0 if there are no more. If all bits are set, the index is that after a run. Odd
+// versions up to the next multiple of `NEAR` are looked at one by one, so the first steps cost little.
 #[cold]
 #[inline(never)]
 fn look_ahead(versions: &[u32], at: usize) -> (usize, u64)

@@ -11,7 +11,8 @@ use std::marker::Model;
 
 /// A second key type, with the same behavior as `DefaultKey`.
 ///
-/// A key of this type can't be passed to a map of `DefaultKey`, nor the other way round.
+/// A key of this type can't be passed to a map of `DefaultKey`, nor the other way round. Rust lacks
+/// this type.
 ///
 /// ```
 /// let mut map: SlotMap<NodeKey, u64> = SlotMap::with_key(alloc)?;

@@ -11,7 +11,8 @@ use slotmap_core::sure::rule_out;
 // The number of a detached slot. No slot has this index.
 const DETACHED: u32 = 4294967295;
 
-// The number of a retired slot. Its version is 0, as that of the sentinel alone, whose number is 0.
+// The number of a retired slot, whose version is 0. Only the sentinel has version 0 too, and its number
+// is 0.
 const RETIRED: u32 = 1;
 
 /// Returns the number of a slot that isn't in use.

@@ -11,7 +11,7 @@ use slotmap_core::keys::KeyData;
 impl<P, L: Layout<P>> Slots<P, L> {
     ghost use Rattle.slotmap_slots.specs.SlotsLend.{lends_value};
 
-    // Returns the index of a live key.
+    // Returns the index of a live key, or `None` if the key isn't live.
     fn live_index(&self, key: KeyData) -> Option<usize>
         ensures live { IfSome result (λ index. IsLive self.now key × (index ≡ key.index)) }
         ensures absent { IfNone result (map.contains_key self.now.live key ≡ false) }

@@ -8,7 +8,8 @@ use std::alloc::AllocError;
 use std::marker::PhantomData;
 
 impl<P: Clone, L: CopyLayout<P>> Slots<P, L> {
-    /// Returns a copy, with clones of the payloads.
+    /// Returns a copy, with clones of the payloads. Fails if memory runs out or the clone of a payload
+    /// fails.
     pub fn copy(&self) -> Result<Self, AllocError>
         ensures clones { IfOk result (IsCloneBy P.is_clone self.now) }
         ensures copies_if_clones_equal { IfOk result (λ copy. ClonesEqual P.is_clone → IsCopy self.now copy) }

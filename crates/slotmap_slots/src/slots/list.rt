@@ -33,7 +33,8 @@ fn record_at<P: Clone, L: Layout<P>>(layout: &L, index: usize) -> Result<SlotRec
 }
 
 impl<P, L: Layout<P>> Slots<P, L> {
-    /// Returns the slots as a list, one record for each slot, with clones of the payloads.
+    /// Returns the slots as a list, one record for each slot, with clones of the payloads. Fails if
+    /// memory runs out or the clone of a payload fails.
     pub fn to_slots(&self) -> Result<Vec<SlotRecord<P>>, OutOfMemory>
     where
         P: Clone,
@@ -51,7 +52,8 @@ impl<P, L: Layout<P>> Slots<P, L> {
 }
 
 impl<P: Drop, L: Layout<P> + Drop> Slots<P, L> {
-    /// Makes the slots that a list describes; its values are moved.
+    /// Makes the slots that a list describes; its values are moved. Fails as `check_slots` does, or with
+    /// `Memory`.
     pub fn from_slots(alloc: Global, list: Vec<SlotRecord<P>>) -> Result<Self, SlotsError>
         ensures reads { IfOk result (ReadsAs true list.items) }
         ensures stack { IfOk result (λ made. made.stack ≡ Some (start_stack list.items)) }

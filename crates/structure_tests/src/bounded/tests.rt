@@ -1,4 +1,4 @@
-//! Calls on their happy path.
+//! Calls, with what they return and what they refuse.
 
 ghost use Rattle.std.specs.Prelude.{◌≡◌, IfOk};
 ghost use Rattle.slotmap.specs.Words.{IsNew};

@@ -1,4 +1,4 @@
-//! Calls on their happy path. A function `.._well` says whether the calls of its test return what they should.
+//! Calls, with what they return and what they refuse. A function `.._well` says whether the calls of its test return what they should.
 
 use slotmap::NodeKey;
 use slotmap_graph::{EdgeKey, Graph, OrderError};
