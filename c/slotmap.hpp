@@ -5,8 +5,8 @@
  *     slotmaps::side_table<T>     further values of at most 8 bytes under the keys of a map
  *
  * Each frees what it has at the end of its scope. It can be moved and copied; a copy has the same keys. A call that can't get memory
- * throws std::bad_alloc, and one over 4294967294 keys std::length_error; the map then holds what it held. If `emplace` or `insert`
- * of a slot_map throws after the key was made, that key is used up. The calls of slotmap.h are proved, and these classes aren't.
+ * throws std::bad_alloc, and one over 4294967294 keys std::length_error; the map then holds what it held, and makes the same keys.
+ * The calls of slotmap.h are proved, and these classes aren't.
  *
  * One thread at a time calls a word_map or a side_table, also to read. Many threads may read a slot_map at once by `find`,
  * `contains`, `at`, `size`, `empty` and iteration, which use only the vector. Copying one writes to its handle, so only one thread
@@ -266,13 +266,20 @@ template <class T> class slot_map {
     std::vector<slot> slots;
     std::size_t live = 0;
 
-    /* Puts the value of a key that the map made or bound. If that throws, `undo` takes the key back. */
-    template <class Undo, class... Arguments> void fill(key at, Undo undo, Arguments &&...arguments)
+    /* Makes room for one more place, before a key is made: its index is at most the number of places, but for the first. */
+    void make_room()
+    {
+        std::size_t needed = slots.empty() ? 2 : slots.size() + 1;
+        if (needed > slots.capacity())
+            slots.reserve(2 * needed);
+    }
+    /* Puts the value of a key that the map made or bound. If its move throws, `undo` takes the key back. */
+    template <class Undo> void fill(key at, T &value, Undo undo)
     {
         try {
             if (at.index() >= slots.size())
                 slots.resize(std::size_t{at.index()} + 1);
-            slots[at.index()].value.emplace(std::forward<Arguments>(arguments)...);
+            slots[at.index()].value.emplace(std::move(value));
         } catch (...) {
             undo();
             throw;
@@ -308,14 +315,17 @@ public:
     void reserve(std::size_t more)
     {
         detail::check(slotmap_reserve(map.opened(), more));
-        slots.reserve(slotmap_capacity(map.get()) + 1);
+        slots.reserve(slotmap_capacity(map.get()) + 2);
     }
 
     template <class... Arguments> key emplace(Arguments &&...arguments)
     {
+        /* First, since an argument may be a value of this map. */
+        T value(std::forward<Arguments>(arguments)...);
+        make_room();
         key made;
         detail::check(slotmap_insert(map.opened(), 0, &made.id));
-        fill(made, [&] { slotmap_delete(map.get(), made.id); }, std::forward<Arguments>(arguments)...);
+        fill(made, value, [&] { slotmap_delete(map.get(), made.id); });
         return made;
     }
     key insert(const T &value) { return emplace(value); }
@@ -359,7 +369,7 @@ public:
         std::uint64_t unread = 0;
         if ((at.id >> 32) % 2 == 0 || slotmap_reattach(map.get(), at.id, 0) != SLOTMAP_OK)
             return false;
-        fill(at, [&] { slotmap_detach(map.get(), at.id, &unread); }, std::move(value));
+        fill(at, value, [&] { slotmap_detach(map.get(), at.id, &unread); });
         return true;
     }
     void clear() noexcept

@@ -5,7 +5,7 @@
 #
 # - every call, from C99 and from C++17, also with clang's address and undefined-behaviour sanitizers and under valgrind;
 # - each allocation refused in turn, also under valgrind;
-# - the classes of slotmap.hpp, also with sanitizers;
+# - the classes of slotmap.hpp, also with each allocation refused, and with sanitizers;
 # - `make install` into a folder, with a program by pkg-config, static and shared, and the names that the shared library has;
 # - the Cargo package: its tests, its examples and its page;
 # - the Python package, installed by pip into a folder: every call, also from several threads;
@@ -72,6 +72,8 @@ if left="C++" has c++; then
     c++ -std=c++17 "${strict[@]}" examples/names.cpp "$out/heap-cpp.o" "$archive" -o "$out/names-cpp"
     checked "C++17" "$out/calls-cpp"
     checked "C++17" "$out/classes"
+    c++ -std=c++17 "${strict[@]}" tests/refused.cpp "$archive" -o "$out/classes-refused"
+    checked "C++17" "$out/classes-refused"
     same "$out/names-cpp"
 fi
 if left="sanitizers" has clang clang++; then
@@ -81,6 +83,8 @@ if left="sanitizers" has clang clang++; then
     clang++ -std=c++17 "${strict[@]}" "${sanitize[@]}" tests/classes.cpp "$out/heap-sanitized.o" "$archive" -o "$out/classes-sanitized"
     checked "sanitizers" "$out/calls-sanitized"
     checked "sanitizers" "$out/classes-sanitized"
+    clang++ -std=c++17 "${strict[@]}" "${sanitize[@]}" tests/refused.cpp "$archive" -o "$out/classes-refused-sanitized"
+    checked "sanitizers" "$out/classes-refused-sanitized"
 fi
 
 # A copy, so that nothing is built in the folder c.

@@ -92,6 +92,22 @@ static void check_throwing()
     CHECK(map.size() == 2 && map.at(b).number == 3 && b.index() == 2);
 }
 
+/* A value of the map itself as the argument, also where the vector of values grows. */
+static void check_own_values()
+{
+    slotmaps::slot_map<std::string> map;
+    const std::string text = "a text that is too long for the string itself";
+    key first = map.insert(text);
+    for (int i = 0; i < 40; i++) {
+        key copied = map.insert(*map.find(first));
+        key made = map.emplace(map.at(copied), std::size_t{2});
+        CHECK(map.at(copied) == text && map.at(made) == "text that is too long for the string itself" && map.at(first) == text);
+    }
+    CHECK(map.detach(first) == text && map.reattach(first, map.begin() != map.end() ? (*map.begin()).second : text));
+    key moved = map.insert(std::move(map.at(first)));
+    CHECK(map.at(moved) == text && map.size() == 82);
+}
+
 static void check_owned()
 {
     slotmaps::slot_map<std::unique_ptr<int>> map;
@@ -175,6 +191,7 @@ int main()
     check_words();
     check_side();
     check_throwing();
+    check_own_values();
     check_owned();
     check_strings();
     std::printf("classes: %llu checks\n", checks);
