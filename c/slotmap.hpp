@@ -1,12 +1,16 @@
 /* slotmap.hpp: the maps of slotmap.h as classes, for C++17.
  *
- *     slotmaps::slot_map<T>       values of any type, in a std::vector; the proved map makes and removes their keys
+ *     slotmaps::slot_map<T>       values that can be moved, in a std::vector; the proved map makes and removes their keys
  *     slotmaps::word_map<T>       values of at most 8 bytes, in the proved map itself
  *     slotmaps::side_table<T>     further values of at most 8 bytes under the keys of a map
  *
  * Each frees what it has at the end of its scope. It can be moved and copied; a copy has the same keys. A call that can't get memory
  * throws std::bad_alloc, and one over 4294967294 keys std::length_error; the map then holds what it held, and makes the same keys.
  * The calls of slotmap.h are proved, and these classes aren't.
+ *
+ * A slot_map needs no more of T than a move constructor, and to be copied a copy constructor. If a move throws, `erase` and `detach`
+ * leave the key live, `reattach` leaves it detached, and `emplace` and `insert` leave the map as it was, but for a key that is used up.
+ * Where a T that can't be copied throws as the vector grows, values may be lost, as in std::vector.
  *
  * One thread at a time calls a word_map or a side_table, also to read. Many threads may read a slot_map at once by `find`,
  * `contains`, `at`, `size`, `empty` and iteration, which use only the vector. Copying one writes to its handle, so only one thread
@@ -255,10 +259,11 @@ public:
     }
 };
 
-/* Values of any type. The proved map makes and removes the keys; the values stand in a vector at their keys' indices, each beside
+/* Values that can be moved. The proved map makes and removes the keys; the values stand in a vector at their keys' indices, each beside
  * its key. A look-up compares the two, and calls nothing. */
 template <class T> class slot_map {
     struct slot {
+        static_assert(std::is_object<T>::value && std::is_move_constructible<T>::value, "a value of a slot_map is an object that can be moved");
         key at;
         std::optional<T> value;
     };
@@ -287,10 +292,16 @@ template <class T> class slot_map {
         slots[at.index()].at = at;
         live++;
     }
-    std::optional<T> take(key at)
+    /* Takes out the value of a live key, which `end` removes or detaches: after the move, which may throw. */
+    template <class End> std::optional<T> take(key at, End end)
     {
-        std::optional<T> value = std::move(slots[at.index()].value);
-        slots[at.index()] = slot{};
+        if (!contains(at))
+            return std::nullopt;
+        slot &place = slots[at.index()];
+        std::optional<T> value(std::move(place.value));
+        end();
+        place.at = key{};
+        place.value.reset();
         live--;
         return value;
     }
@@ -349,19 +360,13 @@ public:
     /* Removes a live key, and returns its value. */
     std::optional<T> erase(key at)
     {
-        if (!contains(at))
-            return std::nullopt;
-        slotmap_delete(map.get(), at.id);
-        return take(at);
+        return take(at, [&] { slotmap_delete(map.get(), at.id); });
     }
     /* Takes the value of a live key out, and keeps the slot for the key. */
     std::optional<T> detach(key at)
     {
         std::uint64_t unread = 0;
-        if (!contains(at))
-            return std::nullopt;
-        slotmap_detach(map.get(), at.id, &unread);
-        return take(at);
+        return take(at, [&] { slotmap_detach(map.get(), at.id, &unread); });
     }
     /* Binds a detached key to a value again. Returns false, and changes nothing, if the key isn't detached. */
     bool reattach(key at, T value)
@@ -375,9 +380,11 @@ public:
     void clear() noexcept
     {
         slotmap_clear(map.get());
-        for (slot &each : slots)
-            each = slot{};
         live = 0;
+        for (slot &each : slots) {
+            each.at = key{};
+            each.value.reset();
+        }
     }
 
     /* By ascending index. An insert may move the values, and ends an iteration, as with a vector. */

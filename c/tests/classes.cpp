@@ -92,6 +92,49 @@ static void check_throwing()
     CHECK(map.size() == 2 && map.at(b).number == 3 && b.index() == 2);
 }
 
+/* A value whose moves throw at a chosen time. It can be moved and copied, and not assigned. */
+struct heavy {
+    static bool throws;
+    const int number;
+    explicit heavy(int it) : number(it) {}
+    heavy(const heavy &) = default;
+    heavy(heavy &&other) : number(other.number)
+    {
+        if (throws)
+            throw number;
+    }
+};
+bool heavy::throws = false;
+
+template <class Call> static bool throws_int(Call call)
+{
+    heavy::throws = true;
+    bool thrown = false;
+    try {
+        call();
+    } catch (int) {
+        thrown = true;
+    }
+    heavy::throws = false;
+    return thrown;
+}
+
+static void check_throwing_moves()
+{
+    slotmaps::slot_map<heavy> map;
+    key a = map.emplace(1), b = map.emplace(2);
+    CHECK(throws_int([&] { map.erase(a); }) && map.at(a).number == 1 && map.size() == 2);
+    CHECK(throws_int([&] { map.detach(b); }) && map.at(b).number == 2 && map.size() == 2);
+    CHECK(throws_int([&] { map.emplace(3); }) && map.size() == 2);
+    key c = map.emplace(4);
+    CHECK(c.index() != a.index() && c.index() != b.index() && !map.reattach(b, heavy(5)));
+    CHECK(map.detach(b)->number == 2 && throws_int([&] { map.reattach(b, heavy(5)); }) && !map.contains(b) && map.size() == 2);
+    CHECK(map.reattach(b, heavy(6)) && map.at(b).number == 6 && map.erase(a)->number == 1 && !map.erase(a) && map.size() == 2);
+    auto copy = map;
+    map.clear();
+    CHECK(map.empty() && !map.contains(b) && copy.at(b).number == 6);
+}
+
 /* A value of the map itself as the argument, also where the vector of values grows. */
 static void check_own_values()
 {
@@ -191,6 +234,7 @@ int main()
     check_words();
     check_side();
     check_throwing();
+    check_throwing_moves();
     check_own_values();
     check_owned();
     check_strings();
