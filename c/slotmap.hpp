@@ -13,14 +13,19 @@
  * Where a T that can't be copied throws as the vector grows, values may be lost, as in std::vector.
  *
  * One thread at a time calls a word_map or a side_table, also to read. Many threads may read a slot_map at once by `find`,
- * `contains`, `at`, `size`, `empty` and iteration, which use only the vector. Copying one writes to its handle, so only one thread
- * at a time may copy it.
+ * `contains`, `at`, `size`, `empty` and iteration, which use only the vector. Copying one and `capacity` write to its handle, so
+ * only one thread at a time may make these.
  */
 #ifndef SLOTMAP_HPP
 #define SLOTMAP_HPP
 
+#if __cplusplus < 201703L
+#error "slotmap.hpp needs C++17: -std=c++17"
+#endif
+
 #include "slotmap.h"
 
+#include <algorithm>
 #include <cstdint>
 #include <cstring>
 #include <functional>
@@ -84,6 +89,12 @@ public:
     }
 };
 
+/* The number of a key, or the null key in place of a number that no map returns. slotmap.h reads some of these as keys. */
+inline std::uint64_t number_of(key at) noexcept
+{
+    return at.index() != 0 && (at.id >> 32) % 2 == 1 ? at.id : SLOTMAP_NULL;
+}
+
 using map_handle = handle<slotmap_t, slotmap_new, slotmap_free, slotmap_clone>;
 using side_handle = handle<slotmap_side_t, slotmap_side_new, slotmap_side_free, slotmap_side_clone>;
 
@@ -139,33 +150,33 @@ public:
         detail::check(slotmap_insert(map.opened(), word::of(value), &made.id));
         return made;
     }
-    bool contains(key at) const noexcept { return slotmap_contains(map.get(), at.id); }
+    bool contains(key at) const noexcept { return slotmap_contains(map.get(), detail::number_of(at)); }
     std::optional<T> get(key at) const
     {
         std::uint64_t number = 0;
-        return word::found(slotmap_get(map.get(), at.id, &number), number);
+        return word::found(slotmap_get(map.get(), detail::number_of(at), &number), number);
     }
     /* Returns the value that it had. */
     std::optional<T> set(key at, const T &value)
     {
         std::uint64_t number = 0;
-        return word::found(slotmap_set(map.get(), at.id, word::of(value), &number), number);
+        return word::found(slotmap_set(map.get(), detail::number_of(at), word::of(value), &number), number);
     }
     std::optional<T> erase(key at)
     {
         std::uint64_t number = 0;
-        return word::found(slotmap_remove(map.get(), at.id, &number), number);
+        return word::found(slotmap_remove(map.get(), detail::number_of(at), &number), number);
     }
     std::optional<T> detach(key at)
     {
         std::uint64_t number = 0;
-        return word::found(slotmap_detach(map.get(), at.id, &number), number);
+        return word::found(slotmap_detach(map.get(), detail::number_of(at), &number), number);
     }
-    bool reattach(key at, const T &value) { return slotmap_reattach(map.get(), at.id, word::of(value)) == SLOTMAP_OK; }
+    bool reattach(key at, const T &value) { return slotmap_reattach(map.get(), detail::number_of(at), word::of(value)) == SLOTMAP_OK; }
 
     /* By ascending index. The map may change during the iteration, but must not be moved. */
     class iterator {
-        slotmap_t *map;
+        slotmap_t *map = nullptr;
         key at;
         std::uint64_t number = 0;
 
@@ -176,15 +187,12 @@ public:
         using pointer = void;
         using reference = value_type;
 
-        explicit iterator(slotmap_t *over) : map(over)
-        {
-            if (map != nullptr)
-                ++*this;
-        }
+        iterator() noexcept = default;
+        explicit iterator(slotmap_t *over) : map(over) { ++*this; }
         iterator &operator++()
         {
             if (slotmap_next(map, at.id, &at.id, &number) != SLOTMAP_OK)
-                *this = iterator(nullptr);
+                *this = iterator();
             return *this;
         }
         iterator operator++(int)
@@ -198,7 +206,7 @@ public:
         friend bool operator!=(const iterator &a, const iterator &b) { return !(a == b); }
     };
     iterator begin() const { return iterator(map.get()); }
-    iterator end() const { return iterator(nullptr); }
+    iterator end() const { return iterator(); }
 };
 
 /* Further values of at most 8 bytes under the keys of a map. It knows nothing of removals: erase a key here too. */
@@ -218,16 +226,18 @@ public:
 
     std::size_t size() const noexcept { return slotmap_side_len(side.get()); }
     bool empty() const noexcept { return size() == 0; }
+    /* The largest index for which there is memory. */
+    std::size_t capacity() const noexcept { return slotmap_side_capacity(side.get()); }
     void reserve(std::size_t index) { detail::check(slotmap_side_reserve(side.opened(), index)); }
     void clear() noexcept { slotmap_side_clear(side.get()); }
 
     /* Puts a value, and writes what stood at this index: this key or an older one, with its value. Returns false, and changes
-     * nothing, if the key is null or older than the one at its index. */
+     * nothing, if no map returns such a key, or if it is older than the one at its index. */
     bool put(key at, const T &value, std::optional<std::pair<key, T>> *stood = nullptr)
     {
         key older;
         std::uint64_t number = 0;
-        slotmap_status status = slotmap_side_exchange(side.opened(), at.id, word::of(value), &older.id, &number);
+        slotmap_status status = slotmap_side_exchange(side.opened(), detail::number_of(at), word::of(value), &older.id, &number);
         if (status == SLOTMAP_NO_ENTRY)
             return false;
         detail::check(status);
@@ -235,16 +245,16 @@ public:
             *stood = older ? std::make_optional(std::make_pair(older, word::back(number))) : std::nullopt;
         return true;
     }
-    bool contains(key at) const noexcept { return slotmap_side_contains(side.get(), at.id); }
+    bool contains(key at) const noexcept { return slotmap_side_contains(side.get(), detail::number_of(at)); }
     std::optional<T> get(key at) const
     {
         std::uint64_t number = 0;
-        return word::found(slotmap_side_get(side.get(), at.id, &number), number);
+        return word::found(slotmap_side_get(side.get(), detail::number_of(at), &number), number);
     }
     std::optional<T> erase(key at)
     {
         std::uint64_t number = 0;
-        return word::found(slotmap_side_remove(side.get(), at.id, &number), number);
+        return word::found(slotmap_side_remove(side.get(), detail::number_of(at), &number), number);
     }
     /* All pairs, by ascending index. */
     std::vector<std::pair<key, T>> pairs() const
@@ -323,6 +333,11 @@ public:
 
     std::size_t size() const noexcept { return live; }
     bool empty() const noexcept { return live == 0; }
+    /* For how many slots there is memory, in the proved map and in the vector. The call writes to the handle. */
+    std::size_t capacity() const noexcept
+    {
+        return slots.capacity() < 2 ? 0 : std::min(slots.capacity() - 2, slotmap_capacity(map.get()));
+    }
     void reserve(std::size_t more)
     {
         detail::check(slotmap_reserve(map.opened(), more));
@@ -372,7 +387,7 @@ public:
     bool reattach(key at, T value)
     {
         std::uint64_t unread = 0;
-        if ((at.id >> 32) % 2 == 0 || slotmap_reattach(map.get(), at.id, 0) != SLOTMAP_OK)
+        if (slotmap_reattach(map.get(), detail::number_of(at), 0) != SLOTMAP_OK)
             return false;
         fill(at, value, [&] { slotmap_detach(map.get(), at.id, &unread); });
         return true;
@@ -389,8 +404,9 @@ public:
 
     /* By ascending index. An insert may move the values, and ends an iteration, as with a vector. */
     template <class Slot, class Value> class iterator_of {
-        Slot *at, *last;
+        Slot *at = nullptr, *last = nullptr;
 
+        template <class, class> friend class iterator_of;
         void skip()
         {
             while (at != last && !at->at)
@@ -404,7 +420,13 @@ public:
         using pointer = void;
         using reference = value_type;
 
+        iterator_of() noexcept = default;
         iterator_of(Slot *first, Slot *end) : at(first), last(end) { skip(); }
+        /* An iterator is a const_iterator too. */
+        template <class S, class V, class = std::enable_if_t<std::is_convertible<S *, Slot *>::value>>
+        iterator_of(const iterator_of<S, V> &other) : at(other.at), last(other.last)
+        {
+        }
         iterator_of &operator++()
         {
             ++at;
@@ -427,6 +449,8 @@ public:
     iterator end() { return iterator(slots.data() + slots.size(), slots.data() + slots.size()); }
     const_iterator begin() const { return const_iterator(slots.data(), slots.data() + slots.size()); }
     const_iterator end() const { return const_iterator(slots.data() + slots.size(), slots.data() + slots.size()); }
+    const_iterator cbegin() const { return begin(); }
+    const_iterator cend() const { return end(); }
 };
 
 } // namespace slotmaps

@@ -46,7 +46,7 @@ same() {
     echo "the page's program: the same lines from $*"
 }
 
-strict=(-Wall -Wextra -pedantic -Werror -O2 -I.)
+strict=(-Wall -Wextra -Wpedantic -Wconversion -Werror -O2 -I.)
 grind=(valgrind -q --error-exitcode=9 --leak-check=full)
 
 cc -std=c99 "${strict[@]}" -fPIC -c heap.c -o "$out/heap.o"
@@ -75,6 +75,17 @@ if left="C++" has c++; then
     c++ -std=c++17 "${strict[@]}" tests/refused.cpp "$archive" -o "$out/classes-refused"
     checked "C++17" "$out/classes-refused"
     same "$out/names-cpp"
+    # What doesn't compile, and what the compiler has to say of it.
+    refuses() {
+        printf '#include "slotmap.hpp"\n#include <mutex>\nint main() { %s }\n' "$2" >"$out/refused.cpp"
+        ! c++ "-std=$1" -I. -fsyntax-only "$out/refused.cpp" 2>"$out/errors" && grep -q "$3" "$out/errors" && return
+        echo "c/test.sh: $2 under $1 should be refused, since $3" >&2
+        exit 1
+    }
+    refuses c++17 "slotmaps::slot_map<std::mutex> map; map.emplace();" "can be moved"
+    refuses c++17 "slotmaps::word_map<std::string> map; map.insert({});" "at most 8 bytes"
+    refuses c++14 "" "needs C++17"
+    echo "C++17: what slotmap.hpp refuses doesn't compile"
 fi
 if left="sanitizers" has clang clang++; then
     sanitize=(-g -fsanitize=address,undefined -fno-sanitize-recover)

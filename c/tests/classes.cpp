@@ -64,6 +64,44 @@ static void check_side()
     CHECK(side.empty() && copy.size() == 2);
 }
 
+/* Numbers that no insert returned find nothing, and change nothing: even versions, index 0 and the null key. */
+static void check_no_keys()
+{
+    slotmaps::word_map<int> map;
+    slotmaps::side_table<int> side;
+    slotmaps::slot_map<int> values;
+    key a = map.insert(1), b = map.insert(2);
+    CHECK(side.put(a, 3) && values.insert(4) == a && values.insert(5) == b && map.detach(b) == 2 && values.detach(b) == 5);
+    const std::uint64_t version = std::uint64_t{1} << 32;
+    for (std::uint64_t id : {a.id - version, a.id + version, b.id - version, b.id + version, version, SLOTMAP_START, SLOTMAP_NULL, UINT64_MAX}) {
+        key at{id};
+        CHECK(!map.contains(at) && !map.get(at) && !map.set(at, 7) && !map.erase(at) && !map.detach(at) && !map.reattach(at, 7));
+        CHECK(!side.contains(at) && !side.get(at) && !side.erase(at) && !side.put(at, 7));
+        CHECK(!values.find(at) && !values.erase(at) && !values.detach(at) && !values.reattach(at, 7));
+    }
+    CHECK(map.get(a) == 1 && side.get(a) == 3 && values.at(a) == 4 && map.size() + side.size() + values.size() == 3);
+}
+
+static void check_iterators()
+{
+    using map_of_words = slotmaps::word_map<int>;
+    using map_of_strings = slotmaps::slot_map<std::string>;
+    static_assert(std::is_convertible<map_of_strings::iterator, map_of_strings::const_iterator>::value, "");
+    static_assert(!std::is_convertible<map_of_strings::const_iterator, map_of_strings::iterator>::value, "");
+    map_of_strings map;
+    CHECK(map_of_strings::iterator() == map_of_strings::iterator() && map_of_words::iterator() == map_of_words().begin());
+    CHECK(map.capacity() == 0 && map.begin() == map.end());
+    map.reserve(100);
+    CHECK(map.capacity() >= 100);
+    key a = map.insert("river");
+    map_of_strings::const_iterator at = map.begin();
+    CHECK((*at).first == a && at == map.begin() && map.begin() == at && at != map.end() && ++at == map.cend() && map.cbegin() != at);
+    slotmaps::side_table<int> side;
+    CHECK(side.capacity() == 0 && side.put(a, 1) && side.capacity() >= 1);
+    side.reserve(100);
+    CHECK(side.capacity() >= 100);
+}
+
 /* A value whose copies throw at a chosen time. */
 struct frail {
     static int left;
@@ -233,6 +271,8 @@ int main()
 {
     check_words();
     check_side();
+    check_no_keys();
+    check_iterators();
     check_throwing();
     check_throwing_moves();
     check_own_values();
