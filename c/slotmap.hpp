@@ -273,7 +273,7 @@ public:
  * its key. A look-up compares the two, and calls nothing. */
 template <class T> class slot_map {
     struct slot {
-        static_assert(std::is_object<T>::value && std::is_move_constructible<T>::value, "a value of a slot_map is an object that can be moved");
+        static_assert(std::is_object<T>::value && std::is_move_constructible<T>::value, "the values of a slot_map are objects that can be moved");
         key at;
         std::optional<T> value;
     };

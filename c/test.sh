@@ -6,10 +6,11 @@
 # - every call, from C99 and from C++17, also with clang's address and undefined-behaviour sanitizers and under valgrind;
 # - each allocation refused in turn, also under valgrind;
 # - the classes of slotmap.hpp, also with each allocation refused, and with sanitizers;
-# - `make install` into a folder, with a program by pkg-config, static and shared, and the names that the shared library has;
+# - `make install` into a folder, with a program by pkg-config, static and shared, the names that the shared library has, and a second
+#   install with another prefix and another archive;
 # - the Cargo package: its tests, its examples and its page;
 # - the Python package, installed by pip into a folder: every call, also from several threads;
-# - the program of docs/C.md in C, C++, Python and Rust: each prints what the page says;
+# - the program of docs/C.md in C, C++, Python and Rust: each prints what the page says, also by the commands that the page has;
 # - the archive for AArch64 under qemu;
 # - that the prototypes of slotmap.h are the exports, and that its version is that of CHANGELOG.md.
 #
@@ -46,6 +47,21 @@ same() {
     echo "the page's program: the same lines from $*"
 }
 
+# typed NAME ..: runs the commands of these blocks of the page in a fresh folder with a copy of c. The program's lines come last.
+typed() {
+    local name folder
+    folder=$(mktemp -d "$out/typed-XXXXXX")
+    mkdir "$folder/c" "$folder/home"
+    cp -r Makefile slotmap.h slotmap.hpp heap.c dist examples python tests "$folder/c"
+    for name in "$@"; do
+        sed -n "/<!-- typed $name -->/,/<!-- end -->/s/^    //p" ../docs/C.md | sed "s/x86_64-linux/$machine-linux/" >>"$folder/commands"
+    done
+    [ -s "$folder/commands" ] || { echo "c/test.sh: docs/C.md has no commands for $*" >&2; exit 1; }
+    (cd "$folder" && env -u PYTHONPATH HOME="$folder/home" bash -eu commands) >"$folder/printed" || { echo "c/test.sh: the page's commands for $* failed" >&2; exit 1; }
+    tail -n "$(wc -l <"$out/expected")" "$folder/printed" | diff "$out/expected" - || { echo "c/test.sh: the page's commands for $* print something else" >&2; exit 1; }
+    echo "the page's commands for $*: typed"
+}
+
 strict=(-Wall -Wextra -Wpedantic -Wconversion -Werror -O2 -I.)
 grind=(valgrind -q --error-exitcode=9 --leak-check=full)
 
@@ -58,6 +74,7 @@ checked "C99" "$out/calls"
 checked "C99" "$out/refused"
 checked "C99" "$out/items"
 same "$out/names"
+typed c
 if left="valgrind" has valgrind; then
     for program in calls refused items; do
         checked "valgrind" "${grind[@]}" "$out/$program"
@@ -75,6 +92,7 @@ if left="C++" has c++; then
     c++ -std=c++17 "${strict[@]}" tests/refused.cpp "$archive" -o "$out/classes-refused"
     checked "C++17" "$out/classes-refused"
     same "$out/names-cpp"
+    typed c++
     # What doesn't compile, and what the compiler has to say of it.
     refuses() {
         printf '#include "slotmap.hpp"\n#include <mutex>\nint main() { %s }\n' "$2" >"$out/refused.cpp"
@@ -109,7 +127,21 @@ if left="pkg-config" has pkg-config; then
     # shellcheck disable=SC2086
     cc -std=c99 -O2 examples/names.c $flags -Wl,-Bstatic -lslotmap -Wl,-Bdynamic -o "$out/names-static"
     same env LD_LIBRARY_PATH="$root/lib" "$out/names-shared"
+    typed install
+    typed install static
 fi
+# Another prefix and another archive after a first build, also an older one.
+again() {
+    make -s -C "$out" "$@" PREFIX=/opt/other DESTDIR="$out/other" install
+    grep -qx "prefix=/opt/other" "$out/other/opt/other/lib/pkgconfig/slotmap.pc" || { echo "c/test.sh: slotmap.pc has another prefix" >&2; exit 1; }
+    nm "$out/other/opt/other/lib/libslotmap.a" 2>/dev/null | grep -c another_archive || true
+}
+echo 'int another_archive;' | cc -x c -c - -o "$out/another.o"
+cp "$archive" "$out/another.a"
+ar r "$out/another.a" "$out/another.o"
+touch -d 2000-01-01 "$out/another.a"
+[ "$(again ARCHIVE="$out/another.a") $(again ARCHIVE="$archive")" = "1 0" ] || { echo "c/test.sh: make keeps the archive of its first build" >&2; exit 1; }
+echo "make install: another prefix and another archive after a first build"
 sed -n 's/^[a-z_0-9]* \(slotmap_[a-z_]*\)(.*);$/\1/p' slotmap.h | sort >"$out/declared"
 nm -D --defined-only "$root/lib/libslotmap.so" | awk '$2 == "T" { print $3 }' | sort | diff "$out/declared" -
 echo "make install: the shared library has the $(wc -l <"$out/declared") names of slotmap.h, and no other"
@@ -129,6 +161,7 @@ if left="the Python package" has python3 && python3 -m pip --version >/dev/null;
     export PYTHONPATH=$out/python PYTHONDONTWRITEBYTECODE=1
     checked "Python" python3 tests/calls.py
     same python3 examples/names.py
+    python3 -c "import venv, ensurepip" && typed python
 fi
 
 arm=dist/aarch64-linux/libslotmap_c.a
