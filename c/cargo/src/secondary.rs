@@ -120,13 +120,13 @@ impl<T> SecondaryMap<T> {
         Some(value)
     }
 
-    /// Removes all keys, and drops their values.
+    /// Removes all keys, and drops their values. If the drop of a value panics, all keys are removed nonetheless.
     pub fn clear(&mut self) {
         if let Some(newest) = &mut self.newest {
             newest.clear();
         }
-        self.slots.iter_mut().for_each(|slot| *slot = None);
         self.len = 0;
+        self.slots.clear();
     }
 
     /// Returns an iterator over the keys and their values, by ascending index.

@@ -38,6 +38,19 @@ impl<T> fmt::Display for InsertError<T> {
 
 impl<T: fmt::Debug> Error for InsertError<T> {}
 
+// So many places, which are there again at the end of a clear, also if the drop of a value panics: a detached key keeps its place.
+struct Places<'a, T> {
+    slots: &'a mut Vec<Option<(Key, T)>>,
+    count: usize,
+}
+
+impl<T> Drop for Places<'_, T> {
+    fn drop(&mut self) {
+        // This allocates nothing: a vector that is cleared keeps its memory.
+        self.slots.resize_with(self.count, || None);
+    }
+}
+
 impl<T> SlotMap<T> {
     /// Makes an empty map.
     pub const fn new() -> SlotMap<T> {
@@ -155,13 +168,15 @@ impl<T> SlotMap<T> {
         Ok(())
     }
 
-    /// Removes every live key, and drops its value.
+    /// Removes every live key, and drops its value. If the drop of a value panics, all keys are removed nonetheless.
     pub fn clear(&mut self) {
         if let Some(keys) = &mut self.keys {
             keys.clear();
         }
-        self.slots.iter_mut().for_each(|slot| *slot = None);
         self.len = 0;
+        let count = self.slots.len();
+        let places = Places { slots: &mut self.slots, count };
+        places.slots.clear();
     }
 
     /// Returns an iterator over the live keys and their values, by ascending index.

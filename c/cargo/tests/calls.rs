@@ -2,8 +2,10 @@
 
 use slotmap_proved::words::{Side, SlotMap, Status};
 use slotmap_proved::{Key, SecondaryMap};
+use std::cell::Cell;
 use std::collections::HashMap;
 use std::error::Error;
+use std::panic::{AssertUnwindSafe, catch_unwind};
 
 const A: u64 = 0x1_0000_0001;
 const B: u64 = 0x1_0000_0002;
@@ -188,6 +190,53 @@ fn newer_keys_take_the_place() {
         *value += 1;
     }
     assert_eq!((map.values().copied().collect::<Vec<i32>>(), map.keys().collect::<Vec<Key>>()), (vec![3], vec![new]));
+}
+
+/// A value that panics when it is dropped, if it is so set. It counts the drops.
+struct Loud<'a> {
+    panics: bool,
+    drops: &'a Cell<usize>,
+}
+
+impl Drop for Loud<'_> {
+    fn drop(&mut self) {
+        self.drops.set(self.drops.get() + 1);
+        assert!(!self.panics, "a value that panics");
+    }
+}
+
+fn panics(call: impl FnOnce()) -> bool {
+    catch_unwind(AssertUnwindSafe(call)).is_err()
+}
+
+#[test]
+fn a_panic_during_clear_leaves_no_key() {
+    let drops = Cell::new(0);
+    let loud = |panics| Loud { panics, drops: &drops };
+    let mut map = slotmap_proved::SlotMap::new();
+    let keys: Vec<Key> = (0..6).map(|i| map.insert(loud(i == 2)).ok().expect("there is memory")).collect();
+    drop(map.detach(keys[5]));
+    assert!(panics(|| map.clear()));
+    assert_eq!((drops.get(), map.len(), map.iter().count()), (6, 0, 0));
+    assert!(keys.iter().all(|key| !map.contains_key(*key) && map.get(*key).is_none()));
+    assert!(map.reattach(keys[4], loud(false)).is_err() && map.reattach(keys[5], loud(false)).is_ok());
+    let new: Vec<Key> = (0..6).map(|_| map.insert(loud(false)).ok().expect("there is memory")).collect();
+    assert!(new.iter().all(|key| !keys.contains(key) && map.contains_key(*key)) && map.remove(keys[0]).is_none());
+    assert_eq!((map.len(), map.iter().count()), (7, 7));
+}
+
+#[test]
+fn a_panic_during_clear_leaves_no_key_beside_a_map() {
+    let drops = Cell::new(0);
+    let loud = |panics| Loud { panics, drops: &drops };
+    let (mut map, mut side) = (slotmap_proved::SlotMap::new(), SecondaryMap::new());
+    let keys: Vec<Key> = (0..6).map(|i| map.insert(i).expect("there is memory")).collect();
+    assert!(keys.iter().all(|key| matches!(side.insert(*key, loud(*key == keys[2])), Ok(None))));
+    assert!(panics(|| side.clear()));
+    assert_eq!((drops.get(), side.len(), side.iter().count()), (6, 0, 0));
+    assert!(keys.iter().all(|key| !side.contains_key(*key) && side.remove(*key).is_none()));
+    assert!(keys.iter().all(|key| matches!(side.insert(*key, loud(false)), Ok(None))));
+    assert_eq!((side.len(), side.iter().count()), (6, 6));
 }
 
 #[test]
