@@ -1,6 +1,8 @@
 """Every call of the module slotmap_proved, also from several threads."""
 
+import copy
 import gc
+import pickle
 import threading
 
 from slotmap_proved import Side, SlotMap
@@ -33,6 +35,53 @@ def one_key(names):
     del names[B]
 
 
+class Indexed:
+    """A number as numpy has it: no int, but an index."""
+
+    def __init__(self, number):
+        self.number = number
+
+    def __index__(self):
+        return self.number
+
+
+NO_KEYS = [0, 1, 2, A - 2**32, A + 2**32, B - 2**32, B + 2**32, 2**32, 2**33, 2**33 - 1, MOST, 2**64, 2**64 + A, -1, A - 2**64, True, 1.5, "x", None, ()]
+
+
+def no_keys():
+    """What no insert returned finds nothing, and changes nothing."""
+    names, ages = SlotMap(), Side()
+    assert (names.insert(1), names.insert(2), names.detach(B)) == (A, B, 2)
+    ages[A] = 3
+    for key in NO_KEYS:
+        for table in (names, ages):
+            assert key not in table and table.get(key) is None and table.pop(key, 5) == 5
+            assert all(fails(KeyError, call, key) for call in (table.pop, table.__getitem__, table.__delitem__))
+            assert fails(KeyError, table.__setitem__, key, 7)
+        assert fails(KeyError, names.detach, key) and fails(KeyError, names.reattach, key, 7) and fails(KeyError, ages.exchange, key, 7)
+    assert (dict(names), dict(ages)) == ({A: 1}, {A: 3})
+    a = Indexed(A)
+    assert a in names and names[a] == 1 and names.get(a) == 1 and ages.exchange(a, 4) == (A, 3) and ages.pop(a) == 4 and ages.pop(a, None) is None
+    assert names.insert(Indexed(4)) == 0x100000003 and names.detach(a) == 1 and a not in names and names.pop(a, default=6) == 6
+
+
+def copies():
+    """Each copy is a map of its own, and pickle refuses."""
+    for table in (SlotMap(), Side()):
+        if isinstance(table, SlotMap):
+            table.insert(5)
+        else:
+            table[A] = 5
+        for made in (table.copy(), copy.copy(table), copy.deepcopy(table), copy.deepcopy([table])[0]):
+            assert type(made) is type(table) and dict(made) == {A: 5}
+            del made[A]
+            made.close()
+            assert dict(table) == {A: 5}
+        assert fails(TypeError, pickle.dumps, table)
+        table.close()
+        assert fails(ValueError, copy.copy, table)
+
+
 def all_keys(names):
     names.clear()
     names.reserve(100)
@@ -42,13 +91,13 @@ def all_keys(names):
     assert all(key in names for key in names) and sorted(names.values()) == list(range(100))
     indices = [key % 2**32 for key in names]
     assert indices == sorted(indices)
-    copy = names.copy()
-    assert copy == names and copy.pairs() == names.pairs() and copy.insert(1) == names.insert(1)
+    other = names.copy()
+    assert other == names and other.pairs() == names.pairs() and other.insert(1) == names.insert(1)
     for key in names:
         del names[key]
-    assert len(names) == 0 and len(copy) == 101
-    copy.close()
-    assert len(copy) == 0 and fails(ValueError, copy.insert, 1) and list(copy) == copy.pairs() == []
+    assert len(names) == 0 and len(other) == 101
+    other.close()
+    assert len(other) == 0 and fails(ValueError, other.insert, 1) and list(other) == other.pairs() == []
 
 
 def beside(names):
@@ -112,6 +161,8 @@ with SlotMap() as names:
     all_keys(names)
 with SlotMap() as names:
     beside(names)
+no_keys()
+copies()
 threads()
 finalizers()
 print("calls of slotmap_proved: ok")

@@ -1,4 +1,4 @@
-"""A slot map whose calls are proved: values under keys that the map makes. Keys and values are integers from 0 to 2**64 - 1.
+"""A slot map whose calls are proved: values under keys that the map makes. Values are integers from 0 to 2**64 - 1, and so are keys.
 
     from slotmap_proved import SlotMap
 
@@ -6,8 +6,9 @@
         river = names.insert(1)
         assert names[river] == 1 and names.pop(river) == 1 and river not in names
 
-The calls of the shared library are proved; this module, which makes them by ctypes, isn't. A call keeps the interpreter's lock, so two
-threads never make calls at once. It takes microseconds: a dict's insert takes a tenth of that.
+The calls of the shared library are proved; this module, which makes them by ctypes, isn't. CPython keeps the interpreter's lock during a
+call, so two threads never make calls at once. On a build without that lock, take a lock of your own. A call takes microseconds: a dict's
+insert takes a tenth of that.
 """
 
 from __future__ import annotations
@@ -17,7 +18,7 @@ import os
 import weakref
 from collections.abc import Iterator, Mapping
 from operator import index
-from typing import Any, TypeVar
+from typing import Any, NoReturn, TypeVar, overload
 
 __version__ = "1.1.1.6"
 __all__ = ["Side", "SlotMap"]
@@ -77,14 +78,22 @@ def _word(number: int, what: str) -> int:
     return number
 
 
-def _is_key(key: object) -> bool:
-    return isinstance(key, int) and 0 <= key < 1 << 64
+def _number(key: object) -> int | None:
+    # None for what `insert` never returns: no integer, an even version, or the index 0 or 4294967295. The library reads some as keys.
+    try:
+        number = index(key)  # type: ignore[arg-type]
+    except TypeError:
+        return None
+    low, version = number & 0xFFFFFFFF, number >> 32
+    is_key = 0 < low < 0xFFFFFFFF and 0 < version < 1 << 32 and version % 2 == 1
+    return number if is_key else None
 
 
 def _key(key: object) -> int:
-    if not isinstance(key, int) or not 0 <= key < 1 << 64:
+    number = _number(key)
+    if number is None:
         raise KeyError(key)
-    return key
+    return number
 
 
 def _free(free: Any, handle: _Handle) -> None:
@@ -92,6 +101,8 @@ def _free(free: Any, handle: _Handle) -> None:
 
 
 _Self = TypeVar("_Self", bound="_Table")
+_Other = TypeVar("_Other")
+_ABSENT: Any = object()
 
 
 class _Table(Mapping[int, int]):
@@ -151,18 +162,37 @@ class _Table(Mapping[int, int]):
         self._check("clone", ctypes.byref(copy._handle))
         return copy
 
+    def __copy__(self: _Self) -> _Self:
+        return self.copy()
+
+    def __deepcopy__(self: _Self, memo: Any) -> _Self:
+        return self.copy()
+
+    def __reduce_ex__(self, protocol: Any) -> NoReturn:
+        raise TypeError(f"a {type(self).__name__} can't be pickled; its pairs() can")
+
     def __len__(self) -> int:
         return self._call("len")
 
     def __contains__(self, key: object) -> bool:
-        return _is_key(key) and self._call("contains", key)
+        number = _number(key)
+        return number is not None and self._call("contains", number)
 
     def __getitem__(self, key: int) -> int:
         return self._written("get", _key(key))
 
-    def pop(self, key: int) -> int:
-        """Removes a key, and returns its value."""
-        return self._written("remove", _key(key))
+    @overload
+    def pop(self, key: int) -> int: ...
+    @overload
+    def pop(self, key: int, default: _Other) -> int | _Other: ...
+    def pop(self, key: int, default: Any = _ABSENT) -> Any:
+        """Removes a key, and returns its value. Where there is none it returns `default`, and without one raises KeyError."""
+        try:
+            return self._written("remove", _key(key))
+        except KeyError:
+            if default is _ABSENT:
+                raise
+            return default
 
     def capacity(self) -> int:
         """Returns the largest index for which there is memory."""
@@ -216,7 +246,10 @@ class SlotMap(_Table):
 
 
 class Side(_Table):
-    """Further values under the keys of a map. It has one value for each index, and knows nothing of removals: remove a key here too."""
+    """Further values under the keys of a map. It has one value for each index, and knows nothing of removals: remove a key here too.
+
+    It takes 16 bytes for each index up to that of a key. So one key from outside may take gigabytes: ask the map first whether it is live.
+    """
 
     _prefix = "slotmap_side_"
 
@@ -225,7 +258,7 @@ class Side(_Table):
         return (key for key, _ in self.pairs())
 
     def __setitem__(self, key: int, value: int) -> None:
-        """Puts a value under a key. KeyError if a newer key stands at its index."""
+        """Puts a value under a key. KeyError if a newer key stands at its index, or if no map returns such a key."""
         self._check("put", _key(key), _word(value, "value"))
 
     def exchange(self, key: int, value: int) -> tuple[int, int] | None:
