@@ -4,7 +4,7 @@
 # Proves crates/slotmap_c, and writes what is taken without the kit to the folder c/dist:
 #
 #     x86_64-linux/libslotmap_c.a, aarch64-linux/libslotmap_c.a     the archives
-#     SHA256SUMS                                                    their sums and those of slotmap.h and heap.c
+#     SHA256SUMS                                                    their sums and those of slotmap.h and heap.c, by their paths from c
 #     VERDICT                                                       the kit, and what it said of the crate
 #
 # With --check it builds all of this anew in another folder, compares it byte by byte with what is there, and fails at the first
@@ -32,7 +32,7 @@ archive x86_64 ""
     grep -h -o '^logic=proved functions=[0-9]*\( axioms=[0-9]*\)\{0,1\}' "$out/x86_64.log"
 } >"$out/dist/VERDICT"
 (cd "$top/c" && sha256sum slotmap.h heap.c) >"$out/dist/SHA256SUMS"
-(cd "$out/dist" && sha256sum -- */libslotmap_c.a) >>"$out/dist/SHA256SUMS"
+(cd "$out" && sha256sum dist/*/libslotmap_c.a) >>"$out/dist/SHA256SUMS"
 
 if [ -n "$check" ]; then
     diff -r "$dist" "$out/dist" || { echo "c/dist.sh: c/dist differs from what was built; run c/dist.sh" >&2; exit 1; }

@@ -1,4 +1,7 @@
-/* The heap of libslotmap_c.a, as C or as C++: the three functions that it calls, over malloc, realloc and free.
+/* SPDX-License-Identifier: MIT
+ * Copyright (c) 2026 the Sevlurga maintainers
+ *
+ * The heap of libslotmap_c.a, as C or as C++: the three functions that it calls, over malloc, realloc and free.
  *
  * They do what those of the kit's liblibc_c.a do. Their names are weak: two libraries of this kind may each bring them, and the
  * linker takes one. Write your own if your program has another allocator: one that aligns a block to each power of two up to 16
@@ -18,7 +21,7 @@
 extern "C" {
 #endif
 
-/* A block, or the address of a byte that is never read. */
+/* A block, or, where memory ran out, the address of a byte that is never read: `at` isn't null where `made` is false either. */
 struct block {
     bool made;
     void *at;
@@ -43,6 +46,7 @@ struct block rattle_alloc(size_t size, size_t align)
     return block_at(malloc(size != 0 ? size : align));
 }
 
+/* Of the old block the first `kept` bytes are in use: they have to stand in the new one too. realloc copies all that fit. */
 struct block rattle_realloc(void *old, size_t kept, size_t size, size_t align)
 {
     (void)kept;

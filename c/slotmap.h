@@ -1,4 +1,7 @@
-/* slotmap.h: a slot map from keys to values of 64 bits.
+/* SPDX-License-Identifier: MIT
+ * Copyright (c) 2026 the Sevlurga maintainers
+ *
+ * slotmap.h: a slot map from keys to values of 64 bits.
  *
  * The map makes a key for each value that is inserted. Insertion, look-up and removal take constant time. A removed key is
  * never found again: its slot is reused under a newer key. Keys and values are uint64_t. A value is a number, an index or a
@@ -34,7 +37,7 @@
 extern "C" {
 #endif
 
-/* The version of the Rust crate whose calls these are, and a number for each change here. */
+/* The version of the Rust crate whose calls these are, and a number that counts the versions in CHANGELOG.md. */
 #define SLOTMAP_VERSION "1.1.1-port.6"
 
 /* A handle: open, with a map, or closed. `at` is for the library alone; it is null in a closed handle. */
@@ -177,7 +180,8 @@ size_t slotmap_list_after(slotmap_t *map, uint64_t key, uint64_t *keys, size_t k
  *
  * A side table has further values under the keys of a map. It has at most one value for each index. A put under a newer key takes
  * the place of an older one, never the reverse. So a value that was put under a removed key is never found under the next key of
- * that slot. Versions wrap around: of two versions more than 2147483648 apart, the larger one is the older.
+ * that slot. Versions wrap around: of two versions more than 2147483648 apart, the larger one is the older. If they are exactly so far
+ * apart, each counts as older than the other, and a put of either over the other is refused.
  *
  * A table knows nothing of removals. A value under a removed key is found, and may be put again, until a newer key is put at its
  * index: so remove a key from its tables too. Numbers of index 0 are keys like any other here, and all of them share one entry.

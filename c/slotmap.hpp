@@ -1,4 +1,7 @@
-/* slotmap.hpp: the maps of slotmap.h as classes, for C++17.
+/* SPDX-License-Identifier: MIT
+ * Copyright (c) 2026 the Sevlurga maintainers
+ *
+ * slotmap.hpp: the maps of slotmap.h as classes, for C++17.
  *
  *     slotmaps::slot_map<T>       values that can be moved, in a std::vector; the proved map makes and removes their keys
  *     slotmaps::word_map<T>       values of at most 8 bytes, in the proved map itself
@@ -209,7 +212,8 @@ public:
     iterator end() const { return iterator(); }
 };
 
-/* Further values of at most 8 bytes under the keys of a map. It knows nothing of removals: erase a key here too. */
+/* Further values of at most 8 bytes under the keys of a map. It knows nothing of removals: erase a key here too. It takes 16 bytes for each
+ * index up to that of a key. So one key from outside may take gigabytes: ask the map first whether it is live. */
 template <class T> class side_table {
     using word = detail::word<T>;
     mutable detail::side_handle side;

@@ -12,7 +12,8 @@
 # - the Python package, installed by pip into a folder: every call, also from several threads;
 # - the program of docs/C.md in C, C++, Python and Rust: each prints what the page says, also by the commands that the page has;
 # - the archive for AArch64 under qemu;
-# - that the prototypes of slotmap.h are the exports, and that its version is that of CHANGELOG.md.
+# - that the prototypes of slotmap.h are the exports;
+# - that the packages have the version of CHANGELOG.md and the licences, and that dist/SHA256SUMS has the sums.
 #
 # It is outside the gate, and needs a C compiler and make. What else a machine lacks it leaves out, and says so. It needs no kit.
 set -euo pipefail
@@ -52,7 +53,7 @@ typed() {
     local name folder
     folder=$(mktemp -d "$out/typed-XXXXXX")
     mkdir "$folder/c" "$folder/home"
-    cp -r Makefile slotmap.h slotmap.hpp heap.c dist examples python tests "$folder/c"
+    cp -r Makefile LICENSE LICENSE-slotmap slotmap.h slotmap.hpp heap.c dist examples python tests "$folder/c"
     for name in "$@"; do
         sed -n "/<!-- typed $name -->/,/<!-- end -->/s/^    //p" ../docs/C.md | sed "s/x86_64-linux/$machine-linux/" >>"$folder/commands"
     done
@@ -117,7 +118,7 @@ if left="sanitizers" has clang clang++; then
 fi
 
 # A copy, so that nothing is built in the folder c.
-cp -r Makefile slotmap.h slotmap.hpp heap.c tests examples "$out/"
+cp -r Makefile LICENSE LICENSE-slotmap slotmap.h slotmap.hpp heap.c tests examples "$out/"
 make -s -C "$out" install ARCHIVE="$archive" PREFIX=/opt/slotmap DESTDIR="$out/root"
 root=$out/root/opt/slotmap
 if left="pkg-config" has pkg-config; then
@@ -143,8 +144,12 @@ touch -d 2000-01-01 "$out/another.a"
 [ "$(again ARCHIVE="$out/another.a") $(again ARCHIVE="$archive")" = "1 0" ] || { echo "c/test.sh: make keeps the archive of its first build" >&2; exit 1; }
 echo "make install: another prefix and another archive after a first build"
 sed -n 's/^[a-z_0-9]* \(slotmap_[a-z_]*\)(.*);$/\1/p' slotmap.h | sort >"$out/declared"
-nm -D --defined-only "$root/lib/libslotmap.so" | awk '$2 == "T" { print $3 }' | sort | diff "$out/declared" -
-echo "make install: the shared library has the $(wc -l <"$out/declared") names of slotmap.h, and no other"
+# exports WHAT LIBRARY: a shared library has the names of slotmap.h, and no other.
+exports() {
+    nm -D --defined-only "$2" | awk '{ print $3 }' | sort | diff "$out/declared" -
+    echo "$1: the shared library has the $(wc -l <"$out/declared") names of slotmap.h, and no other"
+}
+exports "make install" "$root/lib/libslotmap.so"
 
 if left="the Cargo package" has cargo; then
     mkdir "$out/archive"
@@ -159,6 +164,7 @@ fi
 if left="the Python package" has python3 && python3 -m pip --version >/dev/null; then
     SLOTMAP_ARCHIVE=$archive python3 -m pip install --quiet --no-index --disable-pip-version-check --root-user-action ignore --target "$out/python" ./python
     export PYTHONPATH=$out/python PYTHONDONTWRITEBYTECODE=1
+    exports "Python" "$out/python/slotmap_proved/libslotmap_c.so"
     checked "Python" python3 tests/calls.py
     same python3 examples/names.py
     python3 -c "import venv, ensurepip" && typed python
@@ -179,5 +185,20 @@ fi
 version=$(sed -n 's/.*SLOTMAP_VERSION "\(.*\)"/\1/p' slotmap.h)
 newest=$(sed -n 's/^## //p' ../CHANGELOG.md | head -n 1)
 [ "$version" = "$newest" ] || { echo "c/test.sh: slotmap.h has version $version, CHANGELOG.md has $newest" >&2; exit 1; }
-grep -q "^version = \"$version\"" cargo/Cargo.toml || { echo "c/test.sh: cargo/Cargo.toml has another version than $version" >&2; exit 1; }
+# Python's rules allow no -port.
+for place in "cargo/Cargo.toml version $version" "python/pyproject.toml version ${version/-port/}" \
+    "python/slotmap_proved/__init__.py __version__ ${version/-port/}" "python/backend.py VERSION ${version/-port/}"; do
+    read -r file name expected <<<"$place"
+    grep -q "\b$name = .*\"$expected\"$" "$file" || { echo "c/test.sh: $file has another version than $expected" >&2; exit 1; }
+done
+for file in slotmap.h slotmap.hpp heap.c Makefile python/slotmap_proved/__init__.py; do
+    head -n 2 "$file" | grep -q "SPDX-License-Identifier: MIT" || { echo "c/test.sh: $file names no licence" >&2; exit 1; }
+done
+for file in LICENSE LICENSE-slotmap; do
+    for copy in "$file" "cargo/$file" "$root/share/doc/slotmap/$file" "$out"/python/slotmap_proved-*.dist-info/licenses/"$file"; do
+        [ ! -e "$out/python" ] && [[ $copy == *.dist-info/* ]] || cmp "../$file" "$copy"
+    done
+done
+sha256sum --quiet -c dist/SHA256SUMS
+echo "versions, licences and sums: the same everywhere"
 echo "c/test.sh: ok"

@@ -1,4 +1,7 @@
-/* Values of any type in C: an array of one's own. A value stands at its key's index, with the key in it. So a look-up compares
+/* SPDX-License-Identifier: MIT
+ * Copyright (c) 2026 the Sevlurga maintainers
+ *
+ * Values of any type in C: an array of one's own. A value stands at its key's index, with the key in it. So a look-up compares
  * two numbers, and calls nothing. The map makes the keys, and no live key's index is above slotmap_capacity. */
 #include "slotmap.h"
 #include <stdio.h>

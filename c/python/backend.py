@@ -14,12 +14,16 @@ import zipfile
 NAME, VERSION = "slotmap_proved", "1.1.1.6"
 HERE = os.path.dirname(os.path.abspath(__file__))
 INFO = f"{NAME}-{VERSION}.dist-info"
-METADATA = f"""Metadata-Version: 2.1
+METADATA = f"""Metadata-Version: 2.4
 Name: slotmap-proved
 Version: {VERSION}
 Summary: A slot map whose calls are proved
-License: MIT
+License-Expression: MIT
+License-File: LICENSE
+License-File: LICENSE-slotmap
 Requires-Python: >=3.9
+Description-Content-Type: text/markdown
+
 """
 
 
@@ -29,10 +33,13 @@ def library() -> bytes:
     if not os.path.exists(archive):
         raise FileNotFoundError(f"{archive}: there is no archive for {machine}; SLOTMAP_ARCHIVE names one")
     with tempfile.TemporaryDirectory() as folder:
-        out = os.path.join(folder, "libslotmap_c.so")
+        out, exports = os.path.join(folder, "libslotmap_c.so"), os.path.join(folder, "exports")
+        with open(exports, "w") as file:
+            file.write("{ global: slotmap_*; local: *; };")
         compiler = os.environ.get("CC", "cc").split()
         heap = os.path.join(HERE, "..", "heap.c")
-        command = ["-O2", "-fPIC", "-shared", "-o", out, heap, "-Wl,--whole-archive", archive, "-Wl,--no-whole-archive"]
+        command = ["-O2", "-fPIC", "-shared", f"-Wl,--version-script={exports}", "-o", out, heap]
+        command += ["-Wl,--whole-archive", archive, "-Wl,--no-whole-archive"]
         subprocess.run(compiler + command, check=True)
         with open(out, "rb") as file:
             return file.read()
@@ -42,12 +49,18 @@ def tag() -> str:
     return f"py3-none-linux_{platform.machine()}"
 
 
+def read(*path: str) -> bytes:
+    with open(os.path.join(HERE, *path), "rb") as file:
+        return file.read()
+
+
 def contents() -> "dict[str, bytes]":
     files = {f"{NAME}/libslotmap_c.so": library()}
     for name in ("__init__.py", "py.typed"):
-        with open(os.path.join(HERE, NAME, name), "rb") as file:
-            files[f"{NAME}/{name}"] = file.read()
-    files[f"{INFO}/METADATA"] = METADATA.encode()
+        files[f"{NAME}/{name}"] = read(NAME, name)
+    for name in ("LICENSE", "LICENSE-slotmap"):
+        files[f"{INFO}/licenses/{name}"] = read("..", name)
+    files[f"{INFO}/METADATA"] = METADATA.encode() + read("README.md")
     files[f"{INFO}/WHEEL"] = f"Wheel-Version: 1.0\nGenerator: backend.py\nRoot-Is-Purelib: false\nTag: {tag()}\n".encode()
     return files
 

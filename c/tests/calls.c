@@ -232,6 +232,34 @@ static void check_exchange(slotmap_t *map)
     slotmap_side_free(&side);
 }
 
+/* Of two versions the larger one is the newer, unless they are more than 2147483648 apart. If they are exactly so far apart, neither is. */
+static void check_wrapping(slotmap_t *map)
+{
+    static const struct {
+        uint32_t first, second;
+        bool newer;
+    } rows[] = {{1, 3, true},
+                {3, 1, false},
+                {1, 0x7fffffff, true},
+                {0x7fffffff, 1, false},
+                {1, 0x80000001, false},
+                {0x80000001, 1, false},
+                {1, 0x80000003, false},
+                {0x80000003, 1, true},
+                {0xffffffff, 1, true},
+                {1, 0xffffffff, false}};
+    size_t i;
+    (void)map;
+    for (i = 0; i < sizeof rows / sizeof rows[0]; i++) {
+        slotmap_side_t side = SLOTMAP_INIT;
+        uint64_t first = (uint64_t)rows[i].first << 32 | 5, second = (uint64_t)rows[i].second << 32 | 5;
+        CHECK(slotmap_side_new(&side) == SLOTMAP_OK && slotmap_side_put(&side, first, 1) == SLOTMAP_OK);
+        CHECK(slotmap_side_put(&side, second, 2) == (rows[i].newer ? SLOTMAP_OK : SLOTMAP_NO_ENTRY));
+        CHECK(slotmap_side_contains(&side, first) == !rows[i].newer && slotmap_side_contains(&side, second) == rows[i].newer);
+        slotmap_side_free(&side);
+    }
+}
+
 /* Each status has a text of its own. */
 static void check_texts(void)
 {
@@ -271,6 +299,7 @@ int main(void)
     with_new(check_room);
     with_new(check_side);
     with_new(check_exchange);
+    with_new(check_wrapping);
     check_texts();
     with_new(check_all_keys);
     CHECK(slotmap_new(&map) == SLOTMAP_OK);

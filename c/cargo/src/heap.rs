@@ -1,8 +1,8 @@
-//! The heap of the archive, over that of the C library: the same as heap.c, so that no C compiler is needed.
+//! The heap of the archive, over that of the C library: the same as heap.c, so that no C is compiled.
 
 use std::ffi::c_void;
 
-/// A block, or the address of a byte that is never read.
+/// A block, or, where memory ran out, the address of a byte that is never read.
 #[repr(C)]
 pub struct Block {
     made: bool,
@@ -28,6 +28,7 @@ extern "C" fn rattle_alloc(size: usize, align: usize) -> Block {
     block_at(unsafe { malloc(if size != 0 { size } else { align }) })
 }
 
+/// Of the old block the first `_kept` bytes are in use. `realloc` copies all that fit.
 #[unsafe(no_mangle)]
 unsafe extern "C" fn rattle_realloc(old: *mut c_void, _kept: usize, size: usize, align: usize) -> Block {
     block_at(unsafe { realloc(old, if size != 0 { size } else { align }) })

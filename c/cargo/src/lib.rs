@@ -48,6 +48,8 @@ impl Key {
     }
 
     /// Returns the key of a number, which may come from anywhere. A number that no map returns is no key.
+    ///
+    /// A [`SlotMap`] answers any key. A [`SecondaryMap`] takes memory for each index up to that of a key: ask the map first.
     pub fn from_number(number: u64) -> Option<Key> {
         let is_key = number as u32 != 0 && number as u32 != u32::MAX && (number >> 32) % 2 == 1;
         if is_key { NonZeroU64::new(number).map(Key) } else { None }

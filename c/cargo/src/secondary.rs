@@ -8,8 +8,10 @@ use std::fmt;
 /// Further values, of any type, under the keys of a [`SlotMap`](crate::SlotMap).
 ///
 /// It has one value for each index: a newer key takes the place of an older one, never the reverse. Versions wrap around: of two more
-/// than 2147483648 apart, the larger one is the older. It knows nothing of removals: a value under a removed key is found until a newer
-/// key is put at its index, so remove a key here too.
+/// than 2147483648 apart, the larger one is the older. If they are exactly so far apart, each counts as older than the other. It knows
+/// nothing of removals: a value under a removed key is found until a newer key is put at its index, so remove a key here too.
+///
+/// It has a place for each index up to that of a key. So one key from outside may take gigabytes: ask the map first whether it is live.
 ///
 /// ```
 /// use slotmap_proved::{SecondaryMap, SlotMap};

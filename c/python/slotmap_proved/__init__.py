@@ -1,3 +1,5 @@
+# SPDX-License-Identifier: MIT
+# Copyright (c) 2026 the Sevlurga maintainers
 """A slot map whose calls are proved: values under keys that the map makes. Values are integers from 0 to 2**64 - 1, and so are keys.
 
     from slotmap_proved import SlotMap
