@@ -167,7 +167,11 @@ if left="the Python package" has python3 && python3 -m pip --version >/dev/null;
     exports "Python" "$out/python/slotmap_proved/libslotmap_c.so"
     checked "Python" python3 tests/calls.py
     same python3 examples/names.py
-    python3 -c "import venv, ensurepip" && typed python
+    if python3 -c "import venv, ensurepip" 2>/dev/null; then
+        typed python
+    else
+        echo "left out, since venv is missing: the page's commands for python"
+    fi
 fi
 
 arm=dist/aarch64-linux/libslotmap_c.a
@@ -195,9 +199,10 @@ for file in slotmap.h slotmap.hpp heap.c Makefile python/slotmap_proved/__init__
     head -n 2 "$file" | grep -q "SPDX-License-Identifier: MIT" || { echo "c/test.sh: $file names no licence" >&2; exit 1; }
 done
 for file in LICENSE LICENSE-slotmap; do
-    for copy in "$file" "cargo/$file" "$root/share/doc/slotmap/$file" "$out"/python/slotmap_proved-*.dist-info/licenses/"$file"; do
-        [ ! -e "$out/python" ] && [[ $copy == *.dist-info/* ]] || cmp "../$file" "$copy"
-    done
+    cmp "../$file" "$file"
+    cmp "../$file" "cargo/$file"
+    cmp "../$file" "$root/share/doc/slotmap/$file"
+    [ ! -e "$out/python" ] || cmp "../$file" "$out"/python/slotmap_proved-*.dist-info/licenses/"$file"
 done
 sha256sum --quiet -c dist/SHA256SUMS
 echo "versions, licences and sums: the same everywhere"
