@@ -12,8 +12,8 @@
  * The calls of slotmap.h are proved, and these classes aren't.
  *
  * A slot_map needs no more of T than a move constructor, and to be copied a copy constructor. If a move throws, `erase` and `detach`
- * leave the key live, `reattach` leaves it detached, and `emplace` and `insert` leave the map as it was, but for a key that is used up.
- * Where a T that can't be copied throws as the vector grows, values may be lost, as in std::vector.
+ * leave the key live, and `reattach` leaves it detached. `emplace` and `insert` then use up a key, and leave the map as it was. Where
+ * a T that can't be copied throws as the vector grows, values may be lost, as in std::vector.
  *
  * One thread at a time calls a word_map or a side_table, also to read. Many threads may read a slot_map at once by `find`,
  * `contains`, `at`, `size`, `empty` and iteration, which use only the vector. Copying one and `capacity` write to its handle, so
@@ -277,7 +277,8 @@ public:
  * its key. A look-up compares the two, and calls nothing. */
 template <class T> class slot_map {
     struct slot {
-        static_assert(std::is_object<T>::value && std::is_move_constructible<T>::value, "the values of a slot_map are objects that can be moved");
+        static_assert(std::is_object<T>::value && std::is_move_constructible<T>::value,
+                      "the values of a slot_map are objects that can be moved");
         key at;
         std::optional<T> value;
     };

@@ -6,8 +6,8 @@
 # - every call, from C99 and from C++17, also with clang's address and undefined-behaviour sanitizers and under valgrind;
 # - each allocation refused in turn, also under valgrind;
 # - the classes of slotmap.hpp, also with each allocation refused, and with sanitizers;
-# - `make install` into a folder, with a program by pkg-config, static and shared, the names that the shared library has, and a second
-#   install with another prefix and another archive;
+# - `make install` into a folder, with a program by pkg-config, static and shared, and the names that the shared library has;
+# - a second `make install` with another prefix and another archive;
 # - the Cargo package: its tests, its examples and its page;
 # - the Python package, installed by pip into a folder: every call, also from several threads;
 # - the program of docs/C.md in C, C++, Python and Rust: each prints what the page says, also by the commands that the page has;
