@@ -14,6 +14,7 @@ module _ {T : Type 0} where
       → Leaves old.cursors mid.cursors → mid.cursors.capacity ≡ old.cursors.capacity → (end : Sequence T) → EmptiesList mid end → EmptiesList old end
   emptied_then old mid left keeps leaves capacity end empties = record {
     empty = empties.empty;
+    none_live = empties.none_live;
     for_good = λ u there. elim (left u there) [ inl still ↦ empties.for_good u still | inr spent ↦ empties.gone u spent ];
     gone = λ u s. empties.gone u (keeps u s);
     leaves = leaves_in_turn old.cursors mid.cursors end.cursors leaves empties.leaves;

@@ -216,6 +216,7 @@ impl<K: Key, T: Drop> Scheduler<K, T> {
     pub fn len(&self) -> usize
         ensures value { result ≡ length self.now.waiting }
         ensures live { result ≡ map.len self.now.handles.live }
+        ensures same_keys { (k : KeyOf) → map.contains_key self.now.handles.live k ≡ is_some (job_of k self.now.waiting) }
         ensures sorted { IsByTime self.now.waiting }
         ensures once { IsOnce self.now.waiting }
     {
