@@ -1,4 +1,5 @@
-use Rattle.std.proofs.Common.{◌≡◌, ◌<◌, ◌++◌, ◌∷◌, [], length, ap, ◌∙◌, arith}
+use Rattle.std.proofs.Common.{◌≡◌, ◌<◌, ◌++◌, ◌∷◌, [], length, ap, ◌∙◌, arith, rules}
+use Rattle.std.specs.FinMap as map
 use Rattle.slotmap.proofs.Callers.{leaves_in_turn}
 use Rattle.slotmap.specs.Words.{Content, Inserts}
 use Rattle.slotmap_list.proofs.{Adding.ok_so, Adding.moving_start, Adding.moving_step, Results.on_ok}
@@ -27,3 +28,7 @@ returns-clause-leaves_other g c = leaves_in_turn _ _ _ c.loop-value.invariant.le
 
 pub returns-clause-capacity_other : goal.returns-clause-capacity_other
 returns-clause-capacity_other g c = c.pop_front.ensures.capacity ∙ c.loop-value.invariant.capacity_other
+
+pub returns-clause-none_live : goal.returns-clause-none_live
+returns-clause-none_live g c = let none : c.pop_front.new.self.elements ≡ [] = (search rules) in
+    map.empty_of_len c.pop_front.new.self.cursors.live (omega (arith, c.len-2.ensures.live, c.len-2.ensures.value, ap length none))
