@@ -1,15 +1,17 @@
 -- Many values that are added at the back.
 use Rattle.std.specs.FinMap as map
 use Rattle.std.specs.FinSet as set
-use Rattle.std.proofs.Common.{ℕ, zero, suc, IsErr, ◌<◌, ◌≡◌, ◌≤◌, ◌⊎◌, List, [], ◌∷◌, ◌++◌, length, map as list_map, Some, IsSome, Result, Ok, Err, IsOk, IfOk, inl}
-use Rattle.std.proofs.Common.{inr, refl, sym, ap, subst, ◌∙◌, arith, append_assoc, append-nil}
+use Rattle.std.proofs.Common.{ℕ, zero, suc, IsErr, ◌<◌, ◌≡◌, ◌≤◌, ◌⊎◌, List, [], ◌∷◌, ◌++◌, length, map as list_map, Some, None, IsSome, is_some, Result, Ok, Err, IsOk, IfOk, OnOk, inl}
+use Rattle.std.proofs.Common.{inr, refl, sym, ap, subst, ◌∙◌, arith, append_assoc, append-nil, length-append, ◌+◌}
+use Rattle.std.proofs.lemmas.List.{length-map}
 use Rattle.slotmap.specs.Words.{Key, key_cmp, Content, IsNew, IsSpent, KeepsSpent, Inserts, Keeps, Leaves, used}
 use Rattle.slotmap.proofs.Callers.{keys_total, exact_keys, leaves_in_turn, leaves_none, tied}
-use Rattle.slotmap_list.specs.Sequence.{Sequence, value_of, TakesFront}
+use Rattle.slotmap_list.specs.Sequence.{Sequence, value_of, last_or, key_after, key_before, put_after, put_before, TakesFront}
 use Rattle.slotmap_list.specs.declared.PushError.{PushError}
 use Rattle.slotmap_list.specs.declared.PushError.TheVariants.{Full, Memory}
 use Rattle.slotmap_list.specs.Refused.{RefusesPush}
 use Rattle.slotmap_list.specs.Additions.{Adds, FullAtLimit, refused}
+use Rattle.slotmap_list.proofs.Callers.{put_after_next, put_before_prev, pushed_last}
 
 -- what a call ensures of its result, where it succeeds
 pub ok_so : {A E : Type 0} (r : Result A E) (P Q : A → Type 0) → IsOk r → IfOk r P → IfOk r Q → (x : A) × P x × Q x
@@ -39,6 +41,23 @@ module _ {T : Type 0} where
   full_after old new v (Full back) is keeps = omega (arith, is.0, used_kept old new keeps)
   full_after old new v (Memory back) is keeps = omega (arith, is.0.below_limit, used_kept old new keeps)
 
+  -- a new element stands at the back, or beside the one that was named
+  module _ {K E : Type 0} (data_of : K → Key) (v : T) (old new : List (Key × T)) where
+    pub pushed_behind : (r : Result K E) → IfOk r (λ key. new ≡ old ++ (data_of key, v) ∷ []) → IfOk r (λ key. last_or new None ≡ Some (data_of key))
+    pushed_behind (Ok key) is = ap (λ es. last_or es None) is ∙ pushed_last (data_of key, v) old
+    pushed_behind (Err e) is = is
+
+    pub put_next : (r : Result K E) (k : Key) → OnOk r (IsSome (value_of k old)) → IfOk r (λ key. new ≡ put_after k (data_of key, v) old)
+        → IfOk r (λ key. key_after k new ≡ Some (data_of key))
+    put_next (Ok key) k there is = ap (key_after k) is ∙ put_after_next k (data_of key, v) old there
+    put_next (Err e) k there is = is
+
+    pub put_prev : (r : Result K E) (k : Key) → OnOk r (IsSome (value_of k old)) → IfOk r (λ key. value_of (data_of key) old ≡ None)
+        → IfOk r (λ key. new ≡ put_before k (data_of key, v) old) → IfOk r (λ key. key_before None k new ≡ Some (data_of key))
+    put_prev (Ok key) k there fresh is = ap (key_before None k) is
+        ∙ put_before_prev k (data_of key, v) None old there (λ same. (let h = ap is_some (ap (λ q. value_of q old) same ∙ fresh) in cc))
+    put_prev (Err e) k there fresh is = is
+
   abbrev pub values : List (Key × T) → List T
   values es = list_map (λ e. e.1) es
 
@@ -66,6 +85,9 @@ module _ {T : Type 0} where
     pub adds : Adds old.elements moved now.elements
     pub ahead : moved ++ values other.elements ≡ values old_other.elements
     pub room : length other.elements ≤ now.cursors.room
+    pub used : used now.cursors ≡ used old.cursors + length moved
+    pub room_left : old.cursors.room ≤ now.cursors.room + length moved
+    pub capacity : old.cursors.capacity ≤ now.cursors.capacity
     pub gone : KeepsSpent old.cursors now.cursors
     pub gone_other : KeepsSpent old_other.cursors other.cursors
     pub in_place : length old_other.elements ≤ old.cursors.room → now.cursors.capacity ≡ old.cursors.capacity
@@ -73,13 +95,17 @@ module _ {T : Type 0} where
     pub capacity_other : other.cursors.capacity ≡ old_other.cursors.capacity
     pub taken : (k : Key) → IsSome (value_of k old_other.elements) → IsSome (value_of k other.elements) ⊎ IsSpent other.cursors k
 
-  pub moving_start : (old now other : Sequence T) → now.elements ≡ old.elements → length other.elements ≤ now.cursors.room → KeepsSpent old.cursors now.cursors
+  pub moving_start : (old now other : Sequence T) → now.elements ≡ old.elements → length other.elements ≤ now.cursors.room → Keeps old.cursors now.cursors
+      → old.cursors.capacity ≤ now.cursors.capacity → KeepsSpent old.cursors now.cursors
       → (length other.elements ≤ old.cursors.room → now.cursors.capacity ≡ old.cursors.capacity) → Moving old other now other
-  moving_start old now other same room gone in_place = record {
+  moving_start old now other same room keeps capacity gone in_place = record {
     moved = [];
     adds = subst (Adds old.elements []) (sym same) (Adds-start old.elements);
     ahead = refl;
     room = room;
+    used = omega (arith, used_kept old.cursors now.cursors keeps);
+    room_left = omega (arith, keeps.room);
+    capacity = capacity;
     gone = gone;
     gone_other = λ k spent. spent;
     in_place = in_place;
@@ -87,6 +113,17 @@ module _ {T : Type 0} where
     capacity_other = refl;
     taken = λ k there. inl there;
   }
+
+  -- once the other list is empty, all of its values were moved
+  pub all_moved : (old old_other now other : Sequence T) (m : Moving old old_other now other) → other.elements ≡ [] → length m.moved ≡ length old_other.elements
+  all_moved old old_other now other m none = omega (
+    arith,
+    ap length m.ahead,
+    length-append m.moved (values other.elements),
+    length-map other.elements (λ e. e.1),
+    length-map old_other.elements (λ e. e.1),
+    ap length none,
+  )
 
   stands_or_first : (k : Key) (v : T) (es : List (Key × T)) (q : Key) → IsSome (value_of q ((k, v) ∷ es)) → IsSome (value_of q es) ⊎ (q ≡ k)
   stands_or_first k v es q there = grind (arith, tied keys_total exact_keys q k)
@@ -102,13 +139,16 @@ module _ {T : Type 0} where
   pub moving_step : (old old_other now other next next_other : Sequence T) (k q : Key) (v : T) → Moving old old_other now other
       → TakesFront other.elements (Some (k, v)) next_other.elements → IsSpent next_other.cursors k → KeepsSpent other.cursors next_other.cursors
       → Leaves other.cursors next_other.cursors → next_other.cursors.capacity ≡ other.cursors.capacity → next.cursors.capacity ≡ now.cursors.capacity
-      → next.elements ≡ now.elements ++ (q, v) ∷ [] → Inserts now.cursors q tt next.cursors → KeepsSpent now.cursors next.cursors
+      → next.elements ≡ now.elements ++ (q, v) ∷ [] → Inserts now.cursors q tt next.cursors → used next.cursors ≡ used now.cursors + 1 → KeepsSpent now.cursors next.cursors
       → Moving old old_other next next_other
-  moving_step old old_other now other next next_other k q v m takes spent keeps_other leaves_other capacity_other in_place adds inserts keeps = record {
+  moving_step old old_other now other next next_other k q v m takes spent keeps_other leaves_other capacity_other in_place adds inserts more keeps = record {
     moved = m.moved ++ v ∷ [];
     adds = Adds-push old.elements now.elements next.elements m.moved q v m.adds adds;
     ahead = append_assoc m.moved (v ∷ []) (values next_other.elements) ∙ ap (λ l. m.moved ++ l) (sym (ap values takes)) ∙ m.ahead;
     room = omega (arith, ap length takes, inserts.room, m.room);
+    used = omega (arith, length-append m.moved (v ∷ []), more, m.used);
+    room_left = omega (arith, length-append m.moved (v ∷ []), inserts.room, m.room_left);
+    capacity = omega (arith, in_place, m.capacity);
     gone = λ u s. keeps u (m.gone u s);
     gone_other = λ u s. keeps_other u (m.gone_other u s);
     in_place = λ fits. in_place ∙ m.in_place fits;

@@ -1,9 +1,9 @@
--- What callers of a list cite: which value each cursor has after a call.
-use Rattle.std.proofs.Common.{◌≡◌, ◌≢◌, List, [], ◌∷◌, ◌++◌, Some, None, IsSome, refl, arith}
+-- What callers of a list cite: which value each cursor has after a call, and where a new element stands.
+use Rattle.std.proofs.Common.{◌≡◌, ◌≢◌, List, [], ◌∷◌, ◌++◌, Option, Some, None, IsSome, refl, arith}
 use Rattle.slotmap.specs.Words.{Key}
 use Rattle.slotmap.proofs.Callers.{keys_total, exact_keys, itself, tied}
-use Rattle.slotmap_list.specs.Sequence.{value_of, put_after, put_before, without}
-use Rattle.slotmap_list.proofs.Elements.{other_key}
+use Rattle.slotmap_list.specs.Sequence.{value_of, last_or, key_after, key_before, put_after, put_before, without}
+use Rattle.slotmap_list.proofs.Elements.{last_or-append, other_key}
 
 module _ {T : Type 0} where
   module _ (k : Key) (x : Key × T) where
@@ -23,7 +23,18 @@ module _ {T : Type 0} where
     put_before_other [] q other = refl
     put_before_other (e ∷ es) q other = grind (arith, put_before_other es q other, other_key q x.0 other)
 
+    pub put_after_next : (es : List (Key × T)) → IsSome (value_of k es) → key_after k (put_after k x es) ≡ Some x.0
+    put_after_next [] some = absurd (cc)
+    put_after_next (e ∷ es) some = grind (arith, put_after_next es)
+
+    pub put_before_prev : (other : Option Key) (es : List (Key × T)) → IsSome (value_of k es) → k ≢ x.0 → key_before other k (put_before k x es) ≡ Some x.0
+    put_before_prev other [] some apart = absurd (cc)
+    put_before_prev other (e ∷ es) some apart = grind (arith, put_before_prev (Some e.0) es, other_key k x.0 apart)
+
   module _ (x : Key × T) where
+    pub pushed_last : (es : List (Key × T)) → last_or (es ++ x ∷ []) None ≡ Some x.0
+    pushed_last es = last_or-append es (x ∷ []) None
+
     pub pushed_here : (es : List (Key × T)) → value_of x.0 es ≡ None → value_of x.0 (es ++ x ∷ []) ≡ Some x.1
     pushed_here [] none = grind (arith, itself keys_total exact_keys x.0)
     pushed_here (e ∷ es) none = grind (arith, pushed_here es)

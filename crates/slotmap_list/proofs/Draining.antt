@@ -2,18 +2,31 @@
 use Rattle.std.proofs.Common.{◌≡◌, [], ◌∷◌, Option, Some, None, IsSome, IfSome, ◌⊎◌, inl, inr, refl, ap, subst, ◌∙◌}
 use Rattle.std.specs.Prelude.{option_map}
 use Rattle.slotmap.specs.Words.{Key, IsSpent, KeepsSpent, Leaves}
-use Rattle.slotmap.proofs.Callers.{leaves_in_turn}
+use Rattle.std.specs.FinMap as map
+use Rattle.slotmap.proofs.Callers.{leaves_in_turn, leaves_none}
 use Rattle.slotmap_list.specs.Sequence.{Sequence, value_of, TakesFront}
 use Rattle.slotmap_list.specs.declared.drain.Drain.{Drain}
 use Rattle.slotmap_list.specs.Drain.{EmptiesList, SameLoan, KeepsLent, YieldsInOrder}
 use Rattle.slotmap_list.proofs.Adding.{left_or_spent}
 
 module _ {T : Type 0} where
+  -- a list with no element and no live cursor is emptied
+  pub emptied : (s : Sequence T) → s.elements ≡ [] → map.len s.cursors.live ≡ 0 → EmptiesList s s
+  emptied s empty none = record {
+    empty = empty;
+    none_live = map.empty_of_len s.cursors.live none;
+    for_good = λ u there. absurd (let some = subst (λ l. IsSome (value_of u l)) empty there in cc);
+    gone = λ u spent. spent;
+    leaves = leaves_none s.cursors;
+    capacity = refl;
+  }
+
   -- a list of which a part was taken out, and then the others
   emptied_then : (old mid : Sequence T) → ((u : Key) → IsSome (value_of u old.elements) → IsSome (value_of u mid.elements) ⊎ IsSpent mid.cursors u) → KeepsSpent old.cursors mid.cursors
       → Leaves old.cursors mid.cursors → mid.cursors.capacity ≡ old.cursors.capacity → (end : Sequence T) → EmptiesList mid end → EmptiesList old end
   emptied_then old mid left keeps leaves capacity end empties = record {
     empty = empties.empty;
+    none_live = empties.none_live;
     for_good = λ u there. elim (left u there) [ inl still ↦ empties.for_good u still | inr spent ↦ empties.gone u spent ];
     gone = λ u s. empties.gone u (keeps u s);
     leaves = leaves_in_turn old.cursors mid.cursors end.cursors leaves empties.leaves;

@@ -1,7 +1,8 @@
 -- Lists of elements: how often a key stands in one, its two ends, and its parts.
 use Rattle.std.proofs.Common.{◌≡◌, ◌≢◌, ℕ, ◌+◌, ◌<◌, ◌≤◌, ◌⊎◌, Bool, true, false, cond, List, [], ◌∷◌, ◌++◌, Option, Some, None, IsSome, refl, sym, ap}
-use Rattle.std.proofs.Common.{◌∙◌, inl, inr, arith}
+use Rattle.std.proofs.Common.{◌∙◌, inl, inr, length, arith}
 use Rattle.std.specs.Ordering.{eq_by_cmp}
+use Rattle.std.specs.FinMap as map
 use Rattle.slotmap.specs.Words.{Key, key_cmp}
 use Rattle.slotmap.proofs.Callers.{keys_total, exact_keys, tied, untied, itself, same_or_other}
 use Rattle.slotmap_list.specs.Sequence.{value_of, first_or, last_or, key_after, key_before, from_key, put_after, put_before, without, with_value_at, IsOnce}
@@ -52,6 +53,11 @@ module _ {T : Type 0} where
   -- one element more
   pub times-put : (q : Key) (ys : List (Key × T)) (e : Key × T) (zs : List (Key × T)) → times q (ys ++ e ∷ zs) ≡ one q e.0 + times q (ys ++ zs)
   times-put q ys e zs = omega (arith, times-append q ys (e ∷ zs), times-append q ys zs)
+
+  -- where no key stands twice, there are as many keys as elements
+  pub once_long : (es : List (Key × T)) → IsOnce es → map.len (map.from_entries {R = key_cmp} es) ≡ length es
+  once_long [] once = omega (arith, map.len-empty key_cmp T)
+  once_long (e ∷ es) once = grind (arith, once_long es once.1, map.len-insert keys_total (map.from_entries es) e.0 e.1, map.get-from_entries keys_total es e.0)
 
   pub times_none : (q : Key) (es : List (Key × T)) → value_of q es ≡ None → times q es ≡ 0
   times_none q [] none = refl

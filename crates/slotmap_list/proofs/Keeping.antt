@@ -2,14 +2,15 @@
 use Rattle.std.proofs.Common.{◌≡◌, ◌≢◌, Bool, true, false, cond, List, [], ◌∷◌, ◌++◌, Option, Some, None, is_some, inl, inr, refl, sym, ap, ◌∙◌, arith}
 use Rattle.slotmap.specs.Words.{Key}
 use Rattle.slotmap.proofs.Callers.{keys_total, exact_keys, tied, same_or_other}
-use Rattle.slotmap_list.specs.Sequence.{value_of, last_or, without, moved_to_back, put_again, IsOnce}
+use Rattle.slotmap_list.specs.Sequence.{value_of, last_or, key_after, key_before, without, moved_to_back, put_again, are_two, IsOnce}
 use Rattle.slotmap_list.specs.ListPlaces.{is_move, is_place, moved_to, put_by_place}
 use Rattle.slotmap_list.specs.declared.place.Side.TheVariants.{Before, After}
 use Rattle.slotmap_list.specs.declared.place.Place.{Place}
 use Rattle.slotmap_list.specs.declared.place.Place.TheVariants.{Front, Back, Beside}
 use Rattle.slotmap_list.proofs.Elements.{itself_first, last_or-append, other_key}
-use Rattle.slotmap_list.proofs.Callers.{put_after_here, put_after_other, put_before_here, put_before_other, pushed_here, pushed_other, without_other}
-use Rattle.slotmap_list.proofs.Moving.{move_stays, mover_stands, place_left, put_there}
+use Rattle.slotmap_bounded.proofs.Indices.{some_is}
+use Rattle.slotmap_list.proofs.Callers.{put_after_here, put_after_next, put_after_other, put_before_here, put_before_other, put_before_prev, pushed_here, pushed_other, without_other}
+use Rattle.slotmap_list.proofs.Moving.{move_stays, mover_stands, place_left, put_there, two}
 
 module _ {T : Type 0} where
   without_itself : (k : Key) (es : List (Key × T)) → IsOnce es → value_of k (without k es) ≡ None
@@ -45,6 +46,19 @@ module _ {T : Type 0} where
       by : (b : Bool) → is_move k place es ≡ b → value_of q (moved_to place k es) ≡ value_of q es
       by false stays = ap (value_of q) (sym (move_stays place k es stays))
       by true can = there (value_of k es) can refl (mover_stands place k es can)
+
+  -- the element that moved beside another one is there
+  module _ (k other : Key) (es : List (Key × T)) (can : are_two k other es ≡ true) where
+    own : (v : T) × (value_of k es ≡ Some v)
+    own = some_is (value_of k es) (two k other es can).1
+
+    pub moved_next : key_after other (moved_to (Beside After other) k es) ≡ Some k
+    moved_next = ap (key_after other) (sym (put_there (Beside After other) k own.0 es can own.1))
+        ∙ put_after_next other (k, own.0) (without k es) (place_left (Beside After other) k es can)
+
+    pub moved_prev : key_before None other (moved_to (Beside Before other) k es) ≡ Some k
+    moved_prev = ap (key_before None other) (sym (put_there (Beside Before other) k own.0 es can own.1))
+        ∙ put_before_prev other (k, own.0) None (without k es) (place_left (Beside Before other) k es can) (two k other es can).0
 
   -- the element that moved to an end is there
   pub moved_last : (k : Key) (es : List (Key × T)) → is_some (value_of k es) ≡ true → last_or (moved_to_back k es) None ≡ Some k

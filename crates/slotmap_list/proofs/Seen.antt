@@ -7,7 +7,9 @@ use Rattle.slotmap_links.specs.Lists.{Lists, list_of, times, IsIn}
 use Rattle.slotmap_list.specs.Sequence.{value_of, first_or, last_or, key_after, key_before, from_key, IsOnce}
 use Rattle.slotmap_links.proofs.Counts.{times_first}
 use Rattle.slotmap_list.specs.Kept.{elements_at, key_there, IsKept, IsRest}
-use Rattle.slotmap_list.proofs.Elements.{Absent, absent, times_none}
+use Rattle.slotmap.proofs.Callers.{keys_total}
+use Rattle.slotmap_keylist.proofs.Alone.{len_alike}
+use Rattle.slotmap_list.proofs.Elements.{Absent, absent, once_long, times_none}
 use Rattle.slotmap_bounded.proofs.Indices.{some_is}
 use Rattle.slotmap_list.proofs.Indices.{elements_long, first_at, last_at}
 use Rattle.slotmap_list.proofs.Parts.{IsAt, stands_at, value_none, value_there, next_there, prev_there, from_at, elements_once}
@@ -57,6 +59,10 @@ module _ {T : Type 0} {c : Content T} {s : Lists} (kept : IsKept c s) where
 
   pub stands_if : (k : Key) → map.contains_key c.live k ≡ is_some (value_of k es)
   stands_if k = sym (ap is_some (value_at k))
+
+  -- there is a live key for each element
+  pub live_long : map.len c.live ≡ length es
+  live_long = sym (len_alike (map.from_entries es) c.live (λ q. ap is_some (map.get-from_entries keys_total es q ∙ value_at q))) ∙ once_long es no_key_twice
 
   -- a key that isn't live doesn't stand
   pub gone_from : (k : Key) → map.contains_key c.live k ≡ false → Absent k es

@@ -2,13 +2,15 @@
 use Rattle.std.specs.Prelude.{◌≡◌, ◌++◌, List, [], Option, IsSome, length, map as list_map, option_map}
 use Rattle.std.specs.Borrow.{MutBor}
 use Rattle.std.specs.Iterator.{Count, at_most, Yields}
+use Rattle.std.specs.FinMap as map
 use Rattle.slotmap.specs.Words.{Key, IsSpent, KeepsSpent, Leaves}
 use Rattle.slotmap_list.specs.Sequence.{Sequence, value_of, TakesFront}
 use Rattle.slotmap_list.specs.declared.drain.Drain.{Drain}
 
--- no element is left, and the cursors of all that there were are spent; no room is lost, and the capacity stays
+-- no element is left, no cursor is live, and those of all that there were are spent; no room is lost, and the capacity stays
 pub record EmptiesList {T : Type 0} (old new : Sequence T) : Type 0 where
   pub empty : new.elements ≡ []
+  pub none_live : new.cursors.live ≡ map.empty
   pub for_good : (k : Key) → IsSome (value_of k old.elements) → IsSpent new.cursors k
   pub gone : KeepsSpent old.cursors new.cursors
   pub leaves : Leaves old.cursors new.cursors

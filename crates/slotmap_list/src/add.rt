@@ -2,7 +2,7 @@
 
 ghost use Rattle.std.specs.Prelude.{◌≡◌, ◌+◌, ◌<◌, ◌≤◌, ◌++◌, ◌∷◌, [], IsOk, IfOk, OnOk, IfErr, OnErr, IsSome, IsTrue, ◌↔◌, None, true};
 ghost use Rattle.slotmap.specs.Words.{HasVacant, Inserts, IsSpent, Keeps, KeepsSpent, used};
-ghost use Rattle.slotmap_list.specs.Sequence.{value_of, put_after, put_before};
+ghost use Rattle.slotmap_list.specs.Sequence.{value_of, last_or, key_after, key_before, put_after, put_before};
 ghost use Rattle.slotmap_list.specs.ListPlaces.{insert_beside, is_place, put_by_place};
 ghost use Rattle.slotmap_list.specs.Refused.{RefusesPlace, RefusesPush};
 
@@ -79,6 +79,7 @@ impl<K: Key, T: Drop> StableList<K, T> {
     /// ```
     pub fn push_back(&mut self, value: T) -> Result<K, PushError<T>>
         ensures ok { IfOk result (λ key. self.new.elements ≡ self.old.elements ++ (K.data_of key, value) ∷ []) }
+        ensures last { IfOk result (λ key. last_or self.new.elements None ≡ Some (K.data_of key)) }
         ensures fresh { IfOk result (λ key. value_of (K.data_of key) self.old.elements ≡ None) }
         ensures unspent { IfOk result (λ key. IsSpent self.old.cursors (K.data_of key) → ⊥) }
         ensures cursors { IfOk result (λ key. Inserts self.old.cursors (K.data_of key) tt self.new.cursors) }
@@ -168,6 +169,7 @@ impl<K: Key, T: Drop> StableList<K, T> {
     /// ```
     pub fn insert_after(&mut self, cursor: K, value: T) -> Result<K, PlaceError<T>>
         ensures ok { IfOk result (λ key. self.new.elements ≡ put_after (K.data_of cursor) (K.data_of key, value) self.old.elements) }
+        ensures next { IfOk result (λ key. key_after (K.data_of cursor) self.new.elements ≡ Some (K.data_of key)) }
         ensures fresh { IfOk result (λ key. value_of (K.data_of key) self.old.elements ≡ None) }
         ensures unspent { IfOk result (λ key. IsSpent self.old.cursors (K.data_of key) → ⊥) }
         ensures cursors { IfOk result (λ key. Inserts self.old.cursors (K.data_of key) tt self.new.cursors) }
@@ -201,6 +203,7 @@ impl<K: Key, T: Drop> StableList<K, T> {
     /// ```
     pub fn insert_before(&mut self, cursor: K, value: T) -> Result<K, PlaceError<T>>
         ensures ok { IfOk result (λ key. self.new.elements ≡ put_before (K.data_of cursor) (K.data_of key, value) self.old.elements) }
+        ensures prev { IfOk result (λ key. key_before None (K.data_of cursor) self.new.elements ≡ Some (K.data_of key)) }
         ensures fresh { IfOk result (λ key. value_of (K.data_of key) self.old.elements ≡ None) }
         ensures unspent { IfOk result (λ key. IsSpent self.old.cursors (K.data_of key) → ⊥) }
         ensures cursors { IfOk result (λ key. Inserts self.old.cursors (K.data_of key) tt self.new.cursors) }

@@ -40,6 +40,10 @@ impl<K: Key, T: Drop> StableList<K, T> {
         ensures in_place { OnOk result (length self.new.elements ≤ self.old.cursors.room + length self.old.elements
             → self.new.cursors.capacity ≡ self.old.cursors.capacity) }
 
+        // Each value takes room for one key at most, and the capacity doesn't shrink.
+        ensures room_left { self.old.cursors.room + length self.old.elements ≤ self.new.cursors.room + length self.new.elements }
+        ensures capacity { self.old.cursors.capacity ≤ self.new.cursors.capacity }
+
         // What never comes again.
         ensures gone { KeepsSpent self.old.cursors self.new.cursors }
     {
@@ -73,6 +77,7 @@ impl<K: Key, T: Drop> StableList<K, T> {
             I.IntoIter.can_next it × IsFinite (I.IntoIter.remaining it) }
         ensures ok { IfOk result (λ list. (it : I.IntoIter) × (values : List T) × I.into_iter_gives iter it
             × Drains I.IntoIter.next_gives it values × (list_map (λ e. e.1) list.elements ≡ values)) }
+        ensures used { IfOk result (λ list. used list.cursors ≡ length list.elements) }
         ensures err { IfErr result (λ error. IfSome error (λ back. (it : I.IntoIter) × (values : List T) × (rest : I.IntoIter)
             × I.into_iter_gives iter it × YieldsThen I.IntoIter.next_gives it values (Some (refused back)) rest × FullAfter (length values) back)) }
         ensures none { IfErr result (λ error. error ≡ None → (it : I.IntoIter) × I.into_iter_gives iter it × Drains I.IntoIter.next_gives it []) }
@@ -111,6 +116,7 @@ impl<K: Key, T: Drop> StableList<K, T> {
     pub fn append<L: Key>(&mut self, other: &mut StableList<L, T>) -> Result<(), ReserveError>
         ensures adds { OnOk result (Adds self.old.elements (list_map (λ e. e.1) other.old.elements) self.new.elements) }
         ensures empty { OnOk result (other.new.elements ≡ []) }
+        ensures none_live { OnOk result (other.new.cursors.live ≡ map.empty) }
         ensures for_good { OnOk result ((k : KeyOf) → IsSome (value_of k other.old.elements) → IsSpent other.new.cursors k) }
 
         // Why the call failed, and what that leaves.
@@ -120,6 +126,11 @@ impl<K: Key, T: Drop> StableList<K, T> {
         ensures same_elements { OnErr result (self.new.elements ≡ self.old.elements) }
         ensures keeps { OnErr result (Keeps self.old.cursors self.new.cursors) }
         ensures same_other { OnErr result (other.new ≡ other.old) }
+
+        // Each value takes room for one key at most, and the capacity doesn't shrink.
+        ensures used { OnOk result (used self.new.cursors ≡ used self.old.cursors + length other.old.elements) }
+        ensures room_left { OnOk result (self.old.cursors.room ≤ self.new.cursors.room + length other.old.elements) }
+        ensures capacity { self.old.cursors.capacity ≤ self.new.cursors.capacity }
 
         // What stays: the capacity, if there is room, and that of the other list, which loses no room.
         ensures in_place { length other.old.elements ≤ self.old.cursors.room → self.new.cursors.capacity ≡ self.old.cursors.capacity }
@@ -134,6 +145,8 @@ impl<K: Key, T: Drop> StableList<K, T> {
         while let Some((_, value)) = other.pop_front() {
             let _ = self.push_back(value);
         }
+        // By what `len` ensures, none of the other list's cursors is live.
+        let _ = other.len();
         Ok(())
     }
 }

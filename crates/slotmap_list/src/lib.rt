@@ -36,10 +36,10 @@
 //! ```
 #![tactic(auto, using(slotmap::proofs::Callers::keys))]
 
-ghost use Rattle.std.specs.Prelude.{◌≡◌, ◌+◌, ◌<◌, ◌≤◌, ◌^◌, ◌∷◌, [], Some, None, true, IsOk, IfOk, OnOk, IfErr, IfSome, IsTrue, ◌↔◌};
+ghost use Rattle.std.specs.Prelude.{◌≡◌, ◌<◌, ◌≤◌, ◌^◌, ◌∷◌, [], Some, None, true, IfOk, IfErr, IsTrue, ◌↔◌};
 ghost use Rattle.std.specs.Prelude.{is_some, length, option_copied, option_map, map as list_map};
 ghost use Rattle.std.specs.FinMap as map;
-ghost use Rattle.slotmap.specs.Words.{IsContent, IsNew, IsSpent, Keeps, KeepsSpent, MakesRoom, RefusesCapacity, used};
+ghost use Rattle.slotmap.specs.Words.{Key as KeyOf, IsNew, IsSpent, RefusesCapacity};
 ghost use Rattle.slotmap_list.specs.Kept.{key_there};
 ghost use Rattle.slotmap_list.specs.Sequence.{value_of, first_or, last_or, key_after, key_before, IsOnce};
 
@@ -64,6 +64,7 @@ mod moves;
 mod place;
 mod rest;
 mod retain;
+mod room;
 mod take;
 mod values;
 
@@ -127,9 +128,6 @@ pub enum PlaceError<T> {
     Memory(T),
 }
 
-// How many elements a list has at most.
-const MOST: usize = 4294967294;
-
 // Makes links for the numbers below `members`, with one list, which is empty.
 fn one_list(alloc: Global, members: usize) -> Result<Links, AllocError>
     requires { members < 2 ^ 32 }
@@ -139,22 +137,6 @@ fn one_list(alloc: Global, members: usize) -> Result<Links, AllocError>
     links.cover_owners(1)?;
     links.cover_members(members)?;
     Ok(links)
-}
-
-// Lets the numbers below `needed` be in the list. Where links have to be added, at least 64 are, as
-// long as there may be so many. So a list that grows from nothing to 64 elements adds links once.
-fn cover(links: &mut Links, needed: usize) -> Result<(), AllocError>
-    requires { needed < 2 ^ 32 }
-    ensures covers { OnOk result (needed ≤ links.new.members) }
-    ensures lists { links.new.lists ≡ links.old.lists }
-    ensures more { links.old.members ≤ links.new.members }
-    ensures had_room { needed ≤ links.old.members → IsOk result }
-{
-    let members = links.members();
-    if needed <= members {
-        return Ok(());
-    }
-    links.cover_members(needed.max((members + 64).min(MOST)))
 }
 
 // The live key with an index, if there is one.
@@ -244,59 +226,6 @@ impl<K: Key, T: Drop> StableList<K, T> {
         Ok(StableList { values, links })
     }
 
-    /// Reserves room for `additional` more elements.
-    ///
-    /// Adding the next `additional` elements can't fail, except with `Gone`, and the capacity stays then.
-    /// If there is room for them already, the call succeeds and changes nothing, in constant time. Else
-    /// it takes time linear in the capacity. The errors are these; either leaves the same elements:
-    ///
-    /// - `TooGreat`: more than 4294967294 elements would be there, counting those whose slots are
-    ///   retired.
-    /// - `Memory`: memory runs out.
-    ///
-    /// ```
-    /// let mut list = StableList::new(alloc)?;
-    /// list.reserve(2)?;
-    /// let capacity = list.capacity();
-    /// list.push_back(1)?;
-    /// list.push_back(2)?;
-    /// assert_eq!(rt; list.capacity(), capacity);
-    /// ```
-    #[inline(never)]
-    pub fn reserve(&mut self, additional: usize) -> Result<(), ReserveError>
-        ensures makes_room { MakesRoom true self.old.cursors additional (IsOk result) self.new.cursors }
-        ensures room { OnOk result (additional ≤ self.new.cursors.room) }
-        ensures had_room { additional ≤ self.old.cursors.room → IsOk result }
-        ensures reuses { additional ≤ map.len self.old.cursors.next → IsOk result }
-        ensures err { IfErr result (RefusesCapacity (used self.old.cursors + additional)) }
-        ensures elements { self.new.elements ≡ self.old.elements }
-        ensures keeps { Keeps self.old.cursors self.new.cursors }
-        ensures gone { KeepsSpent self.old.cursors self.new.cursors }
-    {
-        let capacity = self.values.capacity_for(additional)?;
-        if cover(&mut self.links, capacity + 1).is_err() {
-            return Err(ReserveError::Memory);
-        }
-        self.values.reserve(additional)
-    }
-
-    /// Returns how many elements there can be before more room is made, in constant time. It counts
-    /// the slots that are retired.
-    ///
-    /// ```
-    /// let mut list = StableList::with_capacity(alloc, 2)?;
-    /// let capacity = list.capacity();
-    /// assert!(rt; capacity >= 2);
-    /// list.push_back(1)?;
-    /// assert_eq!(rt; list.capacity(), capacity);
-    /// ```
-    pub fn capacity(&self) -> usize
-        ensures value { result ≡ self.now.cursors.capacity }
-        ensures valid { IsContent true self.now.cursors }
-    {
-        self.values.capacity()
-    }
-
     /// Returns whether a cursor is in the list, in constant time.
     ///
     /// ```
@@ -325,6 +254,8 @@ impl<K: Key, T: Drop> StableList<K, T> {
     pub fn len(&self) -> usize
         ensures value { result ≡ length self.now.elements }
         ensures once { IsOnce self.now.elements }
+        ensures live { result ≡ map.len self.now.cursors.live }
+        ensures same_keys { (k : KeyOf) → map.contains_key self.now.cursors.live k ≡ is_some (value_of k self.now.elements) }
     {
         self.links.len(0)
     }

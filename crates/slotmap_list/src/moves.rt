@@ -4,7 +4,7 @@ ghost use Rattle.std.specs.Prelude.{◌≡◌, ◌-◌, Some, None, true, false,
 ghost use Rattle.std.specs.Borrow.{sem};
 ghost use Rattle.std.specs.Option.{option_copied_mut};
 ghost use Rattle.slotmap.specs.Words.{Key as KeyOf};
-ghost use Rattle.slotmap_list.specs.Sequence.{value_of, first_or, last_or, moved_to_front, moved_to_back, moved_after, moved_before, are_two, Swaps};
+ghost use Rattle.slotmap_list.specs.Sequence.{value_of, first_or, last_or, key_after, key_before, moved_to_front, moved_to_back, moved_after, moved_before, are_two, Swaps};
 ghost use Rattle.slotmap_list.specs.ListPlaces.{is_move, moved_to, before_or_back};
 
 use crate::StableList;
@@ -153,6 +153,7 @@ impl<K: Key, T: Drop> StableList<K, T> {
         ensures which { result ≡ are_two (K.data_of cursor) (K.data_of other) self.old.elements }
         ensures moved { self.new ≡ record self.old
             { elements = if result then moved_after (K.data_of cursor) (K.data_of other) self.old.elements else self.old.elements } }
+        ensures next { IsTrue result → key_after (K.data_of other) self.new.elements ≡ Some (K.data_of cursor) }
         ensures values { (q : KeyOf) → value_of q self.new.elements ≡ value_of q self.old.elements }
     {
         self.move_to(cursor, Place::Beside(Side::After, other.data()))
@@ -175,6 +176,7 @@ impl<K: Key, T: Drop> StableList<K, T> {
         ensures which { result ≡ are_two (K.data_of cursor) (K.data_of other) self.old.elements }
         ensures moved { self.new ≡ record self.old
             { elements = if result then moved_before (K.data_of cursor) (K.data_of other) self.old.elements else self.old.elements } }
+        ensures prev { IsTrue result → key_before None (K.data_of other) self.new.elements ≡ Some (K.data_of cursor) }
         ensures values { (q : KeyOf) → value_of q self.new.elements ≡ value_of q self.old.elements }
     {
         self.move_to(cursor, Place::Beside(Side::Before, other.data()))

@@ -1,6 +1,7 @@
 //! The calls that remove elements.
 
 ghost use Rattle.std.specs.Prelude.{◌≡◌, [], IfNone, IfSome, OnSome, IsSome, None, option_map};
+ghost use Rattle.std.specs.FinMap as map;
 ghost use Rattle.slotmap.specs.Words.{Key as KeyOf, IsSpent, KeepsSpent, Leaves, Removes};
 ghost use Rattle.slotmap_list.specs.Sequence.{value_of, without, TakesFront, TakesBack};
 
@@ -48,6 +49,7 @@ impl<K: Key, T: Drop> StableList<K, T> {
         ensures front { TakesFront self.old.elements (option_map (λ e. (K.data_of e.0, e.1)) result) self.new.elements }
         ensures cursors { IfSome result (λ element. Removes self.old.cursors (K.data_of element.0) self.new.cursors) }
         ensures for_good { IfSome result (λ element. IsSpent self.new.cursors (K.data_of element.0)) }
+        ensures absent { IfSome result (λ element. value_of (K.data_of element.0) self.new.elements ≡ None) }
         ensures gone { KeepsSpent self.old.cursors self.new.cursors }
         ensures leaves { Leaves self.old.cursors self.new.cursors }
         ensures capacity { self.new.cursors.capacity ≡ self.old.cursors.capacity }
@@ -72,6 +74,7 @@ impl<K: Key, T: Drop> StableList<K, T> {
         ensures back { TakesBack self.old.elements (option_map (λ e. (K.data_of e.0, e.1)) result) self.new.elements }
         ensures cursors { IfSome result (λ element. Removes self.old.cursors (K.data_of element.0) self.new.cursors) }
         ensures for_good { IfSome result (λ element. IsSpent self.new.cursors (K.data_of element.0)) }
+        ensures absent { IfSome result (λ element. value_of (K.data_of element.0) self.new.elements ≡ None) }
         ensures gone { KeepsSpent self.old.cursors self.new.cursors }
         ensures leaves { Leaves self.old.cursors self.new.cursors }
         ensures capacity { self.new.cursors.capacity ≡ self.old.cursors.capacity }
@@ -94,11 +97,14 @@ impl<K: Key, T: Drop> StableList<K, T> {
     /// ```
     pub fn clear(&mut self)
         ensures empty { self.new.elements ≡ [] }
+        ensures none_live { self.new.cursors.live ≡ map.empty }
         ensures for_good { (k : KeyOf) → IsSome (value_of k self.old.elements) → IsSpent self.new.cursors k }
         ensures gone { KeepsSpent self.old.cursors self.new.cursors }
         ensures leaves { Leaves self.old.cursors self.new.cursors }
         ensures capacity { self.new.cursors.capacity ≡ self.old.cursors.capacity }
     {
         while self.pop_front().is_some() {}
+        // By what `len` ensures, no cursor is live.
+        let _ = self.len();
     }
 }

@@ -36,6 +36,11 @@ module _ {T : Type 0} (time : ℕ) where
   none_sooner x [] low all = All-cons NoSooner x [] low all
   none_sooner x (e ∷ es) low all = grind (arith, All-cons NoSooner, All-head NoSooner e es all, none_sooner x es low (All-tail NoSooner e es all))
 
+-- a job that is scheduled for later isn't due now
+pub none_due_more : {T : Type 0} (now : ℕ) (x : Key × (ℕ × T)) (es : Waiting T) → now < x.1.0 → due_at now (in_turn x es) ≡ due_at now es
+none_due_more now x [] later = grind (arith, nat_tests)
+none_due_more now x (e ∷ es) later = grind (arith, nat_tests, none_due_more now x es later)
+
 -- of two jobs that are taken out one after the other, the first is due no later
 pub first_no_later : {T : Type 0} (a b : Key × (ℕ × T)) (es fs gs : Waiting T) → IsByTime es → es ≡ a ∷ fs → fs ≡ b ∷ gs → a.1.0 ≤ b.1.0
 first_no_later {T} a b es fs gs sorted one two = grind arith

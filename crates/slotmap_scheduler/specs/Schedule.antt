@@ -1,5 +1,5 @@
 -- A scheduler as its user sees it: the jobs that wait, in the order of their turns.
-use Rattle.std.specs.Prelude.{◌≡◌, ℕ, ◌^◌, ◌-◌, ◌<◌, ◌≤◌, ◌⊎◌, not, nat_lt, refl, List, [], ◌∷◌, Option, None, cond}
+use Rattle.std.specs.Prelude.{◌≡◌, ℕ, ◌^◌, ◌-◌, ◌<◌, ◌≤◌, ◌⊎◌, true, not, nat_lt, is_some, refl, List, [], ◌∷◌, Option, None, cond}
 use Rattle.std.specs.Ordering.{eq_by_cmp}
 use Rattle.std.specs.List.{All, filter}
 use Rattle.std.specs.FinMap.Entries.{find}
@@ -66,7 +66,7 @@ module _ {T : Type 0} where
   RefusesJob s job (Full back) = ((used s.handles ≡ most) ⊎ (s.turns ≡ last_turn)) × (back ≡ job)
   RefusesJob s job (Memory back) = LacksRoom s.handles × (s.turns < last_turn) × (back ≡ job)
 
-  -- `Gone` if and only if no job waits under k; `Full` only if the last turn was given out
+  -- `Gone` if and only if no job waits under k; `Full` only if one does, and the last turn was given out
   abbrev pub RefusesMove : Schedule T → Key → RescheduleError → Type 0
   RefusesMove s k move.Gone = job_of k s.waiting ≡ None
-  RefusesMove s k move.Full = s.turns ≡ last_turn
+  RefusesMove s k move.Full = (is_some (job_of k s.waiting) ≡ true) × (s.turns ≡ last_turn)

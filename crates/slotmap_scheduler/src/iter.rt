@@ -68,7 +68,8 @@ impl<'a, K: Key, T: Drop> IntoIterator for &'a Scheduler<K, T> {
 
     type IntoIter = Iter<'a, K, T>;
 
-    ghost into_iter_gives = { λ scheduler it. ListsJobs scheduler.now.waiting it };
+    ghost into_iter_gives = { λ scheduler it. ListsJobs scheduler.now.waiting it × IsOnce it
+        × (list_map (λ e. e.0) it ≡ map.keys scheduler.now.handles.live) };
 
     fn into_iter(self) -> Iter<'a, K, T> {
         self.iter()

@@ -34,7 +34,7 @@
 
 ghost use Rattle.std.specs.Prelude.{◌≡◌, ℕ, ◌+◌, ◌≤◌, [], IfOk, OnOk, IfErr, IfSome, Some, true, option_copied, option_map, is_some, length, IsTrue, ◌↔◌};
 ghost use Rattle.std.specs.FinMap as map;
-ghost use Rattle.slotmap.specs.Words.{IsContent, IsNew, RefusesCapacity};
+ghost use Rattle.slotmap.specs.Words.{Key as KeyOf, IsContent, IsNew, RefusesCapacity};
 ghost use Rattle.std.specs.Borrow.{sem};
 ghost use Rattle.std.specs.Option.{option_copied_mut};
 ghost use Rattle.slotmap_scheduler.specs.Schedule.{job_of, IsOnce, IsByTime};
@@ -101,7 +101,7 @@ impl<K, T> Model for Scheduler<K, T> {
 pub enum ScheduleError<T> {
     /// The waiting jobs and the retired slots are as many as a map can hold, 4294967294, or all turns
     /// were given out.
-    #[error("no turn is left")]
+    #[error("the scheduler is full")]
     Full(T),
     /// An allocation failed.
     #[error("out of memory")]
@@ -216,6 +216,7 @@ impl<K: Key, T: Drop> Scheduler<K, T> {
     pub fn len(&self) -> usize
         ensures value { result ≡ length self.now.waiting }
         ensures live { result ≡ map.len self.now.handles.live }
+        ensures same_keys { (k : KeyOf) → map.contains_key self.now.handles.live k ≡ is_some (job_of k self.now.waiting) }
         ensures sorted { IsByTime self.now.waiting }
         ensures once { IsOnce self.now.waiting }
     {

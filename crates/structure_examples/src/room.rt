@@ -1,6 +1,7 @@
 //! Structures with room that are emptied and take more, which can't fail.
 
-ghost use Rattle.std.specs.Prelude.{◌≡◌, ◌<◌, ◌≤◌, ◌+◌, ◌∷◌, [], IfOk, map as list_map};
+ghost use Rattle.std.specs.Prelude.{◌≡◌, ◌<◌, ◌≤◌, ◌+◌, ◌∷◌, [], IfOk, false, length, map as list_map};
+ghost use Rattle.slotmap.specs.Words.{Key as KeyOf, IsLive, is_last};
 
 use slotmap::{DefaultKey, NodeKey, ReserveError};
 use slotmap_graph::Graph;
@@ -24,6 +25,21 @@ pub fn refilled_list(alloc: Global, value: u64) -> Result<StableList<Cursor, u64
     };
     prove_eq!(list.capacity(), capacity);
     Ok(list)
+}
+
+/// Removes all elements, and adds as many new ones. It can't fail, and the capacity stays.
+///
+/// No slot may be retired by it, so no cursor has the last version of its slot.
+pub fn fill_list_again(list: &mut StableList<Cursor, u64>, value: u64)
+    requires not_last { (k : KeyOf) → IsLive list.old.cursors k → is_last k ≡ false }
+    ensures filled { length list.new.elements ≡ length list.old.elements }
+    ensures capacity { list.new.cursors.capacity ≡ list.old.cursors.capacity }
+{
+    let count = list.len();
+    list.clear();
+    for _ in 0..count {
+        let _ = list.push_back(value);
+    }
 }
 
 // Adds a node, and an edge from it to itself.

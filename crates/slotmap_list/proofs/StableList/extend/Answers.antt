@@ -21,6 +21,7 @@ loop-value-preserved g c =
     let in_place : length c.push_back.new.self.elements ≤ c.args.self.now.cursors.room + length c.args.self.now.elements
     → c.push_back.new.self.cursors.capacity ≡ c.args.self.now.cursors.capacity = λ fits.
     c.push_back.ensures.in_place (omega (arith, long, at.invariant.2.room)) ∙ at.invariant.2.in_place (omega (arith, long)) in
+    let capacity : c.args.self.now.cursors.capacity ≤ c.push_back.new.self.cursors.capacity = omega (arith, c.push_back.ensures.capacity, at.invariant.2.capacity) in
     let gone : KeepsSpent c.args.self.now.cursors c.push_back.new.self.cursors = λ k spent. c.push_back.ensures.gone k (at.invariant.2.gone k spent) in
     search rules
 
@@ -59,3 +60,9 @@ returns-in-Err-clause-reuses g c =
       c.loop-value.invariant.2.vacant,
       ap length c.in-Err.ensures.unchanged,
     )
+
+pub returns-in-Err-clause-room_left : goal.returns-in-Err-clause-room_left
+returns-in-Err-clause-room_left g c = omega (arith, c.loop-value.invariant.2.room, ap length c.in-Err.ensures.unchanged, c.in-Err.ensures.keeps.room)
+
+pub returns-in-Err-clause-capacity : goal.returns-in-Err-clause-capacity
+returns-in-Err-clause-capacity g c = omega (arith, c.push_back.ensures.capacity, c.loop-value.invariant.2.capacity)

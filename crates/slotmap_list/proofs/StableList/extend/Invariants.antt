@@ -11,5 +11,6 @@ invariant-loop-value g l = (goal.iterator-loop-value g).can_next l.value-iterato
   room : l.fn.self.cursors.room + length l.fn.self.elements ≤ l.self.cursors.room + length l.self.elements;
   vacant : map.len l.fn.self.cursors.next + length l.fn.self.elements ≤ map.len l.self.cursors.next + length l.self.elements;
   in_place : length l.self.elements ≤ l.fn.self.cursors.room + length l.fn.self.elements → l.self.cursors.capacity ≡ l.fn.self.cursors.capacity;
+  capacity : l.fn.self.cursors.capacity ≤ l.self.cursors.capacity;
   gone : KeepsSpent l.fn.self.cursors l.self.cursors;
 }

@@ -15,3 +15,7 @@ returns-in-Err-clause-err g c =
 
 pub returns-in_default-clause-err : goal.returns-in_default-clause-err
 returns-in_default-clause-err g c = (c.into_iter.result, [], c.next.new.self, c.into_iter.ensures.into_iter_gives, (c.into_iter.result, refl, c.in-Some.ensures.steps), omega arith)
+
+pub returns-in-Ok-extend-clause-used : goal.returns-in-Ok-extend-clause-used
+returns-in-Ok-extend-clause-used g c =
+    omega (arith, c.in-Ok-extend.ensures.used, used_new c.in-Ok.list.cursors c.in-Ok.ensures.cursors, ap length c.in-Ok.ensures.empty)
