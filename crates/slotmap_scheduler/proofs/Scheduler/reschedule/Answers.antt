@@ -12,9 +12,9 @@ pub returns-then-not-contains_key-clause-err : goal.returns-then-not-contains_ke
 returns-then-not-contains_key-clause-err g c =
     rw (← c.self.view_is, ← c.inner-key.ensures) (none_seen c.self.invariant c.inner-key.result (none_of _ (sym c.contains_key.ensures.value ∙ c.if-not-contains_key.true)))
 
-pub returns-then-is_eq-clause-err : goal.returns-then-is_eq-clause-err
-returns-then-is_eq-clause-err g c = let j = some_is _ (sym c.contains_key.ensures.value ∙ c.if-not-contains_key.false) in
-    rw (← c.self.view_is, ← c.inner-key.ensures) (ap is_some (found_waits c.self.invariant c.inner-key.result j.0 j.1), c.if-is_eq.true)
+pub returns-then-self-clause-err : goal.returns-then-self-clause-err
+returns-then-self-clause-err g c = let j = some_is _ (sym c.contains_key.ensures.value ∙ c.if-not-contains_key.false) in
+    rw (← c.self.view_is, ← c.inner-key.ensures) (ap is_some (found_waits c.self.invariant c.inner-key.result j.0 j.1), c.if-self.true)
 
 pub invariant_of-self : goal.invariant_of-self
 invariant_of-self g c =
