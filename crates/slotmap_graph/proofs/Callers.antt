@@ -1,9 +1,12 @@
--- What callers of a graph cite: the nodes that a search didn't find, loops along the edges of a node, and written values.
+-- What callers of a graph cite: the nodes that a search didn't find, the edges in the list of a node, loops along these, and
+-- written values.
 use Rattle.std.proofs.Common.{◌≡◌, ◌≢◌, ◌<◌, ◌≤◌, ◌∷◌, ◌++◌, ◌∙◌, map as list_map}
 use Rattle.slotmap_graph.proofs.Common.{ℕ, suc, false, cond, Option, Some, None, List, [], length, get_or, refl, sym, ap, arith, Key, is_key, times, times_first, append-nil, append_assoc, same_Some}
 use Rattle.slotmap_graph.proofs.Common.{same_or_other, is_itself, one_other, times_pushed, without, first_or, key_after, in_midst, Content, Edges, SeenEdge, ListsEdges, with_edge, get-insert_here}
-use Rattle.slotmap_graph.proofs.Common.{get-insert_other}
+use Rattle.slotmap_graph.proofs.Common.{get-insert_other, one_itself, times_joined, without_none, Bool, true, find, from, goes_to, HasEdge, is_other}
 use Rattle.slotmap_graph.proofs.Adjacent.{listed_once}
+-- which edges the list of a node has
+pub use Rattle.slotmap_graph.proofs.Adjacent.{absent_unlisted, edge_listed, gone_apart, gone_into, gone_out, listed_edge, nothing_listed}
 use Rattle.std.specs.FinMap as map
 
 module _ {K : Type 0} (data_of : K → Key) where
@@ -20,6 +23,29 @@ module _ {K : Type 0} (data_of : K → Key) where
   pub not_found : (keys : List K) (x : Key) → ((i : ℕ) (other : K) → 0 ≤ i → i < length keys → is_key (data_of (get_or keys i other)) x ≡ false)
       → 0 < times x (list_map data_of keys) → ⊥
   not_found keys x apart some = absurd (omega (arith, none_is keys x apart, some))
+
+-- the first key that passes a test, and where none does
+module _ (test : Key → Bool) where
+  first_passes : (ks : List Key) (x : Key) → Some x ≡ find test ks → (test x ≡ true) × (0 < times x ks)
+  first_passes [] x is = absurd (cc)
+  first_passes (q ∷ ks) x is = grind (arith, times_first x q ks, one_itself x, first_passes ks x)
+
+  none_passes : (ks : List Key) → None ≡ find test ks → (x : Key) → 0 < times x ks → test x ≡ false
+  none_passes [] is x more = absurd (omega arith)
+  none_passes (q ∷ ks) is x more = grind (arith, same_or_other x q, times_first x q ks, one_other q x, none_passes ks)
+
+-- what `find_edge` returns is an edge between the two nodes, and where it returns none, there is none
+module _ {E : Type 0} (edges : Edges E) (a b : Key) (ks : List Key) (lists : ListsEdges from edges a ks) where
+  pub edge_between : (x : Key) → Some x ≡ find (goes_to edges b) ks → (e : SeenEdge E) × (map.get edges x ≡ Some e) × (e.from ≡ a) × (e.to ≡ b)
+  edge_between x is =
+      let passes = first_passes (goes_to edges b) ks x is in
+      let edge = listed_edge from edges a ks lists x passes.1 in
+      (edge.0, edge.1, edge.2, grind (arith, same_or_other edge.0.to b, is_other edge.0.to b, edge.1, passes.0))
+
+  pub none_between : None ≡ find (goes_to edges b) ks → HasEdge edges a b → ⊥
+  none_between is has =
+      let fails = none_passes (goes_to edges b) ks is has.0 (omega (arith, edge_listed from edges a ks lists has.0 has.1 has.2 has.3)) in
+      absurd (grind (arith, fails, has.2, has.4, is_itself b))
 
 -- a loop along the edges of a node: the keys that it passed, with a fact of each, and those ahead of it
 pub record GoesAlong (all : List Key) (at : Option Key) (Passed : Key → Type 0) : Type 0 where
@@ -48,6 +74,11 @@ module _ (k : Key) (rest : List Key) where
   left_split : (before : List Key) → times k before ≡ 0 → left_from k (before ++ k ∷ rest) ≡ suc (length rest)
   left_split [] none = grind (arith, is_itself k)
   left_split (q ∷ before) none = grind (arith, times_first k q before, left_split before)
+
+  -- the list without that key
+  without_split : (before : List Key) → times k before ≡ 0 → times k rest ≡ 0 → without k (before ++ k ∷ rest) ≡ before ++ rest
+  without_split [] none after = grind (arith, is_itself k, without_none k rest)
+  without_split (q ∷ before) none after = grind (arith, times_first k q before, without_split before)
 
 -- what stands first
 first_is : (ks : List Key) (k : Key) → Some k ≡ first_or ks None → (rest : List Key) × (ks ≡ k ∷ rest)
@@ -96,6 +127,49 @@ module _ (all : List Key) (k : Key) (Passed : Key → Type 0) (along : GoesAlong
       by [] all_is now at = omega (arith, ap (λ o. left_along o all) at)
       by (q ∷ rest) all_is now at = let split : all ≡ (along.passed ++ k ∷ []) ++ q ∷ rest = all_is ∙ sym (append_assoc along.passed (k ∷ []) (q ∷ rest)) in
           grind (arith, at, split, along.once q, in_midst (along.passed ++ k ∷ []) q rest, left_split q rest (along.passed ++ k ∷ []), now)
+
+  -- the loop took the next edge first, and then removed this one
+  not_ahead : times k rest_of.0 ≡ 0
+  not_ahead = omega (arith, along.once k, ap (times k) whole ∙ in_midst along.passed k rest_of.0)
+
+  removed : without k all ≡ along.passed ++ rest_of.0
+  removed = ap (without k) whole ∙ without_split k rest_of.0 along.passed not_passed not_ahead
+
+  fewer : (q : Key) → times q (without k all) ≤ 1
+  fewer q = omega (
+    arith,
+    along.once q,
+    ap (times q) whole ∙ times_joined q along.passed (k ∷ rest_of.0),
+    times_first q k rest_of.0,
+    ap (times q) removed ∙ times_joined q along.passed rest_of.0,
+  )
+
+  pub along_removed : (next : Option Key) → next ≡ key_after k all → (New : Key → Type 0) → ((q : Key) → q ≢ k → Passed q → New q) → GoesAlong (without k all) next New
+  along_removed next is New still = record {
+    passed = along.passed;
+    ahead = rest_of.0;
+    list = removed;
+    here = is ∙ next_is;
+    once = fewer;
+    each = λ q more. still q (λ at. omega (arith, more, not_passed, ap (λ x. times x along.passed) at)) (along.each q more);
+  }
+
+  pub removed_less : (next : Option Key) → next ≡ key_after k all → left_along next (without k all) < left_along (Some k) all
+  removed_less next is = by rest_of.0 whole removed (grind (arith, whole, left_split k rest_of.0 along.passed not_passed)) (is ∙ next_is)
+    where
+      by : (rest : List Key) → all ≡ along.passed ++ k ∷ rest → without k all ≡ along.passed ++ rest → left_from k all ≡ suc (length rest) → next ≡ first_or rest None
+          → left_along next (without k all) < left_from k all
+      by [] all_is left now at = omega (arith, ap (λ o. left_along o (without k all)) at)
+      by (q ∷ rest) all_is left now at =
+          let none : times q along.passed ≡ 0 = omega (
+            arith,
+            along.once q,
+            ap (times q) all_is ∙ times_joined q along.passed (k ∷ q ∷ rest),
+            times_first q k (q ∷ rest),
+            times_first q q rest,
+            one_itself q,
+          ) in
+          grind (arith, at, left, left_split q rest along.passed none, now)
 
 -- after the loop each edge of the node was passed
 pub along_end : (all : List Key) (Passed : Key → Type 0) → GoesAlong all None Passed → (k : Key) → 0 < times k all → Passed k

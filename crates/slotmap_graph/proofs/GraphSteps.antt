@@ -4,8 +4,8 @@ use Rattle.slotmap_graph.proofs.Common.{ℕ, Bool, true, false, Option, Some, No
 use Rattle.slotmap_graph.proofs.Common.{Key, key_cmp, Content, IsContent, IsLive, Inserts, Removes, Leaves, Pairs, IsBeside, with_value, keys, same_or_other, get-insert_here, get-insert_other}
 use Rattle.slotmap_graph.proofs.Common.{get-put_live, get-put_other, leaves_none, leaves_by_removal, inserted_fresh, live-insert_still, times, without, is_itself, is_other, times_first, one_itself}
 use Rattle.slotmap_graph.proofs.Common.{Lists, AreDisjoint, list_of, often, SeenEdge, Edges, IsJoined, ListsEdges, PutsAlone, SameEdges, edges_at, from, to, touches, HaveIndices, IsThreaded, IsGraph}
-use Rattle.slotmap_graph.proofs.Common.{CoversMore, by_node, IsFree, PutsBehind, with_list, ClonesEqual, IsCloneBy, IsCloneOf, clones_edge, clone_live}
-use Rattle.slotmap_graph.proofs.Adjacent.{absent_unlisted, listed_edge, none_listed, nothing_listed}
+use Rattle.slotmap_graph.proofs.Common.{Seen, CoversMore, by_node, IsFree, PutsBehind, with_list, ClonesEqual, IsCloneBy, IsCloneOf, clones_edge, clone_live}
+use Rattle.slotmap_graph.proofs.Adjacent.{absent_unlisted, gone_apart, listed_edge, none_listed, nothing_listed}
 use Rattle.slotmap_bounded.proofs.Indices.{indices_inserted, indices_still}
 use Rattle.slotmap_graph.proofs.Threaded.{at_none, empty_at, lists, other_nodes, put_free, put_seen, put_threaded, same_seen, threaded_along}
 use Rattle.std.specs.FinMap as map
@@ -149,6 +149,16 @@ module _ {N E : Type 0} {end : SeenEdge E → Key} {nodes : Content N} {edges : 
 -- the ends of an edge that doesn't touch a node
 pub ends_apart : {E : Type 0} (k : Key) (e : SeenEdge E) → touches k e ≡ false → (e.from ≢ k) × (e.to ≢ k)
 ends_apart k e none = grind (arith, is_itself k)
+
+-- no edge touches a node that isn't there
+pub gone_untouched : {N E : Type 0} (s : Seen N E) → IsJoined s → (k : Key) → map.contains_key s.nodes.live k ≡ false → (x : Key) (e : SeenEdge E) → map.get s.edges.live x ≡ Some e
+    → touches k e ≡ false
+gone_untouched s joined k gone x e there = let apart = gone_apart s joined k gone x e there in grind (arith, is_other e.from k apart.0, is_other e.to k apart.1)
+
+-- where a value is returned, nothing is to be shown of `None`
+pub not_none : {A : Type 0} (P : Type 0) (o : Option A) → is_some o ≡ true → IfNone o P
+not_none P None is = absurd (cc)
+not_none P (Some x) is = tt
 
 -- nothing is listed where there is no node and no edge
 module _ {N E : Type 0} (end : SeenEdge E → Key) (nodes : Content N) (edges : Content (SeenEdge E)) (links : Lists) (no_nodes : nodes.live ≡ map.empty) (no_edges : edges.live ≡ map.empty) where

@@ -41,6 +41,8 @@ impl<K: Key, N: Drop, E: Drop> Graph<K, N, E> {
         ensures edges { self.new.edges ≡ self.old.edges }
         ensures out { SameEdges self.old.out self.new.out }
         ensures into { SameEdges self.old.into self.new.into }
+        ensures none_out { edges_at self.new.out (K.data_of result) ≡ [] }
+        ensures none_into { edges_at self.new.into (K.data_of result) ≡ [] }
     {
         let _ = self.nodes.capacity();
         self.nodes.insert_reserved(node)
@@ -85,6 +87,8 @@ impl<K: Key, N: Drop, E: Drop> Graph<K, N, E> {
         ensures edges { self.new.edges ≡ self.old.edges }
         ensures out { SameEdges self.old.out self.new.out }
         ensures into { SameEdges self.old.into self.new.into }
+        ensures none_out { IfOk result (λ key. edges_at self.new.out (K.data_of key) ≡ []) }
+        ensures none_into { IfOk result (λ key. edges_at self.new.into (K.data_of key) ≡ []) }
 
         // Why the call failed, and what that leaves.
         ensures err { IfErr result (Refuses self.old.nodes node) }
@@ -177,6 +181,7 @@ impl<K: Key, N: Drop, E: Drop> Graph<K, N, E> {
         ensures into { (k : KeyOf) → edges_at self.new.into k ≡ without edge (edges_at self.old.into k) }
         ensures nodes { self.new.nodes ≡ self.old.nodes }
         ensures gone { KeepsSpent self.old.edges self.new.edges }
+        ensures stale { IfNone result (self.new ≡ self.old) }
     {
         let removed = self.edges.remove(edge)?;
         let (from, to) = removed.ends();
@@ -260,7 +265,15 @@ impl<K: Key, N: Drop, E: Drop> Graph<K, N, E> {
         ensures edges_gone { KeepsSpent self.old.edges self.new.edges }
         ensures out { (k : KeyOf) → edges_at self.new.out k ≡ filter (map.contains_key self.new.edges.live) (edges_at self.old.out k) }
         ensures into { (k : KeyOf) → edges_at self.new.into k ≡ filter (map.contains_key self.new.edges.live) (edges_at self.old.into k) }
+
+        // If there is no such node, nothing changes.
+        ensures stale { IfNone result (self.new ≡ self.old) }
     {
+        // by the contract of `node_count`, each edge joins two nodes that exist
+        let _ = self.node_count();
+        if !self.contains_node(node) {
+            return None;
+        }
         self.remove_edges_of(node);
         self.nodes.remove(node)
     }

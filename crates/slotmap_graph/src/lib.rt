@@ -45,7 +45,7 @@
 ghost use Rattle.std.specs.Prelude.{◌≡◌, ◌+◌, ◌≤◌, IfOk, IfErr, IsOk, IsTrue, ◌↔◌, true};
 ghost use Rattle.std.specs.FinMap as map;
 ghost use Rattle.slotmap.specs.Words.{IsContent, IsNew, MakesRoom, RefusesCapacity, used};
-ghost use Rattle.slotmap_graph.specs.Parts.{RefusesEither, SameEdges};
+ghost use Rattle.slotmap_graph.specs.Parts.{IsJoined, RefusesEither, SameEdges};
 
 mod change;
 mod clone;
@@ -84,7 +84,8 @@ const MOST: usize = 4_294_967_294;
 ///
 /// A clause sees `nodes` and `edges`. Their `live` is the finite map from the keys to the values, or
 /// to the edges, and `IsSpent` says which keys are never used again. It sees `out` and `into` as well,
-/// by which `edges_at` has the edges of a node in their order.
+/// by which `edges_at` has the edges of a node in their order. By the clause `joined` of
+/// [`Graph::node_count`] each edge joins two nodes that exist, and is once in the list of each.
 #[derive(Drop)]
 pub struct Graph<K, N, E> {
     nodes: BoundedMap<K, N>,
@@ -278,6 +279,7 @@ impl<K: Key, N: Drop, E: Drop> Graph<K, N, E> {
     /// ```
     pub fn node_capacity(&self) -> usize
         ensures value { result ≡ self.now.nodes.capacity }
+        ensures exact { result ≡ used self.now.nodes + self.now.nodes.room }
         ensures valid { IsContent true self.now.nodes }
     {
         self.nodes.capacity()
@@ -292,6 +294,7 @@ impl<K: Key, N: Drop, E: Drop> Graph<K, N, E> {
     /// ```
     pub fn edge_capacity(&self) -> usize
         ensures value { result ≡ self.now.edges.capacity }
+        ensures exact { result ≡ used self.now.edges + self.now.edges.room }
         ensures valid { IsContent true self.now.edges }
     {
         self.edges.capacity()
@@ -307,7 +310,8 @@ impl<K: Key, N: Drop, E: Drop> Graph<K, N, E> {
     /// assert_eq!(rt; graph.node_count(), 0);
     /// ```
     pub fn node_count(&self) -> usize
-        ensures { result ≡ map.len self.now.nodes.live }
+        ensures value { result ≡ map.len self.now.nodes.live }
+        ensures joined { IsJoined self.now }
     {
         self.nodes.len()
     }
@@ -335,7 +339,8 @@ impl<K: Key, N: Drop, E: Drop> Graph<K, N, E> {
     /// assert_eq!(rt; graph.edge_count(), 0);
     /// ```
     pub fn edge_count(&self) -> usize
-        ensures { result ≡ map.len self.now.edges.live }
+        ensures value { result ≡ map.len self.now.edges.live }
+        ensures joined { IsJoined self.now }
     {
         self.edges.len()
     }

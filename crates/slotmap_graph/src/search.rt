@@ -5,7 +5,7 @@ ghost use Rattle.std.specs.List.{find, fold};
 ghost use Rattle.std.specs.FinMap as map;
 ghost use Rattle.slotmap.specs.Words.{Key as KeyOf, IsBeside, IsContent, IsLive, get, contains_key};
 ghost use Rattle.slotmap_keylist.specs.KeyLists.{times};
-ghost use Rattle.slotmap_graph.specs.Parts.{IsJoined, PutsAlone, edges_at, from, to};
+ghost use Rattle.slotmap_graph.specs.Parts.{IsJoined, ListsEdges, PutsAlone, edges_at, from, to};
 ghost use Rattle.slotmap_graph.specs.Search.{AreSeen, Finds, HasNext, IsBreadthFirst, Leads, ends_along, goes_to, marked};
 
 use crate::{EdgeKey, Graph};
@@ -104,7 +104,8 @@ impl<K: Key, N: Drop, E: Drop> Graph<K, N, E> {
     /// assert_eq!(rt; graph.find_edge(b, a), None);
     /// ```
     pub fn find_edge(&self, from: K, to: K) -> Option<EdgeKey>
-        ensures { result ≡ find (goes_to self.now.edges.live (K.data_of to)) (edges_at self.now.out (K.data_of from)) }
+        ensures first { result ≡ find (goes_to self.now.edges.live (K.data_of to)) (edges_at self.now.out (K.data_of from)) }
+        ensures listed { ListsEdges (λ e. e.from) self.now.edges.live (K.data_of from) (edges_at self.now.out (K.data_of from)) }
     {
         let to = inner(to);
         for edge in self.edges_from(from) {

@@ -1,10 +1,41 @@
 use Rattle.std.proofs.Common.{◌∙◌}
-use Rattle.slotmap_graph.proofs.Common.{true, sym, filter, ap, remove_spent, spent_remove, edges_at}
-use Rattle.slotmap_graph.proofs.GraphSteps.{ends_apart, gone_seen, gone_threaded, node_leaves}
-use Rattle.slotmap_graph.proofs.Thinned.{none_left}
+use Rattle.slotmap_graph.proofs.Common.{true, sym, filter, ap, arith, is_some, keys, refl, from, to, leaves_none, remove_spent, spent_remove, edges_at}
+use Rattle.slotmap_graph.proofs.GraphSteps.{ends_apart, gone_seen, gone_threaded, gone_untouched, node_leaves, not_none}
+use Rattle.slotmap_graph.proofs.Thinned.{none_left, thin_end, thinned_end, thinned_spent, thinned_start}
 use Rattle.std.specs.FinMap as map
 use Rattle.slotmap_graph.proofs.Graph.remove_node.Goals as goal
 
+-- the node isn't there
+pub returns-then-not-contains_node-clause-live : goal.returns-then-not-contains_node-clause-live
+returns-then-not-contains_node-clause-live g c = let gone = sym c.contains_node.ensures ∙ c.if-not-contains_node.true in grind (arith, keys, gone)
+
+pub returns-then-not-contains_node-clause-leaves : goal.returns-then-not-contains_node-clause-leaves
+returns-then-not-contains_node-clause-leaves g c = leaves_none c.args.self.now.nodes
+
+pub returns-then-not-contains_node-clause-edges_leave : goal.returns-then-not-contains_node-clause-edges_leave
+returns-then-not-contains_node-clause-edges_leave g c = leaves_none c.args.self.now.edges
+
+pub returns-then-not-contains_node-clause-edges : goal.returns-then-not-contains_node-clause-edges
+returns-then-not-contains_node-clause-edges g c =
+    let node = g.K.Key.data_of c.args.node in
+    let edges = c.args.self.now.edges in
+    thinned_end node edges edges (thinned_start node edges edges refl)
+    (gone_untouched c.args.self.now c.node_count.ensures.joined node (sym c.contains_node.ensures ∙ c.if-not-contains_node.true))
+
+pub returns-then-not-contains_node-clause-edges_for_good : goal.returns-then-not-contains_node-clause-edges_for_good
+returns-then-not-contains_node-clause-edges_for_good g c =
+    let node = g.K.Key.data_of c.args.node in
+    let edges = c.args.self.now.edges in
+    thinned_spent node edges edges (thinned_start node edges edges refl)
+    (gone_untouched c.args.self.now c.node_count.ensures.joined node (sym c.contains_node.ensures ∙ c.if-not-contains_node.true))
+
+pub returns-then-not-contains_node-clause-out : goal.returns-then-not-contains_node-clause-out
+returns-then-not-contains_node-clause-out g c k = let list = edges_at c.args.self.now.out k in thin_end c.args.self.now.edges.live list list refl from k (c.node_count.ensures.joined.out k)
+
+pub returns-then-not-contains_node-clause-into : goal.returns-then-not-contains_node-clause-into
+returns-then-not-contains_node-clause-into g c k = let list = edges_at c.args.self.now.into k in thin_end c.args.self.now.edges.live list list refl to k (c.node_count.ensures.joined.into k)
+
+-- the node is there
 pub invariant_of-self : goal.invariant_of-self
 invariant_of-self g c =
     let node = g.K.Key.data_of c.args.node in
@@ -66,3 +97,8 @@ returns-clause-capacity g c = let same = ap (λ s. s.nodes) c.self.view_is ∙ c
 
 pub returns-clause-edges_capacity : goal.returns-clause-edges_capacity
 returns-clause-edges_capacity g c = ap (λ s. s.edges.capacity) c.self.view_is ∙ c.remove_edges_of.ensures.capacity
+
+pub returns-clause-stale : goal.returns-clause-stale
+returns-clause-stale g c = let same = ap (λ s. s.nodes) c.self.view_is ∙ c.remove_edges_of.ensures.nodes in
+    let found = c.remove.ensures.value ∙ ap (λ n. map.get n.live (g.K.Key.data_of c.args.node)) same in
+    not_none _ c.remove.result (ap is_some found ∙ sym c.contains_node.ensures ∙ c.if-not-contains_node.false)

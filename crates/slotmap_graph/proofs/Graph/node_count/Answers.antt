@@ -1,0 +1,5 @@
+use Rattle.slotmap_graph.proofs.GraphSteps.{graph_joined}
+use Rattle.slotmap_graph.proofs.Graph.node_count.Goals as goal
+
+pub returns-clause-joined : goal.returns-clause-joined
+returns-clause-joined g c = rw (← c.self.view_is) (graph_joined _ _ _ _ c.self.invariant)
