@@ -2,7 +2,7 @@
 use Rattle.std.proofs.Common.{◌++◌, ◌∷◌, ◌≡◌, ◌≢◌}
 use Rattle.slotmap_scene.proofs.Common.{Bor, CallableUp, CallsAt, ClimbsTo, FoldsTo, FoldsTo-push, FoldsUp, IfNone, IfSome, IsComposed, IsMoved, IsNewChild, IsPathFrom, IsPathUp, IsTree, IsWithin}
 use Rattle.slotmap_scene.proofs.Common.{IsWorld, IsWorldOf, Joins, Key, List, Mut, Nodes, None, Option, Some, Takes, [], ap, append_assoc, child, fold, get-insert_here, has_node}
-use Rattle.slotmap_scene.proofs.Common.{Node, arith, inl, inr, is_some, lacks_node, made, option_map, parent_in, parent_of, refl, same_Some, same_or_other, some-mapped, some_is, subst, suc, sym}
+use Rattle.slotmap_scene.proofs.Common.{Node, arith, inl, inr, is_some, lacks_node, option_map, parent_in, parent_of, refl, same_Some, same_or_other, some-mapped, some_is, subst, suc, sym}
 use Rattle.slotmap_scene.proofs.Common.{value_of, world_along, zero, ℕ, ◌∙◌}
 use Rattle.slotmap_scene.proofs.Climbs.{parent_there}
 use Rattle.std.specs.FinMap as map
