@@ -1,7 +1,8 @@
 -- The way up from each node: where it ends, what a change of the nodes does to it, and the keys that an iterator yields on it.
 use Rattle.std.proofs.Common.{◌+◌, ◌<◌, ◌↔◌, ◌∷◌, ◌≡◌, ◌≢◌}
-use Rattle.slotmap_scene.proofs.Common.{ClimbsTo, GoesUp, HasRoot, IsTree, IsWithin, Key, Node, Nodes, None, Option, Some, StepsTo, [], ap, arith, exact_keys, has_node, inl, inr, is_some, key_cmp}
-use Rattle.slotmap_scene.proofs.Common.{keys, keys_total, keys_up, len_removed, parent_in, parent_of, refl, same_or_other, some_entry, subst, suc, sym, true, zero, ℕ, ◌∙◌}
+use Rattle.slotmap_scene.proofs.Common.{ClimbsTo, GoesUp, HasRoot, IsTree, IsWithin, Key, List, Node, Nodes, None, Option, Some, StepsTo, [], ap, arith, exact_keys, has_node, inl, inr, is_some}
+use Rattle.slotmap_scene.proofs.Common.{key_cmp, keys, keys_total, keys_up, len_removed, one_other, parent_in, parent_of, refl, same_or_other, some_entry, subst, suc, sym, times, times_first, true}
+use Rattle.slotmap_scene.proofs.Common.{zero, ℕ, ◌∙◌}
 use Rattle.std.specs.FinMap as map
 
 -- what is under another key than the one that is removed
@@ -218,6 +219,16 @@ module _ {T : Type 0} (nodes : Nodes T) where
 
   pub goes_up : (at : Option Key) → HasRoot nodes at → GoesUp nodes at (keys_up nodes (map.len nodes) at)
   goes_up at has = goes_up_from (map.len nodes) at (λ k is. let root = subst (HasRoot nodes) is has in (root.0, root.1, short root.0 nodes k root.1))
+
+  -- each key on a way up is that of a node
+  pub up_live : (at : Option Key) (ks : List Key) → HasRoot nodes at → GoesUp nodes at ks → (k : Key) → 0 < times k ks → has_node nodes k
+  up_live None [] has goes k more = absurd (omega arith)
+  up_live None (q ∷ above) has goes k more = absurd goes
+  up_live (Some a) [] has goes k more = absurd goes
+  up_live (Some a) (q ∷ above) has goes k more = elim (same_or_other q k) [
+    | inl is ↦ subst (has_node nodes) (sym goes.0 ∙ is) (rooted_there a has)
+    | inr other ↦ up_live (parent_of nodes a) above (root_above a has) goes.1 k (omega (arith, times_first k q above, one_other q k other))
+  ]
 
   -- a node's parent has a root above it
   pub parent_rooted : IsTree nodes → (k : Key) → HasRoot nodes (parent_of nodes k)

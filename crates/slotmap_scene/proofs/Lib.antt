@@ -1,5 +1,6 @@
 mod ByLevel
 pub mod Callers
+mod ChildLists
 mod Climbs
 mod Common
 mod Descending

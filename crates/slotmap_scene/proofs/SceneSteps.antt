@@ -17,6 +17,9 @@ module _ {V : Type 0} (c : Content V) (parents : List ℕ) (children : Lists) wh
   pub family_valid : IsContent true c → IsContent true (family c parents children)
   family_valid = shown_content c (nodes_by c.live parents children) (seen_has c.live parents children) (seen_len c.live parents children) true
 
+  pub family_used : used (family c parents children) ≡ used c
+  family_used = omega (arith, seen_len c.live parents children)
+
   module _ (d : Content V) (parents' : List ℕ) (children' : Lists) where
     abbrev seen_was : Nodes V
     seen_was = nodes_by c.live parents children

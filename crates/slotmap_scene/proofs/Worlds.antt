@@ -1,8 +1,9 @@
 -- What a fold of the values on the way up comes to.
 use Rattle.std.proofs.Common.{◌++◌, ◌∷◌, ◌≡◌, ◌≢◌}
 use Rattle.slotmap_scene.proofs.Common.{Bor, CallableUp, CallsAt, ClimbsTo, FoldsTo, FoldsTo-push, FoldsUp, IfNone, IfSome, IsComposed, IsMoved, IsNewChild, IsPathFrom, IsPathUp, IsTree, IsWithin}
-use Rattle.slotmap_scene.proofs.Common.{IsWorld, IsWorldOf, Joins, Key, List, Mut, Nodes, None, Option, Some, Takes, [], ap, append_assoc, arith, child, fold, get-insert_here, has_node, is_some}
-use Rattle.slotmap_scene.proofs.Common.{lacks_node, made, option_map, parent_in, parent_of, refl, same_Some, some-mapped, some_is, subst, suc, sym, value_of, world_along, zero, ℕ, ◌∙◌}
+use Rattle.slotmap_scene.proofs.Common.{IsWorld, IsWorldOf, Joins, Key, List, Mut, Nodes, None, Option, Some, Takes, [], ap, append_assoc, child, fold, get-insert_here, has_node}
+use Rattle.slotmap_scene.proofs.Common.{Node, arith, inl, inr, is_some, lacks_node, option_map, parent_in, parent_of, refl, same_Some, same_or_other, some-mapped, some_is, subst, suc, sym}
+use Rattle.slotmap_scene.proofs.Common.{value_of, world_along, zero, ℕ, ◌∙◌}
 use Rattle.slotmap_scene.proofs.Climbs.{parent_there}
 use Rattle.std.specs.FinMap as map
 
@@ -151,25 +152,50 @@ module _ {T : Type 0} (old new : Nodes T) (k : Key) (values : (q : Key) → has_
       (values q live other ∙ path.0, subst (λ r. IsPathFrom new r above) (sym (parents q live other)) later)
 
   -- k is where its own value says, under its new parent
+  pub world_below_of : {W : Type 0} (under : W → W → W) (of : T → W) (v : T) (p : Key) (w : W) → value_of new k ≡ Some v → parent_of new k ≡ Some p
+      → IsWorldOf under of old p w → (has_node old k → IsWithin old p k → ⊥) → IsWorldOf under of new k (under (of v) w)
+  world_below_of under of v p w here up world out =
+      let path = path_kept (Some p) (world.own ∷ world.above) (λ r is there. subst (λ x. IsWithin old x k → ⊥) (same_Some p r is) (out there)) world.path in
+      world_of_child new under of k v here p w up (record { own = world.own; above = world.above; path = path; made = world.made })
+
   pub world_below : (under : T → T → T) (v : T) (p : Key) (w : T) → value_of new k ≡ Some v → parent_of new k ≡ Some p → IsWorld under old p w
       → (has_node old k → IsWithin old p k → ⊥) → IsWorld under new k (under v w)
-  world_below under v p w here up world out =
-      let path = path_kept (Some p) (world.own ∷ world.above) (λ r is there. subst (λ x. IsWithin old x k → ⊥) (same_Some p r is) (out there)) world.path in
-      world_of_child new under (λ v. v) k v here p w up (record { own = world.own; above = world.above; path = path; made = world.made })
+  world_below under = world_below_of under (λ v. v)
 
 -- after `reparent` a node is where its own value says, under its new parent, which is where it was
 module _ {T : Type 0} (old new : Nodes T) (k p : Key) {put : List Key → List Key} (trees : IsMoved old new k (Some p) put)
     (values : (q : Key) → value_of new q ≡ value_of old q) where
+  pub world_moved_of : {W : Type 0} → (IsWithin old p k → ⊥) → (under : W → W → W) (of : T → W) (v : T) (w : W) → value_of old k ≡ Some v → IsWorldOf under of old p w
+      → IsWorldOf under of new k (under (of v) w)
+  world_moved_of out under of v w own world =
+      world_below_of old new k (λ q _ _. values q) (λ q _ other. trees.parents q other) under of v p w (values k ∙ own) trees.parent_is world (λ _. out)
+
   pub world_moved : (IsWithin old p k → ⊥) → (under : T → T → T) (v w : T) → value_of old k ≡ Some v → IsWorld under old p w
       → IsWorld under new k (under v w)
-  world_moved out under v w own world = grind (arith, world_below)
+  world_moved out under = world_moved_of out under (λ v. v)
 
 -- where a node is that is added
-pub world_added_root : {T : Type 0} (nodes : Nodes T) (k : Key) (v : T) (under : T → T → T) → IsWorld under (map.insert nodes k (child None v)) k v
-world_added_root nodes k v under =
+pub world_added_root_of : {T W : Type 0} (nodes : Nodes T) (k : Key) (v : T) (under : W → W → W) (of : T → W) → IsWorldOf under of (map.insert nodes k (child None v)) k (of v)
+world_added_root_of nodes k v under of =
     let here = get-insert_here nodes k (child None v) in
-    world_of_root (map.insert nodes k (child None v)) under (λ v. v) k v (ap (option_map (λ n. n.value)) here) (ap parent_in here)
+    world_of_root (map.insert nodes k (child None v)) under of k v (ap (option_map (λ n. n.value)) here) (ap parent_in here)
+
+pub world_added_root : {T : Type 0} (nodes : Nodes T) (k : Key) (v : T) (under : T → T → T) → IsWorld under (map.insert nodes k (child None v)) k v
+world_added_root nodes k v under = world_added_root_of nodes k v under (λ v. v)
+
+-- all nodes but the new one and its parent are the same, and the parent has the same value and the same parent
+module _ {T : Type 0} (old new : Nodes T) (k p : Key) {v : T} {children : List Key} (gains : IsNewChild old new k p v children) where
+  stays_but : {X : Type 0} (P : Option (Node T) → X) → P (map.get new p) ≡ P (map.get old p) → (q : Key) → q ≢ k → P (map.get new q) ≡ P (map.get old q)
+  stays_but P here q other = elim (same_or_other q p) [
+    | inl is ↦ rw is here
+    | inr apart ↦ ap P (gains.others q other apart)
+  ]
+
+  pub world_added_child_of : {W : Type 0} → lacks_node old k → (under : W → W → W) (of : T → W) (w : W) → IsWorldOf under of old p w → IsWorldOf under of new k (under (of v) w)
+  world_added_child_of fresh under of w world =
+      world_below_of old new k (λ q _ other. stays_but (option_map (λ n. n.value)) gains.value q other) (λ q _ other. stays_but parent_in gains.parent q other)
+      under of v p w (ap (option_map (λ n. n.value)) gains.node) (ap parent_in gains.node) world (λ there. absurd (cc))
 
 pub world_added_child : {T : Type 0} (old new : Nodes T) (k p : Key) {v : T} {children : List Key} → IsNewChild old new k p v children → lacks_node old k
     → (under : T → T → T) (w : T) → IsWorld under old p w → IsWorld under new k (under v w)
-world_added_child old new k p {v} gains fresh under w world = grind (arith, world_below, option_map)
+world_added_child old new k p gains fresh under = world_added_child_of old new k p gains fresh under (λ v. v)

@@ -1,8 +1,10 @@
 //! Iterators over the nodes above a node, and over the roots.
 
-ghost use Rattle.std.specs.Prelude.{◌≡◌, nat_eq};
+ghost use Rattle.std.specs.Prelude.{◌≡◌, ◌<◌, nat_eq};
 ghost use Rattle.std.specs.Iterator.{YieldsFirstBy, item_count};
-ghost use Rattle.slotmap_scene.specs.Climb.{parent_of};
+ghost use Rattle.slotmap.specs.Words.{Key as KeyOf};
+ghost use Rattle.slotmap_keylist.specs.KeyLists.{times};
+ghost use Rattle.slotmap_scene.specs.Climb.{has_node, parent_of};
 ghost use Rattle.slotmap_scene.specs.Above.{GoesUp, HasRoot, roots_in};
 ghost use Rattle.slotmap_scene.specs.Kept.{parent_at};
 
@@ -115,8 +117,8 @@ impl<K: Key, T: Drop> Scene<K, T> {
     /// Returns an iterator over the keys of the nodes above a node: its parent first, and its root
     /// last.
     ///
-    /// A root has none, and neither has a node that doesn't exist. It is made in constant time, and each
-    /// step takes constant time.
+    /// A root has none, and neither has a node that doesn't exist. Each key is that of a node that
+    /// exists. It is made in constant time, and each step takes constant time.
     ///
     /// ```
     /// let mut scene: Scene<DefaultKey, &str> = Scene::new(alloc)?;
@@ -127,7 +129,8 @@ impl<K: Key, T: Drop> Scene<K, T> {
     /// assert_eq!(rt; above.next(), None);
     /// ```
     pub fn ancestors(&self, node: K) -> Ancestors<'_, K, T>
-        ensures { GoesUp self.now.live (parent_of self.now.live (K.data_of node)) result }
+        ensures order { GoesUp self.now.live (parent_of self.now.live (K.data_of node)) result }
+        ensures only { (k : KeyOf) → 0 < times k result → has_node self.now.live k }
     {
         Ancestors {
             nodes: &self.nodes,

@@ -89,7 +89,9 @@ impl<T: Drop> Nodes<T> {
 
     // How many nodes there can be before more room is made.
     pub fn capacity(&self) -> usize
-        ensures { result ≡ self.now.capacity }
+        ensures value { result ≡ self.now.capacity }
+        ensures exact { result ≡ used self.now + self.now.room }
+        ensures valid { IsContent true self.now }
     {
         self.values.capacity()
     }

@@ -53,10 +53,10 @@ ghost use Rattle.std.specs.Prelude.{◌≡◌, ◌↔◌, ◌≤◌, ◌+◌, If
 ghost use Rattle.std.specs.FinMap as map;
 ghost use Rattle.std.specs.Borrow.{sem};
 ghost use Rattle.std.specs.Option.{option_copied_mut};
-ghost use Rattle.slotmap.specs.Words.{Key as KeyOf, IsNew, MakesRoom, RefusesCapacity, used};
+ghost use Rattle.slotmap.specs.Words.{Key as KeyOf, IsContent, IsNew, MakesRoom, RefusesCapacity, used};
 ghost use Rattle.slotmap_keylist.specs.KeyLists.{times};
 ghost use Rattle.slotmap_scene.specs.Climb.{has_node, parent_of};
-ghost use Rattle.slotmap_scene.specs.Family.{children_of, is_parent, value_of};
+ghost use Rattle.slotmap_scene.specs.Family.{IsScene, children_of, is_parent, value_of};
 
 use crate::family::Nodes;
 pub use above::{Ancestors, Roots};
@@ -269,6 +269,8 @@ impl<K: Key, T: Drop> Scene<K, T> {
 
     /// Returns how many nodes there are, in constant time.
     ///
+    /// They form trees, and each appears exactly once in its parent's list of children, and in no other.
+    ///
     /// ```
     /// let mut scene: Scene<DefaultKey, &str> = Scene::new(alloc)?;
     /// let car = scene.add_root("car")?;
@@ -278,21 +280,25 @@ impl<K: Key, T: Drop> Scene<K, T> {
     /// assert_eq!(rt; scene.len(), 0);
     /// ```
     pub fn len(&self) -> usize
-        ensures { result ≡ map.len self.now.live }
+        ensures value { result ≡ map.len self.now.live }
+        ensures scene { IsScene self.now.live }
     {
         self.nodes.len()
     }
 
     /// Returns how many nodes there can be before more room is made, in constant time.
     ///
-    /// It counts the slots of nodes, of removed nodes, and those that have had no node yet.
+    /// It counts the slots of nodes, of removed nodes, and those that have had no node yet. It is the sum of
+    /// the slots in use and the room that is left.
     ///
     /// ```
     /// let mut scene: Scene<DefaultKey, &str> = Scene::with_capacity_and_key(alloc, 2)?;
     /// assert!(rt; scene.capacity() >= 2);
     /// ```
     pub fn capacity(&self) -> usize
-        ensures { result ≡ self.now.capacity }
+        ensures value { result ≡ self.now.capacity }
+        ensures exact { result ≡ used self.now + self.now.room }
+        ensures valid { IsContent true self.now }
     {
         self.nodes.capacity()
     }

@@ -1,6 +1,6 @@
 //! The children and the siblings of a node one by one, and moves among them.
 
-ghost use Rattle.std.specs.Prelude.{◌≡◌, ◌≢◌, ◌↔◌, ◌++◌, ◌∷◌, [], Some, None, IfErr, OnOk, OnErr, IsSome, IsTrue, false, option_map};
+ghost use Rattle.std.specs.Prelude.{◌≡◌, ◌≢◌, ◌↔◌, ◌++◌, ◌∷◌, [], Some, None, IfErr, IfSome, OnOk, OnErr, IsSome, IsTrue, false, option_map};
 ghost use Rattle.slotmap.specs.Words.{Key as KeyOf, KeepsSpent};
 ghost use Rattle.slotmap_keylist.specs.KeyLists.{last_or};
 ghost use Rattle.slotmap_links.specs.Lists.{first_or};
@@ -15,7 +15,7 @@ use slotmap_keylist::{inner, outer};
 
 impl<K: Key, T: Drop> Scene<K, T> {
     /// Returns the key of the first child of a node, or `None` if it has none or doesn't exist, in
-    /// constant time.
+    /// constant time. The child exists, and the node is its parent.
     ///
     /// ```
     /// let mut scene: Scene<DefaultKey, &str> = Scene::new(alloc)?;
@@ -26,13 +26,15 @@ impl<K: Key, T: Drop> Scene<K, T> {
     /// assert_eq!(rt; scene.first_child(wheel), None);
     /// ```
     pub fn first_child(&self, node: K) -> Option<K>
-        ensures { option_map K.data_of result ≡ first_or (children_of self.now.live (K.data_of node)) None }
+        ensures value { option_map K.data_of result ≡ first_or (children_of self.now.live (K.data_of node)) None }
+        ensures live { IfSome result (λ child. has_node self.now.live (K.data_of child)) }
+        ensures child { IfSome result (λ child. parent_of self.now.live (K.data_of child) ≡ Some (K.data_of node)) }
     {
         Some(outer(self.nodes.first(inner(node))?))
     }
 
     /// Returns the key of the last child of a node, or `None` if it has none or doesn't exist, in
-    /// constant time.
+    /// constant time. The child exists, and the node is its parent.
     ///
     /// ```
     /// let mut scene: Scene<DefaultKey, &str> = Scene::new(alloc)?;
@@ -42,13 +44,15 @@ impl<K: Key, T: Drop> Scene<K, T> {
     /// assert_eq!(rt; scene.last_child(car), Some(door));
     /// ```
     pub fn last_child(&self, node: K) -> Option<K>
-        ensures { option_map K.data_of result ≡ last_or (children_of self.now.live (K.data_of node)) None }
+        ensures value { option_map K.data_of result ≡ last_or (children_of self.now.live (K.data_of node)) None }
+        ensures live { IfSome result (λ child. has_node self.now.live (K.data_of child)) }
+        ensures child { IfSome result (λ child. parent_of self.now.live (K.data_of child) ≡ Some (K.data_of node)) }
     {
         Some(outer(self.nodes.last(inner(node))?))
     }
 
     /// Returns the key of the sibling behind a node, or `None` if the node is the last child, a root or
-    /// doesn't exist, in constant time.
+    /// doesn't exist, in constant time. The sibling exists, and has the same parent.
     ///
     /// ```
     /// let mut scene: Scene<DefaultKey, &str> = Scene::new(alloc)?;
@@ -59,7 +63,9 @@ impl<K: Key, T: Drop> Scene<K, T> {
     /// assert_eq!(rt; scene.next_sibling(door), None);
     /// ```
     pub fn next_sibling(&self, node: K) -> Option<K>
-        ensures { option_map K.data_of result ≡ behind (K.data_of node) (siblings_of self.now.live (K.data_of node)) }
+        ensures value { option_map K.data_of result ≡ behind (K.data_of node) (siblings_of self.now.live (K.data_of node)) }
+        ensures live { IfSome result (λ sibling. has_node self.now.live (K.data_of sibling)) }
+        ensures same_parent { IfSome result (λ sibling. parent_of self.now.live (K.data_of sibling) ≡ parent_of self.now.live (K.data_of node)) }
     {
         let node = inner(node);
         self.parent_key(node)?;
@@ -67,7 +73,7 @@ impl<K: Key, T: Drop> Scene<K, T> {
     }
 
     /// Returns the key of the sibling in front of a node, or `None` if the node is the first child, a
-    /// root or doesn't exist, in constant time.
+    /// root or doesn't exist, in constant time. The sibling exists, and has the same parent.
     ///
     /// ```
     /// let mut scene: Scene<DefaultKey, &str> = Scene::new(alloc)?;
@@ -78,7 +84,9 @@ impl<K: Key, T: Drop> Scene<K, T> {
     /// assert_eq!(rt; scene.prev_sibling(wheel), None);
     /// ```
     pub fn prev_sibling(&self, node: K) -> Option<K>
-        ensures { option_map K.data_of result ≡ in_front None (K.data_of node) (siblings_of self.now.live (K.data_of node)) }
+        ensures value { option_map K.data_of result ≡ in_front None (K.data_of node) (siblings_of self.now.live (K.data_of node)) }
+        ensures live { IfSome result (λ sibling. has_node self.now.live (K.data_of sibling)) }
+        ensures same_parent { IfSome result (λ sibling. parent_of self.now.live (K.data_of sibling) ≡ parent_of self.now.live (K.data_of node)) }
     {
         let node = inner(node);
         self.parent_key(node)?;

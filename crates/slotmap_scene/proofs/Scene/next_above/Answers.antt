@@ -14,7 +14,7 @@ returns-then-eq-clause-rest g c =
 pub returns-in-Some : goal.returns-in-Some
 returns-in-Some g c =
     let other = unlike _ _ c.inner.ensures c.inner-end.ensures c.if-eq.ensures in
-    let goes = rise_beside _ c.requires.walks.scene _ _ _ _ c.loop-step.invariant other c.requires.leaf _ (sym c.in-Some.ensures) in
+    let goes = rise_beside _ c.requires.walks.scene _ _ _ _ c.loop-step.invariant other c.requires.leaf _ (sym c.in-Some.ensures.value) in
     record { walks = goes.0; rest = goes.1 }
 
 pub returns-in_err-at-clause-rest : goal.returns-in_err-at-clause-rest
@@ -24,7 +24,7 @@ returns-in_err-at-clause-rest g c =
 pub loop-step-preserved : goal.loop-step-preserved
 loop-step-preserved g c =
     let other = unlike _ _ c.inner.ensures c.inner-end.ensures c.if-eq.ensures in
-    rise_up _ c.requires.walks.scene _ _ _ _ c.loop-step.invariant other (sym c.in_default.ensures) _ (sym c.in_ok-at.ensures.value)
+    rise_up _ c.requires.walks.scene _ _ _ _ c.loop-step.invariant other (sym c.in_default.ensures.value) _ (sym c.in_ok-at.ensures.value)
 
 pub returns-clause-rest : goal.returns-clause-rest
 returns-clause-rest g c = absurd (let few = c.loop-step.invariant.climbing.few in omega arith)
