@@ -47,7 +47,7 @@ ghost use Rattle.slotmap.specs.Words.{Appends, ClosesGap, IsDense, SameOrder, Is
 mod both;
 mod clone;
 mod components;
-mod iterators;
+mod iter;
 mod join;
 mod join_three;
 mod join_without;
@@ -56,7 +56,7 @@ mod spawn;
 mod spawn_both;
 mod tables;
 
-pub use clone::{CloneTable, CloneTables};
+pub use clone::{CloneKind, CloneTable, CloneTables};
 pub use components::AttachError;
 pub use join::{With, WithBoth};
 pub use join_three::WithThree;
