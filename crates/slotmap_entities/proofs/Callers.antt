@@ -1,12 +1,15 @@
--- What callers of a world cite: loops over the positions of its keys, which change components or remove entities on their way.
+-- What callers of a world cite: loops over the positions of its keys, which change components or remove entities on their way,
+-- and loops over its keys or a join.
 use Rattle.std.proofs.Common.{◌≡◌, ◌≢◌, ◌⊎◌, ℕ, zero, suc, ◌+◌, ◌-◌, ◌<◌, ◌≤◌, true, false, Some, List, Option, None, IfSome, IfNone, swap_remove, [], ◌∷◌}
-use Rattle.std.proofs.Common.{length, zip, slice_get, get_or, map as list_map, inl, inr, refl, sym, ap, ◌∙◌, arith}
+use Rattle.std.proofs.Common.{length, zip, slice_get, get_or, map as list_map, inl, inr, refl, sym, ap, ◌∙◌, arith, Bool, if◌then◌else◌, All, filter_map, option_and_then}
 use Rattle.std.proofs.lemmas.{Grind.common_steps, List.length-map}
+use Rattle.std.proofs.lemmas.List.Elements.{All-cons, All-head, All-nil, All-tail}
+use Rattle.std.specs.List.{cons_option}
 use Rattle.slotmap.specs.Words.{Key, key_cmp, ClosesGap, Dense, IsDense, IsLive}
 use Rattle.std.specs.Option.{option_map}
 use Rattle.std.proofs.lemmas.Option.{slice_get-get_or, slice_get-map, slice_get_within}
 use Rattle.std.proofs.lemmas.Slice.Zip.{length-zip}
-use Rattle.slotmap_entities.specs.World.{World}
+use Rattle.slotmap_entities.specs.World.{World, found_by, both_found_by, three_found_by, found_without}
 use Rattle.slotmap.proofs.Callers.{keys_total, exact_keys, tied, alike_or_apart, get_after_remove, live-remove_other}
 use Rattle.std.specs.FinMap as map
 
@@ -262,3 +265,58 @@ module _ {E T X : Type 0} {part : World E T → Key → X} {Keeps : Key → X �
     | inl still ↦ inl (still, thin_end valid all k still)
     | inr went ↦ inr went
   ]
+
+all_of : {X : Type 0} (P : X → Type 0) (xs : List X) → ((i : ℕ) (x : X) → slice_get xs i ≡ Some x → P x) → All P xs
+all_of P [] each = All-nil P
+all_of P (x ∷ xs) each = All-cons P x xs (each 0 x refl) (all_of P xs (λ i y found. each (suc i) y found))
+
+-- what is found for a key stands beside it
+module _ {Y : Type 0} (k : Key) where
+  abbrev IsBy : Option (Key × Y) → Type 0
+  IsBy found = IfSome found (λ e. e.0 ≡ k)
+
+  by_map : {X : Type 0} (o : Option X) (make : X → Key × Y) → ((x : X) → (make x).0 ≡ k) → IsBy (option_map make o)
+  by_map None make is = tt
+  by_map (Some x) make is = is x
+
+  by_more : {X : Type 0} (o : Option X) (more : X → Option (Key × Y)) → ((x : X) → IsBy (more x)) → IsBy (option_and_then more o)
+  by_more None more is = tt
+  by_more (Some x) more is = is x
+
+  by_test : (b : Bool) (found : Option (Key × Y)) → IsBy found → IsBy (if b then None else found)
+  by_test true found is = tt
+  by_test false found is = is
+
+module _ {Y : Type 0} (P : Key → Type 0) (find : Key → Option (Key × Y)) (by : (k : Key) → IfSome (find k) (λ e. e.0 ≡ k)) where
+  one_found : (k : Key) (es : List (Key × Y)) → P k → All (λ e. P e.0) es → (found : Option (Key × Y)) → IfSome found (λ e. e.0 ≡ k)
+      → All (λ e. P e.0) (cons_option found es)
+  one_found k es here rest None is = rest
+  one_found k es here rest (Some e) is = All-cons (λ e. P e.0) e es (rw is here) rest
+
+  all_found : (ks : List Key) → All P ks → All (λ e. P e.0) (filter_map find ks)
+  all_found [] all = All-nil (λ e. P e.0)
+  all_found (k ∷ ks) all = one_found k (filter_map find ks) (All-head P k ks all) (all_found ks (All-tail P k ks all)) (find k) (by k)
+
+-- each key that a loop over the keys, or over a join, is handed is that of an entity
+module _ {V : Type 0} (d : Dense V) (valid : IsDense d) where
+  pub keys_live : All (IsLive d.content) d.keys
+  keys_live = all_of (IsLive d.content) d.keys (stands_live d valid)
+
+  pub found_live : {C : Type 0} (find : Key → Option C) → All (λ e. IsLive d.content e.0) (found_by find d.keys)
+  found_live find = all_found (IsLive d.content) (λ k. option_map (λ c. (k, c)) (find k)) (λ k. by_map k (find k) (λ c. (k, c)) (λ c. refl)) d.keys keys_live
+
+  pub both_found_live : {A B : Type 0} (a : Key → Option A) (b : Key → Option B) → All (λ e. IsLive d.content e.0) (both_found_by a b d.keys)
+  both_found_live a b = all_found (IsLive d.content) (λ k. option_and_then (λ x. option_map (λ y. (k, (x, y))) (b k)) (a k))
+      (λ k. by_more k (a k) (λ x. option_map (λ y. (k, (x, y))) (b k)) (λ x. by_map k (b k) (λ y. (k, (x, y))) (λ y. refl))) d.keys keys_live
+
+  pub three_found_live : {A B C : Type 0} (a : Key → Option A) (b : Key → Option B) (c : Key → Option C)
+      → All (λ e. IsLive d.content e.0) (three_found_by a b c d.keys)
+  three_found_live a b c = all_found (IsLive d.content)
+      (λ k. option_and_then (λ x. option_and_then (λ y. option_map (λ z. (k, (x, (y, z)))) (c k)) (b k)) (a k))
+      (λ k. by_more k (a k) (λ x. option_and_then (λ y. option_map (λ z. (k, (x, (y, z)))) (c k)) (b k))
+      (λ x. by_more k (b k) (λ y. option_map (λ z. (k, (x, (y, z)))) (c k)) (λ y. by_map k (c k) (λ z. (k, (x, (y, z)))) (λ z. refl))))
+      d.keys keys_live
+
+  pub found_without_live : {C : Type 0} (has : Key → Bool) (find : Key → Option C) → All (λ e. IsLive d.content e.0) (found_without has find d.keys)
+  found_without_live has find = all_found (IsLive d.content) (λ k. if has k then None else option_map (λ c. (k, c)) (find k))
+      (λ k. by_test k (has k) (option_map (λ c. (k, c)) (find k)) (by_map k (find k) (λ c. (k, c)) (λ c. refl))) d.keys keys_live

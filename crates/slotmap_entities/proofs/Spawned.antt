@@ -1,7 +1,9 @@
 -- What stays live, what stays spent, and which index the key has, where an entity is spawned.
-use Rattle.std.proofs.Common.{◌+◌, ◌<◌, ◌≤◌, Result, Ok, Err, IsOk, IfOk, OnOk, OnErr, false, inl, inr, is_some, ap, arith}
+use Rattle.std.proofs.Common.{◌≡◌, ◌+◌, ◌<◌, ◌≤◌, Result, Ok, Err, IsOk, IfOk, OnOk, OnErr, Bool, false, inl, inr, is_some, ap, arith}
 use Rattle.slotmap.specs.Words.{Key, Content, IsContent, Inserts, IsLive, Keeps, KeepsSpent, most, places, used}
-use Rattle.slotmap.proofs.Callers.{get-insert_here, live-insert_still, spent_inserts, spent_keeps}
+use Rattle.slotmap.proofs.Callers.{get-insert_here, inserted_fresh, live-insert_still, spent_inserts, spent_keeps}
+use Rattle.slotmap_entities.specs.World.{OnlyLive}
+use Rattle.slotmap_entities.proofs.LiveOnly.{stale_bare}
 
 -- the next key is at most one behind all slots, and within the limit
 pub offer_index : {E : Type 0} (c : Content E) → IsContent false c → used c < most → (c.offer.index ≤ places c + 1) × (c.offer.index ≤ most)
@@ -43,3 +45,9 @@ module _ {E K R : Type 0} (old new : Content E) (data_of : K → Key) (entity : 
       → IfOk answer (λ key. (data_of key).index ≤ places old + 1)
   spawned_index (Ok key) valid adds = new_index old new entity (data_of key) valid adds
   spawned_index (Err e) valid adds = tt
+
+  -- a new entity had nothing before
+  pub spawned_bare : (answer : Result K R) → IsContent false old → IfOk answer (λ key. Inserts old (data_of key) entity new)
+      → (has : Key → Bool) → OnlyLive old has → IfOk answer (λ key. has (data_of key) ≡ false)
+  spawned_bare (Ok key) valid adds has only = stale_bare old has only (data_of key) (inserted_fresh false old (data_of key) entity new valid adds)
+  spawned_bare (Err e) valid adds has only = tt

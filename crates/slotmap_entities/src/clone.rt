@@ -3,7 +3,7 @@
 ghost use Rattle.std.specs.Prelude.{◌≡◌, IfOk, ⊤, refl};
 ghost use Rattle.slotmap.specs.Words.{Key as KeyOf, ClonesEqual, ClonesInOrder, HasClones, IsCloneBy, IsCopy, SameOrder};
 
-use crate::{Table, Tables, World};
+use crate::{First, Kind, Table, Tables, Then, World};
 use slotmap::{Key, SecondaryMap, SparseSecondaryMap};
 use std::alloc::AllocError;
 
@@ -96,6 +96,36 @@ impl<K: Key, A: CloneTable<K>, B: CloneTables<K>> CloneTables<K> for (A, B) {
 
     ghost same_parts = { λ t u k equal clones.
         let own = clones.0 k in let same = equal.0 in let rest = B.same_parts t.1 u.1 k equal.1 clones.1 in Prim.grind arith };
+}
+
+/// A kind of components that can be cloned: what a copy of the tables has of it.
+///
+/// ```
+/// type Tables = (SecondaryMap<DefaultKey, u32>, ());
+/// let mut world: World<DefaultKey, u8, Tables> = World::new(alloc)?;
+/// let hero = world.spawn_with::<First>(1, 7)?;
+/// let copy = world.clone()?;
+/// assert_eq!(rt; copy.component::<First>(hero), Some(&7));
+/// ```
+pub trait CloneKind<K: Key, T: CloneTables<K>>: Kind<K, T> {
+    // What a clone of a component may be.
+    ghost is_clone: { Self.Table.Component → Self.Table.Component → Type 0 };
+
+    // In a copy of the tables the table of this kind has the same entities, each with a clone of its component.
+    ghost own_clones: { (t u : T) → T.are_clones t u → HasClones is_clone (Self.Table.pairs (Self.Kind.table t)) (Self.Table.pairs (Self.Kind.table u)) };
+}
+
+impl<K: Key, A: CloneTable<K>, B: CloneTables<K>> CloneKind<K, (A, B)> for First {
+    ghost is_clone = { A.is_clone };
+
+    ghost own_clones = { λ t u clones. clones.0 };
+}
+
+impl<K: Key, A: CloneTable<K>, B: CloneTables<K>, C: CloneKind<K, B>> CloneKind<K, (A, B)>
+    for Then<C> {
+    ghost is_clone = { C.is_clone };
+
+    ghost own_clones = { λ t u clones. C.own_clones t.1 u.1 clones.1 };
 }
 
 impl<K: Key, E: Clone + Drop, T: CloneTables<K>> World<K, E, T> {

@@ -1,6 +1,6 @@
 //! The calls on one component of one entity.
 
-ghost use Rattle.std.specs.Prelude.{◌≡◌, ◌≢◌, ℕ, ◌+◌, IfOk, OnOk, IsOk, IfErr, OnErr, IsSome, Some, None, true, option_copied};
+ghost use Rattle.std.specs.Prelude.{◌≡◌, ◌≢◌, ℕ, ◌+◌, IfOk, OnOk, IsOk, IfErr, OnErr, IsSome, IsTrue, Some, None, true, option_copied};
 ghost use Rattle.std.specs.Option.{option_copied_mut};
 ghost use Rattle.std.specs.Borrow.{sem};
 ghost use Rattle.slotmap.specs.Words.{Key as KeyOf, IsBeside, IsLive, get, contains_key, keyed, RetainsBy, CallableOnEach};
@@ -136,7 +136,8 @@ impl<K: Key, E: Drop, T: Tables<K>> World<K, E, T> {
         C::table_mut(&mut self.tables).reserve(additional, last)
     }
 
-    /// Takes a component off an entity, and returns it, or `None` if it has none of this kind.
+    /// Takes a component off an entity, and returns it, or `None` if it has none of this kind or doesn't
+    /// exist.
     ///
     /// ```
     /// let mut world: World<DefaultKey, u8, (SecondaryMap<DefaultKey, u32>, ())> = World::new(alloc)?;
@@ -146,6 +147,7 @@ impl<K: Key, E: Drop, T: Tables<K>> World<K, E, T> {
     /// ```
     pub fn detach<C: Kind<K, T>>(&mut self, key: K) -> Option<ComponentOf<K, T, C>>
         ensures value { result ≡ get (C.Table.pairs (C.table self.old.tables)) (K.data_of key) }
+        ensures live { IsSome result → IsLive self.old.entities.content (K.data_of key) }
         ensures none_now { get (C.Table.pairs (C.table self.new.tables)) (K.data_of key) ≡ None }
         ensures room { (i count : ℕ) → C.Table.fits (C.table self.old.tables) i count → C.Table.fits (C.table self.new.tables) i count }
         ensures others { (q : KeyOf) → q ≢ K.data_of key → get (C.Table.pairs (C.table self.new.tables)) q ≡ get (C.Table.pairs (C.table self.old.tables)) q }
@@ -163,7 +165,8 @@ impl<K: Key, E: Drop, T: Tables<K>> World<K, E, T> {
     /// assert!(rt; !world.has::<First>(hero));
     /// ```
     pub fn has<C: Kind<K, T>>(&self, key: K) -> bool
-        ensures { result ≡ contains_key (C.Table.pairs (C.table self.now.tables)) (K.data_of key) }
+        ensures value { result ≡ contains_key (C.Table.pairs (C.table self.now.tables)) (K.data_of key) }
+        ensures live { IsTrue result → IsLive self.now.entities.content (K.data_of key) }
     {
         C::table(&self.tables).contains_key(key)
     }
@@ -209,6 +212,7 @@ impl<K: Key, E: Drop, T: Tables<K>> World<K, E, T> {
         ensures* writes_back { sem 𝓛 (lends_component K.row E.row T.row T.Parts.row K.Key T.Tables C.Table.Component.row self.entry
             (λ component. C.with_table self.old.tables (C.Table.with_value (C.table self.old.tables) (K.data_of key) component)) result) }
         ensures value { option_copied_mut result ≡ get (C.Table.pairs (C.table self.old.tables)) (K.data_of key) }
+        ensures live { IsSome result → IsLive self.old.entities.content (K.data_of key) }
     {
         match C::table_mut(&mut self.tables).get_mut(key) {
             Some(component) => Some(component),

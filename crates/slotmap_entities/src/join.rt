@@ -2,7 +2,7 @@
 
 ghost use Rattle.std.specs.Prelude.{◌≡◌};
 ghost use Rattle.std.specs.Iterator.{YieldsFirstBy, item_count};
-ghost use Rattle.slotmap.specs.Words.{get};
+ghost use Rattle.slotmap.specs.Words.{IsDense, get};
 ghost use Rattle.slotmap_entities.specs.World.{found_by, both_found_by};
 
 use crate::{Kind, Table, Tables, World};
@@ -132,6 +132,8 @@ impl<K: Key, E: Drop, T: Tables<K>> World<K, E, T> {
     where
         C::Table: 'a,
         ensures in_order { result ≡ found_by (get (C.Table.pairs (C.table self.now.tables))) self.now.entities.keys }
+        // So each of them is an entity, and is there once.
+        ensures valid { IsDense self.now.entities }
     {
         With {
             keys: self.entities.keys(),
@@ -163,6 +165,8 @@ impl<K: Key, E: Drop, T: Tables<K>> World<K, E, T> {
         A::Table: 'a,
         B::Table: 'a,
         ensures in_order { result ≡ both_found_by (get (A.Table.pairs (A.table self.now.tables))) (get (B.Table.pairs (B.table self.now.tables))) self.now.entities.keys }
+        // So each of them is an entity, and is there once.
+        ensures valid { IsDense self.now.entities }
     {
         WithBoth {
             keys: self.entities.keys(),

@@ -2,7 +2,7 @@
 
 ghost use Rattle.std.specs.Prelude.{◌≡◌};
 ghost use Rattle.std.specs.Iterator.{YieldsFirstBy, item_count};
-ghost use Rattle.slotmap.specs.Words.{get};
+ghost use Rattle.slotmap.specs.Words.{IsDense, get};
 ghost use Rattle.slotmap_entities.specs.World.{three_found_by};
 
 use crate::{Kind, Table, Tables, World};
@@ -100,6 +100,8 @@ impl<K: Key, E: Drop, T: Tables<K>> World<K, E, T> {
         C::Table: 'a,
         ensures in_order { result ≡ three_found_by (get (A.Table.pairs (A.table self.now.tables))) (get (B.Table.pairs (B.table self.now.tables)))
             (get (C.Table.pairs (C.table self.now.tables))) self.now.entities.keys }
+        // So each of them is an entity, and is there once.
+        ensures valid { IsDense self.now.entities }
     {
         WithThree {
             keys: self.entities.keys(),

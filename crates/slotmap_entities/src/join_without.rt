@@ -2,7 +2,7 @@
 
 ghost use Rattle.std.specs.Prelude.{◌≡◌};
 ghost use Rattle.std.specs.Iterator.{YieldsFirstBy, item_count};
-ghost use Rattle.slotmap.specs.Words.{contains_key, get};
+ghost use Rattle.slotmap.specs.Words.{IsDense, contains_key, get};
 ghost use Rattle.slotmap_entities.specs.World.{found_without};
 
 use crate::{Kind, Table, Tables, World};
@@ -91,6 +91,8 @@ impl<K: Key, E: Drop, T: Tables<K>> World<K, E, T> {
         A::Table: 'a,
         B::Table: 'a,
         ensures in_order { result ≡ found_without (contains_key (B.Table.pairs (B.table self.now.tables))) (get (A.Table.pairs (A.table self.now.tables))) self.now.entities.keys }
+        // So each of them is an entity, and is there once.
+        ensures valid { IsDense self.now.entities }
     {
         WithWithout {
             keys: self.entities.keys(),

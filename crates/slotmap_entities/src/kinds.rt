@@ -1,6 +1,6 @@
 //! The kinds of components: by them a call names the table that it is about.
 
-ghost use Rattle.std.specs.Prelude.{◌≡◌, ◌⊎◌, true, refl};
+ghost use Rattle.std.specs.Prelude.{◌≡◌, ◌⊎◌, ◌||◌, ℕ, true, is_some, refl};
 ghost use Rattle.std.specs.Borrow.{sem, Lends};
 ghost use Rattle.slotmap.specs.Words.{Key as KeyOf, contains_key, get};
 
@@ -57,9 +57,16 @@ pub trait Kind<K: Key, T: Tables<K>> {
     ghost has_no_more: { (t : T) (m : Self.Table) (k : KeyOf) → T.has (with_table t m) k ≡ true
         → (T.has t k ≡ true) ⊎ (contains_key (Self.Table.pairs m) k ≡ true) };
 
+    // A new table changes what an entity has in the tables only where it has something else there.
+    ghost others_kept: { (t : T) (m : Self.Table) (k : KeyOf) → get (Self.Table.pairs m) k ≡ get (Self.Table.pairs (table t)) k
+        → (T.has (with_table t m) k ≡ T.has t k) × (T.parts (with_table t m) k ≡ T.parts t k) };
+
     // What an entity has in its table is part of what it has in the tables.
     ghost own_part: { (t u : T) (k : KeyOf) → T.parts u k ≡ T.parts t k
         → get (Self.Table.pairs (table u)) k ≡ get (Self.Table.pairs (table t)) k };
+
+    // Where no table has less room than before, its own hasn't.
+    ghost own_room: { (t u : T) → T.keeps_room t u → (i count : ℕ) → Self.Table.fits (table t) i count → Self.Table.fits (table u) i count };
 }
 
 /// Two kinds of components with a table each: no kind is apart from itself.
@@ -129,7 +136,11 @@ impl<K: Key, A: Table<K>, B: Tables<K>> Kind<K, (A, B)> for First {
 
     ghost has_no_more = { λ t m k. Prim.grind arith };
 
+    ghost others_kept = { λ t m k same. (ap (λ c. is_some c || B.has t.1 k) same, ap (λ c. (c, B.parts t.1 k)) same) };
+
     ghost own_part = { λ t u k same. ap (λ p. p.0) same };
+
+    ghost own_room = { λ t u keeps i count fit. keeps.0 i count fit };
 }
 
 impl<K: Key, A: Table<K>, B: Tables<K>, C: Kind<K, B>> Kind<K, (A, B)> for Then<C> {
@@ -159,7 +170,12 @@ impl<K: Key, A: Table<K>, B: Tables<K>, C: Kind<K, B>> Kind<K, (A, B)> for Then<
 
     ghost has_no_more = { λ t m k h. let more = C.has_no_more t.1 m k in Prim.grind arith };
 
+    ghost others_kept = { λ t m k same. let rest = C.others_kept t.1 m k same in
+        (ap (λ b. contains_key (A.pairs t.0) k || b) rest.0, ap (λ p. (get (A.pairs t.0) k, p)) rest.1) };
+
     ghost own_part = { λ t u k same. C.own_part t.1 u.1 k (ap (λ p. p.1) same) };
+
+    ghost own_room = { λ t u keeps i count fit. C.own_room t.1 u.1 keeps.1 i count fit };
 }
 
 impl<K: Key, A: Table<K>, B: Tables<K>, C: Kind<K, B>> Apart<K, (A, B), Then<C>> for First {

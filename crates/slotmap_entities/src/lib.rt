@@ -37,16 +37,17 @@
 //! ```
 #![tactic(auto, using(slotmap::proofs::Callers::keys))]
 
-ghost use Rattle.std.specs.Prelude.{◌≡◌, ◌≢◌, ◌+◌, ◌<◌, ◌≤◌, ◌↔◌, Some, None, IfOk, IsOk, OnErr, IfErr, IfSome, OnSome, IfNone, IsTrue, true, false, zip, length, option_copied, option_map, map as list_map};
+ghost use Rattle.std.specs.Prelude.{◌≡◌, ◌≢◌, ◌+◌, ◌<◌, ◌≤◌, ◌↔◌, Some, None, IfOk, IsOk, OnErr, IfErr, IfSome, OnSome, IfNone, IsTrue, true, false, option_copied, option_map};
 ghost use Rattle.std.specs.FinMap as map;
 ghost use Rattle.std.specs.Option.{option_copied_mut};
 ghost use Rattle.std.specs.Borrow.{sem};
 ghost use Rattle.slotmap.specs.Words.{Key as KeyOf, Inserts, IsLive, IsNew, IsSpent, Keeps, KeepsSpent, Leaves, Removes, Refuses, RefusesCapacity, MakesDenseRoom, places, used};
-ghost use Rattle.slotmap.specs.Words.{Appends, ClosesGap, IsDense, SameOrder, IsEmpty, IsListing, ListsPairs};
+ghost use Rattle.slotmap.specs.Words.{Appends, ClosesGap, IsDense, SameOrder, IsEmpty};
 
 mod both;
 mod clone;
 mod components;
+mod iter;
 mod join;
 mod join_three;
 mod join_without;
@@ -55,13 +56,12 @@ mod spawn;
 mod spawn_both;
 mod tables;
 
-pub use clone::{CloneTable, CloneTables};
+pub use clone::{CloneKind, CloneTable, CloneTables};
 pub use components::AttachError;
 pub use join::{With, WithBoth};
 pub use join_three::WithThree;
 pub use join_without::WithWithout;
 pub use kinds::{Apart, First, Fourth, Kind, Second, Then, Third};
-use slotmap::dense::{Iter, Keys, Values};
 use slotmap::{DefaultKey, DenseSlotMap, InsertError, Key, ReserveError};
 pub use spawn::SpawnError;
 use std::alloc::Global;
@@ -290,8 +290,8 @@ impl<K: Key, E: Drop, T: Tables<K>> World<K, E, T> {
 
     /// Removes an entity with its components. It returns the entity's value and what it had in each
     /// table. The key is never used again. The capacity stays, and there is room for one more entity,
-    /// unless the key was the last of its slot. If the entity doesn't exist, the call returns `None` and
-    /// changes nothing.
+    /// unless the key was the last of its slot. No table loses room. If the entity doesn't exist, the
+    /// call returns `None` and changes nothing.
     ///
     /// ```
     /// let mut world: World<DefaultKey, u8, (SecondaryMap<DefaultKey, u32>, ())> = World::new(alloc)?;
@@ -395,85 +395,6 @@ impl<K: Key, E: Drop, T: Tables<K>> World<K, E, T> {
         ensures live { (k : KeyOf) → T.has result.now k ≡ true → IsLive self.now.entities.content k }
     {
         &self.tables
-    }
-
-    /// Returns an iterator over the entities with their values, in packed order.
-    ///
-    /// ```
-    /// let mut world: World<DefaultKey, u8, ()> = World::new(alloc)?;
-    /// let hero = world.spawn(1)?;
-    /// let mut entities = world.iter();
-    /// assert_eq!(rt; entities.next(), Some((hero, &1)));
-    /// assert_eq!(rt; entities.next(), None);
-    /// ```
-    pub fn iter(&self) -> Iter<'_, K, E>
-        ensures listing { IsListing self.now.entities.content.live result }
-        ensures in_order { result ≡ zip self.now.entities.keys self.now.entities.values }
-    {
-        self.entities.iter()
-    }
-
-    /// Returns the keys of the entities, in packed order, in constant time.
-    ///
-    /// A loop over the positions may change the world on its way, and needs no vector of keys. An iterator,
-    /// as [`World::keys`] or a join, borrows the world as long as it is used.
-    ///
-    /// ```
-    /// let mut world: World<DefaultKey, u8, (SecondaryMap<DefaultKey, u32>, ())> = World::new(alloc)?;
-    /// let hero = world.spawn_with::<First>(1, 7)?;
-    /// for at in 0..world.len() {
-    ///     let key = world.keys_as_slice()[at];
-    ///     if let Some(component) = world.component_mut::<First>(key) {
-    ///         *component += 1;
-    ///     }
-    /// }
-    /// assert_eq!(rt; world.component::<First>(hero), Some(&8));
-    /// ```
-    pub fn keys_as_slice(&self) -> &[K]
-        ensures keys { list_map K.data_of result.now ≡ self.now.entities.keys }
-        ensures count { length result.now ≡ map.len self.now.entities.content.live }
-        // So each entity is there once.
-        ensures valid { IsDense self.now.entities }
-    {
-        self.entities.keys_as_slice()
-    }
-
-    /// Returns an iterator over the keys of the entities, in packed order.
-    ///
-    /// ```
-    /// let mut world: World<DefaultKey, u8, ()> = World::new(alloc)?;
-    /// let hero = world.spawn(1)?;
-    /// assert_eq!(rt; world.keys().next(), Some(hero));
-    /// ```
-    pub fn keys(&self) -> Keys<'_, K, E>
-        ensures { result ≡ self.now.entities.keys }
-    {
-        self.entities.keys()
-    }
-
-    /// Returns an iterator over the values of the entities, in packed order.
-    ///
-    /// ```
-    /// let mut world: World<DefaultKey, u8, ()> = World::new(alloc)?;
-    /// world.spawn(1)?;
-    /// assert_eq!(rt; world.values().next(), Some(&1));
-    /// ```
-    pub fn values(&self) -> Values<'_, K, E>
-        ensures { result ≡ self.now.entities.values }
-    {
-        self.entities.values()
-    }
-}
-
-impl<'a, K: Key, E: Drop, T: Tables<K>> IntoIterator for &'a World<K, E, T> {
-    type Item = (K, &'a E);
-
-    type IntoIter = Iter<'a, K, E>;
-
-    ghost into_iter_gives = { λ world it. ListsPairs world.now.entities it };
-
-    fn into_iter(self) -> Iter<'a, K, E> {
-        self.iter()
     }
 }
 

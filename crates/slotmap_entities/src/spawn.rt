@@ -1,6 +1,6 @@
 //! Entities that are spawned with one component, and why a spawn with components fails.
 
-ghost use Rattle.std.specs.Prelude.{◌≡◌, ◌≢◌, ℕ, ◌+◌, ◌<◌, ◌≤◌, Some, None, IfOk, IsOk, OnOk, IfErr, OnErr};
+ghost use Rattle.std.specs.Prelude.{◌≡◌, ◌≢◌, ℕ, ◌+◌, ◌<◌, ◌≤◌, Some, None, false, IfOk, IsOk, OnOk, IfErr, OnErr};
 ghost use Rattle.std.specs.FinMap as map;
 ghost use Rattle.slotmap.specs.Words.{Key as KeyOf, Inserts, IsBeside, IsDense, IsSpent, Keeps, KeepsSpent, Appends, SameOrder, RefusesInsert, get, most, places, used};
 ghost use Rattle.slotmap_entities.specs.World.{RefusesNext, RefusesSpawn};
@@ -105,7 +105,7 @@ pub(crate) fn spawn_with<K: Key, E: Drop, M: Table<K>>(
 }
 
 impl<K: Key, E: Drop, T: Tables<K>> World<K, E, T> {
-    /// Adds an entity with a component, and returns its key, which no entity had before.
+    /// Adds an entity with one component and no other, and returns its key, which no entity had before.
     ///
     /// If the call fails, no entity was added, and no component: the error holds the entity's value and
     /// the component. It uses up no key. It can't fail if there is room for the entity, as after
@@ -127,6 +127,8 @@ impl<K: Key, E: Drop, T: Tables<K>> World<K, E, T> {
         // A new entity, with this component.
         ensures adds { IfOk result (λ key. Inserts self.old.entities.content (K.data_of key) entity self.new.entities.content) }
         ensures there { IfOk result (λ key. get (C.Table.pairs (C.table self.new.tables)) (K.data_of key) ≡ Some component) }
+        // It has no other one: it had none in any table before, and the other kinds are as they were.
+        ensures no_others { IfOk result (λ key. T.has self.old.tables (K.data_of key) ≡ false) }
         ensures fresh { IfOk result (λ key. map.get self.old.entities.content.live (K.data_of key) ≡ None) }
         ensures unspent { IfOk result (λ key. IsSpent self.old.entities.content (K.data_of key) → ⊥) }
         // Its index is at most one more than there were slots.

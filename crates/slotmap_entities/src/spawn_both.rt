@@ -1,6 +1,6 @@
 //! Entities that are spawned with two components.
 
-ghost use Rattle.std.specs.Prelude.{◌≡◌, ◌≢◌, ℕ, ◌+◌, ◌<◌, ◌≤◌, Some, None, IfOk, IsOk, IfErr, OnErr};
+ghost use Rattle.std.specs.Prelude.{◌≡◌, ◌≢◌, ℕ, ◌+◌, ◌<◌, ◌≤◌, Some, None, false, IfOk, IsOk, IfErr, OnErr};
 ghost use Rattle.std.specs.FinMap as map;
 ghost use Rattle.slotmap.specs.Words.{Key as KeyOf, Inserts, IsDense, IsSpent, Keeps, KeepsSpent, Appends, SameOrder, get, places};
 ghost use Rattle.slotmap_entities.specs.World.{Gains, OnlyLive, RefusesSpawn};
@@ -57,7 +57,8 @@ fn spawn_with_both<K: Key, E: Drop, T: Tables<K>, A: Apart<K, T, B>, B: Kind<K, 
 }
 
 impl<K: Key, E: Drop, T: Tables<K>> World<K, E, T> {
-    /// Adds an entity with components of two kinds, and returns its key, which no entity had before.
+    /// Adds an entity with components of two kinds and no other, and returns its key, which no entity had
+    /// before.
     ///
     /// If the call fails, no entity was added, and no component: the error holds the entity's value and
     /// the pair of components. It uses up no key. It can't fail if there is room for the entity, as after
@@ -84,6 +85,8 @@ impl<K: Key, E: Drop, T: Tables<K>> World<K, E, T> {
         ensures adds { IfOk result (λ key. Inserts self.old.entities.content (K.data_of key) entity self.new.entities.content) }
         ensures first { IfOk result (λ key. Gains (A.Table.pairs (A.table self.old.tables)) (K.data_of key) first (A.Table.pairs (A.table self.new.tables))) }
         ensures second { IfOk result (λ key. Gains (B.Table.pairs (B.table self.old.tables)) (K.data_of key) second (B.Table.pairs (B.table self.new.tables))) }
+        // It has no other one: it had none in any table before, and the other kinds are as they were.
+        ensures no_others { IfOk result (λ key. T.has self.old.tables (K.data_of key) ≡ false) }
         ensures fresh { IfOk result (λ key. map.get self.old.entities.content.live (K.data_of key) ≡ None) }
         ensures unspent { IfOk result (λ key. IsSpent self.old.entities.content (K.data_of key) → ⊥) }
         // Its index is at most one more than there were slots.

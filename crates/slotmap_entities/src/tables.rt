@@ -108,8 +108,8 @@ pub trait Table<K: Key>: Drop {
         ensures value { option_copied_mut result ≡ get (pairs self.old) (K.data_of key) };
 
     /// Inserts a component, and returns the one that the entity had. If memory runs out, the error
-    /// holds the component, and the table has the same components. A call that fails or replaces a
-    /// component takes up no room.
+    /// holds the component, and the table has the same components. A call that fails takes up no room,
+    /// and neither does one for an entity that has a component here.
     ///
     /// A null key, or one older than that at its index, changes nothing: the component is dropped, and
     /// the result is `Ok(None)`. A newer key replaces an older one at its index.
@@ -352,6 +352,8 @@ impl<K: Key, C: Drop> Table<K> for SparseSecondaryMap<K, C> {
 ///     ghost with_table = { λ tables table. record tables { health = table } };
 ///     ..
 ///     ghost has_own = { λ tables k. Prim.grind arith };
+///
+///     ghost own_room = { λ old new keeps i count fit. let more = keeps.0 in Prim.omega arith };
 /// }
 /// ```
 ///

@@ -1,5 +1,5 @@
 use Rattle.slotmap_entities.proofs.LiveOnly.{table_live}
-use Rattle.slotmap_entities.proofs.Spawned.{spawned_still, spawned_spent, spawned_index}
+use Rattle.slotmap_entities.proofs.Spawned.{spawned_bare, spawned_still, spawned_spent, spawned_index}
 use Rattle.slotmap_entities.proofs.World.spawn_with.Goals as goal
 
 pub invariant_of-self : goal.invariant_of-self
@@ -9,6 +9,11 @@ invariant_of-self g c =
     let still = spawned_still old new g.K.Key.data_of c.args.entity c.spawn_with.result c.spawn_with.ensures.adds c.spawn_with.ensures.unchanged in
     table_live new (g.T.Tables.has c.self.inside.tables) (λ k there. still k (c.self.invariant k there)) _ _ c.spawn_with.ensures.beside
     (g.met.C.Kind.has_no_more c.self.inside.tables c.spawn_with.new.table)
+
+pub returns-clause-no_others : goal.returns-clause-no_others
+returns-clause-no_others g c = rw (← c.self.view_is)
+    (spawned_bare c.self.inside.entities.content c.spawn_with.new.entities.content g.K.Key.data_of c.args.entity c.spawn_with.result c.spawn_with.ensures.valid.0.content
+    c.spawn_with.ensures.adds (g.T.Tables.has c.self.inside.tables) c.self.invariant)
 
 pub returns-clause-gone : goal.returns-clause-gone
 returns-clause-gone g c = rw (← c.self.view_is)

@@ -1,0 +1,95 @@
+//! The entities in packed order: iterators over them, and the slice of their keys.
+
+ghost use Rattle.std.specs.Prelude.{◌≡◌, zip, length, map as list_map};
+ghost use Rattle.std.specs.FinMap as map;
+ghost use Rattle.slotmap.specs.Words.{IsDense, IsKeyListing, IsListing, IsValueListing, ListsPairs};
+
+use crate::{Tables, World};
+use slotmap::Key;
+use slotmap::dense::{Iter, Keys, Values};
+
+impl<K: Key, E: Drop, T: Tables<K>> World<K, E, T> {
+    /// Returns an iterator over the entities with their values, in packed order.
+    ///
+    /// ```
+    /// let mut world: World<DefaultKey, u8, ()> = World::new(alloc)?;
+    /// let hero = world.spawn(1)?;
+    /// let mut entities = world.iter();
+    /// assert_eq!(rt; entities.next(), Some((hero, &1)));
+    /// assert_eq!(rt; entities.next(), None);
+    /// ```
+    pub fn iter(&self) -> Iter<'_, K, E>
+        ensures listing { IsListing self.now.entities.content.live result }
+        ensures in_order { result ≡ zip self.now.entities.keys self.now.entities.values }
+        ensures valid { IsDense self.now.entities }
+    {
+        self.entities.iter()
+    }
+
+    /// Returns the keys of the entities, in packed order, in constant time.
+    ///
+    /// A loop over the positions may change the world on its way, and needs no vector of keys. An iterator,
+    /// as [`World::keys`] or a join, borrows the world as long as it is used.
+    ///
+    /// ```
+    /// let mut world: World<DefaultKey, u8, (SecondaryMap<DefaultKey, u32>, ())> = World::new(alloc)?;
+    /// let hero = world.spawn_with::<First>(1, 7)?;
+    /// for at in 0..world.len() {
+    ///     let key = world.keys_as_slice()[at];
+    ///     if let Some(component) = world.component_mut::<First>(key) {
+    ///         *component += 1;
+    ///     }
+    /// }
+    /// assert_eq!(rt; world.component::<First>(hero), Some(&8));
+    /// ```
+    pub fn keys_as_slice(&self) -> &[K]
+        ensures keys { list_map K.data_of result.now ≡ self.now.entities.keys }
+        ensures count { length result.now ≡ map.len self.now.entities.content.live }
+        // So each entity is there once.
+        ensures valid { IsDense self.now.entities }
+    {
+        self.entities.keys_as_slice()
+    }
+
+    /// Returns an iterator over the keys of the entities, in packed order.
+    ///
+    /// ```
+    /// let mut world: World<DefaultKey, u8, ()> = World::new(alloc)?;
+    /// let hero = world.spawn(1)?;
+    /// assert_eq!(rt; world.keys().next(), Some(hero));
+    /// ```
+    pub fn keys(&self) -> Keys<'_, K, E>
+        ensures listing { IsKeyListing self.now.entities.content.live result }
+        ensures in_order { result ≡ self.now.entities.keys }
+        ensures valid { IsDense self.now.entities }
+    {
+        self.entities.keys()
+    }
+
+    /// Returns an iterator over the values of the entities, in packed order.
+    ///
+    /// ```
+    /// let mut world: World<DefaultKey, u8, ()> = World::new(alloc)?;
+    /// world.spawn(1)?;
+    /// assert_eq!(rt; world.values().next(), Some(&1));
+    /// ```
+    pub fn values(&self) -> Values<'_, K, E>
+        ensures listing { IsValueListing self.now.entities.content.live result }
+        ensures in_order { result ≡ self.now.entities.values }
+        ensures valid { IsDense self.now.entities }
+    {
+        self.entities.values()
+    }
+}
+
+impl<'a, K: Key, E: Drop, T: Tables<K>> IntoIterator for &'a World<K, E, T> {
+    type Item = (K, &'a E);
+
+    type IntoIter = Iter<'a, K, E>;
+
+    ghost into_iter_gives = { λ world it. ListsPairs world.now.entities it };
+
+    fn into_iter(self) -> Iter<'a, K, E> {
+        self.iter()
+    }
+}
