@@ -4,10 +4,23 @@ use Rattle.std.proofs.Common.{◌≡◌, ◌≢◌, ◌<◌, ◌≤◌, ◌∷�
 use Rattle.slotmap_graph.proofs.Common.{ℕ, suc, false, cond, Option, Some, None, List, [], length, get_or, refl, sym, ap, arith, Key, is_key, times, times_first, append-nil, append_assoc, same_Some}
 use Rattle.slotmap_graph.proofs.Common.{same_or_other, is_itself, one_other, times_pushed, without, first_or, key_after, in_midst, Content, Edges, SeenEdge, ListsEdges, with_edge, get-insert_here}
 use Rattle.slotmap_graph.proofs.Common.{get-insert_other, one_itself, times_joined, without_none, Bool, true, find, from, goes_to, HasEdge, is_other}
+use Rattle.slotmap_graph.proofs.Common.{exact_keys, IsJoined, key_cmp, keys_total, Seen}
+use Rattle.slotmap.proofs.Callers.{some_entry}
 use Rattle.slotmap_graph.proofs.Adjacent.{listed_once}
 -- which edges the list of a node has
 pub use Rattle.slotmap_graph.proofs.Adjacent.{absent_unlisted, edge_listed, gone_apart, gone_into, gone_out, listed_edge, nothing_listed}
 use Rattle.std.specs.FinMap as map
+
+-- where there is no node, there is no edge
+pub no_edges : {N E : Type 0} (s : Seen N E) → IsJoined s → map.len s.nodes.live ≡ 0 → map.len s.edges.live ≡ 0
+no_edges {N} {E} s joined bare =
+    ap map.len (map.same_map keys_total exact_keys s.edges.live map.empty (λ x. none x ∙ sym (map.get-empty {X = SeenEdge E} key_cmp x))) ∙ map.len-empty key_cmp (SeenEdge E)
+  where
+    none : (x : Key) → map.get s.edges.live x ≡ None
+    none x = elim (map.get s.edges.live x) as (λ o. map.get s.edges.live x ≡ o → o ≡ None) [
+      | None ↦ λ is. refl
+      | Some e ↦ λ is. absurd (omega (arith, bare, some_entry keys_total exact_keys s.nodes.live e.from (joined.ends x e is).0))
+    ] refl
 
 module _ {K : Type 0} (data_of : K → Key) where
   none_is : (keys : List K) (x : Key) → ((i : ℕ) (other : K) → 0 ≤ i → i < length keys → is_key (data_of (get_or keys i other)) x ≡ false) → times x (list_map data_of keys) ≡ 0
@@ -174,6 +187,11 @@ module _ (all : List Key) (k : Key) (Passed : Key → Type 0) (along : GoesAlong
 -- after the loop each edge of the node was passed
 pub along_end : (all : List Key) (Passed : Key → Type 0) → GoesAlong all None Passed → (k : Key) → 0 < times k all → Passed k
 along_end all Passed along k more = grind (arith, along.list, none_first along.ahead along.here, append-nil along.passed, along.each k)
+
+-- after a loop that removed each edge that it passed, none is left
+pub along_removed_all : (all : List Key) → GoesAlong all None (λ k. ⊥) → all ≡ []
+along_removed_all [] along = refl
+along_removed_all (k ∷ ks) along = absurd (along_end (k ∷ ks) (λ q. ⊥) along k (omega (arith, times_first k k ks, one_itself k)))
 
 -- a loop that removes the first edge of a node, until there is none
 less_without : (k : Key) (ks : List Key) → length (without k ks) ≤ length ks

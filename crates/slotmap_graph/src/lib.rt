@@ -324,6 +324,7 @@ impl<K: Key, N: Drop, E: Drop> Graph<K, N, E> {
     /// ```
     pub fn is_empty(&self) -> bool
         ensures nodes { IsTrue result ↔ (map.len self.now.nodes.live ≡ 0) }
+        ensures edges { IsTrue result → map.len self.now.edges.live ≡ 0 }
     {
         self.node_count() == 0
     }
