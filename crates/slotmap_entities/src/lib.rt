@@ -37,7 +37,8 @@
 //! ```
 #![tactic(auto, using(slotmap::proofs::Callers::keys))]
 
-ghost use Rattle.std.specs.Prelude.{◌≡◌, ◌≢◌, ◌+◌, ◌<◌, ◌≤◌, ◌↔◌, Some, None, IfOk, IsOk, OnErr, IfErr, IfSome, OnSome, IfNone, IsTrue, true, false, option_copied, option_map};
+ghost use Rattle.std.specs.Prelude.{◌≡◌, ◌≢◌, ◌+◌, ◌<◌, ◌≤◌, ◌↔◌, Some, None, IfOk, IsOk, OnErr, IfErr, IfSome, OnSome, IfNone, IsTrue};
+ghost use Rattle.std.specs.Prelude.{true, false, option_copied, option_map};
 ghost use Rattle.std.specs.FinMap as map;
 ghost use Rattle.std.specs.Option.{option_copied_mut};
 ghost use Rattle.std.specs.Borrow.{sem};
