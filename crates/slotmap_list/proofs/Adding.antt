@@ -1,8 +1,8 @@
 -- Many values that are added at the back.
 use Rattle.std.specs.FinMap as map
 use Rattle.std.specs.FinSet as set
-use Rattle.std.proofs.Common.{ℕ, zero, suc, IsErr, ◌<◌, ◌≡◌, ◌≤◌, ◌⊎◌, List, [], ◌∷◌, ◌++◌, length, map as list_map, Some, None, IsSome, is_some, Result, Ok, Err, IsOk, IfOk, OnOk, inl}
-use Rattle.std.proofs.Common.{inr, refl, sym, ap, subst, ◌∙◌, arith, append_assoc, append-nil, length-append, ◌+◌}
+use Rattle.std.proofs.Common.{ℕ, zero, suc, IsErr, ◌<◌, ◌≡◌, ◌≤◌, ◌⊎◌, List, [], ◌∷◌, ◌++◌, length, map as list_map, Some, None, IsSome, is_some, Result, Ok, Err}
+use Rattle.std.proofs.Common.{IsOk, IfOk, OnOk, inl, inr, refl, sym, ap, subst, ◌∙◌, arith, append_assoc, append-nil, length-append, ◌+◌}
 use Rattle.std.proofs.lemmas.List.{length-map}
 use Rattle.slotmap.specs.Words.{Key, key_cmp, Content, IsNew, IsSpent, KeepsSpent, Inserts, Keeps, Leaves, used}
 use Rattle.slotmap.proofs.Callers.{keys_total, exact_keys, leaves_in_turn, leaves_none, tied}

@@ -14,7 +14,14 @@ fn reads<E: Error>(alloc: Global, error: &E, message: &str, shown: &str) -> Resu
 #[test]
 fn errors_of_new_jobs(rt: HostRuntime) -> Result<(), Fail> {
     let alloc = rt.alloc();
-    assert!(rt; reads(alloc, &ScheduleError::Full(5), "the scheduler is full", "Full(5)")?);
+    assert!(rt;
+        reads(
+            alloc,
+            &ScheduleError::Full(5),
+            "the scheduler is full",
+            "Full(5)"
+        )?
+    );
     assert!(rt;
         reads(
             alloc,

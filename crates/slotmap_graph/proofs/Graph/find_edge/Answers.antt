@@ -12,8 +12,8 @@ target-requires g c =
     c.loop-edge.yielded c.loop-edge.edge-iterator c.next.new.self c.in-Some.edge c.loop-edge.invariant.walked c.in-Some.ensures.steps
 
 pub returns-then-eq-clause-first : goal.returns-then-eq-clause-first
-returns-then-eq-clause-first g c = rw (← c.inner-to.ensures) (sym (found_first c.args.self.now.edges.live c.loop-edge.yielded c.in-Some.edge c.target.result c.inner-to.result c.target.ensures.arrives
-    c.loop-edge.invariant.none c.loop-edge.edge-iterator _ _ c.loop-edge.invariant.walked c.in-Some.ensures.steps (sym c.if-eq.ensures)))
+returns-then-eq-clause-first g c = rw (← c.inner-to.ensures) (sym (found_first c.args.self.now.edges.live c.loop-edge.yielded c.in-Some.edge c.target.result c.inner-to.result
+    c.target.ensures.arrives c.loop-edge.invariant.none c.loop-edge.edge-iterator _ _ c.loop-edge.invariant.walked c.in-Some.ensures.steps (sym c.if-eq.ensures)))
 
 pub returns-then-eq-clause-listed : goal.returns-then-eq-clause-listed
 returns-then-eq-clause-listed g c = rw c.edges_from-edge-items.ensures.in_order at c.edges_from-edge-items.ensures.listed

@@ -7,7 +7,8 @@ use Rattle.slotmap_list.proofs.StableList.append.Goals as goal
 
 pub loop-value-init : goal.loop-value-init
 loop-value-init g c = let made = c.in_ok-reserve.ensures in let room = made.room in let long = c.len.ensures.value in
-    moving_start _ _ _ made.elements (omega arith) made.keeps c.reserve.ensures.makes_room.capacity made.gone (λ fits. ap (λ (n : Content (Unit {0})). n.capacity) (c.reserve.ensures.makes_room.had_room (omega arith)))
+    moving_start _ _ _ made.elements (omega arith) made.keeps c.reserve.ensures.makes_room.capacity made.gone
+    (λ fits. ap (λ (n : Content (Unit {0})). n.capacity) (c.reserve.ensures.makes_room.had_room (omega arith)))
 
 pub loop-value-preserved : goal.loop-value-preserved
 loop-value-preserved g c =
