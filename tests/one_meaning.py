@@ -24,6 +24,7 @@ SOURCES = {
     'handle': 'a handle for C: of a map, or of a side table',
     'messages': 'what the errors of a structure say, and the debug texts of its types',
     'links search rows': 'links of nodes or slots; a search along them; rows of a layout or of a file',
+    'room': 'room for more keys: of a list, or in examples',
 }
 
 LEMMAS = {
