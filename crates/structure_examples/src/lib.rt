@@ -5,6 +5,7 @@ pub mod arm;
 pub mod boats;
 pub mod bodies;
 pub mod cursors;
+pub mod cuts;
 pub mod cycles;
 pub mod forward;
 pub mod fuses;

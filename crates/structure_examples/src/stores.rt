@@ -101,6 +101,26 @@ where
     world.attach::<C>(key, 6)
 }
 
+/// Removes an entity, and attaches a component to another one. The first call loses no room in any table, so the second
+/// one can't fail.
+pub fn kill_and_attach<T, C>(
+    world: &mut World<DefaultKey, u8, T>,
+    old: DefaultKey,
+    key: DefaultKey,
+) -> Result<Option<u64>, AttachError<u64>>
+where
+    T: Tables<DefaultKey>,
+    C: Kind<DefaultKey, T>,
+    C::Table: Table<DefaultKey, Component = u64>,
+    requires other { old ≢ key }
+    requires live { IsLive world.old.entities.content key }
+    requires room { C.Table.fits (C.table world.old.tables) key.index 1 }
+    ensures attached { IsOk result }
+{
+    let _ = world.despawn(old);
+    world.attach::<C>(key, 6)
+}
+
 /// Replaces a component of an entity, and attaches one to another entity. The first call takes up none of the room, so
 /// the second one can't fail.
 pub fn replace_and_attach<T, C>(
