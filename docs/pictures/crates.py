@@ -48,8 +48,8 @@ HEIGHT = 56
 
 # The library of a program stands as the program, and the tests of another library as that library.
 LIBRARIES = {
-    "slotmap_rows_primary": "primary_rows", "slotmap_rows_secondary": "secondary_rows", "json_tests": "slotmap_json",
-    "slotmap_script": "slotrun", "script_tests": "slotrun",
+    "slotmap_rows_primary": "primary_rows", "slotmap_rows_secondary": "secondary_rows",
+    "slotmap_script": "slotrun", "json_and_script_tests": "slotrun",
     "structure_tests": TESTS, "scene_and_world_tests": TESTS, "structures_at_size": TESTS,
 }
 

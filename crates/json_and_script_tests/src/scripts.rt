@@ -3,8 +3,8 @@
 
 mod hold;
 mod lists;
+mod outputs;
 mod refusals;
-mod scripts;
 mod streams;
 
 use slotmap_script::run_script;

@@ -1,6 +1,0 @@
-//! Tests of scripts. They are a crate of their own, since a crate with tests is proved a second time for
-//! them.
-#![tactic(auto)]
-
-#[cfg(test)]
-mod tests;
