@@ -155,10 +155,10 @@ def laws(found):
     by_name = {it.name: it for it in found}
     lines = ["# What was put is what is got", ""]
     lines += wrapped(
-        "`run_new` runs a list of commands on a new map and returns the replies. For a reader its clauses `laws` and `index_stays_small` promise this. Each reply agrees with "
+        "`run_new` runs a list of commands on a new map, and returns it with the replies. For a reader its clauses `laws` and `index_stays_small` promise this. Each reply agrees with "
         "what the commands before it and their replies tell, where no key is live at first (`ReadsWhatWasPut`). No two inserts return the same key (`NoKeyTwice`). In a list "
-        "of fewer than 2^32 commands no index is above the most keys at one moment (`IndexStaysSmall`, from `0 0 0`). "
-        f"The laws rest on these {len(LAWS)} definitions, on keys, and on no map, slot or machine. `docs/theorem.py` writes this page, and with `--check` fails if it is out of date.", width=158)
+        "of fewer than 2^32 commands no index is above the most keys at one moment, counted from the replies (`IndexStaysSmall`, from three zeros). "
+        f"These laws rest on the {len(LAWS)} definitions below, on keys, and on no map, slot or machine. `docs/theorem.py` writes this page, and with `--check` fails if it is out of date.", width=158)
     lines += ["", "```text"]
     around = []
     for name in LAWS:
@@ -186,7 +186,7 @@ def page():
         sys.exit("\n".join(["theorem.py:", *faults]))
     plain = reached("run_new")
     text = (
-        "The clause `run` says more: replies and content are a run of one machine over keys and values. This part has all clauses of `run_new`, and those of "
+        "The clause `run` says more: replies and content are a run of one machine over keys and values. This part has all clauses of `run_new`, and those that differ of "
         "`run_detaching_new`, whose commands may also detach and reattach keys. And it prints each other definition that they rest on. "
         f"`run_new` rests on {len(plain)}, of {sum(len(it.code()) for it in plain)} lines without comments; both together on {len(found)}, of "
         f"{sum(len(it.code()) for it in found)}. A line that begins with `module _` names the parameters that the definitions below it take first. "
@@ -203,7 +203,7 @@ def page():
     lines += [""]
     for name, clause in clauses_of("run_new").items():
         lines += [f"**`{name}`.** {CLAUSES[name]}", "", "```rust", *clause, "```", ""]
-    lines += ["With detached keys, on a map with the trait `Detaching` (`SlotMap` or `DenseSlotMap`), the clauses of `run_detaching_new` are these:", "", "```rust"]
+    lines += ["With detached keys, on a map with the trait `Detaching` (`SlotMap` or `DenseSlotMap`), the clauses of `run_detaching_new` are the same but for these:", "", "```rust"]
     lines += [line for name, clause in clauses_of("run_detaching_new").items() if clause != clauses_of("run_new").get(name) for line in clause]
     lines += ["```", ""]
     for section, (title, text) in SECTIONS.items():
