@@ -170,7 +170,7 @@ impl<K: Key, V: Drop> BoundedMap<K, V> {
         self.room > 0
     }
 
-    /// Returns the greatest capacity that [`BoundedMap::reserve`] would leave, in constant time.
+    /// Returns the capacity that [`BoundedMap::reserve`] leaves where it succeeds, in constant time.
     ///
     /// It fails with `TooGreat` where `reserve` does.
     ///
@@ -199,10 +199,9 @@ impl<K: Key, V: Drop> BoundedMap<K, V> {
 
     /// Reserves room for `additional` more keys. If there is room, it changes nothing.
     ///
-    /// Where it has to make room, it makes room for at least as many keys as there are, and for at least
-    /// four, within the limit. So inserts that reserve room for one key each take constant time on average.
-    ///
-    /// The capacity is at most that of [`BoundedMap::capacity_for`] then. It fails with `TooGreat` if more than
+    /// Where it has to make room, the capacity is that of [`BoundedMap::capacity_for`] then: room for at
+    /// least as many keys as there are, and for at least four, within the limit. So inserts that reserve
+    /// room for one key each take constant time on average. It fails with `TooGreat` if more than
     /// 4294967294 keys would be there, counting those that are retired, and with `Memory` if memory runs
     /// out. It has changed nothing then.
     ///
@@ -215,6 +214,7 @@ impl<K: Key, V: Drop> BoundedMap<K, V> {
         ensures makes_room { MakesRoom true self.old additional (IsOk result) self.new }
         ensures err { IfErr result (RefusesCapacity (used self.old + additional)) }
         ensures unchanged { OnErr result (self.new ≡ self.old) }
+        ensures grows { OnOk result (self.new.capacity ≡ capacity_with self.old additional) }
         ensures capacity { self.new.capacity ≤ capacity_with self.old additional }
     {
         let _ = self.map.len();
