@@ -1,9 +1,9 @@
 -- A content with another room: what each call of the map does to it.
-use Rattle.std.proofs.Common.{◌≡◌, ℕ, ◌+◌, ◌-◌, ◌<◌, ◌≤◌, ◌∙◌, true, false, List, Option, Some, None, subst, cond, if◌then◌else◌, is_some, inl, inr, refl, sym}
+use Rattle.std.proofs.Common.{◌≡◌, ℕ, ◌+◌, ◌-◌, ◌<◌, ◌≤◌, ◌∙◌, true, List, Option, Some, None, cond, if◌then◌else◌, is_some, inl, refl, sym}
 use Rattle.std.proofs.Common.{ap, arith}
 use Rattle.std.specs.{Ordering.nat_cmp, Cmp.nat_cmp_total}
-use Rattle.slotmap.specs.Words.{Key, key_cmp, Content, IsContent, IsLive, IsNew, Inserts, Removes, MakesRoom, StaysValid, IsCloneBy, IsCloneOf, is_last, places, used, with_value}
-use Rattle.slotmap.proofs.Callers.{clone_len, inserted_len, get-insert_here, leaves_by_removal, len_removed, keys_total, exact_keys, same_or_other, get-insert_other}
+use Rattle.slotmap.specs.Words.{Key, key_cmp, Content, IsContent, IsLive, IsNew, Inserts, Removes, MakesRoom, StaysValid, IsCloneBy, is_last, places, used, with_value}
+use Rattle.slotmap.proofs.Callers.{clone_len, inserted_len, get-insert_here, leaves_by_removal, len_removed, keys_total, exact_keys}
 use Rattle.slotmap_keylist.proofs.{Alone.alone-written, Alone.same_live, Shown.shown_content}
 use Rattle.slotmap_bounded.specs.Bounded.{IsBounded, bounded}
 use Rattle.std.specs.FinMap as map

@@ -88,9 +88,6 @@ module _ {T : Type 0} {c : Content T} (indices : HaveIndices c) where
   pub key_at_live : (k : Key) → IsLive c k → key_at c.live k.index ≡ k
   key_at_live k live = key_is k.index k live refl
 
-  pub found_key : (i : ℕ) → HasKey c i → found_at c.live i ≡ Some (key_at c.live i)
-  found_key i has = found_has i has ∙ ap Some (sym (key_is i has.0 has.1 has.2))
-
 -- the first of several indices and the others, and the last one and the others
 module _ {T : Type 0} {c : Content T} {is : List ℕ} (all : AreIndices c is) where
   pub front_has : {i : ℕ} {rest : List ℕ} → is ≡ i ∷ rest → HasKey c i
