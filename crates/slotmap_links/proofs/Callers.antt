@@ -2,7 +2,8 @@
 use Rattle.std.proofs.Common.{◌≡◌, ◌≢◌, ℕ, ◌<◌, ◌-◌, List, [], length, ap, ◌∙◌, arith}
 use Rattle.std.proofs.lemmas.List.{length-set, get_or-set_same, get_or-set_other}
 use Rattle.slotmap_links.specs.Lists.{Lists, times, list_of, with_list, with_owners, IsFree, IsIn, AreDisjoint, without}
-use Rattle.slotmap_links.proofs.{Counts.same_or_other, Counts.times_gone, Counts.without_none, Covers.read_padded}
+use Rattle.slotmap_links.proofs.Counts.{same_or_other, times_gone, without_none}
+use Rattle.slotmap_links.proofs.KeptLists.{read_padded}
 
 -- where the list of p is another one, all others stay
 module _ (s : Lists) (p : ℕ) (ks : List ℕ) where

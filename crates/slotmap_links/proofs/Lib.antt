@@ -1,11 +1,9 @@
-mod Begins
 pub mod Callers
 pub mod Changes
+mod Common
 pub mod Counts
-mod Covers
 mod KeptLists
 pub mod Linking
-mod Relisting
 pub mod SeenLists
 mod Segments
 mod Written

@@ -1,12 +1,12 @@
 -- Lists that are kept as links: a walk along them, and what a number that is put in or taken out does to them. For the structures.
-use Rattle.std.proofs.Common.{ℕ, zero, suc, take, nat_eq, ◌≡◌, ◌≢◌, ◌⊎◌, ◌+◌, ◌<◌, ◌≤◌, Option, Some, None, List, [], ◌∷◌, ◌++◌, length, cond, not}
-use Rattle.std.proofs.Common.{refl, sym, ap, ◌∙◌, inl, inr, subst, arith, append_assoc}
-use Rattle.std.proofs.Math.{Seq.take-length}
+use Rattle.std.proofs.Common.{zero, take, nat_eq, ◌≡◌, ◌≢◌, ◌⊎◌, ◌+◌, ◌<◌, ◌≤◌, Option, Some, None, ◌∷◌, ◌++◌, length, ◌∙◌, subst, arith, append_assoc}
+use Rattle.std.proofs.Common.{ℕ, suc, List, [], cond, not, refl, sym, ap, inl, inr}
+use Rattle.std.proofs.Math.Seq.{take-length}
 use Rattle.std.proofs.lemmas.Bool.Decides.{nat_tests}
 use Rattle.std.proofs.lemmas.List.Elements.{filter-append}
 use Rattle.std.proofs.lemmas.Option.{same_Some}
-use Rattle.slotmap_links.specs.Lists.{times, first_or, last_or, number_after, number_before, without}
 use Rattle.slotmap_links.specs.Linked.{Bounds, Neighbours, ends_of, link_between, follow, followed, AreLinked, AreApart, IsListed}
+use Rattle.slotmap_links.specs.Lists.{times, first_or, last_or, number_after, number_before, without}
 use Rattle.slotmap_links.specs.Splice.{with_link, with_next, with_prev}
 use Rattle.slotmap_links.proofs.Counts.{same, same_or_other, is_itself, is_other, one_itself, one_other, times_first, times_joined, without_none}
 

@@ -1,12 +1,12 @@
 -- What the two vectors say of the lists that the user sees.
-use Rattle.std.proofs.Common.{◌≡◌, ℕ, ◌<◌, false, Option, Some, None, nat_eq, List, [], ◌∷◌, ◌++◌, length, get_or, refl, sym, ap, subst, ◌∙◌, arith, append_assoc}
-use Rattle.std.proofs.Common.{append-nil}
+use Rattle.std.proofs.Common.{◌≡◌, ℕ, ◌<◌, false, Option, Some, None, nat_eq, List, [], ◌∷◌, ◌++◌, length, get_or, refl, sym, subst, ◌∙◌, arith, append_assoc, append-nil}
+use Rattle.std.proofs.Common.{ap}
+use Rattle.std.proofs.lemmas.List.{get_or_default, with_items_is}
 use Rattle.std.specs.Vec.{with_items}
 use Rattle.std.specs.declared.vec.Vec.{Vec}
-use Rattle.std.proofs.lemmas.List.{get_or_default, with_items_is}
 use Rattle.slotmap_links.specs.Lists.{Lists, times, first_or, last_or, list_of, with_list, IsFree, IsIn, number_after, number_before, numbers_from, put_before, put_behind}
-use Rattle.slotmap_links.specs.Linked.{Bounds, Neighbours, ends_of, link_between}
 use Rattle.slotmap_links.specs.Kept.{listed, lists_by, bounds, neighbours, unless_nobody, no_ends, no_link, AreKept, Relists, IsGap}
+use Rattle.slotmap_links.specs.Linked.{Bounds, Neighbours, ends_of, link_between}
 use Rattle.slotmap_links.specs.declared.{Ends.Ends, Link.Link}
 use Rattle.slotmap_links.proofs.Counts.{is_itself, is_other, one_itself, times_first}
 use Rattle.slotmap_links.proofs.KeptLists.{seen_list, seen_owners, seen_relisted}

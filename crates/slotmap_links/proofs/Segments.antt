@@ -1,15 +1,16 @@
--- Steps of an iterator along the links of a list, from either end.
-use Rattle.std.proofs.Common.{◌≡◌, ℕ, true, false, cond, nat_eq, ◌-◌, ◌<◌, ◌⊎◌, Some, None, List, [], ◌∷◌, ◌++◌, length, take, get_or, inl, inr, refl}
-use Rattle.std.proofs.Common.{sym, ap, ◌∙◌, arith, append_assoc, length-append}
+-- Iterators along the links of a list: where they begin, and their steps, from either end.
+use Rattle.std.proofs.Common.{◌≡◌, true, false, cond, nat_eq, ◌-◌, ◌<◌, ◌⊎◌, Some, ◌∷◌, ◌++◌, length, get_or, ◌∙◌, arith, append_assoc, length-append, append-nil}
+use Rattle.std.proofs.Common.{ℕ, None, List, [], take, inl, inr, refl, sym, ap}
 use Rattle.std.proofs.Math.Seq.{take-append_seam}
 use Rattle.std.proofs.lemmas.List.{take_all}
-use Rattle.slotmap_links.specs.Lists.{first_or, last_or, times}
-use Rattle.slotmap_links.specs.Kept.{link_at, nobody, no_link, unless_nobody}
-use Rattle.slotmap_links.specs.Linked.{Neighbours, follow}
+use Rattle.slotmap_links.specs.Lists.{first_or, last_or, numbers_from, times, Lists, list_of, IsIn}
+use Rattle.slotmap_links.specs.Kept.{unless_nobody, link_at, nobody, no_link, listed, lists_by, AreKept}
+use Rattle.slotmap_links.specs.Linked.{Neighbours, follow, Bounds}
 use Rattle.slotmap_links.specs.Segment.{IsSegment, IsTail}
-use Rattle.slotmap_links.specs.declared.Link.{Link}
+use Rattle.slotmap_links.specs.declared.{Link.Link, Ends.Ends}
+use Rattle.slotmap_links.proofs.SeenLists.{ends_here, from_here, list_here, somebody_is, stands}
 use Rattle.slotmap_links.proofs.Counts.{one_itself, times_first, times_joined}
-use Rattle.slotmap_links.proofs.Linking.{follow_is, last_behind}
+use Rattle.slotmap_links.proofs.{Linking.follow_is, Linking.last_behind, KeptLists.list_fits}
 
 -- a list has a last number, or none
 at_back : (ks : List ℕ) → (ks ≡ []) ⊎ ((es : List ℕ) × (e : ℕ) × (ks ≡ es ++ e ∷ []))
@@ -127,3 +128,33 @@ module _ {links : List Link} {first : ℕ} (t : IsTail links first) (k : ℕ) (s
   pub tail_steps : follow (link_at links) (length links) (unless_nobody first) ≡ k ∷ follow (link_at links) (length links) (unless_nobody (get_or links k no_link).next)
   unfolding tail_rest
   tail_steps = tail_is t ∙ (tail_front t k some).1 ∙ ap (λ l. k ∷ l) (sym (tail_is (tail_rest t k some)))
+
+module _ {ends : List Ends} {links : List Link} (kept : AreKept ends links) {s : Lists} (seen : lists_by ends links ≡ s) (p : ℕ) where
+  pub segment_begins : (x : Ends) → x ≡ get_or ends p x → p < length s.lists → IsSegment links x.len x.first x.last
+  segment_begins x is there = let at = ends_here kept seen p x is there in record {
+    before = [];
+    ahead = list_of s p;
+    after = [];
+    links_are = λ b k a at. kept.linked.links_are p b k a (list_here kept seen p ∙ sym (append-nil (list_of s p)) ∙ at);
+    left_is = ap (λ (b : Bounds). b.len) at;
+    first_is = ap (λ (b : Bounds). b.first) at ∙ ap (λ l. first_or l None) (sym (append-nil (list_of s p)));
+    last_is = ap (λ (b : Bounds). b.last) at;
+    below = λ k inside. kept.within p k (omega (arith, ap (times k) (list_here kept seen p)));
+  }
+
+  pub tail_begins : (k : ℕ) → IsIn s p k → IsTail links k
+  tail_begins k inside =
+      let st = stands kept seen p k inside in
+      let is : listed ends links p ≡ st.before ++ k ∷ st.after = list_here kept seen p ∙ st.is in
+      record {
+        before = st.before;
+        ahead = k ∷ st.after;
+        links_are = λ b x a at. kept.linked.links_are p b x a (is ∙ at);
+        few = omega (arith, list_fits ends links kept p, ap length is, length-append st.before (k ∷ st.after));
+        first_is = somebody_is kept seen p k inside;
+        below = λ x more. kept.within p x (omega (arith, ap (times x) is ∙ times_joined x st.before (k ∷ st.after)));
+      }
+
+  pub tail_value : (k : ℕ) → IsIn s p k → follow (link_at links) (length links) (unless_nobody k) ≡ numbers_from k (list_of s p)
+  unfolding tail_begins
+  tail_value k inside = tail_is (tail_begins k inside) ∙ sym (from_here kept seen p k inside)

@@ -1,6 +1,7 @@
 -- A part of a list that is kept as links: what an iterator along the links has left.
 use Rattle.std.specs.Prelude.{◌≡◌, ◌<◌, ◌≤◌, ℕ, None, List, ◌∷◌, ◌++◌, length}
-use Rattle.slotmap_links.specs.{Linked.link_between, Kept.link_at, Kept.unless_nobody}
+use Rattle.slotmap_links.specs.Linked.{link_between}
+use Rattle.slotmap_links.specs.Kept.{link_at, unless_nobody}
 use Rattle.slotmap_links.specs.Lists.{first_or, last_or, times}
 use Rattle.slotmap_links.specs.declared.Link.{Link}
 

@@ -1,4 +1,4 @@
-use Rattle.slotmap_links.proofs.Covers.{kept_cleared, seen_cleared}
+use Rattle.slotmap_links.proofs.KeptLists.{kept_cleared, seen_cleared}
 use Rattle.slotmap_links.proofs.Links.clear.Goals as goal
 
 pub invariant_of-self : goal.invariant_of-self

@@ -1,5 +1,4 @@
-use Rattle.std.proofs.Common.{arith}
-use Rattle.slotmap_links.proofs.Covers.{resized_members}
+use Rattle.slotmap_links.proofs.Common.{arith, resized_members}
 use Rattle.slotmap_links.proofs.Links.cover_members.Goals as goal
 
 pub invariant_of-self : goal.invariant_of-self

@@ -1,4 +1,4 @@
-use Rattle.slotmap_links.proofs.Begins.{segment_begins}
+use Rattle.slotmap_links.proofs.Segments.{segment_begins}
 use Rattle.slotmap_links.proofs.Links.iter.Goals as goal
 
 pub invariant_of-result : goal.invariant_of-result

@@ -1,4 +1,4 @@
-use Rattle.slotmap_links.proofs.Begins.{tail_begins, tail_value}
+use Rattle.slotmap_links.proofs.Segments.{tail_begins, tail_value}
 use Rattle.slotmap_links.proofs.Links.iter_from.Goals as goal
 
 pub invariant_of-result : goal.invariant_of-result

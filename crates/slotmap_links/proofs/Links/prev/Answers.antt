@@ -1,5 +1,4 @@
-use Rattle.std.proofs.Common.{◌∙◌}
-use Rattle.slotmap_links.proofs.SeenLists.{number_prev}
+use Rattle.slotmap_links.proofs.Common.{◌∙◌, number_prev}
 use Rattle.slotmap_links.proofs.Links.prev.Goals as goal
 
 pub returns : goal.returns

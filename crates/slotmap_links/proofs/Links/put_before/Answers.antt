@@ -1,6 +1,4 @@
-use Rattle.std.proofs.Common.{ap, ◌∙◌, arith}
-use Rattle.slotmap_links.specs.Lists.{with_list}
-use Rattle.slotmap_links.proofs.SeenLists.{before_place, before_put, member_below}
+use Rattle.slotmap_links.proofs.Common.{ap, ◌∙◌, arith, with_list, before_place, before_put, member_below}
 use Rattle.slotmap_links.proofs.Links.put_before.Goals as goal
 
 pub index-requires : goal.index-requires

@@ -1,6 +1,4 @@
-use Rattle.std.proofs.Common.{ap, ◌∙◌}
-use Rattle.slotmap_links.specs.Lists.{with_list, without}
-use Rattle.slotmap_links.proofs.SeenLists.{list_here, seen_written}
+use Rattle.slotmap_links.proofs.Common.{ap, ◌∙◌, with_list, without, list_here, seen_written}
 use Rattle.slotmap_links.proofs.Links.take_out.Goals as goal
 
 pub returns : goal.returns

@@ -1,6 +1,5 @@
-use Rattle.std.proofs.Common.{◌∙◌, arith}
+use Rattle.slotmap_links.proofs.Common.{◌∙◌, arith, prev_below, next_below, put_fits, put_written}
 use Rattle.std.proofs.lemmas.List.{length-set}
-use Rattle.slotmap_links.proofs.Written.{prev_below, next_below, put_fits, put_written}
 use Rattle.slotmap_links.proofs.between.put_between.Goals as goal
 
 pub set_next-requires-clause-at : goal.set_next-requires-clause-at

@@ -1,5 +1,4 @@
-use Rattle.std.proofs.Common.{◌∙◌, arith}
-use Rattle.slotmap_links.proofs.Written.{taken_prev_below, taken_next_below, take_fits, take_written}
+use Rattle.slotmap_links.proofs.Common.{◌∙◌, arith, taken_prev_below, taken_next_below, take_fits, take_written}
 use Rattle.slotmap_links.proofs.between.take_between.Goals as goal
 
 pub slice_copy_out-link : goal.slice_copy_out-link

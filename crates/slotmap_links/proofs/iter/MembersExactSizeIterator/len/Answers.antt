@@ -1,5 +1,4 @@
-use Rattle.std.proofs.Common.{◌∙◌, ap, length}
-use Rattle.slotmap_links.proofs.Segments.{segment_long}
+use Rattle.slotmap_links.proofs.Common.{◌∙◌, ap, length, segment_long}
 use Rattle.slotmap_links.proofs.iter.MembersExactSizeIterator.len.Goals as goal
 
 pub returns-clause-value : goal.returns-clause-value

@@ -1,5 +1,4 @@
-use Rattle.std.proofs.Common.{◌∙◌, ap, sym, length, arith}
-use Rattle.slotmap_links.proofs.Segments.{tail_below, tail_rest, tail_steps}
+use Rattle.slotmap_links.proofs.Common.{◌∙◌, ap, sym, length, arith, tail_below, tail_rest, tail_steps}
 use Rattle.slotmap_links.proofs.iter.MembersFromIterator.next.Goals as goal
 
 pub link_of-requires : goal.link_of-requires

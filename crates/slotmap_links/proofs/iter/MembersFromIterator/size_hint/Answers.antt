@@ -1,5 +1,4 @@
-use Rattle.std.proofs.Common.{◌∙◌, ap, sym, length, arith}
-use Rattle.slotmap_links.proofs.Segments.{tail_is}
+use Rattle.slotmap_links.proofs.Common.{◌∙◌, ap, sym, length, arith, tail_is}
 use Rattle.slotmap_links.proofs.iter.MembersFromIterator.size_hint.Goals as goal
 
 pub returns-clause-upper : goal.returns-clause-upper

@@ -1,5 +1,4 @@
-use Rattle.std.proofs.Common.{arith}
-use Rattle.slotmap_links.proofs.Segments.{front_below, front_rest, front_steps}
+use Rattle.slotmap_links.proofs.Common.{arith, front_below, front_rest, front_steps}
 use Rattle.slotmap_links.proofs.iter.MembersIterator.next.Goals as goal
 
 pub link_of-requires : goal.link_of-requires
