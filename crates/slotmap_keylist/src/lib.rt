@@ -1,8 +1,8 @@
 //! What structures over the maps share: lists of keys, and keys of one type inside of them.
 //!
 //! A scene and a scheduler keep keys of the default type, and so do the ends of a graph's edges.
-//! [`inner`] and [`outer`] convert them where a call takes or returns keys of type `K`. The words of lists of keys, with lemmas about
-//! them, stand in `specs` and `proofs`.
+//! [`inner`] and [`outer`] convert them where a call takes or returns keys of type `K`. The words of
+//! lists of keys, with lemmas about them, stand in `specs` and `proofs`.
 #![tactic(auto, using(slotmap::proofs::Callers::keys))]
 
 ghost use Rattle.std.specs.Prelude.{◌≡◌};
