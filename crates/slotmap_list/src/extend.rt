@@ -17,8 +17,8 @@ impl<K: Key, T: Drop> StableList<K, T> {
     /// If a value can't be added, the error holds it. It is `Full` if the list then has as many elements
     /// as a map can hold, counting those whose slots are retired, else `Memory`. The values before it are
     /// then in the list, and the rest of the iterator is dropped. It can't fail while the values fit into
-    /// the room or the vacant slots, and the capacity stays then. The iterator has to end. It takes constant time a value,
-    /// unless a vector grows. In Rust this is the trait `Extend`.
+    /// the room or the vacant slots, and the capacity stays then. The iterator has to end. It takes
+    /// constant time a value, unless a vector grows. In Rust this is the trait `Extend`.
     ///
     /// ```
     /// let mut list = StableList::new(alloc)?;

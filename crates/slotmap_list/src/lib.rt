@@ -6,7 +6,8 @@
 //! - A clause sees the list as its cursors with their values, from front to back. Each call's
 //!   contract gives the resulting list.
 //! - The cursor of a removed element is never used again for another element.
-//! - A call with a cursor that isn't in the list changes nothing. An insert returns its value then.
+//! - A call with a cursor that isn't in the list leaves the elements as they are. An insert returns its
+//!   value then.
 //! - An element that is moved keeps its cursor, and the capacity stays.
 //! - Where there is room, no added element is refused for memory, and the capacity stays. No removal
 //!   loses room or changes the capacity.
@@ -16,7 +17,8 @@
 //!
 //! - `to_vec`, `retain`, `clear` and dropping a `Drain` take time linear in the elements that are there.
 //!   `extend` and `from_iter` take it in the values added, and `append` in the other list's elements.
-//! - `clone`, `with_capacity` and `with_capacity_and_key` take time linear in the capacity.
+//! - `clone`, `with_capacity` and `with_capacity_and_key` take time linear in the capacity, and so do
+//!   `reserve` and `append` where they have to make room.
 //! - A push or an insert may have to grow the vectors of the list, and takes constant time on average.
 //!
 //! The values lie in a map. Their order lies apart from them, in 8 bytes a slot: links of 4 bytes

@@ -185,9 +185,9 @@ impl<K: Key, T: Drop> StableList<K, T> {
     /// Puts the elements of two cursors into each other's places. It returns `false`, and changes
     /// nothing, if one of the two isn't in the list, or if they are the same.
     ///
-    /// Each element moves with its cursor and its value. So `list[cursor]` is what it was, and its
-    /// neighbours are the other's. In a slice, where an index names a place, `swap` leaves the index
-    /// and moves the value. Constant time. The capacity stays.
+    /// Each element moves with its cursor and its value. So `list[cursor]` is what it was, and stands
+    /// where the other one stood. In a slice, where an index names a place, `swap` leaves the index and
+    /// moves the value. Constant time. The capacity stays.
     ///
     /// ```
     /// let mut list = StableList::new(alloc)?;
