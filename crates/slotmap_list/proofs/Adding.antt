@@ -1,16 +1,14 @@
 -- Many values that are added at the back.
 use Rattle.std.specs.FinMap as map
 use Rattle.std.specs.FinSet as set
-use Rattle.std.proofs.Common.{ℕ, zero, suc, IsErr, ◌<◌, ◌≡◌, ◌≤◌, ◌⊎◌, List, [], ◌∷◌, ◌++◌, length, map as list_map, Some, None, IsSome, is_some, Result, Ok, Err}
-use Rattle.std.proofs.Common.{IsOk, IfOk, OnOk, inl, inr, refl, sym, ap, subst, ◌∙◌, arith, append_assoc, append-nil, length-append, ◌+◌}
-use Rattle.std.proofs.lemmas.List.{length-map}
-use Rattle.slotmap.specs.Words.{Key, key_cmp, Content, IsNew, IsSpent, KeepsSpent, Inserts, Keeps, Leaves, used}
-use Rattle.slotmap.proofs.Callers.{keys_total, exact_keys, leaves_in_turn, leaves_none, tied}
-use Rattle.slotmap_list.specs.Sequence.{Sequence, value_of, last_or, key_after, key_before, put_after, put_before, TakesFront}
+use Rattle.slotmap_list.proofs.Common.{IsErr, append_assoc, append-nil, length-append, KeepsSpent, keys_total, exact_keys, leaves_in_turn, leaves_none, key_before, put_before, TakesFront, FullAtLimit}
+use Rattle.slotmap_list.proofs.Common.{[], length, list_map, IsSome, is_some, Result, ◌∙◌, key_cmp, Content, IsSpent, Inserts, Leaves, Sequence, value_of, last_or, key_after, put_after, refused}
+use Rattle.slotmap_list.proofs.Common.{ℕ, zero, suc, List, Some, None, Ok, Err, IsOk, IfOk, OnOk, inl, inr, refl, sym, ap, subst, arith, Key, IsNew, Keeps, used, tied, Adds}
+use Rattle.std.proofs.Common.{◌<◌, ◌≡◌, ◌≤◌, ◌⊎◌, ◌∷◌, ◌++◌, ◌+◌}
+use Rattle.std.proofs.lemmas.List.{map-append}
 use Rattle.slotmap_list.specs.declared.PushError.{PushError}
 use Rattle.slotmap_list.specs.declared.PushError.TheVariants.{Full, Memory}
 use Rattle.slotmap_list.specs.Refused.{RefusesPush}
-use Rattle.slotmap_list.specs.Additions.{Adds, FullAtLimit, refused}
 use Rattle.slotmap_list.proofs.Callers.{put_after_next, put_before_prev, pushed_last}
 
 -- what a call ensures of its result, where it succeeds
@@ -61,10 +59,6 @@ module _ {T : Type 0} where
   abbrev pub values : List (Key × T) → List T
   values es = list_map (λ e. e.1) es
 
-  values-append : (xs ys : List (Key × T)) → values (xs ++ ys) ≡ values xs ++ values ys
-  values-append [] ys = refl
-  values-append (x ∷ xs) ys = ap (λ l. x.1 ∷ l) (values-append xs ys)
-
   Adds-start : (es : List (Key × T)) → Adds es [] es
   Adds-start es = record { added = []; behind = sym (append-nil es); values_are = refl }
 
@@ -72,7 +66,7 @@ module _ {T : Type 0} where
   Adds-push old mid new vs k v adds is = record {
     added = adds.added ++ (k, v) ∷ [];
     behind = is ∙ ap (λ l. l ++ (k, v) ∷ []) adds.behind ∙ append_assoc old adds.added ((k, v) ∷ []);
-    values_are = values-append adds.added ((k, v) ∷ []) ∙ ap (λ l. l ++ v ∷ []) adds.values_are;
+    values_are = map-append (λ e. e.1) adds.added ((k, v) ∷ []) ∙ ap (λ l. l ++ v ∷ []) adds.values_are;
   }
 
   -- a list that was empty has the values
@@ -113,17 +107,6 @@ module _ {T : Type 0} where
     capacity_other = refl;
     taken = λ k there. inl there;
   }
-
-  -- once the other list is empty, all of its values were moved
-  pub all_moved : (old old_other now other : Sequence T) (m : Moving old old_other now other) → other.elements ≡ [] → length m.moved ≡ length old_other.elements
-  all_moved old old_other now other m none = omega (
-    arith,
-    ap length m.ahead,
-    length-append m.moved (values other.elements),
-    length-map other.elements (λ e. e.1),
-    length-map old_other.elements (λ e. e.1),
-    ap length none,
-  )
 
   stands_or_first : (k : Key) (v : T) (es : List (Key × T)) (q : Key) → IsSome (value_of q ((k, v) ∷ es)) → IsSome (value_of q es) ⊎ (q ≡ k)
   stands_or_first k v es q there = grind (arith, tied keys_total exact_keys q k)

@@ -1,8 +1,7 @@
 -- What callers of a list cite: which value each cursor has after a call, and where a new element stands.
-use Rattle.std.proofs.Common.{◌≡◌, ◌≢◌, List, [], ◌∷◌, ◌++◌, Option, Some, None, IsSome, refl, arith}
-use Rattle.slotmap.specs.Words.{Key}
-use Rattle.slotmap.proofs.Callers.{keys_total, exact_keys, itself, tied}
-use Rattle.slotmap_list.specs.Sequence.{value_of, last_or, key_after, key_before, put_after, put_before, without}
+use Rattle.slotmap_list.proofs.Common.{List, Option, Some, None, IsSome, refl, arith, keys_total, exact_keys, itself, tied, value_of, last_or, key_after, key_before, put_after, put_before, without}
+use Rattle.slotmap_list.proofs.Common.{[], Key}
+use Rattle.std.proofs.Common.{◌≡◌, ◌≢◌, ◌∷◌, ◌++◌}
 use Rattle.slotmap_list.proofs.Elements.{last_or-append, other_key}
 
 module _ {T : Type 0} where

@@ -1,13 +1,11 @@
 -- What the steps of a drain keep, and what they yield.
-use Rattle.std.proofs.Common.{◌≡◌, [], ◌∷◌, Option, Some, None, IsSome, IfSome, ◌⊎◌, inl, inr, refl, ap, subst, ◌∙◌}
+use Rattle.slotmap_list.proofs.Common.{[], Option, IsSome, ◌∙◌, IsSpent, KeepsSpent, leaves_in_turn, leaves_none, Sequence, value_of, TakesFront, EmptiesList, SameLoan, KeepsLent, YieldsInOrder}
+use Rattle.slotmap_list.proofs.Common.{Some, None, IfSome, inl, inr, refl, ap, subst, Key, Leaves}
+use Rattle.std.proofs.Common.{◌≡◌, ◌∷◌, ◌⊎◌}
 use Rattle.std.specs.Prelude.{option_map}
-use Rattle.slotmap.specs.Words.{Key, IsSpent, KeepsSpent, Leaves}
-use Rattle.std.specs.FinMap as map
-use Rattle.slotmap.proofs.Callers.{leaves_in_turn, leaves_none}
-use Rattle.slotmap_list.specs.Sequence.{Sequence, value_of, TakesFront}
 use Rattle.slotmap_list.specs.declared.drain.Drain.{Drain}
-use Rattle.slotmap_list.specs.Drain.{EmptiesList, SameLoan, KeepsLent, YieldsInOrder}
 use Rattle.slotmap_list.proofs.Adding.{left_or_spent}
+use Rattle.std.specs.FinMap as map
 
 module _ {T : Type 0} where
   -- a list with no element and no live cursor is emptied

@@ -1,25 +1,15 @@
 -- Lists of elements: how often a key stands in one, its two ends, and its parts.
-use Rattle.std.proofs.Common.{◌≡◌, ◌≢◌, ℕ, ◌+◌, ◌<◌, ◌≤◌, ◌⊎◌, Bool, true, false, cond, List, [], ◌∷◌, ◌++◌, Option, Some, None, IsSome, refl, sym, ap}
-use Rattle.std.proofs.Common.{◌∙◌, inl, inr, length, arith}
+use Rattle.slotmap_list.proofs.Common.{◌∙◌, key_cmp, keys_total, exact_keys, same_or_other, value_of, first_or, last_or, key_after, key_before, from_key, put_after, put_before, with_value_at}
+use Rattle.slotmap_list.proofs.Common.{ℕ, Bool, false, cond, List, [], Option, Some, None, IsSome, refl, sym, ap, inl, inr, length, arith, Key, tied, untied, itself, without, IsOnce}
+use Rattle.std.proofs.Common.{◌≡◌, ◌≢◌, ◌+◌, ◌<◌, ◌≤◌, ◌⊎◌, ◌∷◌, ◌++◌}
 use Rattle.std.specs.Ordering.{eq_by_cmp}
 use Rattle.std.specs.FinMap as map
-use Rattle.slotmap.specs.Words.{Key, key_cmp}
-use Rattle.slotmap.proofs.Callers.{keys_total, exact_keys, tied, untied, itself, same_or_other}
-use Rattle.slotmap_list.specs.Sequence.{value_of, first_or, last_or, key_after, key_before, from_key, put_after, put_before, without, with_value_at, IsOnce}
 
 abbrev pub same : Key → Key → Bool
 same q k = eq_by_cmp key_cmp q k
 
--- by whether two keys are one
-by_key : (P : Bool → Type 0) (q k : Key) → (q ≡ k → P true) → (q ≢ k → same q k ≡ false → P false) → P (same q k)
-by_key P q k here there = elim (same q k) as (λ b. same q k ≡ b → P b) [
-  | true ↦ λ t. here (tied keys_total exact_keys q k t)
-  | false ↦ λ t. there
-      (untied keys_total exact_keys q k t) t
-] refl
-
 pub other_key : (q k : Key) → q ≢ k → same q k ≡ false
-other_key q k other = by_key (λ b. b ≡ false) q k (λ e. absurd (other e)) (λ _ _. refl)
+other_key q k other = grind (arith, tied keys_total exact_keys q k)
 
 -- 1 for one key, 0 for two
 pub one : Key → Key → ℕ
@@ -33,10 +23,7 @@ pub one_other : (q k : Key) → q ≢ k → one q k ≡ 0
 unfolding one
 one_other q k other = ap (λ b. cond b 1 0) (other_key q k other)
 
--- the first key of a list is this one, or another
-pub itself_first : (k : Key) → same k k ≡ true
-itself_first k = itself keys_total exact_keys k
-
+-- the first key of a list is another one
 pub apart_first : (q k : Key) → one q k ≡ 0 → same q k ≡ false
 apart_first q k none = other_key q k (λ e. absurd (omega (arith, ap (one q) (sym e) ∙ one_itself q)))
 
@@ -144,7 +131,7 @@ module _ {T : Type 0} where
     pub write_is : (w : T) → with_value_at k w (ys ++ (k, v) ∷ zs) ≡ ys ++ (k, w) ∷ zs
 
   pub splits : (k : Key) (v : T) (zs ys : List (Key × T)) → times k ys ≡ 0 → Split k v zs ys
-  splits k v zs [] none = let here = itself_first k in
+  splits k v zs [] none = let here = itself keys_total exact_keys k in
       record { value_is = cc; after_is = cc; before_is = λ p. cc; put_after_is = λ x. cc; put_before_is = λ x. cc; from_is = cc; without_is = cc; write_is = λ w. cc }
   splits k v zs (y ∷ ys) none = let apart = apart_first k y.0 (omega arith) in let rest = splits k v zs ys (omega arith) in record {
     value_is = cc;
@@ -160,7 +147,7 @@ module _ {T : Type 0} where
   -- a key beside another one stands
   first_stands : (q : Key) (es : List (Key × T)) → Some q ≡ first_or es None → IsSome (value_of q es)
   first_stands q [] is = absurd (cc)
-  first_stands q (e ∷ es) is = grind (arith, itself_first q)
+  first_stands q (e ∷ es) is = grind (arith, itself keys_total exact_keys q)
 
   pub after_stands : (k q : Key) (es : List (Key × T)) → Some q ≡ key_after k es → IsSome (value_of q es)
   after_stands k q [] is = absurd (cc)
@@ -168,7 +155,7 @@ module _ {T : Type 0} where
 
   before_one : (p : Option Key) (k q : Key) (es : List (Key × T)) → Some q ≡ key_before p k es → (p ≡ Some q) ⊎ IsSome (value_of q es)
   before_one p k q [] is = absurd (cc)
-  before_one p k q (e ∷ es) is = grind (arith, before_one (Some e.0) k q es, itself_first q)
+  before_one p k q (e ∷ es) is = grind (arith, before_one (Some e.0) k q es, itself keys_total exact_keys q)
 
   pub before_stands : (k q : Key) (es : List (Key × T)) → Some q ≡ key_before None k es → IsSome (value_of q es)
   before_stands k q es is = grind (arith, before_one None k q es is)
@@ -193,8 +180,7 @@ module _ {T : Type 0} where
   -- a value that is written changes no key
   times-written : (q k : Key) (v : T) (xs : List (Key × T)) → times q (with_value_at k v xs) ≡ times q xs
   times-written q k v [] = refl
-  times-written q k v (x ∷ xs) = by_key (λ b. times q (cond b ((x.0, v) ∷ xs) (x ∷ with_value_at k v xs)) ≡ times q (x ∷ xs)) k x.0 (λ _. refl)
-      (λ _ _. ap (λ n. one q x.0 + n) (times-written q k v xs))
+  times-written q k v (x ∷ xs) = grind (arith, times-written q k v xs)
 
   pub once-written : (k : Key) (v : T) (xs : List (Key × T)) → IsOnce xs → IsOnce (with_value_at k v xs)
   once-written k v xs once = once_if (with_value_at k v xs) (λ q. omega (arith, at_most_once xs once q, times-written q k v xs))

@@ -1,21 +1,14 @@
 -- What each change of the map and of the links leaves of a list.
-use Rattle.std.proofs.Common.{◌≡◌, ◌≢◌, ℕ, zero, suc, ◌+◌, ◌<◌, ◌≤◌, true, List, [], ◌∷◌, ◌++◌, length, Option, Some, None, is_some, inl, inr, refl, sym}
-use Rattle.std.proofs.Common.{ap, subst, ◌∙◌, arith}
+use Rattle.slotmap_list.proofs.Common.{without_values, get-insert_here, get-insert_other, live-insert_still, same_or_other, alone-written, times_joined, with_value_at, AreLiveIndices, put_by_place}
+use Rattle.slotmap_list.proofs.Common.{◌∙◌, ClonesEqual, with_value, keys_total, exact_keys, clone_live, owners_stay, same_or_not, one_itself, times_first, times_gone, elements_at, put_number}
+use Rattle.slotmap_list.proofs.Common.{length, is_some, key_cmp, Content, IsContent, IsCloneBy, IsCloneOf, AreClones, same_live, with_list, list_now, one_other, Sequence, at_index, AreApart, is_place}
+use Rattle.slotmap_list.proofs.Common.{zero, true, List, Option, Some, None, refl, subst, arith, IsLive, Inserts, Removes, IsNew, tied, itself, Lists, list_of, times, IsFree, without, IsKept, Place}
+use Rattle.slotmap_list.proofs.Common.{ℕ, suc, [], inl, inr, sym, ap, Key, same}
+use Rattle.std.proofs.Common.{◌≡◌, ◌≢◌, ◌+◌, ◌<◌, ◌≤◌, ◌∷◌, ◌++◌}
 use Rattle.std.proofs.Math.{ListN.get_or-eq_default, Nat.eq-zero-or-pos}
-use Rattle.slotmap.specs.Words.{Key, key_cmp, Content, IsContent, IsLive, Inserts, Removes, IsCloneBy, IsCloneOf, AreClones, ClonesEqual, IsNew, without_values, with_value}
-use Rattle.slotmap.proofs.Callers.{keys_total, exact_keys, tied, itself, get-insert_here, get-insert_other, live-insert_still, same_or_other, clone_live}
-use Rattle.slotmap_keylist.proofs.Alone.{alone-written, same_live}
-use Rattle.slotmap_links.specs.Lists.{Lists, list_of, with_list, times, IsFree}
-use Rattle.slotmap_links.proofs.Callers.{list_now, owners_stay}
-use Rattle.slotmap_links.proofs.Counts.{same, same_or_other as same_or_not, one_itself, one_other, times_first, times_joined, times_gone}
-use Rattle.slotmap_list.specs.Sequence.{Sequence, without, with_value_at}
-use Rattle.slotmap_list.specs.Kept.{at_index, elements_at, AreLiveIndices, IsKept}
-use Rattle.slotmap_bounded.specs.Indices.{AreApart}
-use Rattle.slotmap_list.specs.ListPlaces.{is_place, put_by_place, put_number}
-use Rattle.slotmap_list.specs.declared.place.Place.{Place}
+use Rattle.slotmap_list.proofs.Parts.{content_apart, element_of, elements_first, rest_indices as indices_behind, put_between, number_without, element_without, at_is, at_live, in_first, IsPlace}
+use Rattle.slotmap_list.proofs.Parts.{place_in, part_left, placed}
 use Rattle.slotmap_list.proofs.Elements.{splits}
-use Rattle.slotmap_list.proofs.Indices.{at_is, at_live, content_apart, element_of, elements_first, in_first, rest_indices as indices_behind}
-use Rattle.slotmap_list.proofs.Parts.{IsPlace, place_in, part_left, placed, put_between, number_without, element_without}
 use Rattle.slotmap_list.proofs.Seen.{once, own, stands}
 use Rattle.std.specs.FinMap as map
 use Rattle.slotmap_links.specs.Lists as numbers

@@ -1,7 +1,6 @@
 -- A loop over the elements of a list: those that it passed, and those ahead of it.
-use Rattle.std.proofs.Common.{◌≡◌, List, [], ◌∷◌, ◌++◌, Some, inl, inr, refl, sym, ap, subst, ◌∙◌, append_assoc, append-nil}
-use Rattle.slotmap.specs.Words.{Key}
-use Rattle.slotmap_list.specs.Sequence.{value_of, IsOnce}
+use Rattle.slotmap_list.proofs.Common.{List, [], Some, inl, inr, refl, sym, ap, subst, ◌∙◌, append_assoc, append-nil, Key, value_of, IsOnce}
+use Rattle.std.proofs.Common.{◌≡◌, ◌∷◌, ◌++◌}
 use Rattle.slotmap_list.proofs.Elements.{absent_before, value_of_pushed, splits}
 
 module _ {T : Type 0} where

@@ -1,15 +1,10 @@
 -- An element that is taken out of its place and put into another.
-use Rattle.std.proofs.Common.{◌≡◌, ◌<◌, true, List, Some, length, is_some, sym, ap, subst, ◌∙◌, arith}
-use Rattle.slotmap.specs.Words.{Key, Content}
-use Rattle.slotmap_links.specs.Lists.{Lists, list_of, with_list, times, IsFree, IsIn}
-use Rattle.slotmap_links.proofs.{Callers.list_now, Callers.owners_stay, Counts.times_gone}
-use Rattle.slotmap_list.specs.{Sequence.value_of, Kept.elements_at, Kept.IsKept}
-use Rattle.slotmap_list.specs.ListPlaces.{has_place, is_move, is_place, moved_to, put_number}
-use Rattle.slotmap_list.specs.declared.place.Place.{Place}
-use Rattle.slotmap_bounded.proofs.Indices.{some_is}
-use Rattle.slotmap_list.proofs.{Keeping.moved_values, Parts.place_there}
+use Rattle.slotmap_list.proofs.Common.{is_some, ◌∙◌, Content, list_of, with_list, list_now, owners_stay, times_gone, value_of, elements_at, has_place, is_move, is_place, moved_to, put_number}
+use Rattle.slotmap_list.proofs.Common.{true, List, Some, length, sym, ap, subst, arith, Key, Lists, times, IsFree, IsIn, IsKept, Place}
+use Rattle.std.proofs.Common.{◌≡◌, ◌<◌}
 use Rattle.slotmap_list.proofs.Keeps.{elements_moved, free_one, kept_moved, rest_elements}
-use Rattle.slotmap_list.proofs.Moving.{mover_stands, place_left, put_there}
+use Rattle.slotmap_list.proofs.Parts.{place_there}
+use Rattle.slotmap_list.proofs.Moving.{moved_values, mover, place_left, put_there}
 use Rattle.slotmap_list.proofs.Seen.{inside_if, no_key_twice, value_at}
 use Rattle.std.specs.FinMap as map
 use Rattle.slotmap_links.specs.Lists as numbers
@@ -20,7 +15,7 @@ module _ {T : Type 0} {c : Content T} {s : Lists} (kept : IsKept c s) (k : Key) 
 
   -- its value
   own : (v : T) × (map.get c.live k ≡ Some v)
-  own = some_is (map.get c.live k) (ap is_some (sym (value_at kept k)) ∙ mover_stands place k es can)
+  own = let v = mover place k es can in (v.0, sym (value_at kept k) ∙ v.1)
 
   -- the links without its index
   abbrev without_it : Lists

@@ -1,8 +1,6 @@
 -- Calls that fail, and what holds where a call succeeds.
-use Rattle.std.proofs.Common.{◌≡◌, ℕ, ◌<◌, ◌≤◌, true, Result, Ok, Err, IsOk, OnOk, IsErr, sym, subst, arith}
-use Rattle.slotmap.specs.Words.{Content, IsContent, MakesRoom, RefusesCapacity, most}
-use Rattle.slotmap.specs.declared.ReserveError.{ReserveError}
-use Rattle.slotmap.specs.declared.ReserveError.TheVariants.{TooGreat}
+use Rattle.std.proofs.Common.{ℕ, ◌≤◌, true, Result, Ok, Err, IsOk, OnOk, IsErr, arith}
+use Rattle.slotmap.specs.Words.{Content, IsContent, MakesRoom}
 
 -- a result isn't both
 pub not_both : {A E : Type 0} (r : Result A E) → IsOk r → IsErr r → ⊥
@@ -13,9 +11,6 @@ not_both (Err e) ok err = cc
 pub on_ok : {A E P : Type 0} (r : Result A E) → OnOk r P → IsOk r → P
 on_ok (Ok x) holds ok = holds
 on_ok (Err e) holds ok = absurd (cc)
-
-pub refused_greatly : (n : ℕ) (error : ReserveError) → error ≡ TooGreat → most < n → RefusesCapacity n error
-refused_greatly n error is over = subst (RefusesCapacity n) (sym is) over
 
 -- a call that reserves room fails, and changes nothing
 pub no_room_made : {V : Type 0} (c : Content V) (n : ℕ) (ok : Type 0) → IsContent true c → (ok → ⊥) → (n ≤ c.room → ok) → MakesRoom true c n ok c

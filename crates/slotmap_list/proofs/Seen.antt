@@ -1,18 +1,11 @@
 -- What the parts of a list say of its elements.
-use Rattle.std.proofs.Common.{◌≡◌, ◌<◌, ℕ, ◌≤◌, true, false, List, [], ◌∷◌, length, Option, Some, None, is_some, option_map, option_copied, Bor}
-use Rattle.std.proofs.Common.{refl, sym, ap, subst, ◌∙◌, arith, inl, inr}
+use Rattle.slotmap_list.proofs.Common.{is_some, option_map, option_copied, ◌∙◌, value_of, first_or, key_after, key_before, from_key, times_first, elements_at, key_there, keys_total, len_alike}
+use Rattle.slotmap_list.proofs.Common.{ℕ, true, false, List, length, Option, Some, None, Bor, refl, sym, subst, arith, Content, Lists, list_of, times, IsIn, last_or, IsOnce, IsKept, IsRest, some_is}
+use Rattle.slotmap_list.proofs.Common.{[], ap, inl, inr, Key}
+use Rattle.std.proofs.Common.{◌≡◌, ◌<◌, ◌≤◌, ◌∷◌}
 use Rattle.std.proofs.Math.Nat.{eq-zero-or-pos}
-use Rattle.slotmap.specs.Words.{Key, Content}
-use Rattle.slotmap_links.specs.Lists.{Lists, list_of, times, IsIn}
-use Rattle.slotmap_list.specs.Sequence.{value_of, first_or, last_or, key_after, key_before, from_key, IsOnce}
-use Rattle.slotmap_links.proofs.Counts.{times_first}
-use Rattle.slotmap_list.specs.Kept.{elements_at, key_there, IsKept, IsRest}
-use Rattle.slotmap.proofs.Callers.{keys_total}
-use Rattle.slotmap_keylist.proofs.Alone.{len_alike}
 use Rattle.slotmap_list.proofs.Elements.{Absent, absent, once_long, times_none}
-use Rattle.slotmap_bounded.proofs.Indices.{some_is}
-use Rattle.slotmap_list.proofs.Indices.{elements_long, first_at, last_at}
-use Rattle.slotmap_list.proofs.Parts.{IsAt, stands_at, value_none, value_there, next_there, prev_there, from_at, elements_once}
+use Rattle.slotmap_list.proofs.Parts.{elements_long, first_at, last_at, IsAt, stands_at, value_none, value_there, next_there, prev_there, from_at, elements_once}
 use Rattle.std.specs.FinMap as map
 use Rattle.slotmap_links.specs.Lists as numbers
 

@@ -1,14 +1,9 @@
 -- Two elements that change places by two moves.
-use Rattle.std.proofs.Common.{◌≡◌, ◌≢◌, ◌<◌, true, not, ◌&&◌, List, [], ◌∷◌, ◌++◌, None, is_some, if◌then◌else◌, inl, inr, refl, sym, ap, subst, ◌∙◌, arith}
-use Rattle.std.proofs.Common.{append_assoc, append-nil}
+use Rattle.slotmap_list.proofs.Common.{is_some, ◌∙◌, append_assoc, append-nil, is_itself, is_other, Sequence, value_of, first_or, key_after, put_again, insert_beside, moved_to, before_or_back}
+use Rattle.slotmap_list.proofs.Common.{true, not, List, [], None, inl, inr, refl, sym, ap, subst, arith, Key, Before, After, Back, Beside, are_two, IsOnce, Swaps}
+use Rattle.std.proofs.Common.{◌≡◌, ◌≢◌, ◌<◌, ◌&&◌, ◌∷◌, ◌++◌, if◌then◌else◌}
 use Rattle.std.proofs.Math.Nat.{eq-zero-or-pos}
-use Rattle.slotmap.specs.Words.{Key}
-use Rattle.slotmap_keylist.proofs.Counts.{is_itself, is_other}
 use Rattle.slotmap_list.specs.declared.place.Side.{Side}
-use Rattle.slotmap_list.specs.declared.place.Side.TheVariants.{Before, After}
-use Rattle.slotmap_list.specs.declared.place.Place.TheVariants.{Back, Beside}
-use Rattle.slotmap_list.specs.Sequence.{Sequence, value_of, first_or, key_after, put_again, are_two, IsOnce, Swaps}
-use Rattle.slotmap_list.specs.ListPlaces.{insert_beside, moved_to, before_or_back}
 use Rattle.slotmap_list.proofs.Elements.{one, one_itself, one_other, times, times-append, times-put, times_some, some_there, at_most_once, once_if, absent_before, once_drop, parts_at, splits}
 use Rattle.slotmap_list.proofs.Moving.{two}
 

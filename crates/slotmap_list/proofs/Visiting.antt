@@ -1,11 +1,10 @@
 -- A loop that visits the elements from front to back, and keeps or removes each.
-use Rattle.std.proofs.Common.{◌≡◌, ◌<◌, ◌+◌, ℕ, length, arith, Bool, true, false, cond, List, [], ◌∷◌, ◌++◌, Option, Some, None, IsSome, is_some, inl, inr, refl, sym, ap}
-use Rattle.std.proofs.Common.{subst, ◌∙◌, append_assoc, append-nil}
+use Rattle.slotmap_list.proofs.Common.{◌∙◌, append_assoc, append-nil, KeepsSpent, leaves_in_turn, leaves_none, same_or_other, Sequence, value_of, first_or, key_after, from_key, with_value_at}
+use Rattle.slotmap_list.proofs.Common.{ℕ, length, arith, Bool, true, false, cond, List, [], Option, Some, None, IsSome, is_some, inl, inr, refl, sym, subst, Key, IsSpent, Leaves, without, IsOnce}
+use Rattle.slotmap_list.proofs.Common.{ap}
+use Rattle.std.proofs.Common.{◌≡◌, ◌<◌, ◌+◌, ◌∷◌, ◌++◌}
 use Rattle.std.specs.Fn.{Mut, Called, Takes}
 use Rattle.std.specs.Borrow.{MutBor}
-use Rattle.slotmap.specs.Words.{Key, IsSpent, KeepsSpent, Leaves}
-use Rattle.slotmap.proofs.Callers.{leaves_in_turn, leaves_none, same_or_other}
-use Rattle.slotmap_list.specs.Sequence.{Sequence, value_of, first_or, key_after, from_key, with_value_at, without, IsOnce}
 use Rattle.slotmap_list.specs.Retain.{RetainsOne, RetainsEach, CallableInOrder}
 use Rattle.slotmap_list.proofs.Elements.{once-written, one_other, times, times-append, times_none, none_there, absent_before, once_drop, front_of, no_first, splits}
 use denote.Param.Always.{always_mut, mut_next}

@@ -2,10 +2,10 @@
 use Rattle.std.specs.Prelude.{◌≡◌, ◌++◌, List, [], Option, IsSome, length, map as list_map, option_map}
 use Rattle.std.specs.Borrow.{MutBor}
 use Rattle.std.specs.Iterator.{Count, at_most, Yields}
-use Rattle.std.specs.FinMap as map
 use Rattle.slotmap.specs.Words.{Key, IsSpent, KeepsSpent, Leaves}
 use Rattle.slotmap_list.specs.Sequence.{Sequence, value_of, TakesFront}
 use Rattle.slotmap_list.specs.declared.drain.Drain.{Drain}
+use Rattle.std.specs.FinMap as map
 
 -- no element is left, no cursor is live, and those of all that there were are spent; no room is lost, and the capacity stays
 pub record EmptiesList {T : Type 0} (old new : Sequence T) : Type 0 where

@@ -1,10 +1,10 @@
 -- How a list is kept: its values in a map, and the indices of their keys, in the order of the list, as a list of numbers.
 use Rattle.std.specs.Prelude.{◌≡◌, ℕ, ◌<◌, ◌≤◌, true, List, [], length, Option, Some, None, option_map}
 use Rattle.std.specs.List.{filter_map}
-use Rattle.std.specs.FinMap as map
 use Rattle.slotmap.specs.Words.{Key, key_cmp, Content, IsLive}
 use Rattle.slotmap_bounded.specs.Indices.{AreApart, found_at}
 use Rattle.slotmap_links.specs.Lists.{Lists, list_of, times}
+use Rattle.std.specs.FinMap as map
 
 module _ {T : Type 0} where
   -- a key with its value

@@ -1,12 +1,12 @@
 -- Places in a list: at its ends, and beside its elements.
 use Rattle.std.specs.Prelude.{ℕ, ◌<◌, ⊤, List, [], ◌∷◌, ◌++◌, Option, Some, None, Bool, true, is_some, if◌then◌else◌}
 use Rattle.slotmap.specs.Words.{Key}
-use Rattle.slotmap_links.specs.Lists as numbers
 use Rattle.slotmap_list.specs.declared.place.Side.{Side}
 use Rattle.slotmap_list.specs.declared.place.Side.TheVariants.{Before, After}
 use Rattle.slotmap_list.specs.declared.place.Place.{Place}
 use Rattle.slotmap_list.specs.declared.place.Place.TheVariants.{Front, Back, Beside}
 use Rattle.slotmap_list.specs.Sequence.{value_of, put_after, put_before, put_again, moved_to_front, moved_to_back, are_two}
+use Rattle.slotmap_links.specs.Lists as numbers
 
 -- the place before this key, or the back if there is none
 abbrev pub before_or_back : Option Key → Place
@@ -19,16 +19,12 @@ has_place Front is = ⊤
 has_place Back is = ⊤
 has_place (Beside side k) is = 0 < numbers.times k.index is
 
--- a list of indices with another one on this side of one
-abbrev pub number_beside : Side → ℕ → ℕ → List ℕ → List ℕ
-number_beside Before at i is = numbers.put_before at i is
-number_beside After at i is = numbers.put_behind at i is
-
 -- a list of indices with another one there
 abbrev pub put_number : Place → ℕ → List ℕ → List ℕ
 put_number Front i is = i ∷ is
 put_number Back i is = is ++ i ∷ []
-put_number (Beside side k) i is = number_beside side k.index i is
+put_number (Beside Before k) i is = numbers.put_before k.index i is
+put_number (Beside After k) i is = numbers.put_behind k.index i is
 
 module _ {T : Type 0} where
   -- the list with an element on this side of k

@@ -2,10 +2,10 @@
 use Rattle.std.specs.Prelude.{◌≡◌, None, IsSome}
 use Rattle.slotmap.specs.Words.{Key, Content, LacksRoom, used, most}
 use Rattle.slotmap_list.specs.declared.PushError.{PushError}
-use Rattle.slotmap_list.specs.declared.PushError.TheVariants as push
 use Rattle.slotmap_list.specs.Sequence.{Sequence, value_of}
 use Rattle.slotmap_list.specs.declared.PlaceError.{PlaceError}
 use Rattle.slotmap_list.specs.declared.PlaceError.TheVariants.{Gone, Full, Memory}
+use Rattle.slotmap_list.specs.declared.PushError.TheVariants as push
 
 module _ {T : Type 0} where
   -- `Full` if and only if a map can hold no more keys, else `Memory`, where no room was promised; the value is returned

@@ -1,6 +1,5 @@
-use Rattle.std.proofs.Common.{sym, ap, ◌∙◌}
-use Rattle.slotmap_list.specs.Kept.{key_there}
-use Rattle.slotmap_list.proofs.Indices.{key_found}
+use Rattle.slotmap_list.proofs.Common.{sym, ap, ◌∙◌, key_there}
+use Rattle.slotmap_list.proofs.Parts.{key_found}
 use Rattle.slotmap_list.proofs.key_at.Goals as goal
 
 pub returns : goal.returns

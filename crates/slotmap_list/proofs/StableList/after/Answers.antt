@@ -1,5 +1,4 @@
-use Rattle.std.proofs.Common.{sym, ap, ◌∙◌}
-use Rattle.slotmap.specs.Words.{Key}
+use Rattle.slotmap_list.proofs.Common.{sym, ap, ◌∙◌, Key}
 use Rattle.slotmap_list.proofs.Seen.{gone_from, after_is, below, no_key_twice}
 use Rattle.slotmap_list.proofs.StableList.after.Goals as goal
 

@@ -1,8 +1,8 @@
-use Rattle.std.proofs.Common.{◌≡◌, ◌<◌, ◌++◌, ◌∷◌, [], length, ap, ◌∙◌, arith, rules}
+use Rattle.slotmap_list.proofs.Common.{[], length, ap, ◌∙◌, arith, rules, leaves_in_turn, Content, Inserts}
+use Rattle.std.proofs.Common.{◌≡◌, ◌<◌, ◌++◌, ◌∷◌}
+use Rattle.slotmap_list.proofs.Adding.{ok_so, moving_start, moving_step}
+use Rattle.slotmap_list.proofs.Results.{on_ok}
 use Rattle.std.specs.FinMap as map
-use Rattle.slotmap.proofs.Callers.{leaves_in_turn}
-use Rattle.slotmap.specs.Words.{Content, Inserts}
-use Rattle.slotmap_list.proofs.{Adding.ok_so, Adding.moving_start, Adding.moving_step, Results.on_ok}
 use Rattle.slotmap_list.proofs.StableList.append.Goals as goal
 
 pub loop-value-init : goal.loop-value-init

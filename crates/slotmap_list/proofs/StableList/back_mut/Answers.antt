@@ -1,5 +1,4 @@
-use Rattle.std.proofs.Common.{option_map, refl, sym, ap, ◌∙◌}
-use Rattle.slotmap.proofs.Callers.{same_lent, same_unlent}
+use Rattle.slotmap_list.proofs.Common.{option_map, refl, sym, ap, ◌∙◌, same_lent, same_unlent}
 use Rattle.slotmap_list.proofs.Elements.{last_in, no_last, some_there}
 use Rattle.slotmap_list.proofs.Ends.{back_there, last_there}
 use Rattle.slotmap_list.proofs.StableList.back_mut.Goals as goal

@@ -1,5 +1,4 @@
-use Rattle.std.proofs.Common.{length}
-use Rattle.slotmap_list.specs.{Sequence.Sequence, Drain.EmptiesList}
+use Rattle.slotmap_list.proofs.Common.{length, Sequence, EmptiesList}
 use Rattle.slotmap_list.proofs.StableList.clear.Given as goal
 
 abbrev pub invariant-loop : goal.invariant-loop

@@ -1,5 +1,4 @@
-use Rattle.std.proofs.Common.{sym, ◌∙◌}
-use Rattle.slotmap.proofs.Callers.{contains-keys_of}
+use Rattle.slotmap_list.proofs.Common.{sym, ◌∙◌, contains-keys_of}
 use Rattle.slotmap_list.proofs.Seen.{stands_if}
 use Rattle.slotmap_list.proofs.StableList.contains.Goals as goal
 

@@ -1,7 +1,5 @@
-use Rattle.std.proofs.Common.{is_err, ◌≡◌, ◌≤◌, ◌+◌, ◌∷◌, [], length, length-append, ap, sym, subst, ◌∙◌, arith, rules}
-use Rattle.slotmap.specs.Words.{KeepsSpent, used}
-use Rattle.slotmap.proofs.Callers.{vacant_less}
-use Rattle.slotmap_list.specs.Additions.{Adds, refused}
+use Rattle.slotmap_list.proofs.Common.{is_err, [], length, length-append, ap, sym, subst, ◌∙◌, arith, rules, KeepsSpent, used, vacant_less, Adds, refused}
+use Rattle.std.proofs.Common.{◌≡◌, ◌≤◌, ◌+◌, ◌∷◌}
 use Rattle.slotmap_list.proofs.Adding.{Adds-push, no_room, refused_is, full_after, used_kept}
 use Rattle.std.specs.FinMap as map
 use Rattle.slotmap_list.proofs.StableList.extend.Goals as goal
@@ -25,44 +23,28 @@ loop-value-preserved g c =
     let gone : KeepsSpent c.args.self.now.cursors c.push_back.new.self.cursors = λ k spent. c.push_back.ensures.gone k (at.invariant.2.gone k spent) in
     search rules
 
-pub returns-in-Err-clause-extends : goal.returns-in-Err-clause-extends
-returns-in-Err-clause-extends g c =
+pub returns-in-Err : goal.returns-in-Err
+returns-in-Err g c =
     let at = c.loop-value in
-    let back : refused c.in-Err.error ≡ c.in-Some.value = refused_is at.self.cursors c.in-Some.value c.in-Err.error c.in-Err.ensures.err in (
-      c.into_iter-value-iterator.result,
-      c.into_iter-value-iterator.ensures.into_iter_gives,
-      record {
-        values = at.yielded;
-        adds = subst (λ es. Adds c.args.self.now.elements at.yielded es) (sym c.in-Err.ensures.unchanged) at.invariant.2.adds;
-        ended = (c.next.new.self, rw back (search rules));
-      },
-    )
-
-pub returns-in-Err-clause-used : goal.returns-in-Err-clause-used
-returns-in-Err-clause-used g c =
-    omega (arith, c.loop-value.invariant.2.used, ap length c.in-Err.ensures.unchanged, used_kept c.loop-value.self.cursors c.push_back.new.self.cursors c.in-Err.ensures.keeps)
-
-pub returns-in-Err-clause-err : goal.returns-in-Err-clause-err
-returns-in-Err-clause-err g c = full_after c.loop-value.self.cursors _ c.in-Some.value c.in-Err.error c.in-Err.ensures.err c.in-Err.ensures.keeps
-
-pub returns-in-Err-clause-gone : goal.returns-in-Err-clause-gone
-returns-in-Err-clause-gone g c k spent = c.push_back.ensures.gone k (c.loop-value.invariant.2.gone k spent)
-
-pub returns-in-Err-clause-room : goal.returns-in-Err-clause-room
-returns-in-Err-clause-room g c =
-    omega (arith, no_room c.loop-value.self.cursors.room c.push_back.result (ap is_err c.in-Err.is) c.push_back.ensures.room, c.loop-value.invariant.2.room, ap length c.in-Err.ensures.unchanged)
-
-pub returns-in-Err-clause-reuses : goal.returns-in-Err-clause-reuses
-returns-in-Err-clause-reuses g c =
-    omega (
-      arith,
-      no_room (map.len c.loop-value.self.cursors.next) c.push_back.result (ap is_err c.in-Err.is) c.push_back.ensures.reuses,
-      c.loop-value.invariant.2.vacant,
-      ap length c.in-Err.ensures.unchanged,
-    )
-
-pub returns-in-Err-clause-room_left : goal.returns-in-Err-clause-room_left
-returns-in-Err-clause-room_left g c = omega (arith, c.loop-value.invariant.2.room, ap length c.in-Err.ensures.unchanged, c.in-Err.ensures.keeps.room)
-
-pub returns-in-Err-clause-capacity : goal.returns-in-Err-clause-capacity
-returns-in-Err-clause-capacity g c = omega (arith, c.push_back.ensures.capacity, c.loop-value.invariant.2.capacity)
+    let back : refused c.in-Err.error ≡ c.in-Some.value = refused_is at.self.cursors c.in-Some.value c.in-Err.error c.in-Err.ensures.err in
+    let failed = ap is_err c.in-Err.is in
+    let same = ap length c.in-Err.ensures.unchanged in
+    record {
+      extends = (
+        c.into_iter-value-iterator.result,
+        c.into_iter-value-iterator.ensures.into_iter_gives,
+        record {
+          values = at.yielded;
+          adds = subst (λ es. Adds c.args.self.now.elements at.yielded es) (sym c.in-Err.ensures.unchanged) at.invariant.2.adds;
+          ended = (c.next.new.self, rw back (search rules));
+        },
+      );
+      used = omega (arith, c.loop-value.invariant.2.used, same, used_kept c.loop-value.self.cursors c.push_back.new.self.cursors c.in-Err.ensures.keeps);
+      err = full_after c.loop-value.self.cursors _ c.in-Some.value c.in-Err.error c.in-Err.ensures.err c.in-Err.ensures.keeps;
+      room = omega (arith, no_room c.loop-value.self.cursors.room c.push_back.result failed c.push_back.ensures.room, c.loop-value.invariant.2.room, same);
+      reuses = omega (arith, no_room (map.len c.loop-value.self.cursors.next) c.push_back.result failed c.push_back.ensures.reuses, c.loop-value.invariant.2.vacant, same);
+      in_place = search rules;
+      room_left = omega (arith, c.loop-value.invariant.2.room, same, c.in-Err.ensures.keeps.room);
+      capacity = omega (arith, c.push_back.ensures.capacity, c.loop-value.invariant.2.capacity);
+      gone = λ k spent. c.push_back.ensures.gone k (c.loop-value.invariant.2.gone k spent);
+    }

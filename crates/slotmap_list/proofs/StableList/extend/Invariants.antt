@@ -1,6 +1,5 @@
-use Rattle.std.proofs.Common.{◌≡◌, ◌≤◌, ◌+◌, length}
-use Rattle.slotmap.specs.Words.{KeepsSpent, used}
-use Rattle.slotmap_list.specs.Additions.{Adds}
+use Rattle.slotmap_list.proofs.Common.{length, KeepsSpent, used, Adds}
+use Rattle.std.proofs.Common.{◌≡◌, ◌≤◌, ◌+◌}
 use Rattle.std.specs.FinMap as map
 use Rattle.slotmap_list.proofs.StableList.extend.Given as goal
 

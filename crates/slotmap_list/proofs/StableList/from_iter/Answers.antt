@@ -1,7 +1,6 @@
-use Rattle.std.proofs.Common.{◌≡◌, [], refl, length, ap, sym, subst, ◌∙◌, arith}
+use Rattle.slotmap_list.proofs.Common.{[], refl, length, ap, sym, subst, ◌∙◌, arith, used, FullAfter}
+use Rattle.std.proofs.Common.{◌≡◌}
 use Rattle.std.proofs.lemmas.List.{length-map}
-use Rattle.slotmap.specs.Words.{used}
-use Rattle.slotmap_list.specs.Additions.{FullAfter}
 use Rattle.slotmap_list.proofs.Adding.{Adds-anew, used_new}
 use Rattle.slotmap_list.proofs.StableList.from_iter.Goals as goal
 

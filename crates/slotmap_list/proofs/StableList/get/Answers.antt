@@ -1,5 +1,4 @@
-use Rattle.std.proofs.Common.{sym, ◌∙◌}
-use Rattle.slotmap.proofs.Callers.{alone_spent, spent_finds_nothing}
+use Rattle.slotmap_list.proofs.Common.{sym, ◌∙◌, alone_spent, spent_finds_nothing}
 use Rattle.slotmap_list.proofs.Seen.{nothing_copied, value_at}
 use Rattle.slotmap_list.proofs.StableList.get.Goals as goal
 

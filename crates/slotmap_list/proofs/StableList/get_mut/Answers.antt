@@ -1,6 +1,4 @@
-use Rattle.std.proofs.Common.{is_some, sym, ap, ◌∙◌}
-use Rattle.slotmap.proofs.Callers.{same_lent, same_unlent}
-use Rattle.slotmap_list.specs.Sequence.{Sequence, with_value_at}
+use Rattle.slotmap_list.proofs.Common.{is_some, sym, ap, ◌∙◌, same_lent, same_unlent, Sequence, with_value_at}
 use Rattle.slotmap_list.proofs.{Keeps.kept_written, Keeps.seen_written, Seen.value_at}
 use Rattle.slotmap_list.proofs.StableList.get_mut.Goals as goal
 

@@ -1,6 +1,4 @@
-use Rattle.std.proofs.Common.{sym, ap, length, ◌∙◌}
-use Rattle.slotmap.specs.Words.{Key}
-use Rattle.slotmap_list.specs.Sequence.{Sequence}
+use Rattle.slotmap_list.proofs.Common.{sym, ap, length, ◌∙◌, Key, Sequence}
 use Rattle.slotmap_list.proofs.Seen.{gone_from, inside_if, rest_begins, tail_elements}
 use Rattle.slotmap_list.proofs.StableList.iter_from.Goals as goal
 

@@ -1,17 +1,12 @@
-use Rattle.std.proofs.Common.{sym, ◌∙◌}
-use Rattle.slotmap.proofs.Callers.{contains-keys_of, len-keys_of}
-use Rattle.slotmap_list.proofs.{Indices.elements_long, Seen.live_long, Seen.no_key_twice, Seen.stands_if}
+use Rattle.slotmap_list.proofs.Common.{sym, ◌∙◌, contains-keys_of, len-keys_of}
+use Rattle.slotmap_list.proofs.Parts.{elements_long}
+use Rattle.slotmap_list.proofs.Seen.{live_long, no_key_twice, stands_if}
 use Rattle.slotmap_list.proofs.StableList.len.Goals as goal
 
-pub returns-clause-value : goal.returns-clause-value
-returns-clause-value g c = rw (← c.self.view_is) (c.len.ensures ∙ sym (elements_long _ c.self.invariant.indices))
-
-pub returns-clause-once : goal.returns-clause-once
-returns-clause-once g c = rw (← c.self.view_is) (no_key_twice c.self.invariant)
-
-pub returns-clause-live : goal.returns-clause-live
-returns-clause-live g c = rw (← c.self.view_is) (c.len.ensures ∙ sym (elements_long _ c.self.invariant.indices) ∙ sym (live_long c.self.invariant)
-    ∙ sym (len-keys_of c.self.inside.values.live))
-
-pub returns-clause-same_keys : goal.returns-clause-same_keys
-returns-clause-same_keys g c k = rw (← c.self.view_is) (contains-keys_of c.self.inside.values.live k ∙ stands_if c.self.invariant k)
+pub returns : goal.returns
+returns g c = record {
+  value = rw (← c.self.view_is) (c.len.ensures ∙ sym (elements_long _ c.self.invariant.indices));
+  once = rw (← c.self.view_is) (no_key_twice c.self.invariant);
+  live = rw (← c.self.view_is) (c.len.ensures ∙ sym (elements_long _ c.self.invariant.indices) ∙ sym (live_long c.self.invariant) ∙ sym (len-keys_of c.self.inside.values.live));
+  same_keys = λ k. rw (← c.self.view_is) (contains-keys_of c.self.inside.values.live k ∙ stands_if c.self.invariant k);
+}

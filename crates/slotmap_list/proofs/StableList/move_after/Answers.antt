@@ -1,6 +1,5 @@
-use Rattle.std.proofs.Common.{ap, sym, ◌∙◌}
-use Rattle.slotmap_list.specs.{Sequence.Sequence, Sequence.key_after}
-use Rattle.slotmap_list.proofs.Keeping.{moved_next}
+use Rattle.slotmap_list.proofs.Common.{ap, sym, ◌∙◌, Sequence, key_after}
+use Rattle.slotmap_list.proofs.Moving.{moved_next}
 use Rattle.slotmap_list.proofs.StableList.move_after.Goals as goal
 
 pub returns-clause-next : goal.returns-clause-next

@@ -1,6 +1,5 @@
-use Rattle.std.proofs.Common.{None, ap, sym, ◌∙◌}
-use Rattle.slotmap_list.specs.{Sequence.Sequence, Sequence.key_before}
-use Rattle.slotmap_list.proofs.Keeping.{moved_prev}
+use Rattle.slotmap_list.proofs.Common.{None, ap, sym, ◌∙◌, Sequence, key_before}
+use Rattle.slotmap_list.proofs.Moving.{moved_prev}
 use Rattle.slotmap_list.proofs.StableList.move_before.Goals as goal
 
 pub returns-clause-prev : goal.returns-clause-prev

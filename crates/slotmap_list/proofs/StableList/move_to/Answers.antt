@@ -1,10 +1,8 @@
-use Rattle.std.proofs.Common.{◌≡◌, true, refl, sym, ap, ◌∙◌}
-use Rattle.slotmap.specs.Words.{Key}
-use Rattle.slotmap_links.specs.Lists.{list_of}
-use Rattle.slotmap_list.specs.{Sequence.Sequence, Sequence.value_of, Kept.elements_at, ListPlaces.is_move, ListPlaces.moved_to}
+use Rattle.slotmap_list.proofs.Common.{true, refl, sym, ap, ◌∙◌, Key, list_of, Sequence, value_of, elements_at, is_move, moved_to}
+use Rattle.std.proofs.Common.{◌≡◌}
 use Rattle.slotmap_list.proofs.{Moved.Moves, Moved.moves, Moving.move_stays, Moving.seen_as}
-use Rattle.slotmap_list.proofs.StableList.move_to.Goals as goal
 use Rattle.slotmap_list.proofs.StableList.move_to.Goals.{After-idx-index}
+use Rattle.slotmap_list.proofs.StableList.move_to.Goals as goal
 
 can : (g : _) (c : After-idx-index g) → is_move (g.K.Key.data_of c.args.cursor) c.args.place (elements_at c.self.inside.values.live (list_of c.self.inside.links 0)) ≡ true
 can g c = ap (λ (s : Sequence g.row.T.Denot). is_move (g.K.Key.data_of c.args.cursor) c.args.place s.elements) c.self.view_is ∙ sym c.can_move.ensures ∙ c.if-not-can_move.false

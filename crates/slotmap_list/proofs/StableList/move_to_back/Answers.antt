@@ -1,6 +1,5 @@
-use Rattle.std.proofs.Common.{None, ap, sym, ◌∙◌}
-use Rattle.slotmap_list.specs.Sequence.{Sequence, last_or}
-use Rattle.slotmap_list.proofs.Keeping.{moved_last}
+use Rattle.slotmap_list.proofs.Common.{None, ap, sym, ◌∙◌, Sequence, last_or}
+use Rattle.slotmap_list.proofs.Moving.{moved_last}
 use Rattle.slotmap_list.proofs.StableList.move_to_back.Goals as goal
 
 pub returns-clause-last : goal.returns-clause-last

@@ -1,5 +1,4 @@
-use Rattle.std.proofs.Common.{None, sym, ap, ◌∙◌}
-use Rattle.slotmap.specs.Words.{Key}
+use Rattle.slotmap_list.proofs.Common.{None, sym, ap, ◌∙◌, Key}
 use Rattle.slotmap_list.proofs.Seen.{gone_from, before_is, below}
 use Rattle.slotmap_list.proofs.StableList.prev.Goals as goal
 

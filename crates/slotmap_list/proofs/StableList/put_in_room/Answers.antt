@@ -1,14 +1,11 @@
-use Rattle.std.proofs.Common.{◌≡◌, true, refl, ap, ◌∙◌, arith}
-use Rattle.slotmap.specs.Words.{Key}
-use Rattle.slotmap.proofs.Callers.{alone_spent, inserted_len, inserted_not_spent, keeps_spent_alone, spent_inserts}
-use Rattle.slotmap_keylist.proofs.Alone.{alone-inserts, used_alone}
-use Rattle.slotmap_links.specs.Lists.{list_of}
-use Rattle.slotmap_list.specs.{Kept.elements_at, Sequence.Sequence, ListPlaces.is_place}
+use Rattle.slotmap_list.proofs.Common.{◌∙◌, alone_spent, inserted_len, inserted_not_spent, keeps_spent_alone, spent_inserts, alone-inserts, used_alone, list_of, elements_at, Sequence, is_place}
+use Rattle.slotmap_list.proofs.Common.{true, refl, ap, arith, rules, Key}
+use Rattle.std.proofs.Common.{◌≡◌}
 use Rattle.slotmap_list.proofs.Keeps.{free_one, kept_put, none_yet, elements_put}
 use Rattle.slotmap_list.proofs.{Parts.place_there, Seen.value_at}
+use Rattle.slotmap_list.proofs.StableList.put_in_room.Goals.{After-idx}
 use Rattle.std.specs.FinSet as set
 use Rattle.slotmap_list.proofs.StableList.put_in_room.Goals as goal
-use Rattle.slotmap_list.proofs.StableList.put_in_room.Goals.{After-idx}
 
 can : (g : _) (c : After-idx g) → is_place c.args.place (elements_at c.self.inside.values.live (list_of c.self.inside.links 0)) ≡ true
 can g c = ap (λ (s : Sequence g.row.T.Denot). is_place c.args.place s.elements) c.self.view_is ∙ c.requires.place
@@ -29,27 +26,16 @@ invariant_of-self g c = let at = (goal.at.invariant_of-self g c).After-idx in le
     rw (c.put_index.ensures, index g at) (kept_put c.self.invariant c.insert_reserved-key.new.self _ c.args.value made.inserts made.fresh made.valid.after c.args.place (can g at)
     (omega (arith, made.within, made.valid.capacity)) made.valid.capacity)
 
-pub returns-clause-elements : goal.returns-clause-elements
-returns-clause-elements g c =
-    let at = (goal.at.returns-clause-elements g c).After-idx in
-    let made = c.insert_reserved-key.ensures in
-    rw (c.put_index.ensures, index g at, ← c.self.view_is)
-    (elements_put c.self.invariant c.insert_reserved-key.new.self _ c.args.value made.inserts made.fresh made.valid.after c.args.place (can g at))
-
-pub returns-clause-fresh : goal.returns-clause-fresh
-returns-clause-fresh g c = rw (← c.self.view_is) (value_at c.self.invariant (g.K.Key.data_of c.insert_reserved-key.result) ∙ c.insert_reserved-key.ensures.fresh)
-
-pub returns-clause-unspent : goal.returns-clause-unspent
-returns-clause-unspent g c =
-    rw (← c.self.view_is) (λ spent. inserted_not_spent _ _ true c.insert_reserved-key.ensures.valid.before _ _ c.insert_reserved-key.ensures.inserts _ (alone_spent _ _ spent) refl)
-
-pub returns-clause-cursors : goal.returns-clause-cursors
-returns-clause-cursors g c = rw (← c.self.view_is) (alone-inserts _ _ _ _ c.insert_reserved-key.ensures.inserts)
-
-pub returns-clause-used : goal.returns-clause-used
-returns-clause-used g c = let made = c.insert_reserved-key.ensures in let more = inserted_len true _ _ c.args.value _ made.valid.before made.inserts in
-    let detached = ap set.len made.inserts.detached in let retired = ap set.len made.inserts.retired in
-    rw (← c.self.view_is, used_alone c.self.inside.values, used_alone c.insert_reserved-key.new.self) (omega arith)
-
-pub returns-clause-gone : goal.returns-clause-gone
-returns-clause-gone g c = rw (← c.self.view_is) (keeps_spent_alone _ _ (spent_inserts _ _ true c.insert_reserved-key.ensures.valid.before _ _ c.insert_reserved-key.ensures.inserts))
+pub returns : goal.returns
+returns g c = record {
+  elements = (let at = (goal.at.returns g c).After-idx in let made = c.insert_reserved-key.ensures in rw (c.put_index.ensures, index g at, ← c.self.view_is)
+      (elements_put c.self.invariant c.insert_reserved-key.new.self _ c.args.value made.inserts made.fresh made.valid.after c.args.place (can g at)));
+  fresh = rw (← c.self.view_is) (value_at c.self.invariant (g.K.Key.data_of c.insert_reserved-key.result) ∙ c.insert_reserved-key.ensures.fresh);
+  unspent = rw (← c.self.view_is)
+      (λ spent. inserted_not_spent _ _ true c.insert_reserved-key.ensures.valid.before _ _ c.insert_reserved-key.ensures.inserts _ (alone_spent _ _ spent) refl);
+  cursors = rw (← c.self.view_is) (alone-inserts _ _ _ _ c.insert_reserved-key.ensures.inserts);
+  used = (let made = c.insert_reserved-key.ensures in rw (← c.self.view_is, used_alone c.self.inside.values, used_alone c.insert_reserved-key.new.self)
+      (omega (arith, inserted_len true _ _ c.args.value _ made.valid.before made.inserts, ap set.len made.inserts.detached, ap set.len made.inserts.retired)));
+  capacity = search rules;
+  gone = rw (← c.self.view_is) (keeps_spent_alone _ _ (spent_inserts _ _ true c.insert_reserved-key.ensures.valid.before _ _ c.insert_reserved-key.ensures.inserts));
+}

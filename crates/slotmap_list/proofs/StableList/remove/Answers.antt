@@ -1,12 +1,12 @@
-use Rattle.std.proofs.Common.{◌≡◌, true, Some, is_some, sym, ap, ◌∙◌}
-use Rattle.slotmap.proofs.Callers.{keeps_spent_alone, leaves_by_removal, leaves_none, removed_spent, spent_alone, spent_removes}
-use Rattle.slotmap_keylist.proofs.Alone.{alone-leaves, alone-removes}
+use Rattle.slotmap_list.proofs.Common.{true, Some, is_some, ◌∙◌, rules, keeps_spent_alone, leaves_by_removal, leaves_none, removed_spent, spent_alone, spent_removes, alone-leaves, alone-removes}
+use Rattle.slotmap_list.proofs.Common.{sym, ap}
+use Rattle.std.proofs.Common.{◌≡◌}
 use Rattle.slotmap_list.proofs.Keeps.{elements_taken, get-remove_here, kept_taken}
 use Rattle.slotmap_list.proofs.Parts.{value_none}
 use Rattle.slotmap_list.proofs.Seen.{inside_if, value_at, gone_from}
+use Rattle.slotmap_list.proofs.StableList.remove.Goals.{After-idx}
 use Rattle.std.specs.FinMap as map
 use Rattle.slotmap_list.proofs.StableList.remove.Goals as goal
-use Rattle.slotmap_list.proofs.StableList.remove.Goals.{After-idx}
 
 -- what the map returned
 found : (g : _) (c : After-idx g) → map.get c.self.inside.values.live (g.K.Key.data_of c.args.cursor) ≡ Some c.in_ok-value.value
@@ -34,36 +34,24 @@ invariant_of-self-2 g c =
     rw (c.take_out.ensures, c.idx.ensures.value, c.data.ensures.value) (kept_taken c.self.invariant (g.K.Key.data_of c.args.cursor) c.in_ok-value.value
     (found g (goal.at.invariant_of-self-2 g c).After-idx) c.remove.new.self c.in_ok-value.ensures.removes c.remove.ensures.valid.capacity)
 
-pub returns-clause-value : goal.returns-clause-value
-returns-clause-value g c = rw (← c.self.view_is) (sym (found g (goal.at.returns-clause-value g c).After-idx) ∙ sym (value_at c.self.invariant (g.K.Key.data_of c.args.cursor)))
-
-pub returns-clause-removed : goal.returns-clause-removed
-returns-clause-removed g c =
-    rw (c.take_out.ensures, c.idx.ensures.value, c.data.ensures.value, ← c.self.view_is) (elements_taken c.self.invariant (g.K.Key.data_of c.args.cursor) c.in_ok-value.value
-    (found g (goal.at.returns-clause-removed g c).After-idx) c.remove.new.self c.in_ok-value.ensures.removes)
-
-pub returns-clause-absent : goal.returns-clause-absent
-returns-clause-absent g c =
-    value_none c.remove.new.self.live (g.K.Key.data_of c.args.cursor) _ (ap (λ m. map.get m (g.K.Key.data_of c.args.cursor)) c.in_ok-value.ensures.removes.live
-    ∙ get-remove_here c.self.inside.values.live (g.K.Key.data_of c.args.cursor))
-
-pub returns-clause-cursors : goal.returns-clause-cursors
-returns-clause-cursors g c = rw (← c.self.view_is) (alone-removes _ _ (g.K.Key.data_of c.args.cursor) c.in_ok-value.ensures.removes)
-
-pub returns-clause-for_good : goal.returns-clause-for_good
-returns-clause-for_good g c =
-    spent_alone _ (g.K.Key.data_of c.args.cursor)
-    (removed_spent _ _ true c.remove.ensures.valid.before _ (ap is_some (found g (goal.at.returns-clause-for_good g c).After-idx)) c.in_ok-value.ensures.removes)
-
-pub returns-clause-gone : goal.returns-clause-gone
-returns-clause-gone g c =
-    rw (← c.self.view_is)
-    (keeps_spent_alone _ _ (spent_removes _ _ true c.remove.ensures.valid.before _ (ap is_some (found g (goal.at.returns-clause-gone g c).After-idx)) c.in_ok-value.ensures.removes))
-
-pub returns-clause-leaves : goal.returns-clause-leaves
-returns-clause-leaves g c =
-    rw (← c.self.view_is)
-    (alone-leaves _ _ (leaves_by_removal true _ c.remove.ensures.valid.before _ (ap is_some (found g (goal.at.returns-clause-leaves g c).After-idx)) _ c.in_ok-value.ensures.removes))
+pub returns : goal.returns
+returns g c =
+    let k = g.K.Key.data_of c.args.cursor in
+    let there = found g (goal.at.returns g c).After-idx in
+    let live = ap is_some there in
+    let removes = c.in_ok-value.ensures.removes in
+    let before = c.remove.ensures.valid.before in
+    record {
+      value = rw (← c.self.view_is) (sym there ∙ sym (value_at c.self.invariant k));
+      removed = rw (c.take_out.ensures, c.idx.ensures.value, c.data.ensures.value, ← c.self.view_is) (elements_taken c.self.invariant k c.in_ok-value.value there c.remove.new.self removes);
+      absent = value_none c.remove.new.self.live k _ (ap (λ m. map.get m k) removes.live ∙ get-remove_here c.self.inside.values.live k);
+      cursors = rw (← c.self.view_is) (alone-removes _ _ k removes);
+      for_good = spent_alone _ k (removed_spent _ _ true before _ live removes);
+      gone = rw (← c.self.view_is) (keeps_spent_alone _ _ (spent_removes _ _ true before _ live removes));
+      leaves = rw (← c.self.view_is) (alone-leaves _ _ (leaves_by_removal true _ before _ live _ removes));
+      capacity = search rules;
+      stale = search rules;
+    }
 
 pub returns-in_err-value-clause-leaves : goal.returns-in_err-value-clause-leaves
 returns-in_err-value-clause-leaves g c = rw (← c.self.view_is, c.in_err-value.ensures.unchanged) (leaves_none _)

@@ -1,12 +1,10 @@
-use Rattle.std.proofs.Common.{◌≡◌, false, true, refl, sym, ap, ◌∙◌, arith, rules}
-use Rattle.slotmap.specs.Words.{MakesRoom, used}
-use Rattle.slotmap_keylist.proofs.Alone.{alone-room, used_alone}
-use Rattle.slotmap_list.specs.Sequence.{Sequence}
+use Rattle.slotmap_list.proofs.Common.{false, true, refl, sym, ap, subst, ◌∙◌, arith, rules, MakesRoom, RefusesCapacity, used, alone-room, used_alone, Sequence}
+use Rattle.std.proofs.Common.{◌≡◌, ◌+◌}
 use Rattle.slotmap_list.proofs.Keeps.{kept_alike}
-use Rattle.slotmap_list.proofs.Results.{no_room_made, not_both, on_ok, refused_greatly}
+use Rattle.slotmap_list.proofs.Results.{no_room_made, not_both, on_ok}
+use Rattle.slotmap_list.proofs.StableList.reserve.Goals.{Then-is_err}
 use Rattle.std.specs.FinMap as map
 use Rattle.slotmap_list.proofs.StableList.reserve.Goals as goal
-use Rattle.slotmap_list.proofs.StableList.reserve.Goals.{Then-is_err}
 
 -- the links ran out of memory
 stuck : (g : _) (c : Then-is_err g) → MakesRoom true c.self.inside.values c.args.additional (false ≡ true) c.self.inside.values
@@ -22,7 +20,8 @@ returns-in_err-capacity-clause-makes_room g c =
     (λ fits. absurd (let is = sym c.in_err-capacity.was ∙ c.capacity_for.ensures.had_room fits in cc))))
 
 pub returns-in_err-capacity-clause-err : goal.returns-in_err-capacity-clause-err
-returns-in_err-capacity-clause-err g c = let over = rw c.in_err-capacity.was at c.capacity_for.ensures.err in let refused = refused_greatly _ _ over.0 over.1 in
+returns-in_err-capacity-clause-err g c = let over = rw c.in_err-capacity.was at c.capacity_for.ensures.err in
+    let refused = subst (RefusesCapacity (used c.self.inside.values + c.args.additional)) (sym over.0) over.1 in
     rw (← c.self.view_is, used_alone c.self.inside.values) (search (rules, refused))
 
 pub invariant_of-self : goal.invariant_of-self

@@ -1,6 +1,6 @@
 use Rattle.std.proofs.Common.{[], ◌∷◌, length, length-append, sym, ap, ◌∙◌, arith}
 use Rattle.slotmap_list.specs.Kept.{elements_at}
-use Rattle.slotmap_list.proofs.Indices.{back_is, back_counted, back_rest}
+use Rattle.slotmap_list.proofs.Parts.{back_is, back_counted, back_rest}
 use Rattle.slotmap_list.proofs.iter.IterDoubleEndedIterator.next_back.Goals as goal
 
 pub live_key-cursor-requires : goal.live_key-cursor-requires

@@ -1,5 +1,5 @@
 use Rattle.std.proofs.Common.{sym, ap, length, ◌∙◌}
-use Rattle.slotmap_list.proofs.Indices.{elements_long}
+use Rattle.slotmap_list.proofs.Parts.{elements_long}
 use Rattle.slotmap_list.proofs.iter.IterExactSizeIterator.len.Goals as goal
 
 pub returns-clause-value : goal.returns-clause-value

@@ -1,6 +1,5 @@
-use Rattle.std.proofs.Common.{length, sym, ap, ◌∙◌, arith}
-use Rattle.slotmap_list.specs.Kept.{all_of, elements_at}
-use Rattle.slotmap_list.proofs.Indices.{front_is, front_counted, front_rest}
+use Rattle.slotmap_list.proofs.Common.{length, sym, ap, ◌∙◌, arith, all_of, elements_at}
+use Rattle.slotmap_list.proofs.Parts.{front_is, front_counted, front_rest}
 use Rattle.slotmap_list.proofs.rest.IterFromIterator.next.Goals as goal
 
 pub live_key-cursor-requires : goal.live_key-cursor-requires

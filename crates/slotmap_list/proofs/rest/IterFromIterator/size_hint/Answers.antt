@@ -1,5 +1,5 @@
 use Rattle.std.proofs.Common.{length, ap, arith}
-use Rattle.slotmap_list.proofs.Indices.{elements_long}
+use Rattle.slotmap_list.proofs.Parts.{elements_long}
 use Rattle.slotmap_list.proofs.rest.IterFromIterator.size_hint.Goals as goal
 
 pub returns-clause-upper : goal.returns-clause-upper
