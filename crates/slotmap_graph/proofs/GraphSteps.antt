@@ -5,7 +5,7 @@ use Rattle.slotmap_graph.proofs.Common.{Key, key_cmp, Content, IsContent, IsLive
 use Rattle.slotmap_graph.proofs.Common.{get-put_live, get-put_other, leaves_none, leaves_by_removal, inserted_fresh, live-insert_still, times, without, is_itself, is_other, times_first, one_itself}
 use Rattle.slotmap_graph.proofs.Common.{Lists, AreDisjoint, list_of, often, SeenEdge, Edges, IsJoined, ListsEdges, PutsAlone, SameEdges, edges_at, from, to, touches, HaveIndices, IsThreaded, IsGraph}
 use Rattle.slotmap_graph.proofs.Common.{Seen, CoversMore, by_node, IsFree, PutsBehind, with_list, ClonesEqual, IsCloneBy, IsCloneOf, clones_edge, clone_live}
-use Rattle.slotmap_graph.proofs.Adjacent.{absent_unlisted, gone_apart, listed_edge, none_listed, nothing_listed}
+use Rattle.slotmap_graph.proofs.Adjacent.{gone_apart, listed_edge, none_listed, nothing_listed}
 use Rattle.slotmap_bounded.proofs.Indices.{indices_inserted, indices_still}
 use Rattle.slotmap_graph.proofs.Threaded.{at_none, empty_at, lists, other_nodes, put_free, put_seen, put_threaded, same_seen, threaded_along}
 use Rattle.std.specs.FinMap as map
@@ -59,10 +59,6 @@ module _ {E : Type 0} (edges : Edges E) (k : Key) (untouched : (x : Key) (e : Se
 pub graph_joined : {N E : Type 0} (nodes : Content N) (edges : Content (SeenEdge E)) (outs intos : Lists) → IsGraph nodes edges outs intos
     → IsJoined (record { nodes = nodes; edges = edges; out = by_node nodes.live edges.live outs; into = by_node nodes.live edges.live intos })
 graph_joined nodes edges outs intos graph = record { ends = λ x e there. (graph.out.ends x e there, graph.into.ends x e there); out = lists graph.out; into = lists graph.into }
-
--- an edge that isn't there is in no list
-pub lacks : {E : Type 0} (end : SeenEdge E → Key) (edges : Edges E) (x : Key) → map.get edges x ≡ None → (k : Key) (ks : List Key) → ListsEdges end edges k ks → ks ≡ without x ks
-lacks end edges x none k ks lists = sym (absent_unlisted end edges x none k ks lists)
 
 module _ {N E : Type 0} {end : SeenEdge E → Key} {nodes : Content N} {edges : Content (SeenEdge E)} {links : Lists} (t : IsThreaded end nodes edges links) where
   -- as many owners and members as the capacities ask for, and the same nodes and edges

@@ -77,10 +77,6 @@ module _ {E : Type 0} where
   abbrev pub avoids : Key → SeenEdge E → Bool
   avoids k e = not (touches k e)
 
-  -- each edge goes from a live node to a live node
-  abbrev pub EndsLive : {N : Type 0} → Content N → Edges E → Type 0
-  EndsLive nodes edges = (k : Key) (e : SeenEdge E) → map.get edges k ≡ Some e → IsLive nodes e.from × IsLive nodes e.to
-
   -- 1 if an edge is there whose end is the node, and else 0
   abbrev pub ends_at : (SeenEdge E → Key) → Key → Option (SeenEdge E) → ℕ
   ends_at end k None = 0
@@ -100,7 +96,7 @@ module _ {E : Type 0} where
 
 -- what holds of every graph: each edge joins two live nodes, and is listed at both
 pub record IsJoined {N E : Type 0} (s : Seen N E) : Type 0 where
-  pub ends : EndsLive s.nodes s.edges.live
+  pub ends : (k : Key) (e : SeenEdge E) → map.get s.edges.live k ≡ Some e → IsLive s.nodes e.from × IsLive s.nodes e.to
   pub out : (k : Key) → ListsEdges from s.edges.live k (edges_at s.out k)
   pub into : (k : Key) → ListsEdges to s.edges.live k (edges_at s.into k)
 

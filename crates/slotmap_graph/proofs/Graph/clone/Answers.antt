@@ -8,17 +8,12 @@ invariant_of-result g c = let n = c.in_ok-nodes.ensures in let e = c.in_ok-edges
   into = copied c.self.invariant.into n.clones n.capacity is_clone e.clones e.capacity (copied_to is_clone) c.in_ok-into.ensures;
 }
 
-pub returns-clause-out : goal.returns-clause-out
-returns-clause-out g c = let n = c.in_ok-nodes.ensures in let e = c.in_ok-edges.ensures in let is_clone = g.E.Clone.is_clone in
-    rw (← c.self.view_is) (copied_seen c.self.invariant.out n.clones n.capacity is_clone e.clones e.capacity (copied_from is_clone) c.in_ok-out.ensures)
-
-pub returns-clause-into : goal.returns-clause-into
-returns-clause-into g c = let n = c.in_ok-nodes.ensures in let e = c.in_ok-edges.ensures in let is_clone = g.E.Clone.is_clone in
-    rw (← c.self.view_is) (copied_seen c.self.invariant.into n.clones n.capacity is_clone e.clones e.capacity (copied_to is_clone) c.in_ok-into.ensures)
-
-pub returns-clause-same_nodes : goal.returns-clause-same_nodes
-returns-clause-same_nodes g c same = clone_copies g.N.Clone.is_clone c.args.self.now.nodes _ (rw (ap (λ s. s.nodes) c.self.view_is) at c.in_ok-nodes.ensures.clones) same
-
-pub returns-clause-same_edges : goal.returns-clause-same_edges
-returns-clause-same_edges g c same = clone_copies (clones_edge g.E.Clone.is_clone) c.args.self.now.edges _
-    (rw (ap (λ s. s.edges) c.self.view_is) at c.in_ok-edges.ensures.clones) (edges_equal g.E.Clone.is_clone same)
+pub returns : goal.returns
+returns g c = let n = c.in_ok-nodes.ensures in let e = c.in_ok-edges.ensures in let is_clone = g.E.Clone.is_clone in record {
+  nodes = rw (← c.self.view_is) n.clones;
+  edges = rw (← c.self.view_is) e.clones;
+  out = rw (← c.self.view_is) (copied_seen c.self.invariant.out n.clones n.capacity is_clone e.clones e.capacity (copied_from is_clone) c.in_ok-out.ensures);
+  into = rw (← c.self.view_is) (copied_seen c.self.invariant.into n.clones n.capacity is_clone e.clones e.capacity (copied_to is_clone) c.in_ok-into.ensures);
+  same_nodes = clone_copies g.N.Clone.is_clone c.args.self.now.nodes _ (rw (ap (λ s. s.nodes) c.self.view_is) at n.clones);
+  same_edges = λ same. clone_copies (clones_edge is_clone) c.args.self.now.edges _ (rw (ap (λ s. s.edges) c.self.view_is) at e.clones) (edges_equal is_clone same);
+}

@@ -6,8 +6,7 @@ use Rattle.slotmap_graph.proofs.Graph.count_all.Goals as goal
 
 pub loop-node-init : goal.loop-node-init
 loop-node-init g c = record {
-  can_next = tt;
-  is_finite = tt;
+  goes = (tt, tt);
   walked = c.into_iter-node-iterator.ensures.into_iter_gives ∙ c.nodes-node-items.ensures;
   counting = counting_none c.args.self.now c.args.counts.now.pairs _ c.requires.none (ap (list_map g.K.Key.data_of) c.requires.empty);
 }
@@ -27,8 +26,7 @@ loop-node-preserved g c =
     let once : times y (map.keys c.args.self.now.nodes.live) ≤ 1 = keys_once c.args.self.now.nodes.live y in
     let there = sym (ap (times y) split) ∙ in_midst done y c.next.new.self in
     record {
-      can_next = tt;
-      is_finite = tt;
+      goes = (tt, tt);
       walked = rw map-append (walked_on done c.loop-node.node-iterator _ _ y c.loop-node.invariant.walked c.in-Some.ensures.steps);
       counting = rw map-append (counting_step c.args.self.now c.loop-node.counts.pairs c.count.new.counts.pairs _ _ done c.loop-node.invariant.counting y
           (key_live c.args.self.now.nodes.live y (omega (arith, there))) (omega (arith, there, once)) (c.in_ok-count.ensures.here ∙ ap Some c.in_degree-degree.ensures) c.count.ensures.others

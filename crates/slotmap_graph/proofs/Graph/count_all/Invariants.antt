@@ -5,8 +5,7 @@ use Rattle.slotmap_graph.proofs.Graph.count_all.Given as goal
 
 abbrev pub invariant-loop-node : goal.invariant-loop-node
 invariant-loop-node g l = record {
-  can_next : (goal.iterator-loop-node g).can_next l.node-iterator;
-  is_finite : (goal.iterator-loop-node g).is_finite l.node-iterator;
+  goes : (goal.iterator-loop-node g).can_next l.node-iterator × (goal.iterator-loop-node g).is_finite l.node-iterator;
   walked : list_map g.K.Key.data_of l.yielded ++ l.node-iterator ≡ map.keys l.self.nodes.live;
   counting : Counting l.self l.counts.pairs (list_map g.K.Key.data_of l.found.items) (list_map g.K.Key.data_of l.yielded);
 }

@@ -7,8 +7,7 @@ use Rattle.slotmap_graph.proofs.Graph.edge_from_left.Goals as goal
 
 pub loop-edge-init : goal.loop-edge-init
 loop-edge-init g c = record {
-  can_next = tt;
-  is_finite = tt;
+  goes = (tt, tt);
   walked = c.into_iter-edge-iterator.ensures.into_iter_gives ∙ c.edges_to-edge-items.ensures.in_order;
   none = λ k more. absurd (omega arith);
 }
@@ -29,8 +28,7 @@ returns-then-index-gt0-clause-some g c =
 
 pub loop-edge-preserved : goal.loop-edge-preserved
 loop-edge-preserved g c = record {
-  can_next = tt;
-  is_finite = tt;
+  goes = (tt, tt);
   walked = walked_on c.loop-edge.yielded c.loop-edge.edge-iterator _ _ c.in-Some.edge c.loop-edge.invariant.walked c.in-Some.ensures.steps;
   none = each_pushed (λ k. ComesFromLeft c.args.self.now c.args.counts.now.pairs (g.K.Key.data_of c.args.node) k → ⊥) c.loop-edge.yielded c.in-Some.edge c.loop-edge.invariant.none
       (comes_found c.args.self.now c.args.counts.now.pairs (g.K.Key.data_of c.args.node) c.in-Some.edge c.source.result c.index.result.now c.source.ensures.begins

@@ -4,7 +4,7 @@ use Rattle.slotmap_graph.proofs.Followed.{found_first, next_live, not_found, wal
 use Rattle.slotmap_graph.proofs.Graph.find_edge.Goals as goal
 
 pub loop-edge-init : goal.loop-edge-init
-loop-edge-init g c = record { can_next = tt; is_finite = tt; walked = c.into_iter-edge-iterator.ensures.into_iter_gives ∙ c.edges_from-edge-items.ensures.in_order; none = refl }
+loop-edge-init g c = record { goes = (tt, tt); walked = c.into_iter-edge-iterator.ensures.into_iter_gives ∙ c.edges_from-edge-items.ensures.in_order; none = refl }
 
 pub target-requires : goal.target-requires
 target-requires g c =
@@ -20,8 +20,7 @@ returns-then-eq-clause-listed g c = rw c.edges_from-edge-items.ensures.in_order 
 
 pub loop-edge-preserved : goal.loop-edge-preserved
 loop-edge-preserved g c = record {
-  can_next = tt;
-  is_finite = tt;
+  goes = (tt, tt);
   walked = walked_on c.loop-edge.yielded c.loop-edge.edge-iterator _ _ c.in-Some.edge c.loop-edge.invariant.walked c.in-Some.ensures.steps;
   none = not_found c.args.self.now.edges.live c.loop-edge.yielded c.in-Some.edge c.target.result c.inner-to.result c.target.ensures.arrives c.loop-edge.invariant.none (sym c.if-eq.ensures);
 }

@@ -5,7 +5,7 @@ use Rattle.slotmap_graph.proofs.{Cycles.each_pushed, TopologicalOrders.each_coun
 use Rattle.slotmap_graph.proofs.Graph.first_left.Goals as goal
 
 pub loop-node-init : goal.loop-node-init
-loop-node-init g c = record { can_next = tt; is_finite = tt; walked = c.into_iter-node-iterator.ensures.into_iter_gives ∙ c.nodes-node-items.ensures; none = λ x more. absurd (omega arith) }
+loop-node-init g c = record { goes = (tt, tt); walked = c.into_iter-node-iterator.ensures.into_iter_gives ∙ c.nodes-node-items.ensures; none = λ x more. absurd (omega arith) }
 
 pub index-requires : goal.index-requires
 index-requires g c = each_counted c.args.self.now c.args.counts.now.pairs _ c.requires.1 (g.K.Key.data_of c.in-Some.node) (key_live c.args.self.now.nodes.live (g.K.Key.data_of c.in-Some.node)
@@ -13,8 +13,7 @@ index-requires g c = each_counted c.args.self.now c.args.counts.now.pairs _ c.re
 
 pub loop-node-preserved : goal.loop-node-preserved
 loop-node-preserved g c = record {
-  can_next = tt;
-  is_finite = tt;
+  goes = (tt, tt);
   walked = rw map-append (walked_on (list_map g.K.Key.data_of c.loop-node.yielded) c.loop-node.node-iterator _ _ (g.K.Key.data_of c.in-Some.node) c.loop-node.invariant.walked c.in-Some.ensures.steps);
   none = rw map-append (each_pushed (λ x. get c.args.counts.now.pairs x ≡ Some 0) (list_map g.K.Key.data_of c.loop-node.yielded) (g.K.Key.data_of c.in-Some.node)
       c.loop-node.invariant.none (grind arith));

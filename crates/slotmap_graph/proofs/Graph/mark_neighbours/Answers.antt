@@ -7,8 +7,7 @@ use Rattle.slotmap_graph.proofs.Graph.mark_neighbours.Goals as goal
 
 pub loop-edge-init : goal.loop-edge-init
 loop-edge-init g c = record {
-  can_next = tt;
-  is_finite = tt;
+  goes = (tt, tt);
   walked = c.into_iter-edge-iterator.ensures.into_iter_gives ∙ c.edges_from-edge-items.ensures.in_order;
   finds = finds_start c.args.self.now.nodes c.args.self.now.edges.live (g.K.Key.data_of c.args.node) c.args.seen.now.pairs _ c.requires.listed c.requires.live;
   pending = rw c.into_iter-edge-iterator.ensures.into_iter_gives (pending_start c.args.self.now.edges.live (g.K.Key.data_of c.args.node) c.edges_from-edge-items.result
@@ -41,8 +40,7 @@ loop-edge-preserved g c =
     let others = rw c.outer.ensures at c.mark.ensures.others in
     let keeps = marked_keeps c.loop-edge.seen.pairs c.mark.new.seen.pairs end there others in
     record {
-      can_next = tt;
-      is_finite = tt;
+      goes = (tt, tt);
       walked = walked_on c.loop-edge.yielded c.loop-edge.edge-iterator _ _ x so_far.walked c.in-Some.ensures.steps;
       finds = finds_step c.args.self.now.nodes edges node c.args.seen.now.pairs _ c.loop-edge.seen.pairs _ so_far.finds end c.target.ensures.live joins
           c.mark.new.seen.pairs _ c.in_ok-mark.ensures.listed (goes_on _ _ end marks) there others;
@@ -51,14 +49,10 @@ loop-edge-preserved g c =
           ∙ ap (fold marked (list_map g.K.Key.data_of c.args.found.now.items)) (sym (one_more edges c.loop-edge.yielded x to end c.target.ensures.arrives));
     }
 
-pub returns-clause-finds : goal.returns-clause-finds
-returns-clause-finds g c = c.loop-edge.invariant.finds
-
-pub returns-clause-next : goal.returns-clause-next
-returns-clause-next g c = pending_end c.args.self.now.edges.live (g.K.Key.data_of c.args.node) c.loop-edge.edge-iterator c.loop-edge.seen.pairs c.in-None.ensures.steps.0 c.loop-edge.invariant.pending
-
-pub returns-clause-order : goal.returns-clause-order
-returns-clause-order g c =
-    c.loop-edge.invariant.order
-    ∙ ap (λ ks. fold marked (list_map g.K.Key.data_of c.args.found.now.items) (ends_along to c.args.self.now.edges.live ks))
-    (walked c.loop-edge.yielded c.loop-edge.edge-iterator _ c.loop-edge.invariant.walked c.in-None.ensures.steps.0)
+pub returns : goal.returns
+returns g c = let edges = c.args.self.now.edges.live in let so_far = c.loop-edge.invariant in let end = c.in-None.ensures.steps.0 in record {
+  finds = so_far.finds;
+  next = pending_end edges (g.K.Key.data_of c.args.node) c.loop-edge.edge-iterator c.loop-edge.seen.pairs end so_far.pending;
+  order = so_far.order ∙ ap (λ ks. fold marked (list_map g.K.Key.data_of c.args.found.now.items) (ends_along to edges ks))
+      (walked c.loop-edge.yielded c.loop-edge.edge-iterator _ so_far.walked end);
+}

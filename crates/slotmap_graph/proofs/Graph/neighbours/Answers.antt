@@ -5,8 +5,7 @@ use Rattle.slotmap_graph.proofs.Graph.neighbours.Goals as goal
 
 pub loop-edge-init : goal.loop-edge-init
 loop-edge-init g c = record {
-  can_next = tt;
-  is_finite = tt;
+  goes = (tt, tt);
   walked = c.into_iter-edge-iterator.ensures.into_iter_gives ∙ c.edges_from-edge-items.ensures.in_order;
   found = ap (list_map g.K.Key.data_of) c.new-found.ensures.items;
 }
@@ -20,8 +19,7 @@ pub loop-edge-preserved : goal.loop-edge-preserved
 loop-edge-preserved g c =
     let edges = c.args.self.now.edges.live in
     record {
-      can_next = tt;
-      is_finite = tt;
+      goes = (tt, tt);
       walked = walked_on c.loop-edge.yielded c.loop-edge.edge-iterator _ _ c.in-Some.edge c.loop-edge.invariant.walked c.in-Some.ensures.steps;
       found = ap (list_map g.K.Key.data_of) c.in_ok-push.ensures.items ∙ map-append g.K.Key.data_of c.loop-edge.found.items (c.outer.result ∷ [])
           ∙ ap (λ l. l ++ g.K.Key.data_of c.outer.result ∷ []) c.loop-edge.invariant.found ∙ ap (λ k. ends_along to edges c.loop-edge.yielded ++ k ∷ []) c.outer.ensures

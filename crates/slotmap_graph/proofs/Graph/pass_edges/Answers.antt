@@ -6,8 +6,7 @@ use Rattle.slotmap_graph.proofs.Graph.pass_edges.Goals as goal
 
 pub loop-edge-init : goal.loop-edge-init
 loop-edge-init g c = record {
-  can_next = tt;
-  is_finite = tt;
+  goes = (tt, tt);
   walked = c.into_iter-edge-iterator.ensures.into_iter_gives ∙ c.edges_from-edge-items.ensures.in_order;
   goes_on = ([], sym (append-nil (list_map g.K.Key.data_of c.args.found.now.items)));
   sorting = rw append-nil c.requires.sorting;
@@ -40,8 +39,7 @@ loop-edge-preserved g c =
     c.loop-edge.edge-iterator c.next.new.self c.in-Some.edge c.target.result c.loop-edge.invariant.goes_on c.loop-edge.invariant.sorting c.loop-edge.invariant.walked c.in-Some.ensures.steps
     c.target.ensures.arrives c.target.ensures.live c.pass.new.counts.pairs _ here others found_is in
     record {
-      can_next = tt;
-      is_finite = tt;
+      goes = (tt, tt);
       walked = walked_on c.loop-edge.yielded c.loop-edge.edge-iterator _ _ c.in-Some.edge c.loop-edge.invariant.walked c.in-Some.ensures.steps;
       goes_on = passed.0;
       sorting = passed.1;

@@ -60,25 +60,20 @@ loop-at-preserved g c =
           c.in_ok-mark_neighbours.ensures.order;
     }
 
-pub returns-clause-once : goal.returns-clause-once
-returns-clause-once g c x = listed_once c.loop-at.seen.pairs (list_map g.K.Key.data_of c.loop-at.found.items) c.loop-at.invariant.searching.listed x
-
-pub returns-clause-found_is_reachable : goal.returns-clause-found_is_reachable
-returns-clause-found_is_reachable g c x more =
-    (searching_found c.args.self.now.nodes c.args.self.now.edges.live (g.K.Key.data_of c.args.from) c.loop-at.seen.pairs _ c.loop-at.at c.loop-at.invariant.searching x more).1
-
-pub returns-clause-reachable_is_found : goal.returns-clause-reachable_is_found
-returns-clause-reachable_is_found g c x live leads = let keys = list_map g.K.Key.data_of c.loop-at.found.items in
-    let long : length keys ≡ length c.loop-at.found.items = length-map c.loop-at.found.items g.K.Key.data_of in let past : length keys ≤ c.loop-at.at = omega (arith, c.loop-at.found.ok.0, long) in
-    searching_all c.args.self.now.nodes c.args.self.now.edges.live (g.K.Key.data_of c.args.from) c.loop-at.seen.pairs keys c.loop-at.at c.loop-at.invariant.searching past x leads
-
-pub returns-clause-live : goal.returns-clause-live
-returns-clause-live g c x more = (
-  rw (← c.self.view_is) (sym c.contains_key.ensures.value ∙ c.if-not-contains_key.false),
-  (searching_found c.args.self.now.nodes c.args.self.now.edges.live (g.K.Key.data_of c.args.from) c.loop-at.seen.pairs _ c.loop-at.at c.loop-at.invariant.searching x more).0,
-)
-
-pub returns-clause-in_order : goal.returns-clause-in_order
-returns-clause-in_order g c live = let keys = list_map g.K.Key.data_of c.loop-at.found.items in
-    let long : length keys ≡ length c.loop-at.found.items = length-map c.loop-at.found.items g.K.Key.data_of in let past : length keys ≤ c.loop-at.at = omega (arith, c.loop-at.found.ok.0, long) in
-    order_end (λ k. ends_along to c.args.self.now.edges.live (edges_at c.args.self.now.out k)) (g.K.Key.data_of c.args.from) keys c.loop-at.at c.loop-at.invariant.order past
+pub returns : goal.returns
+returns g c =
+    let nodes = c.args.self.now.nodes in
+    let edges = c.args.self.now.edges.live in
+    let from = g.K.Key.data_of c.args.from in
+    let seen = c.loop-at.seen.pairs in
+    let keys = list_map g.K.Key.data_of c.loop-at.found.items in
+    let searching = c.loop-at.invariant.searching in
+    let long : length keys ≡ length c.loop-at.found.items = length-map c.loop-at.found.items g.K.Key.data_of in
+    let past : length keys ≤ c.loop-at.at = omega (arith, c.loop-at.found.ok.0, long) in
+    record {
+      once = listed_once seen keys searching.listed;
+      found_is_reachable = λ x more. (searching_found nodes edges from seen keys c.loop-at.at searching x more).1;
+      reachable_is_found = λ x live leads. searching_all nodes edges from seen keys c.loop-at.at searching past x leads;
+      live = λ x more. (rw (← c.self.view_is) (sym c.contains_key.ensures.value ∙ c.if-not-contains_key.false), (searching_found nodes edges from seen keys c.loop-at.at searching x more).0);
+      in_order = λ live. order_end (λ k. ends_along to edges (edges_at c.args.self.now.out k)) from keys c.loop-at.at c.loop-at.invariant.order past;
+    }

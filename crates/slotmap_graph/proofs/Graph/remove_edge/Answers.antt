@@ -1,15 +1,15 @@
 use Rattle.slotmap_graph.proofs.Common.{true, is_some, ap, sym, from, to, leaves_by_removal, removed_spent, spent_removes}
-use Rattle.slotmap_graph.proofs.GraphSteps.{lacks}
+use Rattle.slotmap_graph.proofs.Adjacent.{absent_unlisted}
 use Rattle.slotmap_graph.proofs.Threaded.{left_seen, left_threaded, lists, owner_within}
 use Rattle.slotmap_graph.proofs.Graph.remove_edge.Goals as goal
 
 pub returns-in_err-removed-clause-out : goal.returns-in_err-removed-clause-out
 returns-in_err-removed-clause-out g c k = rw (c.in_err-removed.ensures.unchanged, ← c.self.view_is)
-    (lacks from c.self.inside.edges.live c.args.edge (sym c.in_err-removed.ensures.value) k _ (lists c.self.invariant.out k))
+    (sym (absent_unlisted from c.self.inside.edges.live c.args.edge (sym c.in_err-removed.ensures.value) k _ (lists c.self.invariant.out k)))
 
 pub returns-in_err-removed-clause-into : goal.returns-in_err-removed-clause-into
 returns-in_err-removed-clause-into g c k = rw (c.in_err-removed.ensures.unchanged, ← c.self.view_is)
-    (lacks to c.self.inside.edges.live c.args.edge (sym c.in_err-removed.ensures.value) k _ (lists c.self.invariant.into k))
+    (sym (absent_unlisted to c.self.inside.edges.live c.args.edge (sym c.in_err-removed.ensures.value) k _ (lists c.self.invariant.into k)))
 
 pub take_out-requires-clause-node : goal.take_out-requires-clause-node
 take_out-requires-clause-node g c = rw c.ends-from.ensures (owner_within c.self.invariant.out _ (c.self.invariant.out.ends c.args.edge _ (sym c.in_ok-removed.ensures.value)))

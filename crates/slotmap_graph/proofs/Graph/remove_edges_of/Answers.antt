@@ -5,16 +5,14 @@ use Rattle.slotmap_graph.proofs.GraphSteps.{none_from, none_to}
 use Rattle.slotmap_graph.proofs.Graph.remove_edges_of.Goals as goal
 
 pub loop-edge-init : goal.loop-edge-init
-loop-edge-init g c =
-    record {
-      thinned = thinned_start (g.K.Key.data_of
-          c.args.node) c.args.self.now.edges c.args.self.now.edges refl;
-      leaves = leaves_none c.args.self.now.edges;
-      capacity = refl;
-      nodes = refl;
-      out = λ k. refl;
-      into = λ k. refl;
-    }
+loop-edge-init g c = record {
+  thinned = thinned_start (g.K.Key.data_of c.args.node) c.args.self.now.edges c.args.self.now.edges refl;
+  leaves = leaves_none c.args.self.now.edges;
+  capacity = refl;
+  nodes = refl;
+  out = λ k. refl;
+  into = λ k. refl;
+}
 
 pub loop-edge-smaller : goal.loop-edge-smaller
 loop-edge-smaller g c = let less = len_removed keys_total exact_keys c.loop-edge.self.edges.live c.in-Some.edge (ap is_some c.in-Some.ensures.some.1) in rw c.remove_edge.ensures.live (omega arith)
@@ -35,32 +33,22 @@ loop-edge-preserved-in-Some g c =
       into = λ k. rw (c.remove_edge.ensures.live, c.remove_edge.ensures.into k) (thin_step now (edges_at c.args.self.now.into k) (edges_at c.loop-edge.self.into k) (so_far.into k) c.in-Some.edge);
     }
 
-pub returns-clause-edges : goal.returns-clause-edges
-returns-clause-edges g c = thinned_end (g.K.Key.data_of c.args.node) c.args.self.now.edges c.loop-edge.self.edges c.loop-edge.invariant.thinned c.in_default.ensures.none
-
-pub returns-clause-for_good : goal.returns-clause-for_good
-returns-clause-for_good g c = thinned_spent (g.K.Key.data_of c.args.node) c.args.self.now.edges c.loop-edge.self.edges c.loop-edge.invariant.thinned c.in_default.ensures.none
-
-pub returns-clause-out : goal.returns-clause-out
-returns-clause-out g c k = thin_end c.loop-edge.self.edges.live (edges_at c.args.self.now.out k) (edges_at c.loop-edge.self.out k) (c.loop-edge.invariant.out k) from k (c.in_default.ensures.out k)
-
-pub returns-clause-into : goal.returns-clause-into
-returns-clause-into g c k = thin_end c.loop-edge.self.edges.live (edges_at c.args.self.now.into k) (edges_at c.loop-edge.self.into k) (c.loop-edge.invariant.into k) to k (c.in_default.ensures.into k)
-
-pub returns-clause-nodes : goal.returns-clause-nodes
-returns-clause-nodes g c = c.loop-edge.invariant.nodes
-
-pub returns-clause-gone : goal.returns-clause-gone
-returns-clause-gone g c = c.loop-edge.invariant.thinned.keeps
-
-pub returns-clause-leaves : goal.returns-clause-leaves
-returns-clause-leaves g c = c.loop-edge.invariant.leaves
-
-pub returns-clause-capacity : goal.returns-clause-capacity
-returns-clause-capacity g c = c.loop-edge.invariant.capacity
-
-pub returns-clause-none_out : goal.returns-clause-none_out
-returns-clause-none_out g c = none_from c.loop-edge.self.edges.live (g.K.Key.data_of c.args.node) c.in_default.ensures.none _ (c.in_default.ensures.out (g.K.Key.data_of c.args.node))
-
-pub returns-clause-none_into : goal.returns-clause-none_into
-returns-clause-none_into g c = none_to c.loop-edge.self.edges.live (g.K.Key.data_of c.args.node) c.in_default.ensures.none _ (c.in_default.ensures.into (g.K.Key.data_of c.args.node))
+pub returns : goal.returns
+returns g c =
+    let node = g.K.Key.data_of c.args.node in
+    let old = c.args.self.now in
+    let now = c.loop-edge.self in
+    let so_far = c.loop-edge.invariant in
+    let end = c.in_default.ensures in
+    record {
+      edges = thinned_end node old.edges now.edges so_far.thinned end.none;
+      for_good = thinned_spent node old.edges now.edges so_far.thinned end.none;
+      leaves = so_far.leaves;
+      capacity = so_far.capacity;
+      out = λ k. thin_end now.edges.live (edges_at old.out k) (edges_at now.out k) (so_far.out k) from k (end.out k);
+      into = λ k. thin_end now.edges.live (edges_at old.into k) (edges_at now.into k) (so_far.into k) to k (end.into k);
+      none_out = none_from now.edges.live node end.none _ (end.out node);
+      none_into = none_to now.edges.live node end.none _ (end.into node);
+      nodes = so_far.nodes;
+      gone = so_far.thinned.keeps;
+    }

@@ -1,8 +1,8 @@
 use Rattle.std.proofs.Common.{◌≡◌, ◌<◌, ◌∙◌}
 use Rattle.slotmap_graph.proofs.Common.{length, sym, ap, arith, list_map, get_or-map, length-map, IsJoined, Sorting, edges_out}
 use Rattle.slotmap_graph.proofs.GraphSteps.{graph_joined}
-use Rattle.slotmap_graph.proofs.TopologicalOrders.{IsOrder, ended, found_fits, ordered, sorting_start}
-use Rattle.slotmap_graph.proofs.Graph.topological_order.Goals.{After-loop-at, In-None}
+use Rattle.slotmap_graph.proofs.TopologicalOrders.{ended, found_fits, ordered, sorting_start}
+use Rattle.slotmap_graph.proofs.Graph.topological_order.Goals.{After-loop-at}
 use Rattle.slotmap_graph.proofs.Graph.topological_order.Goals as goal
 
 pub count_all-requires-clause-valid : goal.count_all-requires-clause-valid
@@ -31,21 +31,11 @@ sorted g c = let long = length-map c.loop-at.found.items g.K.Key.data_of in ende
 pub first_left-requires : goal.first_left-requires
 first_left-requires g c = (list_map g.K.Key.data_of c.loop-at.found.items, sorted g (goal.at.first_left-requires g c).After-loop-at)
 
-order : (g : _) (c : In-None g) → IsOrder c.args.self.now (list_map g.K.Key.data_of c.loop-at.found.items)
-order g c =
+pub returns-in-None : goal.returns-in-None
+returns-in-None g c =
     let joined : IsJoined c.args.self.now = rw (← c.self.view_is) (graph_joined _ _ _ _ c.self.invariant) in
-    let long = length-map c.loop-at.found.items g.K.Key.data_of in
-    ordered c.args.self.now joined c.loop-at.counts.pairs _ (ended c.args.self.now c.loop-at.counts.pairs _ c.loop-at.at (omega (arith, c.loop-at.found.ok.0, long))
-    c.loop-at.invariant) c.in-None.ensures.none
-
-pub returns-in-None-clause-once : goal.returns-in-None-clause-once
-returns-in-None-clause-once g c = (order g (goal.at.returns-in-None-clause-once g c).In-None).once
-
-pub returns-in-None-clause-forward : goal.returns-in-None-clause-forward
-returns-in-None-clause-forward g c = (order g (goal.at.returns-in-None-clause-forward g c).In-None).forward
-
-pub returns-in-None-clause-acyclic : goal.returns-in-None-clause-acyclic
-returns-in-None-clause-acyclic g c = (order g (goal.at.returns-in-None-clause-acyclic g c).In-None).acyclic
+    let order = ordered c.args.self.now joined c.loop-at.counts.pairs _ (sorted g (goal.at.returns-in-None g c).After-loop-at) c.in-None.ensures.none in
+    record { once = order.once; forward = order.forward; acyclic = order.acyclic; err = tt }
 
 pub closing_edge-requires-clause-valid : goal.closing_edge-requires-clause-valid
 closing_edge-requires-clause-valid g c = rw (← c.self.view_is) (c.len.ensures.valid)
