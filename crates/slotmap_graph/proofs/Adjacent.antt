@@ -1,7 +1,9 @@
--- The lists of the edges of each node: what is in them, and what a change of the edges asks of them.
-use Rattle.std.proofs.Common.{◌≡◌, ◌≢◌, ◌<◌, ◌≤◌, ◌∷◌, ◌∙◌}
-use Rattle.slotmap_graph.proofs.Common.{Some, None, List, [], refl, ap, arith, Key, same, times, without, one_itself, one_other, times_first, without_none, SeenEdge, Edges, ends_at, ListsEdges}
-use Rattle.slotmap_graph.proofs.Common.{false, edges_at, from, IsJoined, IsLive, Seen, to}
+-- The edges in a node's list and their other ends: what is in it, what a change of the edges asks of it, and walks along it.
+use Rattle.std.proofs.Common.{◌≡◌, ◌≢◌, ◌<◌, ◌≤◌, ◌∷◌, ◌∙◌, ◌+◌, ◌++◌}
+use Rattle.slotmap_graph.proofs.Common.{Some, None, List, [], refl, ap, arith, Key, same, times, without, one_itself, one_other, times_first, without_none, SeenEdge, Edges, ends_at, ListsEdges, false}
+use Rattle.slotmap_graph.proofs.Common.{edges_at, from, IsJoined, IsLive, Seen, to, ℕ, suc, true, cond, Option, is_some, length, get_or, take, option_map, sym, append-nil, append_assoc, nat_eq}
+use Rattle.slotmap_graph.proofs.Common.{cons_option, find, fold, take_more, take_all, take-append-le, filter_map-append, find-append, fold-append, is_key, times_joined, GoesOn, HasEdge}
+use Rattle.slotmap_graph.proofs.Common.{IsBreadthFirst, ends_along, entries_along, first_or, goes_to, marked, MatchOption}
 use Rattle.std.specs.FinMap as map
 
 module _ {E : Type 0} (end : SeenEdge E → Key) (edges : Edges E) where
@@ -50,3 +52,96 @@ module _ {N E : Type 0} (s : Seen N E) (joined : IsJoined s) (k : Key) (gone : m
 
   pub gone_into : edges_at s.into k ≡ []
   gone_into = nothing_listed to s.edges.live k (edges_at s.into k) (joined.into k) (λ x e there. (gone_apart x e there).1)
+
+-- a walk along a list: what was passed, and what is ahead
+pub walked_on : (passed ahead rest all : List Key) (x : Key) → passed ++ ahead ≡ all → ahead ≡ x ∷ rest → (passed ++ x ∷ []) ++ rest ≡ all
+walked_on passed ahead rest all x so_far next = grind (arith, append_assoc passed (x ∷ []) rest)
+
+pub walked_in : (passed ahead rest all : List Key) (x : Key) → passed ++ ahead ≡ all → ahead ≡ x ∷ rest → 0 < times x all
+walked_in passed ahead rest all x so_far next = grind (arith, times_joined x passed (x ∷ rest), times_first x x rest, one_itself x)
+
+pub walked : (passed ahead all : List Key) → passed ++ ahead ≡ all → ahead ≡ [] → passed ≡ all
+walked passed ahead all so_far none = grind (arith, append-nil passed)
+
+-- each edge has one end at most
+module _ {E : Type 0} (end : SeenEdge E → Key) (edges : Edges E) where
+  one_end : (o : Option Key) (ends : List Key) (n : ℕ) → length ends ≤ n → length (cons_option o ends) ≤ suc n
+  one_end o ends n less = grind (arith, less)
+
+  pub ends_less : (ks : List Key) → length (ends_along end edges ks) ≤ length ks
+  ends_less [] = omega arith
+  ends_less (k ∷ ks) = one_end (option_map end (map.get edges k)) (ends_along end edges ks) (length ks) (ends_less ks)
+
+  -- the end of the first edge comes first
+  pub first_end : (k : Key) (e : SeenEdge E) (ks : List Key) → map.get edges k ≡ Some e → ends_along end edges (k ∷ ks) ≡ end e ∷ ends_along end edges ks
+  first_end k e ks there = grind (arith, there)
+
+-- the edge of the first key comes first
+pub first_entry : {E : Type 0} (edges : Edges E) (k : Key) (e : SeenEdge E) (ks : List Key) → map.get edges k ≡ Some e → entries_along edges (k ∷ ks) ≡ (k, e) ∷ entries_along edges ks
+first_entry edges k e ks there = ap (λ o. cons_option (option_map (λ e. (k, e)) o) (entries_along edges ks)) there
+
+-- what the first step of an iterator over a list yields
+pub first_step : (ks rest : List Key) (found : Option Key) → MatchOption found ((ks ≡ []) × (rest ≡ [])) (λ x. ks ≡ x ∷ rest) → found ≡ first_or ks None
+first_step ks rest found step = grind arith
+
+-- the next edge of a walk along the edges of a node
+module _ {E : Type 0} (end : SeenEdge E → Key) (edges : Edges E) (node : Key) (all : List Key) (lists : ListsEdges end edges node all) (passed ahead rest : List Key)
+    (x : Key) (so_far : passed ++ ahead ≡ all) (next : ahead ≡ x ∷ rest) where
+  pub next_edge : (e : SeenEdge E) × (map.get edges x ≡ Some e) × (end e ≡ node)
+  next_edge = listed_edge end edges node all lists x (walked_in passed ahead rest all x so_far next)
+
+  pub next_live : map.contains_key edges x ≡ true
+  next_live = ap is_some next_edge.1
+
+module _ {E : Type 0} (edges : Edges E) (node : Key) (all : List Key) (lists : ListsEdges from edges node all) (passed ahead rest : List Key) (x : Key)
+    (so_far : passed ++ ahead ≡ all) (next : ahead ≡ x ∷ rest) where
+  abbrev this : (e : SeenEdge E) × (map.get edges x ≡ Some e) × (e.from ≡ node)
+  this = next_edge from edges node all lists passed ahead rest x so_far next
+
+  pub next_seen : (b : Key) → option_map to (map.get edges x) ≡ Some b → (v : E) × (map.get edges x ≡ Some (record { from = node; to = b; value = v }))
+  next_seen b arrives = (this.0.value, grind (arith, this.1, this.2))
+
+  pub next_joins : (b : Key) → option_map to (map.get edges x) ≡ Some b → HasEdge edges node b
+  next_joins b arrives = let seen = next_seen b arrives in (x, record { from = node; to = b; value = seen.0 }, seen.1, refl, refl)
+
+module _ {E : Type 0} (edges : Edges E) (passed : List Key) (x : Key) where
+  pub one_more : (end : SeenEdge E → Key) (b : Key) → option_map end (map.get edges x) ≡ Some b → ends_along end edges (passed ++ x ∷ []) ≡ ends_along end edges passed ++ b ∷ []
+  one_more end b is = grind (arith, filter_map-append (λ k. option_map end (map.get edges k)) passed (x ∷ []))
+
+  module _ (a b : Key) (arrives : option_map to (map.get edges x) ≡ Some a) (before : find (goes_to edges b) passed ≡ None) where
+    at_x : goes_to edges b x ≡ is_key a b
+    at_x = grind (arith, arrives)
+
+    pub not_found : is_key a b ≡ false → find (goes_to edges b) (passed ++ x ∷ []) ≡ None
+    not_found other = grind (arith, find-append (goes_to edges b) passed (x ∷ []), before, at_x)
+
+    pub found_first : (ahead rest all : List Key) → passed ++ ahead ≡ all → ahead ≡ x ∷ rest → is_key a b ≡ true → find (goes_to edges b) all ≡ Some x
+    found_first ahead rest all so_far next this = grind (arith, so_far, next, find-append (goes_to edges b) passed (x ∷ rest), before, at_x)
+
+pub taken : (ks : List Key) (i : ℕ) (x : Key) → i < length ks → x ≡ get_or ks i x → take (i + 1) ks ≡ take i ks ++ x ∷ []
+taken ks i x below is = take_more ks i x below ∙ ap (λ q. take i ks ++ q ∷ []) (sym is)
+
+-- a mark changes nothing in front
+marked_behind : (ks : List Key) (k : Key) → GoesOn ks (marked ks k)
+marked_behind ks k = elim (nat_eq (times k ks) 0) as (λ b. GoesOn ks (cond b (ks ++ k ∷ []) ks)) [
+  | true ↦ (k ∷ [], refl)
+  | false ↦ ([], sym (append-nil ks))
+]
+
+pub goes_on : (found now : List Key) (k : Key) → now ≡ marked found k → GoesOn found now
+goes_on found now k is = let more = marked_behind found k in (more.0, is ∙ more.1)
+
+-- the search goes on from the next node that was found
+module _ (next : Key → List Key) (start : Key) (found : List Key) (at : ℕ) (so_far : found ≡ fold (λ ks k. fold marked ks (next k)) (start ∷ []) (take at found)) where
+  pub order_step : (a : Key) → at < length found → a ≡ get_or found at a → (now : List Key) → GoesOn found now → now ≡ fold marked found (next a)
+      → now ≡ fold (λ ks k. fold marked ks (next k)) (start ∷ []) (take (at + 1) now)
+  order_step a below is now more made = let step : List Key → Key → List Key = λ ks k. fold marked ks (next k) in
+      let front : take (at + 1) now ≡ take at found ++ a ∷ [] = ap (take (at + 1)) more.1 ∙ take-append-le (at + 1) found more.0 (omega arith) ∙ taken found at a below is in
+      grind (arith, front, fold-append step (start ∷ []) (take at found) (a ∷ []), so_far, made)
+
+  pub order_end : length found ≤ at → IsBreadthFirst next start found
+  order_end past = so_far ∙ ap (fold (λ ks k. fold marked ks (next k)) (start ∷ [])) (take_all at found past)
+
+-- more marks, in turn
+pub marks_step : (ks xs now : List Key) (half : List Key) (x : Key) → half ≡ fold marked ks xs → now ≡ marked half x → now ≡ fold marked ks (xs ++ x ∷ [])
+marks_step ks xs now half x so_far is = is ∙ ap (λ l. marked l x) so_far ∙ sym (fold-append marked ks xs (x ∷ []))

@@ -3,8 +3,7 @@
 use Rattle.std.proofs.Common.{◌≡◌, ◌≢◌, ◌<◌, ◌≤◌, ◌∷◌, ◌++◌, ◌∙◌, map as list_map}
 use Rattle.slotmap_graph.proofs.Common.{ℕ, suc, false, cond, Option, Some, None, List, [], length, get_or, refl, sym, ap, arith, Key, is_key, times, times_first, append-nil, append_assoc, same_Some}
 use Rattle.slotmap_graph.proofs.Common.{same_or_other, is_itself, one_other, times_pushed, without, first_or, key_after, in_midst, Content, Edges, SeenEdge, ListsEdges, with_edge, get-insert_here}
-use Rattle.slotmap_graph.proofs.Common.{get-insert_other, one_itself, times_joined, without_none, Bool, true, find, from, goes_to, HasEdge, is_other}
-use Rattle.slotmap_graph.proofs.Common.{exact_keys, IsJoined, key_cmp, keys_total, Seen}
+use Rattle.slotmap_graph.proofs.Common.{get-insert_other, one_itself, times_joined, without_none, Bool, true, find, from, goes_to, HasEdge, is_other, exact_keys, IsJoined, key_cmp, keys_total, Seen}
 use Rattle.slotmap.proofs.Callers.{some_entry}
 use Rattle.slotmap_graph.proofs.Adjacent.{listed_once}
 -- which edges the list of a node has

@@ -1,9 +1,6 @@
 mod Adjacent
 pub mod Callers
 mod Common
-mod Counted
-mod Cycles
-mod Followed
 mod GraphSteps
 mod Indices
 mod Searches

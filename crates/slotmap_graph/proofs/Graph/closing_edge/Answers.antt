@@ -1,7 +1,7 @@
 use Rattle.std.proofs.Common.{◌∙◌}
 use Rattle.slotmap_graph.proofs.Common.{ap, arith, is_some, length-map, list_map, sym}
 use Rattle.slotmap_graph.proofs.GraphSteps.{puts_alone}
-use Rattle.slotmap_graph.proofs.Cycles.{back_start, back_step, back_end, back_fits, must_be}
+use Rattle.slotmap_graph.proofs.Searches.{back_start, back_step, back_end, back_fits, must_be}
 use Rattle.slotmap_graph.proofs.Graph.closing_edge.Goals as goal
 
 pub loop-passed-init : goal.loop-passed-init

@@ -1,8 +1,8 @@
 use Rattle.std.proofs.Common.{◌∙◌}
 use Rattle.slotmap_graph.proofs.Common.{arith, edges_at, to, ComesFromLeft}
-use Rattle.slotmap_graph.proofs.{Adjacent.edge_listed, TopologicalOrders.each_counted, TopologicalOrders.left_before}
-use Rattle.slotmap_graph.proofs.Followed.{next_edge, next_live, walked, walked_on}
-use Rattle.slotmap_graph.proofs.Cycles.{comes_found, comes_left, each_pushed}
+use Rattle.slotmap_graph.proofs.Adjacent.{edge_listed, next_edge, next_live, walked, walked_on}
+use Rattle.slotmap_graph.proofs.TopologicalOrders.{each_counted, left_before}
+use Rattle.slotmap_graph.proofs.Searches.{comes_found, comes_left, each_pushed}
 use Rattle.slotmap_graph.proofs.Graph.edge_from_left.Goals as goal
 
 pub loop-edge-init : goal.loop-edge-init

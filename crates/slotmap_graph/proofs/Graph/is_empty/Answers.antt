@@ -1,5 +1,4 @@
-use Rattle.slotmap_graph.proofs.Common.{arith, nat_tests}
-use Rattle.slotmap_graph.proofs.Callers.{no_edges}
+use Rattle.slotmap_graph.proofs.{Common.arith, Common.nat_tests, Callers.no_edges}
 use Rattle.slotmap_graph.proofs.Graph.is_empty.Goals as goal
 
 pub returns-clause-edges : goal.returns-clause-edges

@@ -1,6 +1,6 @@
 use Rattle.std.proofs.Common.{◌∷◌, ◌∙◌}
 use Rattle.slotmap_graph.proofs.Common.{length, sym, ap, arith, ends_along, far_end, keys_at}
-use Rattle.slotmap_graph.proofs.Followed.{first_end}
+use Rattle.slotmap_graph.proofs.Adjacent.{first_end}
 use Rattle.slotmap_bounded.proofs.Indices.{front_has, front_key}
 use Rattle.slotmap_graph.proofs.neighbours.NeighboursIterator.next.Goals as goal
 

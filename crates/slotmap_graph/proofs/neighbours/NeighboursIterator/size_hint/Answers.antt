@@ -1,5 +1,5 @@
 use Rattle.slotmap_graph.proofs.Common.{arith, length-map, far_end, key_at, keys_at}
-use Rattle.slotmap_graph.proofs.Followed.{ends_less}
+use Rattle.slotmap_graph.proofs.Adjacent.{ends_less}
 use Rattle.slotmap_graph.proofs.neighbours.NeighboursIterator.size_hint.Goals as goal
 
 pub returns-clause-upper : goal.returns-clause-upper

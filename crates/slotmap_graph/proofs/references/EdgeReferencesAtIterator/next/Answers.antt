@@ -1,6 +1,6 @@
 use Rattle.std.proofs.Common.{◌≡◌, ◌∷◌, ◌∙◌}
 use Rattle.slotmap_graph.proofs.Common.{length, sym, ap, arith, entries_along, keys_at, SeenEdge, Key}
-use Rattle.slotmap_graph.proofs.Followed.{first_entry}
+use Rattle.slotmap_graph.proofs.Adjacent.{first_entry}
 use Rattle.slotmap_bounded.proofs.Indices.{front_has, front_key}
 use Rattle.slotmap_graph.proofs.references.EdgeReferencesAtIterator.next.Goals as goal
 use Rattle.slotmap_graph.proofs.references.EdgeReferencesAtIterator.next.Goals.{After-outer-2}
