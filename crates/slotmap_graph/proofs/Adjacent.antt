@@ -1,9 +1,10 @@
 -- The edges in a node's list and their other ends: what is in it, what a change of the edges asks of it, and walks along it.
-use Rattle.std.proofs.Common.{◌≡◌, ◌≢◌, ◌<◌, ◌≤◌, ◌∷◌, ◌∙◌, ◌+◌, ◌++◌}
-use Rattle.slotmap_graph.proofs.Common.{Some, None, List, [], refl, ap, arith, Key, same, times, without, one_itself, one_other, times_first, without_none, SeenEdge, Edges, ends_at, ListsEdges, false}
-use Rattle.slotmap_graph.proofs.Common.{edges_at, from, IsJoined, IsLive, Seen, to, ℕ, suc, true, cond, Option, is_some, length, get_or, take, option_map, sym, append-nil, append_assoc, nat_eq}
-use Rattle.slotmap_graph.proofs.Common.{cons_option, find, fold, take_more, take_all, take-append-le, filter_map-append, find-append, fold-append, is_key, times_joined, GoesOn, HasEdge}
-use Rattle.slotmap_graph.proofs.Common.{IsBreadthFirst, ends_along, entries_along, first_or, goes_to, marked, MatchOption}
+use Rattle.slotmap_graph.proofs.Common.{Option, option_map, append_assoc, MatchOption, times_first, without_none, times_joined, cons_option, take-append-le, fold-append, IsBreadthFirst, entries_along}
+use Rattle.slotmap_graph.proofs.Common.{◌∙◌, is_some, append-nil, without, one_itself, one_other, SeenEdge, ends_at, ListsEdges, edges_at, IsJoined, take_more, take_all, ends_along, first_or}
+use Rattle.slotmap_graph.proofs.Common.{Some, None, List, refl, arith, false, ℕ, true, cond, length, get_or, take, nat_eq, IsLive, same, times, is_key, Edges, from, GoesOn, HasEdge, goes_to, marked}
+use Rattle.slotmap_graph.proofs.Common.{[], ap, suc, sym, Key, Seen, to, find, fold}
+use Rattle.std.proofs.Common.{◌≡◌, ◌≢◌, ◌<◌, ◌≤◌, ◌∷◌, ◌+◌, ◌++◌}
+use Rattle.std.proofs.lemmas.List.{Elements.filter_map-append, Folds.find-append}
 use Rattle.std.specs.FinMap as map
 
 module _ {E : Type 0} (end : SeenEdge E → Key) (edges : Edges E) where

@@ -1,10 +1,10 @@
 -- What callers of a graph cite: the nodes that a search didn't find, the edges in the list of a node, loops along these, and
 -- written values.
-use Rattle.std.proofs.Common.{◌≡◌, ◌≢◌, ◌<◌, ◌≤◌, ◌∷◌, ◌++◌, ◌∙◌, map as list_map}
-use Rattle.slotmap_graph.proofs.Common.{ℕ, suc, false, cond, Option, Some, None, List, [], length, get_or, refl, sym, ap, arith, Key, is_key, times, times_first, append-nil, append_assoc, same_Some}
-use Rattle.slotmap_graph.proofs.Common.{same_or_other, is_itself, one_other, times_pushed, without, first_or, key_after, in_midst, Content, Edges, SeenEdge, ListsEdges, with_edge, get-insert_here}
-use Rattle.slotmap_graph.proofs.Common.{get-insert_other, one_itself, times_joined, without_none, Bool, true, find, from, goes_to, HasEdge, is_other, exact_keys, IsJoined, key_cmp, keys_total, Seen}
-use Rattle.slotmap.proofs.Callers.{some_entry}
+use Rattle.slotmap_graph.proofs.Common.{cond, append-nil, append_assoc, some_entry, same_or_other, get-insert_here, get-insert_other, exact_keys, times_first, times_pushed, times_joined, without_none}
+use Rattle.slotmap_graph.proofs.Common.{◌∙◌, list_map, keys_total, Content, is_itself, one_other, one_itself, is_other, same_Some, first_or, key_after, SeenEdge, ListsEdges, with_edge, IsJoined}
+use Rattle.slotmap_graph.proofs.Common.{false, Option, Some, None, List, length, get_or, refl, arith, Bool, true, key_cmp, is_key, times, without, Edges, from, Seen, in_midst, find, goes_to, HasEdge}
+use Rattle.slotmap_graph.proofs.Common.{ℕ, suc, [], sym, ap, Key}
+use Rattle.std.proofs.Common.{◌≡◌, ◌≢◌, ◌<◌, ◌≤◌, ◌∷◌, ◌++◌}
 use Rattle.slotmap_graph.proofs.Adjacent.{listed_once}
 -- which edges the list of a node has
 pub use Rattle.slotmap_graph.proofs.Adjacent.{absent_unlisted, edge_listed, gone_apart, gone_into, gone_out, listed_edge, nothing_listed}

@@ -1,12 +1,11 @@
 -- What a call makes of a graph, as a whole.
-use Rattle.std.proofs.Common.{◌≡◌, ◌≢◌, ◌<◌, ◌≤◌, ◌⊎◌, ◌∷◌, ◌++◌, ◌∙◌}
-use Rattle.slotmap_graph.proofs.Common.{ℕ, Bool, true, false, Option, Some, None, OnSome, IfSome, IfNone, MatchOption, List, [], length, is_some, option_map, refl, sym, ap, subst, inl, inr, arith}
-use Rattle.slotmap_graph.proofs.Common.{Key, key_cmp, Content, IsContent, IsLive, Inserts, Removes, Leaves, Pairs, IsBeside, with_value, keys, same_or_other, get-insert_here, get-insert_other}
-use Rattle.slotmap_graph.proofs.Common.{get-put_live, get-put_other, leaves_none, leaves_by_removal, inserted_fresh, live-insert_still, times, without, is_itself, is_other, times_first, one_itself}
-use Rattle.slotmap_graph.proofs.Common.{Lists, AreDisjoint, list_of, often, SeenEdge, Edges, IsJoined, ListsEdges, PutsAlone, SameEdges, edges_at, from, to, touches, HaveIndices, IsThreaded, IsGraph}
-use Rattle.slotmap_graph.proofs.Common.{Seen, CoversMore, by_node, IsFree, PutsBehind, with_list, ClonesEqual, IsCloneBy, IsCloneOf, clones_edge, clone_live}
+use Rattle.slotmap_graph.proofs.Common.{is_some, indices_inserted, indices_still, same_or_other, get-insert_here, get-insert_other, get-put_other, leaves_by_removal, inserted_fresh, live-insert_still}
+use Rattle.slotmap_graph.proofs.Common.{Option, MatchOption, option_map, with_value, ClonesEqual, get-put_live, leaves_none, clone_live, times_first, one_itself, AreDisjoint, clones_edge, HaveIndices}
+use Rattle.slotmap_graph.proofs.Common.{◌∙◌, ℕ, IsContent, IsBeside, IsCloneBy, IsCloneOf, is_itself, is_other, CoversMore, with_list, ListsEdges, PutsAlone, SameEdges, PutsBehind, IsThreaded}
+use Rattle.slotmap_graph.proofs.Common.{OnSome, IfSome, IfNone, length, key_cmp, Content, IsLive, Inserts, Removes, Leaves, list_of, IsFree, SeenEdge, IsJoined, edges_at, touches, IsGraph, by_node}
+use Rattle.slotmap_graph.proofs.Common.{Bool, true, false, Some, None, List, [], refl, sym, ap, subst, inl, inr, arith, Key, Pairs, keys, times, Lists, often, Edges, from, to, Seen}
+use Rattle.std.proofs.Common.{◌≡◌, ◌≢◌, ◌<◌, ◌≤◌, ◌⊎◌, ◌∷◌, ◌++◌}
 use Rattle.slotmap_graph.proofs.Adjacent.{gone_apart, listed_edge, none_listed, nothing_listed}
-use Rattle.slotmap_bounded.proofs.Indices.{indices_inserted, indices_still}
 use Rattle.slotmap_graph.proofs.Threaded.{at_none, empty_at, lists, other_nodes, put_free, put_seen, put_threaded, same_seen, threaded_along}
 use Rattle.std.specs.FinMap as map
 

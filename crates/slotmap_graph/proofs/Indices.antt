@@ -1,9 +1,7 @@
 -- What is at each of several indices: an edge, and the one after it.
-use Rattle.std.proofs.Common.{◌≡◌, ◌∷◌, ◌∙◌}
-use Rattle.slotmap_graph.proofs.Common.{ℕ, true, false, cond, nat_eq, Some, None, Option, List, [], refl, ap, Key, Content, IsLive, cons_option, is_some, length, suc, first_or, key_after}
-use Rattle.slotmap_graph.proofs.Common.{number_after, option_map, AreIndices, HaveIndices, key_at, keys_at}
-use Rattle.std.specs.List.{filter_map}
-use Rattle.slotmap_bounded.proofs.Indices.{first_index, first_key, key_is, later_indices, same_at}
+use Rattle.slotmap_graph.proofs.Common.{◌∙◌, ℕ, is_some, option_map, filter_map, cons_option, first_index, first_key, later_indices, first_or, number_after, key_after, AreIndices, HaveIndices}
+use Rattle.slotmap_graph.proofs.Common.{true, false, cond, nat_eq, Some, None, Option, List, [], refl, ap, length, suc, key_is, same_at, Key, Content, IsLive, key_at, keys_at}
+use Rattle.std.proofs.Common.{◌≡◌, ◌∷◌}
 use Rattle.std.specs.FinMap as map
 
 module _ {V : Type 0} {c : Content V} (indices : HaveIndices c) where

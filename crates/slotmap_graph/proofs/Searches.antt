@@ -1,9 +1,9 @@
 -- A search from a node along the edges, and one back for an edge that closes a cycle: from a node to one before it, until one comes again.
-use Rattle.std.proofs.Common.{if◌then◌else◌, ◌≡◌, ◌≢◌, ◌+◌, ◌<◌, ◌≤◌, ◌⊎◌, ◌∷◌, ◌++◌, ◌∙◌}
-use Rattle.slotmap_graph.proofs.Common.{ℕ, zero, suc, ⊎_elim, Bool, true, false, Some, List, [], length, get_or, drop, append_assoc, is_some, option_map, refl, sym, ap, inl, inr, arith, Key}
-use Rattle.slotmap_graph.proofs.Common.{Content, IsLive, Pairs, IsBeside, get, contains_key, same_or_other, secondary, append-nil, drop-append-le, times, one_itself, one_other, times_first}
-use Rattle.slotmap_graph.proofs.Common.{times_joined, times_there, here_or_behind, none_behind, no_more_than, SeenEdge, Edges, ListsEdges, from, to, HasEdge, LeadsBy, Leads, AllLed, HasNext, AreSeen}
-use Rattle.slotmap_graph.proofs.Common.{GoesOn, Finds, Option, IfNone, length-append, same_Some, Seen, marked, ClosesCycle, ComesFromLeft, IsLeft, times_pushed}
+use Rattle.slotmap_graph.proofs.Common.{append_assoc, length-append, contains_key, same_or_other, drop-append-le, times_first, times_joined, here_or_behind, no_more_than, times_pushed, ComesFromLeft}
+use Rattle.slotmap_graph.proofs.Common.{◌∙◌, ⊎_elim, option_map, append-nil, IsBeside, secondary, one_itself, one_other, times_there, none_behind, SeenEdge, ListsEdges, same_Some, ClosesCycle}
+use Rattle.slotmap_graph.proofs.Common.{false, length, get_or, is_some, arith, Option, IfNone, Content, IsLive, Pairs, times, Edges, HasEdge, LeadsBy, AllLed, HasNext, AreSeen, GoesOn, marked, IsLeft}
+use Rattle.slotmap_graph.proofs.Common.{ℕ, zero, suc, Bool, true, Some, List, [], drop, refl, sym, ap, inl, inr, Key, get, from, to, Seen, Leads, Finds}
+use Rattle.std.proofs.Common.{if◌then◌else◌, ◌≡◌, ◌≢◌, ◌+◌, ◌<◌, ◌≤◌, ◌⊎◌, ◌∷◌, ◌++◌}
 use Rattle.std.specs.Prelude.{IsSome}
 use Rattle.std.specs.FinMap as map
 

@@ -1,7 +1,7 @@
 -- Edges that are taken out one after the other, each of which touches a node.
-use Rattle.std.proofs.Common.{◌≡◌, ◌≢◌, ◌⊎◌, ◌∙◌}
-use Rattle.slotmap_graph.proofs.Common.{true, false, Some, None, not, cond, List, is_some, refl, sym, ap, inl, inr, arith, option_and_then, filter, Key, Content, IsSpent, KeepsSpent, keys}
-use Rattle.slotmap_graph.proofs.Common.{same_or_other, is_key, without, is_other, filter_less, filter_all, SeenEdge, Edges, touches, avoids, ListsEdges}
+use Rattle.slotmap_graph.proofs.Common.{◌∙◌, is_some, ap, option_and_then, Content, IsSpent, KeepsSpent, same_or_other, without, is_other, filter_less, filter_all, SeenEdge, touches, ListsEdges}
+use Rattle.slotmap_graph.proofs.Common.{true, false, Some, None, not, cond, List, refl, sym, inl, inr, arith, filter, Key, keys, is_key, Edges, avoids}
+use Rattle.std.proofs.Common.{◌≡◌, ◌≢◌, ◌⊎◌}
 use Rattle.slotmap_graph.proofs.Adjacent.{listed_edge}
 use Rattle.std.specs.FinMap as map
 

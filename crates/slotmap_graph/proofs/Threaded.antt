@@ -1,16 +1,16 @@
 -- The lists of the edges of each node: what is seen of them, and what a change of nodes or edges leaves of them.
-use Rattle.std.proofs.Common.{◌≡◌, ◌≢◌, ◌⊎◌, ◌<◌, ◌∷◌, ◌++◌, ◌∙◌}
-use Rattle.slotmap_graph.proofs.Common.{ℕ, true, false, cond, Option, Some, None, List, [], list_map, length, is_some, option_map, refl, sym, ap, subst, inl, inr, arith, Key, key_cmp, Content}
-use Rattle.slotmap_graph.proofs.Common.{IsLive, keys, keys_total, exact_keys, tied, same_or_other, get-insert_here, get-insert_other, live-insert_still, times, without, is_itself, is_other}
-use Rattle.slotmap_graph.proofs.Common.{one_itself, one_other, map-append, often, often_first, often_gone, often_without, number_itself, without_number, list_now, list_other, owners_stay}
-use Rattle.slotmap_graph.proofs.Common.{list_without, pushed_here, pushed_still, pushed_was, with_list, list_of, Lists, IsIn, IsFree, AreDisjoint, SeenEdge, Edges, edges_at, ends_at, ListsEdges}
-use Rattle.slotmap_graph.proofs.Common.{key_after, key_at, number_after, option_and_then, PutsBehind, SameEdges, AreIndices, HaveIndices, IsThreaded, keys_at, eq-zero-or-pos}
-use Rattle.slotmap_graph.specs.Threads.{by_node}
-use Rattle.slotmap_graph.proofs.{Adjacent.listed_edge, Indices.after_at}
-use Rattle.slotmap_links.proofs.Linking.{after_inside}
-use Rattle.slotmap_bounded.proofs.Indices.{indices_still, key_at_live, keys_same, keys_without, no_key, some_is, times_key}
-use Rattle.std.specs.{Ordering.eq_by_cmp, List.list_any}
+use Rattle.slotmap_graph.proofs.Common.{after_inside, indices_still, keys_without, same_or_other, get-insert_here, get-insert_other, live-insert_still, without_number, option_and_then, eq-zero-or-pos}
+use Rattle.slotmap_graph.proofs.Common.{is_some, option_map, IsThreaded, key_at_live, keys_total, exact_keys, one_itself, map-append, AreDisjoint, number_after, pushed_here, pushed_still, HaveIndices}
+use Rattle.slotmap_graph.proofs.Common.{◌∙◌, ℕ, list_map, keys_same, times_key, list_any, is_itself, one_other, with_list, pushed_was, ListsEdges, key_after, PutsBehind, SameEdges, AreIndices}
+use Rattle.slotmap_graph.proofs.Common.{true, false, Option, length, subst, no_key, some_is, key_cmp, Content, IsLive, without, is_other, list_of, IsFree, SeenEdge, edges_at, ends_at, key_at, keys_at}
+use Rattle.slotmap_graph.proofs.Common.{cond, Some, None, List, [], refl, sym, ap, inl, inr, arith, Key, keys, tied, times, often, Lists, IsIn, Edges}
+use Rattle.std.proofs.Common.{◌≡◌, ◌≢◌, ◌⊎◌, ◌<◌, ◌∷◌, ◌++◌}
+use Rattle.std.specs.Ordering.{eq_by_cmp}
 use Rattle.std.specs.FinMap.Entries.{find}
+use Rattle.slotmap_graph.specs.Threads.{by_node}
+use Rattle.slotmap_links.proofs.Counts.{times_first as often_first, times_gone as often_gone, times_without as often_without, one_itself as number_itself}
+use Rattle.slotmap_links.proofs.Callers.{list_now, list_other, owners_stay, list_without}
+use Rattle.slotmap_graph.proofs.{Adjacent.listed_edge, Indices.after_at}
 use Rattle.std.specs.FinMap as map
 
 -- under each key what f makes of it

@@ -1,10 +1,10 @@
 -- An order of the nodes in which each edge goes forward: how it is found, and that there is a cycle where there is none.
-use Rattle.std.proofs.Common.{if◌then◌else◌, ◌≡◌, ◌≢◌, ◌+◌, ◌-◌, ◌<◌, ◌≤◌, ◌⊎◌, ◌∷◌, ◌++◌, ◌∙◌}
-use Rattle.slotmap_graph.proofs.Common.{ℕ, zero, suc, Bool, true, false, Some, List, [], length, take, drop, get_or, nat_eq, option_map, refl, sym, ap, subst, append-nil, append_assoc, inl, inr}
-use Rattle.slotmap_graph.proofs.Common.{arith, eq-zero-or-pos, take-append-le, take_all, sum_by-take-drop, nat_tests, Key, IsLive, Pairs, get, same_or_other, same, times, one_itself, one_other}
-use Rattle.slotmap_graph.proofs.Common.{times_first, times_there, times_pushed, times_joined, behind_split, no_more_than, cut_at, split_at, in_midst, cons_not_nil, Seen, SeenEdge, Edges, ByNode}
-use Rattle.slotmap_graph.proofs.Common.{IsJoined, edges_at, ends_at, from, to, GoesOn, LeadsBy, GoesForward, HasCycle, edges_out, passed_of, Sorting, Counting, ComesFromLeft, IsLeft, key_live}
-use Rattle.slotmap_graph.proofs.Common.{key_there, contains_key, is_some, beside_empty}
+use Rattle.slotmap_graph.proofs.Common.{◌∙◌, append_assoc, eq-zero-or-pos, take-append-le, sum_by-take-drop, contains_key, same_or_other, beside_empty, times_pushed, times_joined, ComesFromLeft}
+use Rattle.slotmap_graph.proofs.Common.{option_map, append-nil, nat_tests, one_itself, one_other, times_first, times_there, behind_split, no_more_than, cons_not_nil, GoesForward, edges_out, passed_of}
+use Rattle.slotmap_graph.proofs.Common.{length, get_or, nat_eq, is_some, take_all, split_at, in_midst, SeenEdge, IsJoined, edges_at, ends_at, LeadsBy, HasCycle, Sorting, Counting, key_live, key_there}
+use Rattle.slotmap_graph.proofs.Common.{ℕ, zero, suc, Bool, true, false, Some, List, take, drop, refl, subst, arith, IsLive, Pairs, same, times, cut_at, Seen, Edges, ByNode, from, GoesOn, IsLeft}
+use Rattle.slotmap_graph.proofs.Common.{[], sym, ap, inl, inr, Key, get, to}
+use Rattle.std.proofs.Common.{if◌then◌else◌, ◌≡◌, ◌≢◌, ◌+◌, ◌-◌, ◌<◌, ◌≤◌, ◌⊎◌, ◌∷◌, ◌++◌}
 use Rattle.slotmap_graph.proofs.Adjacent.{listed_edge, edge_listed, next_seen, taken}
 use Rattle.std.specs.FinMap as map
 

@@ -1,6 +1,6 @@
 use Rattle.slotmap_graph.proofs.Common.{true, spent_inserts, spent_keeps}
-use Rattle.slotmap_graph.proofs.Graph.add_edge.Goals as goal
 use Rattle.slotmap_graph.proofs.Graph.add_edge.Goals.{then-not-has_edge_room+in-Ok, else-not-has_edge_room}
+use Rattle.slotmap_graph.proofs.Graph.add_edge.Goals as goal
 
 pub returns-clause-gone : goal.returns-clause-gone
 returns-clause-gone g c k spent = spent_inserts _ _ true c.put_edge.ensures.valid _ _ c.put_edge.ensures.adds k (elim c.if-not-has_edge_room.branch [

@@ -1,6 +1,6 @@
 use Rattle.slotmap_graph.proofs.Common.{true, spent_inserts, spent_keeps}
-use Rattle.slotmap_graph.proofs.Graph.add_node.Goals as goal
 use Rattle.slotmap_graph.proofs.Graph.add_node.Goals.{then-not-has_node_room+in-Ok, else-not-has_node_room}
+use Rattle.slotmap_graph.proofs.Graph.add_node.Goals as goal
 
 pub returns-clause-gone : goal.returns-clause-gone
 returns-clause-gone g c k spent = spent_inserts _ _ true c.put_node.ensures.valid _ _ c.put_node.ensures.adds k (elim c.if-not-has_node_room.branch [

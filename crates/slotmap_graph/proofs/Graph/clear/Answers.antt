@@ -1,6 +1,4 @@
-use Rattle.std.proofs.Common.{◌∙◌}
-use Rattle.slotmap_graph.proofs.Common.{[], true, ap, arith, is_some, key_cmp, length, left_spent, list_cleared, list_of, spent_leaves, from, to, Lists, SeenEdge}
-use Rattle.std.proofs.lemmas.List.{length-replicate}
+use Rattle.slotmap_graph.proofs.Common.{◌∙◌, [], true, ap, arith, is_some, length, length-replicate, key_cmp, left_spent, spent_leaves, list_cleared, list_of, Lists, from, to, SeenEdge}
 use Rattle.slotmap_graph.proofs.GraphSteps.{bare_seen, bare_threaded}
 use Rattle.std.specs.FinMap as map
 use Rattle.slotmap_graph.proofs.Graph.clear.Goals as goal

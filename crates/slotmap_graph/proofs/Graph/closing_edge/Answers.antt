@@ -1,5 +1,4 @@
-use Rattle.std.proofs.Common.{◌∙◌}
-use Rattle.slotmap_graph.proofs.Common.{ap, arith, is_some, length-map, list_map, sym}
+use Rattle.slotmap_graph.proofs.Common.{◌∙◌, ap, arith, is_some, list_map, sym, length-map}
 use Rattle.slotmap_graph.proofs.GraphSteps.{puts_alone}
 use Rattle.slotmap_graph.proofs.Searches.{back_start, back_step, back_end, back_fits, must_be}
 use Rattle.slotmap_graph.proofs.Graph.closing_edge.Goals as goal

@@ -1,5 +1,5 @@
-use Rattle.std.proofs.Common.{◌-◌}
-use Rattle.slotmap_graph.proofs.{Common.length, Common.list_map, Searches.GoesBack}
+use Rattle.std.proofs.Common.{◌-◌, length, map as list_map}
+use Rattle.slotmap_graph.proofs.Searches.{GoesBack}
 use Rattle.std.specs.FinMap as map
 use Rattle.slotmap_graph.proofs.Graph.closing_edge.Given as goal
 

@@ -1,5 +1,5 @@
-use Rattle.std.proofs.Common.{◌≤◌, ◌++◌, ◌∙◌}
-use Rattle.slotmap_graph.proofs.Common.{Some, sym, ap, arith, list_map, map-append, times, in_midst, key_live, keys_once}
+use Rattle.slotmap_graph.proofs.Common.{◌∙◌, Some, sym, ap, arith, list_map, map-append, times, in_midst, key_live, keys_once}
+use Rattle.std.proofs.Common.{◌≤◌, ◌++◌}
 use Rattle.slotmap_graph.proofs.{Adjacent.walked_in, Adjacent.walked_on, GraphSteps.puts_alone, TopologicalOrders.counting_none, TopologicalOrders.counting_step}
 use Rattle.std.specs.FinMap as map
 use Rattle.slotmap_graph.proofs.Graph.count_all.Goals as goal

@@ -1,5 +1,5 @@
-use Rattle.std.proofs.Common.{◌≡◌, ◌++◌}
 use Rattle.slotmap_graph.proofs.Common.{list_map, Counting}
+use Rattle.std.proofs.Common.{◌≡◌, ◌++◌}
 use Rattle.std.specs.FinMap as map
 use Rattle.slotmap_graph.proofs.Graph.count_all.Given as goal
 

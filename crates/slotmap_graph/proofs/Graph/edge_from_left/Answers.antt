@@ -1,5 +1,4 @@
-use Rattle.std.proofs.Common.{◌∙◌}
-use Rattle.slotmap_graph.proofs.Common.{arith, edges_at, to, ComesFromLeft}
+use Rattle.slotmap_graph.proofs.Common.{◌∙◌, arith, edges_at, to, ComesFromLeft}
 use Rattle.slotmap_graph.proofs.Adjacent.{edge_listed, next_edge, next_live, walked, walked_on}
 use Rattle.slotmap_graph.proofs.TopologicalOrders.{each_counted, left_before}
 use Rattle.slotmap_graph.proofs.Searches.{comes_found, comes_left, each_pushed}

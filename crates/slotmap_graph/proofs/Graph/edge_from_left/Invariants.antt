@@ -1,5 +1,5 @@
-use Rattle.std.proofs.Common.{◌≡◌, ◌<◌, ◌++◌}
 use Rattle.slotmap_graph.proofs.Common.{Key, times, edges_at, ComesFromLeft}
+use Rattle.std.proofs.Common.{◌≡◌, ◌<◌, ◌++◌}
 use Rattle.slotmap_graph.proofs.Graph.edge_from_left.Given as goal
 
 abbrev pub invariant-loop-edge : goal.invariant-loop-edge

@@ -1,5 +1,4 @@
-use Rattle.std.proofs.Common.{◌∙◌}
-use Rattle.slotmap_graph.proofs.Common.{refl, sym, ap, option_map, same_lent, Seen, value, with_edge, with_edge_in}
+use Rattle.slotmap_graph.proofs.Common.{◌∙◌, refl, sym, ap, option_map, same_lent, Seen, value, with_edge, with_edge_in}
 use Rattle.slotmap_graph.proofs.GraphSteps.{edge_written, edge_written_seen}
 use Rattle.slotmap_graph.proofs.Graph.edge_mut.Goals as goal
 

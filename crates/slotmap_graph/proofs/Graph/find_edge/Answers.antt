@@ -1,5 +1,4 @@
-use Rattle.std.proofs.Common.{◌∙◌}
-use Rattle.slotmap_graph.proofs.Common.{refl, sym, ap, find, goes_to, from}
+use Rattle.slotmap_graph.proofs.Common.{◌∙◌, refl, sym, ap, find, goes_to, from}
 use Rattle.slotmap_graph.proofs.Adjacent.{found_first, next_live, not_found, walked, walked_on}
 use Rattle.slotmap_graph.proofs.Graph.find_edge.Goals as goal
 

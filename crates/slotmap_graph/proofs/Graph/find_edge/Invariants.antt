@@ -1,5 +1,5 @@
-use Rattle.std.proofs.Common.{◌≡◌, ◌++◌}
 use Rattle.slotmap_graph.proofs.Common.{None, find, edges_at, goes_to}
+use Rattle.std.proofs.Common.{◌≡◌, ◌++◌}
 use Rattle.slotmap_graph.proofs.Graph.find_edge.Given as goal
 
 abbrev pub invariant-loop-edge : goal.invariant-loop-edge

@@ -1,5 +1,5 @@
-use Rattle.std.proofs.Common.{◌≡◌, ◌∙◌}
-use Rattle.slotmap_graph.proofs.Common.{Some, arith, get, list_map, map-append, key_live, key_there}
+use Rattle.slotmap_graph.proofs.Common.{◌∙◌, Some, arith, list_map, get, map-append, key_live, key_there}
+use Rattle.std.proofs.Common.{◌≡◌}
 use Rattle.slotmap_graph.proofs.Adjacent.{walked, walked_in, walked_on}
 use Rattle.slotmap_graph.proofs.{Searches.each_pushed, TopologicalOrders.each_counted}
 use Rattle.slotmap_graph.proofs.Graph.first_left.Goals as goal

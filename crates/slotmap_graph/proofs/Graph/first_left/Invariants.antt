@@ -1,5 +1,5 @@
+use Rattle.slotmap_graph.proofs.Common.{Some, list_map, Key, get, times}
 use Rattle.std.proofs.Common.{◌≡◌, ◌<◌, ◌++◌}
-use Rattle.slotmap_graph.proofs.Common.{Some, Key, get, list_map, times}
 use Rattle.std.specs.FinMap as map
 use Rattle.slotmap_graph.proofs.Graph.first_left.Given as goal
 

@@ -1,5 +1,4 @@
-use Rattle.std.proofs.Common.{◌∙◌}
-use Rattle.slotmap_graph.proofs.Common.{None, ap, first_or}
+use Rattle.slotmap_graph.proofs.Common.{◌∙◌, None, ap, first_or}
 use Rattle.slotmap_graph.proofs.Adjacent.{first_step}
 use Rattle.slotmap_graph.proofs.Graph.first_to.Goals as goal
 

@@ -1,8 +1,7 @@
-use Rattle.std.proofs.Common.{◌∙◌}
-use Rattle.slotmap_graph.proofs.Common.{refl, sym, ap, list_map, fold, to, ends_along, marked, from}
+use Rattle.slotmap_graph.proofs.Common.{◌∙◌, refl, sym, ap, list_map, fold, to, from, ends_along, marked}
+use Rattle.slotmap_graph.proofs.Searches.{finds_start, finds_step, pending_start, pending_step, pending_end, marked_keeps}
 use Rattle.slotmap_graph.proofs.GraphSteps.{puts_alone}
 use Rattle.slotmap_graph.proofs.Adjacent.{goes_on, marks_step, next_joins, next_live, one_more, walked, walked_on}
-use Rattle.slotmap_graph.proofs.Searches.{finds_start, finds_step, pending_start, pending_step, pending_end, marked_keeps}
 use Rattle.slotmap_graph.proofs.Graph.mark_neighbours.Goals as goal
 
 pub loop-edge-init : goal.loop-edge-init

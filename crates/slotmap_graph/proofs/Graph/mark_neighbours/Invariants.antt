@@ -1,5 +1,5 @@
-use Rattle.std.proofs.Common.{◌≡◌, ◌++◌}
 use Rattle.slotmap_graph.proofs.Common.{list_map, fold, edges_at, to, Finds, ends_along, marked}
+use Rattle.std.proofs.Common.{◌≡◌, ◌++◌}
 use Rattle.slotmap_graph.proofs.Searches.{Pending}
 use Rattle.slotmap_graph.proofs.Graph.mark_neighbours.Given as goal
 

@@ -1,5 +1,5 @@
-use Rattle.std.proofs.Common.{◌∷◌, ◌++◌, ◌∙◌}
-use Rattle.slotmap_graph.proofs.Common.{[], sym, ap, list_map, map-append, to, ends_along, from}
+use Rattle.slotmap_graph.proofs.Common.{◌∙◌, [], sym, ap, list_map, map-append, to, from, ends_along}
+use Rattle.std.proofs.Common.{◌∷◌, ◌++◌}
 use Rattle.slotmap_graph.proofs.Adjacent.{next_live, one_more, walked, walked_on}
 use Rattle.slotmap_graph.proofs.Graph.neighbours.Goals as goal
 

@@ -1,5 +1,5 @@
-use Rattle.std.proofs.Common.{◌≡◌, ◌++◌}
 use Rattle.slotmap_graph.proofs.Common.{list_map, edges_at, to, ends_along}
+use Rattle.std.proofs.Common.{◌≡◌, ◌++◌}
 use Rattle.slotmap_graph.proofs.Graph.neighbours.Given as goal
 
 abbrev pub invariant-loop-edge : goal.invariant-loop-edge

@@ -1,5 +1,4 @@
-use Rattle.std.proofs.Common.{◌∙◌}
-use Rattle.slotmap_graph.proofs.Common.{sym, ap, with_value, same_lent, Seen}
+use Rattle.slotmap_graph.proofs.Common.{◌∙◌, sym, ap, with_value, same_lent, Seen}
 use Rattle.slotmap_graph.proofs.GraphSteps.{node_written, node_written_seen}
 use Rattle.slotmap_graph.proofs.Graph.node_mut.Goals as goal
 

@@ -1,5 +1,4 @@
-use Rattle.std.proofs.Common.{◌∙◌}
-use Rattle.slotmap_graph.proofs.Common.{[], sym, append-nil, list_map, from}
+use Rattle.slotmap_graph.proofs.Common.{◌∙◌, [], sym, append-nil, list_map, from}
 use Rattle.slotmap_graph.proofs.Adjacent.{next_live, walked, walked_on}
 use Rattle.slotmap_graph.proofs.TopologicalOrders.{found_once, next_can_pass, next_passed, pass_end}
 use Rattle.slotmap_graph.proofs.Graph.pass_edges.Goals as goal

@@ -1,5 +1,5 @@
-use Rattle.std.proofs.Common.{◌≡◌, ◌++◌}
 use Rattle.slotmap_graph.proofs.Common.{take, list_map, Sorting, edges_out, edges_at, GoesOn}
+use Rattle.std.proofs.Common.{◌≡◌, ◌++◌}
 use Rattle.slotmap_graph.proofs.Graph.pass_edges.Given as goal
 
 abbrev pub invariant-loop-edge : goal.invariant-loop-edge

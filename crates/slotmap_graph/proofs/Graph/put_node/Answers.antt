@@ -1,5 +1,5 @@
-use Rattle.std.proofs.Common.{◌∙◌}
-use Rattle.slotmap_graph.proofs.{Common.ap, Common.is_some, GraphSteps.node_seen, GraphSteps.node_threaded, Threaded.at_none}
+use Rattle.slotmap_graph.proofs.Common.{◌∙◌, ap, is_some}
+use Rattle.slotmap_graph.proofs.{GraphSteps.node_seen, GraphSteps.node_threaded, Threaded.at_none}
 use Rattle.slotmap_graph.proofs.Graph.put_node.Goals as goal
 
 pub invariant_of-self : goal.invariant_of-self

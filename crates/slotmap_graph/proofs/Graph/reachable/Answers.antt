@@ -1,7 +1,7 @@
-use Rattle.std.proofs.Common.{◌≡◌, ◌<◌, ◌≤◌, ◌∙◌}
-use Rattle.slotmap_graph.proofs.Common.{length, get_or, sym, ap, arith, list_map, get_or-map, length-map, IsLive, beside_empty, edges_at, to, ends_along, marked}
-use Rattle.slotmap_graph.proofs.{GraphSteps.puts_alone, Adjacent.order_step, Adjacent.order_end}
+use Rattle.slotmap_graph.proofs.Common.{◌∙◌, length, get_or, sym, ap, arith, list_map, get_or-map, length-map, IsLive, beside_empty, edges_at, to, ends_along, marked}
+use Rattle.std.proofs.Common.{◌≡◌, ◌<◌, ◌≤◌}
 use Rattle.slotmap_graph.proofs.Searches.{are_none, listed_once, searching_start, searching_step, searching_all, searching_found, searching_fits}
+use Rattle.slotmap_graph.proofs.{GraphSteps.puts_alone, Adjacent.order_step, Adjacent.order_end}
 use Rattle.slotmap_graph.proofs.Graph.reachable.Goals as goal
 
 pub mark-requires-clause-alone : goal.mark-requires-clause-alone

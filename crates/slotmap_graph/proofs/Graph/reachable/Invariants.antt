@@ -1,5 +1,5 @@
-use Rattle.std.proofs.Common.{◌≡◌, ◌-◌, ◌∷◌}
 use Rattle.slotmap_graph.proofs.Common.{[], take, list_map, fold, edges_at, to, ends_along, marked}
+use Rattle.std.proofs.Common.{◌≡◌, ◌-◌, ◌∷◌}
 use Rattle.slotmap_graph.proofs.Searches.{Searching}
 use Rattle.std.specs.FinMap as map
 use Rattle.slotmap_graph.proofs.Graph.reachable.Given as goal

@@ -1,5 +1,4 @@
-use Rattle.std.proofs.Common.{◌∙◌}
-use Rattle.slotmap_graph.proofs.Common.{is_some, refl, ap, arith, option_map, keys_total, exact_keys, len_removed, of_some, leaves_none, leaves_in_turn, edges_at, from, to, value}
+use Rattle.slotmap_graph.proofs.Common.{◌∙◌, is_some, refl, ap, arith, option_map, keys_total, exact_keys, len_removed, of_some, leaves_none, leaves_in_turn, edges_at, from, to, value}
 use Rattle.slotmap_graph.proofs.Thinned.{thinned_start, thinned_step, thinned_end, thinned_spent, thin_step, thin_end}
 use Rattle.slotmap_graph.proofs.GraphSteps.{none_from, none_to}
 use Rattle.slotmap_graph.proofs.Graph.remove_edges_of.Goals as goal

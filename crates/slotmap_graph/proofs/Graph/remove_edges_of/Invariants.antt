@@ -1,5 +1,5 @@
-use Rattle.std.proofs.Common.{◌≡◌}
 use Rattle.slotmap_graph.proofs.Common.{filter, Key, Leaves, edges_at}
+use Rattle.std.proofs.Common.{◌≡◌}
 use Rattle.slotmap_graph.proofs.Thinned.{Thinned}
 use Rattle.std.specs.FinMap as map
 use Rattle.slotmap_graph.proofs.Graph.remove_edges_of.Given as goal

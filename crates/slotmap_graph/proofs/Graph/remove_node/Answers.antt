@@ -1,5 +1,4 @@
-use Rattle.std.proofs.Common.{◌∙◌}
-use Rattle.slotmap_graph.proofs.Common.{true, sym, filter, ap, arith, is_some, keys, Key, refl, from, to, leaves_none, remove_spent, spent_remove, edges_at}
+use Rattle.slotmap_graph.proofs.Common.{◌∙◌, true, sym, ap, arith, is_some, refl, filter, keys, leaves_none, remove_spent, spent_remove, Key, from, to, edges_at}
 use Rattle.slotmap_graph.proofs.GraphSteps.{ends_apart, gone_seen, gone_threaded, gone_untouched, node_leaves, not_none}
 use Rattle.slotmap_graph.proofs.Thinned.{none_left, thin_end, thinned_end, thinned_spent, thinned_start}
 use Rattle.std.specs.FinMap as map

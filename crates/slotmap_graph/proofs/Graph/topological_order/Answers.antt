@@ -1,7 +1,7 @@
-use Rattle.std.proofs.Common.{◌≡◌, ◌<◌, ◌∙◌}
-use Rattle.slotmap_graph.proofs.Common.{length, sym, ap, arith, list_map, get_or-map, length-map, IsJoined, Sorting, edges_out}
-use Rattle.slotmap_graph.proofs.GraphSteps.{graph_joined}
+use Rattle.slotmap_graph.proofs.Common.{◌∙◌, length, sym, ap, arith, list_map, get_or-map, length-map, IsJoined, Sorting, edges_out}
+use Rattle.std.proofs.Common.{◌≡◌, ◌<◌}
 use Rattle.slotmap_graph.proofs.TopologicalOrders.{ended, found_fits, ordered, sorting_start}
+use Rattle.slotmap_graph.proofs.GraphSteps.{graph_joined}
 use Rattle.slotmap_graph.proofs.Graph.topological_order.Goals.{After-loop-at}
 use Rattle.slotmap_graph.proofs.Graph.topological_order.Goals as goal
 

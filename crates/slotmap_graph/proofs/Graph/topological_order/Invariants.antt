@@ -1,5 +1,5 @@
-use Rattle.std.proofs.Common.{◌-◌}
 use Rattle.slotmap_graph.proofs.Common.{take, list_map, Sorting, edges_out}
+use Rattle.std.proofs.Common.{◌-◌}
 use Rattle.std.specs.FinMap as map
 use Rattle.slotmap_graph.proofs.Graph.topological_order.Given as goal
 

@@ -1,5 +1,4 @@
-use Rattle.std.proofs.Common.{◌∙◌}
-use Rattle.slotmap_graph.proofs.Common.{ap, arith, list_cleared, list_of, from, to}
+use Rattle.slotmap_graph.proofs.Common.{◌∙◌, ap, arith, list_cleared, list_of, from, to}
 use Rattle.slotmap_graph.proofs.GraphSteps.{bare_threaded}
 use Rattle.slotmap_graph.proofs.Graph.with_capacity_and_key.Goals as goal
 

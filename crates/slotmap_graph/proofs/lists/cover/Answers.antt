@@ -1,4 +1,4 @@
-use Rattle.slotmap_links.proofs.Changes.{covered}
+use Rattle.slotmap_graph.proofs.Common.{covered}
 use Rattle.slotmap_graph.proofs.lists.cover.Goals as goal
 
 pub returns-clause-grows : goal.returns-clause-grows

@@ -1,6 +1,5 @@
-use Rattle.std.proofs.Common.{◌≡◌, ◌∙◌}
-use Rattle.slotmap_graph.proofs.Common.{Some, option_map, sym, ap, Key, IsLive, key_at}
-use Rattle.slotmap_bounded.proofs.Indices.{key_is}
+use Rattle.slotmap_graph.proofs.Common.{◌∙◌, Some, option_map, sym, ap, key_is, Key, IsLive, key_at}
+use Rattle.std.proofs.Common.{◌≡◌}
 use Rattle.slotmap_graph.proofs.Threaded.{after_is, after_there, member_below, none_after}
 use Rattle.slotmap_graph.proofs.next.next_of.Goals.{After-idx}
 use Rattle.slotmap_graph.proofs.next.next_of.Goals as goal

@@ -1,5 +1,5 @@
-use Rattle.std.proofs.Common.{◌≡◌, ◌-◌, ◌∙◌}
-use Rattle.slotmap_graph.proofs.Common.{Some, ap, get-bind_here, get-bind_other}
+use Rattle.slotmap_graph.proofs.Common.{◌∙◌, Some, ap, get-bind_here, get-bind_other}
+use Rattle.std.proofs.Common.{◌≡◌, ◌-◌}
 use Rattle.slotmap_graph.proofs.order.lower.Goals as goal
 
 pub returns-clause-here : goal.returns-clause-here

@@ -1,4 +1,5 @@
-use Rattle.slotmap_graph.proofs.Common.{arith, common_steps}
+use Rattle.std.proofs.Common.{arith}
+use Rattle.std.proofs.lemmas.Grind.{common_steps}
 use Rattle.slotmap_graph.proofs.search.mark.Goals as goal
 
 pub returns-in-Ok-clause-listed : goal.returns-in-Ok-clause-listed

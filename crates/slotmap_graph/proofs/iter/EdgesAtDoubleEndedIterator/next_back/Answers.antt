@@ -1,5 +1,4 @@
-use Rattle.std.proofs.Common.{sym, ◌∙◌}
-use Rattle.slotmap_bounded.proofs.Indices.{back_has, back_key, before_back}
+use Rattle.slotmap_graph.proofs.Common.{sym, ◌∙◌, back_has, back_key, before_back}
 use Rattle.slotmap_graph.proofs.iter.EdgesAtDoubleEndedIterator.next_back.Goals as goal
 
 pub live_key-requires : goal.live_key-requires

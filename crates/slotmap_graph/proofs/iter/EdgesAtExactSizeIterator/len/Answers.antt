@@ -1,5 +1,4 @@
-use Rattle.std.proofs.Common.{◌∙◌}
-use Rattle.slotmap_graph.proofs.Common.{length, sym, ap, length-map, key_at}
+use Rattle.slotmap_graph.proofs.Common.{◌∙◌, length, sym, ap, length-map, key_at}
 use Rattle.slotmap_graph.proofs.iter.EdgesAtExactSizeIterator.len.Goals as goal
 
 pub returns-clause-value : goal.returns-clause-value

@@ -1,5 +1,4 @@
-use Rattle.std.proofs.Common.{sym, ◌∙◌}
-use Rattle.slotmap_bounded.proofs.Indices.{behind_front, front_has, front_key}
+use Rattle.slotmap_graph.proofs.Common.{sym, ◌∙◌, behind_front, front_has, front_key}
 use Rattle.slotmap_graph.proofs.iter.EdgesAtIterator.next.Goals as goal
 
 pub live_key-requires : goal.live_key-requires

@@ -1,7 +1,6 @@
-use Rattle.std.proofs.Common.{◌∷◌, ◌∙◌}
-use Rattle.slotmap_graph.proofs.Common.{length, sym, ap, arith, ends_along, far_end, keys_at}
+use Rattle.slotmap_graph.proofs.Common.{◌∙◌, length, sym, ap, arith, front_has, front_key, ends_along, far_end, keys_at}
+use Rattle.std.proofs.Common.{◌∷◌}
 use Rattle.slotmap_graph.proofs.Adjacent.{first_end}
-use Rattle.slotmap_bounded.proofs.Indices.{front_has, front_key}
 use Rattle.slotmap_graph.proofs.neighbours.NeighboursIterator.next.Goals as goal
 
 pub live_key-key-requires : goal.live_key-key-requires

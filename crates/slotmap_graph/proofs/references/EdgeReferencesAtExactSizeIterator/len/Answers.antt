@@ -1,5 +1,4 @@
-use Rattle.std.proofs.Common.{◌∙◌}
-use Rattle.slotmap_graph.proofs.Common.{length, sym, ap}
+use Rattle.slotmap_graph.proofs.Common.{◌∙◌, length, sym, ap}
 use Rattle.slotmap_graph.proofs.Indices.{entries_long}
 use Rattle.slotmap_graph.proofs.references.EdgeReferencesAtExactSizeIterator.len.Goals as goal
 

@@ -1,9 +1,8 @@
-use Rattle.std.proofs.Common.{◌≡◌, ◌∷◌, ◌∙◌}
-use Rattle.slotmap_graph.proofs.Common.{length, sym, ap, arith, entries_along, keys_at, SeenEdge, Key}
+use Rattle.slotmap_graph.proofs.Common.{◌∙◌, length, sym, ap, arith, front_has, front_key, entries_along, keys_at, SeenEdge, Key}
+use Rattle.std.proofs.Common.{◌≡◌, ◌∷◌}
 use Rattle.slotmap_graph.proofs.Adjacent.{first_entry}
-use Rattle.slotmap_bounded.proofs.Indices.{front_has, front_key}
-use Rattle.slotmap_graph.proofs.references.EdgeReferencesAtIterator.next.Goals as goal
 use Rattle.slotmap_graph.proofs.references.EdgeReferencesAtIterator.next.Goals.{After-outer-2}
+use Rattle.slotmap_graph.proofs.references.EdgeReferencesAtIterator.next.Goals as goal
 
 pub live_key-key-requires : goal.live_key-key-requires
 live_key-key-requires g c = front_has c.self.invariant.1 c.in_ok-index.ensures.steps
