@@ -5,7 +5,7 @@ use Rattle.slotmap_scheduler.proofs.Common.{Turn, Vec, [], arith, as_seen, by_tu
 use Rattle.slotmap_scheduler.proofs.Common.{vec_capacity, vec_len, waiting_of, ℕ, ◌∙◌}
 use Rattle.std.proofs.lemmas.Slice.Zip.{AllZip-long}
 use Rattle.slotmap_scheduler.proofs.Sorted.{entries_alike, none_there}
-use Rattle.slotmap_scheduler.proofs.Timed.{exact_turns, inverse, turns_total}
+use Rattle.slotmap_scheduler.proofs.Order.{exact_turns, inverse, turns_total}
 use Rattle.std.specs.FinMap as map
 
 module _ {A : Type 0} (is_clone : A → A → Type 0) where

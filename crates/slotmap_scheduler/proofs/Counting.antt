@@ -1,8 +1,9 @@
 -- How many entries of a heap are due, at a place and below it.
 use Rattle.std.proofs.Common.{◌&&◌, ◌*◌, ◌+◌, ◌<◌, ◌≡◌, ◌≤◌}
-use Rattle.slotmap_scheduler.proofs.Common.{Bool, Entry, IsHeap, List, Turn, ap, arith, cond, count_below, false, get_or, get_or_default, is_due_at, is_under, length, nat_eq, nat_lt, nat_tests}
-use Rattle.slotmap_scheduler.proofs.Common.{no_entry, refl, suc, true, turn_at, up, zero, ℕ}
-unfoldable use Rattle.slotmap_scheduler.proofs.Common.{precedes, due_under}
+use Rattle.slotmap_scheduler.proofs.Common.{Bool, Entry, IsHeap, List, ap, arith, cond, count_below, false, get_or, get_or_default, is_due_at, is_under, length, nat_eq, nat_lt, nat_tests, no_entry}
+use Rattle.slotmap_scheduler.proofs.Common.{refl, suc, true, turn_at, up, zero, ℕ}
+use Rattle.slotmap_scheduler.proofs.Order.{time_up_to}
+unfoldable use Rattle.slotmap_scheduler.proofs.Common.{due_under}
 
 -- a place below another comes after it
 under_after : (steps at c : ℕ) → is_under steps at c ≡ true → at ≤ c
@@ -34,15 +35,11 @@ pub count_alike : (p q : ℕ → Bool) (n : ℕ) → ((c : ℕ) → c < n → p 
 count_alike p q zero same = refl
 count_alike p q (suc n) same = grind (arith, same n, count_alike p q n (λ c less. same c (omega arith)))
 
-later_turn : (t u : Turn) → precedes u t ≡ false → t.0 ≤ u.0
-unfolding precedes
-later_turn t u not_before = grind (arith, nat_tests)
-
 module _ (now : ℕ) (heap : List Entry) (ordered : IsHeap heap) where
   -- below an entry that isn't due none is
   none_below : (steps at c : ℕ) → now < (turn_at heap at).0 → c < length heap → is_under steps at c ≡ true → now < (turn_at heap c).0
   none_below zero at c later inside under = grind (arith, nat_tests)
-  none_below (suc steps) at c later inside under = grind (arith, later_turn (turn_at heap (up c)) (turn_at heap c), none_below steps at (up c))
+  none_below (suc steps) at c later inside under = grind (arith, time_up_to (turn_at heap (up c)) (turn_at heap c), none_below steps at (up c))
 
   abbrev counted : ℕ → ℕ → Bool
   counted at c = is_under (length heap) at c && is_due_at now heap c

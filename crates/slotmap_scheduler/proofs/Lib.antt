@@ -8,7 +8,6 @@ mod Found
 mod Handles
 mod HeapPlaces
 mod Heaps
-mod Indexed
 mod Order
 pub mod Retained
 mod Schedules
@@ -16,6 +15,5 @@ mod Seen
 mod Sorted
 mod TakingDue
 mod TakingOut
-mod Timed
 pub mod Visiting
 mod Waits

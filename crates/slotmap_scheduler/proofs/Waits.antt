@@ -5,7 +5,7 @@ use Rattle.slotmap_keylist.specs.Mapped.{map_values}
 use Rattle.slotmap_scheduler.proofs.Common.{itself, option_map, All, All-cons, All-head, All-nil, All-tail, AllByRecursion, InOrder, IsByTime, IsOnce, Job, Key, List, None, Some, T, Timed, Turn}
 use Rattle.slotmap_scheduler.proofs.Common.{Waiting, [], ap, arith, as_seen, below_all, by_turn, exact_keys, find, is_lt, is_sorted, job_of, key_cmp, keys-mapped, keys_total, list_map, nat_tests}
 use Rattle.slotmap_scheduler.proofs.Common.{refl, shown, tied, turn_cmp, unplaced, waiting_of, ℕ}
-use Rattle.slotmap_scheduler.proofs.{Sorted.all_of, Sorted.not_behind, Timed.exact_turns, Timed.turns_total}
+use Rattle.slotmap_scheduler.proofs.{Sorted.all_of, Sorted.not_behind, Order.exact_turns, Order.turns_total}
 use Rattle.std.specs.FinMap as map
 
 keys_alone : {V : Type 0} (m : map.FinMap key_cmp V) → map.keys (keys_of m) ≡ map.keys m

@@ -1,5 +1,5 @@
 use Rattle.slotmap_scheduler.proofs.Common.{IfOk-at_ok, Inserts, arith, content-mapped, mapped-inserts, true, unplaced, ◌∙◌}
-use Rattle.slotmap_scheduler.proofs.Indexed.{indexed_settled, put_but, put_len, put_placed}
+use Rattle.slotmap_scheduler.proofs.HeapPlaces.{indexed_settled, put_but, put_len, put_placed}
 use Rattle.slotmap_scheduler.proofs.heap.put_in.Goals as goal
 
 pub settle-requires : goal.settle-requires

@@ -1,5 +1,5 @@
-use Rattle.slotmap_scheduler.proofs.{Common.arith, Common.mapped-with, HeapPlaces.in_heap}
-use Rattle.slotmap_scheduler.proofs.Indexed.{indexed_settled, same_job, turned_but, turned_len, turned_placed}
+use Rattle.slotmap_scheduler.proofs.Common.{arith, mapped-with}
+use Rattle.slotmap_scheduler.proofs.HeapPlaces.{in_heap, indexed_settled, same_job, turned_but, turned_len, turned_placed}
 use Rattle.slotmap_scheduler.proofs.heap.set_turn.Goals as goal
 
 pub index_mut-requires : goal.index_mut-requires

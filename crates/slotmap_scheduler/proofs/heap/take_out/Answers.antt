@@ -1,7 +1,6 @@
 use Rattle.std.proofs.Common.{◌≢◌}
 use Rattle.slotmap_scheduler.proofs.Common.{arith, mapped-removes, mapped-stays, sym, unplaced, vec_len, ◌∙◌}
-use Rattle.slotmap_scheduler.proofs.HeapPlaces.{gap_but, gap_live, gap_placed, gap_within, in_heap, last_heap, last_placed, place_written}
-use Rattle.slotmap_scheduler.proofs.Indexed.{left_indexed}
+use Rattle.slotmap_scheduler.proofs.HeapPlaces.{gap_but, gap_live, gap_placed, gap_within, in_heap, last_heap, last_placed, place_written, left_indexed}
 use Rattle.slotmap_scheduler.proofs.heap.take_out.Goals as goal
 
 pub swap_remove-requires : goal.swap_remove-requires
