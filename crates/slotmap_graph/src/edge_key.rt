@@ -6,7 +6,8 @@ ghost use Rattle.slotmap.specs.Words.{null_key};
 use slotmap::{Key, KeyData};
 use std::marker::Model;
 
-/// The key of an edge. It can't be passed for the key of a node.
+/// The key of an edge. It can't be passed for the key of a node, unless nodes have keys of this type
+/// too.
 ///
 /// ```
 /// let mut graph: Graph<NodeKey, &str, u64> = Graph::new(alloc)?;

@@ -5,7 +5,8 @@
 //!
 //! - Edges only join existing nodes: [`Graph::remove_node`] removes the node's edges with it, and no
 //!   others.
-//! - A removed key stays stale, also that of an edge.
+//! - A removed key stays stale, also that of an edge, unless `clone_from` makes the graph a copy of
+//!   another.
 //! - The edges of a node are listed in the order in which they were added.
 //! - A call that fails leaves the same nodes and edges. One that adds a node or an edge returns its
 //!   value.
@@ -24,7 +25,7 @@
 //!   in the largest index of one of them.
 //! - [`Graph::topological_order`] takes time linear in the number of slots of nodes and edges.
 //! - [`Graph::clone`], [`Graph::clear`], [`Graph::with_capacity`] and [`Graph::with_capacity_and_key`]
-//!   take time linear in the two capacities.
+//!   take time linear in the two capacities. So does printing a graph with `{:?}`.
 //!
 //! Memory is asked for only by the calls that make a graph, reserve room, add or copy, and by those that
 //! take an `alloc`.

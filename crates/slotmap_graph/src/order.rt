@@ -213,9 +213,9 @@ impl<K: Key, N: Drop, E: Drop> Graph<K, N, E> {
 
     /// Returns the nodes in an order in which each edge goes forward.
     ///
-    /// It takes time linear in the number of slots of nodes and of edges. It fails with `Cycle` if
-    /// there is no such order. The error holds an edge from whose end a path leads back to its start.
-    /// It fails with `Memory` if memory runs out.
+    /// It takes time linear in the number of slots of nodes and of edges. It fails with `Memory` if
+    /// memory runs out, and else with `Cycle` if there is no such order. That error holds an edge from
+    /// whose end a path leads back to its start.
     ///
     /// ```
     /// let mut graph: Graph<NodeKey, &str, u64> = Graph::new(alloc)?;
