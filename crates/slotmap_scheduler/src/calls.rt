@@ -119,7 +119,8 @@ impl<K: Key, T: Drop> Scheduler<K, T> {
     /// Cancels the job of a handle, and returns it. It is never returned later, and its handle is never
     /// used again.
     ///
-    /// If no job waits under the handle, the call returns `None` and changes nothing. The capacity stays. It takes time logarithmic in the number of jobs.
+    /// If no job waits under the handle, the call returns `None` and changes nothing. The capacity
+    /// stays. It takes time logarithmic in the number of jobs.
     ///
     /// ```
     /// let mut scheduler: Scheduler<DefaultKey, &str> = Scheduler::new(alloc)?;
@@ -153,8 +154,8 @@ impl<K: Key, T: Drop> Scheduler<K, T> {
     /// same.
     ///
     /// It fails with `Gone` if no job waits under the handle, else with `Full` if all turns were given
-    /// out, and has changed nothing then. It uses up a turn. The capacity stays. It takes time logarithmic
-    /// in the number of jobs.
+    /// out, and has changed nothing then. If it succeeds, it uses up a turn. The capacity stays. It takes
+    /// time logarithmic in the number of jobs.
     ///
     /// ```
     /// let mut scheduler: Scheduler<DefaultKey, &str> = Scheduler::new(alloc)?;
@@ -220,8 +221,8 @@ impl<K: Key, T: Drop> Scheduler<K, T> {
     /// never returned again, and its handle is never used again.
     ///
     /// It is the waiting job with the least time. Of several with that time it is the one whose
-    /// `schedule` or last `reschedule` came first. `None` means that no job waits. The capacity stays. It takes time
-    /// logarithmic in the number of jobs.
+    /// `schedule` or last `reschedule` came first. `None` means that no job waits. The capacity stays.
+    /// It takes time logarithmic in the number of jobs.
     ///
     /// ```
     /// let mut scheduler: Scheduler<DefaultKey, &str> = Scheduler::new(alloc)?;
@@ -259,8 +260,8 @@ impl<K: Key, T: Drop> Scheduler<K, T> {
     /// Removes the next job, if it is due at `now`, and returns it with its time and its handle. It is
     /// never returned again, and its handle is never used again.
     ///
-    /// It is [`Scheduler::pop_due`] with the time for which the job was scheduled. It takes time
-    /// logarithmic in the number of jobs.
+    /// It is [`Scheduler::pop_due`] with the time at which the job was due. It takes time logarithmic in
+    /// the number of jobs.
     ///
     /// ```
     /// let mut scheduler: Scheduler<DefaultKey, &str> = Scheduler::new(alloc)?;
@@ -301,8 +302,9 @@ impl<K: Key, T: Drop> Scheduler<K, T> {
     /// returned again, and its handle is never used again.
     ///
     /// It is the waiting job with the least time. Of several with that time it is the one whose
-    /// `schedule` or last `reschedule` came first. `None` means that no job is due. The capacity stays. It takes time
-    /// logarithmic in the number of jobs. [`Scheduler::pop_due_with_time`] returns the job's time too.
+    /// `schedule` or last `reschedule` came first. `None` means that no job is due. The capacity stays.
+    /// It takes time logarithmic in the number of jobs. [`Scheduler::pop_due_with_time`] returns the
+    /// job's time too.
     ///
     /// ```
     /// let mut scheduler: Scheduler<DefaultKey, &str> = Scheduler::new(alloc)?;
@@ -351,8 +353,8 @@ impl<K: Key, T: Drop> Scheduler<K, T> {
     /// First it counts the jobs that are due, and reserves room for so many in the vector. So it fails
     /// only if memory runs out, and nothing has changed then. Where the vector has that room, the call
     /// succeeds, however many jobs wait, and the vector's capacity stays. The scheduler's capacity stays
-    /// in any case. It takes time logarithmic in
-    /// the number of jobs for each job that is due; the count takes constant time for each.
+    /// in any case. It takes time logarithmic in the number of jobs for each job that is due; the count
+    /// takes constant time for each.
     ///
     /// ```
     /// let mut scheduler: Scheduler<DefaultKey, &str> = Scheduler::new(alloc)?;

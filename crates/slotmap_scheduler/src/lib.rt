@@ -4,8 +4,8 @@
 //! [`Scheduler::pop_due`] returns the next due job. A clause sees the jobs that wait as one list, in
 //! the order in which they will be returned. What is proved of it:
 //!
-//! - Jobs are returned by ascending time. Of jobs with the same time, the one whose `schedule` or last
-//!   `reschedule` came first is returned first. Each handle waits once.
+//! - The next job is the waiting one with the least time. Of several with that time it is the one whose
+//!   `schedule` or last `reschedule` came first. Each handle waits once.
 //! - A job that was cancelled or returned is never returned again. Its handle is never used again, so
 //!   it finds no later job either.
 //! - A call that fails leaves the same jobs waiting, and uses up no handle. A `schedule` that fails
@@ -15,12 +15,15 @@
 //! - The capacity changes in [`Scheduler::schedule`] and [`Scheduler::reserve`] alone, where it can
 //!   only grow. The other calls lose no room.
 //!
+//! This holds in any run of calls, but `clone_from` starts anew: it makes the scheduler a copy of another.
+//!
 //! The jobs are in a `SlotMap`, and their turns in a heap in a `Vec`; each job has its place in the
 //! heap. So `schedule`, `reschedule`, `cancel` and the calls that pop a job take time logarithmic in the
 //! number of jobs, unless a vector grows. `pop_all_due` takes that for each job that is due. `clear`,
 //! `retain` and `clone` take time linear in the number of slots, and so do all steps of `iter`, `keys`
 //! or `values` together. `retain` and `drain` also take logarithmic time for each job that they take
-//! out. `reserve` takes time linear in the number of slots if a vector grows, else constant time. `peek`, `get`, `due`, `len` and the like take constant time.
+//! out. `reserve` takes time linear in the number of slots if a vector grows, else constant time.
+//! `peek`, `get`, `due`, `len` and the like take constant time.
 //!
 //! ```
 //! let mut scheduler: Scheduler<DefaultKey, &str> = Scheduler::new(alloc)?;
@@ -108,7 +111,7 @@ pub enum ScheduleError<T> {
     Memory(T),
 }
 
-/// A job was not rescheduled. It keeps its time.
+/// A job was not rescheduled. Nothing has changed.
 #[derive(Clone, Copy, Debug, Drop, PartialEq, Eq, Error)]
 pub enum RescheduleError {
     /// No job waits under the handle.
