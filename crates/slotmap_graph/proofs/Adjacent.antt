@@ -2,7 +2,7 @@
 use Rattle.slotmap_graph.proofs.Common.{Option, option_map, append_assoc, MatchOption, times_first, without_none, times_joined, cons_option, take-append-le, fold-append, IsBreadthFirst, entries_along}
 use Rattle.slotmap_graph.proofs.Common.{◌∙◌, is_some, append-nil, without, one_itself, one_other, SeenEdge, ends_at, ListsEdges, edges_at, IsJoined, take_more, take_all, ends_along, first_or}
 use Rattle.slotmap_graph.proofs.Common.{Some, None, List, refl, arith, false, ℕ, true, cond, length, get_or, take, nat_eq, IsLive, same, times, is_key, Edges, from, GoesOn, HasEdge, goes_to, marked}
-use Rattle.slotmap_graph.proofs.Common.{[], ap, suc, sym, Key, Seen, to, find, fold}
+use Rattle.slotmap_graph.proofs.Common.{[], ap, sym, Key, Seen, to, find, fold}
 use Rattle.std.proofs.Common.{◌≡◌, ◌≢◌, ◌<◌, ◌≤◌, ◌∷◌, ◌+◌, ◌++◌}
 use Rattle.std.proofs.lemmas.List.{Elements.filter_map-append, Folds.find-append}
 use Rattle.std.specs.FinMap as map
@@ -66,12 +66,9 @@ walked passed ahead all so_far none = grind (arith, append-nil passed)
 
 -- each edge has one end at most
 module _ {E : Type 0} (end : SeenEdge E → Key) (edges : Edges E) where
-  one_end : (o : Option Key) (ends : List Key) (n : ℕ) → length ends ≤ n → length (cons_option o ends) ≤ suc n
-  one_end o ends n less = grind (arith, less)
-
   pub ends_less : (ks : List Key) → length (ends_along end edges ks) ≤ length ks
   ends_less [] = omega arith
-  ends_less (k ∷ ks) = one_end (option_map end (map.get edges k)) (ends_along end edges ks) (length ks) (ends_less ks)
+  ends_less (k ∷ ks) = grind (arith, ends_less ks)
 
   -- the end of the first edge comes first
   pub first_end : (k : Key) (e : SeenEdge E) (ks : List Key) → map.get edges k ≡ Some e → ends_along end edges (k ∷ ks) ≡ end e ∷ ends_along end edges ks

@@ -150,11 +150,6 @@ pub gone_untouched : {N E : Type 0} (s : Seen N E) → IsJoined s → (k : Key) 
     → touches k e ≡ false
 gone_untouched s joined k gone x e there = let apart = gone_apart s joined k gone x e there in grind (arith, is_other e.from k apart.0, is_other e.to k apart.1)
 
--- where a value is returned, nothing is to be shown of `None`
-pub not_none : {A : Type 0} (P : Type 0) (o : Option A) → is_some o ≡ true → IfNone o P
-not_none P None is = absurd (cc)
-not_none P (Some x) is = tt
-
 -- nothing is listed where there is no node and no edge
 module _ {N E : Type 0} (end : SeenEdge E → Key) (nodes : Content N) (edges : Content (SeenEdge E)) (links : Lists) (no_nodes : nodes.live ≡ map.empty) (no_edges : edges.live ≡ map.empty) where
   no_node : (k : Key) → map.contains_key nodes.live k ≡ false

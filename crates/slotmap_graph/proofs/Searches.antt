@@ -1,10 +1,9 @@
 -- A search from a node along the edges, and one back for an edge that closes a cycle: from a node to one before it, until one comes again.
 use Rattle.slotmap_graph.proofs.Common.{append_assoc, length-append, contains_key, same_or_other, drop-append-le, times_first, times_joined, here_or_behind, no_more_than, times_pushed, ComesFromLeft}
 use Rattle.slotmap_graph.proofs.Common.{◌∙◌, ⊎_elim, option_map, append-nil, IsBeside, secondary, one_itself, one_other, times_there, none_behind, SeenEdge, ListsEdges, same_Some, ClosesCycle}
-use Rattle.slotmap_graph.proofs.Common.{false, length, get_or, is_some, arith, Option, IfNone, Content, IsLive, Pairs, times, Edges, HasEdge, LeadsBy, AllLed, HasNext, AreSeen, GoesOn, marked, IsLeft}
+use Rattle.slotmap_graph.proofs.Common.{false, length, get_or, is_some, arith, Content, IsLive, Pairs, times, Edges, HasEdge, LeadsBy, AllLed, HasNext, AreSeen, GoesOn, marked, IsLeft}
 use Rattle.slotmap_graph.proofs.Common.{ℕ, zero, suc, Bool, true, Some, List, [], drop, refl, sym, ap, inl, inr, Key, get, from, to, Seen, Leads, Finds}
 use Rattle.std.proofs.Common.{if◌then◌else◌, ◌≡◌, ◌≢◌, ◌+◌, ◌<◌, ◌≤◌, ◌⊎◌, ◌∷◌, ◌++◌}
-use Rattle.std.specs.Prelude.{IsSome}
 use Rattle.std.specs.FinMap as map
 
 module _ (seen : Pairs (Unit {0})) (found : List Key) (listed : AreSeen seen found) (x : Key) where
@@ -135,10 +134,6 @@ searching_fits nodes edges start seen found at searching =
 -- what holds of the keys of a list, and of one more
 pub each_pushed : (P : Key → Type 0) (ks : List Key) (y : Key) → ((x : Key) → 0 < times x ks → P x) → P y → (x : Key) → 0 < times x (ks ++ y ∷ []) → P x
 each_pushed P ks y each here x more = grind (arith, same_or_other x y, each x, times_pushed x ks y, one_other y x)
-
--- an answer that must be there
-pub must_be : (P : Type 0) (answer : Option Key) → IfNone answer (P → ⊥) → P → IsSome answer
-must_be P answer none some = grind arith
 
 leads_from : {E : Type 0} (edges : Edges E) (y h x : Key) → HasEdge edges y h → (n : ℕ) → LeadsBy edges n h x → LeadsBy edges (suc n) y x
 leads_from edges y h x join zero is = (y, refl, rw (← is) join)

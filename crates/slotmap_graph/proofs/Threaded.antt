@@ -38,10 +38,6 @@ module _ {N E : Type 0} (nodes : map.FinMap key_cmp N) (edges : Edges E) (links 
 mapped_some : {A B : Type 0} (f : A → B) (o : Option A) {b : B} → option_map f o ≡ Some b → (a : A) × (o ≡ Some a) × (f a ≡ b)
 mapped_some f o is = grind arith
 
--- an edge that doesn't exist has none after it
-pub none_after : {A B : Type 0} (f : A → Option B) (o : Option A) → is_some o ≡ false → None ≡ option_and_then f o
-none_after f o gone = grind arith
-
 module _ {N E : Type 0} {end : SeenEdge E → Key} {nodes : Content N} {edges : Content (SeenEdge E)} {links : Lists} (t : IsThreaded end nodes edges links) where
   pub indices_at : (p : ℕ) → AreIndices edges (list_of links p)
   indices_at p = record { have = λ i inside. (let l = t.live p i inside in (l.0, ap is_some l.2, l.3)) }

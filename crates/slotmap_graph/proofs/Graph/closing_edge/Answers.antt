@@ -1,6 +1,6 @@
 use Rattle.slotmap_graph.proofs.Common.{◌∙◌, ap, arith, is_some, list_map, sym, length-map}
 use Rattle.slotmap_graph.proofs.GraphSteps.{puts_alone}
-use Rattle.slotmap_graph.proofs.Searches.{back_start, back_step, back_end, back_fits, must_be}
+use Rattle.slotmap_graph.proofs.Searches.{back_start, back_step, back_end, back_fits}
 use Rattle.slotmap_graph.proofs.Graph.closing_edge.Goals as goal
 
 pub loop-passed-init : goal.loop-passed-init
@@ -15,7 +15,7 @@ pub mark-requires-clause-listed : goal.mark-requires-clause-listed
 mark-requires-clause-listed g c = c.loop-passed.invariant.listed
 
 pub unwrap-edge-requires : goal.unwrap-edge-requires
-unwrap-edge-requires g c = must_be _ c.edge_from_left.result c.edge_from_left.ensures.none c.loop-passed.invariant.left
+unwrap-edge-requires g c = grind (arith, c.edge_from_left.ensures.none, c.loop-passed.invariant.left)
 
 pub source-requires : goal.source-requires
 source-requires g c = let comes = rw c.unwrap-edge.ensures at c.edge_from_left.ensures.some in ap is_some comes.1

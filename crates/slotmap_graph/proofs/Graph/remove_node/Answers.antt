@@ -1,5 +1,5 @@
 use Rattle.slotmap_graph.proofs.Common.{◌∙◌, true, sym, ap, arith, is_some, refl, filter, keys, leaves_none, remove_spent, spent_remove, Key, from, to, edges_at}
-use Rattle.slotmap_graph.proofs.GraphSteps.{ends_apart, gone_seen, gone_threaded, gone_untouched, node_leaves, not_none}
+use Rattle.slotmap_graph.proofs.GraphSteps.{ends_apart, gone_seen, gone_threaded, gone_untouched, node_leaves}
 use Rattle.slotmap_graph.proofs.Thinned.{none_left, thin_end, thinned_end, thinned_spent, thinned_start}
 use Rattle.std.specs.FinMap as map
 use Rattle.slotmap_graph.proofs.Graph.remove_node.Goals as goal
@@ -68,5 +68,5 @@ returns g c =
           ∙ ap (λ s. edges_at s.out k) c.self.view_is ∙ left.out k ∙ ap (λ s. filter (map.contains_key s.edges.live) (edges_at c.args.self.now.out k)) (sym c.self.view_is);
       into = λ k. gone_seen c.self.invariant.into node c.remove.new.self gone.live gone.valid.capacity (λ x e there. (ends_apart node e (untouched x e there)).1) k
           ∙ ap (λ s. edges_at s.into k) c.self.view_is ∙ left.into k ∙ ap (λ s. filter (map.contains_key s.edges.live) (edges_at c.args.self.now.into k)) (sym c.self.view_is);
-      stale = not_none _ c.remove.result (ap is_some found ∙ sym c.contains_node.ensures ∙ c.if-not-contains_node.false);
+      stale = (let there = ap is_some found ∙ sym c.contains_node.ensures ∙ c.if-not-contains_node.false in grind (arith, there));
     }

@@ -1,6 +1,6 @@
-use Rattle.slotmap_graph.proofs.Common.{◌∙◌, Some, option_map, sym, ap, key_is, Key, IsLive, key_at}
+use Rattle.slotmap_graph.proofs.Common.{◌∙◌, Some, option_map, sym, ap, key_is, Key, IsLive, key_at, arith}
 use Rattle.std.proofs.Common.{◌≡◌}
-use Rattle.slotmap_graph.proofs.Threaded.{after_is, after_there, member_below, none_after}
+use Rattle.slotmap_graph.proofs.Threaded.{after_is, after_there, member_below}
 use Rattle.slotmap_graph.proofs.next.next_of.Goals.{After-idx}
 use Rattle.slotmap_graph.proofs.next.next_of.Goals as goal
 
@@ -14,7 +14,7 @@ pub next-requires : goal.next-requires
 next-requires g c = rw (c.idx.ensures.value, c.data.ensures.value) (member_below c.requires.2 c.args.edge (sym c.contains_key.ensures.value ∙ c.if-not-contains_key.false))
 
 pub returns-then-not-contains_key : goal.returns-then-not-contains_key
-returns-then-not-contains_key g c end nodes t = none_after _ _ (sym c.contains_key.ensures.value ∙ c.if-not-contains_key.true)
+returns-then-not-contains_key g c end nodes t = let gone = sym c.contains_key.ensures.value ∙ c.if-not-contains_key.true in grind (arith, gone)
 
 pub returns-in_err-next : goal.returns-in_err-next
 returns-in_err-next g c end nodes t = let at = (goal.at.returns-in_err-next g c).After-idx in rw c.from_residual.ensures
