@@ -1,5 +1,5 @@
 -- What the proofs of this crate cite of std, of the crates below and of its own definitions, from one place. Declares nothing.
-pub use Rattle.std.proofs.Common.{Bool, Bor, Err, IsOk, List, None, Option, Result, Some, T, [], ap, append-nil, append_assoc, arith, cond, false, get_or, is_some, length, option_copied}
+pub use Rattle.std.proofs.Common.{Bool, Err, IsOk, List, None, Option, Result, Some, T, [], ap, append-nil, append_assoc, arith, cond, false, get_or, is_some, length}
 pub use Rattle.std.proofs.Common.{refl, rules, set as list_set, subst, suc, sym, true, vec_len, zero, ℕ, ◌∙◌}
 pub use Rattle.std.proofs.lemmas.Bool.Decides.{nat_tests}
 pub use Rattle.std.proofs.lemmas.Cmp.{on_total, then_total}

@@ -1,9 +1,9 @@
 -- The places of the jobs in the heap, which has the turn of each: how a change of both keeps them, and what each call on the map and the heap leaves.
 use Rattle.std.proofs.Common.{◌+◌, ◌-◌, ◌<◌, ◌≡◌, ◌≢◌, ◌≤◌, ◌++◌, ◌∷◌}
-use Rattle.slotmap_scheduler.proofs.Common.{keys, same_or_other, exact_keys, itself, keys_total, tied, Content, Entry, IsHeap, IsHeapBut, IsPlaced, Job, Jobs, Key, List, None, Resettled, Some}
+use Rattle.slotmap_scheduler.proofs.Common.{keys, same_or_other, exact_keys, keys_total, tied, Content, Entry, IsHeap, IsHeapBut, IsPlaced, Job, Jobs, Key, List, None, Resettled, Some}
 use Rattle.slotmap_scheduler.proofs.Common.{SwappedAt, Turn, Vec, ap, arith, get-insert_here, get-insert_other, get_or, heap_entry, length, mapped-written, no_entry, option_map, refl}
 use Rattle.slotmap_scheduler.proofs.Common.{slice_get-get_or, slice_get_past, slice_get_read, spot_of, timed, true, unplaced, vec_capacity, vec_len, with_value, ℕ, ◌∙◌, Inserts, IsContent}
-use Rattle.slotmap_scheduler.proofs.Common.{IsIndexed, Option, Removes, [], content-mapped, get-mapped, get_or-append_right, get_or-set_other, get_or-set_same, get_or_append_left, inserted_fresh}
+use Rattle.slotmap_scheduler.proofs.Common.{IsIndexed, Removes, [], content-mapped, get-mapped, get_or-append_right, get_or-set_other, get_or-set_same, get_or_append_left, inserted_fresh}
 use Rattle.slotmap_scheduler.proofs.Common.{inserted_len, length-set, list_set, mapped-insert, mapped-inserts, none_of, removed_len, sym}
 use Rattle.slotmap_scheduler.proofs.Heaps.{heap_left, heap_put, same_or_not}
 use Rattle.std.specs.FinMap as map
@@ -127,9 +127,6 @@ module _ {T Z : Type 0} (jobs : Content (Job T)) (heap : Vec Entry Z) (is : IsPl
           len = len;
           capacity = capacity;
         }
-
-pub same_job : {T : Type 0} (o : Option (Job T)) (i j : Job T) → o ≡ Some i → o ≡ Some j → i ≡ j
-same_job o i j x y = grind arith
 
 module _ {T Z : Type 0} where
   -- the heap was set in order

@@ -1,16 +1,12 @@
 -- What a scheduler's user sees, by what its map holds.
 use Rattle.std.proofs.Common.{◌<◌, ◌∷◌, ◌≡◌, ◌≤◌}
-use Rattle.slotmap_scheduler.proofs.Common.{All, Bor, Content, Entry, IsContent, IsLive, IsSchedule, Job, Key, List, ListsJobs, None, Option, Some, Turn, Vec, [], ap, arith, false, get-mapped}
-use Rattle.slotmap_scheduler.proofs.Common.{heap_entry, is_some, job_of, len-mapped, length, length-map, list_map, no_entry, option_copied, option_map, precedes, refl, shown, slice_get}
+use Rattle.slotmap_scheduler.proofs.Common.{All, Content, Entry, IsContent, IsLive, IsSchedule, Job, Key, List, ListsJobs, None, Option, Some, Turn, Vec, [], ap, arith, false, get-mapped}
+use Rattle.slotmap_scheduler.proofs.Common.{heap_entry, is_some, job_of, len-mapped, length, length-map, list_map, no_entry, option_map, precedes, refl, shown, slice_get}
 use Rattle.slotmap_scheduler.proofs.Common.{slice_get-get_or, sym, timed, true, turn_at, unplaced, waiting_of, without, ℕ, ◌∙◌}
 use Rattle.slotmap_scheduler.proofs.Order.{job_is, len_is, none_due, none_wait, waits_first}
 use Rattle.slotmap_scheduler.proofs.{Heaps.top_first, HeapPlaces.entry_within}
 use Rattle.slotmap_scheduler.proofs.Waits.{find-shown, least_first, waits_by_time}
 use Rattle.std.specs.FinMap as map
-
--- a reference that is not there
-pub none_copied : {A : Type 0} (r : Option (Bor A)) (o : Option A) → option_copied r ≡ o → r ≡ None → o ≡ None
-none_copied r o is none = grind arith
 
 module _ {T Z : Type 0} {jobs : Content (Job T)} {count : ℕ} {heap : Vec Entry Z} (is : IsSchedule jobs count heap) (k : Key) where
   -- the time and the job of a handle

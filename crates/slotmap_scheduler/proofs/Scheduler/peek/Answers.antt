@@ -1,6 +1,6 @@
 use Rattle.std.proofs.Common.{◌≡◌}
-use Rattle.slotmap_scheduler.proofs.Common.{Some, ap, slice_get, sym, timed, ◌∙◌}
-use Rattle.slotmap_scheduler.proofs.Seen.{empty_waits, none_copied, top_later, top_least, top_waits}
+use Rattle.slotmap_scheduler.proofs.Common.{Some, ap, arith, slice_get, sym, timed, ◌∙◌}
+use Rattle.slotmap_scheduler.proofs.Seen.{empty_waits, top_later, top_least, top_waits}
 use Rattle.slotmap_scheduler.proofs.Waits.{waits_by_time, waits_once}
 use Rattle.slotmap_scheduler.proofs.Scheduler.peek.Goals as goal
 
@@ -18,8 +18,7 @@ returns g c =
 
 pub returns-in_err-next-clause-none : goal.returns-in_err-next-clause-none
 returns-in_err-next-clause-none g c =
-    let none = none_copied _ _ c.first.ensures.value c.in_err-next.was in
-    rw (c.from_residual.ensures, ← c.self.view_is) (empty_waits c.self.invariant (ap (λ xs. slice_get xs 0) (sym c.deref.ensures.value) ∙ none))
+    rw (c.from_residual.ensures, ← c.self.view_is) (empty_waits c.self.invariant (grind (arith, c.first.ensures.value, c.in_err-next.was, c.deref.ensures.value)))
 
 pub returns-in_err-next-clause-sorted : goal.returns-in_err-next-clause-sorted
 returns-in_err-next-clause-sorted g c = rw (← c.self.view_is) (waits_by_time (timed c.self.inside.jobs).live)

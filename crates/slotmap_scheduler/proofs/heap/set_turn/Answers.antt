@@ -1,5 +1,5 @@
 use Rattle.slotmap_scheduler.proofs.Common.{arith, mapped-with}
-use Rattle.slotmap_scheduler.proofs.HeapPlaces.{in_heap, indexed_settled, same_job, turned_but, turned_len, turned_placed}
+use Rattle.slotmap_scheduler.proofs.HeapPlaces.{in_heap, indexed_settled, turned_but, turned_len, turned_placed}
 use Rattle.slotmap_scheduler.proofs.heap.set_turn.Goals as goal
 
 pub index_mut-requires : goal.index_mut-requires
@@ -17,7 +17,7 @@ settle-requires g c =
     }
 
 pub returns-clause-written : goal.returns-clause-written
-returns-clause-written g c j found = grind (arith, same_job, mapped-with, c.index_mut-job.ensures.value, c.settle.ensures.resettled.same)
+returns-clause-written g c j found = grind (arith, mapped-with, c.index_mut-job.ensures.value, c.settle.ensures.resettled.same)
 
 pub returns-clause-indexed : goal.returns-clause-indexed
 returns-clause-indexed g c =
