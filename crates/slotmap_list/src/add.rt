@@ -2,7 +2,7 @@
 
 ghost use Rattle.std.specs.Prelude.{◌≡◌, ◌+◌, ◌<◌, ◌≤◌, ◌++◌, ◌∷◌, [], IsOk, IfOk, OnOk, IfErr, OnErr, IsSome, IsTrue, ◌↔◌, None, true};
 ghost use Rattle.slotmap.specs.Words.{HasVacant, Inserts, IsSpent, Keeps, KeepsSpent, used};
-ghost use Rattle.slotmap_list.specs.Sequence.{value_of, last_or, key_after, key_before, put_after, put_before};
+ghost use Rattle.slotmap_list.specs.Sequence.{value_of, first_or, last_or, key_after, key_before, put_after, put_before};
 ghost use Rattle.slotmap_list.specs.ListPlaces.{insert_beside, is_place, put_by_place};
 ghost use Rattle.slotmap_list.specs.Refused.{RefusesPlace, RefusesPush};
 
@@ -110,6 +110,7 @@ impl<K: Key, T: Drop> StableList<K, T> {
     /// ```
     pub fn push_front(&mut self, value: T) -> Result<K, PushError<T>>
         ensures ok { IfOk result (λ key. self.new.elements ≡ (K.data_of key, value) ∷ self.old.elements) }
+        ensures first { IfOk result (λ key. first_or self.new.elements None ≡ Some (K.data_of key)) }
         ensures fresh { IfOk result (λ key. value_of (K.data_of key) self.old.elements ≡ None) }
         ensures unspent { IfOk result (λ key. IsSpent self.old.cursors (K.data_of key) → ⊥) }
         ensures cursors { IfOk result (λ key. Inserts self.old.cursors (K.data_of key) tt self.new.cursors) }

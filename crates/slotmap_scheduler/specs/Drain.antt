@@ -1,14 +1,16 @@
 -- What a contract sees of a `Drain`.
 use Rattle.std.specs.Prelude.{◌≡◌, ℕ, ◌++◌, List, [], ◌∷◌, Option, Some, None, true, is_some, length, map as list_map}
+use Rattle.std.specs.FinMap as map
 use Rattle.std.specs.Borrow.{MutBor}
 use Rattle.std.specs.Iterator.{Count, at_most, Yields}
 use Rattle.slotmap.specs.Words.{Key, IsSpent, KeepsSpent, Leaves}
 use Rattle.slotmap_scheduler.specs.Schedule.{Schedule, Waiting, job_of}
 use Rattle.slotmap_scheduler.specs.declared.drain.Drain.{Drain}
 
--- no job waits, and the handles of all that did are spent; no room is lost, and the capacity stays
+-- no job waits, and no handle is live; those of all that waited are spent; no room is lost, and the capacity stays
 pub record EmptiesSchedule {T : Type 0} (old new : Schedule T) : Type 0 where
   pub empty : new.waiting ≡ []
+  pub none_live : new.handles.live ≡ map.empty
   pub for_good : (k : Key) → is_some (job_of k old.waiting) ≡ true → IsSpent new.handles k
   pub stale : KeepsSpent old.handles new.handles
   pub leaves : Leaves old.handles new.handles

@@ -90,6 +90,7 @@ impl<K: Key, T: Drop> Scheduler<K, T> {
         ensures fresh { IfOk result (λ handle. job_of (K.data_of handle) self.old.waiting ≡ None) }
         ensures unspent { IfOk result (λ handle. IsSpent self.old.handles (K.data_of handle) → ⊥) }
         ensures handles { IfOk result (λ handle. Inserts self.old.handles (K.data_of handle) tt self.new.handles) }
+        ensures turn { OnOk result (self.old.turns < last_turn) }
         ensures turns { OnOk result (self.new.turns ≡ self.old.turns + 1) }
 
         // If there is room, it can't fail, and the capacity stays. For each vacant slot there is room.
@@ -173,6 +174,7 @@ impl<K: Key, T: Drop> Scheduler<K, T> {
         ensures others { (q : KeyOf) → q ≢ K.data_of handle → job_of q self.new.waiting ≡ job_of q self.old.waiting }
         ensures as_many { length self.new.waiting ≡ length self.old.waiting }
         ensures waits { OnOk result (is_some (job_of (K.data_of handle) self.old.waiting) ≡ true) }
+        ensures turn { OnOk result (self.old.turns < last_turn) }
         ensures turns { OnOk result (self.new.turns ≡ self.old.turns + 1) }
         ensures handles { self.new.handles ≡ self.old.handles }
 

@@ -36,6 +36,7 @@ returns g c =
       others = rw (← c.self.view_is, ← c.inner-key.ensures) (λ q other. grind (arith, found q, tied keys_total exact_keys q c.inner-key.result));
       as_many = rw (← c.self.view_is) (grind (arith, waits, len_in_turn, len_without c.inner-key.result was _ (waits_once _ _ c.self.invariant.order) there));
       waits = rw (← c.self.view_is, ← c.inner-key.ensures) (ap is_some there);
+      turn = search rules;
       turns = search rules;
       err = tt;
       unchanged = tt;
