@@ -1,14 +1,13 @@
 -- What callers of a world cite: loops over the positions of its keys, which change components or remove entities on their way,
 -- and loops over its keys or a join.
-use Rattle.std.proofs.Common.{◌≡◌, ◌≢◌, ◌⊎◌, ℕ, zero, suc, ◌+◌, ◌-◌, ◌<◌, ◌≤◌, true, false, Some, List, Option, None, IfSome, IfNone, swap_remove, [], ◌∷◌}
-use Rattle.std.proofs.Common.{length, zip, slice_get, get_or, map as list_map, inl, inr, refl, sym, ap, ◌∙◌, arith, Bool, if◌then◌else◌, All, filter_map, option_and_then}
+use Rattle.std.proofs.Common.{◌≡◌, ◌≢◌, ◌⊎◌, ℕ, ◌+◌, ◌≤◌, swap_remove, ◌∷◌, slice_get, map as list_map, ◌∙◌, if◌then◌else◌, filter_map, option_and_then}
+use Rattle.std.proofs.Common.{zero, suc, ◌-◌, ◌<◌, true, false, Some, List, Option, None, IfSome, IfNone, [], length, zip, get_or, inl, inr, refl, sym, ap, arith, Bool, All}
+use Rattle.std.proofs.lemmas.List.Elements.{All-cons, All-head, All-tail, All-nil}
+use Rattle.std.proofs.lemmas.Option.{slice_get-get_or, slice_get_within, slice_get-map}
 use Rattle.std.proofs.lemmas.{Grind.common_steps, List.length-map}
-use Rattle.std.proofs.lemmas.List.Elements.{All-cons, All-head, All-nil, All-tail}
-use Rattle.std.specs.List.{cons_option}
-use Rattle.slotmap.specs.Words.{Key, key_cmp, ClosesGap, Dense, IsDense, IsLive}
-use Rattle.std.specs.Option.{option_map}
-use Rattle.std.proofs.lemmas.Option.{slice_get-get_or, slice_get-map, slice_get_within}
 use Rattle.std.proofs.lemmas.Slice.Zip.{length-zip}
+use Rattle.std.specs.{List.cons_option, Option.option_map}
+use Rattle.slotmap.specs.Words.{Key, key_cmp, ClosesGap, Dense, IsDense, IsLive}
 use Rattle.slotmap_entities.specs.World.{World, found_by, both_found_by, three_found_by, found_without}
 use Rattle.slotmap.proofs.Callers.{keys_total, exact_keys, tied, alike_or_apart, get_after_remove, live-remove_other}
 use Rattle.std.specs.FinMap as map
@@ -26,8 +25,7 @@ module _ {V : Type 0} where
       → map.contains_key (map.from_entries {R = key_cmp} (zip ks vs)) k ≡ true
   stands_in [] vs same i k there = absurd (cc)
   stands_in (q ∷ ks) [] same i k there = absurd (omega (arith, same))
-  stands_in (q ∷ ks) (v ∷ vs) same zero k there =
-      grind (arith, map.get-insert keys_total (map.from_entries (zip ks vs)) q v k, tied keys_total exact_keys k q)
+  stands_in (q ∷ ks) (v ∷ vs) same zero k there = grind (arith, map.get-insert keys_total (map.from_entries (zip ks vs)) q v k, tied keys_total exact_keys k q)
   stands_in (q ∷ ks) (v ∷ vs) same (suc i) k there =
       let rest = stands_in ks vs (omega (arith, same)) i k there in
       grind (arith, map.get-insert keys_total (map.from_entries (zip ks vs)) q v k)
@@ -125,8 +123,7 @@ module _ {E T X : Type 0} {part : World E T → Key → X} {Change : Key → X �
         changes = rw (← as_it_was) change
 
   -- after the loop this holds of each entity
-  pub pass_end : IsDense old.entities → map.len old.entities.content.live ≤ at → (k : Key) → IsLive old.entities.content k
-      → Change k (part old k) (part now k)
+  pub pass_end : IsDense old.entities → map.len old.entities.content.live ≤ at → (k : Key) → IsLive old.entities.content k → Change k (part old k) (part now k)
   pass_end valid all k live =
       let stands = stands_somewhere old.entities valid k live in
       passes.changed stands.0 k (omega (arith, all, key_count old.entities valid, slice_get_within old.entities.keys stands.0 k stands.1)) stands.1
@@ -158,8 +155,7 @@ module _ {V T P : Type 0} (old new : World V T) (valid : IsDense old.entities) (
     gap_before : (i : ℕ) → i < at → slice_get new.entities.keys i ≡ slice_get old.entities.keys i
     gap_before i less = ap (λ ks. slice_get ks i) closes.keys ∙ before_gap old.entities.keys closes.position i k (omega (arith, gap, less)) within
 
-    gap_behind : (i : ℕ) (q : Key) → at ≤ i → slice_get new.entities.keys i ≡ Some q → (j : ℕ) × (at < j)
-        × (slice_get old.entities.keys j ≡ Some q)
+    gap_behind : (i : ℕ) (q : Key) → at ≤ i → slice_get new.entities.keys i ≡ Some q → (j : ℕ) × (at < j) × (slice_get old.entities.keys j ≡ Some q)
     gap_behind i q more found = rw (← gap) (behind_gap old.entities.keys closes.position i k q (omega (arith, gap, more)) within (rw closes.keys at found))
 
   kept_before : (result : Option (V × P)) → IfSome result (λ removed. ClosesGap old.entities k removed.0 new.entities) → IfNone result (new ≡ old)
@@ -253,8 +249,7 @@ module _ {E T X : Type 0} {part : World E T → Key → X} {Keeps : Key → X �
         was_in q live = grind (arith, get_after_remove keys_total exact_keys now.entities.content.live (data_of k) q)
 
   -- after the loop each entity that is there was kept, and each other one was one to go
-  pub thin_end : IsDense now.entities → map.len now.entities.content.live ≤ at → (k : Key) → IsLive now.entities.content k
-      → Keeps k (part old k) (part now k)
+  pub thin_end : IsDense now.entities → map.len now.entities.content.live ≤ at → (k : Key) → IsLive now.entities.content k → Keeps k (part old k) (part now k)
   thin_end valid all k live =
       let stands = stands_somewhere now.entities valid k live in
       thins.kept stands.0 k (omega (arith, all, key_count now.entities valid, slice_get_within now.entities.keys stands.0 k stands.1)) stands.1

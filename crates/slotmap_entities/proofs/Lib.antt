@@ -1,6 +1,6 @@
 pub mod Callers
+mod Common
 mod Fewer
 mod LiveOnly
 mod Spawned
 mod TableCount
-mod TableRoom

@@ -1,9 +1,9 @@
--- A table beside a map has at most as many components as the map has live keys.
-use Rattle.std.proofs.Common.{◌≡◌, ℕ, zero, suc, ◌≤◌, Some, true, List, [], ◌∷◌, length, refl, ap, ◌∙◌, is_some, arith}
-use Rattle.std.specs.{Cmp.nat_cmp_total, Ordering.nat_cmp}
+-- How many components a table has: beside a map at most as many as that has live keys, and after a put at most one more.
+use Rattle.std.proofs.Common.{◌≡◌, ℕ, zero, suc, ◌+◌, ◌≤◌, Some, Result, Ok, Err, OnOk, OnErr, true, List, [], ◌∷◌, length, refl, ap, ◌∙◌, is_some, arith}
 use Rattle.std.proofs.lemmas.Map.Lookups.{exact_unsigned}
-use Rattle.slotmap.specs.Words.{Key, key_cmp, Content, IsBeside, Pairs}
 use Rattle.std.proofs.lemmas.Bool.Decides.{nat_tests}
+use Rattle.std.specs.{Cmp.nat_cmp_total, Ordering.nat_cmp}
+use Rattle.slotmap.specs.Words.{Key, key_cmp, Content, IsBeside, Pairs, contains_key, put}
 use Rattle.slotmap.proofs.Callers.{keys_total, exact_keys, get_after_remove, left_in, len_removed}
 use Rattle.std.specs.FinMap as map
 
@@ -37,3 +37,15 @@ module _ {E V : Type 0} where
 -- a table beside a map has at most as many components as the map has live keys
 pub beside_count : {E V : Type 0} (c : Content E) (m : Pairs V) → IsBeside c m → map.len m ≤ map.len c.live
 beside_count c m beside = counted (map.len m) m c.live refl (λ i p found. beside _ (grind (arith, nat_tests, found)))
+
+module _ {V : Type 0} where
+  -- a put adds one at most, whatever it returns
+  pub one_more : {A B : Type 0} (answer : Result A B) (old new : Pairs V) (k : Key) (v : V) → OnOk answer (new ≡ put old k v) → OnErr answer (new ≡ old) → map.len new ≤ map.len old + 1
+  one_more (Ok x) old new k v puts keeps = grind (arith, map.len-insert nat_cmp_total old k.index (k.version, v))
+  one_more (Err e) old new k v puts keeps = grind arith
+
+  -- a put where there is a value already adds none, whatever it returns
+  pub none_more : {A B : Type 0} (answer : Result A B) (old new : Pairs V) (k : Key) (v : V) → OnOk answer (new ≡ put old k v) → OnErr answer (new ≡ old)
+      → contains_key old k ≡ true → map.len new ≤ map.len old
+  none_more (Ok x) old new k v puts keeps there = grind (arith, map.len-insert nat_cmp_total old k.index (k.version, v))
+  none_more (Err e) old new k v puts keeps there = grind arith

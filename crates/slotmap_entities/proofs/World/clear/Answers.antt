@@ -1,6 +1,4 @@
-use Rattle.std.proofs.Common.{false, ap, ◌∙◌, is_some}
-use Rattle.slotmap.specs.Words.{key_cmp}
-use Rattle.slotmap.proofs.Callers.{left_spent, spent_leaves}
+use Rattle.slotmap_entities.proofs.Common.{false, ap, ◌∙◌, is_some, key_cmp, left_spent, spent_leaves}
 use Rattle.std.specs.FinMap as map
 use Rattle.slotmap_entities.proofs.World.clear.Goals as goal
 

@@ -1,6 +1,4 @@
-use Rattle.std.proofs.Common.{sym}
-use Rattle.slotmap.proofs.Callers.{beside_bound}
-use Rattle.slotmap_entities.proofs.LiveOnly.{own_beside, table_live}
+use Rattle.slotmap_entities.proofs.Common.{sym, beside_bound, own_beside, table_live}
 use Rattle.slotmap_entities.proofs.World.component_mut.Goals as goal
 
 pub invariant_of-self-lent : goal.invariant_of-self-lent

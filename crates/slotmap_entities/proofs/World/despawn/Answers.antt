@@ -1,6 +1,4 @@
-use Rattle.std.proofs.Common.{false, is_some, sym, ap, ◌∙◌}
-use Rattle.slotmap.proofs.Callers.{leaves_none, leaves_by_removal, remove_spent-dense, spent_remove-dense}
-use Rattle.slotmap_entities.proofs.LiveOnly.{removed_live}
+use Rattle.slotmap_entities.proofs.Common.{false, is_some, sym, ap, ◌∙◌, leaves_none, leaves_by_removal, remove_spent-dense, spent_remove-dense, removed_live}
 use Rattle.slotmap_entities.proofs.World.despawn.Goals as goal
 
 pub invariant_of-self-2 : goal.invariant_of-self-2

@@ -1,5 +1,4 @@
-use Rattle.slotmap.proofs.Callers.{removed_gone, get-remove_other, beside_taken}
-use Rattle.slotmap_entities.proofs.LiveOnly.{own_beside, table_live}
+use Rattle.slotmap_entities.proofs.Common.{removed_gone, get-remove_other, beside_taken, own_beside, table_live}
 use Rattle.slotmap_entities.proofs.World.detach.Goals as goal
 
 pub invariant_of-self : goal.invariant_of-self

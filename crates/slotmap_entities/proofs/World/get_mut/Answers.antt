@@ -1,7 +1,4 @@
-use Rattle.std.proofs.Common.{ap}
-use Rattle.slotmap.specs.Words.{with_value_of}
-use Rattle.slotmap.proofs.Callers.{same_lent}
-use Rattle.slotmap_entities.specs.World.{World}
+use Rattle.slotmap_entities.proofs.Common.{ap, with_value_of, same_lent, World}
 use Rattle.slotmap_entities.proofs.World.get_mut.Goals as goal
 
 pub returns-in-Some : goal.returns-in-Some

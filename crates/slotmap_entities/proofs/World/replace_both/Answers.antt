@@ -1,6 +1,4 @@
-use Rattle.std.proofs.Common.{ap, ◌∙◌}
-use Rattle.slotmap.proofs.Callers.{beside_bound, get-bind_here, get-bind_other}
-use Rattle.slotmap_entities.proofs.LiveOnly.{own_beside, table_live}
+use Rattle.slotmap_entities.proofs.Common.{ap, ◌∙◌, beside_bound, get-bind_here, get-bind_other, own_beside, table_live}
 use Rattle.slotmap_entities.proofs.World.replace_both.Goals as goal
 
 pub invariant_of-self : goal.invariant_of-self

@@ -1,7 +1,5 @@
-use Rattle.std.proofs.Common.{◌≡◌, true, Option, Some, None, is_some, refl, sym, ap, ◌∙◌}
-use Rattle.slotmap.specs.Words.{Key, Pairs, contains_key, keyed}
-use Rattle.slotmap.proofs.Callers.{get-keyed, retained_none}
-use Rattle.slotmap_entities.proofs.LiveOnly.{own_beside, table_live}
+use Rattle.slotmap_entities.proofs.Common.{true, Option, Some, None, is_some, refl, sym, ap, ◌∙◌, Key, Pairs, contains_key, keyed, get-keyed, retained_none, own_beside, table_live}
+use Rattle.std.proofs.Common.{◌≡◌}
 use Rattle.std.specs.FinMap as map
 use Rattle.slotmap_entities.proofs.World.retain_components.Goals as goal
 

@@ -1,5 +1,4 @@
-use Rattle.slotmap.proofs.Callers.{spent_insert-dense}
-use Rattle.slotmap_entities.proofs.Spawned.{spawned_index}
+use Rattle.slotmap_entities.proofs.Common.{spent_insert-dense, spawned_index}
 use Rattle.slotmap_entities.proofs.World.spawn.Goals as goal
 
 pub returns-clause-gone : goal.returns-clause-gone

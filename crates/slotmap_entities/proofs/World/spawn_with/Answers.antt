@@ -1,5 +1,4 @@
-use Rattle.slotmap_entities.proofs.LiveOnly.{table_live}
-use Rattle.slotmap_entities.proofs.Spawned.{spawned_bare, spawned_still, spawned_spent, spawned_index}
+use Rattle.slotmap_entities.proofs.Common.{table_live, spawned_bare, spawned_still, spawned_spent, spawned_index}
 use Rattle.slotmap_entities.proofs.World.spawn_with.Goals as goal
 
 pub invariant_of-self : goal.invariant_of-self

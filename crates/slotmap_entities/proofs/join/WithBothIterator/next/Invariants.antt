@@ -1,6 +1,5 @@
-use Rattle.std.proofs.Common.{◌≡◌, length}
-use Rattle.slotmap.specs.Words.{get}
-use Rattle.slotmap_entities.specs.World.{both_found_by}
+use Rattle.slotmap_entities.proofs.Common.{length, get, both_found_by}
+use Rattle.std.proofs.Common.{◌≡◌}
 use Rattle.slotmap_entities.proofs.join.WithBothIterator.next.Given as goal
 
 -- the keys that were passed lack a component

@@ -1,6 +1,5 @@
-use Rattle.std.proofs.Common.{◌≡◌, length}
-use Rattle.slotmap.specs.Words.{get}
-use Rattle.slotmap_entities.specs.World.{found_by}
+use Rattle.slotmap_entities.proofs.Common.{length, get, found_by}
+use Rattle.std.proofs.Common.{◌≡◌}
 use Rattle.slotmap_entities.proofs.join.WithIterator.next.Given as goal
 
 -- the keys that were passed have no component

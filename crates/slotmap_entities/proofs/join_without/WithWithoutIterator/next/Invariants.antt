@@ -1,6 +1,5 @@
-use Rattle.std.proofs.Common.{◌≡◌, length}
-use Rattle.slotmap.specs.Words.{contains_key, get}
-use Rattle.slotmap_entities.specs.World.{found_without}
+use Rattle.slotmap_entities.proofs.Common.{length, contains_key, get, found_without}
+use Rattle.std.proofs.Common.{◌≡◌}
 use Rattle.slotmap_entities.proofs.join_without.WithWithoutIterator.next.Given as goal
 
 -- the keys that were passed lack the one component, or have the other

@@ -1,5 +1,4 @@
-use Rattle.std.proofs.Common.{arith}
-use Rattle.slotmap_entities.proofs.TableRoom.{none_more, one_more}
+use Rattle.slotmap_entities.proofs.Common.{arith, none_more, one_more}
 use Rattle.slotmap_entities.proofs.tables.SparseSecondaryMapTable.insert.Goals as goal
 
 pub returns-clause-less_room : goal.returns-clause-less_room
