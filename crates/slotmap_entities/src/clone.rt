@@ -111,6 +111,9 @@ pub trait CloneKind<K: Key, T: CloneTables<K>>: Kind<K, T> {
     // What a clone of a component may be.
     ghost is_clone: { Self.Table.Component → Self.Table.Component → Type 0 };
 
+    // Where clones equal their components, they do in this kind.
+    ghost own_equal: { T.clones_equal → ClonesEqual is_clone };
+
     // In a copy of the tables the table of this kind has the same entities, each with a clone of its component.
     ghost own_clones: { (t u : T) → T.are_clones t u → HasClones is_clone (Self.Table.pairs (Self.Kind.table t)) (Self.Table.pairs (Self.Kind.table u)) };
 }
@@ -118,12 +121,16 @@ pub trait CloneKind<K: Key, T: CloneTables<K>>: Kind<K, T> {
 impl<K: Key, A: CloneTable<K>, B: CloneTables<K>> CloneKind<K, (A, B)> for First {
     ghost is_clone = { A.is_clone };
 
+    ghost own_equal = { λ equal. equal.0 };
+
     ghost own_clones = { λ t u clones. clones.0 };
 }
 
 impl<K: Key, A: CloneTable<K>, B: CloneTables<K>, C: CloneKind<K, B>> CloneKind<K, (A, B)>
     for Then<C> {
     ghost is_clone = { C.is_clone };
+
+    ghost own_equal = { λ equal. C.own_equal equal.1 };
 
     ghost own_clones = { λ t u clones. C.own_clones t.1 u.1 clones.1 };
 }

@@ -1,8 +1,9 @@
 //! The kinds of components: by them a call names the table that it is about.
 
-ghost use Rattle.std.specs.Prelude.{◌≡◌, ◌⊎◌, ◌||◌, ℕ, true, is_some, refl};
+ghost use Rattle.std.specs.Prelude.{◌≡◌, ◌⊎◌, ◌+◌, ◌||◌, ℕ, true, is_some, refl};
 ghost use Rattle.std.specs.Borrow.{sem, Lends};
 ghost use Rattle.slotmap.specs.Words.{Key as KeyOf, contains_key, get};
+ghost use Rattle.std.specs.FinMap as map;
 
 use crate::tables::{Table, Tables};
 use slotmap::Key;
@@ -67,6 +68,10 @@ pub trait Kind<K: Key, T: Tables<K>> {
 
     // Where no table has less room than before, its own hasn't.
     ghost own_room: { (t u : T) → T.keeps_room t u → (i count : ℕ) → Self.Table.fits (table t) i count → Self.Table.fits (table u) i count };
+
+    // Where each table has room again for what it had, its own has.
+    ghost own_back: { (t u : T) → T.gives_back t u
+        → (i count : ℕ) → Self.Table.fits (table t) i count → Self.Table.fits (table u) i (map.len (Self.Table.pairs (table t)) + count) };
 }
 
 /// Two kinds of components with a table each: no kind is apart from itself.
@@ -141,6 +146,8 @@ impl<K: Key, A: Table<K>, B: Tables<K>> Kind<K, (A, B)> for First {
     ghost own_part = { λ t u k same. ap (λ p. p.0) same };
 
     ghost own_room = { λ t u keeps i count fit. keeps.0 i count fit };
+
+    ghost own_back = { λ t u back i count fit. back.0 i count fit };
 }
 
 impl<K: Key, A: Table<K>, B: Tables<K>, C: Kind<K, B>> Kind<K, (A, B)> for Then<C> {
@@ -176,6 +183,8 @@ impl<K: Key, A: Table<K>, B: Tables<K>, C: Kind<K, B>> Kind<K, (A, B)> for Then<
     ghost own_part = { λ t u k same. C.own_part t.1 u.1 k (ap (λ p. p.1) same) };
 
     ghost own_room = { λ t u keeps i count fit. C.own_room t.1 u.1 keeps.1 i count fit };
+
+    ghost own_back = { λ t u back i count fit. C.own_back t.1 u.1 back.1 i count fit };
 }
 
 impl<K: Key, A: Table<K>, B: Tables<K>, C: Kind<K, B>> Apart<K, (A, B), Then<C>> for First {

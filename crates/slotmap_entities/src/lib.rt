@@ -315,7 +315,7 @@ impl<K: Key, E: Drop, T: Tables<K>> World<K, E, T> {
         // All else is as before.
         ensures leaves { Leaves self.old.entities.content self.new.entities.content }
         ensures capacity { self.new.entities.content.capacity ≡ self.old.entities.content.capacity }
-        ensures room { OnSome result (T.keeps_room self.old.tables self.new.tables) }
+        ensures room { T.keeps_room self.old.tables self.new.tables }
         ensures others { (q : KeyOf) → q ≢ K.data_of key → (T.has self.new.tables q ≡ T.has self.old.tables q) × (T.parts self.new.tables q ≡ T.parts self.old.tables q) }
         ensures gone { KeepsSpent self.old.entities.content self.new.entities.content }
         ensures unchanged { IfNone result (self.new ≡ self.old) }
@@ -326,8 +326,8 @@ impl<K: Key, E: Drop, T: Tables<K>> World<K, E, T> {
 
     /// Removes all entities and all components. The keys are never used again. The capacity stays, and
     /// there is room for as many entities more as were removed, but for the keys that were the last of
-    /// their slots. No table loses room. It takes time linear in the number of entities and in the sizes of
-    /// the tables.
+    /// their slots. Each table has room for as many components in all as before. It takes time linear in the
+    /// number of entities and in the sizes of the tables.
     ///
     /// ```
     /// let mut world: World<DefaultKey, u8, ()> = World::new(alloc)?;
@@ -344,6 +344,7 @@ impl<K: Key, E: Drop, T: Tables<K>> World<K, E, T> {
         ensures gone { KeepsSpent self.old.entities.content self.new.entities.content }
         ensures tables { (q : KeyOf) → T.has self.new.tables q ≡ false }
         ensures room { T.keeps_room self.old.tables self.new.tables }
+        ensures gives_back { T.gives_back self.old.tables self.new.tables }
     {
         self.entities.clear();
         self.tables.clear();

@@ -165,7 +165,7 @@ pub trait Table<K: Key>: Drop {
         ensures retained { RetainsBy F.FnMut K.data_of f (keyed (pairs self.old)) (keyed (pairs self.new)) }
         ensures room { (i count : ℕ) → fits self.old i count → fits self.new i count };
 
-    /// Removes all components.
+    /// Removes all components. There is room for as many in all as before.
     ///
     /// ```
     /// let hero = DefaultKey::from(KeyData::new(1, 1));
@@ -176,7 +176,8 @@ pub trait Table<K: Key>: Drop {
     /// ```
     fn clear(&mut self)
         ensures empty { pairs self.new ≡ map.empty }
-        ensures room { (i count : ℕ) → fits self.old i count → fits self.new i count };
+        ensures room { (i count : ℕ) → fits self.old i count → fits self.new i count }
+        ensures gives_back { (i count : ℕ) → fits self.old i count → fits self.new i (map.len (pairs self.old) + count) };
 
     ghost with_value_is: { (m : Self) (k : KeyOf) (v : Self.Component) → pairs (with_value m k v) ≡ bind (pairs m) k v };
 
@@ -338,10 +339,13 @@ impl<K: Key, C: Drop> Table<K> for SparseSecondaryMap<K, C> {
 ///
 ///     ghost no_parts = { (None, None) };
 ///
-///     ghost keeps_room = { λ old new. (old.health.capacity ≤ new.health.capacity)
-///         × (old.armour.capacity ≤ new.armour.capacity) };
+///     ghost keeps_room = { λ old new. (old.health.capacity ≤ new.health.capacity) × (old.armour.capacity ≤ new.armour.capacity) };
+///
+///     ghost gives_back = { λ old new. (old.health.capacity ≤ new.health.capacity) × (old.armour.capacity ≤ new.armour.capacity) };
 ///     ..
 ///     ghost has_none = { λ tables k none. Prim.grind arith };
+///
+///     ghost same_room = { λ tables. (Prim.omega arith, Prim.omega arith) };
 /// }
 ///
 /// impl Kind<DefaultKey, Parts> for Health {
@@ -353,7 +357,9 @@ impl<K: Key, C: Drop> Table<K> for SparseSecondaryMap<K, C> {
 ///     ..
 ///     ghost has_own = { λ tables k. Prim.grind arith };
 ///
-///     ghost own_room = { λ old new keeps i count fit. let more = keeps.0 in Prim.omega arith };
+///     ghost own_room = { λ old new keeps i count fit. let grows = keeps.0 in Prim.omega arith };
+///
+///     ghost own_back = { λ old new back i count fit. let grows = back.0 in Prim.omega arith };
 /// }
 /// ```
 ///
@@ -380,6 +386,9 @@ pub trait Tables<K: Key>: Drop {
     // That no table has less room than before.
     ghost keeps_room: { Self → Self → Type 0 };
 
+    // That each table has room again for what it had, beside the room that it had.
+    ghost gives_back: { Self → Self → Type 0 };
+
     /// Makes empty tables. It fails only if memory runs out.
     ///
     /// ```
@@ -405,7 +414,7 @@ pub trait Tables<K: Key>: Drop {
         ensures others { (q : KeyOf) → q ≢ K.data_of key → (has self.new q ≡ has self.old q) × (parts self.new q ≡ parts self.old q) }
         ensures room { keeps_room self.old self.new };
 
-    /// Removes all components of all entities.
+    /// Removes all components of all entities. Each table has room for as many in all as before.
     ///
     /// ```
     /// let hero = DefaultKey::from(KeyData::new(1, 1));
@@ -416,10 +425,14 @@ pub trait Tables<K: Key>: Drop {
     /// ```
     fn clear(&mut self)
         ensures empty { (q : KeyOf) → has self.new q ≡ false }
-        ensures room { keeps_room self.old self.new };
+        ensures room { keeps_room self.old self.new }
+        ensures gives_back { gives_back self.old self.new };
 
     // An entity without components has nothing in each of them.
     ghost has_none: { (t : Self) (k : KeyOf) → has t k ≡ false → parts t k ≡ no_parts };
+
+    // Where nothing changes, no table has less room.
+    ghost same_room: { (t : Self) → keeps_room t t };
 }
 
 impl<K: Key> Tables<K> for () {
@@ -433,6 +446,8 @@ impl<K: Key> Tables<K> for () {
 
     ghost keeps_room = { λ old new. Unit {0} };
 
+    ghost gives_back = { λ old new. Unit {0} };
+
     fn new(_alloc: Global) -> Result<(), ReserveError> {
         Ok(())
     }
@@ -442,6 +457,8 @@ impl<K: Key> Tables<K> for () {
     fn clear(&mut self) {}
 
     ghost has_none = { λ t k none. refl };
+
+    ghost same_room = { λ t. tt };
 }
 
 #[tactic(auto, using(slotmap::proofs::Callers::secondary))]
@@ -457,6 +474,8 @@ impl<K: Key, A: Table<K>, B: Tables<K>> Tables<K> for (A, B) {
     ghost no_parts = { (None, B.no_parts) };
 
     ghost keeps_room = { λ old new. ((i count : ℕ) → A.fits old.0 i count → A.fits new.0 i count) × B.keeps_room old.1 new.1 };
+
+    ghost gives_back = { λ old new. ((i count : ℕ) → A.fits old.0 i count → A.fits new.0 i (map.len (A.pairs old.0) + count)) × B.gives_back old.1 new.1 };
 
     fn new(alloc: Global) -> Result<(A, B), ReserveError> {
         let table = A::new(alloc)?;
@@ -474,4 +493,6 @@ impl<K: Key, A: Table<K>, B: Tables<K>> Tables<K> for (A, B) {
     }
 
     ghost has_none = { λ t k none. let rest = B.has_none t.1 k in Prim.grind (arith, rest) };
+
+    ghost same_room = { λ t. (λ i count fit. fit, B.same_room t.1) };
 }

@@ -18,3 +18,6 @@ returns-clause-gone g c = rw (← c.self.view_is) (spent_remove-dense _ _ _ _ c.
 
 pub returns-in_err-value-clause-leaves : goal.returns-in_err-value-clause-leaves
 returns-in_err-value-clause-leaves g c = rw (← c.self.view_is) (rw (rw c.in_err-value.was at c.remove.ensures.unchanged) (leaves_none c.self.inside.entities.content))
+
+pub returns-in_err-value-clause-room : goal.returns-in_err-value-clause-room
+returns-in_err-value-clause-room g c = rw (← c.self.view_is) (g.met.T.Tables.same_room c.self.inside.tables)
