@@ -58,10 +58,10 @@ impl<K: Key, E: Drop, T: Tables<K>> World<K, E, T> {
 
     /// Gives an entity a component, and returns the one of this kind that it had.
     ///
-    /// It fails with `Gone` exactly if the entity doesn't exist. If the call fails, the error holds the component, and the world has the same components. Memory
-    /// can't run out where the entity has such a component already, nor where there is room, as after
-    /// [`World::reserve_components`]. A call that fails or replaces a component takes up no room. Constant
-    /// time, unless the table grows.
+    /// It fails with `Gone` exactly if the entity doesn't exist. If the call fails, the error holds the
+    /// component, and the world has the same components. Memory can't run out where the entity has such a
+    /// component already, nor where there is room, as after [`World::reserve_components`]. A call that fails
+    /// or replaces a component takes up no room. Constant time, unless the table grows or is built anew.
     ///
     /// ```
     /// let mut world: World<DefaultKey, u8, (SecondaryMap<DefaultKey, u32>, ())> = World::new(alloc)?;
@@ -108,7 +108,7 @@ impl<K: Key, E: Drop, T: Tables<K>> World<K, E, T> {
     /// in the slots of removed ones have their indices. The call fails with `TooGreat` if one of the
     /// numbers is too great (see [`Table::reserve`]), and with `Memory` if memory runs out. The world has
     /// the same components then. Where there is room already, nothing changes, and only a number that
-    /// is too great is refused. It takes time linear in the size of the table if that grows.
+    /// is too great is refused. Where there isn't, it takes time linear in the size of the table.
     ///
     /// ```
     /// let mut world: World<DefaultKey, u8, (SecondaryMap<DefaultKey, u32>, ())> = World::new(alloc)?;
@@ -137,7 +137,7 @@ impl<K: Key, E: Drop, T: Tables<K>> World<K, E, T> {
     }
 
     /// Takes a component off an entity, and returns it, or `None` if it has none of this kind or doesn't
-    /// exist.
+    /// exist. No room is lost.
     ///
     /// ```
     /// let mut world: World<DefaultKey, u8, (SecondaryMap<DefaultKey, u32>, ())> = World::new(alloc)?;

@@ -16,9 +16,10 @@
 //! The entities are in a `DenseSlotMap`, packed for iteration. The tables are nested pairs of
 //! secondary maps: a `SecondaryMap` for a kind that most entities have, a `SparseSecondaryMap` for a
 //! rare one. A call names the kind that it is about by a type: [`First`], [`Second`] and so on, best
-//! under a name of your own. A call on one entity takes constant time, unless the map or a table grows.
-//! A step of a join may pass many entities. `clear` takes time linear in the entities and the sizes of
-//! the tables, `clone` in the slots and these sizes, `retain_components` in the size of one table.
+//! under a name of your own. A call on one entity takes constant time, unless the map or a table grows,
+//! or a sparse table is built anew. A step of a join may pass many entities. `clear` takes time linear in
+//! the entities and the sizes of the tables, `clone` in the slots and these sizes, `retain_components` in
+//! the size of one table.
 //!
 //! ```
 //! type Position = First;

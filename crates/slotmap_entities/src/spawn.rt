@@ -110,7 +110,7 @@ impl<K: Key, E: Drop, T: Tables<K>> World<K, E, T> {
     /// If the call fails, no entity was added, and no component: the error holds the entity's value and
     /// the component. It uses up no key. It can't fail if there is room for the entity, as after
     /// [`World::reserve`], and in the table for its component, as after [`World::reserve_components`].
-    /// Constant time, unless the map or the table grows. Further components are added by
+    /// Constant time, unless the map or the table grows or is built anew. Further components are added by
     /// [`World::attach`].
     ///
     /// ```

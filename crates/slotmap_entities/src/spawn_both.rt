@@ -63,7 +63,8 @@ impl<K: Key, E: Drop, T: Tables<K>> World<K, E, T> {
     /// If the call fails, no entity was added, and no component: the error holds the entity's value and
     /// the pair of components. It uses up no key. It can't fail if there is room for the entity, as after
     /// [`World::reserve`], and in both tables, as after [`World::reserve_components`]. Constant time,
-    /// unless the map or a table grows. With one kind twice the call doesn't compile (see [`Apart`]).
+    /// unless the map or a table grows or is built anew. With one kind twice the call doesn't compile
+    /// (see [`Apart`]).
     ///
     /// ```
     /// type Tables = (
