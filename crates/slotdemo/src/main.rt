@@ -20,7 +20,6 @@ use log::Log;
 use pond::Pond;
 use slotmap::{DefaultKey, NodeKey};
 use slotmap_scheduler::Scheduler;
-use std::alloc::Global;
 use std::process::ExitCode;
 
 // What happens at an hour.
@@ -40,6 +39,11 @@ enum Event {
 
 type Events = Scheduler<DefaultKey, Event>;
 
+// An event will happen at an hour. Its handle can cancel it.
+fn plan(events: &mut Events, hour: u64, event: Event) -> Option<DefaultKey> {
+    events.schedule(hour, event).ok()
+}
+
 // An animal comes. It will go on to the next stone, and leave. The frog is eaten before that.
 fn comes(
     pond: &mut Pond,
@@ -50,11 +54,10 @@ fn comes(
 ) -> Option<()> {
     let key = pond.welcome(animal, stone)?;
     let next = hour.saturating_add(1);
-    events.schedule(next, Event::Hops(key)).ok()?;
-    let last = hour.saturating_add(3);
-    events.schedule(last, Event::Leaves(key)).ok()?;
+    plan(events, next, Event::Hops(key))?;
+    plan(events, hour.saturating_add(3), Event::Leaves(key))?;
     if animal == Animal::Frog {
-        events.schedule(next, Event::Eaten(key)).ok()?;
+        plan(events, next, Event::Eaten(key))?;
     }
     Some(())
 }
@@ -115,6 +118,12 @@ fn act(
     }
 }
 
+// How many stones can be reached from this one.
+fn reach(rt: &HostRuntime, pond: &Pond, first: NodeKey) -> Option<()> {
+    let within = pond.within_reach(rt.alloc(), first)?;
+    println!(rt; "{within} stones are within reach of the first").ok()
+}
+
 // All events that are due at an hour. What they bring about comes at a later one.
 fn pass(
     rt: &HostRuntime,
@@ -134,30 +143,51 @@ fn pass(
 }
 
 // What is known at dawn. One of two ducks thinks better of it.
-fn agenda(alloc: Global, first: NodeKey, second: NodeKey) -> Option<Events> {
-    let mut events = Scheduler::new(alloc).ok()?;
-    events.schedule(6, Event::Comes(Animal::Frog, first)).ok()?;
-    events.schedule(8, Event::Comes(Animal::Newt, first)).ok()?;
-    let duck = events.schedule(8, Event::Comes(Animal::Duck, first)).ok()?;
-    events.schedule(7, Event::Comes(Animal::Duck, second)).ok()?;
-    events.schedule(9, Event::Drifts).ok()?;
+fn dawn(events: &mut Events, first: NodeKey, second: NodeKey) -> Option<()> {
+    plan(events, 6, Event::Comes(Animal::Frog, first))?;
+    plan(events, 8, Event::Comes(Animal::Newt, first))?;
+    let duck = plan(events, 8, Event::Comes(Animal::Duck, first))?;
+    plan(events, 7, Event::Comes(Animal::Duck, second))?;
+    plan(events, 9, Event::Drifts)?;
     events.cancel(duck);
-    Some(events)
+    Some(())
 }
 
 // The hours from 6 to 11.
-fn morning(rt: &HostRuntime) -> Option<()> {
-    let alloc = rt.alloc();
-    let (mut pond, first, second) = Pond::new(alloc)?;
-    let within = pond.within_reach(alloc, first)?;
-    println!(rt; "{within} stones are within reach of the first").ok()?;
-    let mut log = Log::new(alloc)?;
-    let mut events = agenda(alloc, first, second)?;
+fn hours(rt: &HostRuntime, pond: &mut Pond, log: &mut Log, events: &mut Events) -> Option<()> {
     for hour in 6..12 {
-        pass(rt, &mut pond, &mut log, &mut events, hour)?;
+        pass(rt, pond, log, events, hour)?;
     }
     let left = pond.len();
     println!(rt; "{left} are left").ok()
+}
+
+// Dawn, and the hours after it.
+fn from_dawn(
+    rt: &HostRuntime,
+    pond: &mut Pond,
+    log: &mut Log,
+    first: NodeKey,
+    second: NodeKey,
+) -> Option<()> {
+    let mut events = Scheduler::new(rt.alloc()).ok()?;
+    if dawn(&mut events, first, second).is_none() {
+        return None;
+    }
+    hours(rt, pond, log, &mut events)
+}
+
+// A log lies on the pond.
+fn with_log(rt: &HostRuntime, pond: &mut Pond, first: NodeKey, second: NodeKey) -> Option<()> {
+    reach(rt, pond, first)?;
+    let mut log = Log::new(rt.alloc())?;
+    from_dawn(rt, pond, &mut log, first, second)
+}
+
+// A morning at the pond.
+fn morning(rt: &HostRuntime) -> Option<()> {
+    let (mut pond, first, second) = Pond::new(rt.alloc())?;
+    with_log(rt, &mut pond, first, second)
 }
 
 fn main(rt: HostRuntime) -> ExitCode {

@@ -35,29 +35,36 @@ fn next_stone(stones: &Stones, from: NodeKey) -> Option<NodeKey> {
     Some(to)
 }
 
-// Three stones, each one hop from the next. The last is one hop from the first.
-fn three_stones(alloc: Global) -> Option<(Stones, NodeKey, NodeKey)> {
-    let mut stones: Stones = Graph::new(alloc).ok()?;
-    let first = stones.add_node(1).ok()?;
-    let second = stones.add_node(2).ok()?;
-    let third = stones.add_node(3).ok()?;
-    stones.add_edge(first, second, ()).ok()?;
-    stones.add_edge(second, third, ()).ok()?;
-    stones.add_edge(third, first, ()).ok()?;
-    Some((stones, first, second))
+// One more stone.
+fn stone(stones: &mut Stones, number: u32) -> Option<NodeKey> {
+    stones.add_node(number).ok()
+}
+
+// Three more stones, each one hop from the next. The last is one hop from the first. Returns two.
+fn three_stones(stones: &mut Stones) -> Option<(NodeKey, NodeKey)> {
+    let first = stone(stones, 1)?;
+    let second = stone(stones, 2)?;
+    let third = stone(stones, 3)?;
+    for (from, to) in [(first, second), (second, third), (third, first)] {
+        stones.add_edge(from, to, ()).ok()?;
+    }
+    Some((first, second))
 }
 
 impl Pond {
+    // A pond without stones.
+    fn bare(alloc: Global) -> Option<Pond> {
+        Some(Pond {
+            animals: World::new(alloc).ok()?,
+            stones: Graph::new(alloc).ok()?,
+            choir: StableList::new(alloc).ok()?,
+        })
+    }
+
     /// Makes a pond with no animal, and returns its first two stones too.
     pub fn new(alloc: Global) -> Option<(Pond, NodeKey, NodeKey)> {
-        let (stones, first, second) = three_stones(alloc)?;
-        let animals = World::new(alloc).ok()?;
-        let choir = StableList::new(alloc).ok()?;
-        let pond = Pond {
-            animals,
-            stones,
-            choir,
-        };
+        let mut pond = Pond::bare(alloc)?;
+        let (first, second) = three_stones(&mut pond.stones)?;
         Some((pond, first, second))
     }
 
