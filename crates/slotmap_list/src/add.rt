@@ -136,6 +136,7 @@ impl<K: Key, T: Drop> StableList<K, T> {
         ensures used { OnOk result (used self.new.cursors ≡ used self.old.cursors + 1) }
         ensures stands { OnOk result (IsSome (value_of (K.data_of cursor) self.old.elements)) }
         ensures err { IfErr result (RefusesPlace self.old (K.data_of cursor) value) }
+        ensures stale { value_of (K.data_of cursor) self.old.elements ≡ None → self.new ≡ self.old }
         ensures reuses { IsSome (value_of (K.data_of cursor) self.old.elements) → HasVacant self.old.cursors → IsOk result }
         ensures room { IsSome (value_of (K.data_of cursor) self.old.elements) → 0 < self.old.cursors.room → IsOk result }
         ensures capacity { self.old.cursors.capacity ≤ self.new.cursors.capacity }
@@ -156,9 +157,9 @@ impl<K: Key, T: Drop> StableList<K, T> {
 
     /// Adds an element after that of a cursor, and returns its cursor.
     ///
-    /// It fails with `Gone` exactly if the cursor isn't in the list. If a slot is vacant or room was
-    /// reserved, it fails for no other reason, and the capacity stays. If the call fails, the error holds
-    /// the value, and the list has the same elements.
+    /// It fails with `Gone` exactly if the cursor isn't in the list, and has changed nothing then. If a
+    /// slot is vacant or room was reserved, it fails for no other reason, and the capacity stays. If the
+    /// call fails, the error holds the value, and the list has the same elements.
     ///
     /// ```
     /// let mut list = StableList::new(alloc)?;
@@ -177,6 +178,7 @@ impl<K: Key, T: Drop> StableList<K, T> {
         ensures used { OnOk result (used self.new.cursors ≡ used self.old.cursors + 1) }
         ensures stands { OnOk result (IsSome (value_of (K.data_of cursor) self.old.elements)) }
         ensures err { IfErr result (RefusesPlace self.old (K.data_of cursor) value) }
+        ensures stale { value_of (K.data_of cursor) self.old.elements ≡ None → self.new ≡ self.old }
         ensures reuses { IsSome (value_of (K.data_of cursor) self.old.elements) → HasVacant self.old.cursors → IsOk result }
         ensures room { IsSome (value_of (K.data_of cursor) self.old.elements) → 0 < self.old.cursors.room → IsOk result }
         ensures capacity { self.old.cursors.capacity ≤ self.new.cursors.capacity }
@@ -190,9 +192,9 @@ impl<K: Key, T: Drop> StableList<K, T> {
 
     /// Adds an element before that of a cursor, and returns its cursor.
     ///
-    /// It fails with `Gone` exactly if the cursor isn't in the list. If a slot is vacant or room was
-    /// reserved, it fails for no other reason, and the capacity stays. If the call fails, the error holds
-    /// the value, and the list has the same elements.
+    /// It fails with `Gone` exactly if the cursor isn't in the list, and has changed nothing then. If a
+    /// slot is vacant or room was reserved, it fails for no other reason, and the capacity stays. If the
+    /// call fails, the error holds the value, and the list has the same elements.
     ///
     /// ```
     /// let mut list = StableList::new(alloc)?;
@@ -211,6 +213,7 @@ impl<K: Key, T: Drop> StableList<K, T> {
         ensures used { OnOk result (used self.new.cursors ≡ used self.old.cursors + 1) }
         ensures stands { OnOk result (IsSome (value_of (K.data_of cursor) self.old.elements)) }
         ensures err { IfErr result (RefusesPlace self.old (K.data_of cursor) value) }
+        ensures stale { value_of (K.data_of cursor) self.old.elements ≡ None → self.new ≡ self.old }
         ensures reuses { IsSome (value_of (K.data_of cursor) self.old.elements) → HasVacant self.old.cursors → IsOk result }
         ensures room { IsSome (value_of (K.data_of cursor) self.old.elements) → 0 < self.old.cursors.room → IsOk result }
         ensures capacity { self.old.cursors.capacity ≤ self.new.cursors.capacity }
