@@ -1,6 +1,6 @@
 //! Room for elements: how much there is, and more of it.
 
-ghost use Rattle.std.specs.Prelude.{◌≡◌, ◌+◌, ◌<◌, ◌≤◌, ◌^◌, true, IsOk, OnOk, IfErr};
+ghost use Rattle.std.specs.Prelude.{◌≡◌, ◌+◌, ◌<◌, ◌≤◌, ◌^◌, true, IsOk, OnErr, OnOk, IfErr};
 ghost use Rattle.std.specs.FinMap as map;
 ghost use Rattle.slotmap.specs.Words.{IsContent, Keeps, KeepsSpent, MakesRoom, RefusesCapacity, used};
 
@@ -33,7 +33,7 @@ impl<K: Key, T: Drop> StableList<K, T> {
     ///
     /// Adding the next `additional` elements can't fail, except with `Gone`, and the capacity stays then.
     /// If there is room for them already, the call succeeds and changes nothing, in constant time. Else
-    /// it takes time linear in the capacity. The errors are these; either leaves the same elements:
+    /// it takes time linear in the capacity. The errors are these; either leaves the list as it was:
     ///
     /// - `TooGreat`: more than 4294967294 elements would be there, counting those whose slots are
     ///   retired.
@@ -54,6 +54,7 @@ impl<K: Key, T: Drop> StableList<K, T> {
         ensures had_room { additional ≤ self.old.cursors.room → IsOk result }
         ensures reuses { additional ≤ map.len self.old.cursors.next → IsOk result }
         ensures err { IfErr result (RefusesCapacity (used self.old.cursors + additional)) }
+        ensures unchanged { OnErr result (self.new ≡ self.old) }
         ensures elements { self.new.elements ≡ self.old.elements }
         ensures keeps { Keeps self.old.cursors self.new.cursors }
         ensures gone { KeepsSpent self.old.cursors self.new.cursors }
