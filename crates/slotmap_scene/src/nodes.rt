@@ -102,7 +102,7 @@ impl<K: Key, T: Drop> Scene<K, T> {
         ensures nodes { OnOk result (has_node self.old.live (K.data_of node) × has_node self.old.live (K.data_of parent)) }
         ensures no_cycle { OnOk result (IsWithin self.old.live (K.data_of parent) (K.data_of node) → ⊥) }
         ensures stale { KeepsSpent self.old self.new }
-        ensures valid { IsScene self.old.live }
+        ensures scene { IsScene self.old.live }
         ensures err { IfErr result (RefusesParent self.old.live (K.data_of node) (K.data_of parent)) }
         ensures unchanged { OnErr result (self.new ≡ self.old) }
     {
