@@ -97,9 +97,9 @@ impl<K: Key, T: Drop> Scene<K, T> {
     /// those below it, and the children of each in their order.
     ///
     /// They are those of [`Scene::descendants`], which lists them in a vector. The node itself isn't
-    /// among them, and a node that doesn't exist has none. It allocates nothing: it goes by the links between the
-    /// nodes. It is made in constant time. All its steps together take time linear in the number of keys,
-    /// and one of them at most in the depth of the trees.
+    /// among them, and a node that doesn't exist has none. It allocates nothing: it goes by the links
+    /// between the nodes. It is made in constant time. All its steps together take time linear in the
+    /// number of keys, and one of them at most in the depth of the trees.
     ///
     /// ```
     /// let mut scene: Scene<DefaultKey, &str> = Scene::new(alloc)?;

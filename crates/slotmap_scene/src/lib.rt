@@ -23,9 +23,10 @@
 //! A call takes constant time, unless the scene grows, with these exceptions:
 //!
 //! - [`Scene::depth`], [`Scene::fold_up`], [`Scene::world`], [`Scene::world_transform`] and
-//!   [`Scene::is_within`] take time linear in the number of nodes above the node. So does [`Scene::reparent`] in the number of those above the new
-//!   parent. [`Scene::move_before`] and [`Scene::move_after`] take time linear in the number of those above
-//!   the sibling, unless both nodes have the same parent.
+//!   [`Scene::is_within`] take time linear in the number of nodes above the node. So does
+//!   [`Scene::reparent`] in the number of those above the new parent. [`Scene::move_before`] and
+//!   [`Scene::move_after`] take time linear in the number of those above the sibling, unless both nodes
+//!   have the same parent.
 //! - [`Scene::remove`] takes time linear in the number of nodes that it removes, and
 //!   [`Scene::descendants`] in the number of those that it lists. So do all steps of
 //!   [`Scene::keys_below`] together, and one of them at most in the depth of the trees.
@@ -247,9 +248,9 @@ impl<K: Key, T: Drop> Scene<K, T> {
         })
     }
 
-    /// Reserves room for `additional` more nodes. Adding them can't fail then, if their parents or
-    /// siblings exist, and the capacity stays. It takes constant time if there is room already, else time
-    /// linear in the capacity.
+    /// Reserves room for `additional` more nodes. Adding them can't fail then, if their parents exist, or
+    /// their siblings have one, and the capacity stays. It takes constant time if there is room already,
+    /// else time linear in the capacity.
     ///
     /// It fails with `TooGreat` if more than 4294967294 nodes would be there, counting those whose slots
     /// are retired, and with `Memory` if memory runs out. The scene has the same nodes then.
