@@ -92,8 +92,7 @@ module _ {T : Type 0} (nodes : Nodes T) (scene : IsScene nodes) where
       levels_all k live = let up = scene.tree k live in listed_up up.0 k up.1
 
     -- the node at this position has its children put behind it
-    pub going_on : (k : Key) → at < length keys → k ≡ get_or keys at k → (more : List Key)
-        → more ≡ keys ++ children_of nodes k → Levels nodes (at + 1) more
+    pub going_on : (k : Key) → at < length keys → k ≡ get_or keys at k → (more : List Key) → more ≡ keys ++ children_of nodes k → Levels nodes (at + 1) more
     going_on k inside here more more_is =
         let first : take (at + 1) more ≡ take at keys ++ k ∷ [] =
         ap (take (at + 1)) more_is ∙ take-append-le (at + 1) keys (children_of nodes k) (omega arith)

@@ -22,8 +22,7 @@ module _ {T : Type 0} where
   one_way nodes (suc n) (suc m) k a b = let h = sym a.1.1 ∙ b.1.1 in let same : a.0 ≡ b.0 = cc in ap suc (one_way nodes n m b.0 (subst (ClimbsTo nodes n) same a.1.2) b.1.2)
 
   -- where a way goes on, and where it ends
-  next_up : (nodes : Nodes T) (n : ℕ) (k p : Key) → ClimbsTo nodes n k → parent_of nodes k ≡ Some p
-      → (m : ℕ) × ((n ≡ suc m) × ClimbsTo nodes m p)
+  next_up : (nodes : Nodes T) (n : ℕ) (k p : Key) → ClimbsTo nodes n k → parent_of nodes k ≡ Some p → (m : ℕ) × ((n ≡ suc m) × ClimbsTo nodes m p)
   next_up nodes zero k p leads is = absurd (let h = sym leads.1 ∙ is in cc)
   next_up nodes (suc n) k p leads is = let h = sym leads.1.1 ∙ is in let same : leads.0 ≡ p = cc in (n, (refl, subst (ClimbsTo nodes n) same leads.1.2))
 

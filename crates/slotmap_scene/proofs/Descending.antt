@@ -151,8 +151,7 @@ module _ {T : Type 0} (nodes : Nodes T) where
 module _ {T : Type 0} (nodes : Nodes T) (node : Key) where
   -- what a walk comes to behind this key
   abbrev pub GoesOn : Key → Option Key → Type 0
-  GoesOn key next =
-      WalksBelow nodes node next × (keys_from (Some key) (all_below nodes node) ≡ key ∷ keys_from next (all_below nodes node))
+  GoesOn key next = WalksBelow nodes node next × (keys_from (Some key) (all_below nodes node) ≡ key ∷ keys_from next (all_below nodes node))
 
   -- the way up from the key at which a walk stands: what is ahead of it is what is ahead of this one
   pub record Rises (key at : Key) (steps : ℕ) : Type 0 where
@@ -190,8 +189,7 @@ module _ {T : Type 0} (nodes : Nodes T) (scene : IsScene nodes) (node : Key) whe
   below_only k more = below_node nodes scene node (all_below nodes node) [] all_down.1 k (omega arith)
 
   -- the part of the list from a key on
-  rest_from : (k : Key) (done rest : List Key) → all_below nodes node ≡ done ++ k ∷ rest
-      → keys_from (Some k) (all_below nodes node) ≡ k ∷ rest
+  rest_from : (k : Key) (done rest : List Key) → all_below nodes node ≡ done ++ k ∷ rest → keys_from (Some k) (all_below nodes node) ≡ k ∷ rest
   rest_from k done rest split = ap (keys_from (Some k)) split ∙ from_split k done rest (omega (arith, below_once k, ap (times k) split, in_midst done k rest))
 
   -- a walk that comes to the first of the keys that are ahead

@@ -24,8 +24,7 @@ filter_same p q [] same = refl
 filter_same p q (k ∷ ks) same = grind (arith, same k (omega (arith, times_first k k ks, one_itself k)), filter_same p q ks (λ x more. same x (omega (arith, times_first x k ks))))
 
 pub covers_less : (n m : ℕ) (ps : List ℕ) (ls : Lists) → AreCovered n ps ls → m ≤ n → AreCovered m ps ls
-covers_less n m ps ls covered less =
-    record { parents = (let was = covered.parents in omega arith); owners = (let was = covered.owners in omega arith); members = (let was = covered.members in omega arith) }
+covers_less n m ps ls covered less = grind arith
 
 -- the parent that is written, by its index
 pub written_has : {V : Type 0} (c : Content V) (o : Option Key) → IfSome o (IsLive c) → (parent_index o ≡ 0) ⊎ HasKey c (parent_index o)
@@ -210,8 +209,7 @@ module _ {V : Type 0} {c : Content V} {parents : List ℕ} {children : Lists} (k
     get_alike q same alike = seen_get d.live parents' children' q ∙ ap (option_map (node_at d.live parents' children' q)) same
         ∙ by (map.get c.live q) refl ∙ sym (seen_get c.live parents children q)
       where
-        by : (o : Option V) → map.get c.live q ≡ o
-            → option_map (node_at d.live parents' children' q) o ≡ option_map (node_at c.live parents children q) o
+        by : (o : Option V) → map.get c.live q ≡ o → option_map (node_at d.live parents' children' q) o ≡ option_map (node_at c.live parents children q) o
         by None is = refl
         by (Some v) is = ap Some (alike (ap is_some is) v)
 
@@ -282,11 +280,7 @@ module _ {V : Type 0} {c : Content V} {parents : List ℕ} {children : Lists} (k
     pub relisted : AreDisjoint new → HoldsNodes c parents new
     relisted disjoint = record {
       indices = kept.indices;
-      covered = record {
-        parents = kept.covered.parents;
-        owners = (let o = kept.covered.owners in let s = ap (λ (l : Lists). length l.lists) new_is ∙ owners_stay children p.index is in omega arith);
-        members = (let m = kept.covered.members in let s = ap (λ (l : Lists). l.members) new_is in omega arith);
-      };
+      covered = grind (arith, kept.covered, new_is, owners_stay children p.index is);
       disjoint = disjoint;
       listed = λ q i inside. elim (same_or_other_number q p.index) [
         | inl at ↦ ((p, there, sym at), all.have i (let now = ap (λ q. often i (list_of new q)) at ∙ ap (often i) list_here in omega arith))
@@ -319,12 +313,7 @@ module _ {V : Type 0} {c : Content V} {parents : List ℕ} {children : Lists} (k
       pub hung : HoldsNodes c new children
       hung = record {
         indices = kept.indices;
-        covered = record {
-          parents = (let n = ap length new_is ∙ length-set parents k.index (parent_index o) in let covered = kept.covered.parents in
-              omega arith);
-          owners = kept.covered.owners;
-          members = kept.covered.members;
-        };
+        covered = grind (arith, kept.covered, new_is, length-set parents k.index (parent_index o));
         disjoint = kept.disjoint;
         listed = kept.listed;
         has_parent = λ q of_c. elim (same_or_other q k) [

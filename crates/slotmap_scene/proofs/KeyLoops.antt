@@ -17,6 +17,5 @@ module _ (it rest : List Key) (k : Key) (is : it ≡ k ∷ rest) where
   others_ahead q other more = let t = ap (times q) is ∙ times_first q k rest in let none = one_other k q other in omega arith
 
   -- a value is pushed for the first key
-  pub passed : {X : Type 0} (f : X → Key) (xs : List X) (x : X) (new : List X) → f x ≡ k → new ≡ xs ++ x ∷ []
-      → list_map f new ++ rest ≡ list_map f xs ++ it
+  pub passed : {X : Type 0} (f : X → Key) (xs : List X) (x : X) (new : List X) → f x ≡ k → new ≡ xs ++ x ∷ [] → list_map f new ++ rest ≡ list_map f xs ++ it
   passed f xs x new here new_is = grind (arith, list_map, map_push f xs x, append_assoc (list_map f xs) (f x ∷ []) rest, list_map f xs)

@@ -20,8 +20,7 @@ module _ {K T W : Type 0} (data_of : K → Key) (under : W → W → W) (of : T 
 
   -- what holds of each transform that is listed holds of that of each node, if all nodes are listed
   module _ (P : W → Type 0) (k : Key) (w : W) (world : IsWorldOf under of nodes k w) where
-    listed_world : (pairs : List (K × W)) → AreWorlds data_of under of nodes pairs → All (λ e. P e.1) pairs
-        → 0 < times k (keys_of_pairs data_of pairs) → P w
+    listed_world : (pairs : List (K × W)) → AreWorlds data_of under of nodes pairs → All (λ e. P e.1) pairs → 0 < times k (keys_of_pairs data_of pairs) → P w
     listed_world [] worlds holds there = absurd (omega arith)
     listed_world (e ∷ es) worlds holds there = elim (same_or_other (data_of e.0) k) [
       | inl is ↦

@@ -44,8 +44,7 @@ module _ {T : Type 0} {c : Content T} (indices : HaveIndices c) where
   key_put Before None k live is all there = map-append (key_at c.live) is (k.index ∷ []) ∙ ap (λ q. keys_at c.live is ++ q ∷ []) (key_at_live indices k live)
   key_put After None k live is all there = λ n. key_at_live indices k live n ∷ keys_at c.live is
 
-  pub key_after : (k : Key) → IsLive c k → (is : List ℕ) → AreIndices c is
-      → behind k (keys_at c.live is) ≡ option_map (key_at c.live) (number_after k.index is)
+  pub key_after : (k : Key) → IsLive c k → (is : List ℕ) → AreIndices c is → behind k (keys_at c.live is) ≡ option_map (key_at c.live) (number_after k.index is)
   key_after k live [] all = refl
   key_after k live (i ∷ is) all =
       ap (λ b. cond b (first_or (keys_at c.live is) None) (behind k (keys_at c.live is))) (same_at indices i (first_index all) k live)

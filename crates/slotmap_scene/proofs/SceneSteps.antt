@@ -3,7 +3,7 @@ use Rattle.std.proofs.Common.{◌+◌, ◌∷◌, ◌≡◌, ◌≢◌, ◌≤�
 use Rattle.slotmap_scene.proofs.Common.{AreCovered, Content, CoversMore, Err, HasKey, HaveIndices, HoldsMore, HoldsNodes, IfSome, IfSome_then, Inserts, IsCloneBy, IsCloneOf, IsContent, IsErr, IsIn}
 use Rattle.slotmap_scene.proofs.Common.{IsLive, IsNodeClone, IsOk, Key, Leaves, List, Lists, MakesRoom, Node, Nodes, None, Ok, Option, Result, Some, [], ap, arith, capacity_with, child, children_of}
 use Rattle.slotmap_scene.proofs.Common.{clone_live, exact_keys, family, found_at, found_live, get-insert_here, get-insert_other, get_or-set_other, get_or-set_same, indices_inserted, indices_still}
-use Rattle.slotmap_scene.proofs.Common.{inl, inr, inserted_fresh, is_some, key_cmp, keys, keys_at, keys_total, length, length-set, list_of, live-insert_still, most, node_at, nodes_by, often}
+use Rattle.slotmap_scene.proofs.Common.{inl, inr, inserted_fresh, is_some, key_cmp, keys, keys_at, keys_total, length-set, list_of, live-insert_still, most, node_at, nodes_by, often}
 use Rattle.slotmap_scene.proofs.Common.{option_map, parent_at, parent_index, parent_of, refl, same_or_other, set, shown_content, shown_inserts, shown_leaves, shown_makes_room, subst, sym, times, true}
 use Rattle.slotmap_scene.proofs.Common.{used, with_value, ℕ, ◌∙◌}
 use Rattle.slotmap_scene.proofs.Families.{above_still, changed_is, children_live, covers_less, get_alike, get_along, kept_along, kept_still, list_none, node_along, node_still, nowhere, parent_live}
@@ -125,12 +125,7 @@ module _ {V : Type 0} {c : Content V} {parents : List ℕ} {children : Lists} (k
 
     pub came_kept : HoldsNodes d new children
     came_kept = kept_still kept d came_indices new children stays (λ p. refl)
-        (record {
-          parents = (let n = ap length new_is ∙ length-set parents k.index (parent_index o) in let covered = kept.covered.parents in omega arith);
-          owners = (let covered = kept.covered.owners in omega arith);
-          members = (let covered = kept.covered.members in omega arith);
-        })
-        kept.disjoint
+        (grind (arith, kept.covered, capacity, new_is, length-set parents k.index (parent_index o))) kept.disjoint
         (λ q live. elim (same_or_other q k) [
           | inl at ↦ subst (λ i. (i ≡ 0) ⊎ HasKey d i) (sym (ap (λ (q : Key). parent_at new q.index) at ∙ came_above))
               (written_has d o (IfSome_then o is_parent stays))

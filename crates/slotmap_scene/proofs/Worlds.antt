@@ -101,8 +101,7 @@ module _ {F A T : Type 0} (g : Mut F (A × (Bor T × Unit {0})) A) (nodes : Node
 
   module _ (from : Key) (f₀ : F) (start : A) (at : Key) (f : F) (total : A) (folding : Folding from f₀ start at f total)
       (v : T) (own : value_of nodes at ≡ Some v) where
-    pub folding_takes : CallableUp g nodes from f₀ start → (n : ℕ) → ClimbsTo nodes n at → (shown : Bor T) → shown.now ≡ v
-        → Takes g f (total, (shown, tt))
+    pub folding_takes : CallableUp g nodes from f₀ start → (n : ℕ) → ClimbsTo nodes n at → (shown : Bor T) → shown.now ≡ v → Takes g f (total, (shown, tt))
     folding_takes callable n leads shown same =
         let up = path_of nodes n at leads in
         callable.at folding.below up.1 f total shown (folding.path (shown.now ∷ up.1) (own ∙ ap Some (sym same), up.2.1)) folding.calls
@@ -170,8 +169,7 @@ module _ {T : Type 0} (old new : Nodes T) (k p : Key) {put : List Key → List K
   world_moved_of out under of v w own world =
       world_below_of old new k (λ q _ _. values q) (λ q _ other. trees.parents q other) under of v p w (values k ∙ own) trees.parent_is world (λ _. out)
 
-  pub world_moved : (IsWithin old p k → ⊥) → (under : T → T → T) (v w : T) → value_of old k ≡ Some v → IsWorld under old p w
-      → IsWorld under new k (under v w)
+  pub world_moved : (IsWithin old p k → ⊥) → (under : T → T → T) (v w : T) → value_of old k ≡ Some v → IsWorld under old p w → IsWorld under new k (under v w)
   world_moved out under = world_moved_of out under (λ v. v)
 
 -- where a node is that is added

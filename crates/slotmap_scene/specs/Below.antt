@@ -17,8 +17,7 @@ module _ {T : Type 0} where
   -- children in their order
   abbrev pub GoesDown : Nodes T → List Key → List Key → Type 0
   GoesDown nodes ahead [] = ahead ≡ []
-  GoesDown nodes ahead (q ∷ qs) =
-      (others : List Key) × ((ahead ≡ q ∷ others) × GoesDown nodes (children_of nodes q ++ others) qs)
+  GoesDown nodes ahead (q ∷ qs) = (others : List Key) × ((ahead ≡ q ∷ others) × GoesDown nodes (children_of nodes q ++ others) qs)
 
   -- what is listed so, at most so many keys
   abbrev pub keys_down : Nodes T → ℕ → List Key → List Key

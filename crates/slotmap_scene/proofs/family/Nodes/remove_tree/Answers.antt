@@ -10,13 +10,11 @@ pub loop-child-smaller-in-Some : goal.loop-child-smaller-in-Some
 loop-child-smaller-in-Some g c = down_smaller _ _ _ _ c.loop-child.invariant.removing c.in-Some.child (sym c.in-Some.ensures) c.requires.scene.tree
 
 pub loop-child-preserved-in-Some : goal.loop-child-preserved-in-Some
-loop-child-preserved-in-Some g c =
-    record {
-      removing = goes_down _ _ _ _ c.loop-child.invariant.removing c.in-Some.child
-          (sym c.in-Some.ensures);
-      leaves = c.loop-child.invariant.leaves;
-      capacity = c.loop-child.invariant.capacity;
-    }
+loop-child-preserved-in-Some g c = record {
+  removing = goes_down _ _ _ _ c.loop-child.invariant.removing c.in-Some.child (sym c.in-Some.ensures);
+  leaves = c.loop-child.invariant.leaves;
+  capacity = c.loop-child.invariant.capacity;
+}
 
 pub prune-value-requires-clause-leaf : goal.prune-value-requires-clause-leaf
 prune-value-requires-clause-leaf g c = none_last (children_of c.loop-child.self.live c.loop-child.at) (sym c.in-None.ensures)

@@ -13,7 +13,6 @@ returns-clause-empty g c =
     record {
       live = bare_seen c.in_ok-values.values new.live c.cover.new.parents.items c.cover.new.children;
       detached = new.detached;
-      retired =
-          new.retired;
+      retired = new.retired;
       next = new.next;
     }
