@@ -8,7 +8,15 @@ pub emptied_then : {T : Type 0} (old mid : Schedule T) → HasFewer old mid → 
 emptied_then old mid fewer end ends =
     let all : HasFewer old end =
     still_fewer fewer (record { turns = ends.turns; capacity = ends.capacity; leaves = ends.leaves; for_good = λ k there _. ends.for_good k there; stale = ends.stale }) in
-    record { empty = ends.empty; none_live = ends.none_live; for_good = λ k there. all.for_good k there (ap (job_of k) ends.empty); stale = all.stale; leaves = all.leaves; capacity = all.capacity; turns = all.turns }
+    record {
+      empty = ends.empty;
+      none_live = ends.none_live;
+      for_good = λ k there. all.for_good k there (ap (job_of k) ends.empty);
+      stale = all.stale;
+      leaves = all.leaves;
+      capacity = all.capacity;
+      turns = all.turns;
+    }
 
 module _ {K T : Type 0} (data_of : K → Key) where
   pub keeps_lent : (first : Drain K T) → KeepsLent data_of first
