@@ -4,6 +4,5 @@
 
 #[cfg(test)]
 mod json;
-
 #[cfg(test)]
 mod scripts;
