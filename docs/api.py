@@ -312,8 +312,8 @@ def first_page(all_items):
         "clauses, as in the source, and a link to the source. The words of the clauses are in",
         "[DEFINITIONS.md](DEFINITIONS.md). In a clause `result` is what the call returns. Of a `&self`, `self.now` is the",
         "map. Of a `&mut self`, `self.old` is the map before the call and `self.new` the map after it. A clause with a",
-        "star is about a loan: what is written through the returned reference. Each function is proved to meet its",
-        "clauses.",
+        "star is about a loan: what is written through the returned reference. Such a clause names the reference as it",
+        "was passed: `self.entry`. Each function is proved to meet its clauses.",
         "",
         "- The maps: " + ", ".join(f"[`{it}`](api/{PAGE_OF[it]}.md)" for it in MAPS) + ".",
         "- What they share: "
@@ -325,9 +325,9 @@ def first_page(all_items):
     page.add(*SAME_CALLS)
     add_table(page, all_items)
     page.heading(2, "Structures")
-    page.add(f"Each is a crate of its own. What they share is the crate [`{SHARED}`](api/{SHARED}.md).", "")
-    page.add(f"The crate [`{BOUNDED}`](api/{BOUNDED}.md) has a slot map whose indices stay within a bound, for structures with tables beside it.", "")
-    page.add(f"The crate [`{ALONE}`](api/{ALONE}.md) needs no map: it has lists of numbers that are kept as links, one list for each owner.", "")
+    page.add(f"Each is a crate of its own. All but `World` share the crate [`{SHARED}`](api/{SHARED}.md). `StableList`, `Graph` and `Scene` share two more:", "")
+    page.add(f"- [`{BOUNDED}`](api/{BOUNDED}.md) has a slot map whose indices stay within a bound, for structures with tables beside it.")
+    page.add(f"- [`{ALONE}`](api/{ALONE}.md) needs no map: it has lists of numbers that are kept as links, one list for each owner.", "")
     page.add("| Type | What it is | Calls |", "|---|---|---|")
     for crate, (name, what) in STRUCTURES.items():
         calls = calls_of(name, module_items(crate, "")[1])
