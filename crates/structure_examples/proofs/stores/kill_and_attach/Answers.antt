@@ -1,11 +1,7 @@
-use Rattle.std.proofs.Common.{Option, Some, None, OnSome, IfNone, sym}
+use Rattle.std.proofs.Common.{sym}
 use Rattle.slotmap.specs.Words.{IsLive}
 use Rattle.slotmap.proofs.Callers.{live-remove_other}
 use Rattle.structure_examples.proofs.stores.kill_and_attach.Goals as goal
-
-either : {X P Q R : Type 0} (o : Option X) → OnSome o P → IfNone o Q → (P → R) → (Q → R) → R
-either None p q f h = h q
-either (Some x) p q f h = f p
 
 pub returns : goal.returns
 returns g c =
@@ -13,6 +9,5 @@ returns g c =
     rw c.despawn.ensures.removed (live-remove_other c.args.world.now.entities.content.live c.args.old c.args.key (λ is. c.requires.other (sym is)) c.requires.live) in
     record {
       attached = c.attach.ensures.room live
-          (either c.despawn.result c.despawn.ensures.room c.despawn.ensures.unchanged
-          (λ keeps. g.met.C.Kind.own_room c.args.world.now.tables c.despawn.new.self.tables keeps c.args.key.index 1 c.requires.room) (λ same. rw same c.requires.room));
+          (g.met.C.Kind.own_room c.args.world.now.tables c.despawn.new.self.tables c.despawn.ensures.room c.args.key.index 1 c.requires.room);
     }
