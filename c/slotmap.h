@@ -12,10 +12,12 @@
  * What the caller owes; nothing checks it:
  * 1. A slotmap_t, as a slotmap_side_t, begins as SLOTMAP_INIT, or as zeros. No other code writes to it. An open one may be moved:
  *    copied, if the old one isn't used again. Of two copies that are both used, one may free what the other reads.
- * 2. No pointer is NULL. An `out` pointer leads to an initialised variable: the proof presumes that. No two arguments overlap.
+ * 2. No pointer is NULL, except where the end of this file allows it. An `out` pointer leads to an initialised variable: the proof
+ *    presumes that. No two arguments overlap.
  * 3. An array has as many elements as the number after it says. With 0 elements its pointer still isn't NULL.
- * 4. One call at a time uses a slotmap_t, also of the calls that only read: each writes to the handle. So a read lock doesn't
- *    suffice, and no parameter is const. Calls of two threads on one handle are ordered, as by a mutex or a join.
+ * 4. Calls of two threads on one handle are ordered, as by a mutex or a join. Those whose handle is const may overlap one another,
+ *    as under a read lock: they write to neither the handle nor what it holds. This is tested, on every archive of c/dist, and not
+ *    proved: the proof presumes that one call at a time uses a handle.
  * 5. No call is made from a signal handler, or from the forked child of a process with threads.
  *
  * All else is answered: any number may be passed as a key, and a closed slotmap_t reads as an empty map. A call that can fail
@@ -37,8 +39,9 @@
 extern "C" {
 #endif
 
-/* The version of the Rust crate whose calls these are, and a number that counts the versions in CHANGELOG.md. */
-#define SLOTMAP_VERSION "1.1.1-port.6"
+/* The version of this header, as text and as a number: 10000 times the first part, and 100 times the second, and the third. */
+#define SLOTMAP_VERSION "0.7.0"
+#define SLOTMAP_VERSION_NUMBER 700
 
 /* A handle: open, with a map, or closed. `at` is for the library alone; it is null in a closed handle. */
 typedef struct slotmap {
@@ -86,6 +89,9 @@ static inline const char *slotmap_status_text(slotmap_status status)
 /* The null key: never live, and refused by a side table. */
 #define SLOTMAP_NULL UINT64_C(0x1ffffffff)
 
+/* Returns SLOTMAP_VERSION_NUMBER of the library that the program was linked with. */
+uint32_t slotmap_version_number(void);
+
 /* ---- The map as a whole ---- */
 
 /* Opens a closed handle with an empty map.
@@ -101,11 +107,11 @@ void slotmap_free(slotmap_t *map);
 slotmap_status slotmap_clone(slotmap_t *map, slotmap_t *copy);
 
 /* Returns the number of live keys. */
-size_t slotmap_len(slotmap_t *map);
+size_t slotmap_len(const slotmap_t *map);
 
 /* Returns for how many slots memory is allocated: those of live, detached and retired keys, vacant ones, and those not made yet.
  * No key that the map returned has a greater index. */
-size_t slotmap_capacity(slotmap_t *map);
+size_t slotmap_capacity(const slotmap_t *map);
 
 /* Reserves room for `additional` more keys: the next `additional` calls of slotmap_insert and slotmap_reattach can't fail for
  * want of memory. Linear in the number of slots if the map grows.
@@ -123,11 +129,11 @@ void slotmap_clear(slotmap_t *map);
 slotmap_status slotmap_insert(slotmap_t *map, uint64_t value, uint64_t *key_out);
 
 /* Returns whether the key is live. Constant time, as are the calls below. */
-bool slotmap_contains(slotmap_t *map, uint64_t key);
+bool slotmap_contains(const slotmap_t *map, uint64_t key);
 
 /* Writes the value of a live key.
  * SLOTMAP_OK or SLOTMAP_NOT_LIVE. */
-slotmap_status slotmap_get(slotmap_t *map, uint64_t key, uint64_t *value_out);
+slotmap_status slotmap_get(const slotmap_t *map, uint64_t key, uint64_t *value_out);
 
 /* Sets the value of a live key, and writes the value that it had.
  * SLOTMAP_OK or SLOTMAP_NOT_LIVE. */
@@ -161,11 +167,11 @@ slotmap_status slotmap_reattach(slotmap_t *map, uint64_t key, uint64_t value);
  * Here `key` is passed by value and as an `out`, which is no overlap. A loop that inserts at each step may not end. Linear in the
  * number of slots that it passes over.
  * SLOTMAP_OK or SLOTMAP_NO_MORE. */
-slotmap_status slotmap_next(slotmap_t *map, uint64_t key, uint64_t *key_out, uint64_t *value_out);
+slotmap_status slotmap_next(const slotmap_t *map, uint64_t key, uint64_t *key_out, uint64_t *value_out);
 
 /* Writes the first live keys and their values, by ascending index, as far as both arrays go. Returns how many it wrote.
  * Linear in the number of slots that it passes over. */
-size_t slotmap_list(slotmap_t *map, uint64_t *keys, size_t keys_len, uint64_t *values, size_t values_len);
+size_t slotmap_list(const slotmap_t *map, uint64_t *keys, size_t keys_len, uint64_t *values, size_t values_len);
 
 /* The same of the live keys whose index is above that of `key`. So a loop over all keys takes arrays of any length:
  *
@@ -174,7 +180,7 @@ size_t slotmap_list(slotmap_t *map, uint64_t *keys, size_t keys_len, uint64_t *v
  *     while ((count = slotmap_list_after(&map, last, keys, 64, values, 64)) > 0) { last = keys[count - 1]; .. }
  *
  * Linear in the number of slots that it passes over. */
-size_t slotmap_list_after(slotmap_t *map, uint64_t key, uint64_t *keys, size_t keys_len, uint64_t *values, size_t values_len);
+size_t slotmap_list_after(const slotmap_t *map, uint64_t key, uint64_t *keys, size_t keys_len, uint64_t *values, size_t values_len);
 
 /* ---- Side tables ----
  *
@@ -204,10 +210,10 @@ void slotmap_side_free(slotmap_side_t *side);
 slotmap_status slotmap_side_clone(slotmap_side_t *side, slotmap_side_t *copy);
 
 /* Returns the number of keys. */
-size_t slotmap_side_len(slotmap_side_t *side);
+size_t slotmap_side_len(const slotmap_side_t *side);
 
 /* Returns the largest index for which memory is allocated. */
-size_t slotmap_side_capacity(slotmap_side_t *side);
+size_t slotmap_side_capacity(const slotmap_side_t *side);
 
 /* Allocates memory for each index up to `capacity`: a put at such an index can't fail for want of memory. With the capacity of a
  * map that holds for all its keys. If there is memory already, the call succeeds and changes nothing.
@@ -229,11 +235,11 @@ slotmap_status slotmap_side_put(slotmap_side_t *side, uint64_t key, uint64_t val
 slotmap_status slotmap_side_exchange(slotmap_side_t *side, uint64_t key, uint64_t value, uint64_t *key_out, uint64_t *value_out);
 
 /* Returns whether the key has a value. Constant time, as are the two calls below. */
-bool slotmap_side_contains(slotmap_side_t *side, uint64_t key);
+bool slotmap_side_contains(const slotmap_side_t *side, uint64_t key);
 
 /* Writes the value of a key.
  * SLOTMAP_OK or SLOTMAP_NOT_LIVE. */
-slotmap_status slotmap_side_get(slotmap_side_t *side, uint64_t key, uint64_t *value_out);
+slotmap_status slotmap_side_get(const slotmap_side_t *side, uint64_t key, uint64_t *value_out);
 
 /* Removes a key, and writes its value.
  * SLOTMAP_OK or SLOTMAP_NOT_LIVE. */
@@ -241,7 +247,135 @@ slotmap_status slotmap_side_remove(slotmap_side_t *side, uint64_t key, uint64_t 
 
 /* Writes the keys and their values, by ascending index, as far as both arrays go. Returns how many it wrote. Linear
  * in the number of slots that it passes over. */
-size_t slotmap_side_list(slotmap_side_t *side, uint64_t *keys, size_t keys_len, uint64_t *values, size_t values_len);
+size_t slotmap_side_list(const slotmap_side_t *side, uint64_t *keys, size_t keys_len, uint64_t *values, size_t values_len);
+
+/* ---- Keys alone ----
+ *
+ * The same map without values: 9 bytes a slot, where a slotmap_t takes 24. It is for a caller whose values lie in memory of its own,
+ * as in an array at the index of the key, which is the low half: slotmap_index(key). A live key is the only live one of its index,
+ * and no index is above slotmap_keys_capacity, so an array with one more element than that has a place for every live key.
+ *
+ * Each call does what the call of the same name does for a slotmap_t, and the caller owes the same. */
+
+typedef struct slotmap_keys {
+    void *at;
+} slotmap_keys_t;
+
+/* Returns the index of a key: its low half. */
+static inline uint32_t slotmap_index(uint64_t key) { return (uint32_t)key; }
+
+/* Opens a closed handle with an empty map.
+ * SLOTMAP_OK, SLOTMAP_NO_MEMORY, or SLOTMAP_OPEN, which changes nothing. */
+slotmap_status slotmap_keys_open(slotmap_keys_t *map);
+
+/* Frees the map and closes the handle. On a closed handle it does nothing. */
+void slotmap_keys_free(slotmap_keys_t *map);
+
+/* Opens the closed handle `copy` with a copy of the map. The two are different handles. Linear in the number of slots.
+ * SLOTMAP_OK, SLOTMAP_NO_MEMORY, SLOTMAP_CLOSED if `map` is closed, or SLOTMAP_OPEN if `copy` is open. */
+slotmap_status slotmap_keys_clone(slotmap_keys_t *map, slotmap_keys_t *copy);
+
+/* Returns the number of live keys. */
+size_t slotmap_keys_len(const slotmap_keys_t *map);
+
+/* Returns for how many slots memory is allocated. No key that the map returned has a greater index. */
+size_t slotmap_keys_capacity(const slotmap_keys_t *map);
+
+/* Reserves room for `additional` more keys: the next `additional` calls of slotmap_keys_insert and slotmap_keys_reattach can't
+ * fail for want of memory. Linear in the number of slots if the map grows.
+ * SLOTMAP_OK, SLOTMAP_FULL, SLOTMAP_NO_MEMORY or SLOTMAP_CLOSED. */
+slotmap_status slotmap_keys_reserve(slotmap_keys_t *map, size_t additional);
+
+/* Removes every live key. The capacity stays, and detached keys stay detached. Linear in the number of slots. */
+void slotmap_keys_clear(slotmap_keys_t *map);
+
+/* Inserts a new key, and writes it. Constant time, unless the map grows.
+ * SLOTMAP_OK, SLOTMAP_FULL, SLOTMAP_NO_MEMORY or SLOTMAP_CLOSED. */
+slotmap_status slotmap_keys_insert(slotmap_keys_t *map, uint64_t *key_out);
+
+/* Returns whether the key is live. Constant time, as are the three calls below. */
+bool slotmap_keys_contains(const slotmap_keys_t *map, uint64_t key);
+
+/* Removes a live key. The slot is reused under a newer key.
+ * SLOTMAP_OK or SLOTMAP_NOT_LIVE. */
+slotmap_status slotmap_keys_remove(slotmap_keys_t *map, uint64_t key);
+
+/* Detaches a live key: it isn't live then, and its slot is kept.
+ * SLOTMAP_OK or SLOTMAP_NOT_LIVE. */
+slotmap_status slotmap_keys_detach(slotmap_keys_t *map, uint64_t key);
+
+/* Makes a detached key live again. The call needs no memory.
+ * SLOTMAP_OK or SLOTMAP_NOT_DETACHED. */
+slotmap_status slotmap_keys_reattach(slotmap_keys_t *map, uint64_t key);
+
+/* Writes the live key with the least index above that of `key`, which can be any number. Linear in the number of slots that it
+ * passes over.
+ * SLOTMAP_OK or SLOTMAP_NO_MORE. */
+slotmap_status slotmap_keys_next(const slotmap_keys_t *map, uint64_t key, uint64_t *key_out);
+
+/* Writes the live keys whose index is above that of `key`, by ascending index, as far as the array goes. Returns how many it wrote:
+ *
+ *     uint64_t keys[64] = {0}, last = SLOTMAP_START;
+ *     size_t count;
+ *     while ((count = slotmap_keys_list_after(&map, last, keys, 64)) > 0) { last = keys[count - 1]; .. }
+ *
+ * Linear in the number of slots that it passes over. */
+size_t slotmap_keys_list_after(const slotmap_keys_t *map, uint64_t key, uint64_t *keys, size_t keys_len);
+
+/* ---- NULL ----
+ *
+ * The three calls that free take NULL and do nothing. The calls that hand out a value which not everybody wants take NULL in the
+ * place of its pointer. These are macros, which call the functions of the same names. A pointer to such a function takes no NULL. */
+
+static inline void slotmap_inline_free(slotmap_t *map)
+{
+    if (map)
+        slotmap_free(map);
+}
+
+static inline void slotmap_inline_side_free(slotmap_side_t *side)
+{
+    if (side)
+        slotmap_side_free(side);
+}
+
+static inline void slotmap_inline_keys_free(slotmap_keys_t *map)
+{
+    if (map)
+        slotmap_keys_free(map);
+}
+
+static inline slotmap_status slotmap_inline_set(slotmap_t *map, uint64_t key, uint64_t value, uint64_t *old_out)
+{
+    uint64_t unread = 0;
+    return slotmap_set(map, key, value, old_out ? old_out : &unread);
+}
+
+static inline slotmap_status slotmap_inline_remove(slotmap_t *map, uint64_t key, uint64_t *value_out)
+{
+    uint64_t unread = 0;
+    return slotmap_remove(map, key, value_out ? value_out : &unread);
+}
+
+static inline slotmap_status slotmap_inline_detach(slotmap_t *map, uint64_t key, uint64_t *value_out)
+{
+    uint64_t unread = 0;
+    return slotmap_detach(map, key, value_out ? value_out : &unread);
+}
+
+static inline slotmap_status slotmap_inline_side_remove(slotmap_side_t *side, uint64_t key, uint64_t *value_out)
+{
+    uint64_t unread = 0;
+    return slotmap_side_remove(side, key, value_out ? value_out : &unread);
+}
+
+#define slotmap_free(map) slotmap_inline_free(map)
+#define slotmap_side_free(side) slotmap_inline_side_free(side)
+#define slotmap_keys_free(map) slotmap_inline_keys_free(map)
+#define slotmap_set(map, key, value, old_out) slotmap_inline_set(map, key, value, old_out)
+#define slotmap_remove(map, key, value_out) slotmap_inline_remove(map, key, value_out)
+#define slotmap_detach(map, key, value_out) slotmap_inline_detach(map, key, value_out)
+#define slotmap_side_remove(side, key, value_out) slotmap_inline_side_remove(side, key, value_out)
 
 #ifdef __cplusplus
 }

@@ -3,21 +3,34 @@
  *
  * slotmap.hpp: the maps of slotmap.h as classes, for C++17.
  *
- *     slotmaps::slot_map<T>       values that can be moved, in a std::vector; the proved map makes and removes their keys
- *     slotmaps::word_map<T>       values of at most 8 bytes, in the proved map itself
- *     slotmaps::side_table<T>     further values of at most 8 bytes under the keys of a map
+ *     slotmaps::slot_map<T>       values that can be moved, in one array; the proved calls make and retire their keys
+ *     slotmaps::side_map<T>       further values that can be moved, under the keys of a map
+ *     slotmaps::word_map<T>       values of at most 8 bytes, in the proved map itself (slotmap_words.hpp, which is included here)
+ *     slotmaps::side_table<T>     further values of at most 8 bytes, in the proved side table (the same file)
  *
- * Each frees what it has at the end of its scope. It can be moved and copied; a copy has the same keys. A call that can't get memory
- * throws std::bad_alloc, and one over 4294967294 keys std::length_error; the map then holds what it held, and makes the same keys.
- * The calls of slotmap.h are proved, and these classes aren't.
+ * Each has a second parameter, a tag, which is void. Keys of maps with different tags have different types:
  *
- * A slot_map needs no more of T than a move constructor, and to be copied a copy constructor. If a move throws, `erase` and `detach`
- * leave the key live, and `reattach` leaves it detached. `emplace` and `insert` then use up a key, and leave the map as it was. Where
- * a T that can't be copied throws as the vector grows, values may be lost, as in std::vector.
+ *     struct players;
+ *     slotmaps::slot_map<std::string, players> names;
+ *     slotmaps::typed_key<players> first = names.insert("Ada");
  *
- * One thread at a time calls a word_map or a side_table, also to read. Many threads may read a slot_map at once by `find`,
- * `contains`, `at`, `size`, `empty` and iteration, which use only the vector. Copying one and `capacity` write to its handle, so
- * only one thread at a time may make these.
+ * Each frees what it has at the end of its scope. It can be moved, swapped and copied; a copy has the same keys. A call that can't get
+ * memory throws std::bad_alloc, and one over 4294967294 keys std::length_error; the map then holds what it held, and makes the same
+ * keys. Where the compiler has no exceptions (-fno-exceptions), what would throw calls std::abort.
+ *
+ * What is proved are the calls of slotmap.h: that no key is made twice, and which keys are live. These classes are tested, not proved,
+ * and so is all of side_map.
+ *
+ * A slot_map or a side_map needs no more of T than a move constructor, and to be copied a copy constructor. If a move throws, `erase`
+ * and `detach` leave the key live, and `reattach` leaves it detached. `emplace` and `insert` then use up a key, and leave the map as
+ * it was. `side_map::put` may lose the entry at the key's index. Where a T that can't be copied throws as the array grows, values may
+ * be lost, as in std::vector.
+ *
+ * A destructor of T may call `erase`, `find`, `clear` and the like on the map that it leaves, also during `clear`. It must not insert
+ * there: the array may move.
+ *
+ * Many threads may read one of them at once by its const calls, but for copying it, which takes a thread alone, as do all calls that
+ * aren't const. That a read writes nothing is tested; the proof of slotmap.h presumes one call at a time.
  */
 #ifndef SLOTMAP_HPP
 #define SLOTMAP_HPP
@@ -26,442 +39,217 @@
 #error "slotmap.hpp needs C++17: -std=c++17"
 #endif
 
-#include "slotmap.h"
-
-#include <algorithm>
-#include <cstdint>
-#include <cstring>
-#include <functional>
-#include <iterator>
-#include <new>
-#include <optional>
-#include <stdexcept>
-#include <type_traits>
-#include <utility>
-#include <vector>
+#include "slotmap_detail.hpp"
 
 namespace slotmaps {
 
-/* A key, as the number of slotmap.h. A default one is no key of any map. */
-struct key {
-    std::uint64_t id = 0;
+/* Values that can be moved. The proved calls make and retire the keys. The values stand in an array at their keys' indices, each
+ * beside its key. A look-up compares the two, and calls nothing. */
+template <class T, class Tag = void> class slot_map : public detail::table<T, Tag> {
+    using base = detail::table<T, Tag>;
+    using place = detail::place<T>;
+    using base::values;
 
-    explicit operator bool() const noexcept { return id != 0; }
-    std::uint32_t index() const noexcept { return static_cast<std::uint32_t>(id); }
-    friend bool operator==(key a, key b) noexcept { return a.id == b.id; }
-    friend bool operator!=(key a, key b) noexcept { return a.id != b.id; }
-    friend bool operator<(key a, key b) noexcept { return a.id < b.id; }
-};
+    mutable detail::handle<slotmap_keys_t, slotmap_keys_open, slotmap_keys_free, slotmap_keys_clone> keys;
+    /* How many slots are vacant: that many keys need no room in the array. */
+    std::size_t vacant = 0;
 
-namespace detail {
-
-inline void check(slotmap_status status)
-{
-    if (status == SLOTMAP_NO_MEMORY)
-        throw std::bad_alloc();
-    if (status == SLOTMAP_FULL)
-        throw std::length_error(slotmap_status_text(status));
-    if (status != SLOTMAP_OK)
-        throw std::logic_error(slotmap_status_text(status));
-}
-
-/* A handle that is opened when it is first needed. Calls that only read write to it too, so a const owner has it mutable. */
-template <class Raw, slotmap_status (*New)(Raw *), void (*Free)(Raw *), slotmap_status (*Clone)(Raw *, Raw *)> class handle {
-    Raw raw{nullptr};
-
-public:
-    handle() noexcept = default;
-    ~handle() { Free(&raw); }
-    handle(handle &&other) noexcept : raw(std::exchange(other.raw, Raw{nullptr})) {}
-    handle(handle &other)
+    /* The slot of a key of the last version is retired, and never vacant. */
+    void remove(std::uint64_t id) noexcept
     {
-        if (other.raw.at != nullptr)
-            check(Clone(&other.raw, &raw));
+        slotmap_keys_remove(keys.get(), id);
+        vacant += id >> 32 != UINT32_MAX;
     }
-    handle &operator=(handle other) noexcept
+    /* Puts the value of a key that was made or bound. If its move throws, `undo` takes the key back. */
+    template <class Undo> void fill(std::uint64_t id, T &value, Undo undo)
     {
-        std::swap(raw, other.raw);
-        return *this;
-    }
-    Raw *get() noexcept { return &raw; }
-    Raw *opened()
-    {
-        if (raw.at == nullptr)
-            check(New(&raw));
-        return &raw;
-    }
-};
-
-/* The number of a key, or the null key in place of a number that no map returns. slotmap.h reads some of these as keys. */
-inline std::uint64_t number_of(key at) noexcept
-{
-    return at.index() != 0 && (at.id >> 32) % 2 == 1 ? at.id : SLOTMAP_NULL;
-}
-
-using map_handle = handle<slotmap_t, slotmap_new, slotmap_free, slotmap_clone>;
-using side_handle = handle<slotmap_side_t, slotmap_side_new, slotmap_side_free, slotmap_side_clone>;
-
-/* A value of at most 8 bytes as a number, and back. */
-template <class T> struct word {
-    static_assert(sizeof(T) <= 8 && std::is_trivially_copyable<T>::value, "a value has at most 8 bytes, and is trivially copyable");
-
-    static std::uint64_t of(const T &value) noexcept
-    {
-        std::uint64_t number = 0;
-        std::memcpy(&number, &value, sizeof value);
-        return number;
-    }
-    static T back(std::uint64_t number) noexcept
-    {
-        alignas(T) unsigned char bytes[sizeof(T)];
-        std::memcpy(bytes, &number, sizeof bytes);
-        return *std::launder(reinterpret_cast<T *>(bytes));
-    }
-    /* By reference: the call that writes the number is the other argument, and either may be evaluated first. */
-    static std::optional<T> found(slotmap_status status, const std::uint64_t &number)
-    {
-        return status == SLOTMAP_OK ? std::optional<T>(back(number)) : std::nullopt;
-    }
-};
-
-} // namespace detail
-
-/* Values of at most 8 bytes, in the proved map itself. */
-template <class T> class word_map {
-    using word = detail::word<T>;
-    mutable detail::map_handle map;
-
-public:
-    word_map() noexcept = default;
-    word_map(word_map &&) noexcept = default;
-    word_map(const word_map &other) : map(other.map) {}
-    word_map &operator=(word_map other) noexcept
-    {
-        map = std::move(other.map);
-        return *this;
-    }
-
-    std::size_t size() const noexcept { return slotmap_len(map.get()); }
-    bool empty() const noexcept { return size() == 0; }
-    std::size_t capacity() const noexcept { return slotmap_capacity(map.get()); }
-    void reserve(std::size_t more) { detail::check(slotmap_reserve(map.opened(), more)); }
-    void clear() noexcept { slotmap_clear(map.get()); }
-
-    key insert(const T &value)
-    {
-        key made;
-        detail::check(slotmap_insert(map.opened(), word::of(value), &made.id));
-        return made;
-    }
-    bool contains(key at) const noexcept { return slotmap_contains(map.get(), detail::number_of(at)); }
-    std::optional<T> get(key at) const
-    {
-        std::uint64_t number = 0;
-        return word::found(slotmap_get(map.get(), detail::number_of(at), &number), number);
-    }
-    /* Returns the value that it had. */
-    std::optional<T> set(key at, const T &value)
-    {
-        std::uint64_t number = 0;
-        return word::found(slotmap_set(map.get(), detail::number_of(at), word::of(value), &number), number);
-    }
-    std::optional<T> erase(key at)
-    {
-        std::uint64_t number = 0;
-        return word::found(slotmap_remove(map.get(), detail::number_of(at), &number), number);
-    }
-    std::optional<T> detach(key at)
-    {
-        std::uint64_t number = 0;
-        return word::found(slotmap_detach(map.get(), detail::number_of(at), &number), number);
-    }
-    bool reattach(key at, const T &value) { return slotmap_reattach(map.get(), detail::number_of(at), word::of(value)) == SLOTMAP_OK; }
-
-    /* By ascending index. The map may change during the iteration, but must not be moved. */
-    class iterator {
-        slotmap_t *map = nullptr;
-        key at;
-        std::uint64_t number = 0;
-
-    public:
-        using iterator_category = std::input_iterator_tag;
-        using value_type = std::pair<key, T>;
-        using difference_type = std::ptrdiff_t;
-        using pointer = void;
-        using reference = value_type;
-
-        iterator() noexcept = default;
-        explicit iterator(slotmap_t *over) : map(over) { ++*this; }
-        iterator &operator++()
-        {
-            if (slotmap_next(map, at.id, &at.id, &number) != SLOTMAP_OK)
-                *this = iterator();
-            return *this;
-        }
-        iterator operator++(int)
-        {
-            iterator before = *this;
-            ++*this;
-            return before;
-        }
-        value_type operator*() const { return {at, word::back(number)}; }
-        friend bool operator==(const iterator &a, const iterator &b) { return a.map == b.map && a.at == b.at; }
-        friend bool operator!=(const iterator &a, const iterator &b) { return !(a == b); }
-    };
-    iterator begin() const { return iterator(map.get()); }
-    iterator end() const { return iterator(); }
-};
-
-/* Further values of at most 8 bytes under the keys of a map. It knows nothing of removals: erase a key here too. It takes 16 bytes for each
- * index up to that of a key. So one key from outside may take gigabytes: ask the map first whether it is live. */
-template <class T> class side_table {
-    using word = detail::word<T>;
-    mutable detail::side_handle side;
-
-public:
-    side_table() noexcept = default;
-    side_table(side_table &&) noexcept = default;
-    side_table(const side_table &other) : side(other.side) {}
-    side_table &operator=(side_table other) noexcept
-    {
-        side = std::move(other.side);
-        return *this;
-    }
-
-    std::size_t size() const noexcept { return slotmap_side_len(side.get()); }
-    bool empty() const noexcept { return size() == 0; }
-    /* The largest index for which there is memory. */
-    std::size_t capacity() const noexcept { return slotmap_side_capacity(side.get()); }
-    void reserve(std::size_t index) { detail::check(slotmap_side_reserve(side.opened(), index)); }
-    void clear() noexcept { slotmap_side_clear(side.get()); }
-
-    /* Puts a value, and writes what stood at this index: this key or an older one, with its value. Returns false, and changes
-     * nothing, if no map returns such a key, or if it is older than the one at its index. */
-    bool put(key at, const T &value, std::optional<std::pair<key, T>> *stood = nullptr)
-    {
-        key older;
-        std::uint64_t number = 0;
-        slotmap_status status = slotmap_side_exchange(side.opened(), detail::number_of(at), word::of(value), &older.id, &number);
-        if (status == SLOTMAP_NO_ENTRY)
-            return false;
-        detail::check(status);
-        if (stood != nullptr)
-            *stood = older ? std::make_optional(std::make_pair(older, word::back(number))) : std::nullopt;
-        return true;
-    }
-    bool contains(key at) const noexcept { return slotmap_side_contains(side.get(), detail::number_of(at)); }
-    std::optional<T> get(key at) const
-    {
-        std::uint64_t number = 0;
-        return word::found(slotmap_side_get(side.get(), detail::number_of(at), &number), number);
-    }
-    std::optional<T> erase(key at)
-    {
-        std::uint64_t number = 0;
-        return word::found(slotmap_side_remove(side.get(), detail::number_of(at), &number), number);
-    }
-    /* All pairs, by ascending index. */
-    std::vector<std::pair<key, T>> pairs() const
-    {
-        std::vector<std::uint64_t> keys(size() + 1), numbers(size() + 1);
-        std::size_t count = slotmap_side_list(side.get(), keys.data(), keys.size(), numbers.data(), numbers.size());
-        std::vector<std::pair<key, T>> all;
-        all.reserve(count);
-        for (std::size_t i = 0; i < count; i++)
-            all.emplace_back(key{keys[i]}, word::back(numbers[i]));
-        return all;
-    }
-};
-
-/* Values that can be moved. The proved map makes and removes the keys; the values stand in a vector at their keys' indices, each beside
- * its key. A look-up compares the two, and calls nothing. */
-template <class T> class slot_map {
-    struct slot {
-        static_assert(std::is_object<T>::value && std::is_move_constructible<T>::value,
-                      "the values of a slot_map are objects that can be moved");
-        key at;
-        std::optional<T> value;
-    };
-    mutable detail::map_handle map;
-    std::vector<slot> slots;
-    std::size_t live = 0;
-
-    /* Makes room for one more place, before a key is made: its index is at most the number of places, but for the first. */
-    void make_room()
-    {
-        std::size_t needed = slots.empty() ? 2 : slots.size() + 1;
-        if (needed > slots.capacity())
-            slots.reserve(2 * needed);
-    }
-    /* Puts the value of a key that the map made or bound. If its move throws, `undo` takes the key back. */
-    template <class Undo> void fill(key at, T &value, Undo undo)
-    {
-        try {
-            if (at.index() >= slots.size())
-                slots.resize(std::size_t{at.index()} + 1);
-            slots[at.index()].value.emplace(std::move(value));
-        } catch (...) {
-            undo();
-            throw;
-        }
-        slots[at.index()].at = at;
-        live++;
-    }
-    /* Takes out the value of a live key, which `end` removes or detaches: after the move, which may throw. */
-    template <class End> std::optional<T> take(key at, End end)
-    {
-        if (!contains(at))
-            return std::nullopt;
-        slot &place = slots[at.index()];
-        std::optional<T> value(std::move(place.value));
-        end();
-        place.at = key{};
-        place.value.reset();
-        live--;
-        return value;
+        detail::undo_unless_done<Undo> step{undo};
+        values.fill(values.reach(static_cast<std::uint32_t>(id)), id, std::move(value));
+        step.done = true;
     }
 
 public:
+    using key_type = typename base::key_type;
+    using iterator = typename base::iterator;
+    using const_iterator = typename base::const_iterator;
+
     slot_map() noexcept = default;
     slot_map(slot_map &&other) noexcept
-        : map(std::move(other.map)), slots(std::exchange(other.slots, {})), live(std::exchange(other.live, 0))
+        : base(std::move(other)), keys(std::move(other.keys)), vacant(std::exchange(other.vacant, 0))
     {
     }
-    slot_map(const slot_map &other) : map(other.map), slots(other.slots), live(other.live) {}
+    slot_map(const slot_map &other) : base(other), keys(other.keys), vacant(other.vacant) {}
     slot_map &operator=(slot_map other) noexcept
     {
-        map = std::move(other.map);
-        std::swap(slots, other.slots);
-        std::swap(live, other.live);
+        swap(other);
         return *this;
     }
-
-    std::size_t size() const noexcept { return live; }
-    bool empty() const noexcept { return live == 0; }
-    /* For how many slots there is memory, in the proved map and in the vector. The call writes to the handle. */
-    std::size_t capacity() const noexcept
+    /* While the map still answers, since a destructor of T may call it. */
+    ~slot_map() { values.drop_all(); }
+    void swap(slot_map &other) noexcept
     {
-        return slots.capacity() < 2 ? 0 : std::min(slots.capacity() - 2, slotmap_capacity(map.get()));
+        values.swap(other.values);
+        std::swap(keys, other.keys);
+        std::swap(vacant, other.vacant);
     }
+    friend void swap(slot_map &a, slot_map &b) noexcept { a.swap(b); }
+
+    /* For how many slots there is memory, for the keys and in the array. */
+    std::size_t capacity() const noexcept { return std::min(values.capacity(), slotmap_keys_capacity(keys.get())); }
+    /* The next `more` calls of `insert` or `emplace` get no memory, but for what the values themselves ask for. */
     void reserve(std::size_t more)
     {
-        detail::check(slotmap_reserve(map.opened(), more));
-        slots.reserve(slotmap_capacity(map.get()) + 2);
+        detail::check(slotmap_keys_reserve(keys.opened(), more));
+        values.make_room(values.size() + (more > vacant ? more - vacant : 0));
     }
 
-    template <class... Arguments> key emplace(Arguments &&...arguments)
+    template <class... Arguments> key_type emplace(Arguments &&...arguments)
     {
         /* First, since an argument may be a value of this map. */
         T value(std::forward<Arguments>(arguments)...);
-        make_room();
-        key made;
-        detail::check(slotmap_insert(map.opened(), 0, &made.id));
-        fill(made, value, [&] { slotmap_delete(map.get(), made.id); });
+        if (vacant == 0)
+            values.make_room(values.size() + 1);
+        key_type made;
+        detail::check(slotmap_keys_insert(keys.opened(), &made.id));
+        vacant -= made.index() <= values.size();
+        fill(made.id, value, [&] { remove(made.id); });
         return made;
     }
-    key insert(const T &value) { return emplace(value); }
-    key insert(T &&value) { return emplace(std::move(value)); }
-
-    /* The value of a live key, or null. */
-    T *find(key at) noexcept
-    {
-        return at && at.index() < slots.size() && slots[at.index()].at == at ? &*slots[at.index()].value : nullptr;
-    }
-    const T *find(key at) const noexcept { return const_cast<slot_map *>(this)->find(at); }
-    bool contains(key at) const noexcept { return find(at) != nullptr; }
-    T &at(key where)
-    {
-        if (T *value = find(where))
-            return *value;
-        throw std::out_of_range(slotmap_status_text(SLOTMAP_NOT_LIVE));
-    }
-    const T &at(key where) const { return const_cast<slot_map *>(this)->at(where); }
+    key_type insert(const T &value) { return emplace(value); }
+    key_type insert(T &&value) { return emplace(std::move(value)); }
 
     /* Removes a live key, and returns its value. */
-    std::optional<T> erase(key at)
+    std::optional<T> erase(key_type at)
     {
-        return take(at, [&] { slotmap_delete(map.get(), at.id); });
+        place *found = values.find(at.id);
+        return found == nullptr ? std::nullopt : this->move_out(*found, [&] { remove(at.id); });
+    }
+    /* Removes the key that an iterator is at, and returns the next. The value is dropped where it stands. */
+    iterator erase(const_iterator where) noexcept
+    {
+        place &at = base::place_at(where);
+        std::uint64_t id = at.id;
+        values.drop(at);
+        remove(id);
+        return iterator(&at, values.end());
     }
     /* Takes the value of a live key out, and keeps the slot for the key. */
-    std::optional<T> detach(key at)
+    std::optional<T> detach(key_type at)
     {
-        std::uint64_t unread = 0;
-        return take(at, [&] { slotmap_detach(map.get(), at.id, &unread); });
+        place *found = values.find(at.id);
+        return found == nullptr ? std::nullopt : this->move_out(*found, [&] { slotmap_keys_detach(keys.get(), at.id); });
     }
     /* Binds a detached key to a value again. Returns false, and changes nothing, if the key isn't detached. */
-    bool reattach(key at, T value)
+    bool reattach(key_type at, T value)
     {
-        std::uint64_t unread = 0;
-        if (slotmap_reattach(map.get(), detail::number_of(at), 0) != SLOTMAP_OK)
+        if (slotmap_keys_reattach(keys.get(), detail::number_of(at)) != SLOTMAP_OK)
             return false;
-        fill(at, value, [&] { slotmap_detach(map.get(), at.id, &unread); });
+        fill(at.id, value, [&] { slotmap_keys_detach(keys.get(), at.id); });
         return true;
     }
+    /* Removes every live key, by ascending index. The capacity stays, and detached keys stay detached. */
     void clear() noexcept
     {
-        slotmap_clear(map.get());
-        live = 0;
-        for (slot &each : slots) {
-            each.at = key{};
-            each.value.reset();
-        }
+        for (place &each : values)
+            if (std::uint64_t id = each.id; each.has_value()) {
+                values.drop(each);
+                remove(id);
+            }
+    }
+};
+
+/* Erases every key for which `matches` returns true of the pair of a key and its value, and returns how many these were. */
+template <class T, class Tag, class Matches> std::size_t erase_if(slot_map<T, Tag> &map, Matches matches)
+{
+    return detail::erase_if(map, matches);
+}
+
+/* Further values that can be moved, under the keys of a map. It has at most one value for each index. A put under a newer key takes the
+ * place of an older one, never the reverse; versions wrap around, as slotmap.h has it. It knows nothing of removals: erase a key here
+ * too. It takes memory for each index up to that of a key. So one key from outside may take gigabytes: ask the map first whether it
+ * is live. */
+template <class T, class Tag = void> class side_map : public detail::table<T, Tag> {
+    using base = detail::table<T, Tag>;
+    using place = detail::place<T>;
+    using base::values;
+
+    static bool is_older(std::uint64_t id, std::uint64_t than) noexcept
+    {
+        return static_cast<std::uint32_t>(id >> 32) - static_cast<std::uint32_t>(than >> 32) >= std::uint32_t{1} << 31;
     }
 
-    /* By ascending index. An insert may move the values, and ends an iteration, as with a vector. */
-    template <class Slot, class Value> class iterator_of {
-        Slot *at = nullptr, *last = nullptr;
+public:
+    using key_type = typename base::key_type;
+    using iterator = typename base::iterator;
+    using const_iterator = typename base::const_iterator;
 
-        template <class, class> friend class iterator_of;
-        void skip()
-        {
-            while (at != last && !at->at)
-                ++at;
-        }
+    side_map() noexcept {}
+    side_map(side_map &&) noexcept = default;
+    side_map(const side_map &) = default;
+    side_map &operator=(side_map other) noexcept
+    {
+        swap(other);
+        return *this;
+    }
+    ~side_map() { values.drop_all(); }
+    void swap(side_map &other) noexcept { values.swap(other.values); }
+    friend void swap(side_map &a, side_map &b) noexcept { a.swap(b); }
 
-    public:
-        using iterator_category = std::input_iterator_tag;
-        using value_type = std::pair<key, Value &>;
-        using difference_type = std::ptrdiff_t;
-        using pointer = void;
-        using reference = value_type;
+    /* The largest index for which there is memory. */
+    std::size_t capacity() const noexcept { return values.capacity(); }
+    /* Makes sure of memory for each index up to a number. */
+    void reserve(std::size_t index)
+    {
+        if (index >= UINT32_MAX)
+            detail::fail<std::length_error>(slotmap_status_text(SLOTMAP_FULL));
+        values.make_room(index);
+    }
 
-        iterator_of() noexcept = default;
-        iterator_of(Slot *first, Slot *end) : at(first), last(end) { skip(); }
-        /* An iterator is a const_iterator too. */
-        template <class S, class V, class = std::enable_if_t<std::is_convertible<S *, Slot *>::value>>
-        iterator_of(const iterator_of<S, V> &other) : at(other.at), last(other.last)
-        {
+    /* Puts a value, and writes what stood at this index: this key or an older one, with its value. Returns false, and changes
+     * nothing, if no map returns such a key, or if it is older than the one at its index. */
+    bool put(key_type at, T value, std::optional<std::pair<key_type, T>> *stood = nullptr)
+    {
+        if (detail::number_of(at) == SLOTMAP_NULL)
+            return false;
+        values.make_room(at.index());
+        place &here = values.reach(at.index());
+        if (here.has_value() && is_older(at.id, here.id))
+            return false;
+        if (stood != nullptr)
+            stood->reset();
+        if (here.has_value()) {
+            if (stood != nullptr)
+                stood->emplace(key_type{here.id}, std::move(here.value()));
+            values.drop(here);
         }
-        iterator_of &operator++()
-        {
-            ++at;
-            skip();
-            return *this;
-        }
-        iterator_of operator++(int)
-        {
-            iterator_of before = *this;
-            ++*this;
-            return before;
-        }
-        value_type operator*() const { return {at->at, *at->value}; }
-        friend bool operator==(const iterator_of &a, const iterator_of &b) { return a.at == b.at; }
-        friend bool operator!=(const iterator_of &a, const iterator_of &b) { return a.at != b.at; }
-    };
-    using iterator = iterator_of<slot, T>;
-    using const_iterator = iterator_of<const slot, const T>;
-    iterator begin() { return iterator(slots.data(), slots.data() + slots.size()); }
-    iterator end() { return iterator(slots.data() + slots.size(), slots.data() + slots.size()); }
-    const_iterator begin() const { return const_iterator(slots.data(), slots.data() + slots.size()); }
-    const_iterator end() const { return const_iterator(slots.data() + slots.size(), slots.data() + slots.size()); }
-    const_iterator cbegin() const { return begin(); }
-    const_iterator cend() const { return end(); }
+        values.fill(here, at.id, std::move(value));
+        return true;
+    }
+    /* Removes a key, and returns its value. */
+    std::optional<T> erase(key_type at)
+    {
+        place *found = values.find(at.id);
+        return found == nullptr ? std::nullopt : this->move_out(*found, [] {});
+    }
+    /* Removes the key that an iterator is at, and returns the next. */
+    iterator erase(const_iterator where) noexcept
+    {
+        place &at = base::place_at(where);
+        values.drop(at);
+        return iterator(&at, values.end());
+    }
+    /* Removes every key. The capacity stays. */
+    void clear() noexcept { values.drop_all(); }
 };
+
+/* Erases every key for which `matches` returns true of the pair of a key and its value, and returns how many these were. */
+template <class T, class Tag, class Matches> std::size_t erase_if(side_map<T, Tag> &map, Matches matches)
+{
+    return detail::erase_if(map, matches);
+}
 
 } // namespace slotmaps
 
-template <> struct std::hash<slotmaps::key> {
-    std::size_t operator()(slotmaps::key at) const noexcept { return std::hash<std::uint64_t>()(at.id); }
-};
+#include "slotmap_words.hpp"
 
 #endif

@@ -3,17 +3,21 @@
 #
 # Tests the calls for C, C++, Rust and Python over the archive of c/dist for this machine, or over ARCHIVE:
 #
-# - every call, from C99 and from C++17, also with clang's address and undefined-behaviour sanitizers and under valgrind;
+# - every call, from C99 and from C++17, also with clang's address and undefined-behaviour sanitizers, under valgrind, and on an
+#   x86-64 processor without SSE4.1 under qemu;
 # - each allocation refused in turn, also under valgrind;
-# - the classes of slotmap.hpp, also with each allocation refused, and with sanitizers;
-# - `make install` into a folder, with a program by pkg-config, static and shared, and the names that the shared library has;
-# - a second `make install` with another prefix and another archive;
-# - the Cargo package: its tests, its examples and its page;
-# - the Python package, installed by pip into a folder: every call, also from several threads;
+# - that the calls which only read write nothing to the handle, so that two threads may read it at once;
+# - the classes of slotmap.hpp: each call, random calls beside a model with moves that throw and memory that is refused, each allocation
+#   refused in turn, with sanitizers, by each compiler for C++17 and C++20, and without exceptions;
+# - `make install` into a folder, with a program by pkg-config and by CMake, static and shared, and the names that the shared library has;
+# - a second `make install` with another prefix and another archive, one into folders with a space, and `make uninstall`;
+# - the Cargo package: its tests, among them a million random calls, its example and its page, also with serde;
+# - the Python package, installed by pip into a folder, from source and as the wheel of c/dist: every call, random calls beside a
+#   model, threads, each allocation refused, and its type hints. PYTHONS="python3.9 .." names other Pythons than python3;
 # - the program of docs/C.md in C, C++, Python and Rust: each prints what the page says, also by the commands that the page has;
-# - the archive for AArch64 under qemu;
+# - the archive for AArch64 under qemu, and that for x86-64-v2;
 # - that the prototypes of slotmap.h are the exports;
-# - that the packages have the version of CHANGELOG.md and the licences, and that dist/SHA256SUMS has the sums.
+# - that the packages have the version of slotmap.h and the licences, and that dist/SHA256SUMS has the sums.
 #
 # It is outside the gate, and needs a C compiler and make. What else a machine lacks it leaves out, and says so. It needs no kit.
 set -euo pipefail
@@ -53,7 +57,7 @@ typed() {
     local name folder
     folder=$(mktemp -d "$out/typed-XXXXXX")
     mkdir "$folder/c" "$folder/home"
-    cp -r Makefile LICENSE LICENSE-slotmap slotmap.h slotmap.hpp heap.c dist examples python tests "$folder/c"
+    cp -r Makefile slotmap-config* LICENSE LICENSE-slotmap slotmap.h slotmap*.hpp heap.c dist examples python tests "$folder/c"
     for name in "$@"; do
         sed -n "/<!-- typed $name -->/,/<!-- end -->/s/^    //p" ../docs/C.md | sed "s/x86_64-linux/$machine-linux/" >>"$folder/commands"
     done
@@ -68,16 +72,20 @@ grind=(valgrind -q --error-exitcode=9 --leak-check=full)
 
 cc -std=c99 "${strict[@]}" -fPIC -c heap.c -o "$out/heap.o"
 cc -std=c99 "${strict[@]}" tests/calls.c "$out/heap.o" "$archive" -o "$out/calls"
+cc -std=c99 "${strict[@]}" tests/keys.c "$out/heap.o" "$archive" -o "$out/keys"
 cc -std=c99 "${strict[@]}" tests/refused.c "$out/heap.o" "$archive" -Wl,--wrap=malloc,--wrap=realloc -o "$out/refused"
 cc -std=c99 "${strict[@]}" examples/names.c "$out/heap.o" "$archive" -o "$out/names"
 cc -std=c99 "${strict[@]}" examples/items.c "$out/heap.o" "$archive" -o "$out/items"
 checked "C99" "$out/calls"
+checked "C99" "$out/keys"
 checked "C99" "$out/refused"
 checked "C99" "$out/items"
+cc -std=c99 "${strict[@]}" -pthread tests/readers.c "$out/heap.o" "$archive" -o "$out/readers"
+checked "C99" "$out/readers"
 same "$out/names"
 typed c
 if left="valgrind" has valgrind; then
-    for program in calls refused items; do
+    for program in calls keys refused items; do
         checked "valgrind" "${grind[@]}" "$out/$program"
     done
 fi
@@ -86,12 +94,16 @@ if left="C++" has c++; then
     # heap.c as C++ too, and two libraries that each bring one.
     c++ -std=c++17 "${strict[@]}" -x c++ -c heap.c -o "$out/heap-cpp.o"
     c++ -std=c++17 "${strict[@]}" -x c++ tests/calls.c -x none "$out/heap.o" "$out/heap-cpp.o" "$archive" -o "$out/calls-cpp"
+    c++ -std=c++17 "${strict[@]}" -x c++ tests/keys.c -x none "$out/heap-cpp.o" "$archive" -o "$out/keys-cpp"
     c++ -std=c++17 "${strict[@]}" tests/classes.cpp "$out/heap-cpp.o" "$archive" -o "$out/classes"
     c++ -std=c++17 "${strict[@]}" examples/names.cpp "$out/heap-cpp.o" "$archive" -o "$out/names-cpp"
     checked "C++17" "$out/calls-cpp"
+    checked "C++17" "$out/keys-cpp"
     checked "C++17" "$out/classes"
     c++ -std=c++17 "${strict[@]}" tests/refused.cpp "$archive" -o "$out/classes-refused"
     checked "C++17" "$out/classes-refused"
+    c++ -std=c++17 "${strict[@]}" tests/random.cpp "$archive" -o "$out/random"
+    checked "C++17" "$out/random"
     same "$out/names-cpp"
     typed c++
     # What doesn't compile, and what the compiler has to say of it.
@@ -103,22 +115,42 @@ if left="C++" has c++; then
     }
     refuses c++17 "slotmaps::slot_map<std::mutex> map; map.emplace();" "can be moved"
     refuses c++17 "slotmaps::word_map<std::string> map; map.insert({});" "at most 8 bytes"
+    refuses c++17 "struct a; struct b; slotmaps::slot_map<int, a> map; map.erase(slotmaps::slot_map<int, b>().insert(1));" "no matching"
     refuses c++14 "" "needs C++17"
     echo "C++17: what slotmap.hpp refuses doesn't compile"
+    for compiler in c++ clang++; do
+        left="$compiler" has "$compiler" || continue
+        for flags in -std=c++17 -std=c++20 "-std=c++17 -fno-exceptions" "-std=c++20 -fno-exceptions"; do
+            for program in classes values; do
+                # shellcheck disable=SC2086
+                "$compiler" $flags "${strict[@]}" -O1 "tests/$program.cpp" "$out/heap.o" "$archive" -o "$out/$program-each"
+                checked "$compiler $flags" "$out/$program-each"
+            done
+        done
+    done
 fi
 if left="sanitizers" has clang clang++; then
     sanitize=(-g -fsanitize=address,undefined -fno-sanitize-recover)
     clang -std=c99 "${strict[@]}" "${sanitize[@]}" tests/calls.c heap.c "$archive" -o "$out/calls-sanitized"
+    clang -std=c99 "${strict[@]}" "${sanitize[@]}" tests/keys.c heap.c "$archive" -o "$out/keys-sanitized"
     clang -std=c99 "${strict[@]}" "${sanitize[@]}" -c heap.c -o "$out/heap-sanitized.o"
     clang++ -std=c++17 "${strict[@]}" "${sanitize[@]}" tests/classes.cpp "$out/heap-sanitized.o" "$archive" -o "$out/classes-sanitized"
     checked "sanitizers" "$out/calls-sanitized"
+    checked "sanitizers" "$out/keys-sanitized"
     checked "sanitizers" "$out/classes-sanitized"
     clang++ -std=c++17 "${strict[@]}" "${sanitize[@]}" tests/refused.cpp "$archive" -o "$out/classes-refused-sanitized"
     checked "sanitizers" "$out/classes-refused-sanitized"
+    for program in random values; do
+        heap=$out/heap-sanitized.o
+        [ "$program" != random ] || heap=
+        # shellcheck disable=SC2086
+        clang++ -std=c++17 "${strict[@]}" "${sanitize[@]}" "tests/$program.cpp" $heap "$archive" -o "$out/$program-sanitized"
+        checked "sanitizers" "$out/$program-sanitized"
+    done
 fi
 
 # A copy, so that nothing is built in the folder c.
-cp -r Makefile LICENSE LICENSE-slotmap slotmap.h slotmap.hpp heap.c tests examples "$out/"
+cp -r Makefile slotmap-config* LICENSE LICENSE-slotmap slotmap.h slotmap*.hpp heap.c tests examples "$out/"
 make -s -C "$out" install ARCHIVE="$archive" PREFIX=/opt/slotmap DESTDIR="$out/root"
 root=$out/root/opt/slotmap
 if left="pkg-config" has pkg-config; then
@@ -130,6 +162,20 @@ if left="pkg-config" has pkg-config; then
     same env LD_LIBRARY_PATH="$root/lib" "$out/names-shared"
     typed install
     typed install static
+fi
+if left="CMake" has cmake; then
+    cmake_program() {
+        mkdir -p "$out/cmake-$1"
+        printf '%s\n' 'cmake_minimum_required(VERSION 3.10)' 'project(names C)' "find_package(slotmap $2 REQUIRED)" \
+            "add_executable(names $top/c/examples/names.c)" "target_link_libraries(names slotmap::$1)" >"$out/cmake-$1/CMakeLists.txt"
+        cmake -S "$out/cmake-$1" -B "$out/cmake-$1/build" -DCMAKE_PREFIX_PATH="$root" >"$out/cmake-log" 2>&1 && cmake --build "$out/cmake-$1/build" >>"$out/cmake-log" 2>&1
+    }
+    for kind in slotmap static; do
+        cmake_program "$kind" 0.7 || { cat "$out/cmake-log" >&2; exit 1; }
+        same "$out/cmake-$kind/build/names"
+    done
+    ! cmake_program other 0.8 && grep -q "requested version" "$out/cmake-log" || { echo "c/test.sh: CMake takes the version 0.8" >&2; exit 1; }
+    echo "CMake: both libraries, and no other version"
 fi
 # Another prefix and another archive after a first build, also an older one.
 again() {
@@ -143,6 +189,13 @@ ar r "$out/another.a" "$out/another.o"
 touch -d 2000-01-01 "$out/another.a"
 [ "$(again ARCHIVE="$out/another.a") $(again ARCHIVE="$archive")" = "1 0" ] || { echo "c/test.sh: make keeps the archive of its first build" >&2; exit 1; }
 echo "make install: another prefix and another archive after a first build"
+spaces=("PREFIX=$out/with a space" "LIBDIR=$out/with a space/lib64" ARCHIVE="$archive")
+make -s -C "$out" install "${spaces[@]}"
+[ -e "$out/with a space/lib64/libslotmap.so" ] && [ -e "$out/with a space/include/slotmap.h" ] || { echo "c/test.sh: make install left files out" >&2; exit 1; }
+make -s -C "$out" uninstall "${spaces[@]}"
+[ -z "$(find "$out/with a space" ! -type d)" ] || { echo "c/test.sh: make uninstall left files" >&2; exit 1; }
+! make -C "$out" CC="echo x86_64-w64-mingw32; true" >"$out/log" 2>&1 && grep -q "no archive for x86_64-w64-mingw32" "$out/log" || { echo "c/test.sh: make takes a Linux archive for another system" >&2; exit 1; }
+echo "make install: into folders with a space, and uninstall removes all of it"
 sed -n 's/^[a-z_0-9]* \(slotmap_[a-z_]*\)(.*);$/\1/p' slotmap.h | sort >"$out/declared"
 # exports WHAT LIBRARY: a shared library has the names of slotmap.h, and no other.
 exports() {
@@ -154,48 +207,104 @@ exports "make install" "$root/lib/libslotmap.so"
 if left="the Cargo package" has cargo; then
     mkdir "$out/archive"
     cp "$archive" "$out/archive/libslotmap_c.a"
-    cargo() { SLOTMAP_C_LIB=$out/archive CARGO_TARGET_DIR=$out/target command cargo "$@" --offline --quiet --manifest-path cargo/Cargo.toml; }
-    cargo test
-    RUSTDOCFLAGS="-D warnings" cargo doc --no-deps
-    cargo build --example names
+    cp -r cargo "$out/cargo"
+    # in_package FOLDER ARGUMENT ..: Cargo in this folder of a copy. In the folder check it looks for no registry.
+    in_package() { (cd "$out/cargo/$1" && SLOTMAP_CALLS=1000000 SLOTMAP_C_LIB=$out/archive CARGO_TARGET_DIR=$out/target cargo "${@:2}" --offline --quiet); }
+    in_package check test
+    RUSTDOCFLAGS="-D warnings" in_package check doc --no-deps -p slotmap-proved
+    in_package check build --example names
     same "$out/target/debug/examples/names"
+    if left="clippy" has cargo-clippy && left="clippy" has clippy-driver; then
+        touch "$out/cargo/src/lib.rs"
+        (cd "$out/cargo/check" && SLOTMAP_C_LIB=$out/archive CARGO_TARGET_DIR=$out/target cargo clippy --offline --quiet --all-targets -- -D warnings)
+        echo "the Cargo package: clippy has nothing to say"
+    fi
+    registry=/usr/share/cargo/registry
+    if compgen -G "$registry/serde_json-1.*" >/dev/null; then
+        mkdir "$out/cargo/.cargo"
+        printf '[source.crates-io]\nreplace-with = "debian"\n[source.debian]\ndirectory = "%s"\n' "$registry" >"$out/cargo/.cargo/config.toml"
+        in_package . test --features serde
+        echo "the Cargo package: also with serde"
+    else
+        echo "left out, since serde isn't in $registry: the package's feature serde, and the examples in its comments"
+    fi
+    # The package has copies, since Cargo packs no file from outside its folder.
+    for built in x86_64 aarch64; do
+        cmp "cargo/dist/$built-linux/libslotmap_c.a" "dist/$built-linux/libslotmap_c.a"
+    done
 fi
 
-if left="the Python package" has python3 && python3 -m pip --version >/dev/null; then
-    SLOTMAP_ARCHIVE=$archive python3 -m pip install --quiet --no-index --disable-pip-version-check --root-user-action ignore --target "$out/python" ./python
-    export PYTHONPATH=$out/python PYTHONDONTWRITEBYTECODE=1
-    exports "Python" "$out/python/slotmap_proved/libslotmap_c.so"
-    checked "Python" python3 tests/calls.py
-    same python3 examples/names.py
-    if python3 -c "import venv, ensurepip" 2>/dev/null; then
-        typed python
-    else
-        echo "left out, since venv is missing: the page's commands for python"
+# pip_into PYTHON FOLDER WHAT ..: by pip, without a network, into a folder from which programs then import.
+pip_into() {
+    "$1" -m pip install --quiet --no-index --disable-pip-version-check --root-user-action ignore --target "$2" "${@:3}"
+    export PYTHONPATH=$2 PYTHONDONTWRITEBYTECODE=1
+}
+python_tests() {
+    [ "$(nm -D --defined-only "$PYTHONPATH"/slotmap_proved/_tables*.so | awk '{ print $3 }')" = PyInit__tables ] ||
+        { echo "c/test.sh: the module for Python has other names" >&2; exit 1; }
+    checked "$("$1" --version)" "$1" tests/calls.py
+    same "$1" examples/names.py
+    [ ! -e "$out/refuse.so" ] || checked "$("$1" --version)" env LD_PRELOAD="$out/refuse.so" "$1" tests/refused.py
+}
+has_headers() {
+    "$1" -c "import os, sysconfig; exit(not os.path.exists(sysconfig.get_path('include') + '/Python.h'))" ||
+        { echo "left out, since Python.h is missing: the Python package from source"; return 1; }
+}
+cc -O2 -shared -fPIC tests/refuse.c -o "$out/refuse.so" 2>/dev/null || echo "left out, since this isn't glibc: refused memory in Python"
+for python in ${PYTHONS:-python3}; do
+    left="the Python package" has "$python" && "$python" -m pip --version >/dev/null || continue
+    if has_headers "$python"; then
+        SLOTMAP_ARCHIVE=$archive pip_into "$python" "$out/python-$(basename "$python")" ./python
+        python_tests "$python"
+        ln -sfn "$PYTHONPATH" "$out/python"
     fi
+    wheel=$(echo dist/wheels/*_"$machine".whl)
+    if [ -e "$wheel" ]; then
+        pip_into "$python" "$out/wheel-$(basename "$python")" "$wheel"
+        python_tests "$python"
+    fi
+done
+if left="the page's commands for python" has python3 && python3 -c "import venv, ensurepip" 2>/dev/null && has_headers python3; then
+    typed python
+fi
+if left="the hints for Python" has mypy; then
+    mypy --strict --no-error-summary --cache-dir "$out/mypy" python/slotmap_proved
+    (cd python && MYPYPATH=. mypy --strict --no-error-summary --cache-dir "$out/mypy" ../tests/hints.py)
+    echo "mypy: the module and its hints"
 fi
 
 arm=dist/aarch64-linux/libslotmap_c.a
 if [ "$machine" != aarch64 ] && left="AArch64" has aarch64-linux-gnu-gcc qemu-aarch64-static; then
-    for program in tests/calls examples/names; do
-        aarch64-linux-gnu-gcc -std=c99 "${strict[@]}" -static "$program.c" heap.c "$arm" -o "$out/$(basename "$program")-arm"
+    for program in tests/calls tests/keys tests/readers examples/names; do
+        aarch64-linux-gnu-gcc -std=c99 "${strict[@]}" -pthread -static "$program.c" heap.c "$arm" -o "$out/$(basename "$program")-arm"
     done
     checked "AArch64" qemu-aarch64-static "$out/calls-arm"
+    checked "AArch64" qemu-aarch64-static "$out/keys-arm"
+    checked "AArch64" qemu-aarch64-static "$out/readers-arm"
     same qemu-aarch64-static "$out/names-arm"
+fi
+if [ "$machine" = x86_64 ]; then
+    for program in calls keys readers; do
+        cc -std=c99 "${strict[@]}" -pthread "tests/$program.c" "$out/heap.o" dist/x86_64-v2-linux/libslotmap_c.a -o "$out/$program-v2"
+        checked "x86-64-v2" "$out/$program-v2"
+        cc -std=c99 "${strict[@]}" -pthread -static "tests/$program.c" "$out/heap.o" "$archive" -o "$out/$program-plain"
+        if left="a processor without SSE4.1" has qemu-x86_64-static; then
+            checked "a processor without SSE4.1" qemu-x86_64-static -cpu qemu64 "$out/$program-plain"
+        fi
+    done
 fi
 
 if left="prototypes" has python3; then
     python3 tests/prototypes.py
 fi
 version=$(sed -n 's/.*SLOTMAP_VERSION "\(.*\)"/\1/p' slotmap.h)
-newest=$(sed -n 's/^## //p' ../CHANGELOG.md | head -n 1)
-[ "$version" = "$newest" ] || { echo "c/test.sh: slotmap.h has version $version, CHANGELOG.md has $newest" >&2; exit 1; }
-# Python's rules allow no -port.
-for place in "cargo/Cargo.toml version $version" "python/pyproject.toml version ${version/-port/}" \
-    "python/slotmap_proved/__init__.py __version__ ${version/-port/}" "python/backend.py VERSION ${version/-port/}"; do
-    read -r file name expected <<<"$place"
-    grep -q "\b$name = .*\"$expected\"$" "$file" || { echo "c/test.sh: $file has another version than $expected" >&2; exit 1; }
+IFS=. read -r major minor patch <<<"$version"
+grep -qx "#define SLOTMAP_VERSION_NUMBER $((10000 * major + 100 * minor + patch))" slotmap.h || { echo "c/test.sh: SLOTMAP_VERSION_NUMBER isn't that of $version" >&2; exit 1; }
+for place in "cargo/Cargo.toml version" "python/pyproject.toml version" "python/slotmap_proved/__init__.py __version__" "python/backend.py VERSION"; do
+    read -r file name <<<"$place"
+    grep -q "\b$name = .*\"$version\"$" "$file" || { echo "c/test.sh: $file has another version than $version" >&2; exit 1; }
 done
-for file in slotmap.h slotmap.hpp heap.c Makefile python/slotmap_proved/__init__.py; do
+for file in slotmap.h slotmap*.hpp heap.c Makefile python/slotmap_proved/__init__.py python/src/*; do
     head -n 2 "$file" | grep -q "SPDX-License-Identifier: MIT" || { echo "c/test.sh: $file names no licence" >&2; exit 1; }
 done
 for file in LICENSE LICENSE-slotmap; do

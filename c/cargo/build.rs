@@ -6,7 +6,7 @@ use std::path::Path;
 fn main() {
     let target = |name: &str| env::var(name).unwrap_or_default();
     let machine = format!("{}-{}", target("CARGO_CFG_TARGET_ARCH"), target("CARGO_CFG_TARGET_OS"));
-    let folder = env::var("SLOTMAP_C_LIB").unwrap_or_else(|_| format!("{}/../dist/{machine}", target("CARGO_MANIFEST_DIR")));
+    let folder = env::var("SLOTMAP_C_LIB").unwrap_or_else(|_| format!("{}/dist/{machine}", target("CARGO_MANIFEST_DIR")));
     let archive = Path::new(&folder).join("libslotmap_c.a");
     if !archive.exists() {
         panic!("there is no {}: set SLOTMAP_C_LIB to the folder of libslotmap_c.a for {machine}", archive.display());

@@ -1,10 +1,9 @@
 from slotmap_proved import SlotMap
 
-TEXTS = ["river", "hill", "lake"]
-with SlotMap() as names:
-    river, hill = names.insert(0), names.insert(1)
-    del names[hill]
-    lake = names.insert(2)  # reuses hill's slot, under a new key
-    for key, value in names.items():
-        print(f"{key:#x}: {TEXTS[value]}")
-    print("hill is", "found" if hill in names else "stale")
+names = SlotMap()
+river, hill = names.insert("river"), names.insert("hill")
+del names[hill]
+lake = names.insert("lake")  # reuses hill's slot, under a new key
+for key, name in names.items():
+    print(f"{key:#x}: {name}")
+print("hill is", "found" if hill in names else "stale")

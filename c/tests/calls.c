@@ -7,7 +7,7 @@
 #define NULL_KEY SLOTMAP_NULL
 #define UNWRITTEN UINT64_C(77)
 
-enum { COUNT = 1000, TURNS = 1000000 };
+enum { COUNT = 1000, TURNS = 1000000, GAPS = 10000, APART = 97 };
 
 static uint64_t keys[COUNT], listed[COUNT + 5], values[COUNT + 5];
 
@@ -159,6 +159,40 @@ static void check_blocks(slotmap_t *map)
     }
 }
 
+/* Long runs of vacant slots, which a walk passes over by many at a time. */
+static void check_gaps(slotmap_t *map)
+{
+    uint64_t key = SLOTMAP_START, value = 0, some[64], theirs[64];
+    size_t count = 0, i;
+    for (i = 1; i <= GAPS; i++)
+        CHECK(slotmap_insert(map, i, &key) == SLOTMAP_OK && key == (UINT64_C(1) << 32 | i));
+    for (i = 1; i <= GAPS; i++)
+        if (i % APART != 0)
+            CHECK(slotmap_delete(map, UINT64_C(1) << 32 | i) == SLOTMAP_OK);
+    for (key = SLOTMAP_START; slotmap_next(map, key, &key, &value) == SLOTMAP_OK; count++)
+        CHECK(slotmap_index(key) == (count + 1) * APART && value == slotmap_index(key));
+    CHECK(count == GAPS / APART && slotmap_len(map) == count);
+    CHECK(slotmap_list_after(map, SLOTMAP_START, some, 64, theirs, 64) == 64 && theirs[63] == 64 * APART);
+    CHECK(slotmap_list_after(map, some[63], some, 64, theirs, 64) == count - 64 && theirs[0] == 65 * APART);
+}
+
+/* NULL is taken by the calls that free, and in the place of a value that isn't wanted. */
+static void check_null(slotmap_t *map)
+{
+    slotmap_side_t side = SLOTMAP_INIT;
+    uint64_t a = 0, b = 0, out = UNWRITTEN;
+    CHECK(slotmap_insert(map, 1, &a) == SLOTMAP_OK && slotmap_insert(map, 2, &b) == SLOTMAP_OK);
+    CHECK(slotmap_set(map, a, 5, NULL) == SLOTMAP_OK && slotmap_get(map, a, &out) == SLOTMAP_OK && out == 5);
+    CHECK(slotmap_remove(map, a, NULL) == SLOTMAP_OK && slotmap_remove(map, a, NULL) == SLOTMAP_NOT_LIVE);
+    CHECK(slotmap_detach(map, b, NULL) == SLOTMAP_OK && slotmap_detach(map, b, NULL) == SLOTMAP_NOT_LIVE);
+    CHECK(slotmap_side_new(&side) == SLOTMAP_OK && slotmap_side_put(&side, b, 7) == SLOTMAP_OK);
+    CHECK(slotmap_side_remove(&side, b, NULL) == SLOTMAP_OK && slotmap_side_len(&side) == 0);
+    slotmap_side_free(&side);
+    slotmap_side_free(NULL);
+    slotmap_keys_free(NULL);
+    slotmap_free(NULL);
+}
+
 /* A copy has the same keys and values, returns the same new keys, and lives apart. */
 static void check_clone(slotmap_t *map)
 {
@@ -300,6 +334,8 @@ int main(void)
     with_new(check_side);
     with_new(check_exchange);
     with_new(check_wrapping);
+    with_new(check_gaps);
+    with_new(check_null);
     check_texts();
     with_new(check_all_keys);
     CHECK(slotmap_new(&map) == SLOTMAP_OK);

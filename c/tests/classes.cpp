@@ -6,6 +6,7 @@
 #include <memory>
 #include <string>
 #include <type_traits>
+#include <vector>
 
 using slotmaps::key;
 
@@ -33,6 +34,7 @@ static void check_words()
     CHECK(map.capacity() >= 100);
     map.clear();
     CHECK(map.empty() && copy.size() == 2);
+#if defined(__cpp_exceptions)
     bool thrown = false;
     try {
         map.reserve(std::size_t{1} << 33);
@@ -40,6 +42,7 @@ static void check_words()
         thrown = true;
     }
     CHECK(thrown);
+#endif
 }
 
 static void check_side()
@@ -102,7 +105,8 @@ static void check_iterators()
     CHECK(side.capacity() >= 100);
 }
 
-/* A value whose copies throw at a chosen time. */
+#if defined(__cpp_exceptions)
+/* A value that throws at a chosen time as it is made. */
 struct frail {
     static int left;
     int number;
@@ -172,6 +176,7 @@ static void check_throwing_moves()
     map.clear();
     CHECK(map.empty() && !map.contains(b) && copy.at(b).number == 6);
 }
+#endif
 
 /* A value of the map itself as the argument, also where the vector of values grows. */
 static void check_own_values()
@@ -273,8 +278,10 @@ int main()
     check_side();
     check_no_keys();
     check_iterators();
+#if defined(__cpp_exceptions)
     check_throwing();
     check_throwing_moves();
+#endif
     check_own_values();
     check_owned();
     check_strings();

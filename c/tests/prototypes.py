@@ -1,4 +1,4 @@
-"""Compares the prototypes of slotmap.h with the exports of crates/slotmap_c, and with the declarations of cargo/src/words.rs."""
+"""Compares the prototypes of slotmap.h with the exports of crates/slotmap_c, and with those that cargo/src declares."""
 
 import glob
 import os
@@ -6,8 +6,8 @@ import re
 import sys
 
 TOP = os.path.dirname(os.path.dirname(os.path.dirname(os.path.abspath(__file__))))
-C = {"uint64_t": "u64", "size_t": "usize", "bool": "bool", "slotmap_status": "u32", "void": "()"}
-C |= {"uint64_t *": "&mut u64", "slotmap_t *": "&mut Handle", "slotmap_side_t *": "&mut Handle"}
+C = {"uint64_t": "u64", "uint32_t": "u32", "size_t": "usize", "bool": "bool", "slotmap_status": "u32", "void": "()"}
+C |= {"uint64_t *": "&mut u64", "slotmap_t *": "&mut Handle", "slotmap_side_t *": "&mut Handle", "slotmap_keys_t *": "&mut Handle"}
 
 
 def text(path):
@@ -18,12 +18,13 @@ def text(path):
 def declared():
     header = re.sub(r"/\*.*?\*/", "", text("c/slotmap.h"), flags=re.S)
     for result, name, parameters in re.findall(r"^(\w+) (slotmap_\w+)\(([^)]*)\);", header, re.M):
-        yield name, [C[re.sub(r"\w+$", "", it.strip()).strip()] for it in parameters.split(",")] + [C[result]]
+        types = [re.sub(r"\w+$", "", it.replace("const ", "").strip()).strip() for it in parameters.split(",") if it != "void"]
+        yield name, [C[it] for it in types] + [C[result]]
 
 
 def functions(source, start):
     """Each function with its types: a slice is a pointer and a number, and the allocator is no parameter for C."""
-    flat = {"Global": [], "&mut [u64]": ["&mut u64", "usize"], "*mut u64": ["&mut u64"], "&mut SideHandle": ["&mut Handle"]}
+    flat = {"Global": [], "&mut [u64]": ["&mut u64", "usize"], "*mut u64": ["&mut u64"], "&mut SideHandle": ["&mut Handle"], "&mut KeysHandle": ["&mut Handle"]}
     for name, parameters, result in re.findall(start + r"fn (slotmap_\w+)\(([^)]*)\)(?:\s*-> (\w+))?", source):
         types = [it.split(":")[1].strip() for it in parameters.split(",") if ":" in it]
         yield name, [it for one in types for it in flat.get(one, [one])] + [result or "()"]
@@ -33,13 +34,14 @@ def main():
     header = dict(declared())
     files = glob.glob(os.path.join(TOP, "crates/slotmap_c/src/**/*.rt"), recursive=True)
     exported = dict(functions("".join(map(text, sorted(files))), 'pub extern "C" '))
-    imported = dict(functions(text("c/cargo/src/words.rs"), "pub "))
+    sources = glob.glob(os.path.join(TOP, "c/cargo/src/**/*.rs"), recursive=True)
+    imported = dict(functions("".join(map(text, sorted(sources))), "pub "))
     wrong = 0
     for name in sorted(header.keys() | exported.keys() | imported.keys()):
-        if not header.get(name) == exported.get(name) == imported.get(name):
-            print(f"{name}: in the header {header.get(name)}, exported {exported.get(name)}, in words.rs {imported.get(name)}")
+        if header.get(name) != exported.get(name) or imported.get(name, header.get(name)) != header.get(name):
+            print(f"{name}: in the header {header.get(name)}, exported {exported.get(name)}, in cargo/src {imported.get(name)}")
             wrong += 1
-    print(f"prototypes: {len(header)} in the header, {len(exported)} exports, {len(imported)} in words.rs, {wrong} differ")
+    print(f"prototypes: {len(header)} in the header, {len(exported)} exports, {len(imported)} in cargo/src, {wrong} differ")
     return wrong > 0
 
 

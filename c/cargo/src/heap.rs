@@ -1,5 +1,6 @@
-//! The heap of the archive, over that of the C library: the same as heap.c, so that no C is compiled.
+//! The heap of the archive, over that of the program: the allocator that `#[global_allocator]` names, or the system's.
 
+use std::alloc::{alloc, dealloc, realloc, Layout};
 use std::ffi::c_void;
 
 /// A block, or, where memory ran out, the address of a byte that is never read.
@@ -9,32 +10,61 @@ pub struct Block {
     at: *mut c_void,
 }
 
-unsafe extern "C" {
-    fn malloc(size: usize) -> *mut c_void;
-    fn realloc(old: *mut c_void, size: usize) -> *mut c_void;
-    fn free(block: *mut c_void);
-}
+// What stands before each block: its size, since `rattle_dealloc` isn't told it. So many bytes also align the block.
+const HEAD: usize = 16;
 
 static UNREAD: u8 = 0;
 
-fn block_at(at: *mut c_void) -> Block {
-    let made = !at.is_null();
-    Block { made, at: if made { at } else { (&raw const UNREAD).cast_mut().cast() } }
+// Of a block with its head.
+fn layout(size: usize) -> Option<Layout> {
+    Layout::from_size_align(size.checked_add(HEAD)?, HEAD).ok()
 }
 
-/// A block of no bytes gets `align` bytes, since malloc may return null for none.
-#[unsafe(no_mangle)]
-extern "C" fn rattle_alloc(size: usize, align: usize) -> Block {
-    block_at(unsafe { malloc(if size != 0 { size } else { align }) })
+fn none() -> Block {
+    Block { made: false, at: &UNREAD as *const u8 as *mut c_void }
+}
+
+// SAFETY: the caller owes that `head` is null, or leads to a block of this layout.
+unsafe fn block_at(head: *mut u8, layout: Layout) -> Block {
+    if head.is_null() {
+        return none();
+    }
+    // SAFETY: the block begins with its head, and is aligned for a number.
+    unsafe {
+        head.cast::<usize>().write(layout.size());
+        Block { made: true, at: head.add(HEAD).cast() }
+    }
+}
+
+#[no_mangle]
+extern "C" fn rattle_alloc(size: usize, _align: usize) -> Block {
+    match layout(size) {
+        // SAFETY: a layout has a head, so its size isn't 0.
+        Some(layout) => unsafe { block_at(alloc(layout), layout) },
+        None => none(),
+    }
 }
 
 /// Of the old block the first `_kept` bytes are in use. `realloc` copies all that fit.
-#[unsafe(no_mangle)]
-unsafe extern "C" fn rattle_realloc(old: *mut c_void, _kept: usize, size: usize, align: usize) -> Block {
-    block_at(unsafe { realloc(old, if size != 0 { size } else { align }) })
+#[no_mangle]
+unsafe extern "C" fn rattle_realloc(old: *mut c_void, _kept: usize, size: usize, _align: usize) -> Block {
+    let new = match layout(size) {
+        Some(new) => new,
+        None => return none(),
+    };
+    // SAFETY: `old` is a block of one of these functions, so its head stands before it, with its size.
+    unsafe {
+        let head = old.cast::<u8>().sub(HEAD);
+        let old = Layout::from_size_align_unchecked(head.cast::<usize>().read(), HEAD);
+        block_at(realloc(head, old, new.size()), new)
+    }
 }
 
-#[unsafe(no_mangle)]
+#[no_mangle]
 unsafe extern "C" fn rattle_dealloc(block: *mut c_void) {
-    unsafe { free(block) }
+    // SAFETY: as above.
+    unsafe {
+        let head = block.cast::<u8>().sub(HEAD);
+        dealloc(head, Layout::from_size_align_unchecked(head.cast::<usize>().read(), HEAD));
+    }
 }

@@ -1,0 +1,1 @@
+//! Nothing: this package has the tests of another.

@@ -1,0 +1,475 @@
+/* SPDX-License-Identifier: MIT
+ * Copyright (c) 2026 the Sevlurga maintainers
+ *
+ * The module slotmap_proved._tables: the types Map and Side, and their iterators, over CPython's stable interface. */
+#include "table.h"
+
+#include <stdlib.h>
+
+/* Each iterator has this type, also those of keys. */
+static PyTypeObject *iterator_type;
+
+enum of { KEYS, VALUES, ITEMS };
+
+typedef struct {
+    PyObject_HEAD
+    Table *over;
+    uint64_t last, changes;
+    enum of of;
+} Iterator;
+
+/* ---- Keys and errors ---- */
+
+/* Reads a key: SLOTMAP_NULL if the object is a number that no map returns, or no integer at all. An exception of `__index__` goes on. */
+static bool read_key(PyObject *object, uint64_t *key)
+{
+    uint64_t number = PyLong_AsUnsignedLongLong(object);
+    if (number == UINT64_MAX && PyErr_Occurred()) {
+        PyObject *index = NULL;
+        if (PyErr_ExceptionMatches(PyExc_TypeError)) {
+            PyErr_Clear();
+            index = PyNumber_Index(object);
+            number = index == NULL ? UINT64_MAX : PyLong_AsUnsignedLongLong(index);
+            Py_XDECREF(index);
+        }
+        if (PyErr_Occurred() && !PyErr_ExceptionMatches(PyExc_TypeError) && !PyErr_ExceptionMatches(PyExc_OverflowError))
+            return false;
+        PyErr_Clear();
+    }
+    bool is_key = (number >> 32) % 2 == 1 && (uint32_t)number != 0 && (uint32_t)number != UINT32_MAX;
+    *key = is_key ? number : SLOTMAP_NULL;
+    return true;
+}
+
+/* Raises what a status means. Returns NULL. */
+static PyObject *fail(slotmap_status status, PyObject *key)
+{
+    if (status == SLOTMAP_NO_MEMORY)
+        return PyErr_NoMemory();
+    if (status == SLOTMAP_FULL)
+        PyErr_SetString(PyExc_OverflowError, slotmap_status_text(status));
+    else
+        PyErr_SetObject(PyExc_KeyError, key);
+    return NULL;
+}
+
+/* A pair, of which the value's reference is taken over. */
+static PyObject *pair_of(uint64_t key, PyObject *value)
+{
+    PyObject *number = PyLong_FromUnsignedLongLong(key);
+    PyObject *pair = number == NULL ? NULL : PyTuple_Pack(2, number, value);
+    Py_XDECREF(number);
+    Py_DECREF(value);
+    return pair;
+}
+
+/* ---- What a map and a side table share ---- */
+
+static PyObject *new_table(PyTypeObject *type, bool is_side)
+{
+    allocfunc alloc = (allocfunc)PyType_GetSlot(type, Py_tp_alloc);
+    Table *made = (Table *)alloc(type, 0);
+    if (made == NULL)
+        return NULL;
+    made->is_side = is_side;
+    slotmap_status status = table_open(made);
+    if (status == SLOTMAP_OK)
+        return (PyObject *)made;
+    Py_DECREF(made);
+    return fail(status, Py_None);
+}
+
+static int no_arguments(PyObject *self, PyObject *arguments, PyObject *named)
+{
+    (void)self;
+    if (PyTuple_Size(arguments) == 0 && (named == NULL || PyDict_Size(named) == 0))
+        return 0;
+    PyErr_SetString(PyExc_TypeError, "it takes no arguments");
+    return -1;
+}
+
+static int traverse(PyObject *self, visitproc visit, void *arg)
+{
+    Py_VISIT(Py_TYPE(self));
+    return table_traverse((Table *)self, visit, arg);
+}
+
+/* What a destructor puts in meanwhile may stay. */
+static int clear(PyObject *self)
+{
+    uint64_t keys[64] = {0}, values[64] = {0}, last = SLOTMAP_START;
+    size_t count;
+    while ((count = table_drain((Table *)self, last, keys, values, 64)) > 0) {
+        last = keys[count - 1];
+        for (size_t i = 0; i < count; i++)
+            Py_DecRef(table_object(values[i]));
+    }
+    return 0;
+}
+
+static void dealloc(PyObject *self)
+{
+    PyTypeObject *type = Py_TYPE(self);
+    PyObject_GC_UnTrack(self);
+    table_end((Table *)self);
+    freefunc end = (freefunc)PyType_GetSlot(type, Py_tp_free);
+    end(self);
+    Py_DECREF(type);
+}
+
+static Py_ssize_t length(PyObject *self) { return (Py_ssize_t)table_len((Table *)self); }
+
+static int contains(PyObject *self, PyObject *object)
+{
+    uint64_t key;
+    return read_key(object, &key) ? table_contains((Table *)self, key) : -1;
+}
+
+static PyObject *subscript(PyObject *self, PyObject *object)
+{
+    uint64_t key;
+    PyObject *value = NULL;
+    if (!read_key(object, &key))
+        return NULL;
+    slotmap_status status = table_get((Table *)self, key, &value);
+    return status == SLOTMAP_OK ? value : fail(status, object);
+}
+
+/* Removes a key, and returns its value, or a new reference to `absent` if that isn't null. */
+static PyObject *taken(slotmap_status (*take)(Table *, uint64_t, PyObject **), PyObject *self, PyObject *object, PyObject *absent)
+{
+    uint64_t key;
+    PyObject *value = NULL;
+    if (!read_key(object, &key))
+        return NULL;
+    slotmap_status status = take((Table *)self, key, &value);
+    if (status == SLOTMAP_OK)
+        return value;
+    Py_XINCREF(absent);
+    return absent != NULL ? absent : fail(status, object);
+}
+
+/* Reads a key and a default, which may be named. */
+static bool read_default(PyObject *arguments, PyObject *named, const char *format, PyObject **key, PyObject **absent)
+{
+    static char *names[] = {"key", "default", NULL};
+    if (named == NULL)
+        return PyArg_UnpackTuple(arguments, strchr(format, ':') + 1, 1, 2, key, absent);
+    return PyArg_ParseTupleAndKeywords(arguments, named, format, names, key, absent);
+}
+
+static PyObject *get(PyObject *self, PyObject *arguments, PyObject *named)
+{
+    PyObject *key = NULL, *absent = Py_None;
+    return read_default(arguments, named, "O|O:get", &key, &absent) ? taken(table_get, self, key, absent) : NULL;
+}
+
+static PyObject *pop(PyObject *self, PyObject *arguments, PyObject *named)
+{
+    PyObject *key = NULL, *absent = NULL;
+    return read_default(arguments, named, "O|O:pop", &key, &absent) ? taken(table_remove, self, key, absent) : NULL;
+}
+
+static PyObject *clear_all(PyObject *self, PyObject *unused)
+{
+    (void)unused;
+    clear(self);
+    Py_RETURN_NONE;
+}
+
+static PyObject *capacity(PyObject *self, PyObject *unused)
+{
+    (void)unused;
+    return PyLong_FromSize_t(table_capacity((Table *)self));
+}
+
+static PyObject *reserve(PyObject *self, PyObject *object)
+{
+    PyObject *index = PyNumber_Index(object);
+    size_t count = index == NULL ? 0 : PyLong_AsSize_t(index);
+    Py_XDECREF(index);
+    if (PyErr_Occurred())
+        return NULL;
+    slotmap_status status = table_reserve((Table *)self, count);
+    if (status != SLOTMAP_OK)
+        return fail(status, object);
+    Py_RETURN_NONE;
+}
+
+static PyObject *duplicate(PyObject *self, PyObject *unused)
+{
+    (void)unused;
+    PyTypeObject *type = Py_TYPE(self);
+    allocfunc alloc = (allocfunc)PyType_GetSlot(type, Py_tp_alloc);
+    PyObject *made = alloc(type, 0);
+    if (made == NULL)
+        return NULL;
+    slotmap_status status = table_clone((Table *)self, (Table *)made);
+    if (status == SLOTMAP_OK)
+        return made;
+    Py_DECREF(made);
+    return fail(status, Py_None);
+}
+
+/* Puts the pairs into a list, which takes over their references. */
+static PyObject *list_of(const uint64_t *keys, const uint64_t *values, size_t count)
+{
+    PyObject *list = PyList_New((Py_ssize_t)count);
+    for (size_t i = 0; i < count; i++) {
+        PyObject *pair = list == NULL ? NULL : pair_of(keys[i], table_object(values[i]));
+        if (list == NULL)
+            Py_DecRef(table_object(values[i]));
+        else if (pair == NULL)
+            Py_CLEAR(list);
+        else
+            PyList_SetItem(list, (Py_ssize_t)i, pair);
+    }
+    return list;
+}
+
+static PyObject *pairs(PyObject *self, PyObject *unused)
+{
+    (void)unused;
+    uint64_t *keys = NULL, *values = NULL;
+    size_t count = 0;
+    slotmap_status status = table_list((Table *)self, &keys, &values, &count);
+    PyObject *list = status == SLOTMAP_OK ? list_of(keys, values, count) : fail(status, Py_None);
+    free(keys);
+    free(values);
+    return list;
+}
+
+/* ---- Iterators ---- */
+
+static PyObject *iterate(PyObject *self, enum of of)
+{
+    allocfunc alloc = (allocfunc)PyType_GetSlot(iterator_type, Py_tp_alloc);
+    Iterator *made = (Iterator *)alloc(iterator_type, 0);
+    if (made == NULL)
+        return NULL;
+    Py_INCREF(self);
+    made->over = (Table *)self;
+    made->last = SLOTMAP_START;
+    made->changes = made->over->changes;
+    made->of = of;
+    return (PyObject *)made;
+}
+
+static PyObject *iterate_keys(PyObject *self) { return iterate(self, KEYS); }
+
+static PyObject *iterate_values(PyObject *self, PyObject *unused)
+{
+    (void)unused;
+    return iterate(self, VALUES);
+}
+
+static PyObject *iterate_items(PyObject *self, PyObject *unused)
+{
+    (void)unused;
+    return iterate(self, ITEMS);
+}
+
+/* Returns the next of an iterator over a table. What is over is dropped by the caller. */
+static PyObject *step(Iterator *self, Table *over, bool *ends)
+{
+    PyObject *value = NULL;
+    slotmap_status status = table_next(over, self->changes, self->last, &self->last, self->of == KEYS ? NULL : &value);
+    *ends = status != SLOTMAP_OK;
+    if (status == TABLE_CHANGED)
+        PyErr_SetString(PyExc_RuntimeError, "the keys changed during iteration");
+    if (*ends)
+        return NULL;
+    if (self->of == KEYS)
+        return PyLong_FromUnsignedLongLong(self->last);
+    return self->of == VALUES ? value : pair_of(self->last, value);
+}
+
+static PyObject *iterator_next(PyObject *object)
+{
+    Iterator *self = (Iterator *)object;
+    Table *ended = NULL;
+    PyObject *next = NULL;
+    bool ends = false;
+#ifdef Py_GIL_DISABLED
+    Py_BEGIN_CRITICAL_SECTION(object);
+#endif
+    if (self->over != NULL)
+        next = step(self, self->over, &ends);
+    if (ends) {
+        ended = self->over;
+        self->over = NULL;
+    }
+#ifdef Py_GIL_DISABLED
+    Py_END_CRITICAL_SECTION();
+#endif
+    Py_XDECREF((PyObject *)ended);
+    return next;
+}
+
+static int iterator_traverse(PyObject *self, visitproc visit, void *arg)
+{
+    Py_VISIT(Py_TYPE(self));
+    Py_VISIT((PyObject *)((Iterator *)self)->over);
+    return 0;
+}
+
+static int iterator_clear(PyObject *self)
+{
+    Table *over = ((Iterator *)self)->over;
+    ((Iterator *)self)->over = NULL;
+    Py_XDECREF((PyObject *)over);
+    return 0;
+}
+
+static void iterator_dealloc(PyObject *self)
+{
+    PyTypeObject *type = Py_TYPE(self);
+    PyObject_GC_UnTrack(self);
+    iterator_clear(self);
+    freefunc end = (freefunc)PyType_GetSlot(type, Py_tp_free);
+    end(self);
+    Py_DECREF(type);
+}
+
+/* ---- Maps ---- */
+
+static PyObject *new_map(PyTypeObject *type, PyObject *arguments, PyObject *named)
+{
+    (void)arguments;
+    (void)named;
+    return new_table(type, false);
+}
+
+static PyObject *insert(PyObject *self, PyObject *value)
+{
+    uint64_t key = 0;
+    slotmap_status status = table_insert((Table *)self, value, &key);
+    return status == SLOTMAP_OK ? PyLong_FromUnsignedLongLong(key) : fail(status, Py_None);
+}
+
+static int assign(PyObject *self, PyObject *object, PyObject *value)
+{
+    uint64_t key;
+    PyObject *old = NULL;
+    if (!read_key(object, &key))
+        return -1;
+    slotmap_status status = value == NULL ? table_remove((Table *)self, key, &old) : table_set((Table *)self, key, value, &old);
+    Py_XDECREF(old);
+    return status == SLOTMAP_OK ? 0 : (fail(status, object), -1);
+}
+
+static PyObject *detach(PyObject *self, PyObject *key) { return taken(table_detach, self, key, NULL); }
+
+static PyObject *reattach(PyObject *self, PyObject *arguments)
+{
+    uint64_t key;
+    PyObject *object = NULL, *value = NULL;
+    if (!PyArg_UnpackTuple(arguments, "reattach", 2, 2, &object, &value) || !read_key(object, &key))
+        return NULL;
+    slotmap_status status = table_reattach((Table *)self, key, value);
+    if (status != SLOTMAP_OK)
+        return fail(status, object);
+    Py_RETURN_NONE;
+}
+
+/* ---- Side tables ---- */
+
+static PyObject *new_side(PyTypeObject *type, PyObject *arguments, PyObject *named)
+{
+    (void)arguments;
+    (void)named;
+    return new_table(type, true);
+}
+
+static int put(PyObject *self, PyObject *object, PyObject *value)
+{
+    uint64_t key, older;
+    PyObject *old = NULL;
+    if (!read_key(object, &key))
+        return -1;
+    slotmap_status status = value == NULL ? table_remove((Table *)self, key, &old) : table_put((Table *)self, key, value, &older, &old);
+    Py_XDECREF(old);
+    return status == SLOTMAP_OK ? 0 : (fail(status, object), -1);
+}
+
+static PyObject *exchange(PyObject *self, PyObject *arguments)
+{
+    uint64_t key, older;
+    PyObject *object = NULL, *value = NULL, *old = NULL;
+    if (!PyArg_UnpackTuple(arguments, "exchange", 2, 2, &object, &value) || !read_key(object, &key))
+        return NULL;
+    slotmap_status status = table_put((Table *)self, key, value, &older, &old);
+    if (status != SLOTMAP_OK)
+        return fail(status, object);
+    if (old == NULL)
+        Py_RETURN_NONE;
+    return pair_of(older, old);
+}
+
+/* ---- The module ---- */
+
+#define NAMED(call) ((PyCFunction)(void (*)(void))(call))
+#define SHARED_METHODS \
+    {"get", NAMED(get), METH_VARARGS | METH_KEYWORDS, "get(key, default=None): the value of a key, or the default."}, \
+    {"pop", NAMED(pop), METH_VARARGS | METH_KEYWORDS, "pop(key[, default]): removes a key, and returns its value. Without a default it raises KeyError."}, \
+    {"clear", clear_all, METH_NOARGS, "Removes every key."}, \
+    {"capacity", capacity, METH_NOARGS, "The largest index for which there is memory."}, \
+    {"pairs", pairs, METH_NOARGS, "All keys with their values, by ascending index, as a list, in one step."}, \
+    {"_duplicate", duplicate, METH_NOARGS, "A copy without attributes."}, \
+    {"_values", iterate_values, METH_NOARGS, "An iterator over the values."}, \
+    {"_items", iterate_items, METH_NOARGS, "An iterator over pairs."}, \
+    {"__class_getitem__", Py_GenericAlias, METH_O | METH_CLASS, "For type hints."}
+#define SHARED_SLOTS \
+    {Py_tp_init, no_arguments}, {Py_tp_dealloc, dealloc}, {Py_tp_traverse, traverse}, {Py_tp_clear, clear}, {Py_tp_iter, iterate_keys}, \
+    {Py_mp_length, length}, {Py_mp_subscript, subscript}, {Py_sq_contains, contains}
+
+static PyMethodDef map_methods[] = {
+    SHARED_METHODS,
+    {"insert", insert, METH_O, "insert(value): makes a key for a value, and returns it."},
+    {"detach", detach, METH_O, "detach(key): takes the value of a live key out, and keeps the slot for the key."},
+    {"reattach", reattach, METH_VARARGS, "reattach(key, value): binds a detached key to a value again."},
+    {"reserve", reserve, METH_O, "reserve(additional): makes room for so many more keys."},
+    {NULL, NULL, 0, NULL},
+};
+static PyMethodDef side_methods[] = {
+    SHARED_METHODS,
+    {"exchange", exchange, METH_VARARGS, "exchange(key, value): puts a value, and returns the key that stood at this index, with its value, or None."},
+    {"reserve", reserve, METH_O, "reserve(index): makes sure of memory for each index up to a number."},
+    {NULL, NULL, 0, NULL},
+};
+static PyType_Slot map_slots[] = {SHARED_SLOTS, {Py_tp_new, new_map}, {Py_tp_methods, map_methods}, {Py_mp_ass_subscript, assign}, {0, NULL}};
+static PyType_Slot side_slots[] = {SHARED_SLOTS, {Py_tp_new, new_side}, {Py_tp_methods, side_methods}, {Py_mp_ass_subscript, put}, {0, NULL}};
+static PyType_Slot iterator_slots[] = {
+    {Py_tp_dealloc, iterator_dealloc}, {Py_tp_traverse, iterator_traverse}, {Py_tp_clear, iterator_clear},
+    {Py_tp_iter, PyObject_SelfIter},   {Py_tp_iternext, iterator_next},     {0, NULL},
+};
+
+#define COLLECTED (Py_TPFLAGS_DEFAULT | Py_TPFLAGS_HAVE_GC)
+static PyType_Spec map_spec = {"slotmap_proved._tables.Map", sizeof(Table), 0, COLLECTED | Py_TPFLAGS_BASETYPE, map_slots};
+static PyType_Spec side_spec = {"slotmap_proved._tables.Side", sizeof(Table), 0, COLLECTED | Py_TPFLAGS_BASETYPE, side_slots};
+static PyType_Spec iterator_spec = {"slotmap_proved._tables.Iterator", sizeof(Iterator), 0, COLLECTED, iterator_slots};
+static struct PyModuleDef definition = {PyModuleDef_HEAD_INIT, "_tables", "Tables of Python objects. Use slotmap_proved.", -1, NULL, NULL, NULL, NULL, NULL};
+
+static bool add_type(PyObject *module, const char *name, PyType_Spec *spec)
+{
+    PyObject *type = PyType_FromSpec(spec);
+    if (type != NULL && PyModule_AddObject(module, name, type) == 0)
+        return true;
+    Py_XDECREF(type);
+    return false;
+}
+
+PyMODINIT_FUNC PyInit__tables(void)
+{
+    PyObject *module = PyModule_Create(&definition);
+    if (module == NULL)
+        return NULL;
+#ifdef Py_GIL_DISABLED
+    PyUnstable_Module_SetGIL(module, Py_MOD_GIL_NOT_USED);
+#endif
+    iterator_type = (PyTypeObject *)PyType_FromSpec(&iterator_spec);
+    if (iterator_type != NULL && add_type(module, "Map", &map_spec) && add_type(module, "Side", &side_spec))
+        return module;
+    Py_DECREF(module);
+    return NULL;
+}

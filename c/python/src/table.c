@@ -1,0 +1,309 @@
+/* SPDX-License-Identifier: MIT
+ * Copyright (c) 2026 the Sevlurga maintainers
+ *
+ * The calls of table.h. */
+#include "table.h"
+
+#include <stdlib.h>
+#include <string.h>
+
+#ifdef Py_GIL_DISABLED
+#define LOCKED(table) Py_BEGIN_CRITICAL_SECTION((PyObject *)(table));
+#define UNLOCKED() Py_END_CRITICAL_SECTION();
+#else
+#define LOCKED(table) {
+#define UNLOCKED() }
+#endif
+
+static uint64_t number_of(PyObject *object) { return (uint64_t)(uintptr_t)object; }
+
+slotmap_status table_open(Table *table) { return table->is_side ? slotmap_side_new(&table->in.side) : slotmap_new(&table->in.map); }
+
+/* The next key of a side table whose index is above that of another. */
+static slotmap_status next_of_side(Table *side, uint64_t after, uint64_t *key, uint64_t *value)
+{
+    for (size_t at = (size_t)(uint32_t)after + 1; at < side->room; at++)
+        if (side->keys[at] != 0) {
+            *key = side->keys[at];
+            return slotmap_side_get(&side->in.side, *key, value);
+        }
+    return SLOTMAP_NO_MORE;
+}
+
+static slotmap_status next_of(Table *table, uint64_t after, uint64_t *key, uint64_t *value)
+{
+    return table->is_side ? next_of_side(table, after, key, value) : slotmap_next(&table->in.map, after, key, value);
+}
+
+void table_end(Table *table)
+{
+    uint64_t key = SLOTMAP_START, value = 0;
+    while (next_of(table, key, &key, &value) == SLOTMAP_OK)
+        Py_DecRef(table_object(value));
+    if (table->is_side)
+        slotmap_side_free(&table->in.side);
+    else
+        slotmap_free(&table->in.map);
+    free(table->keys);
+    table->keys = NULL;
+    table->room = 0;
+}
+
+/* The collector calls it while no other thread runs. */
+int table_traverse(Table *table, visitproc visit, void *argument)
+{
+    uint64_t key = SLOTMAP_START, value = 0;
+    while (next_of(table, key, &key, &value) == SLOTMAP_OK) {
+        int found = visit(table_object(value), argument);
+        if (found != 0)
+            return found;
+    }
+    return 0;
+}
+
+size_t table_len(Table *table)
+{
+    size_t count;
+    LOCKED(table)
+    count = table->is_side ? slotmap_side_len(&table->in.side) : slotmap_len(&table->in.map);
+    UNLOCKED()
+    return count;
+}
+
+size_t table_capacity(Table *table)
+{
+    size_t count;
+    LOCKED(table)
+    count = table->is_side ? slotmap_side_capacity(&table->in.side) : slotmap_capacity(&table->in.map);
+    UNLOCKED()
+    return count;
+}
+
+/* Makes room for the keys of a side table up to an index. */
+static slotmap_status make_room(Table *side, size_t index)
+{
+    if (index < side->room)
+        return SLOTMAP_OK;
+    size_t room = index + 1 > 2 * side->room ? index + 1 : 2 * side->room;
+    uint64_t *keys = realloc(side->keys, room * sizeof *keys);
+    if (keys == NULL)
+        return SLOTMAP_NO_MEMORY;
+    memset(keys + side->room, 0, (room - side->room) * sizeof *keys);
+    side->keys = keys;
+    side->room = room;
+    return SLOTMAP_OK;
+}
+
+static slotmap_status reserve_side(Table *side, size_t index)
+{
+    slotmap_status status = slotmap_side_reserve(&side->in.side, index);
+    return status == SLOTMAP_OK ? make_room(side, index) : status;
+}
+
+slotmap_status table_reserve(Table *table, size_t count)
+{
+    slotmap_status status;
+    LOCKED(table)
+    status = table->is_side ? reserve_side(table, count) : slotmap_reserve(&table->in.map, count);
+    UNLOCKED()
+    return status;
+}
+
+bool table_contains(Table *table, uint64_t key)
+{
+    bool found;
+    LOCKED(table)
+    found = table->is_side ? slotmap_side_contains(&table->in.side, key) : slotmap_contains(&table->in.map, key);
+    UNLOCKED()
+    return found;
+}
+
+slotmap_status table_get(Table *table, uint64_t key, PyObject **value)
+{
+    slotmap_status status;
+    uint64_t number = 0;
+    LOCKED(table)
+    status = table->is_side ? slotmap_side_get(&table->in.side, key, &number) : slotmap_get(&table->in.map, key, &number);
+    if (status == SLOTMAP_OK)
+        Py_INCREF(*value = table_object(number));
+    UNLOCKED()
+    return status;
+}
+
+/* Without the lock. */
+static slotmap_status remove_key(Table *table, uint64_t key, uint64_t *number)
+{
+    slotmap_status status = table->is_side ? slotmap_side_remove(&table->in.side, key, number) : slotmap_remove(&table->in.map, key, number);
+    if (status != SLOTMAP_OK)
+        return status;
+    table->changes++;
+    if (table->is_side)
+        table->keys[(uint32_t)key] = 0;
+    return SLOTMAP_OK;
+}
+
+slotmap_status table_remove(Table *table, uint64_t key, PyObject **value)
+{
+    slotmap_status status;
+    uint64_t number = 0;
+    LOCKED(table)
+    status = remove_key(table, key, &number);
+    UNLOCKED()
+    if (status == SLOTMAP_OK)
+        *value = table_object(number);
+    return status;
+}
+
+slotmap_status table_insert(Table *map, PyObject *value, uint64_t *key)
+{
+    slotmap_status status;
+    LOCKED(map)
+    status = slotmap_insert(&map->in.map, number_of(value), key);
+    if (status == SLOTMAP_OK) {
+        Py_INCREF(value);
+        map->changes++;
+    }
+    UNLOCKED()
+    return status;
+}
+
+slotmap_status table_set(Table *map, uint64_t key, PyObject *value, PyObject **old)
+{
+    slotmap_status status;
+    uint64_t number = 0;
+    LOCKED(map)
+    status = slotmap_set(&map->in.map, key, number_of(value), &number);
+    if (status == SLOTMAP_OK)
+        Py_INCREF(value);
+    UNLOCKED()
+    if (status == SLOTMAP_OK)
+        *old = table_object(number);
+    return status;
+}
+
+slotmap_status table_detach(Table *map, uint64_t key, PyObject **value)
+{
+    slotmap_status status;
+    uint64_t number = 0;
+    LOCKED(map)
+    status = slotmap_detach(&map->in.map, key, &number);
+    map->changes += status == SLOTMAP_OK;
+    UNLOCKED()
+    if (status == SLOTMAP_OK)
+        *value = table_object(number);
+    return status;
+}
+
+slotmap_status table_reattach(Table *map, uint64_t key, PyObject *value)
+{
+    slotmap_status status;
+    LOCKED(map)
+    status = slotmap_reattach(&map->in.map, key, number_of(value));
+    if (status == SLOTMAP_OK) {
+        Py_INCREF(value);
+        map->changes++;
+    }
+    UNLOCKED()
+    return status;
+}
+
+slotmap_status table_put(Table *side, uint64_t key, PyObject *value, uint64_t *older, PyObject **old)
+{
+    slotmap_status status;
+    uint64_t number = 0;
+    *older = 0;
+    LOCKED(side)
+    /* For a number that no map returns, which is refused, there is no room either. */
+    status = key == SLOTMAP_NULL ? SLOTMAP_NO_ENTRY : make_room(side, (uint32_t)key);
+    if (status == SLOTMAP_OK)
+        status = slotmap_side_exchange(&side->in.side, key, number_of(value), older, &number);
+    if (status == SLOTMAP_OK) {
+        Py_INCREF(value);
+        side->changes += *older != key;
+        side->keys[(uint32_t)key] = key;
+    }
+    UNLOCKED()
+    *old = table_object(number);
+    return status;
+}
+
+slotmap_status table_next(Table *table, uint64_t changes, uint64_t after, uint64_t *key, PyObject **value)
+{
+    slotmap_status status = TABLE_CHANGED;
+    uint64_t number = 0;
+    LOCKED(table)
+    if (table->changes == changes)
+        status = next_of(table, after, key, &number);
+    if (status == SLOTMAP_OK && value != NULL)
+        Py_INCREF(*value = table_object(number));
+    UNLOCKED()
+    return status;
+}
+
+size_t table_drain(Table *table, uint64_t after, uint64_t *keys, uint64_t *values, size_t most)
+{
+    size_t count = 0;
+    LOCKED(table)
+    while (count < most && next_of(table, after, &keys[count], &values[count]) == SLOTMAP_OK) {
+        after = keys[count];
+        remove_key(table, after, &values[count]);
+        count++;
+    }
+    UNLOCKED()
+    return count;
+}
+
+/* Without the lock. */
+static slotmap_status list_all(Table *table, uint64_t **keys, uint64_t **values, size_t *count)
+{
+    uint64_t key = SLOTMAP_START, value = 0;
+    size_t most = table->is_side ? slotmap_side_len(&table->in.side) : slotmap_len(&table->in.map);
+    *keys = malloc((most + 1) * sizeof **keys);
+    *values = malloc((most + 1) * sizeof **values);
+    if (*keys == NULL || *values == NULL)
+        return SLOTMAP_NO_MEMORY;
+    for (; *count < most && next_of(table, key, &key, &value) == SLOTMAP_OK; ++*count) {
+        (*keys)[*count] = key;
+        (*values)[*count] = value;
+        Py_INCREF(table_object(value));
+    }
+    return SLOTMAP_OK;
+}
+
+slotmap_status table_list(Table *table, uint64_t **keys, uint64_t **values, size_t *count)
+{
+    slotmap_status status;
+    *count = 0;
+    LOCKED(table)
+    status = list_all(table, keys, values, count);
+    UNLOCKED()
+    return status;
+}
+
+/* Without the lock. */
+static slotmap_status clone_side(Table *side, Table *copy)
+{
+    slotmap_status status = slotmap_side_clone(&side->in.side, &copy->in.side);
+    if (status == SLOTMAP_OK && side->room > 0)
+        status = make_room(copy, side->room - 1);
+    if (status != SLOTMAP_OK) {
+        slotmap_side_free(&copy->in.side);
+        return status;
+    }
+    if (side->room > 0)
+        memcpy(copy->keys, side->keys, side->room * sizeof *side->keys);
+    return SLOTMAP_OK;
+}
+
+slotmap_status table_clone(Table *table, Table *copy)
+{
+    slotmap_status status;
+    uint64_t key = SLOTMAP_START, value = 0;
+    copy->is_side = table->is_side;
+    LOCKED(table)
+    status = table->is_side ? clone_side(table, copy) : slotmap_clone(&table->in.map, &copy->in.map);
+    while (status == SLOTMAP_OK && next_of(copy, key, &key, &value) == SLOTMAP_OK)
+        Py_INCREF(table_object(value));
+    UNLOCKED()
+    return status;
+}

@@ -1,0 +1,30 @@
+"""What mypy --strict has to accept, and what it has to refuse: an `ignore` that isn't needed is an error too."""
+
+from __future__ import annotations
+
+from typing import Mapping, Optional, Union
+
+from slotmap_proved import Side, SlotMap
+
+
+class Named(SlotMap[str]):
+    """A subclass: its copy is one too."""
+
+
+names: SlotMap[str] = SlotMap()
+key: int = names.insert("river")
+text: str = names[key]
+found: Optional[str] = names.get(key)
+number: Union[str, int] = names.get(key, 5)
+taken: str = names.pop(key, "none")
+for each, value in names.items():
+    text, key = value.upper(), each
+ages: Side[int] = Side()
+ages[key] = 5
+stood: Optional[tuple[int, int]] = ages.exchange(key, 6)
+named: Named = Named().copy()
+pairs: list[tuple[int, str]] = names.pairs()
+mapping: Mapping[int, str] = names
+names.insert(5)  # type: ignore[arg-type]
+names["x"]  # type: ignore[index]
+ages[key] = "x"  # type: ignore[assignment]

@@ -1,0 +1,87 @@
+"""Each request for memory of slotmap_proved is refused in turn, also those of the library: the call raises MemoryError, all is as it
+was, and the call succeeds when it is made again. It runs under a preloaded refuse.c."""
+
+import ctypes
+import gc
+import sys
+
+from slotmap_proved import Side, SlotMap
+
+process = ctypes.CDLL(None)
+refuse_after, refused = process.refuse_after, process.refused
+refuse_after.argtypes, refuse_after.restype, refused.restype = [ctypes.c_long], None, ctypes.c_long
+
+
+class Run:
+    """Refuses the request after `turn` others of one call, the `at`-th of the run. That call is made again if it raises MemoryError."""
+
+    def __init__(self, at, turn):
+        self.at, self.turn, self.made = at, turn, 0
+
+    def call(self, call, *arguments, state=lambda: None):
+        self.made += 1
+        if self.made != self.at:
+            return call(*arguments)
+        before, seen = state(), refused()
+        refuse_after(self.turn)
+        try:
+            result = call(*arguments)
+        except MemoryError:
+            refuse_after(-1)
+            assert refused() == seen + 1 and state() == before
+            return call(*arguments)
+        refuse_after(-1)
+        assert refused() == seen
+        return result
+
+
+def use(run):
+    """Returns what the keys and the tables are in the end."""
+    names, ages = run.call(SlotMap), run.call(Side)
+    state = lambda: (names.pairs(), ages.pairs(), len(names), len(ages))
+    keys = []
+    for number in range(40):
+        keys.append(run.call(names.insert, f"name {number}", state=state))
+        if number % 3 == 0:
+            run.call(ages.__setitem__, keys[-1], [number], state=state)
+    run.call(ages.exchange, keys[20], 5, state=state)
+    names.pop(keys[4]), names.detach(keys[5])
+    keys.append(run.call(names.insert, "again", state=state))
+    run.call(names.reserve, 200, state=state)
+    run.call(ages.reserve, 200, state=state)
+    run.call(names.reattach, keys[5], "back", state=state)
+    both = run.call(names.copy, state=state), run.call(ages.copy, state=state)
+    pairs = run.call(names.pairs, state=state), run.call(ages.pairs, state=state)
+    assert both[0] == names and both[1] == ages and list(pairs) == [names.pairs(), ages.pairs()]
+    return keys, state()
+
+
+def main():
+    first = Run(0, 0)
+    expected = use(first)
+    value = object()
+    before = sys.getrefcount(value)
+    for at in range(1, first.made + 1):
+        turn = 0
+        while True:
+            seen = refused()
+            assert use(Run(at, turn)) == expected
+            if refused() == seen:
+                break
+            turn += 1
+    names = SlotMap()
+    for _ in range(100):
+        refuse_after(0)
+        try:
+            names.insert(value)
+        except MemoryError:
+            pass
+        refuse_after(-1)
+    assert sys.getrefcount(value) == before + len(names) and len(names) < 100
+    del names
+    gc.collect()
+    assert sys.getrefcount(value) == before and refused() > 100
+    print(f"refused: {refused()} requests of the module for Python")
+
+
+main()

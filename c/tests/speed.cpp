@@ -1,0 +1,184 @@
+/* speed SIDE OPERATION SLOTS ROUNDS: does an operation on a map of 8-byte values, and prints how many calls that were, and the
+ * nanoseconds of one. SIDE is `here`, a slot_map; `std`, an unordered_map from a counter; or `packed`, a slot map as P0661 proposes it,
+ * whose values stand in one array without gaps. With `bytes` as the operation it prints the bytes of a key.
+ *
+ * speed.sh runs it. */
+#include "slotmap.hpp"
+
+#include <chrono>
+#include <cstdio>
+#include <malloc.h>
+#include <string>
+#include <unordered_map>
+#include <vector>
+
+using number = std::uint64_t;
+
+struct here {
+    using key = slotmaps::key;
+    slotmaps::slot_map<number> map;
+
+    key insert(number value) { return map.insert(value); }
+    void remove(key at) { map.erase(at); }
+    number *find(key at) { return map.find(at); }
+    number sum()
+    {
+        number all = 0;
+        for (auto [at, value] : map)
+            all += value + at.id;
+        return all;
+    }
+};
+
+struct hashed {
+    using key = number;
+    std::unordered_map<number, number> map;
+    number next = 0;
+
+    key insert(number value) { return map.emplace(++next, value), next; }
+    void remove(key at) { map.erase(at); }
+    number *find(key at)
+    {
+        auto found = map.find(at);
+        return found == map.end() ? nullptr : &found->second;
+    }
+    number sum()
+    {
+        number all = 0;
+        for (auto &[at, value] : map)
+            all += value + at;
+        return all;
+    }
+};
+
+/* Slots lead from an index to a place in the array of values; a second array leads back from a place to its slot. */
+struct packed {
+    struct key {
+        std::uint32_t index, version;
+    };
+    std::vector<key> slots;
+    std::vector<number> values;
+    std::vector<std::uint32_t> back;
+    std::uint32_t vacant = UINT32_MAX;
+
+    key insert(number value)
+    {
+        if (vacant == UINT32_MAX) {
+            slots.push_back({UINT32_MAX, 0});
+            vacant = static_cast<std::uint32_t>(slots.size() - 1);
+        }
+        std::uint32_t at = vacant;
+        key &slot = slots[at];
+        values.push_back(value);
+        back.push_back(at);
+        vacant = slot.index;
+        slot.index = static_cast<std::uint32_t>(values.size() - 1);
+        return {at, slot.version};
+    }
+    number *find(key at)
+    {
+        return at.index < slots.size() && slots[at.index].version == at.version ? &values[slots[at.index].index] : nullptr;
+    }
+    void remove(key at)
+    {
+        if (find(at) == nullptr)
+            return;
+        key &slot = slots[at.index];
+        values[slot.index] = values.back();
+        back[slot.index] = back.back();
+        slots[back.back()].index = slot.index;
+        values.pop_back();
+        back.pop_back();
+        slot = {vacant, slot.version + 1};
+        vacant = at.index;
+    }
+    number sum()
+    {
+        number all = 0;
+        for (std::size_t i = 0; i < values.size(); i++)
+            all += values[i] + back[i];
+        return all;
+    }
+};
+
+template <class Side> static std::vector<typename Side::key> filled(Side &side, std::size_t slots)
+{
+    std::vector<typename Side::key> keys;
+    keys.reserve(slots);
+    for (std::size_t i = 0; i < slots; i++)
+        keys.push_back(side.insert(i));
+    return keys;
+}
+
+/* A few keys by chance, so that no operation goes by the order of the memory. */
+static std::size_t chosen(number &state, std::size_t below)
+{
+    state = state * 6364136223846793005u + 1442695040888963407u;
+    return static_cast<std::size_t>((state >> 32) * below >> 32);
+}
+
+template <class Side> static number run(const std::string &what, std::size_t slots, std::size_t rounds, double &nanoseconds)
+{
+    Side side;
+    auto keys = filled(side, slots);
+    std::vector<std::size_t> order(slots);
+    number state = 7, sum = 0;
+    for (std::size_t &at : order)
+        at = chosen(state, slots);
+    if (what == "get of a stale key")
+        for (auto key : keys)
+            side.remove(key);
+    if (what == "get of a stale key")
+        filled(side, slots);
+    nanoseconds = 1e30;
+    for (std::size_t round = 0; round < rounds; round++) {
+        Side fresh;
+        auto start = std::chrono::steady_clock::now();
+        if (what == "insert")
+            for (std::size_t i = 0; i < slots; i++)
+                fresh.insert(i);
+        if (what == "a removal and an insert")
+            for (std::size_t at : order) {
+                side.remove(keys[at]);
+                keys[at] = side.insert(at);
+            }
+        if (what == "get" || what == "get of a stale key")
+            for (std::size_t at : order)
+                if (number *value = side.find(keys[at]))
+                    sum += *value;
+        if (what == "a step of a walk")
+            sum += side.sum();
+        std::chrono::duration<double, std::nano> took = std::chrono::steady_clock::now() - start;
+        nanoseconds = std::min(nanoseconds, took.count() / static_cast<double>(slots));
+    }
+    return sum;
+}
+
+template <class Side> static int print(const std::string &what, std::size_t slots, std::size_t rounds)
+{
+    double nanoseconds = 0;
+    if (what == "bytes") {
+        auto in_use = [] {
+            auto all = mallinfo2();
+            return static_cast<double>(all.uordblks + all.hblkhd);
+        };
+        double before = in_use();
+        Side side;
+        for (std::size_t i = 0; i < slots; i++)
+            side.insert(i);
+        std::printf("%.1f\n", (in_use() - before) / static_cast<double>(slots));
+        return 0;
+    }
+    number sum = run<Side>(what, slots, rounds, nanoseconds);
+    std::printf("%zu %.1f %llu\n", slots, nanoseconds, static_cast<unsigned long long>(sum));
+    return 0;
+}
+
+int main(int count, char **words)
+{
+    if (count != 5)
+        return 2;
+    std::string side = words[1], what = words[2];
+    std::size_t slots = std::stoul(words[3]), rounds = std::stoul(words[4]);
+    return side == "here" ? print<here>(what, slots, rounds) : side == "std" ? print<hashed>(what, slots, rounds) : print<packed>(what, slots, rounds);
+}
