@@ -37,7 +37,7 @@ pub use Rattle.slotmap_core.proofs.ForCallers.RunCallers.{as_many, Begins, begin
 pub use Rattle.slotmap_core.proofs.ForCallers.RunCallers.{detached_not_returned, StaysDetached, ReattachesOther, stays_detached, detached_bound, detached_bound_or_memory, bound_value}
 pub use Rattle.slotmap_core.proofs.ForCallers.SecondaryRuns.{runs_agree, run_seen_by}
 -- what was put under a key is found
-pub use Rattle.slotmap_core.proofs.ForCallers.ToldCallers.{put_found, StaysPut, stays_put, Puts, Finds, LeavesAlone}
+pub use Rattle.slotmap_core.proofs.ForCallers.ToldCallers.{put_found, one_each, answered, StaysPut, stays_put, Puts, Finds, LeavesAlone}
 -- a key that was removed is found by no later command
 pub use Rattle.slotmap_core.proofs.ForCallers.RemovalCallers.{removed_finds_nothing, removed_not_found, gone_not_found, StaysAttached, never_detached, drained_removes, joined_removed_not_found}
 pub use Rattle.slotmap_run.proofs.LostKeys.{Rejects, Loses, live_lost_not_found, shown_lost_not_found, lost_not_found, fits_good}

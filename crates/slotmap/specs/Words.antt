@@ -21,9 +21,9 @@ pub use Rattle.slotmap_core.specs.Run.{Run, Unretiring}
 pub use Rattle.slotmap_core.specs.Fit.{Fits, Starts, RunFollows, RunsAnew, Continues}
 pub use Rattle.slotmap_core.specs.Law.{Laws, DetachLaws, NoKeyTwice, RemovedForGood, ReserveHolds, DetachedNotReissued, DetachedReattaches, ReattachBinds, LastFreedFirst}
 pub use Rattle.slotmap_core.specs.Law.{GoneForGood, ShowsLive, ShowsNotLive, RemovesKey, LeavesAttached, FindsNothing}
-pub use Rattle.slotmap_core.specs.Law.{IsRefusal, NeedsRoom, DetachNeedsRoom, Spares, keys_told}
+pub use Rattle.slotmap_core.specs.Law.{IsRefusal, needs_room, detach_needs_room, Spares, keys_told}
 -- what replies tell of a key
-pub use Rattle.slotmap_core.specs.Told.{Knowledge, unknown, not_live, is_live, has, known_from, told, Agrees, AgreesLive, Reads, ReadsWhatWasPut, IndexStaysSmall}
+pub use Rattle.slotmap_core.specs.Told.{Knowledge, has, is_live, may_be_live, is_detached, gone, absent, known_from, told, Agrees, AgreesLive, Reads, ReadsWhatWasPut, IndexStaysSmall}
 pub use Rattle.slotmap_core.specs.SecondaryStep.{SideStep, SideGiven, given_secondary, LooksAt}
 pub use Rattle.slotmap_core.specs.SecondaryLaw.{HadMemory, Shows, seen_by, EachAgrees}
 pub use Rattle.slotmap_core.specs.Joined.{JoinedStep, JoinedDetachStep, Joined, given_joined, named, RunsBeside}

@@ -24,7 +24,6 @@ use std::marker::{Model, PhantomData};
 /// assert_eq!(rt; pairs.next(), Some((b, 2)));
 /// assert_eq!(rt; pairs.next(), None);
 /// ```
-#[derive(Drop)]
 pub struct IntoIter<K, V> {
     versions: Vec<u32>,
     values: Vec<Option<V>>,
@@ -33,6 +32,18 @@ pub struct IntoIter<K, V> {
     // How many pairs are left.
     left: usize,
     key_type: PhantomData<K>,
+}
+
+impl<K, V: Drop> Drop for IntoIter<K, V> {
+    fn drop(self) {
+        let IntoIter {
+            versions: _versions,
+            values: _values,
+            cursor: _cursor,
+            left: _left,
+            key_type: _key_type,
+        } = self;
+    }
 }
 
 impl<K, V> Model for IntoIter<K, V> {
@@ -147,7 +158,11 @@ impl<K: Key, V: Drop> IntoIterator for SlotMap<K, V> {
 
     fn into_iter(self) -> IntoIter<K, V> {
         let left = self.slots.len();
-        let (versions, values) = self.slots.into_layout().into_parts();
+        let SlotMap {
+            slots,
+            key_type: _key_type,
+        } = self;
+        let (versions, values) = slots.into_layout().into_parts();
         let cursor = OddCursor::of_slots(0, versions.len(), left);
         IntoIter {
             versions,

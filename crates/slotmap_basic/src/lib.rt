@@ -67,11 +67,19 @@ use std::marker::{Model, PhantomData};
 /// assert_eq!(rt; map.remove(key), Some(5));
 /// assert!(rt; !map.contains_key(key));
 /// ```
-#[derive(Drop)]
 pub struct SlotMap<K, V> {
     // Versions, uses and values, each in a vector of its own.
     slots: Slots<V, Columns<V>>,
     key_type: PhantomData<K>,
+}
+
+impl<K, V: Drop> Drop for SlotMap<K, V> {
+    fn drop(self) {
+        let SlotMap {
+            slots: _slots,
+            key_type: _key_type,
+        } = self;
+    }
 }
 
 impl<K, V> Model for SlotMap<K, V> {

@@ -91,7 +91,7 @@ pub use Rattle.slotmap_core.specs.Words.{CanReplace, RefusesCapacity, Refuses, R
 pub use Rattle.slotmap_core.specs.Words.{any_closures, KeepsAt, State, IsIssued, retired, StandsIn, Fresh, after_insert, empty_state, after_remove, after_replace, after_reserve, after_detach}
 pub use Rattle.slotmap_core.specs.Words.{after_reattach, DetachStep, Step, MayLackMemory, MayLackRoom, Run, Unretiring, Fits, Follows, Lasts, Starts, RunFollows, RunsAnew, Continues, Lifo, IsBasic}
 pub use Rattle.slotmap_core.specs.Words.{stack_reply, after_command, offer_of, top_key, places_after, no_places, reply_keys, IsRefusal, keys_told, Laws, DetachLaws, Spares, NoKeyTwice, LastFreedFirst}
-pub use Rattle.slotmap_core.specs.Words.{RemovedForGood, DetachedNotReissued, DetachedReattaches, ReattachBinds, NeedsRoom, DetachNeedsRoom, ReserveHolds, gather, Vacant, Live, Place, Detached}
+pub use Rattle.slotmap_core.specs.Words.{RemovedForGood, DetachedNotReissued, DetachedReattaches, ReattachBinds, needs_room, detach_needs_room, ReserveHolds, gather, Vacant, Live, Place, Detached}
 pub use Rattle.slotmap_core.specs.Words.{Retired, live_entry, retired_entry, left_by, live_value, IsPlaceClone, ArePlaceClones, IsStacked, content_of_places, used_places, IsOn, IsVersion, HasVersion}
 pub use Rattle.slotmap_core.specs.Words.{StackMap, offer, vacant_version, IsOnce, filled, inserted, Accepts, list_limit, side_list_limit, AllFitBelow, RefusesStart, IsConsistent, vacant_slot}
 pub use Rattle.slotmap_core.specs.Words.{start_places, StartsFrom, place_of_record, live_slot, retired_slot, is_vacant_version, Writes, AreRecordClones, records_of, IsRecordClone, record_of}

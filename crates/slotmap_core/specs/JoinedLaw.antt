@@ -14,8 +14,8 @@ JoinedFindsNothing n (detaching.Detach m) answer = m ≡ n → answer ≡ reply.
 JoinedFindsNothing n (detaching.Reattach m v) answer = m ≡ n → answer ≡ reply.NotDetached v
 JoinedFindsNothing n _ answer = ⊤
 
--- Once a Remove returned the value of the key that a number names, no later command finds that key in the primary map. (`of`
--- makes a command with detaching from one of the list)
+-- Once a Remove returned the value of the key that a number names, no later command finds that key in the primary map. `of`
+-- makes a command with detaching from one of the list.
 abbrev pub JoinedRemovedForGood : {K V W R C : Type 0} → (C → JoinedDetachCommand V W) → List C → List (JoinedReply K V W R) → Type 0
 JoinedRemovedForGood {K} {V} {W} {R} {C} of commands replies =
     (before after : List C) (told_before told_after : List (JoinedReply K V W R)) (n : ℕ) (c : C) (v : V)

@@ -1,7 +1,7 @@
 -- Laws of the replies to a list of commands. The reply to a command has the command's position in the list: if there are as
 -- many commands before the one as replies before the other, they belong together.
 use Rattle.std.specs.Prelude.{◌≡◌, ◌≢◌, ℕ, ◌<◌, List, [], ◌∷◌, ◌++◌, length, Bool, true, false, Some, None, Ok, Err, ⊤, ◌⊎◌, map as list_map}
-use Rattle.std.specs.List.{IsDistinct, AllByRecursion, AllZip}
+use Rattle.std.specs.List.{IsDistinct, AllByRecursion, AllZip, count_by}
 use Rattle.std.specs.Ordering.{eq_by_cmp}
 use Rattle.std.specs.FinMap as map
 use Rattle.std.specs.FinSet as set
@@ -105,16 +105,16 @@ module _ {K V R E C : Type 0} (data_of : K → Key) (of : C → DetachCommand K 
       → AllZip (λ other said. FindsNothing data_of k (of other) said) after told_after
 
 -- the command inserts
-abbrev pub NeedsRoom : {K V : Type 0} → Command K V → Type 0
-NeedsRoom (command.Insert v) = ⊤
-NeedsRoom command.InsertWith = ⊤
-NeedsRoom _ = ⊥
+abbrev pub needs_room : {K V : Type 0} → Command K V → Bool
+needs_room (command.Insert v) = true
+needs_room command.InsertWith = true
+needs_room _ = false
 
 -- the command inserts or reattaches
-abbrev pub DetachNeedsRoom : {K V : Type 0} → DetachCommand K V → Type 0
-DetachNeedsRoom (detaching.Plain c) = NeedsRoom c
-DetachNeedsRoom (detaching.Reattach k v) = ⊤
-DetachNeedsRoom (detaching.Detach k) = ⊥
+abbrev pub detach_needs_room : {K V : Type 0} → DetachCommand K V → Bool
+detach_needs_room (detaching.Plain c) = needs_room c
+detach_needs_room (detaching.Reattach k v) = true
+detach_needs_room (detaching.Detach k) = false
 
 -- the reply says that the map is full or memory ran out
 abbrev pub IsRefusal : {K V R E : Type 0} → Reply K V R E → Type 0
@@ -122,12 +122,13 @@ IsRefusal (reply.Full back) = ⊤
 IsRefusal (reply.Memory back) = ⊤
 IsRefusal _ = ⊥
 
--- once a Reserve of n succeeds, each of the next n commands that grow the map succeeds, whatever the others do
-abbrev pub ReserveHolds : {K V R E C : Type 0} → (Command K V → C) → (C → Type 0) → List C → List (Reply K V R E) → Type 0
-ReserveHolds {K} {V} {R} {E} {C} of NeedsRoom commands replies =
+-- Once a Reserve of n succeeds, none of the next n commands that insert or reattach fails because the map is full or memory runs
+-- out. Other commands aren't counted, and may be any
+abbrev pub ReserveHolds : {K V R E C : Type 0} → (Command K V → C) → (C → Bool) → List C → List (Reply K V R E) → Type 0
+ReserveHolds {K} {V} {R} {E} {C} of grows commands replies =
     (before between after : List C) (told_before told_between told_after : List (Reply K V R E)) (n : ℕ) (c : C) (answer : Reply K V R E)
     → length before ≡ length told_before → length between ≡ length told_between
-    → length between < n → NeedsRoom c
+    → count_by grows between < n → grows c ≡ true
     → commands ≡ before ++ of (command.Reserve n) ∷ (between ++ c ∷ after)
     → replies ≡ told_before ++ reply.Done ∷ (told_between ++ answer ∷ told_after)
     → IsRefusal answer → ⊥
@@ -182,7 +183,7 @@ module _ {K V R E : Type 0} (data_of : K → Key) (looks : V → R → Type 0) w
     pub no_key_twice : NoKeyTwice data_of replies
     pub removed_for_good : RemovedForGood data_of detaching.Plain commands replies
     pub gone_for_good : GoneForGood data_of detaching.Plain commands replies
-    pub reserve_holds : ReserveHolds (λ command. command) NeedsRoom commands replies
+    pub reserve_holds : ReserveHolds (λ command. command) needs_room commands replies
 
   -- the same on a map whose keys can be detached
   pub record DetachLaws (reuses : Bool) (start : Key → Knowledge V) (commands : List (DetachCommand K V)) (replies : List (Reply K V R E)) : Type 0 where
@@ -190,7 +191,7 @@ module _ {K V R E : Type 0} (data_of : K → Key) (looks : V → R → Type 0) w
     pub no_key_twice : NoKeyTwice data_of replies
     pub removed_for_good : RemovedForGood data_of (λ command. command) commands replies
     pub gone_for_good : GoneForGood data_of (λ command. command) commands replies
-    pub reserve_holds : ReserveHolds detaching.Plain DetachNeedsRoom commands replies
+    pub reserve_holds : ReserveHolds detaching.Plain detach_needs_room commands replies
     pub not_reissued : DetachedNotReissued data_of commands replies
     pub reattaches : DetachedReattaches data_of reuses commands replies
     pub binds : ReattachBinds commands replies

@@ -50,8 +50,8 @@ pub use Rattle.slotmap_core.specs.Fit.{Fits, Follows, Lasts, Starts, RunFollows,
 pub use Rattle.slotmap_core.specs.Lifo.{Lifo, IsBasic, stack_reply, after_command, offer_of, top_key, places_after, no_places}
 pub use Rattle.slotmap_core.specs.Law.{reply_keys, IsRefusal, keys_told, Laws, DetachLaws, Spares, NoKeyTwice, LastFreedFirst, RemovedForGood}
 pub use Rattle.slotmap_core.specs.Law.{GoneForGood, ShowsLive, ShowsNotLive, RemovesKey, LeavesAttached, FindsNothing}
-pub use Rattle.slotmap_core.specs.Told.{Knowledge, unknown, not_live, is_live, has, known_from, Agrees, AgreesLive, told, Reads, ReadsWhatWasPut, IndexStaysSmall}
-pub use Rattle.slotmap_core.specs.Law.{DetachedNotReissued, DetachedReattaches, ReattachBinds, NeedsRoom, DetachNeedsRoom, ReserveHolds}
+pub use Rattle.slotmap_core.specs.Told.{Knowledge, has, is_live, may_be_live, is_detached, gone, absent, known_from, Agrees, AgreesLive, told, Reads, ReadsWhatWasPut, IndexStaysSmall}
+pub use Rattle.slotmap_core.specs.Law.{DetachedNotReissued, DetachedReattaches, ReattachBinds, needs_room, detach_needs_room, ReserveHolds}
 pub use Rattle.slotmap_core.specs.Gather.{gather, add}
 pub use Rattle.slotmap_core.specs.Places.{Vacant, Live, Place, Detached, Retired, live_entry, retired_entry, left_by, live_value, detached_entry, next_entry}
 pub use Rattle.slotmap_core.specs.Places.{is_detached_at}

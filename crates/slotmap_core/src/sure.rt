@@ -10,6 +10,10 @@ ghost use Rattle.slotmap_core.specs.Words.{sem, Lends};
 ///
 /// The code of `unreachable!` is a trap behind a test. Here an impossible write, beyond every slice,
 /// precedes it. LLVM knows that no such write runs, and drops the test.
+///
+/// ```
+/// rule_out(false);
+/// ```
 #[inline(always)]
 pub fn rule_out(case: bool)
     requires { case ≡ false }

@@ -24,13 +24,22 @@ use std::marker::Model;
 /// assert_eq!(rt; pairs.next(), Some((b, 2)));
 /// assert_eq!(rt; pairs.next(), None);
 /// ```
-#[derive(Drop)]
 pub struct IntoIter<K: Key, V> {
     keys: Vec<K>,
     // The position that comes next.
     position: usize,
     // The values from that position on.
     values: VecDeque<V>,
+}
+
+impl<K: Key, V: Drop> Drop for IntoIter<K, V> {
+    fn drop(self) {
+        let IntoIter {
+            keys: _keys,
+            position: _position,
+            values: _values,
+        } = self;
+    }
 }
 
 impl<K: Key, V> Model for IntoIter<K, V> {

@@ -70,13 +70,22 @@ use std::marker::Model;
 /// assert_eq!(rt; map.remove(key), Some(5));
 /// assert!(rt; !map.contains_key(key));
 /// ```
-#[derive(Drop)]
 pub struct DenseSlotMap<K: Key, V> {
     // The position of each live key.
     slots: Slots<u32, Rows>,
     // The live keys, and at the same positions their values.
     keys: Vec<K>,
     values: Vec<V>,
+}
+
+impl<K: Key, V: Drop> Drop for DenseSlotMap<K, V> {
+    fn drop(self) {
+        let DenseSlotMap {
+            slots: _slots,
+            keys: _keys,
+            values: _values,
+        } = self;
+    }
 }
 
 impl<K: Key, V> Model for DenseSlotMap<K, V> {

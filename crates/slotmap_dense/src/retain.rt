@@ -79,7 +79,7 @@ impl<K: Key, V: Drop> DenseSlotMap<K, V> {
     pub fn retain<F: FnMut(K, &mut V) -> bool>(&mut self, mut f: F)
     where
         F: Drop,
-        // For each entry, in each state in which calls for other entries leave the closure.
+        // The closure may be called for each entry, whatever calls for other entries made of it.
         requires { CallableOnEach F.FnMut K.data_of f self.old.content.live }
         ensures retained { RetainsBy F.FnMut K.data_of f self.old.content.live self.new.content.live }
         ensures order { RetainsPacked F.FnMut K.data_of f self.old self.new }

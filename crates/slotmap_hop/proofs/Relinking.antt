@@ -1,4 +1,4 @@
--- A live slot can be freed: there are slots that are right after it.
+-- Freeing a live slot: what its neighbours' links have to be afterwards, and that the result is sound.
 use Rattle.std.proofs.Common.{◌≡◌, ◌≢◌, ◌+◌, ◌-◌, ◌∷◌, Option, Some, None, ℕ, true, false, List, [], map, set, slice_get, refl, sym, ap, subst, ◌∙◌, inl, inr, arith}
 use Rattle.slotmap_core.proofs.Common.{cases_Bool, map-set, last_version, Live, common_steps}
 use Rattle.slotmap_hop.specs.Blocks.{vacated}

@@ -110,6 +110,7 @@ module _ {V : Type 0} (slots : List (Slot V)) (vacant elems : ℕ) (sound : IsSo
     valid = subst (IsContent true) (content_is c) (IsContent-untold true (content_of_places (ordered_map c)) (IsContent-stacked (ordered_map c) in_order.ordered (omega (arith, length-places slots))));
     none_detached = set.same_set keys_total exact_keys (detached (places_of slots)) set.empty (λ k.
         grind (arith, nat_tests, contains-detached (places_of slots) k, sound.none_detached k.index k.version, set.contains-empty key_cmp k));
+    no_stack = refl;
     maximal = subst (λ v. HasMaximalBlocks v (blocks_of (all_links slots))) (sym (same_counts c)) (maximal (all_links slots) sound.linked);
     offers = λ below.
         grind (arith, nat_tests, places_count c, length-all_links slots, length-places slots, offer_is_back (all_links slots) sound.linked, offer_is_end (all_links slots) sound.linked);

@@ -11,6 +11,7 @@ IsHopContent-with_value m k w well is_live =
     record {
       valid = IsContent-with_value true m.content well.valid k is_live w;
       none_detached = well.none_detached;
+      no_stack = well.no_stack;
       maximal = well.maximal;
       offers = rw same well.offers;
     }

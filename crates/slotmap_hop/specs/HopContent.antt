@@ -49,11 +49,12 @@ module _ {V : Type 0} where
   abbrev pub hop_with_values : HopContent V → List Key → List V → HopContent V
   hop_with_values m keys values = record { content = with_values m.content keys values; blocks = m.blocks }
 
-  -- what always holds of the model: no key is detached, the blocks are the maximal ones, and the next insert uses the back
-  -- of the first one in their list
+  -- what always holds of the model: no key is detached, vacant slots have no stack, the blocks are the maximal ones, and the
+  -- next insert uses the back of the first one in their list
   pub record IsHopContent (m : HopContent V) : Type 0 where
     pub valid : IsContent true m.content
     pub none_detached : m.content.detached ≡ set.empty
+    pub no_stack : m.content.stack ≡ None
     pub maximal : HasMaximalBlocks (counts_vacant m.content) m.blocks
     pub offers : used m.content < most → m.content.offer.index ≡ offer_place m.blocks (places m.content + 1)
 

@@ -27,7 +27,6 @@ use std::marker::{Model, PhantomData};
 /// assert_eq!(rt; pairs.next(), Some((b, 2)));
 /// assert_eq!(rt; pairs.next(), None);
 /// ```
-#[derive(Drop)]
 pub struct IntoIter<K, V> {
     // A slot whose value was yielded counts as retired.
     slots: Vec<Slot<V>>,
@@ -37,6 +36,17 @@ pub struct IntoIter<K, V> {
     // How many values are still to come.
     left: usize,
     keys: PhantomData<K>,
+}
+
+impl<K, V: Drop> Drop for IntoIter<K, V> {
+    fn drop(self) {
+        let IntoIter {
+            slots: _slots,
+            last: _last,
+            left: _left,
+            keys: _keys,
+        } = self;
+    }
 }
 
 impl<K, V> Model for IntoIter<K, V> {

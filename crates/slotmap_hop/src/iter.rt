@@ -28,10 +28,10 @@ use std::marker::{Model, PhantomData};
 #[derive(Drop)]
 pub struct Iter<'a, K, V> {
     // At the slot to read next: a live or retired one, the first one of a block, or the end.
-    counted: CountedSlots<'a, V>,
+    pub(crate) counted: CountedSlots<'a, V>,
     // How many values are still to come.
-    left: usize,
-    keys: PhantomData<K>,
+    pub(crate) left: usize,
+    pub(crate) keys: PhantomData<K>,
 }
 
 impl<'a, K, V> Model for Iter<'a, K, V> {
@@ -112,20 +112,6 @@ impl<'a, K, V> Iter<'a, K, V> {
         ensures { result ≡ self.now.reads }
     {
         self.counted.reads()
-    }
-}
-
-impl<'a, K, V> Clone for Iter<'a, K, V> {
-    ghost is_clone = { λ it copy. copy ≡ it };
-
-    ghost is_infallible = { λ _. ⊤ };
-
-    fn clone(&self) -> Result<Self, AllocError> {
-        Ok(Iter {
-            counted: self.counted.copy(),
-            left: self.left,
-            keys: PhantomData,
-        })
     }
 }
 

@@ -73,13 +73,23 @@ use std::marker::{Model, PhantomData};
 /// assert_eq!(rt; map.remove(key), Some(5));
 /// assert!(rt; !map.contains_key(key));
 /// ```
-#[derive(Drop)]
 pub struct HopSlotMap<K, V> {
     // Slot 0 is the sentinel: no key uses it.
     slots: Vec<Slot<V>>,
     vacant_count: u32,
     live_count: u32,
     keys: PhantomData<K>,
+}
+
+impl<K, V: Drop> Drop for HopSlotMap<K, V> {
+    fn drop(self) {
+        let HopSlotMap {
+            slots: _slots,
+            vacant_count: _vacant_count,
+            live_count: _live_count,
+            keys: _keys,
+        } = self;
+    }
 }
 
 impl<K, V> Model for HopSlotMap<K, V> {

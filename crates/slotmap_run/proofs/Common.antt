@@ -7,7 +7,7 @@ pub use Rattle.slotmap_core.specs.Key.{Key}
 pub use Rattle.slotmap_core.specs.Law.{ShowsLive, ShowsNotLive, LeavesAttached, FindsNothing, GoneForGood, RemovesKey, NoKeyTwice}
 pub use Rattle.slotmap_core.specs.Machine.{StandsIn, IsIssued, Fresh, after_insert, in_use}
 pub use Rattle.slotmap_core.specs.SecondaryStep.{LooksAt}
-pub use Rattle.slotmap_core.specs.Told.{Knowledge, unknown, not_live, is_live, has, known_from, told, Reads, ReadsWhatWasPut, IndexStaysSmall}
+pub use Rattle.slotmap_core.specs.Told.{Knowledge, has, is_live, may_be_live, is_detached, gone, absent, known_from, told, Reads, ReadsWhatWasPut, IndexStaysSmall}
 pub use Rattle.slotmap_core.specs.declared.commands.Command.{Command}
 pub use Rattle.slotmap_core.specs.declared.commands.DetachCommand.{DetachCommand}
 pub use Rattle.slotmap_core.specs.declared.commands.DetachCommand.TheVariants.{Plain, Detach, Reattach}

@@ -4,7 +4,7 @@ use Rattle.std.specs.FinMap as map
 use Rattle.std.specs.FinSet as set
 use Rattle.slotmap_run.proofs.Common.{in_use, Command, Reply}
 use Rattle.slotmap_core.proofs.Common.{IsDistinct, AllByRecursion, eq_by_cmp, IsIssued, after_insert, empty_state, Unretiring, reply_keys, keys_told, NoKeyTwice, keys_total, exact_keys, in_retired}
-use Rattle.slotmap_core.proofs.Common.{Key, key_cmp, most, State, StandsIn, Fresh, retired, Run, RunGiven, itself, List, [], length, true, false, inl, inr, refl, ap, arith}
+use Rattle.slotmap_core.proofs.Common.{Key, key_cmp, most, State, StandsIn, Fresh, retired, Run, RunGiven, itself, List, [], true, false, inl, inr, refl, ap, arith}
 use Rattle.slotmap_run.proofs.{Runs.run_keeps, MapChanges.changes}
 use Rattle.slotmap_run.proofs.UsedCounts.{IsApart, bound_held, no_more_used, one_more_used}
 use Rattle.slotmap_core.specs.Step as plain
@@ -73,12 +73,6 @@ module _ {K V R E C : Type 0} {given : RunGiven K V R E} {Step : State V → C �
 
   pub gone_stays : (k : Key) (old : State V) (c : C) (r : Reply K V R E) (new : State V) → Step old c r new → Gone old k → Gone new k
   gone_stays k old c r new step gone = grind (arith, changes, bound_held)
-
-  -- a step lowers what is promised by at most 1, a run of n by at most n
-  pub still_promised : (cs : List C) (rs : List (Reply K V R E)) (s t : State V) → Run Step s cs rs t → s.promised ≤ t.promised + length cs
-  still_promised [] [] s t run = rw run (omega arith)
-  still_promised (c ∷ cs) (r ∷ rs) s t run = grind (arith, m.cases s c r run.0 run.1, still_promised cs rs run.0 t run.2)
-  still_promised _ _ s t run = absurd run
 
   -- no key that the replies return was issued before, and they return none twice
   pub told_new : (cs : List C) (rs : List (Reply K V R E)) (s t : State V) → Run Step s cs rs t

@@ -1,8 +1,8 @@
 -- Calls that are each a step of the machine are a run of it, from a state of which its laws hold.
 use Rattle.std.proofs.Common.{◌≡◌, ◌+◌, ◌<◌, ◌^◌, ◌++◌}
 use Rattle.std.specs.FinSet as set
-use Rattle.slotmap_run.proofs.Common.{Knowledge, not_live, known_from}
-use Rattle.slotmap_core.proofs.Common.{Content, IsContent, IsNew, State, empty_state, retired, Unretiring, Follows, Starts, RunFollows, RunsAnew, Continues, IfOk-weaker, Result, length, ◌∙◌}
+use Rattle.slotmap_run.proofs.Common.{Knowledge, absent, known_from}
+use Rattle.slotmap_core.proofs.Common.{Content, IsContent, IsNew, State, empty_state, retired, Unretiring, Follows, Starts, RunFollows, RunsAnew, Continues, IfOk-weaker, Result, length, refl, ◌∙◌}
 use Rattle.slotmap_core.proofs.Common.{Run, Key, IfOk, Bool, List, arith}
 use Rattle.slotmap_run.proofs.HoldsIn.{HoldsIn, holds_from, holds_at_first}
 use Rattle.slotmap_run.proofs.StateOf.{first_state, first_fits, first_good}
@@ -48,7 +48,7 @@ module _ {V C R : Type 0} {Step Any : State V → C → R → State V → Type 0
     pub run : RunFollows Step old cs rs new
     pub goes_on : RunFollows Any old cs rs new
     pub continues : Continues Any AnyLaws reuses old cs rs new
-    pub laws : Laws (known_from old.live) cs rs
+    pub laws : Laws (known_from old) cs rs
 
   pub ran : (reuses : Bool) (old new : Content V) → IsContent reuses old → Run (Follows Step) old cs rs new → Ran reuses old new
   unfolding well_from well_anew
@@ -63,12 +63,12 @@ module _ {V C R : Type 0} {Step Any : State V → C → R → State V → Type 0
           laws =
               λ first earlier told start before. machine.any_laws (earlier ++ cs) (told ++ rs)
               (well_from Any (earlier ++ cs) (told ++ rs) reuses first new start.valid (goes_on Any old new cs rs free earlier told first before))
-              (known_from first.live) (holds_from (first_state reuses first start.valid));
+              (known_from first) (holds_from first (first_state reuses first start.valid) (first_good reuses first start.valid) refl refl);
           anew = λ earlier told before. goes_on_anew Any old new cs rs free earlier told before;
           laws_anew = λ earlier told before. machine.any_laws (earlier ++ cs) (told ++ rs)
-              (well_anew Any (earlier ++ cs) (told ++ rs) new (goes_on_anew Any old new cs rs free earlier told before)) (λ k. not_live) holds_at_first;
+              (well_anew Any (earlier ++ cs) (told ++ rs) new (goes_on_anew Any old new cs rs free earlier told before)) (λ k. absent) holds_at_first;
         };
-        laws = machine.laws cs rs (well_from Step cs rs reuses old new ok follows) (known_from old.live) (holds_from (first_state reuses old ok));
+        laws = machine.laws cs rs (well_from Step cs rs reuses old new ok follows) (known_from old) (holds_from old (first_state reuses old ok) (first_good reuses old ok) refl refl);
       }
 
   -- what is ensured of calls on a new map
@@ -76,7 +76,7 @@ module _ {V C R : Type 0} {Step Any : State V → C → R → State V → Type 0
     pub run : RunsAnew Step cs rs new
     pub none_retired : length cs < 2 ^ 32 → RunsAnew (Unretiring Step) cs rs new
     pub goes_on : RunsAnew Any cs rs new
-    pub laws : Laws (λ k. not_live) cs rs
+    pub laws : Laws (λ k. absent) cs rs
 
   ran_anew : (old new : Content V) → IsNew old → Run (Follows Step) old cs rs new → RanAnew new
   unfolding well_anew
@@ -91,7 +91,7 @@ module _ {V C R : Type 0} {Step Any : State V → C → R → State V → Type 0
             let lasts = follows.lasts 0 (rw same (new_lasts old start (length cs) few)) in
             (run.0, machine.unretired cs rs empty_state run.0 run.1 (run.2.retired ∙ lasts.unretired), run.2);
         goes_on = free;
-        laws = machine.laws cs rs (well_anew Step cs rs new run) (λ k. not_live) holds_at_first;
+        laws = machine.laws cs rs (well_anew Step cs rs new run) (λ k. absent) holds_at_first;
       }
 
 module _ {V C R A B : Type 0} {Step Any : State V → C → R → State V → Type 0} {Laws AnyLaws : (Key → Knowledge V) → List C → List R → Type 0} (machine : IsLawful Step Any Laws AnyLaws)
@@ -101,7 +101,7 @@ module _ {V C R A B : Type 0} {Step Any : State V → C → R → State V → Ty
     pub run : IfOk result (λ a. RunFollows Step old cs (told a) new)
     pub goes_on : IfOk result (λ a. RunFollows Any old cs (told a) new)
     pub continues : IfOk result (λ a. Continues Any AnyLaws reuses old cs (told a) new)
-    pub laws : IfOk result (λ a. Laws (known_from old.live) cs (told a))
+    pub laws : IfOk result (λ a. Laws (known_from old) cs (told a))
 
   pub ran_if_ok : (reuses : Bool) (old new : Content V) → IsContent reuses old → IfOk result (λ a. Run (Follows Step) old cs (told a) new) → RanIfOk reuses old new
   ran_if_ok reuses old new ok served =
@@ -118,7 +118,7 @@ module _ {V C R A B : Type 0} {Step Any : State V → C → R → State V → Ty
     pub run : IfOk result (λ a. RunsAnew Step cs (told a) (new a))
     pub none_retired : IfOk result (λ a. length cs < 2 ^ 32 → RunsAnew (Unretiring Step) cs (told a) (new a))
     pub goes_on : IfOk result (λ a. RunsAnew Any cs (told a) (new a))
-    pub laws : IfOk result (λ a. Laws (λ k. not_live) cs (told a))
+    pub laws : IfOk result (λ a. Laws (λ k. absent) cs (told a))
 
   pub anew_if_ok : (new : A → Content V) → IfOk result (λ a. (old : Content V) × IsNew old × Run (Follows Step) old cs (told a) (new a)) → RanAnewIfOk new
   anew_if_ok new served =

@@ -1,14 +1,14 @@
 -- The laws of the two machines, and calls on maps as a run on the contents of the maps.
 use Rattle.std.proofs.Common.{◌≡◌}
 use Rattle.slotmap_run.proofs.Common.{map-id, Command, DetachCommand, Reply, Knowledge, ReadsWhatWasPut, Served, StartsNew}
-use Rattle.slotmap_core.proofs.Common.{Content, IsContent, RunGiven, any_closures, DetachStep, Follows, DetachLaws, LastFreedFirst, NeedsRoom, DetachNeedsRoom, no_places, IfOk-weaker, Result, is_some}
+use Rattle.slotmap_core.proofs.Common.{Content, IsContent, RunGiven, any_closures, DetachStep, Follows, DetachLaws, LastFreedFirst, no_places, IfOk-weaker, Result, is_some}
 use Rattle.slotmap_core.proofs.Common.{Key, IsNew, State, Step, Run, Laws, IfOk, List, Bool, true, subst}
 use Rattle.slotmap_run.proofs.Detached.{detached_not_reissued, detached_reattaches, reattach_binds}
 use Rattle.slotmap_run.proofs.AnyClosures.{detach_freely, freely, freed}
 use Rattle.slotmap_run.proofs.{StepCases.plain_machine, StepCases.detach_machine, RemovedKeys.removed_for_good, RemovedKeys.gone_for_good, ReadsPut.reads_what_was_put, HoldsIn.HoldsIn}
 use Rattle.slotmap_run.proofs.{Laws.told_new, Laws.unretired, Orders.lifo_new, Orders.lifo_run, Runs.run_seen}
 use Rattle.slotmap_run.proofs.NewRuns.{ran_if_ok, RanAnewIfOk, anew_if_ok, RunsWell, IsLawful, RanIfOk}
-use Rattle.slotmap_run.proofs.Promised.{plain_refused, detach_refused, reserve_holds}
+use Rattle.slotmap_run.proofs.Promised.{plain_promise, detach_promise, reserve_holds}
 use Rattle.slotmap_core.specs.declared.commands.DetachCommand.TheVariants as detaching
 
 module _ {K V R E : Type 0} (given : RunGiven K V R E) where
@@ -19,7 +19,7 @@ module _ {K V R E : Type 0} (given : RunGiven K V R E) where
     no_key_twice = (told_new m cs rs well.first well.last well.run).1;
     removed_for_good = removed_for_good given detaching.Plain cs rs well;
     gone_for_good = gone_for_good given detaching.Plain cs rs well;
-    reserve_holds = reserve_holds m NeedsRoom (plain_refused given) cs rs well;
+    reserve_holds = reserve_holds m (plain_promise given) cs rs well;
   }
 
   detach_laws : (commands : List (DetachCommand K V)) (replies : List (Reply K V R E)) (well : RunsWell (DetachStep given) commands replies)
@@ -29,7 +29,7 @@ module _ {K V R E : Type 0} (given : RunGiven K V R E) where
     no_key_twice = (told_new m cs rs well.first well.last well.run).1;
     removed_for_good = removed_for_good given (λ command. command) cs rs well;
     gone_for_good = gone_for_good given (λ command. command) cs rs well;
-    reserve_holds = reserve_holds m DetachNeedsRoom (detach_refused given) cs rs well;
+    reserve_holds = reserve_holds m (detach_promise given) cs rs well;
     not_reissued = detached_not_reissued given cs rs well;
     reattaches = detached_reattaches given cs rs well;
     binds = reattach_binds given cs rs well;

@@ -73,3 +73,16 @@ module _ {V : Type 0} where
         (λ q g h. grind (arith, apart q, others q, contains-keys_of m q, set.contains-union keys_total d r q)) in
         let rest = len_two (set.len d) d r (set.union d r) refl (set.contains-union keys_total d r) (λ q g h. grind (arith, others q)) in
         omega arith
+
+  -- the keys of a map
+  pub live_keys : map.FinMap key_cmp V → set.FinSet key_cmp
+  live_keys m = all_keys m set.empty set.empty
+
+  module _ (m : map.FinMap key_cmp V) where
+    pub contains-live_keys : (q : Key) → set.contains (live_keys m) q ≡ map.contains_key m q
+    unfolding live_keys
+    contains-live_keys q = grind (arith, contains-all_keys m set.empty set.empty q, set.contains-empty key_cmp q)
+
+    pub len-live_keys : set.len (live_keys m) ≡ map.len m
+    unfolding live_keys
+    len-live_keys = grind (arith, len-all_keys m set.empty set.empty, set.contains-empty key_cmp, set.len-empty key_cmp)

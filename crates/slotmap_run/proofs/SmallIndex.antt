@@ -4,7 +4,7 @@ use Rattle.std.specs.FinMap as map
 use Rattle.std.specs.FinSet as set
 use Rattle.slotmap_run.proofs.Common.{list_map, IndexStaysSmall, DetachCommand, Reply}
 use Rattle.slotmap_core.proofs.Common.{Key, key_cmp, State, RunGiven, DetachStep, Run, Unretiring, empty_state, retired, keys_total, ℕ, max, Some, None, true, List, [], ap, ◌∙◌, arith}
-use Rattle.slotmap_run.proofs.SetCounts.{all_keys, contains-all_keys, len-all_keys, len-subset}
+use Rattle.slotmap_run.proofs.SetCounts.{live_keys, contains-live_keys, len-live_keys, len-subset}
 use Rattle.slotmap_run.proofs.{Laws.none_retired_at_first, RemovedKeys.StepOf}
 use Rattle.slotmap_core.specs.declared.commands.Command.TheVariants as command
 use Rattle.slotmap_core.specs.declared.commands.DetachCommand.TheVariants as detaching
@@ -43,21 +43,9 @@ module _ {V : Type 0} (m : map.FinMap key_cmp V) where
   len-remove : (k : Key) → map.contains_key m k ≡ true → map.len (map.remove m k) ≡ map.len m - 1
   len-remove k h = grind (arith, map.len-remove keys_total m k)
 
-module _ {V : Type 0} where
-  len-all : (m : map.FinMap key_cmp V) → map.len m ≡ set.len (all_keys m set.empty set.empty)
-  len-all m = grind (arith, len-all_keys m set.empty set.empty, set.contains-empty key_cmp, set.len-empty key_cmp)
-
-  -- a map with no other keys is no longer
-  len-part : (m part : map.FinMap key_cmp V) → ((q : Key) → map.get m q ≡ None → map.get part q ≡ None) → map.len part ≤ map.len m
-  len-part m part no_more = grind (
-    arith,
-    len-all m,
-    len-all part,
-    len-subset (all_keys part set.empty set.empty) (all_keys m set.empty set.empty),
-    contains-all_keys part set.empty set.empty,
-    contains-all_keys m set.empty set.empty,
-    set.contains-empty key_cmp,
-  )
+-- a map with no other keys is no longer
+len-part : {V : Type 0} (m part : map.FinMap key_cmp V) → ((q : Key) → map.get m q ≡ None → map.get part q ≡ None) → map.len part ≤ map.len m
+len-part m part no_more = grind (arith, len-live_keys m, len-live_keys part, len-subset (live_keys part) (live_keys m), contains-live_keys part, contains-live_keys m)
 
 module _ (s : set.FinSet key_cmp) (k : Key) where
   len-add : set.len (set.insert s k) ≤ set.len s + 1

@@ -3,7 +3,7 @@
 ghost use Rattle.std.specs.Prelude.{◌≡◌, ◌^◌, ◌<◌, length, map, Ok, IfOk, IfErr, OnErr, IsErr};
 ghost use Rattle.slotmap_core.specs.Words.{FnReturns, IsContent, Inserts, MayGrow, RefusesWith, given, any_closures, Step, DetachStep, Unretiring, Starts};
 ghost use Rattle.slotmap_core.specs.Words.{RunFollows, RunsAnew, Continues, Laws, DetachLaws, LastFreedFirst};
-ghost use Rattle.slotmap_core.specs.Words.{FnReturnsAt, IndexStaysSmall, known_from, not_live};
+ghost use Rattle.slotmap_core.specs.Words.{FnReturnsAt, IndexStaysSmall, absent, known_from};
 ghost use Rattle.slotmap_core.specs.declared.commands.DetachCommand.TheVariants as detaching;
 ghost use Rattle.slotmap_run.specs.Order.{Served};
 
@@ -159,7 +159,7 @@ where
 
     // The laws that the replies therefore keep.
     ensures laws { IfOk result (λ replies. Laws K.data_of (FnReturnsAt L.Fn look)
-        (known_from (M.content map.old).live) commands.items replies.items) }
+        (known_from (M.content map.old)) commands.items replies.items) }
 
     // If there is no memory for the replies, nothing is run.
     ensures err { IfErr result (λ back. back ≡ commands) }
@@ -243,7 +243,7 @@ where
 
     // The laws that the replies therefore keep.
     ensures laws { IfOk result (λ made. Laws K.data_of (FnReturnsAt L.Fn look)
-        (λ k. not_live) commands.items made.1.items) }
+        (λ k. absent) commands.items made.1.items) }
     ensures index_stays_small { IfOk result (λ made. length commands.items < 2 ^ 32 →
         IndexStaysSmall K.data_of 0 0 0 (map detaching.Plain commands.items) made.1.items) }
 
@@ -345,7 +345,7 @@ where
 
     // The laws that the replies therefore keep.
     ensures laws { IfOk result (λ replies. DetachLaws K.data_of (FnReturnsAt L.Fn look) M.REUSES
-        (known_from (M.content map.old).live) commands.items replies.items) }
+        (known_from (M.content map.old)) commands.items replies.items) }
 
     // If there is no memory for the replies, nothing is run.
     ensures err { IfErr result (λ back. back ≡ commands) }
@@ -418,7 +418,7 @@ where
 
     // The laws that the replies therefore keep.
     ensures laws { IfOk result (λ made. DetachLaws K.data_of (FnReturnsAt L.Fn look) M.REUSES
-        (λ k. not_live) commands.items made.1.items) }
+        (λ k. absent) commands.items made.1.items) }
     ensures index_stays_small { IfOk result (λ made. length commands.items < 2 ^ 32 →
         IndexStaysSmall K.data_of 0 0 0 commands.items made.1.items) }
     ensures last_freed_first { IfOk result (λ made.

@@ -57,9 +57,9 @@ use std::marker::{Model, PhantomData};
 ///
 /// For each index it holds at most one key:
 ///
-/// - A newer key replaces an older one at its index, and never the reverse. So a value that was put
-///   under a removed key is never found under the next key of that slot. This holds in any run of
-///   commands on both maps; `clone_from` and a map read from a list start anew.
+/// - A newer key replaces an older one at its index, and never the reverse, if their versions are less
+///   than 2147483648 apart. So a value that was put under a removed key is never found under the next
+///   key of that slot. That holds in any run of fewer than 2147483648 commands on two unused maps.
 /// - Versions wrap around: of two versions more than 2147483648 apart, the larger one is the older.
 ///   If they are exactly that far apart, the key in the map stays.
 /// - Index 0, which no primary map hands out, is an index like any other here.
@@ -75,13 +75,22 @@ use std::marker::{Model, PhantomData};
 /// let next = primary.insert(30)?;
 /// assert!(rt; map.get(next).is_none());
 /// ```
-#[derive(Drop)]
 pub struct SecondaryMap<K, V> {
     // The slot of index i is at position i. There is always one for index 0.
     slots: Vec<Slot<V>>,
     // How many slots are occupied.
     len: usize,
     keys: PhantomData<K>,
+}
+
+impl<K, V: Drop> Drop for SecondaryMap<K, V> {
+    fn drop(self) {
+        let SecondaryMap {
+            slots: _slots,
+            len: _len,
+            keys: _keys,
+        } = self;
+    }
 }
 
 impl<K, V> Model for SecondaryMap<K, V> {
@@ -157,6 +166,14 @@ impl<K: Key, V: Drop> SecondaryMap<K, V> {
         })
     }
 
+    // Does nothing. From its contract a caller learns that what the map holds is well formed.
+    #[inline(always)]
+    pub(crate) fn note_valid(&self)
+        ensures { IsSideContent self.now }
+    {
+        let _ = &self.len;
+    }
+
     /// Returns the number of keys, in constant time.
     ///
     /// ```
@@ -219,8 +236,7 @@ impl<K: Key, V: Drop> SecondaryMap<K, V> {
         ensures valid { IsSideContent self.new }
     {
         if capacity > MOST_INDEX {
-            // Reads the map, for the clause `valid`.
-            let _ = self.len();
+            self.note_valid();
             return Err(ReserveError::TooGreat);
         }
         self.reserve_to(capacity)?;

@@ -158,8 +158,7 @@ impl<K: Key, V: Drop, S: BuildHasher + Drop> SparseSecondaryMap<K, V, S> {
         ensures which { IsTrue result ↔ CanReplace get self.now.pairs (map_list K.data_of keys.now) }
         ensures valid { IsSparseContent self.now }
     {
-        // Reads the map even if there is no key, for the clause `valid`.
-        let _ = self.len();
+        self.note_valid();
         for i in 0..keys.len() {
             let key = keys[i];
             if !self.contains_key(key) || keys[..i].contains(&key) {

@@ -90,8 +90,7 @@ impl<K: Key, V: Drop, S: BuildHasher + Drop> SparseSecondaryMap<K, V, S> {
 
         ensures valid { IsSparseContent self.old }
     {
-        // Reads the map, for the clause `valid`.
-        let _ = self.len();
+        self.note_valid();
         Drain { map: self }
     }
 }

@@ -38,8 +38,7 @@ impl<K: Key, V: Drop, S: BuildHasher + Drop> SparseSecondaryMap<K, V, S> {
 
         ensures valid { IsSparseContent self.new }
     {
-        // Reads the map, for the clause `valid`.
-        let _ = self.len();
+        self.note_valid();
         for (key, value) in iter {
             if let Err(error) = self.insert(key, value) {
                 return Err((key, error.0));
@@ -76,8 +75,7 @@ impl<K: Key, V: Drop, S: BuildHasher + Drop> SparseSecondaryMap<K, V, S> {
 
         ensures valid { IsSparseContent self.new }
     {
-        // Reads the map, for the clause `valid`.
-        let _ = self.len();
+        self.note_valid();
         for (key, value) in iter {
             if let Err(error) = self.insert(key, *value) {
                 return Err((key, error.0));

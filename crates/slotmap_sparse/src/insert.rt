@@ -104,8 +104,7 @@ impl<K: Key, V: Drop, S: BuildHasher + Drop> SparseSecondaryMap<K, V, S> {
         ensures capacity { self.old.capacity ≤ self.new.capacity }
         ensures valid { IsSparseContent self.new }
     {
-        // Reads the map, for the clause `valid`.
-        let _ = self.len();
+        self.note_valid();
         if is_null(key) {
             return Ok(None);
         }

@@ -18,10 +18,18 @@ use std::marker::{Model, PhantomData};
 /// A contract sees it as the list of the pairs that are left. After its end it yields nothing more.
 /// Each step takes constant time and allocates nothing. Values that it hasn't yielded are dropped
 /// with it.
-#[derive(Drop)]
 pub struct IntoIter<K, V> {
     pairs: hash_map::IntoIter<u32, (u32, V), Global>,
     keys: PhantomData<K>,
+}
+
+impl<K, V: Drop> Drop for IntoIter<K, V> {
+    fn drop(self) {
+        let IntoIter {
+            pairs: _pairs,
+            keys: _keys,
+        } = self;
+    }
 }
 
 impl<K, V> Model for IntoIter<K, V> {

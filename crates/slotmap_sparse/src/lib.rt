@@ -63,9 +63,9 @@ pub type DefaultHasher = BuildHasherDefault<FoldHasher>;
 ///
 /// For each index it holds at most one key:
 ///
-/// - A newer key replaces an older one at its index, and never the reverse. So a value that was put
-///   under a removed key is never found under the next key of that slot. This holds in any run of
-///   commands on both maps; `clone_from` and a map read from a list start anew.
+/// - A newer key replaces an older one at its index, and never the reverse, if their versions are less
+///   than 2147483648 apart. So a value that was put under a removed key is never found under the next
+///   key of that slot. That holds in any run of fewer than 2147483648 commands on two unused maps.
 /// - Versions wrap around: of two versions more than 2147483648 apart, the larger one is the older.
 ///   If they are exactly that far apart, the key in the map stays. In Rust `entry` takes it out.
 /// - Index 0, which no primary map hands out, is an index like any other here.
@@ -87,13 +87,22 @@ pub type DefaultHasher = BuildHasherDefault<FoldHasher>;
 /// let next = primary.insert(30)?;
 /// assert!(rt; map.get(next).is_none());
 /// ```
-#[derive(Drop)]
 pub struct SparseSecondaryMap<K, V, S: BuildHasher = DefaultHasher> {
     // For each index the version of its key, and the value.
     slots: HashMap<u32, (u32, V), S, Global>,
     // For the lists that the map is written as.
     alloc: Global,
     keys: PhantomData<K>,
+}
+
+impl<K, V: Drop, S: BuildHasher + Drop> Drop for SparseSecondaryMap<K, V, S> {
+    fn drop(self) {
+        let SparseSecondaryMap {
+            slots: _slots,
+            alloc: _alloc,
+            keys: _keys,
+        } = self;
+    }
 }
 
 impl<K, V, S: BuildHasher> Model for SparseSecondaryMap<K, V, S> {
@@ -219,6 +228,14 @@ impl<K: Key, V: Drop, S: BuildHasher + Drop> SparseSecondaryMap<K, V, S> {
             alloc,
             keys: PhantomData,
         })
+    }
+
+    // Does nothing. From its contract a caller learns that what the map holds is well formed.
+    #[inline(always)]
+    pub(crate) fn note_valid(&self)
+        ensures { IsSparseContent self.now }
+    {
+        let _ = &self.slots;
     }
 
     /// Returns the number of keys, in constant time.

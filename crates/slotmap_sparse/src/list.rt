@@ -145,8 +145,7 @@ impl<K: Key, V: Drop, S: BuildHasher + Drop> SparseSecondaryMap<K, V, S> {
         ensures err { IfErr result (λ error. error ≡ SlotsError.Memory) }
         ensures valid { IsSparseContent self.new }
     {
-        // Reads the map, for the clause `valid`.
-        let _ = self.len();
+        self.note_valid();
         let SlotRecord { value, version } = slot;
         let Some(value) = value else {
             return Ok(());

@@ -1,7 +1,7 @@
 //! Runs one after the other on one map, each with closures of its own.
 
 ghost use Rattle.std.specs.Prelude.{◌++◌, IfSome, ⊤};
-ghost use Rattle.slotmap_core.specs.Words.{DetachLaws, Laws, NoKeyTwice, known_from, not_live};
+ghost use Rattle.slotmap_core.specs.Words.{DetachLaws, Laws, NoKeyTwice, absent, known_from};
 
 use super::text::key;
 use crate::{
@@ -51,7 +51,7 @@ where
     ensures no_key_twice { IfSome result (λ told.
         NoKeyTwice K.data_of (told.0.items ++ told.1.items)) }
     ensures laws { IfSome result (λ told.
-        Laws K.data_of (λ value seen. ⊤) (known_from (M.content map.old).live)
+        Laws K.data_of (λ value seen. ⊤) (known_from (M.content map.old))
         (first.items ++ second.items) (told.0.items ++ told.1.items)) }
 {
     let Ok(earlier) = run(alloc, map, first, shown, keeps, refuses) else {
@@ -72,7 +72,7 @@ fn run_new_and_on<M, K>(
 where
     M: Detaching<K, u64> + Drop,
     K: Key,
-    ensures laws { IfSome result (λ made. DetachLaws K.data_of (λ value seen. ⊤) M.REUSES (λ k. not_live)
+    ensures laws { IfSome result (λ made. DetachLaws K.data_of (λ value seen. ⊤) M.REUSES (λ k. absent)
         (first.items ++ second.items) (made.1.items ++ made.2.items)) }
 {
     let made = run_detaching_new(alloc, first, shown, keeps, refuses);

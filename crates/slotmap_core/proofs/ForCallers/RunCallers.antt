@@ -2,6 +2,7 @@
 -- For callers.
 use Rattle.std.proofs.Common.{◌≡◌, ◌≢◌, ℕ, zero, ◌+◌, ◌-◌, ◌<◌, ◌≤◌, List, ◌∷◌, ◌++◌, length, take, drop, slice_get, Some, false, ◌⊎◌, ◌∙◌, arith}
 use Rattle.std.proofs.Common.{suc, [], Ok, Bool, true, refl, sym, ap}
+use Rattle.std.proofs.lemmas.List.Sums.{count_by-le-length}
 use Rattle.std.specs.List.{IsDistinct, AllByRecursion, AllZip}
 use Rattle.std.specs.Ordering.{eq_by_cmp}
 use Rattle.slotmap_core.specs.Law.{reply_keys, keys_told, NoKeyTwice, ReserveHolds, IsRefusal, Spares, DetachedNotReissued, DetachedReattaches, ReattachBinds}
@@ -68,15 +69,15 @@ module _ {K V R E : Type 0} (data_of : K → Key) where
   keys_differ replies i j a b law less at_i at_j = earlier_differs replies i j a b law less at_i at_j
 
 module _ {K V R E C : Type 0} (of : Command K V → C) (commands : List C) (replies : List (Reply K V R E)) where
-  -- once the Reserve of n at one position succeeds, none of the next n commands is refused if it grows the map
-  pub reserved_not_refused : (NeedsRoom : C → Type 0) (i j n : ℕ) (c : C) (answer : Reply K V R E) → ReserveHolds of NeedsRoom commands replies → i < j → j ≤ i + n → NeedsRoom c
+  -- once the Reserve of n at one position succeeds, none of the next n commands is refused if it needs room
+  pub reserved_not_refused : (needs_room : C → Bool) (i j n : ℕ) (c : C) (answer : Reply K V R E) → ReserveHolds of needs_room commands replies → i < j → j ≤ i + n → needs_room c ≡ true
       → slice_get commands i ≡ Some (of (command.Reserve n)) → slice_get commands j ≡ Some c
       → slice_get replies i ≡ Some reply.Done → slice_get replies j ≡ Some answer → IsRefusal answer → ⊥
-  reserved_not_refused NeedsRoom i j n c answer law less within grows reserves asks done answers =
+  reserved_not_refused needs_room i j n c answer law less within grows reserves asks done answers =
       let asked = split_at_two commands i j _ _ less reserves asks in
       let told = split_at_two replies i j _ _ less done answers in
       law asked.before asked.between asked.after told.before told.between told.after n c answer (asked.at ∙ sym told.at)
-      (omega (arith, asked.apart, told.apart)) (omega (arith, asked.apart)) grows asked.is told.is
+      (omega (arith, asked.apart, told.apart)) (omega (arith, asked.apart, count_by-le-length needs_room asked.between)) grows asked.is told.is
 
 module _ {K V R E : Type 0} (data_of : K → Key) (commands : List (DetachCommand K V)) (replies : List (Reply K V R E)) where
   -- once the Detach of a key at one position returned a value, no insert at a later one returns that key

@@ -1,6 +1,6 @@
 -- What was put under a key is found, by positions, if no command in between writes the key or takes it out.
 -- For callers.
-use Rattle.std.proofs.Common.{◌≡◌, ◌≢◌, ℕ, zero, suc, ◌+◌, ◌-◌, ◌<◌, List, [], ◌∷◌, take, drop, slice_get, Some, Ok, true, refl, ap, ◌∙◌, arith}
+use Rattle.std.proofs.Common.{◌≡◌, ◌≢◌, ℕ, zero, suc, ◌+◌, ◌-◌, ◌<◌, List, [], ◌∷◌, length, take, drop, slice_get, Some, Ok, true, refl, ap, ◌∙◌, arith}
 use Rattle.std.specs.List.{AllByRecursion}
 use Rattle.slotmap_core.specs.Key.{Key}
 use Rattle.slotmap_core.specs.Told.{Knowledge, has, told, Reads, ReadsWhatWasPut}
@@ -43,11 +43,11 @@ module _ {K V R E : Type 0} (data_of : K → Key) (k : Key) where
 
   -- if the command asks for k, the reply has v, or what may be seen of it
   abbrev pub Finds : (V → R → Type 0) → V → DetachCommand K V → Reply K V R E → Type 0
-  Finds looks v (detaching.Plain (command.Get other)) (reply.Looked found) = data_of other ≡ k → (r : R) × (found ≡ Some r) × looks v r
-  Finds looks v (detaching.Plain (command.Contains other)) (reply.Flag is) = data_of other ≡ k → is ≡ true
-  Finds looks v (detaching.Plain (command.Replace other w)) (reply.Put answer) = data_of other ≡ k → answer ≡ Ok v
-  Finds looks v (detaching.Plain (command.Remove other)) (reply.Taken taken) = data_of other ≡ k → taken ≡ Some v
-  Finds looks v (detaching.Detach other) (reply.Taken taken) = data_of other ≡ k → taken ≡ Some v
+  Finds looks v (detaching.Plain (command.Get other)) answer = data_of other ≡ k → (r : R) × (answer ≡ reply.Looked (Some r)) × looks v r
+  Finds looks v (detaching.Plain (command.Contains other)) answer = data_of other ≡ k → answer ≡ reply.Flag true
+  Finds looks v (detaching.Plain (command.Replace other w)) answer = data_of other ≡ k → answer ≡ reply.Put (Ok v)
+  Finds looks v (detaching.Plain (command.Remove other)) answer = data_of other ≡ k → answer ≡ reply.Taken (Some v)
+  Finds looks v (detaching.Detach other) answer = data_of other ≡ k → answer ≡ reply.Taken (Some v)
   Finds looks v _ _ = Unit {0}
 
   module _ (v : V) (c : DetachCommand K V) (r : Reply K V R E) where
@@ -60,6 +60,22 @@ module _ {K V R E : Type 0} (data_of : K → Key) (k : Key) where
 
     known_found : (looks : V → R → Type 0) (known : Key → Knowledge V) → known k ≡ has v → Reads data_of looks known c r → Finds looks v c r
     known_found looks known is reads = grind (arith, is)
+
+module _ {K V R E : Type 0} (data_of : K → Key) (looks : V → R → Type 0) where
+  -- there is one reply for each command
+  pub one_each : (start : Key → Knowledge V) (commands : List (DetachCommand K V)) (replies : List (Reply K V R E)) → ReadsWhatWasPut data_of looks start commands replies
+      → length replies ≡ length commands
+  one_each start [] [] law = refl
+  one_each start (c ∷ cs) (r ∷ rs) law = ap suc (one_each (λ k. told data_of k c r (start k)) cs rs law.1)
+  one_each start _ _ law = absurd law
+
+  -- so a command's position has a reply
+  pub answered : (start : Key → Knowledge V) (commands : List (DetachCommand K V)) (replies : List (Reply K V R E)) (j : ℕ) (d : DetachCommand K V)
+      → ReadsWhatWasPut data_of looks start commands replies → slice_get commands j ≡ Some d → (answer : Reply K V R E) × (slice_get replies j ≡ Some answer)
+  answered start (c ∷ cs) (r ∷ rs) zero d law is_d = (r, refl)
+  answered start (c ∷ cs) (r ∷ rs) (suc j) d law is_d = answered (λ k. told data_of k c r (start k)) cs rs j d law.1 is_d
+  answered start [] [] j d law is_d = absurd (cc)
+  answered start _ _ j d law is_d = absurd law
 
 module _ {K V R E : Type 0} (data_of : K → Key) (looks : V → R → Type 0) (k : Key) (v : V) where
   module _ (d : DetachCommand K V) (answer : Reply K V R E) where

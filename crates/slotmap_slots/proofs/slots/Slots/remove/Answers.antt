@@ -1,1 +1,0 @@
-use Rattle.slotmap_slots.proofs.slots.Slots.remove.Goals as goal
