@@ -1,0 +1,220 @@
+//! How many keys there are, and room for more.
+
+ghost use Rattle.std.specs.FinMap as map;
+ghost use Rattle.std.specs.Prelude.{◌≡◌, ◌+◌, ◌<◌, ◌≤◌, ◌↔◌, [], Some, IfOk, IfErr, OnOk, IsOk, IsTrue, Err};
+ghost use Rattle.slotmap_core.specs.Words.{used, most, IsNew, Keeps};
+ghost use Rattle.slotmap_dense.specs.Dense.{SameOrder};
+
+use slotmap_core::errors::ReserveError;
+use slotmap_core::keys::{DefaultKey, Key};
+use slotmap_dense::DenseSlotMap;
+use std::alloc::Global;
+
+/// No key is live, detached or retired, and no slot is vacant. It fails only where memory runs out.
+/// Holds by `starts`, `stack`, `empty` and `err` of `new`.
+pub fn new_makes_an_empty_map<V: Drop>(
+    alloc: Global,
+) -> Result<DenseSlotMap<DefaultKey, V>, ReserveError>
+    ensures empty { IfOk result (λ made. IsNew made.content) }
+    ensures stack { IfOk result (λ made. made.content.stack ≡ Some []) }
+    ensures order { IfOk result (λ made. made.values ≡ []) }
+    ensures err { IfErr result (λ error. error ≡ ReserveError.Memory) }
+{
+    DenseSlotMap::new(alloc)
+}
+
+/// No key is live, detached or retired, and no slot is vacant. It fails only where memory runs out.
+/// Holds by `starts`, `stack`, `empty` and `err` of `with_key`.
+pub fn with_key_makes_an_empty_map<K: Key, V: Drop>(
+    alloc: Global,
+) -> Result<DenseSlotMap<K, V>, ReserveError>
+    ensures empty { IfOk result (λ made. IsNew made.content) }
+    ensures stack { IfOk result (λ made. made.content.stack ≡ Some []) }
+    ensures order { IfOk result (λ made. made.values ≡ []) }
+    ensures err { IfErr result (λ error. error ≡ ReserveError.Memory) }
+{
+    DenseSlotMap::with_key(alloc)
+}
+
+/// There is room and capacity for so many keys, and nothing is in the map.
+/// Holds by `room`, `capacity`, `starts` and `stack`, `empty` of `with_capacity`.
+pub fn with_capacity_makes_room<V: Drop>(
+    alloc: Global,
+    capacity: usize,
+) -> Result<DenseSlotMap<DefaultKey, V>, ReserveError>
+    ensures room { IfOk result (λ made. capacity ≤ made.content.room) }
+    ensures capacity { IfOk result (λ made. capacity ≤ made.content.capacity) }
+    ensures empty { IfOk result (λ made. IsNew made.content) }
+    ensures stack { IfOk result (λ made. made.content.stack ≡ Some []) }
+    ensures order { IfOk result (λ made. made.values ≡ []) }
+{
+    DenseSlotMap::with_capacity(alloc, capacity)
+}
+
+/// It fails with `TooGreat` exactly above the limit.
+/// Holds by `err` of `with_capacity`.
+pub fn with_capacity_is_too_great_above_the_limit_alone<V: Drop>(
+    alloc: Global,
+    capacity: usize,
+) -> Result<DenseSlotMap<DefaultKey, V>, ReserveError>
+    ensures above { result ≡ Err ReserveError.TooGreat → most < capacity }
+    ensures within { result ≡ Err ReserveError.Memory → capacity ≤ most }
+{
+    DenseSlotMap::with_capacity(alloc, capacity)
+}
+
+/// There is room and capacity for so many keys, and nothing is in the map.
+/// Refuses `with_capacity_makes_no_room_for_keys`: `room`, `capacity`, `starts` and `stack`,
+/// `empty` of `with_capacity_and_key`.
+pub fn with_capacity_and_key_makes_room<K: Key, V: Drop>(
+    alloc: Global,
+    capacity: usize,
+) -> Result<DenseSlotMap<K, V>, ReserveError>
+    ensures room { IfOk result (λ made. capacity ≤ made.content.room) }
+    ensures capacity { IfOk result (λ made. capacity ≤ made.content.capacity) }
+    ensures empty { IfOk result (λ made. IsNew made.content) }
+    ensures stack { IfOk result (λ made. made.content.stack ≡ Some []) }
+    ensures order { IfOk result (λ made. made.values ≡ []) }
+{
+    DenseSlotMap::with_capacity_and_key(alloc, capacity)
+}
+
+/// It fails with `TooGreat` exactly above the limit.
+/// Holds by `err` of `with_capacity_and_key`.
+pub fn with_capacity_and_key_is_too_great_above_the_limit_alone<K: Key, V: Drop>(
+    alloc: Global,
+    capacity: usize,
+) -> Result<DenseSlotMap<K, V>, ReserveError>
+    ensures above { result ≡ Err ReserveError.TooGreat → most < capacity }
+    ensures within { result ≡ Err ReserveError.Memory → capacity ≤ most }
+{
+    DenseSlotMap::with_capacity_and_key(alloc, capacity)
+}
+
+/// It is the number of live keys.
+/// Refuses `len_answers_the_capacity`: `value` of `len`.
+pub fn len_counts_live_keys<K: Key, V: Drop>(store: &DenseSlotMap<K, V>) -> usize
+    ensures { result ≡ map.len store.now.content.live }
+{
+    store.len()
+}
+
+/// It is true exactly where no key is live.
+/// Refuses `is_empty_where_one_key_is_live`: `value` of `is_empty`.
+pub fn is_empty_where_no_key_is_live<K: Key, V: Drop>(store: &DenseSlotMap<K, V>) -> bool
+    ensures { IsTrue result ↔ (map.len store.now.content.live ≡ 0) }
+{
+    store.is_empty()
+}
+
+/// The live keys fit, and those that there is room for.
+/// Refuses `capacity_takes_the_greater`: `value` and `valid` of `capacity`.
+pub fn capacity_is_for_live_keys_and_room<K: Key, V: Drop>(store: &DenseSlotMap<K, V>) -> usize
+    ensures value { result ≡ store.now.content.capacity }
+    ensures fits { map.len store.now.content.live + store.now.content.room ≤ result }
+{
+    store.capacity()
+}
+
+/// There is room for so many more keys. The map holds what it held, and no capacity is lost.
+/// Refuses `reserve_makes_no_room_for_keys`, `reserve_makes_no_room_for_values`,
+/// `reserve_accepts_beyond_the_limit`: `makes_room` of `reserve`.
+pub fn reserve_makes_room<K: Key, V: Drop>(
+    store: &mut DenseSlotMap<K, V>,
+    additional: usize,
+) -> Result<(), ReserveError>
+    ensures room { OnOk result (additional ≤ store.new.content.room) }
+    ensures fits { OnOk result (used store.old.content + additional ≤ most) }
+    ensures capacity { OnOk result (map.len store.old.content.live + additional ≤ store.new.content.capacity) }
+    ensures keeps { Keeps store.old.content store.new.content }
+    ensures grows { store.old.content.capacity ≤ store.new.content.capacity }
+{
+    store.reserve(additional)
+}
+
+/// Where there is room already, it succeeds and changes nothing.
+/// Refuses `reserve_takes_more_where_there_is_room`: `makes_room` of `reserve`.
+pub fn reserve_with_room_changes_nothing<K: Key, V: Drop>(
+    store: &mut DenseSlotMap<K, V>,
+    additional: usize,
+) -> Result<(), ReserveError>
+    requires { additional ≤ store.old.content.room }
+    ensures succeeds { IsOk result }
+    ensures unchanged { store.new ≡ store.old }
+{
+    store.reserve(additional)
+}
+
+/// It fails with `TooGreat` exactly above the limit.
+/// Holds by `err` of `reserve`.
+pub fn reserve_is_too_great_above_the_limit_alone<K: Key, V: Drop>(
+    store: &mut DenseSlotMap<K, V>,
+    additional: usize,
+) -> Result<(), ReserveError>
+    ensures above { result ≡ Err ReserveError.TooGreat → most < used store.old.content + additional }
+    ensures within { result ≡ Err ReserveError.Memory → used store.old.content + additional ≤ most }
+{
+    store.reserve(additional)
+}
+
+/// There is room for so many more keys. The map holds what it held, and no capacity is lost.
+/// Holds by `makes_room` of `try_reserve`.
+pub fn try_reserve_makes_room<K: Key, V: Drop>(
+    store: &mut DenseSlotMap<K, V>,
+    additional: usize,
+) -> Result<(), ReserveError>
+    ensures room { OnOk result (additional ≤ store.new.content.room) }
+    ensures fits { OnOk result (used store.old.content + additional ≤ most) }
+    ensures capacity { OnOk result (map.len store.old.content.live + additional ≤ store.new.content.capacity) }
+    ensures keeps { Keeps store.old.content store.new.content }
+    ensures grows { store.old.content.capacity ≤ store.new.content.capacity }
+{
+    store.try_reserve(additional)
+}
+
+/// Where there is room already, it succeeds and changes nothing.
+/// Holds by `makes_room` of `try_reserve`.
+pub fn try_reserve_with_room_changes_nothing<K: Key, V: Drop>(
+    store: &mut DenseSlotMap<K, V>,
+    additional: usize,
+) -> Result<(), ReserveError>
+    requires { additional ≤ store.old.content.room }
+    ensures succeeds { IsOk result }
+    ensures unchanged { store.new ≡ store.old }
+{
+    store.try_reserve(additional)
+}
+
+/// It fails with `TooGreat` exactly above the limit.
+/// Holds by `err` of `try_reserve`.
+pub fn try_reserve_is_too_great_above_the_limit_alone<K: Key, V: Drop>(
+    store: &mut DenseSlotMap<K, V>,
+    additional: usize,
+) -> Result<(), ReserveError>
+    ensures above { result ≡ Err ReserveError.TooGreat → most < used store.old.content + additional }
+    ensures within { result ≡ Err ReserveError.Memory → used store.old.content + additional ≤ most }
+{
+    store.try_reserve(additional)
+}
+
+/// The packed order stays.
+/// Holds by `makes_room` of `reserve`.
+pub fn reserve_keeps_the_order<K: Key, V: Drop>(
+    store: &mut DenseSlotMap<K, V>,
+    additional: usize,
+) -> Result<(), ReserveError>
+    ensures { SameOrder store.old store.new }
+{
+    store.reserve(additional)
+}
+
+/// The packed order stays.
+/// Holds by `makes_room` of `try_reserve`.
+pub fn try_reserve_keeps_the_order<K: Key, V: Drop>(
+    store: &mut DenseSlotMap<K, V>,
+    additional: usize,
+) -> Result<(), ReserveError>
+    ensures { SameOrder store.old store.new }
+{
+    store.try_reserve(additional)
+}

@@ -1,0 +1,44 @@
+//! The iterator that takes the pairs out.
+
+ghost use Rattle.std.specs.FinMap as map;
+ghost use Rattle.std.specs.Prelude.{◌≡◌, ◌∷◌, Some, IfSome, IfNone};
+ghost use Rattle.slotmap_core.specs.Words.{places};
+ghost use Rattle.slotmap_hop.specs.Drain.{HopDrainCanStep, hop_drain_live};
+
+use slotmap_core::keys::Key;
+use slotmap_hop::{Drain, HopSlotMap};
+
+/// A drain that is dropped before it yields anything removes every key.
+/// Refuses `drain_leaves_the_rest`: `ends` of its drop, and `map` of `drain`.
+pub fn dropped_drain_leaves_no_key<K: Key, V: Drop>(store: &mut HopSlotMap<K, V>)
+    ensures { store.new.content.live ≡ map.empty }
+{
+    store.drain();
+}
+
+/// It yields a live key with its value, and nothing only where no key is live. One that is dropped
+/// early removes every key. Detached keys, slots and capacity stay.
+/// Refuses `drain_answers_another_key`: `next_gives`, `ends` of its drop, and `map` of `drain`.
+pub fn early_dropped_drain_leaves_no_key<K: Key, V: Drop>(
+    store: &mut HopSlotMap<K, V>,
+) -> Option<(K, V)>
+    ensures some { IfSome result (λ pair. map.get store.old.content.live (K.data_of pair.0) ≡ Some pair.1) }
+    ensures none { IfNone result (store.old.content.live ≡ map.empty) }
+    ensures empty { store.new.content.live ≡ map.empty }
+    ensures capacity { store.new.content.capacity ≡ store.old.content.capacity }
+    ensures detached { store.new.content.detached ≡ store.old.content.detached }
+    ensures slots { places store.new.content ≡ places store.old.content }
+{
+    store.drain().next()
+}
+
+/// The pair of the smallest index is yielded first.
+/// Holds by `next_gives`.
+pub fn drain_yields_the_smallest_index<'a, K: Key, V: Drop>(
+    pairs: &mut Drain<'a, K, V>,
+) -> Option<(K, V)>
+    requires { HopDrainCanStep K.data_of pairs.old }
+    ensures { IfSome result (λ pair. map.entries (hop_drain_live pairs.old) ≡ (K.data_of pair.0, pair.1) ∷ map.entries (hop_drain_live pairs.new)) }
+{
+    pairs.next()
+}

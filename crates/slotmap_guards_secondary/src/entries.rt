@@ -1,0 +1,212 @@
+//! Entries of a key.
+
+ghost use Rattle.std.specs.Prelude.{◌≡◌, ◌≢◌, ◌≤◌, ◌↔◌, Some, OnSome, IfSome, IsSome, IsTrue, true, false};
+ghost use Rattle.slotmap_core.specs.Words.{get, contains_key, entry, bind, remove, is_null, vacant, no_entry, occupied};
+ghost use Rattle.slotmap_secondary.specs.Entry.{IsSideInPlace, side_entry_value};
+
+use slotmap_core::keys::Key;
+use slotmap_core::secondary::NoEntry;
+use slotmap_secondary::{Entry, SecondaryMap};
+
+/// The null key has no entry, nor has a key that is older than the one at its index: the call
+/// returns `None`, and only then.
+/// Refuses `entry_of_the_null_key_is_vacant`, `entry_refuses_newer_keys`,
+/// `entry_answers_none_for_want_of_memory`: `which` and `err` of `entry`.
+pub fn older_and_null_keys_have_no_entry<K: Key, V: Drop>(
+    table: &mut SecondaryMap<K, V>,
+    key: K,
+) -> bool
+    ensures { IsTrue result ↔ (entry table.old.pairs (K.data_of key) ≡ no_entry) }
+{
+    matches!(table.entry(key), Ok(None))
+}
+
+/// The call fails with `Older` of these keys, and only of these.
+/// Refuses `try_entry_says_memory_for_an_older_key`: `which` and `err` of `try_entry`.
+pub fn try_entry_refuses_older_and_null_keys<K: Key, V: Drop>(
+    table: &mut SecondaryMap<K, V>,
+    key: K,
+) -> bool
+    ensures { IsTrue result ↔ (entry table.old.pairs (K.data_of key) ≡ no_entry) }
+{
+    matches!(table.try_entry(key), Err(NoEntry::Older))
+}
+
+/// A key that has a value has an occupied entry, and no other key has one.
+/// Holds by `which` of `try_entry`.
+pub fn key_with_a_value_has_an_occupied_entry<K: Key, V: Drop>(
+    table: &mut SecondaryMap<K, V>,
+    key: K,
+) -> bool
+    ensures { IsTrue result ↔ ((value : V) × (entry table.old.pairs (K.data_of key) ≡ occupied value)) }
+{
+    matches!(table.try_entry(key), Ok(Entry::Occupied(_)))
+}
+
+/// Where there is memory for the index, memory can't run out.
+/// Holds by `room` of `try_entry`.
+pub fn try_entry_with_room_needs_no_memory<K: Key, V: Drop>(
+    table: &mut SecondaryMap<K, V>,
+    key: K,
+) -> bool
+    ensures { (K.data_of key).index ≤ table.old.capacity → result ≡ false }
+{
+    matches!(table.try_entry(key), Err(NoEntry::Memory))
+}
+
+/// So it is of `entry`.
+/// Holds by `room` of `entry`.
+pub fn entry_with_room_needs_no_memory<K: Key, V: Drop>(
+    table: &mut SecondaryMap<K, V>,
+    key: K,
+) -> bool
+    ensures { (K.data_of key).index ≤ table.old.capacity → result ≡ true }
+{
+    table.entry(key).is_ok()
+}
+
+/// An occupied entry keeps its value, and a vacant one gets the new one: what is written then is
+/// found under the key, and nothing else changes.
+/// Refuses `vacant_insert_puts_under_another_key`: `ok` of `try_entry`, and `writes_back` and
+/// `value` of `or_insert`.
+pub fn or_insert_puts_under_the_key<K: Key, V: Drop>(
+    table: &mut SecondaryMap<K, V>,
+    key: K,
+    value: V,
+    last: V,
+)
+    ensures written { entry table.old.pairs (K.data_of key) ≢ no_entry → (K.data_of key).index ≤ table.old.capacity → table.new.pairs ≡ bind table.old.pairs (K.data_of key) last }
+    ensures refused { entry table.old.pairs (K.data_of key) ≡ no_entry → table.new ≡ table.old }
+{
+    if let Ok(found) = table.try_entry(key) {
+        *found.or_insert(value) = last;
+    }
+}
+
+/// An occupied entry keeps its value.
+/// Holds by `value` of `or_insert`.
+pub fn or_insert_keeps_the_value_of_the_key<'a, K: Key, V: Drop>(
+    found: Entry<'a, K, V>,
+    value: V,
+) -> &'a mut V
+    requires { IsSideInPlace K.data_of found }
+    ensures { (standing : V) → side_entry_value K.data_of found.entry ≡ Some standing → result.now ≡ standing }
+{
+    found.or_insert(value)
+}
+
+/// An occupied entry keeps its value.
+/// Holds by `value` of `or_insert_with`.
+pub fn or_insert_with_keeps_the_value_of_the_key<'a, K: Key, V: Drop>(
+    found: Entry<'a, K, V>,
+    value: V,
+) -> &'a mut V
+    requires { IsSideInPlace K.data_of found }
+    ensures { (standing : V) → side_entry_value K.data_of found.entry ≡ Some standing → result.now ≡ standing }
+{
+    found.or_insert_with(|| value)
+}
+
+/// An occupied entry keeps its value.
+/// Holds by `value` of `or_default`.
+pub fn or_default_keeps_the_value_of_the_key<'a, K: Key, V: Default + Drop>(
+    found: Entry<'a, K, V>,
+) -> &'a mut V
+    requires { IsSideInPlace K.data_of found }
+    ensures { (standing : V) → side_entry_value K.data_of found.entry ≡ Some standing → result.now ≡ standing }
+{
+    found.or_default()
+}
+
+/// An occupied entry's key and value are returned, and the key is found no longer. Nothing else
+/// changes.
+/// Refuses `remove_entry_answers_another_key`: `ok` of `try_entry`, and `key`, `value` and
+/// `removes` of `remove_entry`.
+pub fn remove_entry_takes_the_pair<K: Key, V: Drop>(
+    table: &mut SecondaryMap<K, V>,
+    key: K,
+) -> Option<(K, V)>
+    ensures pair { IfSome result (λ pair. (K.data_of pair.0 ≡ K.data_of key) × (get table.old.pairs (K.data_of key) ≡ Some pair.1)) }
+    ensures removed { OnSome result (table.new.pairs ≡ remove table.old.pairs (K.data_of key)) }
+    ensures there { contains_key table.old.pairs (K.data_of key) ≡ true → is_null (K.data_of key) ≡ false → IsSome result }
+{
+    match table.try_entry(key) {
+        Ok(Entry::Occupied(found)) => Some(found.remove_entry()),
+        _ => None
+    }
+}
+
+/// The value is returned, and the key is found no longer. Nothing else changes.
+/// Holds by `ok` of `try_entry`, and `value` and `removes` of `remove`.
+pub fn occupied_entry_removes_its_key<K: Key, V: Drop>(
+    table: &mut SecondaryMap<K, V>,
+    key: K,
+) -> Option<V>
+    ensures value { IfSome result (λ value. get table.old.pairs (K.data_of key) ≡ Some value) }
+    ensures removed { OnSome result (table.new.pairs ≡ remove table.old.pairs (K.data_of key)) }
+{
+    match table.try_entry(key) {
+        Ok(Entry::Occupied(found)) => Some(found.remove()),
+        _ => None
+    }
+}
+
+/// The old value is returned.
+/// Holds by `ok` of `try_entry`, and `old` of `insert`.
+pub fn occupied_entry_returns_its_old_value<K: Key, V: Drop>(
+    table: &mut SecondaryMap<K, V>,
+    key: K,
+    value: V,
+) -> Option<V>
+    ensures { IfSome result (λ before. get table.old.pairs (K.data_of key) ≡ Some before) }
+{
+    match table.try_entry(key) {
+        Ok(Entry::Occupied(mut found)) => Some(found.insert(value)),
+        _ => None
+    }
+}
+
+/// What is written through `into_mut` is found under the key, and changes nothing else.
+/// Holds by `ok` of `try_entry`, and `writes_back` of `into_mut`.
+pub fn occupied_entry_hands_its_value_on<K: Key, V: Drop>(
+    table: &mut SecondaryMap<K, V>,
+    key: K,
+    value: V,
+)
+    ensures { contains_key table.old.pairs (K.data_of key) ≡ true → is_null (K.data_of key) ≡ false → table.new.pairs ≡ bind table.old.pairs (K.data_of key) value }
+{
+    if let Ok(Entry::Occupied(found)) = table.try_entry(key) {
+        *found.into_mut() = value;
+    }
+}
+
+/// The closure of `and_modify` changes the value of the entry's key, and no other.
+/// Refuses `and_modify_changes_another_key`: `ok` of `try_entry`, and `value` and `same_writes` of
+/// `and_modify`.
+pub fn modified_value_is_that_of_the_key<K: Key, V: Drop>(
+    table: &mut SecondaryMap<K, V>,
+    key: K,
+    value: V,
+    last: V,
+)
+    ensures written { entry table.old.pairs (K.data_of key) ≢ no_entry → (K.data_of key).index ≤ table.old.capacity → table.new.pairs ≡ bind table.old.pairs (K.data_of key) last }
+{
+    if let Ok(found) = table.try_entry(key) {
+        *found.and_modify(|_| ()).or_insert(value) = last;
+    }
+}
+
+/// A vacant entry gets the value, and what is written then is found under its key.
+/// Holds by `ok` of `try_entry`, and `writes_back` and `value` of `insert` of `VacantEntry`.
+pub fn vacant_entry_puts_under_its_key<K: Key, V: Drop>(
+    table: &mut SecondaryMap<K, V>,
+    key: K,
+    value: V,
+    last: V,
+)
+    ensures { entry table.old.pairs (K.data_of key) ≡ vacant → (K.data_of key).index ≤ table.old.capacity → table.new.pairs ≡ bind table.old.pairs (K.data_of key) last }
+{
+    if let Ok(Entry::Vacant(found)) = table.try_entry(key) {
+        *found.insert(value) = last;
+    }
+}

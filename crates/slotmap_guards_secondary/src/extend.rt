@@ -1,0 +1,66 @@
+//! Many pairs at once.
+
+ghost use Rattle.std.specs.FinMap as map;
+ghost use Rattle.std.specs.Prelude.{◌≡◌, ◌+◌, ◌-◌, ◌<◌, ◌≤◌, ◌⊎◌, IfOk, IfErr, List, true};
+ghost use Rattle.std.specs.Iterator.{Drains, IsFinite};
+ghost use Rattle.slotmap_core.specs.Words.{AllPut, Extends, ExtendsBy};
+
+use slotmap_core::keys::Key;
+use slotmap_secondary::SecondaryMap;
+use std::alloc::Global;
+
+/// Each pair that the iterator yields is put, one after the other. It stops early only where memory
+/// runs out for a pair, which comes back.
+/// Refuses `extend_puts_under_the_null_key`: the premise and `extends` of `extend`.
+pub fn extend_puts_each_pair<K: Key, V: Drop, I: IntoIterator<Item = (K, V)>>(
+    table: &mut SecondaryMap<K, V>,
+    iter: I,
+) -> Result<(), (K, V)>
+    requires { (it : I.IntoIter) → I.into_iter_gives iter it → I.IntoIter.can_next it × IsFinite (I.IntoIter.remaining it) }
+    ensures { (it : I.IntoIter) × I.into_iter_gives iter it × Extends K.data_of it table.old.pairs result table.new.pairs I.IntoIter.next_gives }
+{
+    table.extend(iter)
+}
+
+/// So it is of an iterator over references.
+/// Holds by the premise and `extends` of `extend_refs`.
+pub fn extend_refs_puts_each_pair<
+    'b,
+    K: Key,
+    V: Copy + Drop + 'b,
+    I: IntoIterator<Item = (K, &'b V)>,
+>(table: &mut SecondaryMap<K, V>, iter: I) -> Result<(), (K, V)>
+    requires { (it : I.IntoIter) → I.into_iter_gives iter it → I.IntoIter.can_next it × IsFinite (I.IntoIter.remaining it) }
+    ensures { (it : I.IntoIter) × I.into_iter_gives iter it × ExtendsBy K.data_of it table.old.pairs result table.new.pairs I.IntoIter.next_gives }
+{
+    table.extend_refs(iter)
+}
+
+/// A pair comes back only if there was no memory for its index. The last slot that was made holds a
+/// pair, and no memory is asked for where there is some.
+/// Refuses `extend_gives_up_though_there_is_room`, `extend_makes_2000_slots`: `back` and `grows` of
+/// `extend`.
+pub fn extend_gives_up_beyond_the_memory_alone<K: Key, V: Drop, I: IntoIterator<Item = (K, V)>>(
+    table: &mut SecondaryMap<K, V>,
+    iter: I,
+) -> Result<(), (K, V)>
+    requires { (it : I.IntoIter) → I.into_iter_gives iter it → I.IntoIter.can_next it × IsFinite (I.IntoIter.remaining it) }
+    ensures back { IfErr result (λ back. table.new.capacity < (K.data_of back.0).index) }
+    ensures slots { (table.new.places ≡ table.old.places) ⊎ (map.contains_key table.new.pairs (table.new.places - 1) ≡ true) }
+    ensures capacity { table.new.places ≤ table.old.capacity + 1 → table.new.capacity ≡ table.old.capacity }
+{
+    table.extend(iter)
+}
+
+/// Each pair that the iterator yields is put into an empty map, one after the other.
+/// Holds by the premise and `ok` of `from_iter`.
+pub fn from_iter_puts_each_pair<K: Key, V: Drop, I: IntoIterator<Item = (K, V)> + Drop>(
+    alloc: Global,
+    iter: I,
+) -> Result<SecondaryMap<K, V>, Option<(K, V)>>
+    requires { (it : I.IntoIter) → I.into_iter_gives iter it → I.IntoIter.can_next it × IsFinite (I.IntoIter.remaining it) }
+    ensures { IfOk result (λ made. (it : I.IntoIter) × (pairs : List (K × V)) × I.into_iter_gives iter it
+        × Drains I.IntoIter.next_gives it pairs × AllPut K.data_of map.empty pairs made.pairs) }
+{
+    SecondaryMap::from_iter(alloc, iter)
+}

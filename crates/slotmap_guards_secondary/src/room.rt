@@ -1,0 +1,155 @@
+//! How many keys there are, and room for more.
+
+ghost use Rattle.std.specs.FinMap as map;
+ghost use Rattle.std.specs.Prelude.{◌≡◌, ◌+◌, ◌<◌, ◌≤◌, ◌↔◌, None, IfOk, IfErr, OnOk, OnErr, IsOk, IsTrue, Err};
+ghost use Rattle.slotmap_core.specs.Words.{Key as KeyOf, most, get};
+
+use slotmap_core::errors::ReserveError;
+use slotmap_core::keys::Key;
+use slotmap_secondary::SecondaryMap;
+use std::alloc::Global;
+
+/// No key is in it.
+/// Holds by `empty` of `new`.
+pub fn new_makes_an_empty_map<K: Key, V: Drop>(
+    alloc: Global,
+) -> Result<SecondaryMap<K, V>, ReserveError>
+    ensures { IfOk result (λ made. (key : KeyOf) → get made.pairs key ≡ None) }
+{
+    SecondaryMap::new(alloc)
+}
+
+/// It fails only where memory runs out.
+/// Refuses `new_asks_for_too_many`: `err` of `new`.
+pub fn new_fails_for_memory_alone<K: Key, V: Drop>(
+    alloc: Global,
+) -> Result<SecondaryMap<K, V>, ReserveError>
+    ensures { IfErr result (λ error. error ≡ ReserveError.Memory) }
+{
+    SecondaryMap::new(alloc)
+}
+
+/// There is memory for so many, and no key is in the map.
+/// Refuses `with_capacity_asks_for_one_place`: `capacity` and `empty` of `with_capacity`.
+pub fn with_capacity_makes_room<K: Key, V: Drop>(
+    alloc: Global,
+    capacity: usize,
+) -> Result<SecondaryMap<K, V>, ReserveError>
+    ensures capacity { IfOk result (λ made. capacity ≤ made.capacity) }
+    ensures empty { IfOk result (λ made. (key : KeyOf) → get made.pairs key ≡ None) }
+{
+    SecondaryMap::with_capacity(alloc, capacity)
+}
+
+/// It fails with `TooGreat` exactly above the limit.
+/// Refuses `with_capacity_beyond_the_limit`: `err` and `fits` of `with_capacity`.
+pub fn with_capacity_is_too_great_above_the_limit_alone<K: Key, V: Drop>(
+    alloc: Global,
+    capacity: usize,
+) -> Result<SecondaryMap<K, V>, ReserveError>
+    ensures above { result ≡ Err ReserveError.TooGreat → most < capacity }
+    ensures within { OnOk result (capacity ≤ most) }
+    ensures memory { result ≡ Err ReserveError.Memory → capacity ≤ most }
+{
+    SecondaryMap::with_capacity(alloc, capacity)
+}
+
+/// It is the number of keys.
+/// Holds by `value` of `len`.
+pub fn len_counts_the_keys<K: Key, V: Drop>(table: &SecondaryMap<K, V>) -> usize
+    ensures { result ≡ map.len table.now.pairs }
+{
+    table.len()
+}
+
+/// It is true exactly where the map has no key.
+/// Refuses `is_empty_looks_for_one_key`: `value` of `is_empty`.
+pub fn is_empty_with_no_key<K: Key, V: Drop>(table: &SecondaryMap<K, V>) -> bool
+    ensures { IsTrue result ↔ (map.len table.now.pairs ≡ 0) }
+{
+    table.is_empty()
+}
+
+/// The keys fit, and index 0 doesn't count.
+/// Refuses `capacity_counts_index_0_too`: `value` and `valid` of `capacity`.
+pub fn capacity_is_the_largest_index<K: Key, V: Drop>(table: &SecondaryMap<K, V>) -> usize
+    ensures value { result ≡ table.now.capacity }
+    ensures fits { table.now.places ≤ result + 1 }
+{
+    table.capacity()
+}
+
+/// There is memory for the index then.
+/// Refuses `set_capacity_keeps_the_number_alone`: `sets` of `set_capacity`.
+pub fn set_capacity_makes_room<K: Key, V: Drop>(
+    table: &mut SecondaryMap<K, V>,
+    capacity: usize,
+) -> Result<(), ReserveError>
+    ensures { OnOk result (capacity ≤ table.new.capacity) }
+{
+    table.set_capacity(capacity)
+}
+
+/// Where there is memory already, it succeeds and changes nothing.
+/// Refuses `set_capacity_asks_where_there_is_memory`,
+/// `set_capacity_takes_memory_though_there_is_some`: `sets` of `set_capacity`.
+pub fn set_capacity_with_room_changes_nothing<K: Key, V: Drop>(
+    table: &mut SecondaryMap<K, V>,
+    capacity: usize,
+) -> Result<(), ReserveError>
+    ensures succeeds { capacity ≤ table.old.capacity → capacity ≤ most → IsOk result }
+    ensures unchanged { capacity ≤ table.old.capacity → table.new ≡ table.old }
+{
+    table.set_capacity(capacity)
+}
+
+/// Where it fails, nothing changes; it is `TooGreat` exactly above the limit.
+/// Refuses `set_capacity_takes_memory_and_says_too_great`: `sets` of `set_capacity`.
+pub fn failed_set_capacity_changes_nothing<K: Key, V: Drop>(
+    table: &mut SecondaryMap<K, V>,
+    capacity: usize,
+) -> Result<(), ReserveError>
+    ensures unchanged { OnErr result (table.new ≡ table.old) }
+    ensures above { result ≡ Err ReserveError.TooGreat → most < capacity }
+    ensures within { result ≡ Err ReserveError.Memory → capacity ≤ most }
+    ensures keeps { table.new.pairs ≡ table.old.pairs }
+{
+    table.set_capacity(capacity)
+}
+
+/// There is memory for the index then.
+/// Refuses `try_set_capacity_asks_for_half`: `sets` of `try_set_capacity`.
+pub fn try_set_capacity_makes_room<K: Key, V: Drop>(
+    table: &mut SecondaryMap<K, V>,
+    capacity: usize,
+) -> Result<(), ReserveError>
+    ensures { OnOk result (capacity ≤ table.new.capacity) }
+{
+    table.try_set_capacity(capacity)
+}
+
+/// Where there is memory already, it succeeds and changes nothing.
+/// Holds by `sets` of `try_set_capacity`.
+pub fn try_set_capacity_with_room_changes_nothing<K: Key, V: Drop>(
+    table: &mut SecondaryMap<K, V>,
+    capacity: usize,
+) -> Result<(), ReserveError>
+    ensures succeeds { capacity ≤ table.old.capacity → capacity ≤ most → IsOk result }
+    ensures unchanged { capacity ≤ table.old.capacity → table.new ≡ table.old }
+{
+    table.try_set_capacity(capacity)
+}
+
+/// Where it fails, nothing changes; it is `TooGreat` exactly above the limit.
+/// Holds by `sets` of `try_set_capacity`.
+pub fn failed_try_set_capacity_changes_nothing<K: Key, V: Drop>(
+    table: &mut SecondaryMap<K, V>,
+    capacity: usize,
+) -> Result<(), ReserveError>
+    ensures unchanged { OnErr result (table.new ≡ table.old) }
+    ensures above { result ≡ Err ReserveError.TooGreat → most < capacity }
+    ensures within { result ≡ Err ReserveError.Memory → capacity ≤ most }
+    ensures keeps { table.new.pairs ≡ table.old.pairs }
+{
+    table.try_set_capacity(capacity)
+}

@@ -1,0 +1,37 @@
+//! The iterator that takes the pairs out.
+
+ghost use Rattle.std.specs.FinMap as map;
+ghost use Rattle.std.specs.Prelude.{◌≡◌, ◌≤◌, Some, IfSome, IfNone};
+ghost use Rattle.slotmap_core.specs.Words.{get};
+
+use slotmap_core::keys::Key;
+use slotmap_sparse::SparseSecondaryMap;
+
+/// A drain that is dropped before it yields anything removes every key.
+/// Refuses `drain_leaves_the_rest`: `ends` of its drop, and `map` of `drain`.
+pub fn dropped_drain_leaves_no_key<K: Key, V: Drop>(table: &mut SparseSecondaryMap<K, V>)
+    ensures { table.new.pairs ≡ map.empty }
+{
+    table.drain();
+}
+
+/// It yields a key with its value, and nothing only where the map is empty. One that is dropped
+/// early removes every key.
+/// Refuses `drain_gives_another_version`: `next_gives`, `ends` of its drop, and `map` of `drain`.
+pub fn early_dropped_drain_leaves_no_key<K: Key, V: Drop>(
+    table: &mut SparseSecondaryMap<K, V>,
+) -> Option<(K, V)>
+    ensures some { IfSome result (λ pair. get table.old.pairs (K.data_of pair.0) ≡ Some pair.1) }
+    ensures none { IfNone result (table.old.pairs ≡ map.empty) }
+    ensures empty { table.new.pairs ≡ map.empty }
+{
+    table.drain().next()
+}
+
+/// No capacity is lost.
+/// Holds by `capacity` of its drop, and `map` of `drain`.
+pub fn dropped_drain_loses_no_capacity<K: Key, V: Drop>(table: &mut SparseSecondaryMap<K, V>)
+    ensures { table.old.capacity ≤ table.new.capacity }
+{
+    table.drain();
+}
