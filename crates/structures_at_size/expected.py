@@ -41,6 +41,16 @@ def both_ends(values):
             yield rest.pop()
 
 
+def twice(values):
+    """Each value by two calls."""
+    return [value for value in values for _ in range(2)]
+
+
+def with_ones(values):
+    """Each value with 1: it has the key that it should have."""
+    return [number for value in values for number in (value, 1)]
+
+
 def list_part(size):
     print(" list")
     random = Random(1)
@@ -82,7 +92,10 @@ def list_part(size):
     tell("moves", moves)
     written = set(cursors)
     value = {number: number + (number in written) for number in order}
+    value[order[0]] += 1
+    value[order[-1]] += 1
     tell("moved and written", [value[number] for number in order])
+    tell("ends", [value[order[0]], value[order[-1]], value[order[-1]], len(order)])
 
     order = [number for number in order if value[number] % 3 != 0]
     tell("retained", [value[number] for number in order])
@@ -96,14 +109,20 @@ def list_part(size):
     tell("removed", removed)
     left = [value[number] for number in live]
     tell("left", left)
+    tell("in the list", [int(number in live) for number in cursors])
+    # There is no number before the first one.
+    tell("by cursors", [number for pair in zip(left, [MASK] + left) for number in pair])
+    tell("from the second", twice(left[1:]))
     tell("cleared", [])
     tell("copied", both_ends(left))
 
     made = list(range(size)) * 2
     tell("appended", made * 2)
-    tell("popped", both_ends(made * 2))
+    tell("popped", with_ones(both_ends(made * 2)))
     tell("drained", [])
-    tell("drained", range(size))
+    # Three lists that were made empty, each in another way.
+    for _ in range(3):
+        tell("drained", with_ones(range(size)))
 
 
 class Graph:
@@ -154,6 +173,11 @@ class Graph:
                         yield self.edges[edge][2]
 
 
+def with_ends(edges):
+    """The ends of each edge, and its value, twice."""
+    return [number for start, end, value in edges for number in (start, end, value, value)]
+
+
 def graph_part(size):
     print(" graph")
     random = Random(2)
@@ -170,8 +194,8 @@ def graph_part(size):
     for node in nodes:
         graph.add_edge(hub, node, node)
     tell("built", graph.seen(nodes))
-    tell("edges", [number for edge in graph.edges.values() for number in edge])
-    tell("nodes", graph.value.values())
+    tell("edges", with_ends(graph.edges.values()))
+    tell("nodes", twice(graph.value.values()))
 
     for edge in graph.out[hub]:
         graph.edges[edge][2] += 1
@@ -180,16 +204,20 @@ def graph_part(size):
         tell("beside", graph.ends_of(node) + [graph.edges[edge][0] for edge in graph.into[node]])
         edges = [graph.edges[edge] for edge in [*graph.out[node], *graph.into[node]]]
         tell("along", [value for _, _, value in edges])
-        tell("with ends", [number for edge in edges for number in edge])
+        into = [graph.edges[edge][2] for edge in graph.into[node]]
+        tell("from back", [len(into)] + into[::-1])
+        tell("with ends", with_ends(edges))
         tell("reachable", graph.reachable(node))
     # A path leads through all nodes, so that they have one order.
     order = range(size, -1, -1)
     tell("in order", order)
     tell("in a cycle", [size, 1])
+    # An edge from the last node to itself, from which all but the hub are reachable.
+    tell("in a cycle", [size, 1])
     tell("in order", order)
     tell("found", [random.pick(nodes) + 1 for _ in range(10)])
 
-    graph.next_edge += 1
+    graph.next_edge += 2
     edges = list(graph.edges)
     for node in nodes:
         graph.value[node] += 1
@@ -209,6 +237,8 @@ def graph_part(size):
     tell("removed nodes", removed + [len(graph.edges)])
     left = list(graph.seen(nodes))
     tell("left", left)
+    tell("by keys", list(graph.value.values()) + [value for _, _, value in graph.edges.values()])
+    tell("live", [int(node in graph.value) for node in nodes] + [int(edge in graph.edges) for edge in edges])
     for edge in list(graph.out[hub]):
         graph.remove_edge(edge)
     tell("without the hub", graph.seen(nodes))
@@ -291,6 +321,27 @@ def wide_part(size):
     wide = [value[node] for node in order if node not in roots]
     tell("wide", wide)
     tell("by links", wide)
+    order = [node for node in order if node not in roots]
+    tell("by steps", [value[node] for node in order + order[::-1]])
+    moves = []
+    for turn in range(min(size, 1000)):
+        node, sibling = random.pick(nodes), random.pick(nodes)
+        # A root has no siblings, but may become one of others.
+        can = node != sibling and sibling not in roots if turn % 4 < 2 else node not in roots
+        moves.append(int(can))
+        if not can:
+            continue
+        if node in roots:
+            roots.remove(node)
+        else:
+            order.remove(node)
+        if turn % 4 < 2:
+            order.insert(order.index(sibling) + 1 - turn % 4, node)
+        else:
+            order.insert(0 if turn % 4 == 2 else len(order), node)
+    tell("moves beside", moves)
+    tell("by steps", [value[node] for node in order + order[::-1]])
+    tell("children", [value[node] for node in order])
 
 
 def deep_part(size):
@@ -336,6 +387,10 @@ def chance_part(size):
             removed.append(scene.remove(node))
     tell("removed", removed + [len(scene.value)])
     tell("left", scene.seen())
+    # There is no number above a root.
+    above = [MASK if scene.parent[node] is None else scene.value[scene.parent[node]] for node in scene.value]
+    tell("by keys", [*scene.value.values(), *above])
+    tell("live", [int(node in scene.value) for node in nodes] + [len(scene.value)] * 3)
     tell("cleared", [])
 
 
@@ -344,7 +399,8 @@ def scene_part(size):
     wide_part(size)
     deep_part(size)
     chance_part(size)
-    print(f"  world: {1 + 3 * size}, {2 - 4 * size}")
+    for what in "world", "world transform":
+        print(f"  {what}: {1 + 3 * size}, {2 - 4 * size}")
     places = []
     for depth in range(size + 1):
         places += [1 + 3 * depth, abs(2 - 4 * depth)]
@@ -399,7 +455,10 @@ def scheduler_part(size):
     random, jobs, handles = Random(5), Jobs(), []
     schedule_all(jobs, handles, random, 0, size)
     tell("scheduled", jobs.seen())
-    tell("listed", [jobs.turn[job][0] for job in sorted(jobs.turn)] + [jobs.value[job] for job in sorted(jobs.turn)])
+    times = [jobs.turn[job][0] for job in sorted(jobs.turn)]
+    values = [jobs.value[job] for job in sorted(jobs.turn)]
+    by_handle = [number for time, value in zip(times, values) for number in (time, value, value)]
+    tell("listed", times + values + by_handle)
     for _ in range(size):
         job = random.pick(handles)
         jobs.put(job, random.draw() % 1000)
@@ -414,27 +473,37 @@ def scheduler_part(size):
         jobs.value[job] += 1
     tell("written", jobs.seen())
     due = []
-    while (value := jobs.pop(250)) is not None:
-        due.append(value)
-        if jobs.next() is not None:
-            due.append(jobs.next()[0])
+    while jobs.next() is not None:
+        time, _, job = jobs.next()
+        due += [time, jobs.value[job]]
+        if (value := jobs.pop(250)) is None:
+            break
+        due += [value, 1]
     tell("due", due)
     schedule_all(jobs, handles, random, size, size // 2)
-    tell("all due", all_due(jobs, 500))
+    # No job has the handle of one that was taken out.
+    tell("all due", [number for value in all_due(jobs, 500) for number in (value, MASK)])
     tell("left", jobs.seen())
+    tell("waiting", [len(jobs.turn)] * 3 + [int(job in jobs.turn) for job in handles])
     tell("cleared", [])
     in_order = sorted(jobs.turn, key=jobs.turn.get)
-    tell("in order", [number for job in in_order for number in (jobs.turn[job][0], jobs.value[job])])
+    tell("in order", [n for job in in_order for n in (jobs.turn[job][0], jobs.value[job], jobs.value[job])])
     retained, drained = [], []
     for job in sorted(jobs.turn):
         time, turn = jobs.turn[job]
         value = (jobs.value[job] + time) & MASK
         if value % 3 != 0:
             retained += [time, value]
-            drained.append((time, turn, value))
+            drained.append((time, turn, value, jobs.value[job]))
     tell("retained", retained)
-    tell("drained", [number for time, _, value in sorted(drained) for number in (time, value)])
-    tell("copied", all_due(jobs, 1000))
+    tell("drained", [number for time, _, *values in sorted(drained) for number in (time, *values)])
+    with_times = []
+    for turn in range(len(jobs.turn) // 4 * 2):
+        if jobs.next() is not None and (turn % 2 == 0 or jobs.next()[0] <= 700):
+            time = jobs.next()[0]
+            with_times += [time, *[jobs.pop(time)] * 2]
+    tell("with times", with_times)
+    tell("copied", twice(all_due(jobs, 1000)))
 
 
 def world_part(size):
@@ -443,15 +512,20 @@ def world_part(size):
     keys = range(size)
     # The entities in packed order, where each of them is, and their components.
     packed, place = list(keys), {key: key for key in keys}
+    number = {key: key for key in keys}
     first = {key: key * 2 for key in keys if key % 2 == 0}
     second = {key: key * 3 for key in keys if key % 3 == 0}
 
+    def joined(packed, *tables):
+        """Each entity that is in these tables, with its components."""
+        keys = [key for key in packed if all(key in table for table in tables)]
+        return [n for key in keys for n in (number[key], *(table[key] for table in tables))]
+
     def tell_all(packed):
-        tell("entities", packed)
-        tell("first components", [first[key] for key in packed if key in first])
-        tell("second components", [second[key] for key in packed if key in second])
-        pairs = [(first[key], second[key]) for key in packed if key in first and key in second]
-        tell("both", [component for pair in pairs for component in pair])
+        tell("entities", [number[key] for key in packed])
+        tell("first components", joined(packed, first))
+        tell("second components", joined(packed, second))
+        tell("both", joined(packed, first, second))
 
     tell_all(packed)
     tell("by key", [table[key] for key in keys if key in first and key in second for table in (first, second)])
@@ -459,7 +533,7 @@ def world_part(size):
     for _ in range(size // 2):
         key = random.pick(keys)
         if key in place:
-            despawned.append(key)
+            despawned += [key] + [table[key] for table in (first, second) if key in table]
             at, last = place.pop(key), packed.pop()
             if last != key:
                 packed[at], place[last] = last, at
@@ -468,20 +542,33 @@ def world_part(size):
     detached = [second.pop(key, None) for key in (random.pick(keys) for _ in range(size // 2))]
     tell("detached", [component for component in detached if component is not None])
     first = {key: value + 1 for key, value in first.items() if (value + 1) % 4 != 0}
-    tell("three", [n for key in packed if key in first and key in second for n in (first[key], second[key], first[key])])
-    tell("without the first", [second[key] for key in packed if key in second and key not in first])
+    tell("three", joined(packed, first, second, first))
+    tell("without the first", joined([key for key in packed if key not in first], second))
     for key in packed:
         if key in first and key in second:
             first[key] += second[key]
-    tell("moved", [first[key] for key in packed if key in first])
-    for key in range(size, size + size // 2):
+    tell("moved", joined(packed, first))
+    number = {key: key + 1 for key in packed}
+    values = [number[key] for key in packed]
+    tell("by keys", values + twice(values) + values)
+    tell("live", [int(key in place) for key in keys])
+    for what, table in ("first", first), ("second", second):
+        # Whether there is a component, twice, and the component.
+        tell(f"{what} by key", [n for key in keys for n in ((1, 1, table[key]) if key in table else (0, 0))])
+    keys = range(size + 1 + size // 2)
+    # The first of these has no component.
+    for key in keys[size:]:
         packed.append(key)
-        first[key], second[key] = key * 2, key * 3
+        number[key] = key
+        if key != size:
+            first[key], second[key] = key * 2, key * 3
     replaced = []
-    for key in range(size + size // 2):
+    for key in keys:
         if key in first and key in second:
             replaced += [first[key], second[key]]
             first[key], second[key] = first[key] + 1, second[key] + 1
+        else:
+            replaced.append(1)
     tell("replaced", replaced)
     tell_all([])
     tell_all(packed)

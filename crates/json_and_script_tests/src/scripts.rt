@@ -9,7 +9,6 @@ mod streams;
 
 use slotmap_script::run_script;
 use std::alloc::{AllocError, Global};
-use std::io::BufWriter;
 use std::test::Fail;
 
 // The words that a program was started with.
@@ -22,11 +21,11 @@ fn list(alloc: Global, words: &[&str]) -> Result<Vec<String>, AllocError> {
 }
 
 // The status and the output of a script.
-fn outcome(alloc: Global, words: &[&str], script: &[u8]) -> Result<(Option<u8>, String), Fail> {
+fn outcome(alloc: Global, words: &[&str], script: &[u8]) -> Result<(u8, String), Fail> {
     let words = list(alloc, words)?;
     let mut input = script;
-    let output = BufWriter::new(alloc, Vec::new(alloc))?;
-    let (status, output) = run_script(alloc, &words, &mut input, output);
+    let mut output = Vec::new(alloc);
+    let status = run_script(alloc, &words, &mut input, &mut output);
     let text = String::from_str(alloc, str::from_utf8(&output)?)?;
     Ok((status, text))
 }

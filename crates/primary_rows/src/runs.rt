@@ -183,7 +183,6 @@ fn run_steps<'a, M, C: Runner<'a, M>>(
 
 /// The commands of a row, run as those of type `C`, and the map of its last run. `looks` gives how
 /// often that run called `look`.
-#[derive(Drop)]
 pub struct Runs<'a, M, C> {
     supply: Supply<'a>,
     steps: Vec<Step>,
@@ -191,6 +190,18 @@ pub struct Runs<'a, M, C> {
     // The reply after two runs.
     again: String,
     commands: PhantomData<C>,
+}
+
+impl<'a, M: Drop, C> Drop for Runs<'a, M, C> {
+    fn drop(self) {
+        let Runs {
+            supply: _supply,
+            steps: _steps,
+            map: _map,
+            again: _again,
+            commands: _commands,
+        } = self;
+    }
 }
 
 impl<'a, M: Drop, C: Runner<'a, M>> Runs<'a, M, C> {

@@ -1,4 +1,4 @@
-//! Words of a call's list.
+//! Reads the pair that a word of a row's call names.
 
 use slotmap::DefaultKey;
 use slotmap_rows::Word;

@@ -59,7 +59,8 @@ fn write_told(reply: &mut String, told: Told) -> Result<(), Stop> {
     Ok(())
 }
 
-fn write_entry_key(reply: &mut String, key: Option<DefaultKey>) -> Result<(), Stop> {
+/// Writes a key, or that there is none.
+pub fn write_entry_key(reply: &mut String, key: Option<DefaultKey>) -> Result<(), Stop> {
     match key {
         Some(key) => write_key(reply, key)?,
         None => reply.push_str("none")?,

@@ -51,7 +51,8 @@
 //!   exchanges the value, `entry_into_mut KEY`, which doubles it, `entry_remove KEY` and
 //!   `entry_remove_entry KEY`: the value before, or `not occupied`.
 //!
-//! Plain maps have `insert`, `get`, `len`, `or_default KEY` and `extend_refs PAIR ..`.
+//! Plain maps have `insert`, `get`, `len`, `or_default KEY` and `extend_refs PAIR ..`. Those of a
+//! `SecondaryMap` have `key_at N` too.
 //!
 //! # Runs
 //!

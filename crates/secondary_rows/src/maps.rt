@@ -6,12 +6,22 @@ use slotmap_rows_secondary::Held;
 use std::mem;
 
 /// The map of a row, and the map set beside it.
-#[derive(Drop)]
 pub struct Maps<'a, M, H> {
     pub supply: Supply<'a>,
     pub hasher: H,
     pub map: M,
     pub other: Option<M>,
+}
+
+impl<'a, M: Drop, H: Drop> Drop for Maps<'a, M, H> {
+    fn drop(self) {
+        let Maps {
+            supply: _supply,
+            hasher: _hasher,
+            map: _map,
+            other: _other,
+        } = self;
+    }
 }
 
 impl<'a, M: Held<'a, H> + Secondary<DefaultKey, Number<'a>> + Clone, H: Copy> Maps<'a, M, H> {

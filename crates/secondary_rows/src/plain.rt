@@ -1,6 +1,7 @@
-//! Calls that ask more of the values: `or_default` and `extend_refs`, on maps of plain numbers.
+//! Calls on maps of plain numbers: `or_default` and `extend_refs`, which ask more of the values, and `key_at`.
 
 use crate::call::read_pair;
+use crate::entered::write_entry_key;
 use crate::fresh::Fresh;
 use slotmap::{DefaultKey, OutOfMemory, Secondary, SecondaryMap, SparseSecondaryMap};
 use slotmap_rows::{Call, Outcome, Stop, Subject, Supply, Word, Words};
@@ -13,6 +14,9 @@ pub trait Plain: Secondary<DefaultKey, u64> + Fresh + Drop {
 
     /// `extend_refs`.
     fn put_refs(&mut self, pairs: &[(DefaultKey, u64)]) -> Result<(), (DefaultKey, u64)>;
+
+    /// `key_at`: the key at an index, if there is one. `None` if the map has no such call.
+    fn find_key(&self, index: usize) -> Option<Option<DefaultKey>>;
 }
 
 impl Plain for SecondaryMap<DefaultKey, u64> {
@@ -26,6 +30,10 @@ impl Plain for SecondaryMap<DefaultKey, u64> {
     fn put_refs(&mut self, pairs: &[(DefaultKey, u64)]) -> Result<(), (DefaultKey, u64)> {
         self.extend_refs(pairs.iter().map(|pair| (pair.0, &pair.1)))
     }
+
+    fn find_key(&self, index: usize) -> Option<Option<DefaultKey>> {
+        Some(self.key_at(index))
+    }
 }
 
 impl Plain for SparseSecondaryMap<DefaultKey, u64> {
@@ -38,6 +46,10 @@ impl Plain for SparseSecondaryMap<DefaultKey, u64> {
 
     fn put_refs(&mut self, pairs: &[(DefaultKey, u64)]) -> Result<(), (DefaultKey, u64)> {
         self.extend_refs(pairs.iter().map(|pair| (pair.0, &pair.1)))
+    }
+
+    fn find_key(&self, _: usize) -> Option<Option<DefaultKey>> {
+        None
     }
 }
 
@@ -67,6 +79,10 @@ impl<'a, M: Plain> Subject for PlainMap<'a, M> {
     fn call(&mut self, call: &Call<'_>, list: &[Word], reply: &mut String) -> Result<(), Stop> {
         let outcome = match (call.name, call.words) {
             ("extend_refs", _) => return extend_refs(self.supply, &mut self.map, list),
+            ("key_at", Words::Number(index)) => match self.map.find_key(index as usize) {
+                Some(key) => return write_entry_key(reply, key),
+                None => return Err(Stop::Unknown),
+            },
             ("or_default", Words::Key(key)) => Outcome::Value(self.map.put_default(key)?),
             ("insert", Words::Put(key, value)) => match self.map.insert(key, value) {
                 Ok(before) => Outcome::Value(before),

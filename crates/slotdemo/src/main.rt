@@ -179,15 +179,21 @@ fn from_dawn(
 
 // A log lies on the pond.
 fn with_log(rt: &HostRuntime, pond: &mut Pond, first: NodeKey, second: NodeKey) -> Option<()> {
-    reach(rt, pond, first)?;
     let mut log = Log::new(rt.alloc())?;
     from_dawn(rt, pond, &mut log, first, second)
 }
 
+// Three stones lie in the pond, and a log.
+fn with_stones(rt: &HostRuntime, pond: &mut Pond) -> Option<()> {
+    let (first, second) = pond.lay_three()?;
+    reach(rt, pond, first)?;
+    with_log(rt, pond, first, second)
+}
+
 // A morning at the pond.
 fn morning(rt: &HostRuntime) -> Option<()> {
-    let (mut pond, first, second) = Pond::new(rt.alloc())?;
-    with_log(rt, &mut pond, first, second)
+    let mut pond = Pond::new(rt.alloc())?;
+    with_stones(rt, &mut pond)
 }
 
 fn main(rt: HostRuntime) -> ExitCode {

@@ -17,13 +17,15 @@ type Tables = (
     (SecondaryMap<DefaultKey, Cursor>, ()),
 );
 
+type Animals = World<DefaultKey, Animal, Tables>;
+
 // The stones by their numbers.
 type Stones = Graph<NodeKey, u32, ()>;
 
 /// Animals on stones, who sing in the order in which they came.
 #[derive(Drop)]
 pub struct Pond {
-    animals: World<DefaultKey, Animal, Tables>,
+    animals: Animals,
     stones: Stones,
     choir: StableList<Cursor, Animal>,
 }
@@ -35,37 +37,49 @@ fn next_stone(stones: &Stones, from: NodeKey) -> Option<NodeKey> {
     Some(to)
 }
 
-// One more stone.
-fn stone(stones: &mut Stones, number: u32) -> Option<NodeKey> {
-    stones.add_node(number).ok()
-}
-
-// Three more stones, each one hop from the next. The last is one hop from the first. Returns two.
-fn three_stones(stones: &mut Stones) -> Option<(NodeKey, NodeKey)> {
-    let first = stone(stones, 1)?;
-    let second = stone(stones, 2)?;
-    let third = stone(stones, 3)?;
-    for (from, to) in [(first, second), (second, third), (third, first)] {
-        stones.add_edge(from, to, ()).ok()?;
-    }
-    Some((first, second))
-}
-
 impl Pond {
-    // A pond without stones.
-    fn bare(alloc: Global) -> Option<Pond> {
-        Some(Pond {
-            animals: World::new(alloc).ok()?,
-            stones: Graph::new(alloc).ok()?,
-            choir: StableList::new(alloc).ok()?,
-        })
+    // A pond of these animals and stones, in which nobody sings.
+    fn silent(alloc: Global, animals: Animals, stones: Stones) -> Option<Pond> {
+        match StableList::new(alloc) {
+            Ok(choir) => Some(Pond {
+                animals,
+                stones,
+                choir,
+            }),
+            Err(_) => None,
+        }
     }
 
-    /// Makes a pond with no animal, and returns its first two stones too.
-    pub fn new(alloc: Global) -> Option<(Pond, NodeKey, NodeKey)> {
-        let mut pond = Pond::bare(alloc)?;
-        let (first, second) = three_stones(&mut pond.stones)?;
-        Some((pond, first, second))
+    // A pond of these stones, without animals.
+    fn of_stones(alloc: Global, stones: Stones) -> Option<Pond> {
+        match World::new(alloc) {
+            Ok(animals) => Pond::silent(alloc, animals, stones),
+            Err(_) => None,
+        }
+    }
+
+    /// Makes a pond without stones and animals.
+    pub fn new(alloc: Global) -> Option<Pond> {
+        match Graph::new(alloc) {
+            Ok(stones) => Pond::of_stones(alloc, stones),
+            Err(_) => None,
+        }
+    }
+
+    /// Lays three more stones, each one hop from the next. The last is one hop from the first. Returns two of them.
+    pub fn lay_three(&mut self) -> Option<(NodeKey, NodeKey)> {
+        let first = self.lay(1)?;
+        let second = self.lay(2)?;
+        let third = self.lay(3)?;
+        for (from, to) in [(first, second), (second, third), (third, first)] {
+            self.stones.add_edge(from, to, ()).ok()?;
+        }
+        Some((first, second))
+    }
+
+    // Lays one more stone.
+    fn lay(&mut self, number: u32) -> Option<NodeKey> {
+        self.stones.add_node(number).ok()
     }
 
     /// How many animals there are.
@@ -87,18 +101,19 @@ impl Pond {
     /// An animal comes to a stone, and sings last.
     pub fn welcome(&mut self, animal: Animal, stone: NodeKey) -> Option<DefaultKey> {
         let voice = self.choir.push_back(animal).ok()?;
-        let key = self.animals.spawn(animal).ok()?;
-        self.animals.attach::<Stone>(key, stone).ok()?;
-        self.animals.attach::<Voice>(key, voice).ok()?;
-        Some(key)
+        let key = self
+            .animals
+            .spawn_with_both::<Stone, Voice>(animal, stone, voice);
+        key.ok()
     }
 
     /// An animal hops to the next stone. Returns who it was, with the numbers of both stones.
     pub fn hop(&mut self, key: DefaultKey) -> Option<(Animal, u32, u32)> {
         let animal = *self.animals.get(key)?;
-        let from = *self.animals.component::<Stone>(key)?;
+        let stone = self.animals.component_mut::<Stone>(key)?;
+        let from = *stone;
         let to = next_stone(&self.stones, from)?;
-        self.animals.attach::<Stone>(key, to).ok()?;
+        *stone = to;
         Some((animal, self.number(from)?, self.number(to)?))
     }
 

@@ -4,7 +4,7 @@ use Rattle.std.proofs.Common.{ap, arith}
 use Rattle.std.specs.{Ordering.nat_cmp, Cmp.nat_cmp_total}
 use Rattle.slotmap.specs.Words.{Key, key_cmp, Content, IsContent, IsLive, IsNew, Inserts, Removes, MakesRoom, StaysValid, IsCloneBy, is_last, places, used, with_value}
 use Rattle.slotmap.proofs.Callers.{clone_len, inserted_len, get-insert_here, leaves_by_removal, len_removed, keys_total, exact_keys}
-use Rattle.slotmap_keylist.proofs.{Alone.alone-written, Alone.same_live, Shown.shown_content}
+use Rattle.slotmap_bounded.proofs.{Alone.alone-written, Alone.same_live, Shown.shown_content}
 use Rattle.slotmap_bounded.specs.Bounded.{IsBounded, bounded}
 use Rattle.std.specs.FinMap as map
 use Rattle.std.specs.FinSet as set

@@ -5,8 +5,8 @@ use Rattle.std.specs.{Option.option_map, List.find, List.list_any, Ordering.eq_b
 use Rattle.std.proofs.lemmas.List.{map-append}
 use Rattle.slotmap.specs.Words.{Key, key_cmp, Content, Inserts, IsContent, IsLive, null_key}
 use Rattle.slotmap.proofs.Callers.{exact_keys, get-insert_other, itself, keys_total, same_or_other, tied}
-use Rattle.slotmap_keylist.specs.KeyLists.{is_key, last_or, same, times, without}
-use Rattle.slotmap_keylist.proofs.Counts.{is_itself, is_other, one_other, times_first}
+use Rattle.slotmap_bounded.specs.KeyLists.{is_key, last_or, same, times, without}
+use Rattle.slotmap_bounded.proofs.Counts.{is_itself, is_other, one_other, times_first}
 use Rattle.slotmap_links.specs.Lists.{times as often, without as without_number, first_or, last_or as last_number}
 use Rattle.slotmap_links.proofs.Counts.{times_first as often_first, times_joined as often_joined, one_itself as number_itself, is_other as other_number, same as same_number}
 use Rattle.slotmap_bounded.specs.Indices.{AreApart, AreIndices, HasKey, HaveIndices, found_at, key_at, keys_at}

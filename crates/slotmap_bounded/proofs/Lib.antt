@@ -1,2 +1,9 @@
+pub mod Alone
 mod Bounds
+pub mod Changed
+pub mod Counts
 pub mod Indices
+pub mod Linking
+pub mod MapKeys
+pub mod Mapped
+pub mod Shown

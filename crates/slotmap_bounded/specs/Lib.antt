@@ -1,3 +1,6 @@
 pub mod Bounded
+pub mod Changed
 pub mod Indices
+pub mod KeyLists
 pub mod Lends
+pub mod Mapped

@@ -27,8 +27,11 @@ ghost use Rattle.std.specs.Option.{option_copied_mut};
 ghost use Rattle.slotmap.specs.Words.{Key as KeyOf, IsContent, IsCloneBy, IsLive, IsNew, Inserts, Leaves, MakesRoom, RefusesCapacity, Removes, StaysValid, is_last, most, places, used};
 ghost use Rattle.slotmap_bounded.specs.Bounded.{capacity_with, grown as grown_by};
 
+mod keys;
+
+pub use keys::{inner, outer};
 use slotmap::basic::{Iter, Keys};
-use slotmap::{Key, ReserveError, SlotMap};
+use slotmap::{Key, ReserveError, SlotMap, rule_out};
 use std::alloc::{AllocError, Global};
 use std::fmt;
 use std::marker::Model;
@@ -43,11 +46,20 @@ const FEW: usize = 4;
 ///
 /// A clause sees the content of the map, where `room` is what was promised. The live, detached and
 /// retired keys and the room together are the `capacity`.
-#[derive(Drop)]
 pub struct BoundedMap<K, V> {
     map: SlotMap<K, V>,
     room: usize,
     capacity: usize,
+}
+
+impl<K, V: Drop> Drop for BoundedMap<K, V> {
+    fn drop(self) {
+        let BoundedMap {
+            map: _map,
+            room: _room,
+            capacity: _capacity,
+        } = self;
+    }
 }
 
 impl<K, V> Model for BoundedMap<K, V> {
@@ -72,18 +84,6 @@ fn freed<K: Key>(key: K) -> usize
         return 0;
     }
     1
-}
-
-// Rules out a case that is proved impossible. An impossible write, beyond every slice, stands there: LLVM
-// knows that no such write runs, and drops the test.
-#[inline(always)]
-fn exclude(case: bool)
-    requires { case ≡ false }
-{
-    if case {
-        let nowhere: &mut [u8] = &mut [];
-        nowhere[1 << 64] = 0;
-    }
 }
 
 // For how many more keys room is made where it is asked for so many.
@@ -258,7 +258,7 @@ impl<K: Key, V: Drop> BoundedMap<K, V> {
                 key
             }
             Err(_) => {
-                exclude(true);
+                rule_out(true);
                 unreachable!()
             }
         }
@@ -365,7 +365,7 @@ impl<K: Key, V: Drop> BoundedMap<K, V> {
         match self.map.key_at(index) {
             Some(key) => key,
             None => {
-                exclude(true);
+                rule_out(true);
                 unreachable!()
             }
         }
@@ -384,7 +384,7 @@ impl<K: Key, V: Drop> BoundedMap<K, V> {
     pub fn note_live(&self, key: K)
         requires { IsLive self.now (K.data_of key) }
     {
-        exclude(!self.map.contains_key(key));
+        rule_out(!self.map.contains_key(key));
     }
 
     /// Returns the value of a key, or `None` if the key isn't live. Constant time.

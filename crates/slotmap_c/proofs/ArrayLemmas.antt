@@ -28,3 +28,8 @@ all_written pairs n a b none at in_a in_b =
     let left : length pairs - n ≡ 0 = sym (length-drop n pairs) ∙ ap length none in
     let all : n ≡ length pairs = omega arith in
     omega arith
+
+pub all_written_keys : {P : Type 0} (pairs : List P) (n a : ℕ) → drop n pairs ≡ [] → n ≤ length pairs → n ≤ a → n ≡ min a (length pairs)
+all_written_keys pairs n a none at in_a =
+    let left : length pairs - n ≡ 0 = sym (length-drop n pairs) ∙ ap length none in
+    omega arith

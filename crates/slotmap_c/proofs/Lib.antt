@@ -1,6 +1,9 @@
 mod AboveLemmas
 mod ArrayLemmas
 mod ClosedLemmas
+mod Crossing
+mod GuardLemmas
+mod KeysValues
 mod SideLemmas
 mod SideValues
 mod Values

@@ -1,7 +1,8 @@
 -- How the handle of a side table lies in the machine, as `Values` has it of a map's. Assumes `Logic`.
 use Rattle.std.proofs.Common.{◌≡◌, List, [], ◌∷◌, ◌++◌, refl, subst}
 use Rattle.slotmap_c.proofs.Values.{word}
-use Rattle.slotmap_c.specs.Side.{side_held}
+use Rattle.slotmap_c.specs.Held.{holds}
+use Rattle.slotmap_c.specs.Side.{Side, no_side}
 use seplogic.Ra.Ura.{Ura}
 use mir.Val.{Val, vstruct, of_list}
 use types.Logic.{Logic}
@@ -18,13 +19,13 @@ abbrev pub SideRow : RattleType
 SideRow = handle.the_row
 
 module _ {M : Type 1} {𝓤 : Ura M} {𝓛 : Logic 𝓤} {K : Type 0} {Γ : List (Item 𝓤)} {G : Goal 𝓤 𝓛.H} where
-  pub side_out : K → (h : SideRow.Denot) (vs : List Val) → (vs ≡ word h.at ∷ [] → Seq K 𝓛 (‵ (side_held h.at h.is_open h.side) ∷ Γ) G)
+  pub side_out : K → (h : SideRow.Denot) (vs : List Val) → (vs ≡ word h.at ∷ [] → Seq K 𝓛 (‵ (holds Side no_side h.at h.is_open h.side) ∷ Γ) G)
       → Seq K 𝓛 (‵ (SideRow.own_val h vs) ∷ Γ) G
   side_out t h vs next =
       fsplit t $ fpick t (λ parts. fsplit t $ feq_l t (λ whole. fsplit t $ feq_l t (λ first. drop t $
       next (subst (λ (us : List Val). vs ≡ vstruct (of_list (us ++ [])) ∷ []) first whole))))
 
-  pub side_in : K → (h : SideRow.Denot) → Step K 𝓛 (‵ (SideRow.own_val h (word h.at ∷ [])) ∷ Γ) G (‵ (side_held h.at h.is_open h.side) ∷ Γ) G
+  pub side_in : K → (h : SideRow.Denot) → Step K 𝓛 (‵ (SideRow.own_val h (word h.at ∷ [])) ∷ Γ) G (‵ (holds Side no_side h.at h.is_open h.side) ∷ Γ) G
   side_in t h = step (λ s.
       nothing t $ feq_i t (List Val) (ptr_val h.at ∷ []) (ptr_val h.at ∷ []) refl $ fjoin t $
       feq_i t (List Val) (word h.at ∷ []) (word h.at ∷ []) refl $ fjoin t $

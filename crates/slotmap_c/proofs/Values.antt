@@ -3,21 +3,23 @@
 --     word, pair                      the machine value of a handle, and of a pointer beside an allocator
 --     handle_out, handle_in           a handle is its word and what it holds
 --     testable                        a pointer whose block may be freed can be compared with null
+--     tests                           the pointer of a handle is null where it is closed
 --     unboxed_out, unboxed_in         a box that was taken apart is its pair, the block and the allocator
 --     tuple_out                       so is the tuple that the library takes it apart into
-use Rattle.std.proofs.Common.{◌≡◌, List, [], ◌∷◌, ◌++◌, refl, ap, subst, lit<}
+use Rattle.std.proofs.Common.{◌≡◌, not, List, [], ◌∷◌, ◌++◌, refl, ap, subst, lit<}
 use Rattle.core.specs.declared.alloc.Allocator.{Ghosts}
 use Rattle.std_alloc.specs.Box.Ownership.{box_owns}
 use Rattle.core.specs.Ptr.{points_to}
 use Rattle.std.proofs.GlobalToken.{dealloc_token-Testable}
-use Rattle.slotmap_c.specs.Held.{held, may_free}
+use Rattle.slotmap_c.specs.Held.{Map, holds, may_free, nothing as none_held}
 use mathlib.Core.Bool.{Bool, true, false, ◌&&◌}
 use lib.Dec.{T}
 use seplogic.Ra.Ura.{Ura}
-use mir.Syntax.{Ty, tcons, tnil, ty_ptr, ty_struct}
+use mir.Syntax.{Ty, ptr_eq, tcons, tnil, ty_ptr, ty_struct}
 use mir.Raw.{raw as bare}
-use mir.Val.{Val, vstruct, vcons, vnil, of_list, has_ty, WT}
-use base.Logic.{via, snd∗, guard_i}
+use mir.Val.{Val, vbool, vnull, op2_val, vstruct, vcons, vnil, of_list, has_ty, WT}
+use base.Fml.{ftrue}
+use base.Logic.{never, never_e, via, fst∗, snd∗, guard_i}
 use types.Logic.{Logic, sem}
 use contract.Monad.{fact_use}
 use types.Kit.{Item, Goal, Seq, Step, step, ‵, ◌$◌, use1, given, learn, move, drop, fsplit, fjoin, fpick, fpack, rewrite, feq_i, feq_l}
@@ -27,7 +29,7 @@ use denote.Laws.{Is, Typed, shows}
 use denote.Memory.{lone}
 use denote.Param.{layout}
 use denote.Param.Laws.{Laws}
-use denote.RawPtr.{Ptr, block_ptr, null_ptr, ptr_val, Testable}
+use denote.RawPtr.{Ptr, InBlock, block_ptr, null_ptr, ptr_val, Testable}
 use denote.Steps.{nothing, peeks, only}
 use denote.Struct.Struct.{within}
 use denote.Struct.Owning.{shape}
@@ -72,13 +74,13 @@ abbrev pub Row : RattleType
 Row = handle.the_row
 
 module _ {M : Type 1} {𝓤 : Ura M} {𝓛 : Logic 𝓤} {K : Type 0} {Γ : List (Item 𝓤)} {G : Goal 𝓤 𝓛.H} where
-  pub handle_out : K → (h : Row.Denot) (vs : List Val) → (vs ≡ word h.at ∷ [] → Seq K 𝓛 (‵ (held h.at h.is_open h.map) ∷ Γ) G)
+  pub handle_out : K → (h : Row.Denot) (vs : List Val) → (vs ≡ word h.at ∷ [] → Seq K 𝓛 (‵ (holds Map none_held h.at h.is_open h.map) ∷ Γ) G)
       → Seq K 𝓛 (‵ (Row.own_val h vs) ∷ Γ) G
   handle_out t h vs next =
       fsplit t $ fpick t (λ parts. fsplit t $ feq_l t (λ whole. fsplit t $ feq_l t (λ first. drop t $
       next (subst (λ (us : List Val). vs ≡ vstruct (of_list (us ++ [])) ∷ []) first whole))))
 
-  pub handle_in : K → (h : Row.Denot) → Step K 𝓛 (‵ (Row.own_val h (word h.at ∷ [])) ∷ Γ) G (‵ (held h.at h.is_open h.map) ∷ Γ) G
+  pub handle_in : K → (h : Row.Denot) → Step K 𝓛 (‵ (Row.own_val h (word h.at ∷ [])) ∷ Γ) G (‵ (holds Map none_held h.at h.is_open h.map) ∷ Γ) G
   handle_in t h = step (λ s.
       nothing t $ feq_i t (List Val) (ptr_val h.at ∷ []) (ptr_val h.at ∷ []) refl $ fjoin t $
       feq_i t (List Val) (word h.at ∷ []) (word h.at ∷ []) refl $ fjoin t $
@@ -93,6 +95,16 @@ module _ {M : Type 1} {𝓤 : Ura M} {𝓛 : Logic 𝓤} {K : Type 0} {Γ : List
       (via 𝓤 (sem 𝓛 (may_free τ p)) (snd∗ 𝓤 (sem 𝓛 (points_to R p x)) (sem 𝓛 (may_free τ p)))
       (dealloc_token-Testable 𝓛 (record { memory = record { seal = tt } }) τ p))
       (λ may. guard_i 𝓤 (Testable p) (sem 𝓛 (box_owns may_free R p x)) may)) $ learn t next
+
+  -- whether a handle is closed is asked of its pointer, and a closed one shows `none`
+  pub tests : K → (R : RattleType) (none : R.Denot) (p : Ptr) (y : Bool) (x : R.Denot)
+      → (Testable p → op2_val ptr_eq (ptr_val p) vnull ≡ vbool (not y) → (not y ≡ true → x ≡ none) → Seq K 𝓛 (‵ (holds R none p y x) ∷ Γ) G)
+      → Seq K 𝓛 (‵ (holds R none p y x) ∷ Γ) G
+  tests t R none null_ptr false x next = fsplit t $ move t (1 ∷ []) $ feq_l t (λ is. feq_i t R.Denot x none is $ move t (1 ∷ 0 ∷ []) $ fjoin t $ next (lit< tt) refl (λ e. is))
+  tests t R none null_ptr true x next =
+      use1 𝓛 (given ⊥ (‵ ftrue)) (via 𝓤 (never 𝓤) (fst∗ 𝓤 (never 𝓤) (sem 𝓛 (may_free (bare (lone R.mir)) null_ptr))) (never_e 𝓤 _)) $ learn t (λ n. absurd n)
+  tests t R none (block_ptr b o) false x next = fsplit t $ feq_l t (λ n. absurd (subst (λ (p : Ptr). InBlock p) n tt))
+  tests t R none (block_ptr b o) true x next = testable t R (block_ptr b o) x (λ may. next may refl (λ e. absurd (subst (λ (z : Bool). T (not z)) e tt)))
 
   -- what is owned of a value tells that it is one machine value
   pub tells : K → (R : RattleType) → Laws R → (x : R.Denot) (vs : List Val)

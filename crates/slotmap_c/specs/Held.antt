@@ -1,11 +1,11 @@
 -- What a handle owns.
-use Rattle.std.specs.Prelude.{ℕ, Bool, true, false, [], Some}
+use Rattle.std.specs.Prelude.{Bool, true, false, [], Some}
 use Rattle.std.specs.FinMap as map
 use Rattle.std.specs.FinSet as set
 use base.Fml.{Fml, feq, fsep}
 use denote.RattleType.{RattleType}
 use denote.RawPtr.{Ptr, null_ptr}
-use denote.Builtin.{u64}
+use denote.Builtin.{u64, unit}
 use mir.Syntax.{Ty}
 use Rattle.slotmap_core.specs.Words.{Content}
 use Rattle.slotmap_core.specs.contracts.keys.DefaultKey.{the_row as key_row}
@@ -17,12 +17,16 @@ use Rattle.std_heap.specs.contracts.GlobalAllocator.TheImpl.{ghosts}
 abbrev pub Map : RattleType
 Map = map_row key_row u64
 
+-- the type of the maps of keys alone
+abbrev pub KeyMap : RattleType
+KeyMap = map_row key_row unit
+
 -- the right to free a block
 abbrev pub may_free : Ty → Ptr → Fml
 may_free = ghosts.dealloc_token (record { memory = record { seal = tt } })
 
 -- what a closed handle shows: a map that was never used, without room
-abbrev pub nothing : Content ℕ
+abbrev pub nothing : {V : Type 0} → Content V
 nothing = record {
   live = map.empty;
   detached = set.empty;
@@ -34,7 +38,8 @@ nothing = record {
   capacity = 0;
 }
 
--- An open handle owns the map at its pointer, and the right to free its block. The pointer of a closed one is null
-abbrev pub held : Ptr → Bool → Content ℕ → Fml
-held at false m = fsep (feq Ptr at null_ptr) (feq (Content ℕ) m nothing)
-held at true m = box_owns may_free Map at m
+-- An open handle owns what is at its pointer, of the type R, and the right to free its block. The pointer of a closed one is null,
+-- and it shows `none`
+abbrev pub holds : (R : RattleType) (none : R.Denot) → Ptr → Bool → R.Denot → Fml
+holds R none at false x = fsep (feq Ptr at null_ptr) (feq R.Denot x none)
+holds R none at true x = box_owns may_free R at x

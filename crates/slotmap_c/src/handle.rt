@@ -1,9 +1,10 @@
 //! A handle: a map behind a pointer, or none.
 
-ghost use Rattle.std.specs.Prelude.{◌≡◌, ℕ, Bool, true, false, IfSome, IfNone};
+ghost use Rattle.std.specs.Prelude.{◌≡◌, ℕ, Bool, not, true, false, IfSome, IfNone};
+ghost use Rattle.std.specs.Borrow.{sem};
 ghost use Rattle.std.specs.Coded.{coded_ℕ, coded_bool};
 ghost use Rattle.slotmap_core.specs.Words.{Content, content_code};
-ghost use Rattle.slotmap_c.specs.Held.{held, nothing};
+ghost use Rattle.slotmap_c.specs.Held.{Map as MapRow, holds, nothing};
 
 use crate::unboxed::Unboxed;
 use slotmap_basic::SlotMap;
@@ -26,12 +27,14 @@ pub struct Handle {
 }
 
 impl Model for Handle {
-    ghost also_owns = { λ h. held h.at h.is_open h.map };
+    ghost also_owns = { λ h. holds MapRow nothing h.at h.is_open h.map };
 }
 
 unsafe impl Send for Handle {}
 
 impl Handle {
+    ghost use Rattle.slotmap_c.specs.Lending.{LendsMap};
+
     /// Makes a closed handle.
     pub(crate) fn closed() -> Handle
         ensures open { result.is_open ≡ false }
@@ -40,6 +43,24 @@ impl Handle {
         Handle {
             at: ptr::null_mut(),
         }
+    }
+
+    /// Returns whether the handle is closed.
+    #[inline(always)]
+    pub(crate) fn is_closed(&mut self) -> bool
+        ensures { (result ≡ not self.old.is_open) × (self.new ≡ self.old) × (result ≡ true → self.old.map ≡ nothing) }
+    {
+        self.at.is_null()
+    }
+
+    /// Lends the map of an open handle.
+    #[inline(always)]
+    pub(crate) fn inside(&mut self) -> &mut Map
+        requires { self.old.is_open ≡ true }
+        ensures* writes_back { sem 𝓛 (LendsMap self.entry result) }
+        ensures value { result.now ≡ self.old.map }
+    {
+        unsafe { &mut *(self.at as *mut Map) }
     }
 
     /// Lets a closed handle go.

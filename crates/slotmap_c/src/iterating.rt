@@ -9,12 +9,10 @@ use crate::handle::{Handle, Map};
 use crate::keyed::key;
 use crate::status::{NO_MORE, OK};
 use slotmap_core::keys::{DefaultKey, Key};
-use std::alloc::Global;
 
 /// Writes the live key with the least index above that of a key, and its value.
 #[unsafe(no_mangle)]
 pub extern "C" fn slotmap_next(
-    alloc: Global,
     this: &mut Handle,
     number: u64,
     key_out: &mut u64,
@@ -24,20 +22,16 @@ pub extern "C" fn slotmap_next(
     ensures open { this.new.is_open ≡ this.old.is_open }
     ensures map { this.new.map ≡ this.old.map }
 {
-    let Some(inside) = this.take(alloc) else {
+    if this.is_closed() {
         return NO_MORE;
-    };
-    match inside.next_after(Some(key(number))) {
+    }
+    match this.inside().next_after(Some(key(number))) {
         Some((found, value)) => {
-            *key_out = found.data().as_ffi();
+            *key_out = number_of(found);
             *value_out = *value;
-            this.put(inside);
             OK
         }
-        None => {
-            this.put(inside);
-            NO_MORE
-        }
+        None => NO_MORE,
     }
 }
 
@@ -62,29 +56,22 @@ fn list(inside: &Map, keys: &mut [u64], values: &mut [u64]) -> usize
 /// Writes the live keys and their values, by ascending index, as far as both arrays go, and returns
 /// how many it wrote.
 #[unsafe(no_mangle)]
-pub extern "C" fn slotmap_list(
-    alloc: Global,
-    this: &mut Handle,
-    keys: &mut [u64],
-    values: &mut [u64],
-) -> usize
+pub extern "C" fn slotmap_list(this: &mut Handle, keys: &mut [u64], values: &mut [u64]) -> usize
     ensures count { result ≡ min (min (length keys.old) (length values.old)) (map.len this.old.map.live) }
     ensures keys { ListsFirst result (list_map (λ pair. ffi pair.0) (map.entries this.old.map.live)) keys.old keys.new }
     ensures values { ListsFirst result (list_map (λ pair. pair.1) (map.entries this.old.map.live)) values.old values.new }
     ensures open { this.new.is_open ≡ this.old.is_open }
     ensures map { this.new.map ≡ this.old.map }
 {
-    let Some(inside) = this.take(alloc) else {
+    if this.is_closed() {
         return 0;
-    };
-    let count = list(&inside, keys, values);
-    this.put(inside);
-    count
+    }
+    list(this.inside(), keys, values)
 }
 
-// Returns the number of a key.
+/// Returns the number of a key.
 #[inline(always)]
-fn number_of(key: DefaultKey) -> u64
+pub(crate) fn number_of(key: DefaultKey) -> u64
     ensures { result ≡ ffi key }
 {
     key.data().as_ffi()
@@ -129,7 +116,6 @@ fn list_after(inside: &Map, start: DefaultKey, keys: &mut [u64], values: &mut [u
 /// as both arrays go, and returns how many it wrote.
 #[unsafe(no_mangle)]
 pub extern "C" fn slotmap_list_after(
-    alloc: Global,
     this: &mut Handle,
     number: u64,
     keys: &mut [u64],
@@ -141,10 +127,8 @@ pub extern "C" fn slotmap_list_after(
     ensures open { this.new.is_open ≡ this.old.is_open }
     ensures map { this.new.map ≡ this.old.map }
 {
-    let Some(inside) = this.take(alloc) else {
+    if this.is_closed() {
         return 0;
-    };
-    let count = list_after(&inside, key(number), keys, values);
-    this.put(inside);
-    count
+    }
+    list_after(this.inside(), key(number), keys, values)
 }

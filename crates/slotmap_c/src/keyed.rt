@@ -10,7 +10,6 @@ use crate::handle::Handle;
 use crate::status::{CLOSED, FULL, NO_MEMORY, NOT_DETACHED, NOT_LIVE, OK};
 use slotmap_core::errors::InsertError;
 use slotmap_core::keys::{DefaultKey, Key, KeyData};
-use std::alloc::Global;
 
 /// Returns the key that a number stands for.
 #[inline(always)]
@@ -36,18 +35,16 @@ pub(crate) fn found(value: Option<u64>, out: &mut u64) -> u32
 
 /// Inserts a value, and writes the number of its new key.
 #[unsafe(no_mangle)]
-pub extern "C" fn slotmap_insert(alloc: Global, this: &mut Handle, value: u64, out: &mut u64) -> u32
+pub extern "C" fn slotmap_insert(this: &mut Handle, value: u64, out: &mut u64) -> u32
     ensures says { InsertSays this.old.is_open this.old.map value result out.old out.new this.new.map }
     ensures reuses { this.old.is_open ≡ true → HasVacant this.old.map → result ≡ ok }
     ensures valid { this.old.is_open ≡ true → MayGrow true this.old.map (result ≢ ok) this.new.map }
     ensures open { this.new.is_open ≡ this.old.is_open }
 {
-    let Some(mut inside) = this.take(alloc) else {
+    if this.is_closed() {
         return CLOSED;
-    };
-    let made = inside.insert(value);
-    this.put(inside);
-    match made {
+    }
+    match this.inside().insert(value) {
         Ok(key) => {
             *out = key.data().as_ffi();
             OK
@@ -59,68 +56,52 @@ pub extern "C" fn slotmap_insert(alloc: Global, this: &mut Handle, value: u64, o
 
 /// Returns whether a key is live.
 #[unsafe(no_mangle)]
-pub extern "C" fn slotmap_contains(alloc: Global, this: &mut Handle, number: u64) -> bool
+pub extern "C" fn slotmap_contains(this: &mut Handle, number: u64) -> bool
     ensures value { result ≡ map.contains_key this.old.map.live (key_of number) }
     ensures open { this.new.is_open ≡ this.old.is_open }
     ensures map { this.new.map ≡ this.old.map }
 {
-    let Some(inside) = this.take(alloc) else {
+    if this.is_closed() {
         return false;
-    };
-    let is_live = inside.contains_key(key(number));
-    this.put(inside);
-    is_live
+    }
+    this.inside().contains_key(key(number))
 }
 
 /// Writes the value of a live key.
 #[unsafe(no_mangle)]
-pub extern "C" fn slotmap_get(alloc: Global, this: &mut Handle, number: u64, out: &mut u64) -> u32
+pub extern "C" fn slotmap_get(this: &mut Handle, number: u64, out: &mut u64) -> u32
     ensures says { FindSays (map.get this.old.map.live (key_of number)) result out.old out.new }
     ensures open { this.new.is_open ≡ this.old.is_open }
     ensures map { this.new.map ≡ this.old.map }
 {
-    let Some(inside) = this.take(alloc) else {
+    if this.is_closed() {
         return NOT_LIVE;
-    };
-    let value = match inside.get(key(number)) {
+    }
+    let value = match this.inside().get(key(number)) {
         Some(value) => Some(*value),
         None => None,
     };
-    this.put(inside);
     found(value, out)
 }
 
 /// Sets the value of a live key, and writes the value that it had.
 #[unsafe(no_mangle)]
-pub extern "C" fn slotmap_set(
-    alloc: Global,
-    this: &mut Handle,
-    number: u64,
-    value: u64,
-    out: &mut u64,
-) -> u32
+pub extern "C" fn slotmap_set(this: &mut Handle, number: u64, value: u64, out: &mut u64) -> u32
     ensures says { FindSays (map.get this.old.map.live (key_of number)) result out.old out.new }
     ensures replaces { result ≡ ok → this.new.map ≡ with_value this.old.map (key_of number) value }
     ensures unchanged { result ≢ ok → this.new.map ≡ this.old.map }
     ensures valid { this.old.is_open ≡ true → StaysValid true this.old.map this.new.map }
     ensures open { this.new.is_open ≡ this.old.is_open }
 {
-    let Some(mut inside) = this.take(alloc) else {
+    if this.is_closed() {
         return NOT_LIVE;
-    };
-    let before = inside.replace(key(number), value);
-    this.put(inside);
-    found(before.ok(), out)
+    }
+    found(this.inside().replace(key(number), value).ok(), out)
 }
 
 /// Removes a live key, and writes its value.
 #[unsafe(no_mangle)]
-pub extern "C" fn slotmap_remove(
-    alloc: Global,
-    this: &mut Handle,
-    number: u64,
-    out: &mut u64,
-) -> u32
+pub extern "C" fn slotmap_remove(this: &mut Handle, number: u64, out: &mut u64) -> u32
     ensures says { FindSays (map.get this.old.map.live (key_of number)) result out.old out.new }
     ensures removes { result ≡ ok → Removes this.old.map (key_of number) this.new.map }
     ensures unchanged { result ≢ ok → this.new.map ≡ this.old.map }
@@ -128,17 +109,15 @@ pub extern "C" fn slotmap_remove(
     ensures valid { this.old.is_open ≡ true → StaysValid true this.old.map this.new.map }
     ensures open { this.new.is_open ≡ this.old.is_open }
 {
-    let Some(mut inside) = this.take(alloc) else {
+    if this.is_closed() {
         return NOT_LIVE;
-    };
-    let value = inside.remove(key(number));
-    this.put(inside);
-    found(value, out)
+    }
+    found(this.inside().remove(key(number)), out)
 }
 
 /// Removes a live key, and drops its value.
 #[unsafe(no_mangle)]
-pub extern "C" fn slotmap_delete(alloc: Global, this: &mut Handle, number: u64) -> u32
+pub extern "C" fn slotmap_delete(this: &mut Handle, number: u64) -> u32
     ensures says { DeleteSays (map.contains_key this.old.map.live (key_of number)) result }
     ensures removes { result ≡ ok → Removes this.old.map (key_of number) this.new.map }
     ensures unchanged { result ≢ ok → this.new.map ≡ this.old.map }
@@ -147,17 +126,12 @@ pub extern "C" fn slotmap_delete(alloc: Global, this: &mut Handle, number: u64) 
     ensures open { this.new.is_open ≡ this.old.is_open }
 {
     let mut unread = 0;
-    slotmap_remove(alloc, this, number, &mut unread)
+    slotmap_remove(this, number, &mut unread)
 }
 
 /// Takes out the value of a live key, whose slot is kept, and writes it.
 #[unsafe(no_mangle)]
-pub extern "C" fn slotmap_detach(
-    alloc: Global,
-    this: &mut Handle,
-    number: u64,
-    out: &mut u64,
-) -> u32
+pub extern "C" fn slotmap_detach(this: &mut Handle, number: u64, out: &mut u64) -> u32
     ensures says { FindSays (map.get this.old.map.live (key_of number)) result out.old out.new }
     ensures detaches { result ≡ ok → Detaches this.old.map (key_of number) this.new.map }
     ensures unchanged { result ≢ ok → this.new.map ≡ this.old.map }
@@ -165,27 +139,23 @@ pub extern "C" fn slotmap_detach(
     ensures valid { this.old.is_open ≡ true → StaysValid true this.old.map this.new.map }
     ensures open { this.new.is_open ≡ this.old.is_open }
 {
-    let Some(mut inside) = this.take(alloc) else {
+    if this.is_closed() {
         return NOT_LIVE;
-    };
-    let value = inside.detach(key(number));
-    this.put(inside);
-    found(value, out)
+    }
+    found(this.inside().detach(key(number)), out)
 }
 
 /// Binds a detached key to a value again.
 #[unsafe(no_mangle)]
-pub extern "C" fn slotmap_reattach(alloc: Global, this: &mut Handle, number: u64, value: u64) -> u32
+pub extern "C" fn slotmap_reattach(this: &mut Handle, number: u64, value: u64) -> u32
     ensures says { ReattachSays this.old.map (key_of number) value result this.new.map }
     ensures valid { this.old.is_open ≡ true → StaysValid true this.old.map this.new.map }
     ensures open { this.new.is_open ≡ this.old.is_open }
 {
-    let Some(mut inside) = this.take(alloc) else {
+    if this.is_closed() {
         return NOT_DETACHED;
-    };
-    let bound = inside.reattach(key(number), value);
-    this.put(inside);
-    match bound {
+    }
+    match this.inside().reattach(key(number), value) {
         Ok(()) => OK,
         Err(_) => NOT_DETACHED,
     }

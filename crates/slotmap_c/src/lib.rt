@@ -5,12 +5,13 @@
 //! status, and writes nothing where it fails.
 #![tactic(auto)]
 
+mod guards;
 mod handle;
 mod iterating;
 mod keyed;
+mod keys;
 mod side;
 mod status;
-#[cfg(test)]
-mod tests;
 mod unboxed;
+mod version;
 mod whole;

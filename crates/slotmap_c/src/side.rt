@@ -39,8 +39,7 @@ pub extern "C" fn slotmap_side_new(alloc: Global, this: &mut SideHandle) -> u32
     ensures says { SideNewSays this.old.is_open this.old.side result this.new.is_open this.new.side }
     ensures valid { result ≡ ok → IsSideContent this.new.side }
 {
-    if let Some(inside) = this.take(alloc) {
-        this.put(inside);
+    if !this.is_closed() {
         return OPEN;
     }
     match Side::new(alloc) {
@@ -70,17 +69,13 @@ pub extern "C" fn slotmap_side_clone(
     ensures open { this.new.is_open ≡ this.old.is_open }
     ensures side { this.new.side ≡ this.old.side }
 {
-    let Some(inside) = this.take(alloc) else {
+    if this.is_closed() {
         return CLOSED;
-    };
-    if let Some(other) = copy.take(alloc) {
-        copy.put(other);
-        this.put(inside);
+    }
+    if !copy.is_closed() {
         return OPEN;
     }
-    let made = Side::clone(&inside);
-    this.put(inside);
-    match made {
+    match Side::clone(this.inside()) {
         Ok(made) => opens(alloc, copy, made),
         Err(_) => NO_MEMORY,
     }
@@ -88,37 +83,33 @@ pub extern "C" fn slotmap_side_clone(
 
 /// Returns the number of keys.
 #[unsafe(no_mangle)]
-pub extern "C" fn slotmap_side_len(alloc: Global, this: &mut SideHandle) -> usize
+pub extern "C" fn slotmap_side_len(this: &mut SideHandle) -> usize
     ensures value { result ≡ map.len this.old.side.pairs }
     ensures open { this.new.is_open ≡ this.old.is_open }
     ensures side { this.new.side ≡ this.old.side }
 {
-    let Some(inside) = this.take(alloc) else {
+    if this.is_closed() {
         return 0;
-    };
-    let len = inside.len();
-    this.put(inside);
-    len
+    }
+    this.inside().len()
 }
 
 /// Returns the largest index for which memory is allocated.
 #[unsafe(no_mangle)]
-pub extern "C" fn slotmap_side_capacity(alloc: Global, this: &mut SideHandle) -> usize
+pub extern "C" fn slotmap_side_capacity(this: &mut SideHandle) -> usize
     ensures value { result ≡ this.old.side.capacity }
     ensures open { this.new.is_open ≡ this.old.is_open }
     ensures side { this.new.side ≡ this.old.side }
 {
-    let Some(inside) = this.take(alloc) else {
+    if this.is_closed() {
         return 0;
-    };
-    let capacity = inside.capacity();
-    this.put(inside);
-    capacity
+    }
+    this.inside().capacity()
 }
 
 /// Allocates memory for each index up to `capacity`.
 #[unsafe(no_mangle)]
-pub extern "C" fn slotmap_side_reserve(alloc: Global, this: &mut SideHandle, capacity: usize) -> u32
+pub extern "C" fn slotmap_side_reserve(this: &mut SideHandle, capacity: usize) -> u32
     ensures says { SideReserveSays this.old.is_open this.old.side capacity result this.new.side }
     ensures keeps { this.new.side ≡ record this.old.side { capacity = this.new.side.capacity } }
     ensures limit { result ≡ ok → capacity ≤ most }
@@ -129,12 +120,10 @@ pub extern "C" fn slotmap_side_reserve(alloc: Global, this: &mut SideHandle, cap
     ensures valid { this.old.is_open ≡ true → IsSideContent this.new.side }
     ensures open { this.new.is_open ≡ this.old.is_open }
 {
-    let Some(mut inside) = this.take(alloc) else {
+    if this.is_closed() {
         return CLOSED;
-    };
-    let made = inside.set_capacity(capacity);
-    this.put(inside);
-    match made {
+    }
+    match this.inside().set_capacity(capacity) {
         Ok(()) => OK,
         Err(ReserveError::TooGreat) => FULL,
         Err(ReserveError::Memory) => NO_MEMORY,
@@ -143,14 +132,13 @@ pub extern "C" fn slotmap_side_reserve(alloc: Global, this: &mut SideHandle, cap
 
 /// Removes all keys.
 #[unsafe(no_mangle)]
-pub extern "C" fn slotmap_side_clear(alloc: Global, this: &mut SideHandle)
+pub extern "C" fn slotmap_side_clear(this: &mut SideHandle)
     ensures empty { this.new.side ≡ record this.old.side { pairs = map.empty } }
     ensures valid { this.old.is_open ≡ true → IsSideContent this.new.side }
     ensures open { this.new.is_open ≡ this.old.is_open }
 {
-    if let Some(mut inside) = this.take(alloc) {
-        inside.clear();
-        this.put(inside);
+    if !this.is_closed() {
+        this.inside().clear();
     }
 }
 
@@ -174,23 +162,16 @@ fn put(inside: &mut Side, key: DefaultKey, value: u64) -> u32
 
 /// Puts a value under a key, in place of the value of this key or of an older one at its index.
 #[unsafe(no_mangle)]
-pub extern "C" fn slotmap_side_put(
-    alloc: Global,
-    this: &mut SideHandle,
-    number: u64,
-    value: u64,
-) -> u32
+pub extern "C" fn slotmap_side_put(this: &mut SideHandle, number: u64, value: u64) -> u32
     ensures says { SidePutSays this.old.is_open this.old.side (key_of number) value result this.new.side }
     ensures room { (key_of number).index ≤ this.old.side.capacity → result ≢ no_memory }
     ensures valid { this.old.is_open ≡ true → IsSideContent this.new.side }
     ensures open { this.new.is_open ≡ this.old.is_open }
 {
-    let Some(mut inside) = this.take(alloc) else {
+    if this.is_closed() {
         return CLOSED;
-    };
-    let status = put(&mut inside, key(number), value);
-    this.put(inside);
-    status
+    }
+    put(this.inside(), key(number), value)
 }
 
 // Returns the key at an index as a number, and its value.
@@ -220,7 +201,6 @@ fn write_pair(pair: Option<(u64, u64)>, key_out: &mut u64, value_out: &mut u64)
 /// with its value. It writes the key 0 if none stood there.
 #[unsafe(no_mangle)]
 pub extern "C" fn slotmap_side_exchange(
-    alloc: Global,
     this: &mut SideHandle,
     number: u64,
     value: u64,
@@ -235,13 +215,13 @@ pub extern "C" fn slotmap_side_exchange(
     ensures valid { this.old.is_open ≡ true → IsSideContent this.new.side }
     ensures open { this.new.is_open ≡ this.old.is_open }
 {
-    let Some(mut inside) = this.take(alloc) else {
+    if this.is_closed() {
         return CLOSED;
-    };
+    }
     let key = key(number);
-    let stood = pair_at(&inside, key.data().idx() as usize);
-    let status = put(&mut inside, key, value);
-    this.put(inside);
+    let inside = this.inside();
+    let stood = pair_at(inside, key.data().idx() as usize);
+    let status = put(inside, key, value);
     if status == OK {
         write_pair(stood, key_out, value_out);
     }
@@ -250,61 +230,46 @@ pub extern "C" fn slotmap_side_exchange(
 
 /// Returns whether a key has a value.
 #[unsafe(no_mangle)]
-pub extern "C" fn slotmap_side_contains(alloc: Global, this: &mut SideHandle, number: u64) -> bool
+pub extern "C" fn slotmap_side_contains(this: &mut SideHandle, number: u64) -> bool
     ensures value { result ≡ contains_key this.old.side.pairs (key_of number) }
     ensures open { this.new.is_open ≡ this.old.is_open }
     ensures side { this.new.side ≡ this.old.side }
 {
-    let Some(inside) = this.take(alloc) else {
+    if this.is_closed() {
         return false;
-    };
-    let is_there = inside.contains_key(key(number));
-    this.put(inside);
-    is_there
+    }
+    this.inside().contains_key(key(number))
 }
 
 /// Writes the value of a key.
 #[unsafe(no_mangle)]
-pub extern "C" fn slotmap_side_get(
-    alloc: Global,
-    this: &mut SideHandle,
-    number: u64,
-    out: &mut u64,
-) -> u32
+pub extern "C" fn slotmap_side_get(this: &mut SideHandle, number: u64, out: &mut u64) -> u32
     ensures says { FindSays (get this.old.side.pairs (key_of number)) result out.old out.new }
     ensures open { this.new.is_open ≡ this.old.is_open }
     ensures side { this.new.side ≡ this.old.side }
 {
-    let Some(inside) = this.take(alloc) else {
+    if this.is_closed() {
         return found(None, out);
-    };
-    let value = match inside.get(key(number)) {
+    }
+    let value = match this.inside().get(key(number)) {
         Some(value) => Some(*value),
         None => None,
     };
-    this.put(inside);
     found(value, out)
 }
 
 /// Removes a key, and writes its value.
 #[unsafe(no_mangle)]
-pub extern "C" fn slotmap_side_remove(
-    alloc: Global,
-    this: &mut SideHandle,
-    number: u64,
-    out: &mut u64,
-) -> u32
+pub extern "C" fn slotmap_side_remove(this: &mut SideHandle, number: u64, out: &mut u64) -> u32
     ensures says { FindSays (get this.old.side.pairs (key_of number)) result out.old out.new }
     ensures removes { this.new.side ≡ record this.old.side { pairs = remove this.old.side.pairs (key_of number) } }
     ensures valid { this.old.is_open ≡ true → IsSideContent this.new.side }
     ensures open { this.new.is_open ≡ this.old.is_open }
 {
-    let Some(mut inside) = this.take(alloc) else {
+    if this.is_closed() {
         return found(None, out);
-    };
-    let value = inside.remove(key(number));
-    this.put(inside);
-    found(value, out)
+    }
+    found(this.inside().remove(key(number)), out)
 }
 
 // Writes the keys and their values, by ascending index, as far as both arrays go.
@@ -329,7 +294,6 @@ fn list(inside: &Side, keys: &mut [u64], values: &mut [u64]) -> usize
 /// many it wrote.
 #[unsafe(no_mangle)]
 pub extern "C" fn slotmap_side_list(
-    alloc: Global,
     this: &mut SideHandle,
     keys: &mut [u64],
     values: &mut [u64],
@@ -340,10 +304,8 @@ pub extern "C" fn slotmap_side_list(
     ensures open { this.new.is_open ≡ this.old.is_open }
     ensures side { this.new.side ≡ this.old.side }
 {
-    let Some(inside) = this.take(alloc) else {
+    if this.is_closed() {
         return 0;
-    };
-    let count = list(&inside, keys, values);
-    this.put(inside);
-    count
+    }
+    list(this.inside(), keys, values)
 }

@@ -32,8 +32,7 @@ pub extern "C" fn slotmap_new(alloc: Global, this: &mut Handle) -> u32
     ensures says { NewSays this.old.is_open this.old.map result this.new.is_open this.new.map }
     ensures valid { result ≡ ok → IsContent true this.new.map }
 {
-    if let Some(inside) = this.take(alloc) {
-        this.put(inside);
+    if !this.is_closed() {
         return OPEN;
     }
     match Map::new(alloc) {
@@ -59,17 +58,13 @@ pub extern "C" fn slotmap_clone(alloc: Global, this: &mut Handle, copy: &mut Han
     ensures open { this.new.is_open ≡ this.old.is_open }
     ensures map { this.new.map ≡ this.old.map }
 {
-    let Some(inside) = this.take(alloc) else {
+    if this.is_closed() {
         return CLOSED;
-    };
-    if let Some(other) = copy.take(alloc) {
-        copy.put(other);
-        this.put(inside);
+    }
+    if !copy.is_closed() {
         return OPEN;
     }
-    let made = Map::clone(&inside);
-    this.put(inside);
-    match made {
+    match Map::clone(this.inside()) {
         Ok(made) => opens(alloc, copy, made),
         Err(_) => NO_MEMORY,
     }
@@ -77,49 +72,43 @@ pub extern "C" fn slotmap_clone(alloc: Global, this: &mut Handle, copy: &mut Han
 
 /// Returns the number of live keys.
 #[unsafe(no_mangle)]
-pub extern "C" fn slotmap_len(alloc: Global, this: &mut Handle) -> usize
+pub extern "C" fn slotmap_len(this: &mut Handle) -> usize
     ensures value { result ≡ map.len this.old.map.live }
     ensures open { this.new.is_open ≡ this.old.is_open }
     ensures map { this.new.map ≡ this.old.map }
 {
-    let Some(inside) = this.take(alloc) else {
+    if this.is_closed() {
         return 0;
-    };
-    let len = inside.len();
-    this.put(inside);
-    len
+    }
+    this.inside().len()
 }
 
 /// Returns the number of slots for which memory is allocated.
 #[unsafe(no_mangle)]
-pub extern "C" fn slotmap_capacity(alloc: Global, this: &mut Handle) -> usize
+pub extern "C" fn slotmap_capacity(this: &mut Handle) -> usize
     ensures value { result ≡ this.old.map.capacity }
     ensures places { this.old.is_open ≡ true → places this.old.map ≤ result }
     ensures open { this.new.is_open ≡ this.old.is_open }
     ensures map { this.new.map ≡ this.old.map }
 {
-    let Some(inside) = this.take(alloc) else {
+    if this.is_closed() {
         return 0;
-    };
-    let capacity = inside.capacity();
-    this.put(inside);
-    capacity
+    }
+    this.inside().capacity()
 }
 
 /// Reserves room for `additional` more keys.
 #[unsafe(no_mangle)]
-pub extern "C" fn slotmap_reserve(alloc: Global, this: &mut Handle, additional: usize) -> u32
+pub extern "C" fn slotmap_reserve(this: &mut Handle, additional: usize) -> u32
     ensures says { ReserveSays this.old.is_open this.old.map additional result this.new.map }
     ensures makes_room { this.old.is_open ≡ true → MakesRoom true this.old.map additional (result ≡ ok) this.new.map }
     ensures unchanged { this.old.is_open ≡ false → this.new.map ≡ this.old.map }
     ensures open { this.new.is_open ≡ this.old.is_open }
 {
-    let Some(mut inside) = this.take(alloc) else {
+    if this.is_closed() {
         return CLOSED;
-    };
-    let made = inside.reserve(additional);
-    this.put(inside);
-    match made {
+    }
+    match this.inside().reserve(additional) {
         Ok(()) => OK,
         Err(ReserveError::TooGreat) => FULL,
         Err(ReserveError::Memory) => NO_MEMORY,
@@ -128,7 +117,7 @@ pub extern "C" fn slotmap_reserve(alloc: Global, this: &mut Handle, additional: 
 
 /// Removes every live key.
 #[unsafe(no_mangle)]
-pub extern "C" fn slotmap_clear(alloc: Global, this: &mut Handle)
+pub extern "C" fn slotmap_clear(this: &mut Handle)
     ensures empty { this.new.map.live ≡ map.empty }
     ensures leaves { this.old.is_open ≡ true → Leaves this.old.map this.new.map }
     ensures freed_order { this.old.is_open ≡ true → FreesByIndex this.old.map this.new.map }
@@ -136,8 +125,7 @@ pub extern "C" fn slotmap_clear(alloc: Global, this: &mut Handle)
     ensures unchanged { this.old.is_open ≡ false → this.new.map ≡ this.old.map }
     ensures open { this.new.is_open ≡ this.old.is_open }
 {
-    if let Some(mut inside) = this.take(alloc) {
-        inside.clear();
-        this.put(inside);
+    if !this.is_closed() {
+        this.inside().clear();
     }
 }

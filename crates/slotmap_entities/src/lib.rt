@@ -77,10 +77,18 @@ pub use tables::{Table, Tables};
 /// A clause sees `entities`, which has the value of each entity and their packed order, and the
 /// tables. An entity `has` a component in one of them, or it doesn't, and `parts` is what it has in
 /// each.
-#[derive(Drop)]
 pub struct World<K: Key, E, T: Tables<K>> {
     entities: DenseSlotMap<K, E>,
     tables: T,
+}
+
+impl<K: Key, E: Drop, T: Tables<K> + Drop> Drop for World<K, E, T> {
+    fn drop(self) {
+        let World {
+            entities: _entities,
+            tables: _tables,
+        } = self;
+    }
 }
 
 impl<K: Key, E, T: Tables<K>> Model for World<K, E, T> {

@@ -53,16 +53,6 @@ pub fn taken_at(replies: &Replies, at: usize) -> Option<u64>
     }
 }
 
-/// Returns what a removal or a detach took, if anything.
-pub fn any_taken_at(replies: &Replies, at: usize) -> Option<Option<u64>>
-    ensures { IfSome result (λ taken. slice_get replies.now.items at ≡ Some (TakenReply taken)) }
-{
-    match replies.get(at) {
-        Some(Reply::Taken(taken)) => Some(*taken),
-        _ => None,
-    }
-}
-
 /// Returns the value that a replacement found.
 pub fn put_at(replies: &Replies, at: usize) -> Option<u64>
     ensures { IfSome result (λ old. slice_get replies.now.items at ≡ Some (PutReply (Ok old))) }

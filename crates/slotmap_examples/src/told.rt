@@ -1,9 +1,9 @@
 //! What was put is what is got: the replies of a run, by what earlier commands and replies tell.
 
-ghost use Rattle.std.specs.Prelude.{◌≡◌, ◌<◌, IfSome, Some, None, slice_get};
-ghost use Rattle.slotmap.specs.Words.{PlainCommand, GetCommand, RemoveCommand};
+ghost use Rattle.std.specs.Prelude.{◌≡◌, ◌<◌, ℕ, IfSome, Some, None, slice_get};
+ghost use Rattle.slotmap.specs.Words.{PlainCommand, GetCommand, RemoveCommand, LookedReply, TakenReply};
 
-use crate::runs::{any_taken_at, has_key_at, looked_at, put_at, taken_at};
+use crate::runs::{has_key_at, looked_at, put_at, taken_at};
 use slotmap::{Command, DefaultKey, DetachCommand, Detaching, Reply, run_detaching_new};
 use std::alloc::Global;
 
@@ -25,12 +25,36 @@ fn make(_key: DefaultKey) -> Result<u64, ()> {
     Err(())
 }
 
+// Returns the value that a look-up found.
+fn value_found_at(replies: &Replies, at: usize) -> u64
+    requires { (seen : ℕ) × (slice_get replies.now.items at ≡ Some (LookedReply (Some seen))) }
+    ensures { slice_get replies.now.items at ≡ Some (LookedReply (Some result)) }
+{
+    match replies.get(at) {
+        Some(Reply::Looked(Some(seen))) => *seen,
+        _ => unreachable!(),
+    }
+}
+
+// Returns the value that a removal or a detach took.
+fn value_taken_at(replies: &Replies, at: usize) -> u64
+    requires { (value : ℕ) × (slice_get replies.now.items at ≡ Some (TakenReply (Some value))) }
+    ensures { slice_get replies.now.items at ≡ Some (TakenReply (Some result)) }
+{
+    match replies.get(at) {
+        Some(Reply::Taken(Some(value))) => *value,
+        _ => unreachable!(),
+    }
+}
+
 /// A key that was put and not taken out is found with its value.
+///
+/// It returns `None` if memory runs out, or if the first insert doesn't return this key.
 pub fn look_for_put<M: Detaching<DefaultKey, u64> + Drop>(
     alloc: Global,
     key: DefaultKey,
-) -> Option<Option<u64>>
-    ensures found { IfSome result (λ seen. seen ≡ Some 5) }
+) -> Option<u64>
+    ensures found { IfSome result (λ seen. seen ≡ 5) }
 {
     let listed = vec![in alloc;
         DetachCommand::Plain(Command::Insert(5)),
@@ -46,16 +70,17 @@ pub fn look_for_put<M: Detaching<DefaultKey, u64> + Drop>(
         return None;
     };
     has_key_at(&replies, 0, key)?;
-    let seen = looked_at(&replies, 3)?;
-    Some(seen)
+    Some(value_found_at(&replies, 3))
 }
 
 /// After a `Replace` the key has the new value.
+///
+/// It returns `None` if memory runs out, or if the `Replace` doesn't find this key.
 pub fn take_replaced<M: Detaching<DefaultKey, u64> + Drop>(
     alloc: Global,
     key: DefaultKey,
-) -> Option<Option<u64>>
-    ensures new { IfSome result (λ taken. taken ≡ Some 8) }
+) -> Option<u64>
+    ensures new { IfSome result (λ taken. taken ≡ 8) }
 {
     let listed = vec![in alloc;
         DetachCommand::Plain(Command::Insert(5)),
@@ -70,9 +95,8 @@ pub fn take_replaced<M: Detaching<DefaultKey, u64> + Drop>(
     let Ok((_map, replies)) = made else {
         return None;
     };
-    let _old = put_at(&replies, 1)?;
-    let taken = any_taken_at(&replies, 3)?;
-    Some(taken)
+    put_at(&replies, 1)?;
+    Some(value_taken_at(&replies, 3))
 }
 
 /// A key that was taken out stays out, whatever the other commands do.

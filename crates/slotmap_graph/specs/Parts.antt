@@ -5,7 +5,7 @@ use Rattle.std.specs.Coded.{Coded, code_by, coded×, coded_list}
 use Rattle.slotmap.specs.Words.{Key, key_cmp, coded_key, Content, content_code, with_value, IsLive, LacksRoom, Pairs, get, put, used, most}
 use Rattle.slotmap.specs.declared.ReserveError.{ReserveError}
 use Rattle.slotmap.specs.declared.ReserveError.TheVariants as reserve
-use Rattle.slotmap_keylist.specs.KeyLists.{is_key, same, times}
+use Rattle.slotmap_bounded.specs.KeyLists.{is_key, same, times}
 use Rattle.slotmap_links.specs.Lists.{first_or}
 use Rattle.slotmap_graph.specs.declared.EdgeError.{EdgeError}
 use Rattle.slotmap_graph.specs.declared.EdgeError.TheVariants.{Gone, Full, Memory}

@@ -3,7 +3,7 @@ use Rattle.std.specs.Prelude.{◌≡◌, ℕ, zero, suc, Option, Some, None, Boo
 use Rattle.std.specs.List.{filter_map, fold}
 use Rattle.std.specs.FinMap as map
 use Rattle.slotmap.specs.Words.{Key, Content, IsBeside, Pairs, contains_key}
-use Rattle.slotmap_keylist.specs.KeyLists.{is_key, times}
+use Rattle.slotmap_bounded.specs.KeyLists.{is_key, times}
 use Rattle.slotmap_graph.specs.Parts.{SeenEdge, Edges}
 
 module _ {E : Type 0} where

@@ -2,7 +2,7 @@
 use Rattle.std.specs.Prelude.{◌≡◌, ℕ, ◌+◌, ◌<◌, ◌≤◌, Option, Some, None, List, [], ◌∷◌, ◌++◌, length, nat_eq, if◌then◌else◌}
 use Rattle.std.specs.FinMap as map
 use Rattle.slotmap.specs.Words.{Key, IsBeside, IsLive, Pairs, get}
-use Rattle.slotmap_keylist.specs.KeyLists.{times}
+use Rattle.slotmap_bounded.specs.KeyLists.{times}
 use Rattle.slotmap_graph.specs.Parts.{Seen, SeenEdge, Edges, ByNode, edges_at}
 use Rattle.slotmap_graph.specs.Search.{Leads}
 use Rattle.slotmap_graph.specs.declared.order.OrderError.{OrderError}

@@ -6,13 +6,13 @@ ghost use Rattle.std.specs.Option.{option_and_then};
 ghost use Rattle.std.specs.List.{filter};
 ghost use Rattle.std.specs.FinMap as map;
 ghost use Rattle.slotmap.specs.Words.{Key as KeyOf, HasVacant, Inserts, Removes, Keeps, Leaves, IsLive, IsSpent, IsContent, KeepsSpent, Refuses};
-ghost use Rattle.slotmap_keylist.specs.KeyLists.{without};
+ghost use Rattle.slotmap_bounded.specs.KeyLists.{without};
 ghost use Rattle.slotmap_graph.specs.Parts.{SeenEdge, avoids, touches, from, to, value, edges_at, ListsEdges, PutsBehind, SameEdges, RefusesEdge};
 
 use crate::lists::{put_last, take_out};
 use crate::{Edge, EdgeError, EdgeKey, Graph};
 use slotmap::{InsertError, Key, ReserveError};
-use slotmap_keylist::inner;
+use slotmap_bounded::inner;
 
 impl<K: Key, N: Drop, E: Drop> Graph<K, N, E> {
     // Whether a node can be added before more room is made.

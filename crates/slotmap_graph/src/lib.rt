@@ -87,12 +87,22 @@ const MOST: usize = 4_294_967_294;
 /// to the edges, and `IsSpent` says which keys are never used again. It sees `out` and `into` as well,
 /// by which `edges_at` has the edges of a node in their order. By the clause `joined` of
 /// [`Graph::node_count`] each edge joins two nodes that exist, and is once in the list of each.
-#[derive(Drop)]
 pub struct Graph<K, N, E> {
     nodes: BoundedMap<K, N>,
     edges: Edges<E>,
     out: Links,
     into: Links,
+}
+
+impl<K, N: Drop, E: Drop> Drop for Graph<K, N, E> {
+    fn drop(self) {
+        let Graph {
+            nodes: _nodes,
+            edges: _edges,
+            out: _out,
+            into: _into,
+        } = self;
+    }
 }
 
 impl<K, N, E> Model for Graph<K, N, E> {

@@ -10,7 +10,7 @@ ghost use Rattle.slotmap_graph.specs.Parts.{ListsEdges, both, edges_at, ends, fr
 use crate::iter::edges_of;
 use crate::{EdgeKey, EdgesAt, Graph};
 use slotmap::Key;
-use slotmap_keylist::outer;
+use slotmap_bounded::outer;
 
 impl<K: Key, N: Drop, E: Drop> Graph<K, N, E> {
     ghost use Rattle.slotmap_graph.specs.Lends.{lends_node, lends_edge};

@@ -4,14 +4,14 @@ ghost use Rattle.std.specs.Prelude.{◌≡◌, ◌≢◌, ◌-◌, ◌+◌, ◌<
 ghost use Rattle.std.specs.Prelude.{true, nat_eq, if◌then◌else◌, length, slice_index_or, take, map as list_map};
 ghost use Rattle.std.specs.FinMap as map;
 ghost use Rattle.slotmap.specs.Words.{Key as KeyOf, IsContent, IsLive, get, contains_key};
-ghost use Rattle.slotmap_keylist.specs.KeyLists.{times};
+ghost use Rattle.slotmap_bounded.specs.KeyLists.{times};
 ghost use Rattle.slotmap_graph.specs.TopologicalOrder.{AllPassed, ClosesCycle, ComesFromLeft, Counting, GoesForward, HasCycle, IsLeft, RefusesOrder, Sorting, edge_in, edges_out};
 ghost use Rattle.slotmap_graph.specs.Parts.{IsJoined, PutsAlone, edges_at};
 
 use crate::search::{mark, none_seen};
 use crate::{EdgeKey, Graph};
 use slotmap::{Key, SecondaryMap};
-use slotmap_keylist::outer;
+use slotmap_bounded::outer;
 use std::alloc::{AllocError, Global};
 use thiserror::Error;
 

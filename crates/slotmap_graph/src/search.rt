@@ -4,13 +4,13 @@ ghost use Rattle.std.specs.Prelude.{◌≡◌, ◌≢◌, ◌<◌, ◌≤◌, So
 ghost use Rattle.std.specs.List.{find, fold};
 ghost use Rattle.std.specs.FinMap as map;
 ghost use Rattle.slotmap.specs.Words.{Key as KeyOf, IsBeside, IsContent, IsLive, get, contains_key};
-ghost use Rattle.slotmap_keylist.specs.KeyLists.{times};
+ghost use Rattle.slotmap_bounded.specs.KeyLists.{times};
 ghost use Rattle.slotmap_graph.specs.Parts.{IsJoined, ListsEdges, PutsAlone, edges_at, from, to};
 ghost use Rattle.slotmap_graph.specs.Search.{AreSeen, Finds, HasNext, IsBreadthFirst, Leads, ends_along, goes_to, marked};
 
 use crate::{EdgeKey, Graph};
 use slotmap::{DefaultKey, Key, SecondaryMap};
-use slotmap_keylist::{inner, outer};
+use slotmap_bounded::{inner, outer};
 use std::alloc::{AllocError, Global};
 
 // The nodes that were found.

@@ -113,7 +113,7 @@ impl<'a> Clone for Members<'a> {
 /// An iterator over the members of a list from one of them on: see [`Links::iter_from`].
 ///
 /// A contract sees it as the list of the members that it will still yield. After its end it yields
-/// nothing. It doesn't know how many are left, and goes forward only.
+/// nothing. It goes forward only, and doesn't know how many are left.
 ///
 /// [`Links::iter_from`]: crate::Links::iter_from
 #[derive(Drop)]

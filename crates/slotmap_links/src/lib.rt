@@ -69,10 +69,18 @@ struct Link {
 /// Lists of numbers, one for each owner.
 ///
 /// A clause sees `lists`, the list of each owner, and `members`: the numbers below it may be in one.
-#[derive(Drop)]
 pub struct Links {
     ends: Vec<Ends>,
     links: Vec<Link>,
+}
+
+impl Drop for Links {
+    fn drop(self) {
+        let Links {
+            ends: _ends,
+            links: _links,
+        } = self;
+    }
 }
 
 impl Model for Links {

@@ -111,7 +111,7 @@ module _ {T : Type 0} where
   stands_or_first : (k : Key) (v : T) (es : List (Key × T)) (q : Key) → IsSome (value_of q ((k, v) ∷ es)) → IsSome (value_of q es) ⊎ (q ≡ k)
   stands_or_first k v es q there = grind (arith, tied keys_total exact_keys q k)
 
-  -- what stood before the first element was taken out still stands, or is spent
+  -- when the first element is taken out, each cursor of the old list still stands, or is spent
   pub left_or_spent : (old new : Sequence T) (k : Key) (v : T) → old.elements ≡ (k, v) ∷ new.elements → IsSpent new.cursors k → (u : Key) → IsSome (value_of u old.elements)
       → IsSome (value_of u new.elements) ⊎ IsSpent new.cursors u
   left_or_spent old new k v takes spent u there = elim (stands_or_first k v new.elements u (subst (λ l. IsSome (value_of u l)) takes there)) [

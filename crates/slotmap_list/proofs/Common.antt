@@ -9,8 +9,8 @@ pub use Rattle.slotmap.specs.Words.{key_cmp, Content, IsSpent, KeepsSpent, Inser
 pub use Rattle.slotmap.specs.Words.{Key, IsNew, Keeps, Leaves, used, IsLive, Removes}
 pub use Rattle.slotmap_bounded.proofs.Indices.{some_is, found_only, found_there}
 pub use Rattle.slotmap_bounded.specs.Indices.{AreApart, found_at}
-pub use Rattle.slotmap_keylist.proofs.Alone.{alone-written, same_live, len_alike, used_alone, alone-copy, alone-inserts, alone-leaves, alone-removes, alone-room, alone-new}
-pub use Rattle.slotmap_keylist.proofs.Counts.{is_itself, is_other}
+pub use Rattle.slotmap_bounded.proofs.Alone.{alone-written, same_live, len_alike, used_alone, alone-copy, alone-inserts, alone-leaves, alone-removes, alone-room, alone-new}
+pub use Rattle.slotmap_bounded.proofs.Counts.{is_itself, is_other}
 pub use Rattle.slotmap_links.proofs.Callers.{list_now, owners_stay}
 pub use Rattle.slotmap_links.proofs.Counts.{same, same_or_other as same_or_not, one_itself, one_other, times_first, times_joined, times_gone}
 pub use Rattle.slotmap_links.specs.Lists.{Lists, list_of, with_list, times, IsFree, IsIn}

@@ -4,7 +4,7 @@ use Rattle.std.specs.Coded.{Coded, code_by, coded×, coded_list}
 use Rattle.std.specs.Ordering.{eq_by_cmp}
 use Rattle.std.specs.FinMap.Entries.{find}
 use Rattle.slotmap.specs.Words.{Key, key_cmp, coded_key, Content, keys_code}
-use Rattle.slotmap_keylist.specs.KeyLists.{is_key}
+use Rattle.slotmap_bounded.specs.KeyLists.{is_key}
 
 pub record Sequence (T : Type 0) : Type 0 where
   -- the elements from front to back: each cursor with its value

@@ -80,12 +80,20 @@ pub use values::{Cursors, Values};
 ///
 /// A clause sees `elements`, the list of the cursors with their values, from front to back, and
 /// `cursors`, by which it says that a cursor is never used again.
-#[derive(Drop)]
 pub struct StableList<K, T> {
     // The values, each under the cursor of its element.
     values: BoundedMap<K, T>,
     // The list of owner 0 has the indices of the cursors, from front to back.
     links: Links,
+}
+
+impl<K, T: Drop> Drop for StableList<K, T> {
+    fn drop(self) {
+        let StableList {
+            values: _values,
+            links: _links,
+        } = self;
+    }
 }
 
 impl<K, T> Model for StableList<K, T> {

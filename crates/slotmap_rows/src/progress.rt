@@ -5,7 +5,6 @@ use std::alloc::{AllocError, Global};
 use std::io::Write;
 
 /// How far the rows of a file were checked for a kind of map.
-#[derive(Drop)]
 pub struct Progress {
     /// The file and the kind, as differences name them.
     file: String,
@@ -21,6 +20,22 @@ pub struct Progress {
     rows: u64,
     calls: u64,
     differences: u64,
+}
+
+impl Drop for Progress {
+    fn drop(self) {
+        let Progress {
+            file: _file,
+            kind: _kind,
+            row: _row,
+            line: _line,
+            is_meant: _is_meant,
+            is_well: _is_well,
+            rows: _rows,
+            calls: _calls,
+            differences: _differences,
+        } = self;
+    }
 }
 
 impl Progress {

@@ -53,7 +53,6 @@ impl<'a, 't> File<'a, 't> {
 
 // What is checked, how far it was, the words of its last call and the reply. Memory for both is
 // allocated once.
-#[derive(Drop)]
 struct Desk<'s, 'a, S> {
     subject: &'s mut S,
     supply: Supply<'a>,
@@ -64,6 +63,20 @@ struct Desk<'s, 'a, S> {
     is_sure: bool,
     // Whether the call may lose an older pair where memory runs out.
     is_displacing: bool,
+}
+
+impl<'s, 'a, S> Drop for Desk<'s, 'a, S> {
+    fn drop(self) {
+        let Desk {
+            subject: _subject,
+            supply: _supply,
+            progress: _progress,
+            words: _words,
+            reply: _reply,
+            is_sure: _is_sure,
+            is_displacing: _is_displacing,
+        } = self;
+    }
 }
 
 impl<'s, 'a, S: Subject> Desk<'s, 'a, S> {
@@ -254,7 +267,7 @@ impl<'s, 'a, S: Subject> Desk<'s, 'a, S> {
 // The result of a call that runs out of memory twice.
 const NO_MEMORY: &str = "out of memory";
 
-// How often a call is made that begins with this word, and the call.
+// Takes a prefix such as `repeat 5` off a call: how often the call is to be made, and the call.
 fn made_often<'t>(call: &'t str, word: &str) -> Option<(u64, &'t str)> {
     let (times, call) = call.strip_prefix(word)?.split_once(' ')?;
     Some((times.parse().ok()?, call))

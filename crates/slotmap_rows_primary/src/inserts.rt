@@ -10,11 +10,11 @@ use slotmap_rows::{Number, Stop, Supply, write_key};
 pub enum Made {
     /// This number and the key's index.
     Value(u64),
-    /// The same as an error.
+    /// An error, which holds this value.
     Error(u64),
     /// The error 9 at index 2, else the key as a number.
     Key,
-    /// The key as a number, as an error.
+    /// An error, which holds the key as a number.
     Refused,
 }
 

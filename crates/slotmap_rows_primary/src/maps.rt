@@ -6,11 +6,20 @@ use slotmap_rows::{Call, Number, Stop, Subject, Supply, Word, Words};
 use std::mem;
 
 /// The map of a row, and the map set beside it.
-#[derive(Drop)]
 pub struct Maps<'a, M> {
     pub supply: Supply<'a>,
     pub map: M,
     pub other: Option<M>,
+}
+
+impl<'a, M: Drop> Drop for Maps<'a, M> {
+    fn drop(self) {
+        let Maps {
+            supply: _supply,
+            map: _map,
+            other: _other,
+        } = self;
+    }
 }
 
 impl<'a, M: Held<'a> + Primary<DefaultKey, Number<'a>> + Clone> Maps<'a, M> {

@@ -1,6 +1,6 @@
 -- The two ends of a list of children, the keys beside another one in it, and what nodes these are.
 use Rattle.std.proofs.Common.{◌<◌, ◌∷◌, ◌≡◌, ◌⊎◌}
-use Rattle.slotmap_keylist.proofs.Linking.{last_in}
+use Rattle.slotmap_bounded.proofs.Linking.{last_in}
 use Rattle.slotmap_scene.proofs.Common.{IsScene, Key, List, Nodes, None, Option, Some, [], ap, arith, behind, children_of, children_under, cond, false, first_or, has_node, in_front, inl, inr, is_key}
 use Rattle.slotmap_scene.proofs.Common.{last_or, one_itself, parent_of, same, same_Some, times, times_first, true}
 use Rattle.slotmap_scene.proofs.Climbs.{has_parent}

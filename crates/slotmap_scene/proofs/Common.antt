@@ -23,15 +23,15 @@ pub use Rattle.slotmap_bounded.proofs.Indices.{back_has, back_key, by_live, firs
 pub use Rattle.slotmap_bounded.proofs.Indices.{indices_still, key_at_live, key_is, keys_same, keys_without, last_key, later_indices, no_key, same_at, some_is, times_key}
 pub use Rattle.slotmap_bounded.specs.Bounded.{capacity_with}
 pub use Rattle.slotmap_bounded.specs.Indices.{AreIndices, HasKey, HaveIndices, found_at, key_at, keys_at}
-pub use Rattle.slotmap_keylist.proofs.Alone.{len_alike}
-pub use Rattle.slotmap_keylist.proofs.Changed.{changed_gives, changed_here, changed_keeps, changed_other}
-pub use Rattle.slotmap_keylist.proofs.Counts.{is_itself, no_more_than, one_itself, one_other, times_first, times_gone, times_joined, times_pushed, times_without, without_none, without_pushed}
-pub use Rattle.slotmap_keylist.proofs.Linking.{in_midst, none_last}
-pub use Rattle.slotmap_keylist.proofs.MapKeys.{key_live, key_there, keys_once}
-pub use Rattle.slotmap_keylist.proofs.Mapped.{entries-made, get-made, made, some-mapped}
-pub use Rattle.slotmap_keylist.proofs.Shown.{shown_content, shown_inserts, shown_leaves, shown_makes_room, shown_spent}
-pub use Rattle.slotmap_keylist.specs.Changed.{changed, changed_in}
-pub use Rattle.slotmap_keylist.specs.KeyLists.{is_key, last_or, same, times, without}
+pub use Rattle.slotmap_bounded.proofs.Alone.{len_alike}
+pub use Rattle.slotmap_bounded.proofs.Changed.{changed_gives, changed_here, changed_keeps, changed_other}
+pub use Rattle.slotmap_bounded.proofs.Counts.{is_itself, no_more_than, one_itself, one_other, times_first, times_gone, times_joined, times_pushed, times_without, without_none, without_pushed}
+pub use Rattle.slotmap_bounded.proofs.Linking.{in_midst, none_last}
+pub use Rattle.slotmap_bounded.proofs.MapKeys.{key_live, key_there, keys_once}
+pub use Rattle.slotmap_bounded.proofs.Mapped.{entries-made, get-made, made, some-mapped}
+pub use Rattle.slotmap_bounded.proofs.Shown.{shown_content, shown_inserts, shown_leaves, shown_makes_room, shown_spent}
+pub use Rattle.slotmap_bounded.specs.Changed.{changed, changed_in}
+pub use Rattle.slotmap_bounded.specs.KeyLists.{is_key, last_or, same, times, without}
 pub use Rattle.slotmap_links.proofs.Callers.{list_now, list_other, owners_stay}
 pub use Rattle.slotmap_links.proofs.Changes.{covered, list_cleared}
 pub use Rattle.slotmap_links.proofs.Counts.{one_itself as number_itself, one_other as number_other, same as same_number, same_or_other as same_or_other_number, times_first as often_first}

@@ -49,7 +49,7 @@ module _ {T : Type 0} where
       (changed_keeps nodes k (λ n. record n { value = v }) parent_in (λ n. refl))
       (changed_keeps nodes k (λ n. record n { value = v }) children_in (λ n. refl))
 
-  -- a node was moved, or came, and was put among the children of its parent
+  -- a node was moved or added: it now stands among the children of its parent
   module _ (old new : Nodes T) (scene : IsScene old) (k : Key) (parent : Option Key) (put : List Key → List Key) (moved : IsMoved old new k parent put)
       (more : (x : Key) (ks : List Key) → times x (put ks) ≡ times x ks + same k x) where
     listed_itself : (p : Key) → times k (children_of new p) ≡ is_parent parent p

@@ -1,6 +1,6 @@
 -- How a node is removed with all that is below it: down by the last child as far as a leaf, which goes, and on from its parent.
 use Rattle.std.proofs.Common.{◌*◌, ◌++◌, ◌+◌, ◌-◌, ◌<◌, ◌∷◌, ◌≡◌, ◌≢◌, ◌≤◌}
-use Rattle.slotmap_keylist.proofs.Linking.{last_in}
+use Rattle.slotmap_bounded.proofs.Linking.{last_in}
 use Rattle.slotmap_scene.proofs.Common.{IsMoved, IsScene, IsTree, IsWithin, Key, Node, Nodes, None, Option, Some, StepsTo, [], ap, arith, by_live, children_in, children_of, exact_keys, forgets}
 use Rattle.slotmap_scene.proofs.Common.{has_node, inl, inr, is_some, keys, keys_total, keys_up, lacks_node, last_or, len_alike, len_removed, length, option_map, parent_in, parent_of, refl}
 use Rattle.slotmap_scene.proofs.Common.{same_or_other, subst, suc, sym, times, times_pushed, value_of, without, without_child, zero, ℕ, ◌∙◌}

@@ -157,10 +157,6 @@ module _ {T : Type 0} (old new : Nodes T) (k : Key) (values : (q : Key) → has_
       let path = path_kept (Some p) (world.own ∷ world.above) (λ r is there. subst (λ x. IsWithin old x k → ⊥) (same_Some p r is) (out there)) world.path in
       world_of_child new under of k v here p w up (record { own = world.own; above = world.above; path = path; made = world.made })
 
-  pub world_below : (under : T → T → T) (v : T) (p : Key) (w : T) → value_of new k ≡ Some v → parent_of new k ≡ Some p → IsWorld under old p w
-      → (has_node old k → IsWithin old p k → ⊥) → IsWorld under new k (under v w)
-  world_below under = world_below_of under (λ v. v)
-
 -- after `reparent` a node is where its own value says, under its new parent, which is where it was
 module _ {T : Type 0} (old new : Nodes T) (k p : Key) {put : List Key → List Key} (trees : IsMoved old new k (Some p) put)
     (values : (q : Key) → value_of new q ≡ value_of old q) where

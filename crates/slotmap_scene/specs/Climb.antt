@@ -2,7 +2,7 @@
 use Rattle.std.specs.Prelude.{◌≡◌, ℕ, zero, suc, Option, Some, None, true, false}
 use Rattle.std.specs.FinMap as map
 use Rattle.slotmap.specs.Words.{Key}
-use Rattle.slotmap_keylist.specs.Changed.{changed}
+use Rattle.slotmap_bounded.specs.Changed.{changed}
 use Rattle.slotmap_scene.specs.Node.{Node, Nodes}
 
 module _ {T : Type 0} where

@@ -6,8 +6,8 @@ use Rattle.slotmap_scene.specs.Node.{Node, Nodes}
 use Rattle.slotmap_scene.specs.Climb.{IsTree, parent_of, with_parent}
 use Rattle.slotmap_scene.specs.declared.tree.Side.{Side}
 use Rattle.slotmap_scene.specs.declared.tree.Side.TheVariants.{Before, After}
-use Rattle.slotmap_keylist.specs.Changed.{changed}
-use Rattle.slotmap_keylist.specs.KeyLists.{is_key, same, times, without}
+use Rattle.slotmap_bounded.specs.Changed.{changed}
+use Rattle.slotmap_bounded.specs.KeyLists.{is_key, same, times, without}
 use Rattle.slotmap_links.specs.Lists.{first_or}
 
 -- the key behind k in a list, and the one in front of it, or another where there is none

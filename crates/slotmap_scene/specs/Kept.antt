@@ -5,7 +5,7 @@ use Rattle.std.specs.List.{filter}
 use Rattle.std.specs.FinMap as map
 use Rattle.slotmap.specs.Words.{Key, key_cmp, Content, IsLive}
 use Rattle.slotmap_bounded.specs.Indices.{HasKey, HaveIndices, found_at, keys_at}
-use Rattle.slotmap_keylist.specs.Mapped.{with_live}
+use Rattle.slotmap_bounded.specs.Mapped.{with_live}
 use Rattle.slotmap_links.specs.Lists.{Lists, list_of, IsIn, AreDisjoint, put_before, put_behind}
 use Rattle.slotmap_scene.specs.Node.{Node, Nodes}
 use Rattle.slotmap_scene.specs.Climb.{has_node}

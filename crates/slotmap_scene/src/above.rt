@@ -3,7 +3,7 @@
 ghost use Rattle.std.specs.Prelude.{◌≡◌, ◌<◌, nat_eq};
 ghost use Rattle.std.specs.Iterator.{YieldsFirstBy, item_count};
 ghost use Rattle.slotmap.specs.Words.{Key as KeyOf};
-ghost use Rattle.slotmap_keylist.specs.KeyLists.{times};
+ghost use Rattle.slotmap_bounded.specs.KeyLists.{times};
 ghost use Rattle.slotmap_scene.specs.Climb.{has_node, parent_of};
 ghost use Rattle.slotmap_scene.specs.Above.{GoesUp, HasRoot, roots_in};
 ghost use Rattle.slotmap_scene.specs.Kept.{parent_at};
@@ -12,7 +12,7 @@ use crate::Scene;
 use crate::family::Nodes;
 use crate::links::{NOBODY, index_of};
 use slotmap::{DefaultKey, Key, basic};
-use slotmap_keylist::{inner, outer};
+use slotmap_bounded::{inner, outer};
 use std::iter::FusedIterator;
 use std::marker::{Model, PhantomData};
 

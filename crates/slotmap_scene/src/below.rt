@@ -4,14 +4,14 @@ ghost use Rattle.std.specs.Prelude.{◌≡◌, ◌≢◌, ◌<◌, ◌≤◌, �
 ghost use Rattle.std.specs.Iterator.{YieldsFirstBy, item_count};
 ghost use Rattle.std.specs.List.{All};
 ghost use Rattle.slotmap.specs.Words.{Key as KeyOf};
-ghost use Rattle.slotmap_keylist.specs.KeyLists.{times};
+ghost use Rattle.slotmap_bounded.specs.KeyLists.{times};
 ghost use Rattle.slotmap_scene.specs.Below.{GoesDown, WalksBelow, all_below, keys_from};
 ghost use Rattle.slotmap_scene.specs.Climb.{IsWithin, has_node};
 ghost use Rattle.slotmap_scene.specs.Family.{children_of};
 
 use crate::Scene;
 use slotmap::Key;
-use slotmap_keylist::inner;
+use slotmap_bounded::inner;
 use std::alloc::AllocError;
 use std::iter::FusedIterator;
 use std::marker::Model;

@@ -4,8 +4,7 @@ ghost use Rattle.std.specs.Prelude.{◌≡◌, ◌≤◌, length, Some, IfSome, 
 ghost use Rattle.std.specs.Iterator.{YieldsFirstBy, YieldsLastBy, item_count, at_most, UpTo};
 
 use slotmap::{DefaultKey, Key};
-use slotmap_bounded::BoundedMap;
-use slotmap_keylist::outer;
+use slotmap_bounded::{BoundedMap, outer};
 use slotmap_links::Members;
 use std::alloc::AllocError;
 use std::fmt;

@@ -5,7 +5,7 @@ ghost use Rattle.slotmap_scene.specs.Climb.{ClimbsTo, IsWithin, has_node, lacks_
 
 use crate::Scene;
 use slotmap::Key;
-use slotmap_keylist::inner;
+use slotmap_bounded::inner;
 
 impl<K: Key, T: Drop> Scene<K, T> {
     /// Returns how many nodes are above a node, or `None` if it doesn't exist.

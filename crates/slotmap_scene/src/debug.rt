@@ -2,7 +2,7 @@
 
 use crate::Scene;
 use slotmap::{DefaultKey, Key};
-use slotmap_keylist::{inner, outer};
+use slotmap_bounded::{inner, outer};
 use std::fmt;
 
 // Where a walk through a tree is: at a node that was written, with those below it or without.

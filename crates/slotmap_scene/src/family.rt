@@ -5,7 +5,7 @@ ghost use Rattle.std.specs.FinMap as map;
 ghost use Rattle.std.specs.Borrow.{sem};
 ghost use Rattle.std.specs.Option.{option_copied_mut};
 ghost use Rattle.slotmap.specs.Words.{Key as KeyOf, HasVacant, IsContent, IsNew, IsSpent, KeepsSpent, Inserts, Keeps, Leaves, MakesRoom, RefusesCapacity, used};
-ghost use Rattle.slotmap_keylist.specs.KeyLists.{last_or, times};
+ghost use Rattle.slotmap_bounded.specs.KeyLists.{last_or, times};
 ghost use Rattle.slotmap_links.specs.Lists.{first_or};
 ghost use Rattle.slotmap_scene.specs.Above.{roots_in};
 ghost use Rattle.slotmap_scene.specs.Climb.{has_node, lacks_node, parent_of, with_parent};
@@ -23,7 +23,6 @@ use std::alloc::Global;
 use std::marker::{Model, PhantomData};
 use std::ops::Index;
 
-#[derive(Drop)]
 pub(crate) struct Nodes<T> {
     // The values, each under the key of its node.
     pub(crate) values: BoundedMap<DefaultKey, T>,
@@ -31,6 +30,16 @@ pub(crate) struct Nodes<T> {
     pub(crate) parents: Vec<u32>,
     // By the index of a key the indices of its children, in order.
     pub(crate) children: Links,
+}
+
+impl<T: Drop> Drop for Nodes<T> {
+    fn drop(self) {
+        let Nodes {
+            values: _values,
+            parents: _parents,
+            children: _children,
+        } = self;
+    }
 }
 
 impl<T> Model for Nodes<T> {

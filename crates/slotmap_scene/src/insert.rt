@@ -9,7 +9,7 @@ ghost use Rattle.slotmap_scene.specs.Refusals.{RefusesSibling};
 use crate::tree::Side;
 use crate::{AddError, Scene};
 use slotmap::{DefaultKey, Key};
-use slotmap_keylist::{inner, outer};
+use slotmap_bounded::{inner, outer};
 
 impl<K: Key, T: Drop> Scene<K, T> {
     // Adds a node with no children on this side of another one.

@@ -7,7 +7,7 @@ ghost use Rattle.slotmap_scene.specs.Node.{key_and_value};
 
 use crate::Scene;
 use slotmap::{DefaultKey, Key, basic};
-use slotmap_keylist::outer;
+use slotmap_bounded::outer;
 use std::iter::FusedIterator;
 use std::marker::{Model, PhantomData};
 

@@ -55,7 +55,7 @@ ghost use Rattle.std.specs.FinMap as map;
 ghost use Rattle.std.specs.Borrow.{sem};
 ghost use Rattle.std.specs.Option.{option_copied_mut};
 ghost use Rattle.slotmap.specs.Words.{Key as KeyOf, IsContent, IsNew, MakesRoom, RefusesCapacity, used};
-ghost use Rattle.slotmap_keylist.specs.KeyLists.{times};
+ghost use Rattle.slotmap_bounded.specs.KeyLists.{times};
 ghost use Rattle.slotmap_scene.specs.Climb.{has_node, parent_of};
 ghost use Rattle.slotmap_scene.specs.Family.{IsScene, children_of, is_parent, value_of};
 
@@ -65,7 +65,7 @@ pub use below::KeysBelow;
 pub use children::ChildKeys;
 pub use iter::{Iter, Keys, Values};
 use slotmap::{DefaultKey, InsertError, Key, ReserveError};
-use slotmap_keylist::{inner, outer};
+use slotmap_bounded::{inner, outer};
 use std::alloc::Global;
 use std::marker::{Model, PhantomData};
 use std::ops::Index;
@@ -92,11 +92,20 @@ pub mod world;
 /// A clause sees a content, as of a map of nodes. Its `live` is the finite map from the keys to the
 /// nodes, each with its value, its parent and its children, and `IsSpent` says which keys are never used
 /// again.
-#[derive(Drop)]
 pub struct Scene<K, T> {
     alloc: Global,
     nodes: Nodes<T>,
     key_type: PhantomData<K>,
+}
+
+impl<K, T: Drop> Drop for Scene<K, T> {
+    fn drop(self) {
+        let Scene {
+            alloc: _alloc,
+            nodes: _nodes,
+            key_type: _key_type,
+        } = self;
+    }
 }
 
 impl<K, T> Model for Scene<K, T> {

@@ -10,7 +10,7 @@ ghost use Rattle.slotmap_scene.specs.Refusals.{RefusesNode, RefusesChild, Refuse
 use crate::tree::Side;
 use crate::{AddError, ReparentError, Scene};
 use slotmap::{InsertError, Key};
-use slotmap_keylist::{inner, outer};
+use slotmap_bounded::{inner, outer};
 
 impl<K: Key, T: Drop> Scene<K, T> {
     /// Adds a root with no children, and returns its key, which no node had before.

@@ -2,7 +2,7 @@
 
 ghost use Rattle.std.specs.Prelude.{◌≡◌, ◌≢◌, ◌↔◌, ◌++◌, ◌∷◌, [], Some, None, IfErr, IfSome, OnOk, OnErr, IsSome, IsTrue, false, option_map};
 ghost use Rattle.slotmap.specs.Words.{Key as KeyOf, KeepsSpent};
-ghost use Rattle.slotmap_keylist.specs.KeyLists.{last_or};
+ghost use Rattle.slotmap_bounded.specs.KeyLists.{last_or};
 ghost use Rattle.slotmap_links.specs.Lists.{first_or};
 ghost use Rattle.slotmap_scene.specs.Climb.{IsWithin, has_node, parent_of};
 ghost use Rattle.slotmap_scene.specs.Family.{IsMoved, as_child, as_last_child, behind, children_of, in_front, placed, right_before, right_behind, siblings_of, value_of};
@@ -11,7 +11,7 @@ ghost use Rattle.slotmap_scene.specs.Refusals.{RefusesBeside};
 use crate::tree::Side;
 use crate::{MoveError, Scene};
 use slotmap::{DefaultKey, Key};
-use slotmap_keylist::{inner, outer};
+use slotmap_bounded::{inner, outer};
 
 impl<K: Key, T: Drop> Scene<K, T> {
     /// Returns the key of the first child of a node, or `None` if it has none or doesn't exist, in

@@ -30,7 +30,7 @@ ghost use Rattle.slotmap_scene.specs.WorldValue.{CallableUp, FoldsUp, IsComposed
 
 use crate::Scene;
 use slotmap::Key;
-use slotmap_keylist::{inner, outer};
+use slotmap_bounded::{inner, outer};
 
 /// A value that is given in the coordinates of a parent, as a position or a rotation is.
 ///

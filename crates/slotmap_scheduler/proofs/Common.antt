@@ -29,11 +29,11 @@ pub use Rattle.slotmap.proofs.Callers.{live-insert_still, none_of, removed_len, 
 pub use Rattle.slotmap.proofs.Callers.{spent_leaves, spent_removes, tied, untied, vacant_at_most}
 pub use Rattle.slotmap.specs.Words.{AreClones, Content, Inserts, IsCloneBy, IsCloneOf, IsContent, IsCopy, IsLive, IsNew, IsSpent, KeepsSpent, Key, Leaves, MakesRoom, Removes, index_after, key_cmp}
 pub use Rattle.slotmap.specs.Words.{used, with_value, without_values}
-pub use Rattle.slotmap_keylist.proofs.Alone.{alone-copy, alone-inserts, alone-keeps, alone-new, alone-removes, alone-written, used_alone}
-pub use Rattle.slotmap_keylist.proofs.Mapped.{contains-mapped, content-mapped, get-mapped, keys-mapped, len-mapped, live-mapped, mapped-clones, mapped-empty, mapped-insert, mapped-inserts}
-pub use Rattle.slotmap_keylist.proofs.Mapped.{mapped-leaves, mapped-new, mapped-removes, mapped-room, mapped-stays, mapped-with, mapped-written, used-mapped}
-pub use Rattle.slotmap_keylist.proofs.Shown.{shown_content, shown_leaves}
-pub use Rattle.slotmap_keylist.specs.Mapped.{map_values}
+pub use Rattle.slotmap_bounded.proofs.Alone.{alone-copy, alone-inserts, alone-keeps, alone-new, alone-removes, alone-written, used_alone}
+pub use Rattle.slotmap_bounded.proofs.Mapped.{contains-mapped, content-mapped, get-mapped, keys-mapped, len-mapped, live-mapped, mapped-clones, mapped-empty, mapped-insert, mapped-inserts}
+pub use Rattle.slotmap_bounded.proofs.Mapped.{mapped-leaves, mapped-new, mapped-removes, mapped-room, mapped-stays, mapped-with, mapped-written, used-mapped}
+pub use Rattle.slotmap_bounded.proofs.Shown.{shown_content, shown_leaves}
+pub use Rattle.slotmap_bounded.specs.Mapped.{map_values}
 pub use denote.Param.Always.{always_mut, mut_next}
 pub use Rattle.slotmap_scheduler.specs.Drain.{EmptiesSchedule, KeepsLent, SameLoan, YieldsInOrder, yielded_job}
 pub use Rattle.slotmap_scheduler.specs.Heap.{IsAbove, IsFirstBelow, IsHeap, IsHeapBut, IsIndexed, IsPlaced, IsSchedule, Jobs, Resettled, count_below, handles_of, heap_entry, is_due_at, is_under}

@@ -1,7 +1,7 @@
 -- The handles of a scheduler: the keys of its jobs, with the room that the map and the heap have.
 use Rattle.std.proofs.Common.{◌+◌, ◌-◌, ◌≡◌, ◌≤◌}
 use Rattle.slotmap.specs.KeysAlone.{keys_of}
-use Rattle.slotmap_keylist.specs.Mapped.{map_values}
+use Rattle.slotmap_bounded.specs.Mapped.{map_values}
 use Rattle.slotmap_scheduler.proofs.Common.{Content, Entry, Inserts, IsCloneBy, IsContent, IsCopy, IsLive, IsNew, IsSpent, Job, KeepsSpent, Key, Leaves, List, Removes, Some, Turn, Vec, alone-copy}
 use Rattle.slotmap_scheduler.proofs.Common.{alone-inserts, alone-new, alone-removes, alone-written, alone_spent, ap, arith, contains-keys_of, handles_of, inserted_not_spent, key_cmp, len-keys_of}
 use Rattle.slotmap_scheduler.proofs.Common.{mapped-empty, min, refl, shown_content, shown_leaves, spent_alone, timed, true, unplaced, used, used-mapped, used_alone, vacant_at_most, vec_capacity}

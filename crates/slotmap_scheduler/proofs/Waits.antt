@@ -1,7 +1,7 @@
 -- The waiting jobs: each handle is there once, and they are sorted by time.
 use Rattle.std.proofs.Common.{◌++◌, ◌∷◌, ◌≡◌, ◌≤◌}
 use Rattle.slotmap.specs.KeysAlone.{keys_of}
-use Rattle.slotmap_keylist.specs.Mapped.{map_values}
+use Rattle.slotmap_bounded.specs.Mapped.{map_values}
 use Rattle.slotmap_scheduler.proofs.Common.{itself, option_map, All, All-cons, All-head, All-nil, All-tail, AllByRecursion, InOrder, IsByTime, IsOnce, Job, Key, List, None, Some, T, Timed, Turn}
 use Rattle.slotmap_scheduler.proofs.Common.{Waiting, [], ap, arith, as_seen, below_all, by_turn, exact_keys, find, is_lt, is_sorted, job_of, key_cmp, keys-mapped, keys_total, list_map, nat_tests}
 use Rattle.slotmap_scheduler.proofs.Common.{refl, shown, tied, turn_cmp, unplaced, waiting_of, ℕ}

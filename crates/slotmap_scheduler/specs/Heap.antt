@@ -4,7 +4,7 @@ use Rattle.std.specs.Prelude.{get_or, length, min, vec_len, vec_capacity, slice_
 use Rattle.std.specs.declared.vec.Vec.{Vec}
 use Rattle.std.specs.Ordering.{is_lt}
 use Rattle.slotmap.specs.Words.{Key, key_cmp, Content, IsContent, without_values}
-use Rattle.slotmap_keylist.specs.Mapped.{map_content}
+use Rattle.slotmap_bounded.specs.Mapped.{map_content}
 use Rattle.slotmap_scheduler.specs.declared.Job.{Job}
 use Rattle.slotmap_scheduler.specs.declared.heap.Entry.{Entry}
 use Rattle.slotmap_scheduler.specs.Inverse.{IsInverse}

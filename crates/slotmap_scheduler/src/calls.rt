@@ -10,7 +10,7 @@ ghost use Rattle.slotmap_scheduler.specs.Listed.{TakesDue, due_at};
 use crate::heap::{count_due, make_room, put_in, set_turn, take_out};
 use crate::{RescheduleError, ScheduleError, Scheduler};
 use slotmap::{Key, ReserveError};
-use slotmap_keylist::{inner, outer};
+use slotmap_bounded::{inner, outer};
 use std::alloc::AllocError;
 
 impl<K: Key, T: Drop> Scheduler<K, T> {

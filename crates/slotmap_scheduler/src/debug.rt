@@ -2,7 +2,7 @@
 
 use crate::Scheduler;
 use slotmap::Key;
-use slotmap_keylist::outer;
+use slotmap_bounded::outer;
 use std::fmt;
 
 /// A list of the jobs that wait, each with its time and its handle, in the order in which they are

@@ -103,7 +103,7 @@ fn sift_down<T: Drop>(jobs: &mut Jobs<T>, heap: &mut Vec<Entry>, place: usize)
     }
 }
 
-// Moves an entry to its place: all others are in theirs.
+// Moves the one entry that is out of order to where it belongs in the heap.
 fn settle<T: Drop>(jobs: &mut Jobs<T>, heap: &mut Vec<Entry>, place: usize)
     requires placed { IsPlaced jobs.old.live heap.old.items }
     requires but { IsHeapBut place heap.old.items }

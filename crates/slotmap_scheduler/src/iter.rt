@@ -8,7 +8,7 @@ ghost use Rattle.slotmap_scheduler.specs.Listed.{ListsJobs};
 
 use crate::{Job, Scheduler};
 use slotmap::{DefaultKey, Key, basic};
-use slotmap_keylist::outer;
+use slotmap_bounded::outer;
 use std::iter::FusedIterator;
 use std::marker::{Model, PhantomData};
 

@@ -56,7 +56,7 @@ use heap::{Entry, Jobs};
 pub use into_iter::IntoIter;
 pub use iter::{Iter, Keys, Values};
 use slotmap::{DefaultKey, Key, ReserveError, SlotMap};
-use slotmap_keylist::inner;
+use slotmap_bounded::inner;
 use std::alloc::Global;
 use std::marker::{Model, PhantomData};
 use std::ops::Index;
@@ -76,13 +76,23 @@ struct Job<T> {
 /// A clause sees `waiting`, each handle with its time and its job, in the order in which they will be
 /// returned. `handles` says which handles are never used again, and `turns` how many turns were given
 /// out.
-#[derive(Drop)]
 pub struct Scheduler<K, T> {
     jobs: Jobs<T>,
     // The turns of the jobs, none before the one above it.
     heap: Vec<Entry>,
     count: u64,
     handle_type: PhantomData<K>,
+}
+
+impl<K, T: Drop> Drop for Scheduler<K, T> {
+    fn drop(self) {
+        let Scheduler {
+            jobs: _jobs,
+            heap: _heap,
+            count: _count,
+            handle_type: _handle_type,
+        } = self;
+    }
 }
 
 impl<K, T> Model for Scheduler<K, T> {

@@ -8,7 +8,7 @@ ghost use Rattle.slotmap_scheduler.specs.Retain.{RetainsJobs, CallableOnJobs};
 
 use crate::Scheduler;
 use slotmap::{DefaultKey, Key};
-use slotmap_keylist::{inner, outer};
+use slotmap_bounded::{inner, outer};
 
 impl<K: Key, T: Drop> Scheduler<K, T> {
     ghost use Rattle.slotmap_scheduler.specs.Lends.{lends_waiting};

@@ -3,6 +3,7 @@ use Rattle.std.proofs.Common.{◌≡◌, ◌<◌, ℕ, List, [], ◌∷◌, ◌+
 use Rattle.std.proofs.Common.{true, false, ap, subst, ◌∙◌, refl, arith, inl, inr}
 use Rattle.std.specs.{Bool.Decides, Prelude.codes, Prelude.IfSome, Str.bytes_eq}
 use Rattle.std.proofs.lemmas.Option.{none-some}
+use Rattle.std.specs.Option.{unwrap_or}
 use Rattle.std.proofs.lemmas.Slice.Eq.{bytes_eq-Decides}
 use Rattle.std.specs.Io.KnownBytes.{Appends, append_known}
 use Rattle.slotmap_script.specs.{ScriptText.lines_of, ScriptText.StopsParse, StopText.stop_text, StopText.Finishes}
@@ -49,6 +50,11 @@ module _ {C M : Type 0} (kind : MapKind C M) (known : Option (List ℕ)) (old : 
 
 same_status : (status other : ℕ) → Some status ≡ Some other → status ≡ other
 same_status status other same = cc
+
+-- a status below 3 isn't that of a write that failed
+pub status_below : (status : Option ℕ) (n : ℕ) → unwrap_or status 3 ≡ n → n < 3 → status ≡ Some n
+status_below None n is below = absurd (omega arith)
+status_below (Some m) n is below = ap Some is
 
 module _ (words : List (List ℕ)) (known : Option (List ℕ)) (old mid inner : Option (List ℕ)) (buffer : List ℕ) where
   bad_line : (kind : KindName) (number : ℕ) → StopsOn kind known (Appends old mid) (stop.BadLine number)

@@ -12,6 +12,7 @@ ghost use Rattle.slotmap_script.specs.declared.stop.Stop.TheVariants.{Output};
 ghost use Rattle.slotmap_script.specs.StopText.{stop_status, stop_text, Finishes};
 
 use crate::commands::{Commands, Detachable, Plain};
+use crate::lent::Lent;
 use crate::list::{Listed, load, write_slots};
 use crate::reply::write_replies;
 use crate::script::{End, Stretch, parse};
@@ -25,19 +26,73 @@ use std::alloc::Global;
 use std::io;
 use std::io::{BufWriter, Read, Write};
 
-/// Runs the script of the input on the kind of map that the words name, and returns the exit
-/// status and the writer.
+/// Runs the script of the input on the kind of map that the words name, prints to the output, and
+/// returns the exit status.
 ///
 /// The kinds are `basic`, `dense` and `hop`. All lines are parsed before the first is run. The
 /// status is one of these:
 ///
 /// - 0 after a run,
 /// - 2 if the words or a line are wrong,
-/// - 3 if the script can't be read, or memory for the script, the map or the replies runs out.
+/// - 3 if the script can't be read, memory for the script, the map or the replies runs out, or the
+///   output can't be written.
 ///
-/// All that was printed has then been passed on to the writer. There is no status if the output
-/// can't be written. After a write that failed nothing more is written.
-pub fn run_script<R: Read, W: Write + Drop>(
+/// Output is gathered in a buffer of 8,192 bytes. If there is no memory for the buffer, `no script`
+/// is printed, and the status is 3. After a write that failed nothing more is written.
+/// [`run_buffered`] tells such a write from the other causes of status 3.
+///
+/// ```
+/// use slotmap_script::run_script;
+///
+/// let words = vec![in alloc; String::from_str(alloc, "basic")?]?;
+/// let mut script = "insert 5\nlen\n".as_bytes();
+/// let mut printed = Vec::new(alloc);
+/// assert_eq!(rt; run_script(alloc, &words, &mut script, &mut printed), 0);
+/// assert_eq!(rt; printed.as_slice(), "key 4294967297\nlen 1\n".as_bytes());
+/// ```
+pub fn run_script<R: Read, W: Write>(
+    alloc: Global,
+    words: &[String],
+    input: &mut R,
+    output: &mut W,
+) -> u8
+    // What was printed, by the status. At 3 a write may have failed; so no clause says what was
+    // printed then.
+    ensures statuses { (result ≡ 0) ⊎ (result ≡ 2) ⊎ (result ≡ 3) }
+    ensures runs { result ≡ 0 → (text : List ℕ) × Runs (list_map string_bytes words.now) (R.remaining input.old) text
+        × Appends (W.contents output.old) (W.contents output.new) text }
+    ensures refuses { result ≡ 2 → (text : List ℕ) × Refuses (list_map string_bytes words.now) (R.remaining input.old) text
+        × Appends (W.contents output.old) (W.contents output.new) text }
+
+    // Words that name no kind are refused before the input is read.
+    ensures unread { kind_named (list_map string_bytes words.now) ≡ None → input.new ≡ input.old }
+{
+    let Ok(buffered) = BufWriter::new(alloc, Lent { writer: output }) else {
+        return say_no_script(output);
+    };
+    let (status, lent) = run_buffered(alloc, words, input, buffered);
+    let Lent { writer } = lent;
+    // No effect at run time. The proof reads here what the output holds at the end.
+    let _ = &*writer;
+    status.unwrap_or(3)
+}
+
+// Says that there is no memory, and returns the status.
+fn say_no_script<W: Write>(output: &mut W) -> u8
+    ensures { result ≡ 3 }
+{
+    if write_stop(output, &Stop::NoScript).is_ok() {
+        let _ = output.flush();
+    }
+    3
+}
+
+/// Does what [`run_script`] does with an output that is buffered, and returns the writer behind the
+/// buffer too.
+///
+/// There is no status if the output can't be written; after a write that failed nothing more is
+/// written. At each status all that was printed has left the buffer.
+pub fn run_buffered<R: Read, W: Write + Drop>(
     alloc: Global,
     words: &[String],
     input: &mut R,
@@ -64,7 +119,7 @@ pub fn run_script<R: Read, W: Write + Drop>(
 }
 
 /// Writes why a script ended early, passes on all that was written, and returns the status, as
-/// [`run_script`] has it. It returns `None` if that or an earlier write fails.
+/// [`run_buffered`] has it. It returns `None` if that or an earlier write fails.
 pub fn finish<W: Write + Drop>(ended: Result<(), Stop>, output: &mut BufWriter<W>) -> Option<u8>
     ensures ends { IfSome result (Finishes ended (Appends (writer_contents W.contents output.old) (writer_contents W.contents output.new))) }
     ensures passes_on { OnSome result (writer_buffer output.new ≡ []) }

@@ -3,7 +3,7 @@
 ghost use Rattle.std.specs.Prelude.{◌≡◌, ◌≢◌, ◌<◌, ℕ, [], Some};
 ghost use Rattle.std.specs.FinMap as map;
 ghost use Rattle.slotmap.specs.Words.{Key as KeyOf};
-ghost use Rattle.slotmap_keylist.specs.KeyLists.{times};
+ghost use Rattle.slotmap_bounded.specs.KeyLists.{times};
 ghost use Rattle.slotmap_graph.specs.Parts.{SeenEdge, edges_at};
 
 use slotmap::NodeKey;

@@ -3,7 +3,7 @@
 ghost use Rattle.std.specs.Prelude.{◌≡◌, ◌≢◌, Some, IsTrue};
 ghost use Rattle.std.specs.FinMap as map;
 ghost use Rattle.slotmap.specs.Words.{Key as KeyOf};
-ghost use Rattle.slotmap_keylist.specs.KeyLists.{without};
+ghost use Rattle.slotmap_bounded.specs.KeyLists.{without};
 ghost use Rattle.slotmap_scene.specs.Climb.{parent_of};
 ghost use Rattle.slotmap_scene.specs.Family.{children_of, placed, right_before, value_of};
 

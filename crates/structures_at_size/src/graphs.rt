@@ -3,7 +3,7 @@
 use crate::items::{first_of, increment, keep, last_of};
 use crate::random::Random;
 use crate::sums::{Sum, tell};
-use slotmap::NodeKey;
+use slotmap::{NodeKey, ReserveError};
 use slotmap_graph::{EdgeKey, EdgesAt, Graph};
 use std::alloc::{AllocError, Global};
 
@@ -107,18 +107,25 @@ fn sum_beside(graph: &Numbers, node: NodeKey) -> Sum {
     sum
 }
 
-// An edge: the numbers of its ends, and its own.
-fn add_edge_of(graph: &Numbers, from: NodeKey, to: NodeKey, value: u64, sum: &mut Sum) {
-    sum.add(number_of(graph, from));
-    sum.add(number_of(graph, to));
+// An edge: the numbers of its ends, and its own, which is also found by its key.
+fn add_edge_of(
+    graph: &Numbers,
+    edge: EdgeKey,
+    ends: (NodeKey, NodeKey),
+    value: u64,
+    sum: &mut Sum,
+) {
+    sum.add(number_of(graph, ends.0));
+    sum.add(number_of(graph, ends.1));
     sum.add(value);
+    sum.add_found(graph.edge(edge));
 }
 
 // Each edge.
 fn sum_of_edges(graph: &Numbers) -> Sum {
     let mut sum = Sum::new();
-    for (_, from, to, value) in graph.edge_references() {
-        add_edge_of(graph, from, to, *value, &mut sum);
+    for (edge, from, to, value) in graph.edge_references() {
+        add_edge_of(graph, edge, (from, to), *value, &mut sum);
     }
     sum
 }
@@ -126,20 +133,21 @@ fn sum_of_edges(graph: &Numbers) -> Sum {
 // Each edge from a node, and each edge to it.
 fn sum_of_edges_at(graph: &Numbers, node: NodeKey) -> Sum {
     let mut sum = Sum::new();
-    for (_, from, to, value) in graph.edge_references_from(node) {
-        add_edge_of(graph, from, to, *value, &mut sum);
+    for (edge, from, to, value) in graph.edge_references_from(node) {
+        add_edge_of(graph, edge, (from, to), *value, &mut sum);
     }
-    for (_, from, to, value) in graph.edge_references_to(node) {
-        add_edge_of(graph, from, to, *value, &mut sum);
+    for (edge, from, to, value) in graph.edge_references_to(node) {
+        add_edge_of(graph, edge, (from, to), *value, &mut sum);
     }
     sum
 }
 
-// The number of each node.
+// The number of each node, twice: the second one is found by its key.
 fn sum_of_all_nodes(graph: &Numbers) -> Sum {
     let mut sum = Sum::new();
-    for (_, number) in graph.node_references() {
+    for (node, number) in graph.node_references() {
         sum.add(*number);
+        sum.add_found(graph.node(node));
     }
     sum
 }
@@ -156,6 +164,48 @@ fn sum_along(graph: &Numbers, node: NodeKey) -> Sum {
     for _ in 0..graph.in_degree(node) {
         sum.add_found(graph.edge(edge));
         edge = graph.next_to(edge).unwrap_or_default();
+    }
+    sum
+}
+
+// How many edges there are, and their numbers from the last one on.
+fn sum_from_back(graph: &Numbers, edges: EdgesAt<'_, u64>) -> Sum {
+    let mut sum = Sum::new();
+    sum.add(edges.len() as u64);
+    for edge in edges.rev() {
+        sum.add_found(graph.edge(edge));
+    }
+    sum
+}
+
+// Prints the numbers of the edges to a node from the last one on, by a copy of their iterator.
+fn tell_from_back(rt: &HostRuntime, graph: &Numbers, node: NodeKey) -> bool {
+    match graph.edges_to(node).clone() {
+        Ok(edges) => tell(rt, "from back", sum_from_back(graph, edges)),
+        Err(_) => false,
+    }
+}
+
+// The numbers of all nodes and edges by their keys.
+fn sum_by_keys(graph: &Numbers) -> Sum {
+    let mut sum = Sum::new();
+    for node in graph.nodes() {
+        sum.add_found(graph.node(node));
+    }
+    for edge in graph.edges() {
+        sum.add_found(graph.edge(edge));
+    }
+    sum
+}
+
+// Which of these nodes and edges are in the graph.
+fn sum_of_live(graph: &Numbers, nodes: &[NodeKey], edges: &[EdgeKey]) -> Sum {
+    let mut sum = Sum::new();
+    for node in nodes {
+        sum.add(u64::from(graph.contains_node(*node)));
+    }
+    for edge in edges {
+        sum.add(u64::from(graph.contains_edge(*edge)));
     }
     sum
 }
@@ -188,6 +238,7 @@ fn search(rt: &HostRuntime, graph: &Numbers, node: NodeKey) -> bool {
     tell_nodes(rt, "neighbours", graph, graph.neighbours(rt.alloc(), node))
         && tell(rt, "beside", sum_beside(graph, node))
         && tell(rt, "along", sum_along(graph, node))
+        && tell_from_back(rt, graph, node)
         && tell(rt, "with ends", sum_of_edges_at(graph, node))
         && tell_nodes(rt, "reachable", graph, graph.reachable(rt.alloc(), node))
 }
@@ -222,10 +273,9 @@ fn tell_closing(rt: &HostRuntime, graph: &Numbers) -> bool {
     tell_cycle(rt, graph, from, to)
 }
 
-// Adds an edge that closes a cycle through all of these nodes, and removes it.
-fn close(rt: &HostRuntime, graph: &mut Numbers, nodes: &[NodeKey]) -> bool {
-    let back = graph.add_edge(first_of(nodes), last_of(nodes), 0);
-    let back = back.unwrap_or_default();
+// Adds an edge that closes a cycle, and removes it.
+fn close(rt: &HostRuntime, graph: &mut Numbers, from: NodeKey, to: NodeKey) -> bool {
+    let back = graph.add_edge(from, to, 0).unwrap_or_default();
     tell_closing(rt, graph) && graph.remove_edge(back).is_some()
 }
 
@@ -308,7 +358,8 @@ fn look(
     search(rt, graph, hub)
         && search(rt, graph, last_of(nodes))
         && sort(rt, graph)
-        && close(rt, graph, nodes)
+        && close(rt, graph, first_of(nodes), last_of(nodes))
+        && close(rt, graph, last_of(nodes), last_of(nodes))
         && sort(rt, graph)
         && tell(rt, "found", find(graph, hub, nodes, random, 10))
 }
@@ -333,6 +384,8 @@ fn change(
         "removed nodes",
         remove_nodes(graph, nodes, random, turns / 2),
     ) && tell(rt, "left", sum_of(graph, nodes))
+        && tell(rt, "by keys", sum_by_keys(graph))
+        && tell(rt, "live", sum_of_live(graph, nodes, edges))
 }
 
 // The same of all edges.
@@ -359,7 +412,9 @@ fn clear(
     graph.remove_edges_of(hub);
     let told = tell(rt, "without the hub", sum_of(graph, nodes));
     graph.clear();
-    told && tell(rt, "cleared", sum_of_counts(graph)) && tell(rt, "copied", sum_of(copy, nodes))
+    told && graph.is_empty()
+        && tell(rt, "cleared", sum_of_counts(graph))
+        && tell(rt, "copied", sum_of(copy, nodes))
 }
 
 // Copies a graph, and removes all from the first one.
@@ -402,7 +457,29 @@ fn run_in(
     run_with_hub(rt, graph, nodes.as_slice(), random, hub)
 }
 
-// The same in a graph that is made.
+// Whether a graph was made that is empty and has room for so many nodes and edges.
+fn is_made(made: Result<Numbers, ReserveError>, nodes: usize, edges: usize) -> bool {
+    match made {
+        Ok(graph) => {
+            graph.is_empty() && graph.node_capacity() >= nodes && graph.edge_capacity() >= edges
+        }
+        Err(_) => false,
+    }
+}
+
+// Makes a graph in each way.
+fn make_all(alloc: Global, nodes: usize, edges: usize) -> bool {
+    is_made(Graph::new(alloc), 0, 0)
+        && is_made(Graph::with_key(alloc), 0, 0)
+        && is_made(Graph::with_capacity(alloc, nodes, edges), nodes, edges)
+        && is_made(
+            Graph::with_capacity_and_key(alloc, nodes, edges),
+            nodes,
+            edges,
+        )
+}
+
+// The calls on a graph that is made.
 fn make(rt: &HostRuntime, size: u64) -> bool {
     let count = size as usize;
     let Ok(mut graph) = Graph::with_capacity_and_key(rt.alloc(), count, count) else {
@@ -415,5 +492,6 @@ fn make(rt: &HostRuntime, size: u64) -> bool {
 /// Makes the calls of a graph that may ask for memory or go over all elements, and returns whether they
 /// succeeded.
 pub fn run(rt: &HostRuntime, size: u64) -> bool {
-    println!(rt; " graph").is_ok() && make(rt, size)
+    let count = size as usize;
+    println!(rt; " graph").is_ok() && make_all(rt.alloc(), count, count / 2) && make(rt, size)
 }

@@ -3,6 +3,7 @@
 use crate::items::{increment, keep};
 use crate::random::Random;
 use crate::sums::{Sum, tell};
+use slotmap::ReserveError;
 use slotmap_list::{Cursor, PushError, StableList};
 use std::alloc::{AllocError, Global};
 
@@ -44,6 +45,47 @@ fn sum_by_steps(list: &Numbers) -> Sum {
             sum.add(*value);
             at = prev;
         }
+    }
+    sum
+}
+
+// The numbers by their cursors, from front to back, each with the number before it.
+fn sum_by_cursors(list: &Numbers) -> Sum {
+    let mut sum = Sum::new();
+    for cursor in list.cursors() {
+        sum.add_found(list.get(cursor));
+        sum.add_found(list.get(list.prev(cursor).unwrap_or_default()));
+    }
+    sum
+}
+
+// The numbers from the second one on.
+fn sum_from_second(list: &Numbers) -> Sum {
+    let first = list.first().unwrap_or_default();
+    let second = list.next(first).unwrap_or_default();
+    let mut sum = Sum::new();
+    for (cursor, value) in list.iter_from(second) {
+        sum.add_found(list.get(cursor));
+        sum.add(*value);
+    }
+    sum
+}
+
+// The numbers at both ends, and how many there are.
+fn sum_of_ends(list: &Numbers) -> Sum {
+    let mut sum = Sum::new();
+    sum.add_found(list.front());
+    sum.add_found(list.back());
+    sum.add_found(list.get(list.last().unwrap_or_default()));
+    sum.add(list.len() as u64);
+    sum
+}
+
+// Which of these cursors are in the list.
+fn sum_of_places(list: &Numbers, cursors: &[Cursor]) -> Sum {
+    let mut sum = Sum::new();
+    for cursor in cursors {
+        sum.add(u64::from(list.contains(*cursor)));
     }
     sum
 }
@@ -130,6 +172,12 @@ fn write_all(list: &mut Numbers, cursors: &[Cursor]) {
     }
 }
 
+// Adds 1 to the number at each end.
+fn write_ends(list: &mut Numbers) {
+    increment(list.front_mut());
+    increment(list.back_mut());
+}
+
 // Removes numbers that are divisible by 3.
 #[tactic(auto, using(slotmap_list::proofs::Visiting::callable_in_order))]
 fn retain_others(list: &mut Numbers) {
@@ -178,27 +226,44 @@ fn extend(list: &mut Numbers, alloc: Global, count: u64) -> bool {
     }
 }
 
-// Takes the numbers from both ends in turn.
+// Takes the numbers from both ends in turn. Each has the cursor that was at its end.
 fn pop_all(list: &mut Numbers) -> Sum {
     let mut sum = Sum::new();
     for _ in 0..list.len() {
-        if let Some((_, value)) = list.pop_front() {
+        let (first, last) = (list.first(), list.last());
+        if let Some((cursor, value)) = list.pop_front() {
             sum.add(value);
+            sum.add(u64::from(first == Some(cursor)));
         }
-        if let Some((_, value)) = list.pop_back() {
+        if let Some((cursor, value)) = list.pop_back() {
             sum.add(value);
+            sum.add(u64::from(last == Some(cursor)));
         }
     }
     sum
 }
 
-// Takes all numbers.
-fn drain_all(list: &mut Numbers) -> Sum {
+// Takes all numbers. Each of them is the index of its cursor among these.
+fn drain_all(list: &mut Numbers, cursors: &[Cursor]) -> Sum {
     let mut sum = Sum::new();
-    for (_, value) in list.drain() {
+    for (cursor, value) in list.drain() {
         sum.add(value);
+        sum.add(u64::from(cursors.get(value as usize) == Some(&cursor)));
     }
     sum
+}
+
+// The cursors from front to back.
+fn all_cursors(list: &Numbers, alloc: Global) -> Result<Vec<Cursor>, AllocError> {
+    list.cursors().collect(alloc)
+}
+
+// Drains a list of the numbers from 0 on, and prints them.
+fn tell_drained(rt: &HostRuntime, list: &mut Numbers) -> bool {
+    match all_cursors(list, rt.alloc()) {
+        Ok(cursors) => tell(rt, "drained", drain_all(list, cursors.as_slice())),
+        Err(_) => false,
+    }
 }
 
 // The numbers of a list that is consumed, from both ends in turn.
@@ -249,7 +314,8 @@ fn insert_and_move(
         && tell(rt, "by steps", sum_by_steps(list))
         && tell(rt, "moves", move_beside(list, cursors, random, turns));
     write_all(list, cursors);
-    moved && tell(rt, "moved and written", sum_of(list))
+    write_ends(list);
+    moved && tell(rt, "moved and written", sum_of(list)) && tell(rt, "ends", sum_of_ends(list))
 }
 
 // Keeps some elements.
@@ -264,6 +330,9 @@ fn retain_and_remove(
     tell(rt, "retained", sum_of(list))
         && tell(rt, "removed", remove_some(list, cursors, random, size / 2))
         && tell_vector(rt, "left", list)
+        && tell(rt, "in the list", sum_of_places(list, cursors))
+        && tell(rt, "by cursors", sum_by_cursors(list))
+        && tell(rt, "from the second", sum_from_second(list))
 }
 
 // Copies a list and clears it. The copy is used up.
@@ -273,7 +342,7 @@ fn copy(rt: &HostRuntime, list: &mut Numbers) -> bool {
     };
     list.clear();
     let copied = consume(copy);
-    tell(rt, "cleared", sum_of(list)) && tell(rt, "copied", copied)
+    list.is_empty() && tell(rt, "cleared", sum_of(list)) && tell(rt, "copied", copied)
 }
 
 // The calls on an empty list.
@@ -306,7 +375,7 @@ fn append(rt: &HostRuntime, list: &mut Numbers, other: &mut Numbers, size: u64) 
         && list.append(other).is_ok()
         && tell(rt, "appended", sum_of(list))
         && tell(rt, "popped", pop_all(list))
-        && tell(rt, "drained", drain_all(other))
+        && tell_drained(rt, other)
 }
 
 // Two lists of many values.
@@ -320,13 +389,14 @@ fn run_append(rt: &HostRuntime, size: u64) -> bool {
 // Fills an empty list with many values at once, in room that was reserved.
 fn extend_reserved(rt: &HostRuntime, list: &mut Numbers, size: u64) -> bool {
     list.reserve(size as usize).is_ok()
+        && list.capacity() >= size as usize
         && extend(list, rt.alloc(), size)
-        && tell(rt, "drained", drain_all(list))
+        && tell_drained(rt, list)
 }
 
-// An empty list that takes many values.
-fn run_extend(rt: &HostRuntime, size: u64) -> bool {
-    match StableList::new(rt.alloc()) {
+// A list that was made empty takes many values.
+fn run_extend(rt: &HostRuntime, made: Result<Numbers, ReserveError>, size: u64) -> bool {
+    match made {
         Ok(mut list) => extend_reserved(rt, &mut list, size),
         Err(_) => false,
     }
@@ -338,5 +408,7 @@ pub fn run(rt: &HostRuntime, size: u64) -> bool {
     println!(rt; " list").is_ok()
         && run_reserved(rt, size)
         && run_append(rt, size)
-        && run_extend(rt, size)
+        && run_extend(rt, StableList::new(rt.alloc()), size)
+        && run_extend(rt, StableList::with_key(rt.alloc()), size)
+        && run_extend(rt, StableList::with_capacity_and_key(rt.alloc(), 1), size)
 }

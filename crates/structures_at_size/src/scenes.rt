@@ -1,13 +1,17 @@
 //! Scenes of numbers: wide, deep, and by chance.
 
+mod steps;
+
 use crate::items::{first_of, increment, keep, last_of};
 use crate::random::Random;
+use crate::scenes::steps::run_siblings;
 use crate::sums::{Sum, tell};
-use slotmap::DefaultKey;
+use slotmap::{DefaultKey, ReserveError};
 use slotmap_scene::Scene;
 use slotmap_scene::world::Offset;
+use std::alloc::Global;
 
-type Numbers = Scene<DefaultKey, u64>;
+pub(crate) type Numbers = Scene<DefaultKey, u64>;
 
 // The shapes of the trees.
 #[derive(Clone, Copy)]
@@ -140,6 +144,30 @@ fn sum_of_all(scene: &Numbers) -> Sum {
     sum
 }
 
+// All numbers, and the number above each node.
+fn sum_by_keys(scene: &Numbers) -> Sum {
+    let mut sum = Sum::new();
+    for value in scene.values() {
+        sum.add(*value);
+    }
+    for node in scene.keys() {
+        sum.add_found(scene.get(scene.parent(node).unwrap_or_default()));
+    }
+    sum
+}
+
+// Which of these nodes are in the scene, and how many the iterators over all nodes yield.
+fn sum_of_live(scene: &Numbers, nodes: &[DefaultKey]) -> Sum {
+    let mut sum = Sum::new();
+    for node in nodes {
+        sum.add(u64::from(scene.contains_key(*node)));
+    }
+    sum.add(scene.iter().len() as u64);
+    sum.add(scene.keys().len() as u64);
+    sum.add(scene.values().len() as u64);
+    sum
+}
+
 // Moves nodes to the end of a node's children.
 fn move_to_end(
     scene: &mut Numbers,
@@ -212,6 +240,7 @@ fn run_wide(rt: &HostRuntime, scene: &mut Numbers, nodes: &mut Vec<DefaultKey>, 
         && move_wide(rt, scene, nodes.as_slice(), &mut random, root)
         && tell_below(rt, "wide", scene, root)
         && tell(rt, "by links", sum_below(scene, root))
+        && run_siblings(rt, scene, nodes.as_slice(), &mut random, root)
 }
 
 // Moves children of a root to the end, and makes roots of some.
@@ -290,9 +319,11 @@ fn change(
 ) -> bool {
     write_all(scene, nodes);
     let told = tell(rt, "removed", remove_by_chance(scene, nodes, random, 5))
-        && tell(rt, "left", sum_of_all(scene));
+        && tell(rt, "left", sum_of_all(scene))
+        && tell(rt, "by keys", sum_by_keys(scene))
+        && tell(rt, "live", sum_of_live(scene, nodes));
     scene.clear();
-    told && tell(rt, "cleared", sum_of_all(scene))
+    told && scene.is_empty() && tell(rt, "cleared", sum_of_all(scene))
 }
 
 // Adds offsets to a scene, each below the one before it, and returns the last one.
@@ -324,13 +355,20 @@ fn tell_places(rt: &HostRuntime, scene: &Scene<DefaultKey, Offset>) -> bool {
     tell(rt, "places", sum_of_places(places.as_slice()))
 }
 
+// Prints a place, if there is one.
+fn tell_place(rt: &HostRuntime, what: &str, place: Option<Offset>) -> bool {
+    let Some(place) = place else {
+        return false;
+    };
+    println!(rt; "  {what}: {}, {}", place.x, place.y).is_ok()
+}
+
 // Prints where the last of some offsets lies, each below the one before it. There is no such place where a call failed.
 fn run_offsets(rt: &HostRuntime, scene: &mut Scene<DefaultKey, Offset>, size: u64) -> bool {
     let last = add_offsets(scene, size);
-    let Some(place) = scene.world(last) else {
-        return false;
-    };
-    println!(rt; "  world: {}, {}", place.x, place.y).is_ok() && tell_places(rt, scene)
+    tell_place(rt, "world", scene.world(last))
+        && tell_place(rt, "world transform", scene.world_transform(last))
+        && tell_places(rt, scene)
 }
 
 // The same in a scene of its own.
@@ -365,10 +403,27 @@ fn make(rt: &HostRuntime, shape: Shape, size: u64) -> bool {
     run_shape(rt, shape, &mut scene, &mut nodes, size)
 }
 
+// Whether a scene was made that is empty and has room for so many nodes.
+fn is_made(made: Result<Numbers, ReserveError>, room: usize) -> bool {
+    match made {
+        Ok(scene) => scene.is_empty() && scene.capacity() >= room,
+        Err(_) => false,
+    }
+}
+
+// Makes a scene in each way.
+fn make_all(alloc: Global, room: usize) -> bool {
+    is_made(Scene::new(alloc), 0)
+        && is_made(Scene::with_key(alloc), 0)
+        && is_made(Scene::with_capacity(alloc, room), room)
+        && is_made(Scene::with_capacity_and_key(alloc, room), room)
+}
+
 /// Makes the calls of a scene that may ask for memory or go over all elements, and returns whether they
 /// succeeded.
 pub fn run(rt: &HostRuntime, size: u64) -> bool {
     println!(rt; " scene").is_ok()
+        && make_all(rt.alloc(), size as usize)
         && make(rt, Shape::Wide, size)
         && make(rt, Shape::Deep, size)
         && make(rt, Shape::Chance, size)

@@ -3,8 +3,9 @@
 use crate::items::{increment, keep};
 use crate::random::Random;
 use crate::sums::{Sum, tell};
-use slotmap::DefaultKey;
+use slotmap::{DefaultKey, ReserveError};
 use slotmap_scheduler::Scheduler;
+use std::alloc::Global;
 
 type Numbers = Scheduler<DefaultKey, u64>;
 
@@ -66,7 +67,7 @@ fn sum_of(jobs: &Numbers) -> Sum {
     sum
 }
 
-// The time of each job, by the list of the handles, and then each number.
+// The time of each job, by the list of the handles, then each number, and then each job by its handle.
 fn sum_of_lists(jobs: &Numbers) -> Sum {
     let mut sum = Sum::new();
     for handle in jobs.keys() {
@@ -74,6 +75,23 @@ fn sum_of_lists(jobs: &Numbers) -> Sum {
     }
     for number in jobs.values() {
         sum.add(*number);
+    }
+    for (handle, time, number) in jobs.iter() {
+        sum.add(time);
+        sum.add(*number);
+        sum.add_found(jobs.get(handle));
+    }
+    sum
+}
+
+// How many jobs the iterators over all jobs yield, and which of these jobs wait.
+fn sum_of_waiting(jobs: &Numbers, handles: &[DefaultKey]) -> Sum {
+    let mut sum = Sum::new();
+    sum.add(jobs.iter().len() as u64);
+    sum.add(jobs.keys().len() as u64);
+    sum.add(jobs.values().len() as u64);
+    for handle in handles {
+        sum.add(u64::from(jobs.contains(*handle)));
     }
     sum
 }
@@ -88,34 +106,60 @@ fn sum_of_handles(jobs: &Numbers, handles: &[DefaultKey]) -> Sum {
     sum
 }
 
-// Takes the jobs that are due one by one, each with the time of the next one.
+// Takes the jobs that are due one by one. Each is the next one, whose time and number come before its own number.
 fn pop_due(jobs: &mut Numbers, now: u64) -> Sum {
     let mut sum = Sum::new();
     for _ in 0..jobs.len() {
-        let Some((_, number)) = jobs.pop_due(now) else {
+        let Some((time, next)) = jobs.peek() else {
+            break;
+        };
+        sum.add(time);
+        sum.add_found(jobs.get(next));
+        let Some((handle, number)) = jobs.pop_due(now) else {
             break;
         };
         sum.add(number);
-        if let Some((time, _)) = jobs.peek() {
-            sum.add(time);
+        sum.add(u64::from(handle == next));
+    }
+    sum
+}
+
+// A job that was taken out: its time, its number, and the number that has its handle in another scheduler.
+fn add_taken(other: &Numbers, time: u64, handle: DefaultKey, number: u64, sum: &mut Sum) {
+    sum.add(time);
+    sum.add(number);
+    sum.add_found(other.get(handle));
+}
+
+// Takes the next job and the next one that is due in turn. They wait in the other scheduler too.
+fn pop_with_times(jobs: &mut Numbers, other: &Numbers, now: u64) -> Sum {
+    let mut sum = Sum::new();
+    for _ in 0..other.len() / 4 {
+        if let Some((time, handle, number)) = jobs.pop_next() {
+            add_taken(other, time, handle, number, &mut sum);
+        }
+        if let Some((time, handle, number)) = jobs.pop_due_with_time(now) {
+            add_taken(other, time, handle, number, &mut sum);
         }
     }
     sum
 }
 
-// The numbers of jobs.
-fn sum_of_jobs(jobs: &[(DefaultKey, u64)]) -> Sum {
+// Jobs that were taken out at once: their numbers, and those that have their handles in a scheduler.
+fn sum_of_taken(jobs: &[(DefaultKey, u64)], other: &Numbers) -> Sum {
     let mut sum = Sum::new();
-    for (_, number) in jobs {
+    for (handle, number) in jobs {
         sum.add(*number);
+        sum.add_found(other.get(*handle));
     }
     sum
 }
 
-// Takes the jobs that are due at once, and prints their numbers.
-fn tell_all_due(rt: &HostRuntime, what: &str, jobs: &mut Numbers, now: u64) -> bool {
+// Takes the jobs that are due at once, and prints their numbers. They wait no more.
+fn tell_all_due(rt: &HostRuntime, jobs: &mut Numbers, now: u64) -> bool {
     let mut due = Vec::new(rt.alloc());
-    jobs.pop_all_due(now, &mut due).is_ok() && tell(rt, what, sum_of_jobs(due.as_slice()))
+    jobs.pop_all_due(now, &mut due).is_ok()
+        && tell(rt, "all due", sum_of_taken(due.as_slice(), jobs))
 }
 
 // Schedules, and moves.
@@ -149,8 +193,9 @@ fn pop(
     tell(rt, "due", pop_due(jobs, 250))
         && jobs.reserve(size as usize).is_ok()
         && schedule_all(jobs, handles, random, size, size / 2)
-        && tell_all_due(rt, "all due", jobs, 500)
+        && tell_all_due(rt, jobs, 500)
         && tell(rt, "left", sum_of_handles(jobs, handles.as_slice()))
+        && tell(rt, "waiting", sum_of_waiting(jobs, handles.as_slice()))
 }
 
 // Adds its time to each number, and keeps those that 3 doesn't divide then.
@@ -161,22 +206,20 @@ fn retain_some(jobs: &mut Numbers) {
     });
 }
 
-// Drains a scheduler: each job with its time.
-fn drain(jobs: &mut Numbers) -> Sum {
+// Drains a scheduler: each job with its time, and with its number in another scheduler.
+fn drain(jobs: &mut Numbers, other: &Numbers) -> Sum {
     let mut sum = Sum::new();
-    for (_, time, number) in jobs.drain() {
-        sum.add(time);
-        sum.add(number);
+    for (handle, time, number) in jobs.drain() {
+        add_taken(other, time, handle, number, &mut sum);
     }
     sum
 }
 
-// Takes a scheduler apart: each job with its time.
-fn sum_in_order(jobs: Numbers) -> Sum {
+// Takes a scheduler apart: the same.
+fn sum_in_order(jobs: Numbers, other: &Numbers) -> Sum {
     let mut sum = Sum::new();
-    for (_, time, number) in jobs {
-        sum.add(time);
-        sum.add(number);
+    for (handle, time, number) in jobs {
+        add_taken(other, time, handle, number, &mut sum);
     }
     sum
 }
@@ -184,32 +227,63 @@ fn sum_in_order(jobs: Numbers) -> Sum {
 // Takes a copy apart.
 fn take_apart(rt: &HostRuntime, jobs: &Numbers) -> bool {
     match jobs.clone() {
-        Ok(copy) => tell(rt, "in order", sum_in_order(copy)),
+        Ok(copy) => tell(rt, "in order", sum_in_order(copy, jobs)),
         Err(_) => false,
     }
 }
 
 // Keeps some jobs of a copy, and drains it.
-fn retain_and_drain(rt: &HostRuntime, jobs: &Numbers, handles: &[DefaultKey]) -> bool {
-    let Ok(mut copy) = jobs.clone() else {
-        return false;
-    };
-    retain_some(&mut copy);
-    tell(rt, "retained", sum_of_handles(&copy, handles))
-        && tell(rt, "drained", drain(&mut copy))
+fn retain_and_drain(
+    rt: &HostRuntime,
+    copy: &mut Numbers,
+    jobs: &Numbers,
+    handles: &[DefaultKey],
+) -> bool {
+    retain_some(copy);
+    tell(rt, "retained", sum_of_handles(copy, handles))
+        && tell(rt, "drained", drain(copy, jobs))
         && copy.is_empty()
 }
 
-// Copies a scheduler, and clears it. All jobs of the copy are taken out.
-fn copy(rt: &HostRuntime, jobs: &mut Numbers, handles: &[DefaultKey]) -> bool {
-    let Ok(mut copy) = jobs.clone() else {
-        return false;
-    };
+// The same, with the copy made.
+fn drain_copy(rt: &HostRuntime, jobs: &Numbers, handles: &[DefaultKey]) -> bool {
+    match jobs.clone() {
+        Ok(mut copy) => retain_and_drain(rt, &mut copy, jobs, handles),
+        Err(_) => false,
+    }
+}
+
+// Takes all jobs of a copy, some of them one by one.
+fn pop_all(rt: &HostRuntime, copy: &mut Numbers, jobs: &Numbers) -> bool {
+    let mut due = Vec::new(rt.alloc());
+    tell(rt, "with times", pop_with_times(copy, jobs, 700))
+        && copy.pop_all_due(1000, &mut due).is_ok()
+        && tell(rt, "copied", sum_of_taken(due.as_slice(), jobs))
+}
+
+// The same, with the copy made.
+fn pop_copy(rt: &HostRuntime, jobs: &Numbers) -> bool {
+    match jobs.clone() {
+        Ok(mut copy) => pop_all(rt, &mut copy, jobs),
+        Err(_) => false,
+    }
+}
+
+// Clears a scheduler, and takes the jobs out of its copies.
+fn clear(rt: &HostRuntime, jobs: &mut Numbers, copy: &Numbers, handles: &[DefaultKey]) -> bool {
     jobs.clear();
     tell(rt, "cleared", sum_of(jobs))
-        && take_apart(rt, &copy)
-        && retain_and_drain(rt, &copy, handles)
-        && tell_all_due(rt, "copied", &mut copy, 1000)
+        && take_apart(rt, copy)
+        && drain_copy(rt, copy, handles)
+        && pop_copy(rt, copy)
+}
+
+// Copies a scheduler, and clears it.
+fn copy(rt: &HostRuntime, jobs: &mut Numbers, handles: &[DefaultKey]) -> bool {
+    match jobs.clone() {
+        Ok(copy) => clear(rt, jobs, &copy, handles),
+        Err(_) => false,
+    }
 }
 
 // The calls on an empty scheduler.
@@ -226,7 +300,23 @@ fn run_in(
         && copy(rt, jobs, handles.as_slice())
 }
 
-// The same in a scheduler that is made.
+// Whether a scheduler was made in which no job waits, with room for so many.
+fn is_made(made: Result<Numbers, ReserveError>, room: usize) -> bool {
+    match made {
+        Ok(jobs) => jobs.is_empty() && jobs.capacity() >= room,
+        Err(_) => false,
+    }
+}
+
+// Makes a scheduler in each way.
+fn make_all(alloc: Global, room: usize) -> bool {
+    is_made(Scheduler::new(alloc), 0)
+        && is_made(Scheduler::with_key(alloc), 0)
+        && is_made(Scheduler::with_capacity(alloc, room), room)
+        && is_made(Scheduler::with_capacity_and_key(alloc, room), room)
+}
+
+// The calls on a scheduler that is made.
 fn make(rt: &HostRuntime, size: u64) -> bool {
     let Ok(mut jobs) = Scheduler::with_capacity(rt.alloc(), size as usize) else {
         return false;
@@ -238,5 +328,5 @@ fn make(rt: &HostRuntime, size: u64) -> bool {
 /// Makes the calls of a scheduler that may ask for memory or go over all elements, and returns whether they
 /// succeeded.
 pub fn run(rt: &HostRuntime, size: u64) -> bool {
-    println!(rt; " scheduler").is_ok() && make(rt, size)
+    println!(rt; " scheduler").is_ok() && make_all(rt.alloc(), size as usize) && make(rt, size)
 }

@@ -1,15 +1,21 @@
 //! Worlds of numbers, with numbers as components. [`run`] alone names the tables.
 
+mod keys;
 mod loops;
 
 use crate::items::{increment, keep};
 use crate::random::Random;
 use crate::sums::{Sum, tell};
+use crate::worlds::keys::run_keys;
 use crate::worlds::loops::run_loops;
-use slotmap::{DefaultKey, SecondaryMap, SparseSecondaryMap};
+use slotmap::{DefaultKey, ReserveError, SecondaryMap, SparseSecondaryMap};
 use slotmap_entities::{Apart, CloneTable, CloneTables, First, Kind, Second, Table, Tables, World};
+use std::alloc::Global;
 
 pub(crate) type Numbers<T> = World<DefaultKey, u64, T>;
+
+// What a removed entity had.
+type Parts = (Option<u64>, (Option<u64>, ()));
 
 // Spawns a number, with a component if it is even: the number, twice.
 fn spawn<T, C>(world: &mut Numbers<T>, keys: &mut Vec<DefaultKey>, number: u64) -> bool
@@ -62,7 +68,7 @@ fn sum_of<T: Tables<DefaultKey>>(world: &Numbers<T>) -> Sum {
     sum
 }
 
-// The components of a kind, in packed order.
+// The entities with a component of a kind, in packed order, each before the component.
 pub(crate) fn sum_with<'a, T, C>(world: &'a Numbers<T>) -> Sum
 where
     T: Tables<DefaultKey>,
@@ -70,13 +76,14 @@ where
     C::Table: Table<DefaultKey, Component = u64> + 'a,
 {
     let mut sum = Sum::new();
-    for (_, component) in world.with::<C>() {
+    for (key, component) in world.with::<C>() {
+        sum.add_found(world.get(key));
         sum.add(*component);
     }
     sum
 }
 
-// The components of two kinds, in packed order.
+// The same with components of two kinds.
 fn sum_with_both<'a, T, F, S>(world: &'a Numbers<T>) -> Sum
 where
     T: Tables<DefaultKey>,
@@ -86,7 +93,8 @@ where
     S::Table: Table<DefaultKey, Component = u64> + 'a,
 {
     let mut sum = Sum::new();
-    for (_, first, second) in world.with_both::<F, S>() {
+    for (key, first, second) in world.with_both::<F, S>() {
+        sum.add_found(world.get(key));
         sum.add(*first);
         sum.add(*second);
     }
@@ -112,17 +120,22 @@ where
     sum
 }
 
-// Removes entities by chance.
-fn despawn_some<T: Tables<DefaultKey>>(
+// Removes entities by chance, with their components.
+fn despawn_some<T>(
     world: &mut Numbers<T>,
     keys: &[DefaultKey],
     random: &mut Random,
     turns: u64,
-) -> Sum {
+) -> Sum
+where
+    T: Tables<DefaultKey, Parts = Parts>,
+{
     let mut sum = Sum::new();
     for _ in 0..turns {
-        if let Some((number, _)) = world.despawn(random.pick(keys)) {
+        if let Some((number, (first, (second, ())))) = world.despawn(random.pick(keys)) {
             sum.add(number);
+            sum.add_some(first);
+            sum.add_some(second);
         }
     }
     sum
@@ -192,7 +205,7 @@ fn change<T, F, S>(
     random: &mut Random,
 ) -> bool
 where
-    T: Tables<DefaultKey>,
+    T: Tables<DefaultKey, Parts = Parts>,
     F: Kind<DefaultKey, T>,
     S: Kind<DefaultKey, T>,
     F::Table: Table<DefaultKey, Component = u64>,
@@ -219,7 +232,7 @@ where
         return false;
     };
     world.clear();
-    tell_all::<T, F, S>(rt, world) && tell_all::<T, F, S>(rt, &copy)
+    world.is_empty() && tell_all::<T, F, S>(rt, world) && tell_all::<T, F, S>(rt, &copy)
 }
 
 // Spawns so many more numbers, each with both components: the number, twice and three times.
@@ -259,7 +272,8 @@ where
     }
 }
 
-// Adds 1 to both components of each entity that has both. The sum is of those that were there.
+// Adds 1 to both components of each entity that has both. The sum is of those that were there. An entity that lacks
+// one of them is refused others.
 fn replace_all<T, F, S>(world: &mut Numbers<T>, keys: &[DefaultKey]) -> Sum
 where
     T: Tables<DefaultKey>,
@@ -273,9 +287,29 @@ where
         if let Some((first, second)) = world.both::<F, S>(*key) {
             let pair = (first.wrapping_add(1), second.wrapping_add(1));
             replace::<T, F, S>(world, *key, pair, &mut sum);
+        } else {
+            let refused = world.replace_both::<F, S>(*key, 1, 2);
+            sum.add(u64::from(refused == Err((1, 2))));
         }
     }
     sum
+}
+
+// Whether a number was too great.
+fn is_too_great(answer: Result<(), ReserveError>) -> bool {
+    matches!(answer, Err(ReserveError::TooGreat))
+}
+
+// Whether the first kind refuses an index beyond the last one, and the second kind a count, beside what is there. The
+// first one's table is a `SecondaryMap`, and the second one's a `SparseSecondaryMap`.
+fn refuses_room<T, F, S>(world: &mut Numbers<T>) -> bool
+where
+    T: Tables<DefaultKey>,
+    F: Kind<DefaultKey, T>,
+    S: Kind<DefaultKey, T>,
+{
+    is_too_great(world.reserve_components::<F>(0, 4294967295))
+        && is_too_great(world.reserve_components::<S>(4294967295, 0))
 }
 
 // Makes entities with their components, and sums them up.
@@ -296,6 +330,7 @@ where
     spawn_all::<T, F>(world, keys, size)
         && world.reserve_components::<S>(count, count).is_ok()
         && attach_all::<T, S>(world, keys.as_slice())
+        && refuses_room::<T, F, S>(world)
         && tell_all::<T, F, S>(rt, world)
         && tell(rt, "by key", sum_by_key::<T, F, S>(world, keys.as_slice()))
 }
@@ -315,7 +350,9 @@ where
     S::Table: Table<DefaultKey, Component = u64>,
 {
     world.reserve(size as usize).is_ok()
-        && spawn_pairs::<T, F, S>(world, keys, size, size / 2)
+        && world.capacity() >= size as usize
+        && keep(keys, world.spawn(size))
+        && spawn_pairs::<T, F, S>(world, keys, size.wrapping_add(1), size / 2)
         && tell(
             rt,
             "replaced",
@@ -332,7 +369,7 @@ fn run_in<T, F, S>(
     size: u64,
 ) -> bool
 where
-    T: CloneTables<DefaultKey>,
+    T: CloneTables<DefaultKey> + Tables<DefaultKey, Parts = Parts>,
     F: Apart<DefaultKey, T, S>,
     S: Kind<DefaultKey, T>,
     F::Table: Table<DefaultKey, Component = u64>,
@@ -341,14 +378,31 @@ where
     fill::<T, F, S>(rt, world, keys, size)
         && change::<T, F, S>(rt, world, keys.as_slice(), &mut Random::new(6))
         && run_loops::<T, F, S>(rt, world)
+        && run_keys::<T, F, S>(rt, world, keys.as_slice())
         && grow::<T, F, S>(rt, world, keys, size)
         && copy::<T, F, S>(rt, world)
+}
+
+// Whether a world was made that is empty and has room for so many entities.
+fn is_made<T: Tables<DefaultKey>>(made: Result<Numbers<T>, ReserveError>, room: usize) -> bool {
+    match made {
+        Ok(world) => world.is_empty() && world.capacity() >= room,
+        Err(_) => false,
+    }
+}
+
+// Makes a world in each way.
+fn make_all<T: Tables<DefaultKey>>(alloc: Global, room: usize) -> bool {
+    is_made::<T>(World::new(alloc), 0)
+        && is_made::<T>(World::with_key(alloc), 0)
+        && is_made::<T>(World::with_capacity(alloc, room), room)
+        && is_made::<T>(World::with_capacity_and_key(alloc, room), room)
 }
 
 // The same, with the world made.
 fn run_calls<T, F, S>(rt: &HostRuntime, size: u64) -> bool
 where
-    T: CloneTables<DefaultKey>,
+    T: CloneTables<DefaultKey> + Tables<DefaultKey, Parts = Parts>,
     F: Apart<DefaultKey, T, S>,
     S: Kind<DefaultKey, T>,
     F::Table: Table<DefaultKey, Component = u64>,
@@ -367,7 +421,8 @@ where
     A: CloneTable<DefaultKey> + Table<DefaultKey, Component = u64>,
     B: CloneTable<DefaultKey> + Table<DefaultKey, Component = u64>,
 {
-    run_calls::<(A, (B, ())), First, Second>(rt, size)
+    make_all::<(A, (B, ()))>(rt.alloc(), size as usize)
+        && run_calls::<(A, (B, ())), First, Second>(rt, size)
 }
 
 /// Makes the calls of a world that may ask for memory or go over all elements, and returns whether they

@@ -14,11 +14,7 @@ pub fn hold_outcome(
     want: (u8, &str),
 ) -> Result<(), Fail> {
     let (status, text) = outcome(alloc, &[kind], script)?;
-    assert_eq!(rt;
-        (status, text.as_str()),
-        (Some(want.0), want.1),
-        "{script:?}"
-    );
+    assert_eq!(rt; (status, text.as_str()), want, "{script:?}");
     Ok(())
 }
 

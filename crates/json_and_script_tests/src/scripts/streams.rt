@@ -1,7 +1,7 @@
 //! Readers and writers that fail, and the order of faults.
 
 use super::list;
-use slotmap_script::run_script;
+use slotmap_script::{run_buffered, run_script};
 use std::alloc::{AllocError, Global};
 use std::io;
 use std::io::{BufWriter, ErrorKind, Read, Write};
@@ -54,12 +54,9 @@ fn hold_fault(
 ) -> Result<(), Fail> {
     let words = list(alloc, words)?;
     let mut input = FailingReader { bytes };
-    let output = BufWriter::new(alloc, Vec::new(alloc))?;
-    let (status, output) = run_script(alloc, &words, &mut input, output);
-    assert_eq!(rt;
-        (output.as_slice(), status),
-        (want.0.as_bytes(), Some(want.1))
-    );
+    let mut output = Vec::new(alloc);
+    let status = run_script(alloc, &words, &mut input, &mut output);
+    assert_eq!(rt; (output.as_slice(), status), (want.0.as_bytes(), want.1));
     Ok(())
 }
 
@@ -124,41 +121,47 @@ fn long_script(alloc: Global) -> Result<Vec<u8>, AllocError> {
     Ok(script)
 }
 
-// Runs a script with a writer that fails at one call, behind a buffer of this many bytes, and
-// returns the writer and the status.
+// Runs a script with a writer that fails at one call, and returns the writer and the status. With a
+// buffer it is run by `run_script`, else by `run_buffered` with a buffer of no bytes.
 fn run_failing(
     alloc: Global,
     words: &[String],
     mut script: &[u8],
     fails_at: usize,
-    capacity: usize,
+    has_buffer: bool,
 ) -> Result<(FailingWriter, Option<u8>), Fail> {
-    let writer = FailingWriter {
+    let mut writer = FailingWriter {
         fails_at,
         calls: 0,
         taken: Vec::new(alloc),
     };
-    let output = BufWriter::with_capacity(alloc, capacity, writer)?;
-    let (status, writer) = run_script(alloc, words, &mut script, output);
+    if has_buffer {
+        let status = run_script(alloc, words, &mut script, &mut writer);
+        return Ok((writer, Some(status)));
+    }
+    let output = BufWriter::with_capacity(alloc, 0, writer)?;
+    let (status, writer) = run_buffered(alloc, words, &mut script, output);
     Ok((writer, status))
 }
 
-// Each call of the writer fails in turn. There is no status then, and no call follows. Returns the
-// writer and the status of the first run in which none fails.
+// Each call of the writer fails in turn, and no call follows. The status of `run_script` is then 3,
+// and `run_buffered` returns none. Returns the writer and the status of the first run in which none
+// fails.
 fn each_call_fails(
     rt: &impl Abort,
     alloc: Global,
     word: &str,
     script: &[u8],
-    capacity: usize,
+    has_buffer: bool,
 ) -> Result<(FailingWriter, Option<u8>), Fail> {
     let words = list(alloc, &[word])?;
+    let failed = if has_buffer { Some(3) } else { None };
     for fails_at in 1..1000 {
-        let (output, status) = run_failing(alloc, &words, script, fails_at, capacity)?;
+        let (output, status) = run_failing(alloc, &words, script, fails_at, has_buffer)?;
         if output.calls < fails_at {
             return Ok((output, status));
         }
-        assert_eq!(rt; (status, output.calls), (None, fails_at));
+        assert_eq!(rt; (status, output.calls), (failed, fails_at));
     }
     Err(Fail::from("a writer that is called without end"))
 }
@@ -170,10 +173,10 @@ fn hold_writes(
     alloc: Global,
     word: &str,
     script: &[u8],
-    capacity: usize,
+    has_buffer: bool,
     want: (usize, usize, u8),
 ) -> Result<(), Fail> {
-    let (output, status) = each_call_fails(rt, alloc, word, script, capacity)?;
+    let (output, status) = each_call_fails(rt, alloc, word, script, has_buffer)?;
     assert!(rt; output.calls >= want.0);
     assert_eq!(rt; (output.taken.len(), status), (want.1, Some(want.2)));
     Ok(())
@@ -189,9 +192,9 @@ static WRITES: [(&str, &[u8], (usize, usize, u8)); 4] = [
 #[test]
 fn failing_writers(rt: HostRuntime) -> Result<(), Fail> {
     for (word, script, want) in &WRITES {
-        hold_writes(&rt, rt.alloc(), word, script, 0, *want)?;
-        hold_writes(&rt, rt.alloc(), word, script, 8192, *want)?;
+        hold_writes(&rt, rt.alloc(), word, script, false, *want)?;
+        hold_writes(&rt, rt.alloc(), word, script, true, *want)?;
     }
     let long = long_script(rt.alloc())?;
-    hold_writes(&rt, rt.alloc(), "basic", &long, 8192, (8, 60849, 0))
+    hold_writes(&rt, rt.alloc(), "basic", &long, true, (8, 60849, 0))
 }

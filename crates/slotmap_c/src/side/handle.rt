@@ -1,9 +1,11 @@
 //! The handle of a side table: a table behind a pointer, or none.
 
-ghost use Rattle.std.specs.Prelude.{◌≡◌, ℕ, Bool, true, false, IfSome, IfNone};
+ghost use Rattle.std.specs.Prelude.{◌≡◌, ℕ, Bool, not, true, false, IfSome, IfNone};
+ghost use Rattle.std.specs.Borrow.{sem};
 ghost use Rattle.std.specs.Coded.{coded_ℕ, coded_bool};
 ghost use Rattle.slotmap_secondary.specs.Content.{SideContent, side_code};
-ghost use Rattle.slotmap_c.specs.Side.{side_held, no_side};
+ghost use Rattle.slotmap_c.specs.Held.{holds};
+ghost use Rattle.slotmap_c.specs.Side.{Side as SideRow, no_side};
 
 use crate::unboxed::Unboxed;
 use slotmap_core::keys::DefaultKey;
@@ -26,12 +28,14 @@ pub struct SideHandle {
 }
 
 impl Model for SideHandle {
-    ghost also_owns = { λ h. side_held h.at h.is_open h.side };
+    ghost also_owns = { λ h. holds SideRow no_side h.at h.is_open h.side };
 }
 
 unsafe impl Send for SideHandle {}
 
 impl SideHandle {
+    ghost use Rattle.slotmap_c.specs.Lending.{LendsSide};
+
     /// Makes a closed handle.
     pub(crate) fn closed() -> SideHandle
         ensures open { result.is_open ≡ false }
@@ -40,6 +44,24 @@ impl SideHandle {
         SideHandle {
             at: ptr::null_mut(),
         }
+    }
+
+    /// Returns whether the handle is closed.
+    #[inline(always)]
+    pub(crate) fn is_closed(&mut self) -> bool
+        ensures { (result ≡ not self.old.is_open) × (self.new ≡ self.old) × (result ≡ true → self.old.side ≡ no_side) }
+    {
+        self.at.is_null()
+    }
+
+    /// Lends the table of an open handle.
+    #[inline(always)]
+    pub(crate) fn inside(&mut self) -> &mut Side
+        requires { self.old.is_open ≡ true }
+        ensures* writes_back { sem 𝓛 (LendsSide self.entry result) }
+        ensures value { result.now ≡ self.old.side }
+    {
+        unsafe { &mut *(self.at as *mut Side) }
     }
 
     /// Lets a closed handle go.

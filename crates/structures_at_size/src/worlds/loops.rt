@@ -6,7 +6,7 @@ use crate::worlds::{Numbers, sum_with};
 use slotmap::DefaultKey;
 use slotmap_entities::{Kind, Table, Tables};
 
-// The components of the entities that have both kinds, the first one twice, in packed order.
+// The entities that have components of both kinds, in packed order, each before the components, the first one twice.
 fn sum_with_three<'a, T, F, S>(world: &'a Numbers<T>) -> Sum
 where
     T: Tables<DefaultKey>,
@@ -16,7 +16,8 @@ where
     S::Table: Table<DefaultKey, Component = u64> + 'a,
 {
     let mut sum = Sum::new();
-    for (_, first, second, third) in world.with_three::<F, S, F>() {
+    for (key, first, second, third) in world.with_three::<F, S, F>() {
+        sum.add_found(world.get(key));
         sum.add(*first);
         sum.add(*second);
         sum.add(*third);
@@ -24,7 +25,7 @@ where
     sum
 }
 
-// The second components of the entities that have no first one, in packed order.
+// The entities that have a second component and no first one, in packed order, each before the component.
 fn sum_with_without<'a, T, F, S>(world: &'a Numbers<T>) -> Sum
 where
     T: Tables<DefaultKey>,
@@ -34,7 +35,8 @@ where
     S::Table: Table<DefaultKey, Component = u64> + 'a,
 {
     let mut sum = Sum::new();
-    for (_, second) in world.with_without::<S, F>() {
+    for (key, second) in world.with_without::<S, F>() {
+        sum.add_found(world.get(key));
         sum.add(*second);
     }
     sum

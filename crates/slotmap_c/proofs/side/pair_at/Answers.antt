@@ -1,4 +1,4 @@
-use Rattle.std.proofs.Common.{◌≡◌, sym, ap, ◌∙◌}
+use Rattle.std.proofs.Common.{sym, ap, ◌∙◌}
 use Rattle.slotmap_core.specs.Words.{ffi}
 use Rattle.slotmap_c.proofs.SideLemmas.{pair_numbered}
 use Rattle.slotmap_c.proofs.side.pair_at.Goals as goal

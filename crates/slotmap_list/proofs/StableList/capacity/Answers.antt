@@ -1,7 +1,7 @@
 use Rattle.std.proofs.Common.{true, ◌+◌, sym, ap, ◌∙◌}
 use Rattle.slotmap.specs.KeysAlone.{keys_of}
-use Rattle.slotmap_keylist.specs.Mapped.{map_values}
-use Rattle.slotmap_keylist.proofs.{Alone.used_alone, Mapped.content-mapped}
+use Rattle.slotmap_bounded.specs.Mapped.{map_values}
+use Rattle.slotmap_bounded.proofs.{Alone.used_alone, Mapped.content-mapped}
 use Rattle.slotmap_list.proofs.StableList.capacity.Goals as goal
 
 pub returns-clause-valid : goal.returns-clause-valid

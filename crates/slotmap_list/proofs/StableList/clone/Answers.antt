@@ -1,4 +1,4 @@
-use Rattle.slotmap_keylist.proofs.Alone.{alone-copy}
+use Rattle.slotmap_bounded.proofs.Alone.{alone-copy}
 use Rattle.slotmap_list.proofs.Keeps.{kept_cloned, elements_cloned, clones_are_same}
 use Rattle.slotmap_list.proofs.StableList.clone.Goals as goal
 

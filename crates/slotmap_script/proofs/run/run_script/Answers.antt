@@ -1,34 +1,13 @@
-use Rattle.std.proofs.Common.{map, string_bytes, ap}
-use Rattle.std.specs.Io.Buffered.{writer_contents, writer_buffer, writer_inner}
-use Rattle.slotmap_script.proofs.Ending.{runs_at_0, refuses_at_2, stops_at_3}
+use Rattle.std.proofs.Common.{◌∙◌, sym, arith, rules}
+use Rattle.slotmap_script.proofs.Ending.{status_below}
 use Rattle.slotmap_script.proofs.run.run_script.Goals as goal
 
 pub returns-clause-runs : goal.returns-clause-runs
-returns-clause-runs g c =
-    let contents = writer_contents g.W.Write.contents in
-    let end = c.finish-status in
-    rw (ap g.W.Write.contents c.into_parts-writer.ensures.inner) (
-    runs_at_0 (map string_bytes c.args.words.now) (g.R.Read.remaining c.args.input.now) (contents c.args.output) (contents c.run_kind-ended.new.output)
-    (g.W.Write.contents (writer_inner end.new.output)) (writer_buffer end.new.output) c.run_kind-ended.result end.result c.run_kind-ended.ensures.ok end.ensures.ends
-    end.ensures.passes_on
-    )
+returns-clause-runs g c = λ zero.
+    let told = c.run_buffered-status.ensures.runs (status_below _ 0 (sym c.unwrap_or.ensures ∙ zero) (omega arith)) in
+    (told.0, told.1, let appends = told.2 in search rules)
 
 pub returns-clause-refuses : goal.returns-clause-refuses
-returns-clause-refuses g c =
-    let contents = writer_contents g.W.Write.contents in
-    let end = c.finish-status in
-    rw (ap g.W.Write.contents c.into_parts-writer.ensures.inner) (
-    refuses_at_2 (map string_bytes c.args.words.now) (g.R.Read.remaining c.args.input.now) (contents c.args.output) (contents c.run_kind-ended.new.output)
-    (g.W.Write.contents (writer_inner end.new.output)) (writer_buffer end.new.output) c.run_kind-ended.result end.result c.run_kind-ended.ensures.err end.ensures.ends
-    end.ensures.passes_on
-    )
-
-pub returns-clause-stops : goal.returns-clause-stops
-returns-clause-stops g c =
-    let contents = writer_contents g.W.Write.contents in
-    let end = c.finish-status in
-    rw (ap g.W.Write.contents c.into_parts-writer.ensures.inner) (
-    stops_at_3 (map string_bytes c.args.words.now) (g.R.Read.remaining c.args.input.now) (contents c.args.output) (contents c.run_kind-ended.new.output)
-    (g.W.Write.contents (writer_inner end.new.output)) (writer_buffer end.new.output) c.run_kind-ended.result end.result c.run_kind-ended.ensures.err end.ensures.ends
-    end.ensures.passes_on
-    )
+returns-clause-refuses g c = λ two.
+    let told = c.run_buffered-status.ensures.refuses (status_below _ 2 (sym c.unwrap_or.ensures ∙ two) (omega arith)) in
+    (told.0, told.1, let appends = told.2 in search rules)

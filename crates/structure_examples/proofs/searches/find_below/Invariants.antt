@@ -1,6 +1,6 @@
 use Rattle.std.proofs.Common.{◌≡◌, ◌≢◌, ◌<◌, Some}
 use Rattle.slotmap.specs.Words.{Key}
-use Rattle.slotmap_keylist.specs.KeyLists.{times}
+use Rattle.slotmap_bounded.specs.KeyLists.{times}
 use Rattle.slotmap_scene.specs.Climb.{IsWithin, has_node}
 use Rattle.slotmap_scene.specs.Family.{value_of}
 use Rattle.structure_examples.proofs.searches.find_below.Given as goal

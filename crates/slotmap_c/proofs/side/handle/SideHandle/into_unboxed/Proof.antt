@@ -9,8 +9,8 @@ use Rattle.std_heap.proofs.Global.TheLaws.{the_row_laws}
 use Rattle.slotmap_secondary.specs.Content.{SideContent}
 use Rattle.slotmap_c.proofs.Values.{Fits, and_true, word, word_fits, pair, pair_fits, ptr_fits, tells, testable, Unboxed, unboxed_in}
 use Rattle.slotmap_c.proofs.SideValues.{SideRow, side_out}
-use Rattle.slotmap_c.specs.Held.{may_free}
-use Rattle.slotmap_c.specs.Side.{Side, side_held, no_side}
+use Rattle.slotmap_c.specs.Held.{holds, may_free}
+use Rattle.slotmap_c.specs.Side.{Side, no_side}
 use Rattle.slotmap_c.specs.contracts.side.handle.SideHandle.into_unboxed.{ended, clauses}
 use Rattle.slotmap_c.specs.contracts.side.handle.SideHandle.into_unboxed.Key.{name as #self}
 use Rattle.slotmap_c.proofs.side.handle.SideHandle.into_unboxed.Statement.{statement}
@@ -70,7 +70,7 @@ module _ {M : Type 1} {𝓤 : Ura M} (𝓛 : Logic 𝓤) (𝓜 : Model 𝓤 𝓛
   Λ = (tables 𝓤 𝓛.H 𝓜 𝓡 𝓡.env).Λ
 
   abbrev Goes : Ptr → Bool → SideContent ℕ → Type 1
-  Goes p y m = ent 𝓤 (sep 𝓤 (sem 𝓛 (side_held p y m)) (sep 𝓤 (sem 𝓛 (A.own_val z.0.3.1.0 (a ∷ []))) tokens))
+  Goes p y m = ent 𝓤 (sep 𝓤 (sem 𝓛 (holds Side no_side p y m)) (sep 𝓤 (sem 𝓛 (A.own_val z.0.3.1.0 (a ∷ []))) tokens))
       (WpFn 𝓤 𝓛.H C Λ code.function (word p ∷ a ∷ []) Post)
 
   abbrev is_open : Bool
@@ -81,7 +81,7 @@ module _ {M : Type 1} {𝓤 : Ura M} (𝓛 : Logic 𝓤) (𝓜 : Model 𝓤 𝓛
 
   walks : (p : Ptr) (y : Bool) (m : SideContent ℕ) → is_open ≡ y → side ≡ m → Goes p y m
   walks null_ptr false m shut is =
-      qed 𝓛 (‵ (side_held null_ptr false m) ∷ ‵ (A.own_val z.0.3.1.0 (a ∷ [])) ∷ raw tokens ∷ []) ∵ fsplit ! $ drop ! $ feq_l ! (λ none. drop ! $
+      qed 𝓛 (‵ (holds Side no_side null_ptr false m) ∷ ‵ (A.own_val z.0.3.1.0 (a ∷ [])) ∷ raw tokens ∷ []) ∵ fsplit ! $ drop ! $ feq_l ! (λ none. drop ! $
       enter ! C Λ code.function (word null_ptr ∷ a ∷ []) Post $ alloc_all ! (λ l. pass_all ! refl (word_fits null_ptr, (fits, tt)) $
       sets ! (of_opd ! (get_in ! (fld ! refl (stop !)) (sub ! 0 refl (whole !)))) refl (ptr_fits null_ptr) $
       sets ! (bin ! (get ! refl) (lit ! tt) (tests_null null_ptr (lit< tt))) refl (tt, tt) $
@@ -94,15 +94,15 @@ module _ {M : Type 1} {𝓤 : Ura M} (𝓛 : Logic 𝓤) (𝓜 : Model 𝓤 𝓛
       by ! (leaves 𝓛 ended stays clause z (live 0 (of_list [])) None (tt, (tt, tt)) (tt, (tt, tt))))
       (λ t. absurd t)))
   walks null_ptr true m shut is =
-      qed 𝓛 (‵ (side_held null_ptr true m) ∷ ‵ (A.own_val z.0.3.1.0 (a ∷ [])) ∷ raw tokens ∷ []) ∵
+      qed 𝓛 (‵ (holds Side no_side null_ptr true m) ∷ ‵ (A.own_val z.0.3.1.0 (a ∷ [])) ∷ raw tokens ∷ []) ∵
       use1 𝓛 (given ⊥ (‵ ftrue)) (via 𝓤 (never 𝓤) (fst∗ 𝓤 (never 𝓤) (sem 𝓛 (may_free (bare (lone Side.mir)) null_ptr))) (never_e 𝓤 _)) $ learn ! (λ n. absurd n)
   walks (block_ptr b o) false m shut is =
-      qed 𝓛 (‵ (side_held (block_ptr b o) false m) ∷ ‵ (A.own_val z.0.3.1.0 (a ∷ [])) ∷ raw tokens ∷ []) ∵
+      qed 𝓛 (‵ (holds Side no_side (block_ptr b o) false m) ∷ ‵ (A.own_val z.0.3.1.0 (a ∷ [])) ∷ raw tokens ∷ []) ∵
       fsplit ! $ feq_l ! (λ n. absurd (subst (λ (p : Ptr). InBlock p) n tt))
   walks (block_ptr b o) true m opened is =
       let p : Ptr = block_ptr b o in let u : U.Denot = record { pointer = p; alloc = z.0.3.1.0; held = m } in
       let pair_is = pair_fits Side A the_row_laws ghosts p a fits in
-      qed 𝓛 (‵ (side_held p true m) ∷ ‵ (A.own_val z.0.3.1.0 (a ∷ [])) ∷ raw tokens ∷ []) ∵ testable ! Side p m (λ may.
+      qed 𝓛 (‵ (holds Side no_side p true m) ∷ ‵ (A.own_val z.0.3.1.0 (a ∷ [])) ∷ raw tokens ∷ []) ∵ testable ! Side p m (λ may.
       enter ! C Λ code.function (word p ∷ a ∷ []) Post $ alloc_all ! (λ l. pass_all ! refl (word_fits p, (fits, tt)) $
       sets ! (of_opd ! (get_in ! (fld ! refl (stop !)) (sub ! 0 refl (whole !)))) refl (ptr_fits p) $
       sets ! (bin ! (get ! refl) (lit ! tt) (tests_null p may)) refl (tt, tt) $

@@ -1,4 +1,0 @@
-//! Tests of an entity store.
-
-mod messages;
-mod tests;

@@ -1,6 +1,0 @@
-//! Tests of scenes.
-
-mod floats;
-mod messages;
-mod shown;
-mod tests;

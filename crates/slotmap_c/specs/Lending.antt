@@ -1,0 +1,37 @@
+-- What a handle ends as, once what it lent is returned.
+use Rattle.std.specs.Prelude.{ℕ, ⊤}
+use Rattle.std.specs.Borrow.{Lends, MutBor, Fml}
+use Rattle.slotmap_core.specs.Words.{Content}
+use Rattle.slotmap_secondary.specs.Content.{SideContent}
+use Rattle.slotmap_c.specs.Held.{Map, KeyMap}
+use Rattle.slotmap_c.specs.Side.{Side}
+use Rattle.slotmap_c.specs.declared.handle.Handle.{Handle}
+use Rattle.slotmap_c.specs.contracts.handle.Handle as map_handle
+use Rattle.slotmap_c.specs.declared.keys.handle.KeysHandle.{KeysHandle}
+use Rattle.slotmap_c.specs.contracts.keys.handle.KeysHandle as keys_handle
+use Rattle.slotmap_c.specs.declared.side.handle.SideHandle.{SideHandle}
+use Rattle.slotmap_c.specs.contracts.side.handle.SideHandle as table_handle
+
+-- h with another map
+abbrev pub with_map : Handle → Content ℕ → Handle
+with_map h inside = record h { map = inside }
+
+-- s ends with the last value behind r
+abbrev pub LendsMap : MutBor Handle → MutBor (Content ℕ) → Fml
+LendsMap s r = Lends map_handle.the_row Map s r (with_map s.now)
+
+-- h with another map
+abbrev pub with_keys : KeysHandle → Content ⊤ → KeysHandle
+with_keys h inside = record h { map = inside }
+
+-- s ends with the last value behind r
+abbrev pub LendsKeys : MutBor KeysHandle → MutBor (Content ⊤) → Fml
+LendsKeys s r = Lends keys_handle.the_row KeyMap s r (with_keys s.now)
+
+-- h with another table
+abbrev pub with_side : SideHandle → SideContent ℕ → SideHandle
+with_side h inside = record h { side = inside }
+
+-- s ends with the last value behind r
+abbrev pub LendsSide : MutBor SideHandle → MutBor (SideContent ℕ) → Fml
+LendsSide s r = Lends table_handle.the_row Side s r (with_side s.now)

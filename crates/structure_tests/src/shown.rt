@@ -1,0 +1,23 @@
+//! Texts of values: what errors say, and what a debugger shows.
+
+use std::alloc::{AllocError, Global};
+use std::error::Error;
+use std::fmt;
+
+/// Whether a text was made, and is this one.
+pub fn is_text(made: Result<String, AllocError>, expected: &str) -> bool {
+    match made {
+        Ok(text) => text.as_str() == expected,
+        Err(_) => false,
+    }
+}
+
+/// Whether a value has this text in a debugger.
+pub fn shows<T: fmt::Debug>(alloc: Global, value: &T, shown: &str) -> bool {
+    is_text(format!(in alloc; "{value:?}"), shown)
+}
+
+/// Whether an error has this message, and this text in a debugger.
+pub fn reads<E: Error>(alloc: Global, error: &E, message: &str, shown: &str) -> bool {
+    is_text(format!(in alloc; "{error}"), message) && shows(alloc, error, shown)
+}

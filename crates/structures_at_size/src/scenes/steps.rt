@@ -1,0 +1,86 @@
+//! Siblings one by one: looked up by steps from both ends, and moved beside others.
+
+use crate::random::Random;
+use crate::scenes::Numbers;
+use crate::sums::{Sum, tell};
+use slotmap::DefaultKey;
+use slotmap_scene::{AddError, ChildKeys, MoveError};
+
+// The numbers of a node's children, from the first to the last and back, each by a step from the one beside it.
+fn sum_by_steps(scene: &Numbers, parent: DefaultKey) -> Sum {
+    let mut sum = Sum::new();
+    let mut child = scene.first_child(parent).unwrap_or_default();
+    for _ in 0..scene.children(parent).len() {
+        sum.add_found(scene.get(child));
+        child = scene.next_sibling(child).unwrap_or_default();
+    }
+    let mut child = scene.last_child(parent).unwrap_or_default();
+    for _ in 0..scene.children(parent).len() {
+        sum.add_found(scene.get(child));
+        child = scene.prev_sibling(child).unwrap_or_default();
+    }
+    sum
+}
+
+// The numbers of children.
+fn sum_of(scene: &Numbers, children: ChildKeys<'_, DefaultKey, u64>) -> Sum {
+    let mut sum = Sum::new();
+    for child in children {
+        sum.add_found(scene.get(child));
+    }
+    sum
+}
+
+// Prints the numbers of a node's children, by a copy of their iterator.
+fn tell_children(rt: &HostRuntime, scene: &Numbers, parent: DefaultKey) -> bool {
+    match scene.children(parent).clone() {
+        Ok(children) => tell(rt, "children", sum_of(scene, children)),
+        Err(_) => false,
+    }
+}
+
+// Moves a node beside another one, or to an end of its parent's children.
+fn move_one(scene: &mut Numbers, turn: u64, node: DefaultKey, sibling: DefaultKey) -> bool {
+    match turn % 4 {
+        0 => scene.move_after(node, sibling).is_ok(),
+        1 => scene.move_before(node, sibling).is_ok(),
+        2 => scene.move_to_front(node),
+        _ => scene.move_to_back(node),
+    }
+}
+
+// Moves nodes by chance. It fails for a root, and beside a root or the node itself.
+fn move_some(scene: &mut Numbers, nodes: &[DefaultKey], random: &mut Random, turns: u64) -> Sum {
+    let mut sum = Sum::new();
+    for turn in 0..turns {
+        let node = random.pick(nodes);
+        let sibling = random.pick(nodes);
+        sum.add(u64::from(move_one(scene, turn, node, sibling)));
+    }
+    sum
+}
+
+// Whether a root is refused a place beside its child, and a child one beside the root or beside itself. A root gets no sibling.
+fn refuses(scene: &mut Numbers, root: DefaultKey, child: DefaultKey) -> bool {
+    scene.move_before(root, child) == Err(MoveError::Cycle)
+        && scene.move_after(child, root) == Err(MoveError::GoneSibling)
+        && scene.move_before(child, child) == Err(MoveError::Same)
+        && matches!(scene.insert_after(root, 6), Err(AddError::GoneSibling(6)))
+}
+
+/// Makes the calls on the children of a root, and returns whether they did what they should. Some of these nodes are its children.
+pub(crate) fn run_siblings(
+    rt: &HostRuntime,
+    scene: &mut Numbers,
+    nodes: &[DefaultKey],
+    random: &mut Random,
+    root: DefaultKey,
+) -> bool {
+    let turns = (nodes.len() as u64).min(1000);
+    let child = scene.first_child(root).unwrap_or_default();
+    refuses(scene, root, child)
+        && tell(rt, "by steps", sum_by_steps(scene, root))
+        && tell(rt, "moves beside", move_some(scene, nodes, random, turns))
+        && tell(rt, "by steps", sum_by_steps(scene, root))
+        && tell_children(rt, scene, root)
+}
