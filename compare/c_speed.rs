@@ -1,17 +1,83 @@
-//! Measures the calls of the archive, through the C interface, beside the maps of the Rust crate, which are inlined here. See
-//! c-speed.sh.
+//! Measures the calls of the archive beside the maps of the Rust crate, which are inlined here. See c-speed.sh. By default these are
+//! the calls of the C interface; with `--cfg typed` those of the Cargo package, with values of 8 bytes.
 //!
 //!     c_speed                                     prints the least time of each operation, of many runs in turn
 //!     c_speed SIDE OPERATION SLOTS LIVE ROUNDS    does so many rounds with so many live slots, for a count of instructions, and
-//!                                                 prints how many calls a round makes
+//!                                                 prints how many calls a round makes. SIDE is `port` or `rust`
+//!
+//! With `--cfg typed` also:
+//!
+//!     c_speed bytes                               prints the bytes of memory for a key, of maps and of side tables, at 1,048,575 keys
+//!     c_speed reserved                            prints the nanoseconds of a walk over 10 values, after a reserve of 1,000,000
 
-#[path = "../c/cargo/src/words.rs"]
-mod port;
-
-use slotmap::{DefaultKey, Key, SecondaryMap, SlotMap};
 use std::time::Instant;
 
-const OPERATIONS: [&str; 7] = ["insert", "get", "get of a stale key", "a removal and an insert", "a step of a walk", "put", "get of a side table"];
+const OPERATIONS: [&str; 8] = [
+    "insert",
+    "get",
+    "get of a stale key",
+    "a removal and an insert",
+    "a step of a walk",
+    "put",
+    "get of a side table",
+    "put of a new key",
+];
+#[cfg(not(typed))]
+const SIZES: [usize; 2] = [1000, 100_000];
+#[cfg(typed)]
+const SIZES: [usize; 2] = [1000, 1_000_000];
+
+/// Counts the bytes that are allocated.
+#[cfg(typed)]
+mod counted {
+    use std::alloc::{GlobalAlloc, Layout, System};
+    use std::sync::atomic::{AtomicUsize, Ordering};
+
+    struct Counted;
+
+    static BYTES: AtomicUsize = AtomicUsize::new(0);
+
+    #[global_allocator]
+    static HEAP: Counted = Counted;
+
+    pub fn bytes() -> usize {
+        BYTES.load(Ordering::Relaxed)
+    }
+
+    // SAFETY: the calls are those of the system's allocator.
+    unsafe impl GlobalAlloc for Counted {
+        unsafe fn alloc(&self, layout: Layout) -> *mut u8 {
+            BYTES.fetch_add(layout.size(), Ordering::Relaxed);
+            System.alloc(layout)
+        }
+
+        unsafe fn realloc(&self, block: *mut u8, layout: Layout, size: usize) -> *mut u8 {
+            BYTES.fetch_add(size, Ordering::Relaxed);
+            BYTES.fetch_sub(layout.size(), Ordering::Relaxed);
+            System.realloc(block, layout, size)
+        }
+
+        unsafe fn dealloc(&self, block: *mut u8, layout: Layout) {
+            BYTES.fetch_sub(layout.size(), Ordering::Relaxed);
+            System.dealloc(block, layout)
+        }
+    }
+}
+
+/// A map with n live keys and n stale ones, and a side table with the live ones.
+trait Side {
+    fn new(n: usize) -> Self;
+    /// Leaves so many keys, by chance.
+    fn thin(&mut self, live: usize);
+    /// Does an operation once for each key, and returns a sum that the operation can't be left out for.
+    fn round(&mut self, operation: &str) -> u64;
+    /// The bytes of a map, and of a side table, with so many keys.
+    #[cfg(typed)]
+    fn bytes(n: usize) -> (usize, usize);
+    /// The least time of a walk over 10 values of a map with room for a million.
+    #[cfg(typed)]
+    fn reserved() -> u128;
+}
 
 /// The numbers from 0 to n - 1, shuffled.
 fn order(n: usize) -> Vec<usize> {
@@ -24,6 +90,11 @@ fn order(n: usize) -> Vec<usize> {
     all
 }
 
+#[cfg(not(typed))]
+#[path = "../c/cargo/src/words.rs"]
+mod port;
+
+#[cfg(not(typed))]
 struct Port {
     map: port::SlotMap,
     side: port::Side,
@@ -32,15 +103,8 @@ struct Port {
     order: Vec<usize>,
 }
 
-struct Rust {
-    map: SlotMap<DefaultKey, u64>,
-    side: SecondaryMap<DefaultKey, u64>,
-    keys: Vec<DefaultKey>,
-    stale: Vec<DefaultKey>,
-    order: Vec<usize>,
-}
-
-impl Port {
+#[cfg(not(typed))]
+impl Side for Port {
     fn new(n: usize) -> Port {
         let (mut map, mut side) = (port::SlotMap::new().unwrap(), port::Side::new().unwrap());
         let stale: Vec<u64> = (0..n as u64).map(|i| map.insert(i).unwrap()).collect();
@@ -52,7 +116,6 @@ impl Port {
         Port { map, side, keys, stale, order: order(n) }
     }
 
-    /// Leaves so many keys, by chance.
     fn thin(&mut self, live: usize) {
         for at in &self.order[live..] {
             self.map.remove(self.keys[*at]);
@@ -93,6 +156,10 @@ impl Port {
                 }
             }
             "set" => self.order.iter().for_each(|at| sum += self.map.set(self.keys[*at], *at as u64).unwrap()),
+            "put of a new key" => {
+                let mut side = port::Side::new().unwrap();
+                self.keys.iter().for_each(|key| side.put(*key, 1).unwrap());
+            }
             "put" => self.order.iter().for_each(|at| self.side.put(self.keys[*at], *at as u64).unwrap()),
             _ => self.order.iter().for_each(|at| sum += self.side.get(self.keys[*at]).unwrap()),
         }
@@ -100,52 +167,98 @@ impl Port {
     }
 }
 
-impl Rust {
-    fn thin(&mut self, live: usize) {
-        for at in &self.order[live..] {
-            self.map.remove(self.keys[*at]);
+/// A side over the maps of a crate that has the interface of slotmap.
+macro_rules! side {
+    ($name:ident, $of:ident) => {
+        struct $name {
+            map: $of::SlotMap<$of::DefaultKey, u64>,
+            side: $of::SecondaryMap<$of::DefaultKey, u64>,
+            keys: Vec<$of::DefaultKey>,
+            stale: Vec<$of::DefaultKey>,
+            order: Vec<usize>,
         }
-    }
 
-    fn new(n: usize) -> Rust {
-        let (mut map, mut side) = (SlotMap::new(), SecondaryMap::new());
-        let stale: Vec<DefaultKey> = (0..n as u64).map(|i| map.insert(i)).collect();
-        for key in &stale {
-            map.remove(*key);
-        }
-        let keys: Vec<DefaultKey> = (0..n as u64).map(|i| map.insert(i)).collect();
-        for key in &keys {
-            side.insert(*key, 1);
-        }
-        Rust { map, side, keys, stale, order: order(n) }
-    }
-
-    fn round(&mut self, operation: &str) -> u64 {
-        let mut sum: u64 = 0;
-        match operation {
-            "insert" => {
-                let mut map: SlotMap<DefaultKey, u64> = SlotMap::new();
-                (0..self.keys.len() as u64).for_each(|i| sum += map.insert(i).data().as_ffi());
+        impl Side for $name {
+            fn new(n: usize) -> Self {
+                let (mut map, mut side) = ($of::SlotMap::new(), $of::SecondaryMap::new());
+                let stale: Vec<_> = (0..n as u64).map(|i| map.insert(i)).collect();
+                for key in &stale {
+                    map.remove(*key);
+                }
+                let keys: Vec<_> = (0..n as u64).map(|i| map.insert(i)).collect();
+                for key in &keys {
+                    side.insert(*key, 1);
+                }
+                $name { map, side, keys, stale, order: order(n) }
             }
-            "get" => self.order.iter().for_each(|at| sum += *self.map.get(self.keys[*at]).unwrap()),
-            "get of a stale key" => self.order.iter().for_each(|at| sum += *self.map.get(self.stale[*at]).unwrap_or(&1)),
-            "a removal and an insert" => {
-                for at in &self.order {
-                    sum += self.map.remove(self.keys[*at]).unwrap();
-                    self.keys[*at] = self.map.insert(*at as u64);
+
+            fn thin(&mut self, live: usize) {
+                for at in &self.order[live..] {
+                    self.map.remove(self.keys[*at]);
                 }
             }
-            "a step of a walk" => self.map.iter().for_each(|(_, value)| sum += *value),
-            "put" => {
-                for at in &self.order {
-                    self.side.insert(self.keys[*at], *at as u64);
+
+            fn round(&mut self, operation: &str) -> u64 {
+                let mut sum: u64 = 0;
+                match operation {
+                    "insert" => {
+                        let mut map: $of::SlotMap<$of::DefaultKey, u64> = $of::SlotMap::new();
+                        (0..self.keys.len() as u64).for_each(|i| sum += $of::Key::data(&map.insert(i)).as_ffi());
+                    }
+                    "get" => self.order.iter().for_each(|at| sum += *self.map.get(self.keys[*at]).unwrap()),
+                    "get of a stale key" => self.order.iter().for_each(|at| sum += *self.map.get(self.stale[*at]).unwrap_or(&1)),
+                    "a removal and an insert" => {
+                        for at in &self.order {
+                            sum += self.map.remove(self.keys[*at]).unwrap();
+                            self.keys[*at] = self.map.insert(*at as u64);
+                        }
+                    }
+                    "a step of a walk" => self.map.iter().for_each(|(_, value)| sum += *value),
+                    "put of a new key" => {
+                        let mut side: $of::SecondaryMap<$of::DefaultKey, u64> = $of::SecondaryMap::new();
+                        for key in &self.keys {
+                            side.insert(*key, 1);
+                        }
+                    }
+                    "put" => {
+                        for at in &self.order {
+                            self.side.insert(self.keys[*at], *at as u64);
+                        }
+                    }
+                    _ => self.order.iter().for_each(|at| sum += *self.side.get(self.keys[*at]).unwrap()),
                 }
+                sum
             }
-            _ => self.order.iter().for_each(|at| sum += *self.side.get(self.keys[*at]).unwrap()),
+
+            #[cfg(typed)]
+            fn bytes(n: usize) -> (usize, usize) {
+                let start = counted::bytes();
+                let (mut map, mut side) = ($of::SlotMap::new(), $of::SecondaryMap::new());
+                let keys: Vec<_> = (0..n as u64).map(|i| map.insert(i)).collect();
+                let with_map = counted::bytes();
+                side.extend(keys.iter().map(|key| (*key, 1_u64)));
+                (with_map - start - std::mem::size_of_val(&keys[..]), counted::bytes() - with_map)
+            }
+
+            #[cfg(typed)]
+            fn reserved() -> u128 {
+                let mut map: $of::SlotMap<$of::DefaultKey, u64> = $of::SlotMap::new();
+                map.reserve(1_000_000);
+                let keys = [(); 10].map(|()| map.insert(7));
+                let walk = || {
+                    let start = Instant::now();
+                    assert_eq!(std::hint::black_box(&map).values().sum::<u64>(), 7 * keys.len() as u64);
+                    start.elapsed().as_nanos()
+                };
+                (0..100).map(|_| walk()).min().unwrap()
+            }
         }
-        sum
-    }
+    };
 }
+
+side!(Rust, slotmap);
+#[cfg(typed)]
+side!(Port, slotmap_proved);
 
 /// The least times of a round on both sides, in turn, in nanoseconds for one call.
 fn times(operation: &str, n: usize) -> (f64, f64) {
@@ -163,23 +276,34 @@ fn times(operation: &str, n: usize) -> (f64, f64) {
     (least_port, least_rust)
 }
 
+/// Does so many rounds, and prints what they add up to.
+fn run<S: Side>(operation: &str, [n, live, rounds]: [usize; 3]) {
+    let mut side = S::new(n);
+    side.thin(live);
+    let sum = (0..rounds).fold(0, |sum: u64, _| sum.wrapping_add(side.round(operation)));
+    println!("{live} calls, sum {sum}");
+}
+
 fn main() {
     let words: Vec<String> = std::env::args().skip(1).collect();
     if let [side, operation, slots, live, rounds] = &words[..] {
-        let [n, live, rounds] = [slots, live, rounds].map(|it| it.parse::<usize>().expect("a number"));
-        let sum = if side == "port" {
-            let mut port = Port::new(n);
-            port.thin(live);
-            (0..rounds).fold(0, |sum: u64, _| sum.wrapping_add(port.round(operation)))
-        } else {
-            let mut rust = Rust::new(n);
-            rust.thin(live);
-            (0..rounds).fold(0, |sum: u64, _| sum.wrapping_add(rust.round(operation)))
-        };
-        println!("{live} calls, sum {sum}");
+        let numbers = [slots, live, rounds].map(|it| it.parse::<usize>().expect("a number"));
+        return if side == "port" { run::<Port>(operation, numbers) } else { run::<Rust>(operation, numbers) };
+    }
+    #[cfg(typed)]
+    if words == ["bytes"] {
+        let n = (1 << 20) - 1;
+        let ((map, side), (rust, rust_side)) = (Port::bytes(n), Rust::bytes(n));
+        let [map, side, rust, rust_side] = [map, side, rust, rust_side].map(|it| it as f64 / n as f64);
+        println!("a map\t{map:.1}\t{rust:.1}\na side table\t{side:.1}\t{rust_side:.1}");
         return;
     }
-    for n in [1000, 100_000] {
+    #[cfg(typed)]
+    if words == ["reserved"] {
+        println!("{}\t{}", Port::reserved(), Rust::reserved());
+        return;
+    }
+    for n in SIZES {
         for operation in OPERATIONS {
             let (port, rust) = times(operation, n);
             println!("{operation}\t{n}\t{port:.1}\t{rust:.1}");

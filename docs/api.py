@@ -2,8 +2,9 @@
 """Writes docs/API.md and the pages in docs/api from the sources: docs/api.py. With --check it writes nothing, and fails
 where a page is out of date.
 
-docs/API.md has the table of calls and links to the pages. There is a page for each map, one for each structure, and
-one each for traits, keys, errors, lists of slots and runs.
+docs/API.md has the tables of calls and links to the pages. There is a page for each map, one for each structure, one for the
+calls for C, and one each for traits, keys, errors, lists of slots and runs. Below the clauses of a call are their words, each with
+a link to what it means: in docs/DEFINITIONS.md, or in the table at the end of the page, which is written from the comments in specs.
 """
 
 import difflib
@@ -13,6 +14,7 @@ import sys
 
 sys.dont_write_bytecode = True
 
+import words
 from sources import CONTRACTS, MAPS, TOP, facade, items_of, module_items
 
 FIRST = "docs/API.md"
@@ -73,11 +75,12 @@ SAME_CALLS = [
     "",
 ]
 # What the structures share, with a page of its own.
-SHARED = "slotmap_keylist"
-# A map for structures that keep tables beside it.
-BOUNDED = "slotmap_bounded"
+SHARED = "slotmap_bounded"
 # A library that needs no map.
 ALONE = "slotmap_links"
+# The calls for C.
+FOR_C = "slotmap_c"
+DEFINITIONS = "docs/DEFINITIONS.md"
 # What a caller's clauses import.
 CALLERS = "crates/slotmap/specs/Words.antt"
 WRITTEN = "Written by `docs/api.py` from the sources. Don't edit it by hand: `docs/api.py --check` fails if this page is out of date."
@@ -86,7 +89,7 @@ WRITTEN = "Written by `docs/api.py` from the sources. Don't edit it by hand: `do
 class Page:
     def __init__(self, path):
         self.path = path
-        self.lines, self.anchors = [], set()
+        self.lines, self.anchors, self.words = [], set(), set()
 
     def add(self, *lines):
         self.lines += lines
@@ -100,6 +103,48 @@ class Page:
 
     def text(self):
         return re.sub(r"\n{3,}", "\n\n", "\n".join(self.lines)).strip() + "\n"
+
+
+def sections():
+    """For each word in code of DEFINITIONS.md the anchor of its section: that in which a table has it first, or that which names it."""
+    in_tables, named, anchor = {}, {}, ""
+    for line in read(DEFINITIONS).split("\n"):
+        if line.startswith("#"):
+            anchor = anchor_of(line.lstrip("# "))
+        for found, text in ((in_tables, line.split("|")[1] if line.startswith("| ") else ""), (named, line)):
+            for code in re.findall(r"`([^`]+)`", text):
+                for word in re.findall(r"\w+", code):
+                    found.setdefault(word, anchor)
+    return {**named, **in_tables}
+
+
+def add_words(page, found):
+    """A line with the words of clauses, each with a link to what it means."""
+    places, links = sections(), []
+    for word, spec in found:
+        if words.is_own(spec):
+            page.words.add((word, spec))
+            links.append(f"[`{word}`](#word-{word})")
+        elif word in places:
+            links.append(f"[`{word}`](../DEFINITIONS.md#{places[word]})")
+    if links:
+        page.add("", "Words: " + ", ".join(dict.fromkeys(links)) + ".")
+
+
+def add_table_of_words(page):
+    """What the page's own words mean."""
+    if not page.words:
+        return
+    if len({word for word, _ in page.words}) < len(page.words):
+        names = [word for word, _ in page.words]
+        sys.exit(f"api.py: {page.path} has two meanings of {sorted({it for it in names if names.count(it) > 1})}")
+    page.heading(2, "The words of the clauses")
+    page.add("From the comments in `specs`. All other words are in [DEFINITIONS.md](../DEFINITIONS.md).", "", "| Word | Meaning | File |", "|---|---|---|")
+    for word, spec in sorted(page.words, key=lambda it: (it[0].lower(), it)):
+        said, path, line = words.meaning_of(word, spec)
+        said = said.replace("|", "\\|")
+        name = path.removeprefix("crates/").replace("/specs/", "/")
+        page.add(f'| <a name="word-{word}"></a>`{word}` | {said} | [{name}:{line}](../../{path}#L{line}) |')
 
 
 def anchor_of(heading):
@@ -168,6 +213,7 @@ def add_function(page, level, title, item, block_head=""):
     page.heading(level, title)
     page.add(*block(dedent(item.lines)), "")
     page.add(*prose(item.doc))
+    add_words(page, words.words_of(item, True))
     page.add("", link(item) + (f", in `{block_head}`" if block_head else ""))
 
 
@@ -231,6 +277,7 @@ def add_type(page, level, title, item, items, public_level, short=""):
             for _, lines in shown:
                 page.add(*lines, "")
             page.lines[-1] = "```"
+            add_words(page, sorted({it for impl, _ in shown for it in words.words_of(impl)}, key=lambda it: (it[0].lower(), it)))
             page.add("", ", ".join(link(impl) for impl, _ in shown))
 
 
@@ -241,7 +288,9 @@ def add_trait(page, level, item):
     for member in item.members:
         if member.kind in ("ghost", "const") and member.name != "use":
             lines += member.lines
-    page.add(*block([*lines, "}"] if len(lines) > 1 else [item.header()]), "", link(item))
+    page.add(*block([*lines, "}"] if len(lines) > 1 else [item.header()]))
+    add_words(page, sorted({it for member in item.members if member.kind == "ghost" for it in words.words_of(member, True)}, key=lambda it: (it[0].lower(), it)))
+    page.add("", link(item))
     add_summary(page, item.name + ": ", [it for it in item.members if it.kind == "fn"])
     for member in item.members:
         if member.kind == "fn":
@@ -275,6 +324,27 @@ def add_table(page, all_items):
             page.add(f"| `{name}` | " + " | ".join(cells) + " |")
 
 
+def add_table_of_structures(page):
+    """Which structure has which call: those of several structures first, and then those of each alone."""
+    calls = {name: calls_of(name, module_items(crate, "")[1]) for crate, (name, _) in STRUCTURES.items()}
+    crates = {name: crate for crate, (name, _) in STRUCTURES.items()}
+    names = list(dict.fromkeys(it for mine in calls.values() for it in mine))
+    order = [it for _, listed in GROUPS for it in listed]
+    names.sort(key=lambda it: order.index(it) if it in order else len(order))
+
+    def cell(name, call):
+        return f"[yes](api/{crates[name]}.md#{anchor_of(f'{name}::{call}')})" if call in calls[name] else "–"
+
+    shared = [it for it in names if sum(it in mine for mine in calls.values()) > 1]
+    page.add("| | " + " | ".join(f"`{it}`" for it in calls) + " |", "|---|" + ":---:|" * len(calls))
+    for call in shared:
+        page.add(f"| `{call}` | " + " | ".join(cell(it, call) for it in calls) + " |")
+    page.add("", "| Of one structure | Calls |", "|---|---|")
+    for name, crate in crates.items():
+        alone = [f"[`{it}`](api/{crate}.md#{anchor_of(f'{name}::{it}')})" for it in calls[name] if it not in shared]
+        page.add(f"| `{name}` | {', '.join(alone)} |")
+
+
 def new_page(name, title):
     page = Page(f"docs/api/{name}.md")
     page.add(f"# {title}", "", WRITTEN, "The [first page](../API.md) says how to read it.", "")
@@ -284,7 +354,7 @@ def new_page(name, title):
 
 def pages_of_structures():
     """A page for each structure."""
-    for crate in [*STRUCTURES, SHARED, BOUNDED, ALONE]:
+    for crate in [*STRUCTURES, SHARED, ALONE]:
         head, items = module_items(crate, "")
         page = new_page(crate, crate)
         listed = crate if crate == ALONE else f"slotmap {crate}"
@@ -298,7 +368,20 @@ def pages_of_structures():
                 add_function(page, 2, item.name, item)
             else:
                 add_type(page, 2, item.name, item, items, 3)
+        add_table_of_words(page)
         yield page
+
+
+def page_for_c():
+    """The exports for C, with their contracts."""
+    page = new_page(FOR_C, "The calls for C, with their contracts")
+    page.add("[C.md](../C.md) says how to use them, and [slotmap.h](../../c/slotmap.h) documents each for a caller.", "", *prose(module_items(FOR_C, "")[0]), "")
+    calls = words.public_items(FOR_C)
+    add_summary(page, "", calls)
+    for item in calls:
+        add_function(page, 2, item.name, item)
+    add_table_of_words(page)
+    return page
 
 
 def first_page(all_items):
@@ -309,8 +392,8 @@ def first_page(all_items):
         WRITTEN,
         "",
         "There is a page for each map and for each structure. Each item has its whole comment, its signature and its",
-        "clauses, as in the source, and a link to the source. The words of the clauses are in",
-        "[DEFINITIONS.md](DEFINITIONS.md). In a clause `result` is what the call returns. Of a `&self`, `self.now` is the",
+        "clauses, as in the source, and a link to the source. Below the clauses are their words, each with a link to what it",
+        "means: in [DEFINITIONS.md](DEFINITIONS.md), or at the end of a structure's page. In a clause `result` is what the call returns. Of a `&self`, `self.now` is the",
         "map. Of a `&mut self`, `self.old` is the map before the call and `self.new` the map after it. A clause with a",
         "star is about a loan: what is written through the returned reference. Such a clause names the reference as it",
         "was passed: `self.entry`. Each function is proved to meet its clauses.",
@@ -325,13 +408,17 @@ def first_page(all_items):
     page.add(*SAME_CALLS)
     add_table(page, all_items)
     page.heading(2, "Structures")
-    page.add(f"Each is a crate of its own. All but `World` share the crate [`{SHARED}`](api/{SHARED}.md). `StableList`, `Graph` and `Scene` share two more:", "")
-    page.add(f"- [`{BOUNDED}`](api/{BOUNDED}.md) has a slot map whose indices stay within a bound, for structures with tables beside it.")
+    page.add("Each is a crate of its own. They share two more:", "")
+    page.add(f"- [`{SHARED}`](api/{SHARED}.md) has a slot map whose indices stay within a bound, for structures with tables beside it: for `StableList`, `Graph` and `Scene`.")
+    page.add("  All but `World` take the words of lists of keys from there.")
     page.add(f"- [`{ALONE}`](api/{ALONE}.md) needs no map: it has lists of numbers that are kept as links, one list for each owner.", "")
-    page.add("| Type | What it is | Calls |", "|---|---|---|")
+    page.add("| Type | What it is |", "|---|---|")
     for crate, (name, what) in STRUCTURES.items():
-        calls = calls_of(name, module_items(crate, "")[1])
-        page.add(f"| [`{crate}::{name}`](api/{crate}.md) | {what} | [{len(calls)} calls](api/{crate}.md#{anchor_of(name)}) |")
+        page.add(f"| [`{crate}::{name}`](api/{crate}.md) | {what} |")
+    page.add("", "These are their calls:", "")
+    add_table_of_structures(page)
+    page.heading(2, "Calls for C")
+    page.add(f"The exports of the static library have [a page](api/{FOR_C}.md) with their contracts. [C.md](C.md) says how to use them.")
     page.heading(2, "Words that callers import")
     page.add("A caller imports the words of clauses from `Rattle.slotmap.specs.Words`, under the names that they have there. Variants of replies and",
         "commands have another name, since the types share names:", "")
@@ -405,7 +492,7 @@ def all_pages():
     section("runs", lambda it: True)
     if left:
         sys.exit(f"api.py: no section has {left}")
-    return [first_page(all_items), *pages.values(), *pages_of_structures()]
+    return [first_page(all_items), *pages.values(), *pages_of_structures(), page_for_c()]
 
 
 def read(path):

@@ -1,5 +1,5 @@
 #!/usr/bin/env python3
-"""Writes the blocks of CALLING.md, PROVING.md and STRUCTURES.md from the proved examples.
+"""Writes the blocks of CALLING.md, PROVING.md, STRUCTURES.md and FIRST_PROOF.md from the proved examples.
 
     docs/calling.py            writes the blocks anew
     docs/calling.py --check    says which page is out of date, with status 1
@@ -24,6 +24,7 @@ PAGES = {
     "crates/slotmap/CALLING.md": "slotmap_examples",
     "crates/slotmap/PROVING.md": "slotmap_examples",
     "docs/STRUCTURES.md": "structure_examples",
+    "docs/FIRST_PROOF.md": "slotmap_examples",
 }
 BLOCK = re.compile(r"(<!-- from (?P<file>\S+?)(?:: (?P<items>[^;]*?))?(?P<bare>; no head)? -->\n)\n?```\w+\n.*?\n```\n", re.S)
 ITEM = re.compile(r"(?:pub(?:\(\w+\))? )?(?:fn|struct|enum|trait|type) (\w+)|impl\b[^{]*? for (\w+)|impl(?:<[^>]*>)? (\w+)")

@@ -48,6 +48,24 @@ def hundreds(number):
     return f"{round(number, -2):,}"
 
 
+# The crates of callers.
+CALLERS = ("slotmap_examples", "structure_examples")
+
+
+def minutes_of(crates):
+    """What the parts of the gate take that begin with one of these crates, by docs/ARCHITECTURE.md."""
+    rows = re.findall(r"(?m)^\| `(\w+)`[^|]* \| (\d+) \| [\d.]+ \|$", read("docs/ARCHITECTURE.md"))
+    return sum(int(minutes) for name, minutes in rows if name in crates)
+
+
+def proof_files(crate):
+    """How many functions a crate has, tests left out, and how many of them have no proof file."""
+    sources = [it for it in found(f"crates/{crate}/src/**/*.rt") if "tests" not in it]
+    functions = sum(len(re.findall(r"(?m)^ *(?:pub(?:\(crate\))? )?fn \w+", read(it))) for it in sources)
+    folders = {os.path.dirname(it) for it in found(f"crates/{crate}/proofs/**/*.antt") if os.path.basename(it) in ("Answers.antt", "Invariants.antt", "Proof.antt")}
+    return crate, functions, functions - len({it for it in folders if "tests" not in it})
+
+
 def sentences():
     """What each page has to say."""
     tried, others = found("crates/*/must-fail/*.edit"), found("crates/*/more-wrong-bodies/*.edit")
@@ -65,7 +83,11 @@ def sentences():
             f"tries {len(tried)}, in {WORDS[crates]} crates",
             f"some {hundreds(code)} lines of code and {hundreds(proofs)} of specs and proofs",
         ],
-        "crates/slotmap/CALLING.md": [f"This proves the {WORDS[len(library)]} libraries"],
+        "crates/slotmap/CALLING.md": [
+            f"This proves the {WORDS[len(library)]} libraries",
+            f"proves the {WORDS[len(library)]} libraries of `slotmap`, in some {round(minutes_of(library), -1)} CPU minutes",
+        ],
+        "docs/PROVED.md": [f"{bare} of the {functions} functions of `{crate}`" for crate, functions, bare in map(proof_files, CALLERS)],
     }
 
 

@@ -3,14 +3,16 @@
 nothing is written.
 
 It fails where a table is out of date, where an operation that is slower than 1.25 times the Rust crate's, in instructions or in
-time at any size, has no cause in the page, and where a cause is given for one that isn't. It also fails where the figures don't
-bear out what README.md says of the maps.
+time at any size, has no cause in the page, and where a cause is given for one that isn't, or at a size at which it isn't. It also
+fails where the figures don't bear out what README.md says of the maps, where README.md says something of their speed or memory that
+no figure is compared with, and where docs/STRUCTURES.md has other figures.
 """
 
 import math
 import os
 import re
 import sys
+import textwrap
 
 sys.dont_write_bytecode = True
 
@@ -22,6 +24,7 @@ import results
 
 PAGE = os.path.join(TOP, "docs/PERFORMANCE.md")
 README = os.path.join(TOP, "README.md")
+STRUCTURES = os.path.join(TOP, "docs/STRUCTURES.md")
 FIGURES = os.path.join(TOP, "compare/bench/results.tsv")
 MAPS = {it.name: it for it in operations.MAPS}
 PRIMARY, SECONDARY = ["basic", "dense", "hop"], ["secondary", "sparse", "folded"]
@@ -40,7 +43,7 @@ CHOICES = [
     ("`get` of a stale or absent key", "get-stale", "get-absent", True),
     ("a removal and an insert", "churn", "churn", True),
     ("a step of `iter`, all slots live", "iter-full", "iter", True),
-    ("a step of `iter`, a random half live", "iter-half", "", True),
+    ("a step of `iter`, a random half live", "iter-half", "", False),
     ("a step of `iter`, a random 1 in 10 live", "iter-tenth", "", False),
     ("a step of `iter`, 1 slot in 100 live", "iter-few", "", True),
 ]
@@ -246,6 +249,76 @@ def memory_structures(figures):
     return table(["Bytes, after", "1,000,000 keys"], rows)
 
 
+def called(kind, chosen):
+    """The operations of a map that are of one kind of call: steps of iterators, inserts of new keys, or all others."""
+
+    def which(name):
+        return "iterator" if name.startswith(("iter", "keys", "values")) else "insert" if name.startswith("insert") else "other"
+
+    return [it.name for it in operations.operations_of(MAPS[kind]) if which(it.name) == chosen]
+
+
+def times_of(figures, kind, names):
+    """For each size the ratios of the times of these operations."""
+    return [[figures.row("time", kind, it, slots).ratio for it in names] for slots in TIMES]
+
+
+def kinds_of_calls(figures):
+    """The means of the ratios of times by kind of call."""
+    kinds = PRIMARY + SECONDARY
+
+    def cell(kind, chosen):
+        return " · ".join(mean_text(it) for it in times_of(figures, kind, called(kind, chosen)))
+
+    titles = {"iterator": "a step of an iterator", "insert": "an insert of a new key", "other": "all other calls"}
+    rows = [[title, *[cell(kind, it) for kind in kinds]] for it, title in titles.items()]
+    return table(["Mean ratio of times", *[HEADS[it] for it in kinds]], rows)
+
+
+def span(ratios):
+    """From the least to the greatest of some ratios."""
+    least, most = f"{min(ratios):.1f}", f"{max(ratios):.1f}"
+    return least if least == most else f"{least} to {most}"
+
+
+def beside_rust(figures):
+    """What README says of the maps beside the Rust crate's, and of the structures beside plain code."""
+    iterators, others = ([mean(it) for it in times_of(figures, "basic", called("basic", chosen))] for chosen in ("iterator", "other"))
+    inserts = sum(times_of(figures, "basic", called("basic", "insert")), [])
+    found = sum(times_of(figures, "basic", ["get-live"]), [])
+    means = {it: [mean(figures.ratios("time", it, slots)) for slots in TIMES] for it in PRIMARY + SECONDARY}
+    built = [figures.row("instructions", kind, BUILT[kind][0], 1_000).ratio for kind in BUILT]
+    spent = [figures.row("time", kind, BUILT[kind][0], 100_000).ratio for kind in BUILT]
+    return (
+        f"A `SlotMap`'s iterators take {span(iterators)} times as long as the Rust crate's, in the geometric mean. Its inserts take {span(inserts)} times as long, "
+        f"since it keeps three vectors, and its look-ups of live keys {span(found)}. All calls but iterators and inserts take {span(others)} in the mean. "
+        f"The other maps take {span(means['dense'] + means['hop'] + means['secondary'])} in all. Only the sparse one takes {span(means['sparse'])}, mostly by "
+        f"its hasher: beside Rust's map with one like it, {span(means['folded'])}. A structure is built in {span(built)} times the instructions of code with "
+        f"plain indices, at 100,000 elements in {span(spent)} times its time."
+    )
+
+
+# Of each structure the operation that builds one, and one that goes along it.
+BUILT = {"list": ("push", "walk"), "graph": ("build", "ends"), "scene": ("build", "children"), "scheduler": ("run", "postpone"), "world": ("build", "join")}
+
+
+def cost_of(figures, kind):
+    """What docs/STRUCTURES.md says of the cost of a structure."""
+
+    def part(operation):
+        title = next(it.title for it in operations.operations_of(MAPS[kind]) if it.name == operation)
+        few, *spent = [figures.row(*place).ratio for place in places_of(kind, operation)]
+        return f"{title}: **{few:.1f}** times the instructions, and {spent[0]:.1f} · {spent[1]:.1f} times the time"
+
+    size = figures.row("memory", kind, BUILT[kind][0], 1_000_000)
+    return "\n".join([
+        "What it costs beside code with plain indices, in time at 1,000 · 100,000 elements ([all rows](PERFORMANCE.md#structures)):",
+        "",
+        *[f"- {part(it)}" for it in BUILT[kind]],
+        *([f"- memory after the first of these, at 1,000,000 keys: {size.port:.0f} bytes, **{size.ratio:.1f}** times as many"] if size else []),
+    ])
+
+
 def memory(figures):
     slots = 1_000_000
 
@@ -270,10 +343,15 @@ def memory_values(figures):
     return table(["Bytes of a value", *[HEADS[it] for it in PRIMARY]], rows)
 
 
+def paragraph(text):
+    return "\n".join(textwrap.wrap(text, 160, break_long_words=False, break_on_hyphens=False))
+
+
 TABLES = {
     "choices": lambda it: choices(it, False),
-    "maps": lambda it: choices(it, True),
+    "maps": lambda it: choices(it, True) + "\n\n" + paragraph(beside_rust(it)),
     "summary": summary,
+    "kinds": kinds_of_calls,
     "primary": lambda it: costs(it, PRIMARY),
     "layout": layout,
     "secondary": lambda it: costs(it, SECONDARY),
@@ -283,6 +361,7 @@ TABLES = {
     "stepped": stepped,
     "structures": structures,
     "memory-structures": memory_structures,
+    **{f"cost-{kind}": lambda it, kind=kind: cost_of(it, kind) for kind in BUILT},
 }
 
 
@@ -301,74 +380,153 @@ def with_tables(page, figures):
 
 
 def causes(page):
-    """The operations that the page gives a cause for: the lines `| MAP | OPERATION; OPERATION | CAUSE |`."""
+    """The operations that the page gives a cause for, each with its text: the lines `| MAP | OPERATION; OPERATION | CAUSE |`."""
     kinds = [MAPS[it] for it in PRIMARY + SECONDARY]
     titles = {(it.name, op.title): op.name for it in kinds for op in operations.operations_of(it)}
     names = {HEADS[it.name]: it.name for it in kinds}
-    found, wrong = set(), []
+    found, wrong = {}, []
     block = page.split("<!-- causes -->")[1].split("<!-- end -->")[0]
     for line in block.strip().split("\n")[2:]:
-        head, listed, _ = [it.strip() for it in line.strip("|").split("|")]
+        head, listed, text = [it.strip() for it in line.strip("|").split("|")]
         for title in listed.split("; "):
             operation = titles.get((names.get(head), title))
             if operation is None:
                 wrong.append(f"docs/PERFORMANCE.md: {head} has no {title}")
-            found.add((names.get(head), operation))
+            found[names.get(head), operation] = text
     return found, wrong
 
 
 def slow_operations(figures):
-    """The operations that take more than 1.25 times as long as the Rust crate's, or as many instructions, at any size. Of a time
-    the lower quartile counts, too: else one of the hundreds of rows is always slow by chance."""
-    return {
-        (kind, operation)
-        for (measure, kind, operation, _), row in figures.rows.items()
-        if kind in PRIMARY + SECONDARY and measure in ("instructions", "time") and round(min(row.ratio, row.least), 2) > SLOW
-        and operation in {it.name for it in operations.operations_of(MAPS[kind])} and row.slots in TIMES
-    }
+    """The operations that take more than 1.25 times as long as the Rust crate's, or as many instructions, each with the sizes at
+    which its time is so, and whether its instructions are. Of a time the lower quartile counts, too: else one of the hundreds of rows
+    is always slow by chance."""
+    found = {}
+    for (measure, kind, operation, _), row in figures.rows.items():
+        if (
+            kind in PRIMARY + SECONDARY and measure in ("instructions", "time") and round(min(row.ratio, row.least), 2) > SLOW
+            and operation in {it.name for it in operations.operations_of(MAPS[kind])} and row.slots in TIMES
+        ):
+            found.setdefault((kind, operation), set()).add((measure, row.slots))
+    return found
+
+
+def sizes_named(text):
+    """The sizes that a cause is about: all, unless it names some. `From N slots on` names N and those above it."""
+    found = set()
+    for start, size in re.findall(r"\b(?:([Ff])rom|[Aa]t) ([\d,]+) (?:slots|keys)", text):
+        size = int(size.replace(",", ""))
+        found |= {it for it in TIMES if it == size or start and it > size}
+    return found or set(TIMES)
+
+
+def faults_of_cause(kind, operation, text, slow):
+    """Where the text of a cause names other sizes or another measure than the operation is slow at."""
+    fault = f"docs/PERFORMANCE.md: the cause of {kind} {operation}"
+    sizes, wrong = {slots for measure, slots in slow if measure == "time"}, []
+    named = sizes_named(text)
+    if sizes - named:
+        wrong.append(f"{fault} names no size of {', '.join(number(it) for it in sorted(sizes - named))} slots, where it is slow in time")
+    if named != set(TIMES) and not sizes & named:
+        wrong.append(f"{fault} names sizes at which it isn't slow in time")
+    counted = any(measure == "instructions" for measure, _ in slow)
+    if "In time alone" in text and counted:
+        wrong.append(f"{fault} says that it is slow in time alone")
+    if "In instructions alone" in text and sizes:
+        wrong.append(f"{fault} says that it is slow in instructions alone")
+    return wrong
 
 
 def faults_of_causes(page, figures):
     (given, wrong), slow = causes(page), slow_operations(figures)
-    wrong += [f"docs/PERFORMANCE.md: no cause for {kind} {operation}" for kind, operation in sorted(slow - given)]
-    wrong += [f"docs/PERFORMANCE.md: {kind} {operation} needs no cause" for kind, operation in sorted(given - slow, key=str)]
+    wrong += [f"docs/PERFORMANCE.md: no cause for {kind} {operation}" for kind, operation in sorted(slow.keys() - given.keys())]
+    wrong += [f"docs/PERFORMANCE.md: {kind} {operation} needs no cause" for kind, operation in sorted(given.keys() - slow.keys(), key=str)]
+    for (kind, operation), text in given.items():
+        wrong += faults_of_cause(kind, operation, text, slow.get((kind, operation), set())) if (kind, operation) in slow else []
     return wrong
 
 
-def faults_of_claims(figures):
-    """What README.md says of the primary maps, and the figures don't bear out. Of what it says of a large map 100,000 slots and
-    1,000,000 count, of all else 1,000 too."""
+def claims_of_readme(figures):
+    """What README.md says of the maps' speed and memory: each phrase, with whether the figures bear it out. Of what it says of a large
+    map 100,000 slots and 1,000,000 count, of all else 1,000 too."""
 
-    def all_times(operation, chosen, sizes_of=TIMES[1:]):
+    def all_times(operation, chosen, sizes_of=TIMES):
+        kinds = [it for it in PRIMARY + SECONDARY[:2] if figures.row("time", it, operation, TIMES[0])]
+        return all(chosen({it: figures.row("time", it, operation, size).port for it in kinds}) for size in sizes_of)
+
+    def sizes(chosen, measured="insert", kinds=tuple(PRIMARY)):
+        return chosen({it: figures.row("memory", it, measured, 1_000_000).port for it in kinds})
+
+    def least_memory(values):
+        return sizes(lambda it: it["hop-values"] == min(it.values()), f"insert-{values}", tuple(VALUED))
+
+    def dense_first(it):
+        return it["dense"] == min(it["basic"], it["dense"], it["hop"])
+
+    def secondary_before_sparse(it):
+        return it["secondary"] < it["sparse"]
+
+    return {
+        "In a large map it finds stale keys fastest": all_times("get-stale", lambda it: it["basic"] == min(it.values()), TIMES[1:]),
+        "if you iterate most": all(all_times(it, dense_first) for it in ("iter-full", "iter-half", "iter-few")),
+        "At 100,000 and 1,000,000 keys its inserts take over three times a `SlotMap`'s time": all_times(
+            "insert", lambda it: it["dense"] > 3 * it["basic"], TIMES[1:]
+        ),
+        "if the map mostly grows": all_times("insert", lambda it: it["hop"] == min(it[kind] for kind in PRIMARY)),
+        "or memory matters most, at values of 4 bytes or more": all(
+            least_memory(name) for name, size in operations.VALUES.items() if not size.isdigit() or int(size) >= 4
+        ),
+        "Up to 100,000 keys a removal and an insert take 2 to 2.5 times a `SlotMap`'s time": all_times(
+            "churn", lambda it: 1.95 * it["basic"] <= it["hop"] <= 2.55 * it["basic"], TIMES[:2]
+        ),
+        "for more data of most keys of another map": all(
+            all_times(it, secondary_before_sparse) for it in ("insert", "get", "churn")
+        ),
+    }
+
+
+# A word that says something of speed or memory.
+OF_COST = re.compile(r"\b(fast\w*|slow\w*|well|best|least|most|iterat\w+|memory|times?|quick\w*|small\w*|large\w*)\b")
+
+
+def faults_of_claims(readme, figures):
+    """What README.md says of the maps that the figures don't bear out, and what it says of cost that is compared with no figure."""
+    listed = re.search(r"\n## Which map\n(.*?)\nNanoseconds", readme, re.S)
+    text, wrong = " ".join(listed.group(1).split()) if listed else "", []
+    for phrase, is_so in claims_of_readme(figures).items():
+        if phrase not in text:
+            wrong.append(f"README.md, Which map: no words {phrase!r}")
+        elif not is_so:
+            wrong.append(f"README.md: the figures don't say {phrase!r}")
+        text = text.replace(phrase, "")
+    wrong += [f"README.md, Which map: no figure is compared with {it.group(0)!r} in {text[max(0, it.start() - 40):it.end() + 20]!r}" for it in OF_COST.finditer(text)]
+    return wrong
+
+
+def faults_of_page(figures):
+    """What docs/PERFORMANCE.md says of the primary maps above its table of causes, and the figures don't bear out."""
+
+    def slots(operation, chosen, sizes_of=TIMES[1:]):
         return all(chosen({it: figures.row("time", it, operation, size).port for it in PRIMARY}) for size in sizes_of)
 
-    def sizes(chosen):
-        return chosen({it: figures.row("memory", it, "insert", 1_000_000).port for it in PRIMARY})
-
     claims = {
-        "`SlotMap` finds stale keys fastest": all_times("get-stale", lambda it: it["basic"] == min(it.values())),
-        "`SlotMap` iterates well with vacant slots": all(
-            all_times(name, lambda it: it["basic"] < it["hop"]) for name in ("iter-half", "iter-tenth")
+        "`SlotMap`: at half and at 1 in 10 live its `iter` is faster than that of a `HopSlotMap`": all(
+            slots(name, lambda it: it["basic"] < it["hop"]) for name in ("iter-half", "iter-tenth")
         ),
         "`DenseSlotMap` iterates fastest": all(
-            all_times(name, lambda it, times=times: times * it["dense"] <= min(it["basic"], it["hop"]))
+            slots(name, lambda it, times=times: times * it["dense"] <= min(it["basic"], it["hop"]))
             for name, times in (("iter-full", 1.5), ("iter-half", 3), ("iter-few", 3))
         ),
-        "`DenseSlotMap` inserts three times slower": all_times("insert", lambda it: it["dense"] >= 3 * it["basic"]),
-        "`HopSlotMap` has the fastest inserts": all_times("insert", lambda it: it["hop"] == min(it.values()), TIMES),
-        "`HopSlotMap` has the fastest look-ups of live keys": all_times("get-live", lambda it: it["hop"] == min(it.values()), TIMES),
-        "`HopSlotMap` takes twice as long for a removal and an insert": all_times("churn", lambda it: it["hop"] >= 1.9 * it["basic"], TIMES[:2]),
-        "`HopSlotMap` takes the least memory": sizes(lambda it: it["hop"] == min(it.values())),
+        "`HopSlotMap` has the fastest look-ups of live keys": slots("get-live", lambda it: it["hop"] == min(it.values()), TIMES),
     }
-    return [f"README.md: the figures don't say that {it}" for it, is_so in claims.items() if not is_so]
+    return [f"docs/PERFORMANCE.md: the figures don't say that {it}" for it, is_so in claims.items() if not is_so]
 
 
 def main():
     if sys.argv[1:] not in ([], ["--check"]):
         sys.exit("usage: docs/performance.py [--check]")
     figures = Figures()
-    wrong = faults_of_causes(read(PAGE), figures) + faults_of_claims(figures)
-    for path in (PAGE, README):
+    wrong = faults_of_causes(read(PAGE), figures) + faults_of_claims(read(README), figures) + faults_of_page(figures)
+    for path in (PAGE, README, STRUCTURES):
         page = read(path)
         fresh = with_tables(page, figures)
         if fresh != page and sys.argv[1:] == ["--check"]:

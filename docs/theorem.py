@@ -20,9 +20,9 @@ from sources import items_of
 
 PAGE = os.path.join(TOP, "docs/THEOREM.md")
 CRATE, CALLS = "slotmap_run", ("run_new", "run_detaching_new")
-FIRST = 90
+FIRST = 100
 # The definitions of the first part: each law after those that it rests on.
-LAWS = "Knowledge Agrees AgreesLive told Reads ReadsWhatWasPut reply_keys keys_told NoKeyTwice IndexStaysSmall".split()
+LAWS = "Knowledge Agrees AgreesLive taken_out told Reads ReadsWhatWasPut IndexStaysSmall".split()
 # Six commands on a new map, which all concern the key k, with their replies.
 EXAMPLE = [
     ("Insert(5)", "Key(k)"),
@@ -135,17 +135,31 @@ def wrapped(text, head="", width=150):
     return textwrap.wrap(head + text, width, break_long_words=False, break_on_hyphens=False, subsequent_indent=head and "> ")
 
 
-def known_after(told, command, reply, known):
-    """What is known of k by the lines of the definition `told`, where the command and the reply name k."""
-    for line in told.code()[1:-1]:
-        head, value = line.strip().split(" = ", 1)
+def equations(definition):
+    """The equations of a definition, each as its left and right side, where a line that is further to the right goes on."""
+    code = definition.code()
+    least = min(len(it) - len(it.lstrip(" ")) for it in code)
+    joined = []
+    for line in code[1:]:
+        if len(line) - len(line.lstrip(" ")) > least:
+            joined[-1] += " " + line.strip()
+        else:
+            joined.append(line.strip())
+    return [it.split(" = ", 1) for it in joined]
+
+
+def known_after(by_name, command, reply, known):
+    """What is known of k by the equations of the definition `told`, where the command and the reply name k."""
+    for head, value in equations(by_name["told"]):
         pattern = re.match(r"told k \((?:detaching\.Plain \(?)?\w+\.(\w+)((?: \w+)*)\)+ \(?reply\.(\w+)", head)
-        if (pattern.group(1), pattern.group(3)) != (re.match(r"\w+", command).group(), re.match(r"\w+", reply).group()):
+        if not pattern or (pattern.group(1), pattern.group(3)) != (re.match(r"\w+", command).group(), re.match(r"\w+", reply).group()):
             continue
         chosen = re.match(r"if .* then (.*) else known$", value)
+        value = chosen.group(1) if chosen else value
         if value.startswith("elim known"):
             return re.search(rf"[\[|] {known.split()[0]}(?: \w+)? ↦ (\w+)", value).group(1)
-        value = chosen.group(1) if chosen else value
+        if value == "taken_out known":
+            return next(value for head, value in equations(by_name["taken_out"]) if head.split()[1] in (known.split()[0], "_"))
         return value.replace(" v", " " + command.rstrip(")").split("(")[-1].split(", ")[-1])
     return known
 
@@ -155,10 +169,12 @@ def laws(found):
     by_name = {it.name: it for it in found}
     lines = ["# What was put is what is got", ""]
     lines += wrapped(
-        "`run_new` runs a list of commands on a new map, and returns it with the replies. For a reader its clauses `laws` and `index_stays_small` promise this. Each reply agrees with "
-        "what the commands before it and their replies tell, where no key is live at first (`ReadsWhatWasPut`). No two inserts return the same key (`NoKeyTwice`). In a list "
-        "of fewer than 2^32 commands no index is above the most keys at one moment, counted from the replies (`IndexStaysSmall`, from three zeros). "
-        f"These laws rest on the {len(LAWS)} definitions below, on keys, and on no map, slot or machine. `docs/theorem.py` writes this page, and with `--check` fails if it is out of date.", width=158)
+        "`run_new` runs a list of [commands](api/runs.md) on a new map, and returns it with the replies. For a reader its clauses `laws` and `index_stays_small` promise this. "
+        "There is one reply for each command, of its kind or one that says why it failed. It agrees with what the commands before it and their replies tell, where each key is "
+        "`absent` at first (`ReadsWhatWasPut`). An insert returns an `absent` key, which is never `absent` again: so no two inserts return the same key. In a list of fewer than "
+        "2^32 commands no index is above the most keys at one moment, counted from the replies (`IndexStaysSmall`, from three zeros). Here `data_of` reads a key's index and version, "
+        f"and `looks v r` says that `look` may return r for the value v. These laws rest on the {len(LAWS)} definitions below, on keys, and on no map, slot or machine. "
+        "`docs/theorem.py` writes this page.", width=190)
     lines += ["", "```text"]
     around = []
     for name in LAWS:
@@ -167,12 +183,19 @@ def laws(found):
         around = it.around
         indent = " " * (len(it.lines[0]) - len(it.lines[0].lstrip(" ")))
         lines += [indent + "-- " + line for line in wrapped(" ".join(it.comment), width=190)] + [line.rstrip() for line in it.code()]
-    lines += ["```", "", "An example: what is known of the key `k` after each of six commands. At first it is `not_live`.", ""]
-    lines += ["| Command | Reply | Known of `k` |", "|---|---|---|"]
-    known = "not_live"
+    known, after = "absent", []
     for command, reply in EXAMPLE:
-        known = known_after(by_name["told"], command, reply, known)
-        lines.append(f"| `{command}` | `{reply}` | `{known}` |")
+        known = known_after(by_name, command, reply, known)
+        after.append(known)
+    rows = [("Command", [it[0] for it in EXAMPLE]), None, ("Reply", [it[1] for it in EXAMPLE]), ("Known of `k`", after)]
+    lines += ["```", "", "An example: what is known of the key `k` after each of six commands.", ""]
+    lines += ["|---" * (len(EXAMPLE) + 1) + "|" if row is None else f"| {row[0]} | " + " | ".join(f"`{it}`" for it in row[1]) + " |" for row in rows]
+    lines += [""]
+    lines += wrapped(
+        "These laws leave open which keys a `Retain` keeps, and which values it leaves. Nor do they tell which `absent` key an insert returns, or the value of an `InsertWith`. And they "
+        "don't tell when the map is full, memory runs out, `make` fails or a `Reserve` is too great. [The steps](#the-steps) of the second part tell that, and what the closures `make` "
+        "and `keep` may do. The other laws of `Laws` and `DetachLaws` stand there too. By `GoneForGood` a live key that isn't found after a `Retain` is never found again. "
+        "By `ReserveHolds` the next n inserts after a `Reserve` of n find room and memory.", width=190)
     return lines
 
 

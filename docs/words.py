@@ -1,8 +1,8 @@
 #!/usr/bin/env python3
 """Lists the words of this repository's definitions that public clauses use, each with the file that defines it and how
-many clauses use it. Fails if docs/DEFINITIONS.md doesn't name one, or if README.md has other numbers of definitions and of
-their lines. These are counted by definition: those that clauses name, with all that they cite. With --check only faults are
-printed."""
+many clauses use it. Fails if docs/DEFINITIONS.md doesn't name one of the maps, if the page of a structure or of the calls for C
+doesn't say what one of its own words means, or if README.md has other numbers of definitions and of their lines. These are counted
+by definition: those that clauses name, with all that they cite. With --check only faults are printed."""
 
 import functools
 import glob
@@ -13,7 +13,17 @@ import sys
 sys.dont_write_bytecode = True
 
 from definitions import declared_at, files, reached_from
-from sources import CONTRACTS, TOP, facade, items_of
+from sources import CONTRACTS, TOP, facade, items_of, module_items
+
+# The crates whose words stand on the pages in docs/api, at the end of each.
+OWN_PAGES = (
+    "slotmap_list", "slotmap_graph", "slotmap_entities", "slotmap_scene", "slotmap_scheduler", "slotmap_bounded",
+    "slotmap_links", "slotmap_c",
+)
+# Words that the comment of another one explains too.
+TOLD_WITH = {"lends_last": "lends_first", "moved_to_back": "moved_to_front", "moved_after": "moved_to_front", "moved_before": "moved_to_front"}
+# A row of such a table: its word, and what it means.
+ROW = re.compile(r'(?m)^\| <a name="word-[^"]+"></a>`([^`]+)` \| (.*?) \| \[')
 
 
 @functools.cache
@@ -59,10 +69,27 @@ def imports_of(path):
     return words, modules
 
 
-def fields_of_specs():
-    """The fields of the records that hold something, each with its file. A record that relates values isn't one."""
+@functools.cache
+def listed_crates():
+    """For each crate of crates.txt the crates that it lists."""
+    with open(os.path.join(TOP, "crates.txt"), encoding="utf-8") as file:
+        return {name: listed.split() for name, listed in re.findall(r"(?m)^(\w+)(?: staticlib)?:(.*)$", file.read())}
+
+
+def crates_below(crate):
+    """A crate, and those of the repository that it is built on, the nearest first."""
+    found = [crate]
+    for name in found:
+        found += [it for it in listed_crates().get(name, ()) if it in listed_crates() and it not in found]
+    return found
+
+
+def fields_of_specs(crates=()):
+    """The fields of the records that hold something, each with its file: of these crates in their order, or of all. A record that
+    relates values isn't one."""
     found = {}
-    for path in sorted(glob.glob(os.path.join(TOP, "crates/*/specs/*.antt"))):
+    patterns = [f"crates/{it}/specs/**/*.antt" for it in crates] or ["crates/*/specs/*.antt"]
+    for path in [path for it in patterns for path in sorted(glob.glob(os.path.join(TOP, it), recursive=True))]:
         with open(path, encoding="utf-8") as file:
             lines = file.read().split("\n")
         for number, line in enumerate(lines):
@@ -112,6 +139,80 @@ def note_words(found, item, clauses, fields):
                 used.add((name, fields[name]))
         for word in used:
             found[word] = found.get(word, 0) + 1
+
+
+@functools.cache
+def fields_below(crate):
+    """The fields that a crate's clauses may name: its own first, then those of the maps, then those of what structures share."""
+    below = crates_below(crate)[1:]
+    return fields_of_specs([crate, *[it for it in below if it not in OWN_PAGES], *[it for it in below if it in OWN_PAGES]])
+
+
+def public_items(crate):
+    """The items that a crate's page shows: what is public, with the impls of it, or the exports for C."""
+    if crate == "slotmap_c":
+        return [it for it in items_of(crate) if it.kind == "fn" and 'extern "C"' in it.lines[0]]
+    items = module_items(crate, "")[1]
+    types = {it.name for it in items if it.public and it.kind != "impl"}
+    return [it for it in items if it.public and it.kind != "impl" or it.kind == "impl" and it.of in types]
+
+
+def words_of(item, in_trait=False):
+    """The words of an item's public clauses, each with its file."""
+    found = {}
+    note_words(found, item, clauses_of(item, in_trait), fields_below(item.path.split("/")[1]))
+    return sorted(found, key=lambda it: (it[0].lower(), it))
+
+
+def is_own(spec):
+    """Whether a file of definitions is of a crate whose words stand on a page of its own."""
+    return spec.split("/")[1] in OWN_PAGES
+
+
+def own_words(crate):
+    """The words of a crate's public clauses that no other page explains."""
+    return sorted({it for item in public_items(crate) for it in words_of(item, item.kind == "fn") if is_own(it[1])})
+
+
+def meaning_of(word, spec):
+    """What a word means, by the comment of its definition, or else by the definition, and the line that declares it."""
+    definition, name = declared_at(word, spec), f"`{word}`"
+    if definition:
+        teller = TOLD_WITH.get(word)
+        said = " ".join(definition.comment) or (f"with `{teller}`: " + " ".join(declared_at(teller, spec).comment) if teller else "")
+        code = " ".join(it.strip() for it in definition.code()[1:])
+        return said or (f"`{code}`" if code else ""), definition.path, definition.line
+    lines, said = files()[spec].lines, []
+    for number, line in enumerate(lines):
+        if re.match(rf" +pub {re.escape(word)} :", line):
+            first = number
+            # A comment above several fields is about all of them.
+            while re.match(r" +pub \w+ :", lines[first - 1]):
+                first -= 1
+            while lines[first - 1].strip().startswith("--"):
+                first -= 1
+                said.insert(0, lines[first].strip()[2:].strip())
+            holder = next(it.split()[2] for it in reversed(lines[:number]) if re.match(r" *pub record ", it))
+            kind = re.sub(r"^ +pub \w+ : ", "", line)
+            return f"{' '.join(said)}{': ' if said else ''}`{kind}`, in `{holder}`", spec, number + 1
+    sys.exit(f"words.py: {spec} doesn't declare {name}")
+
+
+def page_of(crate):
+    return f"docs/api/{crate}.md"
+
+
+def faults_of_pages():
+    """The words of structures and of the calls for C that their pages don't explain."""
+    wrong = []
+    for crate in OWN_PAGES:
+        path = os.path.join(TOP, page_of(crate))
+        with open(path, encoding="utf-8") as file:
+            said = {word: meaning.strip() for word, meaning in ROW.findall(file.read())}
+        for word, spec in own_words(crate):
+            if not said.get(word):
+                wrong.append(f"{page_of(crate)} doesn't say what {word} means ({spec})")
+    return wrong
 
 
 def words_of_clauses(crates=()):
@@ -174,8 +275,8 @@ def main():
         if is_missing or sys.argv[1:] == []:
             print(f"{spec}: {word}, in {count} clauses" + (": not in docs/DEFINITIONS.md" if is_missing else ""))
     print(f"{len(found)} words, {missing} of them not in docs/DEFINITIONS.md")
-    wrong = fault_of_readme(found)
-    print(wrong, end="\n" if wrong else "")
+    wrong = [it for it in [fault_of_readme(found), *faults_of_pages()] if it]
+    print("\n".join(wrong), end="\n" if wrong else "")
     return 1 if missing or wrong else 0
 
 

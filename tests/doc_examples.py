@@ -36,7 +36,6 @@ HEADS = {
 # The crates of the structures on the maps, and of what they share.
 STRUCTURES = (
     "slotmap_list",
-    "slotmap_keylist",
     "slotmap_links",
     "slotmap_bounded",
     "slotmap_graph",
@@ -140,7 +139,7 @@ def rows_of_table():
         if lines[number].startswith("## "):
             break
         cells = re.split(r"(?<!\\) ?\| ?", lines[number].strip("|"))
-        if len(cells) != 2 or "`" not in cells[1]:
+        if len(cells) != 3 or "`" not in cells[1]:
             continue
         row = Example("calling", TABLE, number + 1)
         row.item = "row"
@@ -166,6 +165,69 @@ def calls_without_example():
                 if (call.public or item.kind == "trait") and "```" not in "\n".join(call.doc):
                     found.append(f"{call.path}:{call.line} ({call.name}): no example")
     return found
+
+
+# The pages with whole programs.
+PROGRAM_PAGES = ("README.md", "docs/FIRST_PROOF.md", "docs/STRUCTURES.md")
+
+
+def programs():
+    """The programs of the pages: blocks with a `main`. The comment after a `println!` is what it prints there, with ` / ` between two
+    lines."""
+    found = []
+    for page in PROGRAM_PAGES:
+        with open(os.path.join(TOP, page), encoding="utf-8") as file:
+            text = file.read()
+        for match in re.finditer(r"^```rust\n(.*?)^```$", text, re.S | re.M):
+            if "fn main(rt: HostRuntime)" in match.group(1):
+                program = Example("programs", page, text[: match.start()].count("\n") + 1)
+                program.item, program.lines = "main", match.group(1).rstrip("\n").split("\n")
+                found.append(program)
+    return found
+
+
+def expected_of(program):
+    """What a program prints, and its lines with no comment that says so."""
+    lines = [it for it in program.lines if "println!(rt" in it]
+    silent = [it for it in lines if not re.search(r";[^;]*\)\?; // ", it)]
+    return [text for it in lines if it not in silent for text in it.split("?; // ")[1].split(" / ")], silent
+
+
+def write_programs(folder, found):
+    """Writes one program that runs all of these, each below a line with its number."""
+    src = os.path.join(folder, "crates/doc_programs/src")
+    os.makedirs(src)
+    # crates.txt lists this crate too, which is written later.
+    os.makedirs(os.path.join(folder, "crates/doc_examples/src"))
+    mods = "".join(f"mod program_{at};\n" for at in range(len(found)))
+    calls = "".join(f'    println!(rt; "== {at}")?;\n    program_{at}::main(rt)?;\n' for at in range(len(found)))
+    with open(os.path.join(src, "main.rt"), "w", encoding="utf-8") as file:
+        file.write(f"#![tactic(auto)]\n\n{mods}\nfn main(rt: HostRuntime) -> anyhow::Result<()> {{\n{calls}    Ok(())\n}}\n")
+    for at, program in enumerate(found):
+        lines = [it.replace("fn main(", "pub fn main(") for it in program.lines if not it.startswith("#![")]
+        with open(os.path.join(src, f"program_{at}.rt"), "w", encoding="utf-8") as file:
+            file.write("\n".join(lines) + "\n")
+    with open(os.path.join(folder, "crates.txt"), "a", encoding="utf-8") as file:
+        file.write(f"doc_programs: slotmap slotmap_basic slotmap_core {' '.join(it for it in STRUCTURES)} anyhow\n")
+
+
+def faults_of_programs(folder, found):
+    """Runs the programs, and says which doesn't compile or prints something else than its comments say."""
+    write_programs(folder, found)
+    run = subprocess.run(["rt", "try"], cwd=os.path.join(folder, "crates/doc_programs"), stdout=subprocess.PIPE, stderr=subprocess.STDOUT, text=True, check=False)
+    wrong = []
+    for at, number, message in re.findall(r"^src/program_(\d+)\.rt:(\d+):\d+: error(.*)$", run.stdout, re.M):
+        program = found[int(at)]
+        wrong.append(f"{program.title()}: line {program.line + int(number)}: error{message}")
+    if not wrong and run.returncode:
+        return [f"the programs of the pages did not run to their end\n{run.stdout}"]
+    printed = re.split(r"^== \d+$", run.stdout.split("\ninterpreter: ")[0], flags=re.M)[1:]
+    for program, text in zip(found, printed):
+        wanted, silent = expected_of(program)
+        wrong += [f"{program.title()}: no comment says what this prints: {it.strip()}" for it in silent]
+        if wanted != text.strip("\n").split("\n"):
+            wrong.append(f"{program.title()}: prints {text.strip()!r}")
+    return wrong
 
 
 def facade_names():
@@ -306,9 +368,13 @@ def main():
     if wanted:
         examples = [it for it in examples if any(text in it.title() for text in wanted)]
         odd = [it for it in odd if any(text in it for text in wanted)]
+    whole = [it for it in programs() if not wanted or any(text in it.title() for text in wanted)]
     left, ended = examples, True
     with tempfile.TemporaryDirectory() as folder:
         copy_repository(folder)
+        if whole:
+            odd += faults_of_programs(folder, whole)
+            print(f"{len(whole)} programs of pages")
         # What the compiler refuses is taken out, and the others are tried again.
         while left:
             lines_of = write_crate(folder, left)

@@ -9,7 +9,8 @@
 - A part of a cell there such as "`insert`, `reattach`: `order` (`Appends`), `err`" names calls and their clauses. Each clause exists
   in one of these calls, and each call has one of these clauses. A word in brackets is in the clauses of the part, or in a
   definition that they rest on.
-- How long a proof takes is said once: of the gate, of a first check, and of a faulty body.
+- How long a proof takes is said once: of the gate, of a first check, of one of all maps, and of a faulty body. The gate's processor
+  minutes in README.md are the sum of its parts in docs/ARCHITECTURE.md.
 """
 
 import functools
@@ -31,8 +32,8 @@ ITEM = re.compile(r"\b(pub|impl|fn|struct|enum|trait|ghost)\b")
 # Where a path in code may begin, besides the top and the page's own folder.
 ROOTS = ["crates", "crates/*", "crates/slotmap_core/src", "crates/slotmap_slots/src"]
 # Paths that a page names and that aren't of the repository: those of templates, of examples, and of other machines.
-OTHERS = ("crates/app", "crates/slotmap.txt", "proofs/echo", "src/clock.rt", "src/lib.rs", "proofs/MAP", "CRATE/", "OUT/", "/usr/", "crates/slotrun/out/", "proofs/find_key",
-          "proofs/fill", "proofs/count_reads", "proofs/tour")
+OTHERS = ("crates/app", "out/site", "crates/slotmap.txt", "proofs/echo", "src/clock.rt", "src/lib.rs", "proofs/MAP", "CRATE/", "OUT/", "/usr/", "crates/slotrun/out/", "proofs/find_key",
+          "proofs/fill", "proofs/count_reads", "proofs/tour", "proofs/renew")
 
 
 def git(*arguments):
@@ -72,6 +73,7 @@ class Pages:
                 number = seen.get(anchor, 0)
                 seen[anchor] = number + 1
                 found.add(f"{anchor}-{number}" if number else anchor)
+            found |= set(re.findall(r'<a name="([^"]+)"', without_blocks(read(path))))
             self.anchors[path] = found
         return self.anchors[path]
 
@@ -227,11 +229,14 @@ def check_proved(fault):
 # What takes how long is said in one paragraph or table each: sentences with a number of minutes, seconds or hours, about one of
 # these.
 COSTS = {
-    "the gate": r"\bgate\b|`rt ci`|`bash \.ci/run`|prove\.sh",
-    "a first check": r"\bfirst (check|time)\b|proves? (the |its )?(ten |three )?librar",
+    "the gate": r"\bgate\b|`rt ci`|`bash \.ci/run`|prove[\w-]*\.sh",
+    "a first check": r"\bfirst (check|time)\b|prove[sd]? (the |its )?(three )?librar|three libraries",
+    "a first check of all maps": r"\bten libraries\b",
     "a faulty body": r"\b(wrong|faulty) bod(y|ies)\b",
 }
-TIME = r"\b[\d,.]+ (processor )?(minutes?|seconds?|hours?)\b|Processor minutes .*(\d|_)"
+TIME = r"\b[\d,.]+ (processor |CPU )?(minutes?|seconds?|hours?)\b|(Processor|CPU) minutes .*(\d|_)"
+# The table of README and that of ARCHITECTURE are of one machine: the sum of the parts is that of the gate, within a tenth.
+SUMS = ("README.md", r"\| `rt ci` \| ([\d,]+) \|"), ("docs/ARCHITECTURE.md", r"(?m)^\| [^|]+ \| (\d+) \| [\d.]+ \|$")
 
 
 def sentences_of(block):
@@ -255,10 +260,18 @@ def check_costs(pages, fault):
             fault(", ".join(saying), what, "its time is said more than once")
 
 
+def check_sums(fault):
+    """The processor minutes of the gate, and the sum of those of its parts."""
+    whole, parts = (sum(int(it.replace(",", "")) for it in re.findall(pattern, read(page))) for page, pattern in SUMS)
+    if not whole or abs(whole - parts) > whole / 10:
+        fault("README.md, docs/ARCHITECTURE.md", "the gate", f"{whole} processor minutes, where its parts take {parts}")
+
+
 def main():
     pages = Pages()
     pages.check()
     check_proved(pages.fault)
+    check_sums(pages.fault)
     check_costs(pages.tracked, pages.fault)
     print("\n".join(pages.faults), end="\n" if pages.faults else "")
     print(f"{pages.count} links, {len(pages.faults)} faults")

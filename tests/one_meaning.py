@@ -20,6 +20,7 @@ SOURCES = {
     ' '.join(CALLS): 'that call of a map; for primary and secondary, of the trait',
     'call maps keyed many sized held lists runs kinds walks steps replies stop script': 'that part of a program that reads rows or scripts, or of a run',
     'commands errors keys joined json clones scheduler packed': 'that subject: its definition, its tests, or an example of it',
+    'blocks disjoint entries owned slices': 'the blocks of vacant slots, several keys at once, entries, owned iterators, or packed slices: the calls, or guards of their contracts',
     'debug shown': 'the text of a type in a debugger, or its tests',
     'handle': 'a handle for C: of a map, or of a side table',
     'messages': 'what the errors of a structure say, and the debug texts of its types',
@@ -87,7 +88,7 @@ WORDS = {
 LEMMA_NAMES = {
     'detached full inserts no_memory reattach_served removed': 'that command of a run, and of a joined run',
     'listed_once not_found taken goes_up put_len stands': 'the same of two models of a structure or a map',
-    'closed_spec end_spec into_unboxed_spec of_unboxed_spec send': 'that function of each handle for C, by the name that the checker wants',
+    'closed_spec end_spec into_unboxed_spec inside_spec is_closed_spec of_unboxed_spec send': 'that function of each handle for C, by the name that the checker wants',
 }
 
 # Lemmas of one name and one statement in two files
@@ -96,7 +97,7 @@ PROVED_TWICE = {
     'keeps_lent yields_in_order': 'the same of the drain of each structure',
     'first second some_is own': 'a line of logic that a structure proves for itself',
     'below-changed sorted-changed': 'of entries whose values are changed by the value, or by the key',
-    'closed_spec end_spec into_unboxed_spec of_unboxed_spec': 'that function of each handle for C, by the name that the checker wants',
+    'closed_spec end_spec into_unboxed_spec inside_spec is_closed_spec of_unboxed_spec': 'that function of each handle for C, by the name that the checker wants',
 }
 
 

@@ -81,7 +81,7 @@ fn puts(name: &str) -> bool {
 /// The calls that can't be asked, and change nothing.
 fn not_asked(name: &str) -> Made {
     match name {
-        "to_slots" | "has_capacity" | "capacity_is_within" | "looks" => Some(Answer::LeftOut),
+        "to_slots" | "has_capacity" | "capacity_is_within" | "looks" | "key_at" => Some(Answer::LeftOut),
         _ => None,
     }
 }

@@ -12,7 +12,7 @@ from svg import BLUE, FOLDER, GREEN, INK, ORANGE, RED, SOFT, Picture, fitted
 STRUCTURES = "five structures"
 # So do the crates of their tests.
 TESTS = "their tests"
-MEMBERS = {"slotmap_list", "slotmap_keylist", "slotmap_links", "slotmap_bounded", "slotmap_graph", "slotmap_entities", "slotmap_scene", "slotmap_scheduler"}
+MEMBERS = {"slotmap_list", "slotmap_links", "slotmap_bounded", "slotmap_graph", "slotmap_entities", "slotmap_scene", "slotmap_scheduler"}
 # Where each crate is: its column and row, and what it has.
 CRATES = {
     "slotmap_core": (3.0, 0, "keys, errors, traits, lists of slots, definitions"),
@@ -46,12 +46,12 @@ PITCH, LEFT, TOPS = 152, 22, [698, 598, 460, 316, 186, 66]
 HEIGHT = 56
 
 
-# The library of a program stands as the program, and the tests of another library as that library.
+# The library of a program stands as the program, and the tests and guards of another library as that library.
 LIBRARIES = {
     "slotmap_rows_primary": "primary_rows", "slotmap_rows_secondary": "secondary_rows",
     "slotmap_script": "slotrun", "json_and_script_tests": "slotrun",
-    "structure_tests": TESTS, "scene_and_world_tests": TESTS, "structures_at_size": TESTS,
-}
+    "structure_tests": TESTS, "structures_at_size": TESTS,
+} | {f"slotmap_guards_{of}": f"slotmap_{of}" for of in ("basic", "dense", "hop", "secondary", "sparse", "run")}
 
 
 def shown(name):

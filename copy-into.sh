@@ -1,6 +1,6 @@
 #!/usr/bin/env bash
-# take.sh DEST [CRATE ..]
-# take.sh --archive FILE [CRATE ..]
+# copy-into.sh DEST [CRATE ..]
+# copy-into.sh --archive FILE [CRATE ..]
 #
 # Gives the repository DEST the library as it was proved here: its ten crates, without tests, rows and deliberately faulty
 # bodies, and with what their proofs built. A check of a crate over them then takes seconds in place of most of an hour. A
@@ -38,11 +38,11 @@ below() {
 }
 wanted=(slotmap "$@")
 for name in "${wanted[@]}"; do
-    grep -q "^$name:" "$here/crates.txt" || { echo "take.sh: crates.txt has no crate $name" >&2; exit 2; }
+    grep -q "^$name:" "$here/crates.txt" || { echo "copy-into.sh: crates.txt has no crate $name" >&2; exit 2; }
 done
 mapfile -t crates < <(below "${wanted[@]}" | awk '!seen[$0]++')
 for name in "${crates[@]}"; do
-    [ -n "$archive" ] || [ ! -e "$dest/crates/$name" ] || { echo "take.sh: $dest has a crate $name" >&2; exit 2; }
+    [ -n "$archive" ] || [ ! -e "$dest/crates/$name" ] || { echo "copy-into.sh: $dest has a crate $name" >&2; exit 2; }
 done
 
 for name in "${wanted[@]}"; do

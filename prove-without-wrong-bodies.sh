@@ -1,5 +1,5 @@
 #!/usr/bin/env bash
-# prove.sh [CRATE ..]
+# prove-without-wrong-bodies.sh [CRATE ..]
 #
 # Proves the named crates and those below them, several side by side (as many as there are processors, or RT_JOBS of them), runs
 # their tests and programs as the gate does, and leaves each named program in crates/CRATE/out. With no name it takes all crates.
@@ -22,7 +22,7 @@ below() {
 }
 
 for name in "$@"; do
-    grep -qE "^$name( |:)" "$top/crates.txt" || { echo "prove.sh: crates.txt has no crate $name" >&2; exit 2; }
+    grep -qE "^$name( |:)" "$top/crates.txt" || { echo "prove-without-wrong-bodies.sh: crates.txt has no crate $name" >&2; exit 2; }
 done
 mapfile -t all < <(sed -nE 's/^([a-z0-9_]+)( staticlib)?:.*/\1/p' "$top/crates.txt")
 mapfile -t crates < <(below "${@:-${all[@]}}" | awk '!seen[$0]++')
