@@ -11,6 +11,7 @@
   definition that they rest on.
 - How long a proof takes is said once: of the gate, of a first check, of one of all maps, and of a faulty body. The gate's processor
   minutes in README.md are the sum of its parts in docs/ARCHITECTURE.md.
+- No file of the repository is a symbolic link, which the gate refuses.
 """
 
 import functools
@@ -260,6 +261,12 @@ def check_costs(pages, fault):
             fault(", ".join(saying), what, "its time is said more than once")
 
 
+def check_symbolic(pages, fault):
+    for path in sorted(pages):
+        if os.path.islink(os.path.join(TOP, path)):
+            fault(path, "a symbolic link", "the gate refuses it")
+
+
 def check_sums(fault):
     """The processor minutes of the gate, and the sum of those of its parts."""
     whole, parts = (sum(int(it.replace(",", "")) for it in re.findall(pattern, read(page))) for page, pattern in SUMS)
@@ -272,6 +279,7 @@ def main():
     pages.check()
     check_proved(pages.fault)
     check_sums(pages.fault)
+    check_symbolic(pages.tracked, pages.fault)
     check_costs(pages.tracked, pages.fault)
     print("\n".join(pages.faults), end="\n" if pages.faults else "")
     print(f"{pages.count} links, {len(pages.faults)} faults")
