@@ -13,7 +13,8 @@
 # - a second `make install` with another prefix and another archive, one into folders with a space, and `make uninstall`;
 # - the Cargo package: its tests, among them a million random calls, its example and its page, also with serde;
 # - the Python package, installed by pip into a folder, from source and as the wheel of c/dist: every call, random calls beside a
-#   model, threads, each allocation refused, and its type hints. PYTHONS="python3.9 .." names other Pythons than python3;
+#   model, threads, each allocation refused, and its type hints. PYTHONS="python3.9 .." names other Pythons than python3. A million
+#   random calls are made over the module as gcc's address and undefined-behaviour sanitizers compile it;
 # - the program of docs/C.md in C, C++, Python and Rust: each prints what the page says, also by the commands that the page has;
 # - the archive for AArch64 under qemu, and that for x86-64-v2;
 # - that the prototypes of slotmap.h are the exports;
@@ -145,8 +146,9 @@ if left="sanitizers" has clang clang++; then
         [ "$program" != random ] || heap=
         # shellcheck disable=SC2086
         clang++ -std=c++17 "${strict[@]}" "${sanitize[@]}" "tests/$program.cpp" $heap "$archive" -o "$out/$program-sanitized"
-        checked "sanitizers" "$out/$program-sanitized"
     done
+    checked "sanitizers" "$out/random-sanitized" 350000
+    checked "sanitizers" "$out/values-sanitized"
 fi
 
 # A copy, so that nothing is built in the folder c.
@@ -228,10 +230,6 @@ if left="the Cargo package" has cargo; then
     else
         echo "left out, since serde isn't in $registry: the package's feature serde, and the examples in its comments"
     fi
-    # The package has copies, since Cargo packs no file from outside its folder.
-    for built in x86_64 aarch64; do
-        cmp "cargo/dist/$built-linux/libslotmap_c.a" "dist/$built-linux/libslotmap_c.a"
-    done
 fi
 
 # pip_into PYTHON FOLDER WHAT ..: by pip, without a network, into a folder from which programs then import.
@@ -252,7 +250,8 @@ has_headers() {
 }
 cc -O2 -shared -fPIC tests/refuse.c -o "$out/refuse.so" 2>/dev/null || echo "left out, since this isn't glibc: refused memory in Python"
 for python in ${PYTHONS:-python3}; do
-    left="the Python package" has "$python" && "$python" -m pip --version >/dev/null || continue
+    left="the Python package" has "$python" || continue
+    "$python" -m pip --version >/dev/null 2>&1 || { echo "left out, since $python has no pip: the Python package"; continue; }
     if has_headers "$python"; then
         SLOTMAP_ARCHIVE=$archive pip_into "$python" "$out/python-$(basename "$python")" ./python
         python_tests "$python"
@@ -264,8 +263,31 @@ for python in ${PYTHONS:-python3}; do
         python_tests "$python"
     fi
 done
-if left="the page's commands for python" has python3 && python3 -c "import venv, ensurepip" 2>/dev/null && has_headers python3; then
-    typed python
+# The module as gcc compiles it for its sanitizers. Their library comes before Python, whose own blocks come from malloc then.
+sanitized_module() {
+    local folder=$out/python-sanitized module
+    module=$folder/slotmap_proved/_tables.abi3.so
+    mkdir -p "$folder/slotmap_proved"
+    cp python/slotmap_proved/*.py "$folder/slotmap_proved"
+    gcc -std=c11 -O1 -g -Wall -Wextra -Werror -fsanitize=address,undefined -fno-sanitize-recover -fPIC -shared \
+        "-I$("$1" -c "import sysconfig; print(sysconfig.get_path('include'))")" -I. python/src/*.c heap.c "$archive" -o "$module" 2>"$out/errors" || {
+        ! grep -q "cannot find" "$out/errors" || { echo "left out, since gcc's sanitizers are missing: the Python package with them"; return; }
+        cat "$out/errors" >&2
+        exit 1
+    }
+    checked "sanitizers" env LD_PRELOAD="$(ldd "$module" | awk '/libasan/ { print $3 }')" ASAN_OPTIONS=detect_leaks=0 PYTHONMALLOC=malloc \
+        PYTHONPATH="$folder" PYTHONDONTWRITEBYTECODE=1 "$("$1" -c "import sys; print(sys.executable)")" tests/calls.py 1000000
+}
+read -r python _ <<<"${PYTHONS:-python3}"
+if left="the Python package with sanitizers" has gcc ldd "$python" && has_headers "$python"; then
+    sanitized_module "$python"
+fi
+if left="the page's commands for python" has python3; then
+    if python3 -c "import venv, ensurepip" 2>/dev/null; then
+        typed python
+    else
+        echo "left out, since venv or ensurepip is missing: the page's commands for python"
+    fi
 fi
 if left="the hints for Python" has mypy; then
     mypy --strict --no-error-summary --cache-dir "$out/mypy" python/slotmap_proved
@@ -314,5 +336,9 @@ for file in LICENSE LICENSE-slotmap; do
     [ ! -e "$out/python" ] || cmp "../$file" "$out"/python/slotmap_proved-*.dist-info/licenses/"$file"
 done
 sha256sum --quiet -c dist/SHA256SUMS
-echo "versions, licences and sums: the same everywhere"
+# The Cargo package has copies, since Cargo packs no file from outside its folder.
+for built in x86_64 aarch64; do
+    cmp "cargo/dist/$built-linux/libslotmap_c.a" "dist/$built-linux/libslotmap_c.a"
+done
+echo "versions, licences, sums and copies: the same everywhere"
 echo "c/test.sh: ok"
