@@ -12,8 +12,9 @@
 
 use std::time::Instant;
 
-const OPERATIONS: [&str; 8] = [
+const OPERATIONS: [&str; 9] = [
     "insert",
+    "the loop of a get alone",
     "get",
     "get of a stale key",
     "a removal and an insert",
@@ -129,6 +130,7 @@ impl Side for Port {
                 let mut map = port::SlotMap::new().unwrap();
                 (0..self.keys.len() as u64).for_each(|i| sum += map.insert(i).unwrap());
             }
+            "the loop of a get alone" => self.order.iter().for_each(|at| sum = sum.wrapping_add(self.keys[*at])),
             "get" => self.order.iter().for_each(|at| sum += self.map.get(self.keys[*at]).unwrap()),
             "get of a stale key" => self.order.iter().for_each(|at| sum += self.map.get(self.stale[*at]).unwrap_or(1)),
             "a removal and an insert" => {
@@ -204,6 +206,11 @@ macro_rules! side {
                     "insert" => {
                         let mut map: $of::SlotMap<$of::DefaultKey, u64> = $of::SlotMap::new();
                         (0..self.keys.len() as u64).for_each(|i| sum += $of::Key::data(&map.insert(i)).as_ffi());
+                    }
+                    "the loop of a get alone" => {
+                        // SAFETY: a key has two numbers of 4 bytes. So it is loaded as one of 8, as those of the C interface.
+                        let number = |at: &usize| unsafe { std::mem::transmute::<_, u64>(self.keys[*at]) };
+                        self.order.iter().for_each(|at| sum = sum.wrapping_add(number(at)));
                     }
                     "get" => self.order.iter().for_each(|at| sum += *self.map.get(self.keys[*at]).unwrap()),
                     "get of a stale key" => self.order.iter().for_each(|at| sum += *self.map.get(self.stale[*at]).unwrap_or(&1)),

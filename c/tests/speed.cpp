@@ -21,11 +21,12 @@ struct here {
     key insert(number value) { return map.insert(value); }
     void remove(key at) { map.erase(at); }
     number *find(key at) { return map.find(at); }
+    static number number_of(key at) { return at.id; }
     number sum()
     {
         number all = 0;
         for (auto [at, value] : map)
-            all += value + at.id;
+            all += value;
         return all;
     }
 };
@@ -42,11 +43,12 @@ struct hashed {
         auto found = map.find(at);
         return found == map.end() ? nullptr : &found->second;
     }
+    static number number_of(key at) { return at; }
     number sum()
     {
         number all = 0;
         for (auto &[at, value] : map)
-            all += value + at;
+            all += value;
         return all;
     }
 };
@@ -92,11 +94,12 @@ struct packed {
         slot = {vacant, slot.version + 1};
         vacant = at.index;
     }
+    static number number_of(key at) { return (number{at.version} << 32) + at.index; }
     number sum()
     {
         number all = 0;
-        for (std::size_t i = 0; i < values.size(); i++)
-            all += values[i] + back[i];
+        for (number value : values)
+            all += value;
         return all;
     }
 };
@@ -146,6 +149,9 @@ template <class Side> static number run(const std::string &what, std::size_t slo
             for (std::size_t at : order)
                 if (number *value = side.find(keys[at]))
                     sum += *value;
+        if (what == "the loop of a get alone")
+            for (std::size_t at : order)
+                sum += Side::number_of(keys[at]);
         if (what == "a step of a walk")
             sum += side.sum();
         std::chrono::duration<double, std::nano> took = std::chrono::steady_clock::now() - start;
