@@ -8,7 +8,7 @@
 # - each allocation refused in turn, also under valgrind;
 # - that the calls which only read write nothing to the handle, so that two threads may read it at once;
 # - the classes of slotmap.hpp: each call, random calls beside a model with moves that throw and memory that is refused, each allocation
-#   refused in turn, with sanitizers, by each compiler for C++17 and C++20, and without exceptions;
+#   refused in turn, with sanitizers, by each compiler for C++17 and C++20, and without exceptions; two threads that read one of each;
 # - `make install` into a folder, with a program by pkg-config and by CMake, static and shared, and the names that the shared library has;
 # - a second `make install` with another prefix and another archive, one into folders with a space, and `make uninstall`;
 # - the Cargo package: its tests, among them a million random calls, its example and its page, also with serde;
@@ -149,6 +149,15 @@ if left="sanitizers" has clang clang++; then
     done
     checked "sanitizers" "$out/random-sanitized" 350000
     checked "sanitizers" "$out/values-sanitized"
+    clang++ -std=c++17 "${strict[@]}" -g -fsanitize=thread -pthread tests/readers.cpp "$out/heap.o" "$archive" -o "$out/classes-readers"
+    if "$out/classes-readers" >"$out/printed" 2>&1; then
+        echo "thread sanitizer: $(cat "$out/printed")"
+    elif grep -q "unexpected memory mapping" "$out/printed"; then
+        echo "left out, since this kernel places memory where clang's thread sanitizer needs it: two threads that read"
+    else
+        cat "$out/printed" >&2
+        exit 1
+    fi
 fi
 
 # A copy, so that nothing is built in the folder c.
