@@ -11,7 +11,8 @@
 #   refused in turn, with sanitizers, by each compiler for C++17 and C++20, and without exceptions; two threads that read one of each;
 # - `make install` into a folder, with a program by pkg-config and by CMake, static and shared, and the names that the shared library has;
 # - a second `make install` with another prefix and another archive, one into folders with a space, and `make uninstall`;
-# - the Cargo package: its tests, among them a million random calls, its example and its page, also with serde;
+# - the Cargo package: its tests, among them a million random calls, also with the address sanitizer of Rust's nightly, its example and
+#   its page, also with serde;
 # - the Python package, installed by pip into a folder, from source and as the wheel of c/dist: every call, random calls beside a
 #   model, threads, each allocation refused, and its type hints. PYTHONS="python3.9 .." names other Pythons than python3. A million
 #   random calls are made over the module as gcc's address and undefined-behaviour sanitizers compile it;
@@ -105,6 +106,10 @@ if left="C++" has c++; then
     checked "C++17" "$out/classes-refused"
     c++ -std=c++17 "${strict[@]}" tests/random.cpp "$archive" -o "$out/random"
     checked "C++17" "$out/random"
+    if left="valgrind" has valgrind; then
+        checked "valgrind" "${grind[@]}" "$out/classes"
+        checked "valgrind" "${grind[@]}" "$out/random" 20000
+    fi
     same "$out/names-cpp"
     typed c++
     # What doesn't compile, and what the compiler has to say of it.
@@ -229,6 +234,12 @@ if left="the Cargo package" has cargo; then
         touch "$out/cargo/src/lib.rs"
         (cd "$out/cargo/check" && SLOTMAP_C_LIB=$out/archive CARGO_TARGET_DIR=$out/target cargo clippy --offline --quiet --all-targets -- -D warnings)
         echo "the Cargo package: clippy has nothing to say"
+    fi
+    if cargo +nightly --version >/dev/null 2>&1; then
+        RUSTFLAGS=-Zsanitizer=address in_package check +nightly test --target "$machine-unknown-linux-gnu"
+        echo "the Cargo package: with the address sanitizer"
+    else
+        echo "left out, since rustup has no nightly toolchain: the Cargo package with the address sanitizer"
     fi
     registry=/usr/share/cargo/registry
     if compgen -G "$registry/serde_json-1.*" >/dev/null; then
