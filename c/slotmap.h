@@ -102,7 +102,7 @@ slotmap_status slotmap_new(slotmap_t *map);
 void slotmap_free(slotmap_t *map);
 
 /* Opens the closed handle `copy` with a copy of the map. It has the same keys and values, and will return the same new keys; its
- * capacity may be less. The two are different handles: slotmap_clone(&map, &map) would lose the map. Linear in the number of slots.
+ * capacity may be less. The two are different handles. Linear in the number of slots.
  * SLOTMAP_OK, SLOTMAP_NO_MEMORY, SLOTMAP_CLOSED if `map` is closed, or SLOTMAP_OPEN if `copy` is open. */
 slotmap_status slotmap_clone(slotmap_t *map, slotmap_t *copy);
 

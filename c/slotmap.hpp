@@ -22,8 +22,8 @@
  * and so is all of side_map.
  *
  * A slot_map or a side_map needs no more of T than a move constructor, and to be copied a copy constructor. If a move throws, `erase`
- * and `detach` leave the key live, and `reattach` leaves it detached. `emplace` and `insert` then use up a key, and leave the map as
- * it was. `side_map::put` may lose the entry at the key's index. Where a T that can't be copied throws as the array grows, values may
+ * and `detach` leave the key live, and `reattach` leaves it detached. `emplace` and `insert` leave the map as it was, but may use up
+ * a key. `side_map::put` may lose the entry at the key's index. Where a T that can't be copied throws as the array grows, values may
  * be lost, as in std::vector.
  *
  * A destructor of T may call `erase`, `find`, `clear` and the like on the map that it leaves, also during `clear`. It must not insert

@@ -134,8 +134,15 @@ template <class T> struct place {
     alignas(T) unsigned char bytes[sizeof(T)];
 
     bool has_value() const noexcept { return id != vacant; }
-    T &value() noexcept { return *std::launder(reinterpret_cast<T *>(bytes)); }
-    const T &value() const noexcept { return *std::launder(reinterpret_cast<const T *>(bytes)); }
+    T &value() noexcept
+    {
+        T *here = std::launder(reinterpret_cast<T *>(bytes));
+        /* Compilers lose this behind std::launder: then who tests what `find` returned pays for two tests. */
+        if (here == nullptr)
+            __builtin_unreachable();
+        return *here;
+    }
+    const T &value() const noexcept { return const_cast<place *>(this)->value(); }
 };
 
 /* An array of places: the value of a key stands at the key's index, less one. */

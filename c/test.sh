@@ -8,12 +8,14 @@
 # - each allocation refused in turn, also under valgrind;
 # - that the calls which only read write nothing to the handle, so that two threads may read it at once;
 # - the classes of slotmap.hpp: each call, random calls beside a model with moves that throw and memory that is refused, each allocation
-#   refused in turn, with sanitizers, by each compiler for C++17 and C++20, and without exceptions;
+#   refused in turn, with sanitizers, by each compiler for C++17 and C++20, and without exceptions; two threads that read one of each;
 # - `make install` into a folder, with a program by pkg-config and by CMake, static and shared, and the names that the shared library has;
 # - a second `make install` with another prefix and another archive, one into folders with a space, and `make uninstall`;
-# - the Cargo package: its tests, among them a million random calls, its example and its page, also with serde;
+# - the Cargo package: its tests, among them a million random calls, also with the address sanitizer of Rust's nightly, its example and
+#   its page, also with serde;
 # - the Python package, installed by pip into a folder, from source and as the wheel of c/dist: every call, random calls beside a
-#   model, threads, each allocation refused, and its type hints. PYTHONS="python3.9 .." names other Pythons than python3;
+#   model, threads, each allocation refused, and its type hints. PYTHONS="python3.9 .." names other Pythons than python3. A million
+#   random calls are made over the module as gcc's address and undefined-behaviour sanitizers compile it;
 # - the program of docs/C.md in C, C++, Python and Rust: each prints what the page says, also by the commands that the page has;
 # - the archive for AArch64 under qemu, and that for x86-64-v2;
 # - that the prototypes of slotmap.h are the exports;
@@ -104,6 +106,10 @@ if left="C++" has c++; then
     checked "C++17" "$out/classes-refused"
     c++ -std=c++17 "${strict[@]}" tests/random.cpp "$archive" -o "$out/random"
     checked "C++17" "$out/random"
+    if left="valgrind" has valgrind; then
+        checked "valgrind" "${grind[@]}" "$out/classes"
+        checked "valgrind" "${grind[@]}" "$out/random" 20000
+    fi
     same "$out/names-cpp"
     typed c++
     # What doesn't compile, and what the compiler has to say of it.
@@ -145,8 +151,18 @@ if left="sanitizers" has clang clang++; then
         [ "$program" != random ] || heap=
         # shellcheck disable=SC2086
         clang++ -std=c++17 "${strict[@]}" "${sanitize[@]}" "tests/$program.cpp" $heap "$archive" -o "$out/$program-sanitized"
-        checked "sanitizers" "$out/$program-sanitized"
     done
+    checked "sanitizers" "$out/random-sanitized" 350000
+    checked "sanitizers" "$out/values-sanitized"
+    clang++ -std=c++17 "${strict[@]}" -g -fsanitize=thread -pthread tests/readers.cpp "$out/heap.o" "$archive" -o "$out/classes-readers"
+    if "$out/classes-readers" >"$out/printed" 2>&1; then
+        echo "thread sanitizer: $(cat "$out/printed")"
+    elif grep -q "unexpected memory mapping" "$out/printed"; then
+        echo "left out, since this kernel places memory where clang's thread sanitizer needs it: two threads that read"
+    else
+        cat "$out/printed" >&2
+        exit 1
+    fi
 fi
 
 # A copy, so that nothing is built in the folder c.
@@ -219,6 +235,12 @@ if left="the Cargo package" has cargo; then
         (cd "$out/cargo/check" && SLOTMAP_C_LIB=$out/archive CARGO_TARGET_DIR=$out/target cargo clippy --offline --quiet --all-targets -- -D warnings)
         echo "the Cargo package: clippy has nothing to say"
     fi
+    if cargo +nightly --version >/dev/null 2>&1; then
+        RUSTFLAGS=-Zsanitizer=address in_package check +nightly test --target "$machine-unknown-linux-gnu"
+        echo "the Cargo package: with the address sanitizer"
+    else
+        echo "left out, since rustup has no nightly toolchain: the Cargo package with the address sanitizer"
+    fi
     registry=/usr/share/cargo/registry
     if compgen -G "$registry/serde_json-1.*" >/dev/null; then
         mkdir "$out/cargo/.cargo"
@@ -228,10 +250,6 @@ if left="the Cargo package" has cargo; then
     else
         echo "left out, since serde isn't in $registry: the package's feature serde, and the examples in its comments"
     fi
-    # The package has copies, since Cargo packs no file from outside its folder.
-    for built in x86_64 aarch64; do
-        cmp "cargo/dist/$built-linux/libslotmap_c.a" "dist/$built-linux/libslotmap_c.a"
-    done
 fi
 
 # pip_into PYTHON FOLDER WHAT ..: by pip, without a network, into a folder from which programs then import.
@@ -252,7 +270,8 @@ has_headers() {
 }
 cc -O2 -shared -fPIC tests/refuse.c -o "$out/refuse.so" 2>/dev/null || echo "left out, since this isn't glibc: refused memory in Python"
 for python in ${PYTHONS:-python3}; do
-    left="the Python package" has "$python" && "$python" -m pip --version >/dev/null || continue
+    left="the Python package" has "$python" || continue
+    "$python" -m pip --version >/dev/null 2>&1 || { echo "left out, since $python has no pip: the Python package"; continue; }
     if has_headers "$python"; then
         SLOTMAP_ARCHIVE=$archive pip_into "$python" "$out/python-$(basename "$python")" ./python
         python_tests "$python"
@@ -264,8 +283,31 @@ for python in ${PYTHONS:-python3}; do
         python_tests "$python"
     fi
 done
-if left="the page's commands for python" has python3 && python3 -c "import venv, ensurepip" 2>/dev/null && has_headers python3; then
-    typed python
+# The module as gcc compiles it for its sanitizers. Their library comes before Python, whose own blocks come from malloc then.
+sanitized_module() {
+    local folder=$out/python-sanitized module
+    module=$folder/slotmap_proved/_tables.abi3.so
+    mkdir -p "$folder/slotmap_proved"
+    cp python/slotmap_proved/*.py "$folder/slotmap_proved"
+    gcc -std=c11 -O1 -g -Wall -Wextra -Werror -fsanitize=address,undefined -fno-sanitize-recover -fPIC -shared \
+        "-I$("$1" -c "import sysconfig; print(sysconfig.get_path('include'))")" -I. python/src/*.c heap.c "$archive" -o "$module" 2>"$out/errors" || {
+        ! grep -q "cannot find" "$out/errors" || { echo "left out, since gcc's sanitizers are missing: the Python package with them"; return; }
+        cat "$out/errors" >&2
+        exit 1
+    }
+    checked "sanitizers" env LD_PRELOAD="$(ldd "$module" | awk '/libasan/ { print $3 }')" ASAN_OPTIONS=detect_leaks=0 PYTHONMALLOC=malloc \
+        PYTHONPATH="$folder" PYTHONDONTWRITEBYTECODE=1 "$("$1" -c "import sys; print(sys.executable)")" tests/calls.py 1000000
+}
+read -r python _ <<<"${PYTHONS:-python3}"
+if left="the Python package with sanitizers" has gcc ldd "$python" && has_headers "$python"; then
+    sanitized_module "$python"
+fi
+if left="the page's commands for python" has python3; then
+    if python3 -c "import venv, ensurepip" 2>/dev/null; then
+        typed python
+    else
+        echo "left out, since venv or ensurepip is missing: the page's commands for python"
+    fi
 fi
 if left="the hints for Python" has mypy; then
     mypy --strict --no-error-summary --cache-dir "$out/mypy" python/slotmap_proved
@@ -314,5 +356,9 @@ for file in LICENSE LICENSE-slotmap; do
     [ ! -e "$out/python" ] || cmp "../$file" "$out"/python/slotmap_proved-*.dist-info/licenses/"$file"
 done
 sha256sum --quiet -c dist/SHA256SUMS
-echo "versions, licences and sums: the same everywhere"
+# The Cargo package has copies, since Cargo packs no file from outside its folder.
+for built in x86_64 aarch64; do
+    cmp "cargo/dist/$built-linux/libslotmap_c.a" "dist/$built-linux/libslotmap_c.a"
+done
+echo "versions, licences, sums and copies: the same everywhere"
 echo "c/test.sh: ok"

@@ -12,8 +12,9 @@
 
 use std::time::Instant;
 
-const OPERATIONS: [&str; 8] = [
+const OPERATIONS: [&str; 9] = [
     "insert",
+    "the loop of a get alone",
     "get",
     "get of a stale key",
     "a removal and an insert",
@@ -79,6 +80,11 @@ trait Side {
     fn reserved() -> u128;
 }
 
+/// The same for a number and for that with its halves the other way round.
+fn halves(number: u64) -> u64 {
+    (number >> 32) ^ (number & 0xFFFF_FFFF)
+}
+
 /// The numbers from 0 to n - 1, shuffled.
 fn order(n: usize) -> Vec<usize> {
     let mut all: Vec<usize> = (0..n).collect();
@@ -129,6 +135,7 @@ impl Side for Port {
                 let mut map = port::SlotMap::new().unwrap();
                 (0..self.keys.len() as u64).for_each(|i| sum += map.insert(i).unwrap());
             }
+            "the loop of a get alone" => sum = halves(self.order.iter().fold(0, |all, at| all ^ self.keys[*at])),
             "get" => self.order.iter().for_each(|at| sum += self.map.get(self.keys[*at]).unwrap()),
             "get of a stale key" => self.order.iter().for_each(|at| sum += self.map.get(self.stale[*at]).unwrap_or(1)),
             "a removal and an insert" => {
@@ -204,6 +211,11 @@ macro_rules! side {
                     "insert" => {
                         let mut map: $of::SlotMap<$of::DefaultKey, u64> = $of::SlotMap::new();
                         (0..self.keys.len() as u64).for_each(|i| sum += $of::Key::data(&map.insert(i)).as_ffi());
+                    }
+                    "the loop of a get alone" => {
+                        // SAFETY: a key has two numbers of 4 bytes. So it is loaded as one of 8, as those of the C interface.
+                        let number = |at: &usize| unsafe { std::mem::transmute::<_, u64>(self.keys[*at]) };
+                        sum = halves(self.order.iter().fold(0, |all, at| all ^ number(at)));
                     }
                     "get" => self.order.iter().for_each(|at| sum += *self.map.get(self.keys[*at]).unwrap()),
                     "get of a stale key" => self.order.iter().for_each(|at| sum += *self.map.get(self.stale[*at]).unwrap_or(&1)),

@@ -28,3 +28,4 @@ mapping: Mapping[int, str] = names
 names.insert(5)  # type: ignore[arg-type]
 names["x"]  # type: ignore[index]
 ages[key] = "x"  # type: ignore[assignment]
+names.insert(value="x")  # type: ignore[call-arg]

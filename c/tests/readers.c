@@ -1,24 +1,55 @@
-/* The calls whose handle is const write nothing to it: it stands in a page that can't be written while they are made. So two
- * threads that read one handle at once are both right. POSIX. */
+/* The calls whose handle is const write to neither the handle nor what it holds: both stand in pages that can't be written while
+ * these calls are made. So two threads that read one handle at once are both right. POSIX. */
 #define _DEFAULT_SOURCE
 #include "check.h"
 #include "slotmap.h"
 
 #include <pthread.h>
+#include <string.h>
 #include <sys/mman.h>
-#include <unistd.h>
 
-enum { COUNT = 1000, READS = 1000000 };
+enum { COUNT = 1000, READS = 1000000, ROOM = 1 << 20 };
 
-struct handles {
+/* The handles, and memory for what they hold, which begins at a multiple of 16. */
+static struct handles {
     slotmap_t map;
     slotmap_side_t side;
     slotmap_keys_t live;
-};
-
-static struct handles *all;
+    size_t used;
+    unsigned char memory[ROOM];
+} *all;
 static uint64_t keys[COUNT];
 static unsigned long wrong[2];
+
+/* In place of those of heap.c. */
+struct block {
+    bool made;
+    void *at;
+};
+struct block rattle_alloc(size_t size, size_t align);
+struct block rattle_realloc(void *old, size_t kept, size_t size, size_t align);
+void rattle_dealloc(void *block);
+
+struct block rattle_alloc(size_t size, size_t align)
+{
+    struct block made = {true, all->memory + all->used};
+    (void)align;
+    all->used += (size + 15) / 16 * 16;
+    CHECK(all->used <= ROOM);
+    return made;
+}
+
+struct block rattle_realloc(void *old, size_t kept, size_t size, size_t align)
+{
+    struct block made = rattle_alloc(size, align);
+    memcpy(made.at, old, kept < size ? kept : size);
+    return made;
+}
+
+void rattle_dealloc(void *block)
+{
+    (void)block;
+}
 
 /* Every call that reads, once. Every tenth key is live. */
 static void check_reads(const struct handles *h, size_t live)
@@ -62,14 +93,14 @@ static void *reads(void *count)
 
 static void protect(bool writable)
 {
-    CHECK(mprotect(all, (size_t)sysconf(_SC_PAGESIZE), writable ? PROT_READ | PROT_WRITE : PROT_READ) == 0);
+    CHECK(mprotect(all, sizeof *all, writable ? PROT_READ | PROT_WRITE : PROT_READ) == 0);
 }
 
 int main(void)
 {
     pthread_t other;
     uint64_t same = 0;
-    all = (struct handles *)mmap(NULL, (size_t)sysconf(_SC_PAGESIZE), PROT_READ | PROT_WRITE, MAP_PRIVATE | MAP_ANONYMOUS, -1, 0);
+    all = (struct handles *)mmap(NULL, sizeof *all, PROT_READ | PROT_WRITE, MAP_PRIVATE | MAP_ANONYMOUS, -1, 0);
     CHECK(all != MAP_FAILED);
     protect(false);
     check_reads(all, 0);

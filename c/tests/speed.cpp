@@ -21,11 +21,12 @@ struct here {
     key insert(number value) { return map.insert(value); }
     void remove(key at) { map.erase(at); }
     number *find(key at) { return map.find(at); }
+    static number number_of(key at) { return at.id; }
     number sum()
     {
         number all = 0;
         for (auto [at, value] : map)
-            all += value + at.id;
+            all += value;
         return all;
     }
 };
@@ -42,11 +43,12 @@ struct hashed {
         auto found = map.find(at);
         return found == map.end() ? nullptr : &found->second;
     }
+    static number number_of(key at) { return at; }
     number sum()
     {
         number all = 0;
         for (auto &[at, value] : map)
-            all += value + at;
+            all += value;
         return all;
     }
 };
@@ -92,11 +94,12 @@ struct packed {
         slot = {vacant, slot.version + 1};
         vacant = at.index;
     }
+    static number number_of(key at) { return (number{at.version} << 32) + at.index; }
     number sum()
     {
         number all = 0;
-        for (std::size_t i = 0; i < values.size(); i++)
-            all += values[i] + back[i];
+        for (number value : values)
+            all += value;
         return all;
     }
 };
@@ -117,37 +120,60 @@ static std::size_t chosen(number &state, std::size_t below)
     return static_cast<std::size_t>((state >> 32) * below >> 32);
 }
 
+static const std::vector<std::string> operations = {
+    "insert", "the loop of a get alone", "get", "get of a stale key", "a removal and an insert", "a step of a walk",
+};
+
+/* One round of an operation. */
+template <class Side>
+static number round_of(std::size_t operation, Side &side, std::vector<typename Side::key> &keys, const std::vector<std::size_t> &order)
+{
+    number sum = 0;
+    switch (operation) {
+    case 0: {
+        Side fresh;
+        for (std::size_t i = 0; i < keys.size(); i++)
+            fresh.insert(i);
+        return sum;
+    }
+    case 1:
+        for (std::size_t at : order)
+            sum += Side::number_of(keys[at]);
+        return sum;
+    case 2:
+    case 3:
+        for (std::size_t at : order)
+            if (number *value = side.find(keys[at]))
+                sum += *value;
+        return sum;
+    case 4:
+        for (std::size_t at : order) {
+            side.remove(keys[at]);
+            keys[at] = side.insert(at);
+        }
+        return sum;
+    default: return side.sum();
+    }
+}
+
 template <class Side> static number run(const std::string &what, std::size_t slots, std::size_t rounds, double &nanoseconds)
 {
+    std::size_t operation = static_cast<std::size_t>(std::find(operations.begin(), operations.end(), what) - operations.begin());
     Side side;
     auto keys = filled(side, slots);
     std::vector<std::size_t> order(slots);
     number state = 7, sum = 0;
     for (std::size_t &at : order)
         at = chosen(state, slots);
-    if (what == "get of a stale key")
+    if (operation == 3) {
         for (auto key : keys)
             side.remove(key);
-    if (what == "get of a stale key")
         filled(side, slots);
+    }
     nanoseconds = 1e30;
     for (std::size_t round = 0; round < rounds; round++) {
-        Side fresh;
         auto start = std::chrono::steady_clock::now();
-        if (what == "insert")
-            for (std::size_t i = 0; i < slots; i++)
-                fresh.insert(i);
-        if (what == "a removal and an insert")
-            for (std::size_t at : order) {
-                side.remove(keys[at]);
-                keys[at] = side.insert(at);
-            }
-        if (what == "get" || what == "get of a stale key")
-            for (std::size_t at : order)
-                if (number *value = side.find(keys[at]))
-                    sum += *value;
-        if (what == "a step of a walk")
-            sum += side.sum();
+        sum += round_of(operation, side, keys, order);
         std::chrono::duration<double, std::nano> took = std::chrono::steady_clock::now() - start;
         nanoseconds = std::min(nanoseconds, took.count() / static_cast<double>(slots));
     }

@@ -9,7 +9,7 @@ import timeit
 
 from slotmap_proved import Side, SlotMap
 
-RUNS = 7
+RUNS = 15
 
 
 def nanoseconds(statement, names, number):

@@ -66,6 +66,11 @@ pub use crate::secondary::SecondaryMap;
 pub use crate::sparse_secondary::SparseSecondaryMap;
 pub use crate::words::Status;
 
+// The program of the README is run as the examples here are.
+#[cfg(doctest)]
+#[doc = include_str!("../README.md")]
+struct Readme;
+
 // What the macros name.
 #[doc(hidden)]
 pub mod __impl {

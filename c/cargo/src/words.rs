@@ -1,6 +1,7 @@
 //! The calls of slotmap.h: keys and values are `u64`.
 //!
-//! What the calls do is proved; this module, which declares them, isn't. Each call may write to the handle, so all borrow mutably.
+//! What the calls do is proved; this module, which declares them, isn't. The proof presumes that one call at a time uses a handle, so all
+//! borrow mutably.
 
 use std::error::Error;
 use std::fmt;

@@ -4,8 +4,8 @@
  * A map or a side table whose values are Python objects. A value of the proved table is the pointer of an object, of which the table
  * owns a reference.
  *
- * No call here runs Python code: what a call takes out, it hands to the caller, who ends it. Where the interpreter has no lock, each
- * takes the one of the table; else the interpreter's own suffices. */
+ * No call here but table_end and table_traverse runs Python code: what a call takes out, it hands to the caller, who ends it. Where the
+ * interpreter has no lock, each other takes the one of the table; else the interpreter's own suffices. */
 #ifndef TABLE_H
 #define TABLE_H
 
