@@ -8,97 +8,61 @@ use slotmap_basic::SlotMap;
 use slotmap_core::keys::Key;
 use std::alloc::AllocError;
 
-/// A copy has the same live keys, each with a clone of its value.
-/// Refuses `clone_detaches_the_first_key`, `copy_puts_values_under_other_keys`: `clones` of
-/// `clone`.
-pub fn copy_has_a_clone_of_each_value<K: Key, V: Clone>(
-    store: &SlotMap<K, V>,
-) -> Result<SlotMap<K, V>, AllocError>
-    ensures { IfOk result (λ copy. (key : KeyOf) → IsCloneOf V.is_clone (map.get store.now.live key) (map.get copy.live key)) }
+/// Guards of `clone`.
+pub fn clone<K: Key, V: Clone>(store: &SlotMap<K, V>) -> Result<SlotMap<K, V>, AllocError>
+    // A copy has the same live keys, each with a clone of its value.
+    // Refuses `clone_detaches_the_first_key`, `copy_puts_values_under_other_keys`: `clones` of
+    // `clone`.
+    ensures copy_has_a_clone_of_each_value { IfOk result (λ copy. (key : KeyOf) → IsCloneOf V.is_clone (map.get store.now.live key) (map.get copy.live key)) }
+    // The same keys are detached, the same slots are vacant and retired, and both maps return the same
+    // new keys.
+    // Refuses `copy_forgets_a_detached_key`: `clones` of `clone`.
+    ensures copy_returns_the_same_new_keys_detached { IfOk result (λ copy. copy.detached ≡ store.now.detached) }
+    ensures copy_returns_the_same_new_keys_next { IfOk result (λ copy. copy.next ≡ store.now.next) }
+    ensures copy_returns_the_same_new_keys_retired { IfOk result (λ copy. copy.retired ≡ store.now.retired) }
+    ensures copy_returns_the_same_new_keys_offer { IfOk result (λ copy. copy.offer ≡ store.now.offer) }
+    ensures copy_returns_the_same_new_keys_stack { IfOk result (λ copy. copy.stack ≡ store.now.stack) }
+    // Where clones equal their values, the copy holds what the map holds.
+    // Holds by `copies_if_clones_equal` of `clone`.
+    ensures copy_equals_the_map { ClonesEqual V.is_clone → IfOk result (λ copy. copy.live ≡ store.now.live) }
 {
     store.clone()
 }
 
-/// The same keys are detached, the same slots are vacant and retired, and both maps return the same
-/// new keys.
-/// Refuses `copy_forgets_a_detached_key`: `clones` of `clone`.
-pub fn copy_returns_the_same_new_keys<K: Key, V: Clone>(
+/// Guards of `clone_by_the_trait`.
+pub fn clone_by_the_trait<K: Key, V: Clone>(
     store: &SlotMap<K, V>,
 ) -> Result<SlotMap<K, V>, AllocError>
-    ensures detached { IfOk result (λ copy. copy.detached ≡ store.now.detached) }
-    ensures next { IfOk result (λ copy. copy.next ≡ store.now.next) }
-    ensures retired { IfOk result (λ copy. copy.retired ≡ store.now.retired) }
-    ensures offer { IfOk result (λ copy. copy.offer ≡ store.now.offer) }
-    ensures stack { IfOk result (λ copy. copy.stack ≡ store.now.stack) }
-{
-    store.clone()
-}
-
-/// A copy by the trait `Clone`, as a derived `Clone` makes one, has the same live keys, each with a
-/// clone of its value.
-/// Refuses `clone_by_the_trait_holds_nothing`: `is_clone`.
-pub fn copy_by_the_trait_has_a_clone_of_each_value<K: Key, V: Clone>(
-    store: &SlotMap<K, V>,
-) -> Result<SlotMap<K, V>, AllocError>
-    ensures { IfOk result (λ copy. (key : KeyOf) → IsCloneOf V.is_clone (map.get store.now.live key) (map.get copy.live key)) }
+    // A copy by the trait `Clone`, as a derived `Clone` makes one, has the same live keys, each with a
+    // clone of its value.
+    // Refuses `clone_by_the_trait_holds_nothing`: `is_clone`.
+    ensures copy_by_the_trait_has_a_clone_of_each_value { IfOk result (λ copy. (key : KeyOf) → IsCloneOf V.is_clone (map.get store.now.live key) (map.get copy.live key)) }
+    // The same keys are detached, the same slots are vacant and retired, and both maps return the same
+    // new keys.
+    // Holds by `is_clone`.
+    ensures copy_by_the_trait_returns_the_same_new_keys_detached { IfOk result (λ copy. copy.detached ≡ store.now.detached) }
+    ensures copy_by_the_trait_returns_the_same_new_keys_next { IfOk result (λ copy. copy.next ≡ store.now.next) }
+    ensures copy_by_the_trait_returns_the_same_new_keys_retired { IfOk result (λ copy. copy.retired ≡ store.now.retired) }
+    ensures copy_by_the_trait_returns_the_same_new_keys_offer { IfOk result (λ copy. copy.offer ≡ store.now.offer) }
+    ensures copy_by_the_trait_returns_the_same_new_keys_stack { IfOk result (λ copy. copy.stack ≡ store.now.stack) }
 {
     Clone::clone(store)
 }
 
-/// The same keys are detached, the same slots are vacant and retired, and both maps return the same
-/// new keys.
-/// Holds by `is_clone`.
-pub fn copy_by_the_trait_returns_the_same_new_keys<K: Key, V: Clone>(
-    store: &SlotMap<K, V>,
-) -> Result<SlotMap<K, V>, AllocError>
-    ensures detached { IfOk result (λ copy. copy.detached ≡ store.now.detached) }
-    ensures next { IfOk result (λ copy. copy.next ≡ store.now.next) }
-    ensures retired { IfOk result (λ copy. copy.retired ≡ store.now.retired) }
-    ensures offer { IfOk result (λ copy. copy.offer ≡ store.now.offer) }
-    ensures stack { IfOk result (λ copy. copy.stack ≡ store.now.stack) }
-{
-    Clone::clone(store)
-}
-
-/// Where clones equal their values, the copy holds what the map holds.
-/// Holds by `copies_if_clones_equal` of `clone`.
-pub fn copy_equals_the_map<K: Key, V: Clone>(
-    store: &SlotMap<K, V>,
-) -> Result<SlotMap<K, V>, AllocError>
-    ensures { ClonesEqual V.is_clone → IfOk result (λ copy. copy.live ≡ store.now.live) }
-{
-    store.clone()
-}
-
-/// The map has the live keys of the other, each with a clone of its value.
-/// Refuses `clone_from_copies_itself`, `clone_from_does_nothing`: `clones` of `clone_from`.
-pub fn clone_from_has_a_clone_of_each_value<K: Key, V: Clone + Drop>(
+/// Guards of `clone_from`.
+pub fn clone_from<K: Key, V: Clone + Drop>(
     store: &mut SlotMap<K, V>,
     source: &SlotMap<K, V>,
 ) -> Result<(), AllocError>
-    ensures { OnOk result ((key : KeyOf) → IsCloneOf V.is_clone (map.get source.now.live key) (map.get store.new.live key)) }
-{
-    store.clone_from(source)
-}
-
-/// Where clones equal their values, the map holds what the other holds.
-/// Holds by `copies_if_clones_equal` of `clone_from`.
-pub fn clone_from_equals_the_source<K: Key, V: Clone + Drop>(
-    store: &mut SlotMap<K, V>,
-    source: &SlotMap<K, V>,
-) -> Result<(), AllocError>
-    ensures { ClonesEqual V.is_clone → OnOk result (store.new.live ≡ source.now.live) }
-{
-    store.clone_from(source)
-}
-
-/// Where it fails, the map is as it was.
-/// Refuses `clone_from_clears_before_it_clones`: `unchanged` of `clone_from`.
-pub fn failed_clone_from_changes_nothing<K: Key, V: Clone + Drop>(
-    store: &mut SlotMap<K, V>,
-    source: &SlotMap<K, V>,
-) -> Result<(), AllocError>
-    ensures { OnErr result (store.new ≡ store.old) }
+    // The map has the live keys of the other, each with a clone of its value.
+    // Refuses `clone_from_copies_itself`, `clone_from_does_nothing`: `clones` of `clone_from`.
+    ensures clone_from_has_a_clone_of_each_value { OnOk result ((key : KeyOf) → IsCloneOf V.is_clone (map.get source.now.live key) (map.get store.new.live key)) }
+    // Where clones equal their values, the map holds what the other holds.
+    // Holds by `copies_if_clones_equal` of `clone_from`.
+    ensures clone_from_equals_the_source { ClonesEqual V.is_clone → OnOk result (store.new.live ≡ source.now.live) }
+    // Where it fails, the map is as it was.
+    // Refuses `clone_from_clears_before_it_clones`: `unchanged` of `clone_from`.
+    ensures failed_clone_from_changes_nothing { OnErr result (store.new ≡ store.old) }
 {
     store.clone_from(source)
 }

@@ -10,87 +10,51 @@ use slotmap_core::errors::ReattachError;
 use slotmap_core::keys::Key;
 use slotmap_core::primary::Detaching;
 
-/// The value that the key had is returned, and the key is found no longer. Every other key has its
-/// value.
-/// Holds by `value` and `live` of `detach`.
-pub fn detached_key_is_not_found<K: Key, V: Drop>(store: &mut SlotMap<K, V>, key: K) -> Option<V>
-    ensures value { result ≡ map.get store.old.live (K.data_of key) }
-    ensures live { store.new.live ≡ map.remove store.old.live (K.data_of key) }
+/// Guards of `detach`.
+pub fn detach<K: Key, V: Drop>(store: &mut SlotMap<K, V>, key: K) -> Option<V>
+    // The value that the key had is returned, and the key is found no longer. Every other key has its
+    // value.
+    // Holds by `value` and `live` of `detach`.
+    ensures detached_key_is_not_found_value { result ≡ map.get store.old.live (K.data_of key) }
+    ensures detached_key_is_not_found_live { store.new.live ≡ map.remove store.old.live (K.data_of key) }
+    // The key is detached, and its slot is neither vacant nor retired.
+    // Refuses `detach_frees_the_place`, `detach_leaves_the_slot_vacant`: `value` and `detaches` of
+    // `detach`.
+    ensures detached_key_keeps_its_slot_detached { IsLive store.old (K.data_of key) → store.new.detached ≡ set.insert store.old.detached (K.data_of key) }
+    ensures detached_key_keeps_its_slot_next { IsLive store.old (K.data_of key) → store.new.next ≡ store.old.next }
+    ensures detached_key_keeps_its_slot_retired { IsLive store.old (K.data_of key) → store.new.retired ≡ store.old.retired }
+    ensures detached_key_keeps_its_slot_stack { IsLive store.old (K.data_of key) → store.new.stack ≡ store.old.stack }
+    // The capacity stays.
+    // Refuses `detach_reserves`: `valid` of `detach`.
+    ensures detach_keeps_the_capacity { store.new.capacity ≡ store.old.capacity }
+    // Where the key isn't live, nothing changes.
+    // Holds by `value` and `unchanged` of `detach`.
+    ensures detach_of_a_stale_key_changes_nothing { map.get store.old.live (K.data_of key) ≡ None → store.new ≡ store.old }
 {
     store.detach(key)
 }
 
-/// The key is detached, and its slot is neither vacant nor retired.
-/// Refuses `detach_frees_the_place`, `detach_leaves_the_slot_vacant`: `value` and `detaches` of
-/// `detach`.
-pub fn detached_key_keeps_its_slot<K: Key, V: Drop>(store: &mut SlotMap<K, V>, key: K) -> Option<V>
-    requires { IsLive store.old (K.data_of key) }
-    ensures detached { store.new.detached ≡ set.insert store.old.detached (K.data_of key) }
-    ensures next { store.new.next ≡ store.old.next }
-    ensures retired { store.new.retired ≡ store.old.retired }
-    ensures stack { store.new.stack ≡ store.old.stack }
-{
-    store.detach(key)
-}
-
-/// The capacity stays.
-/// Refuses `detach_reserves`: `valid` of `detach`.
-pub fn detach_keeps_the_capacity<K: Key, V: Drop>(store: &mut SlotMap<K, V>, key: K) -> Option<V>
-    ensures { store.new.capacity ≡ store.old.capacity }
-{
-    store.detach(key)
-}
-
-/// Where the key isn't live, nothing changes.
-/// Holds by `value` and `unchanged` of `detach`.
-pub fn detach_of_a_stale_key_changes_nothing<K: Key, V: Drop>(
-    store: &mut SlotMap<K, V>,
-    key: K,
-) -> Option<V>
-    requires { map.get store.old.live (K.data_of key) ≡ None }
-    ensures { store.new ≡ store.old }
-{
-    store.detach(key)
-}
-
-/// A key that was detached has the value, and is detached no longer. Every other key has its own
-/// value, and no slot changes.
-/// Holds by `ok` of `reattach`.
-pub fn reattached_key_has_the_value<K: Key, V: Drop>(
+/// Guards of `reattach`.
+pub fn reattach<K: Key, V: Drop>(
     store: &mut SlotMap<K, V>,
     key: K,
     value: V,
 ) -> Result<(), ReattachError<V>>
-    ensures was { OnOk result (IsDetached store.old (K.data_of key)) }
-    ensures live { OnOk result (store.new.live ≡ map.insert store.old.live (K.data_of key) value) }
-    ensures detached { OnOk result (store.new.detached ≡ set.remove store.old.detached (K.data_of key)) }
-    ensures next { OnOk result (store.new.next ≡ store.old.next) }
-{
-    store.reattach(key, value)
-}
-
-/// It fails only where the key isn't detached, and the capacity stays.
-/// Holds by `err` and `valid` of `reattach`.
-pub fn reattach_needs_no_memory<K: Key, V: Drop>(
-    store: &mut SlotMap<K, V>,
-    key: K,
-    value: V,
-) -> Result<(), ReattachError<V>>
-    ensures succeeds { IsDetached store.old (K.data_of key) → IsOk result }
-    ensures capacity { store.new.capacity ≡ store.old.capacity }
-{
-    store.reattach(key, value)
-}
-
-/// Where it fails, nothing changes, and the value comes back.
-/// Holds by `err` and `unchanged` of `reattach`.
-pub fn failed_reattach_changes_nothing<K: Key, V: Drop>(
-    store: &mut SlotMap<K, V>,
-    key: K,
-    value: V,
-) -> Result<(), ReattachError<V>>
-    ensures unchanged { OnErr result (store.new ≡ store.old) }
-    ensures back { IfErr result (λ error. error ≡ ReattachError.NotDetached value) }
+    // A key that was detached has the value, and is detached no longer. Every other key has its own
+    // value, and no slot changes.
+    // Holds by `ok` of `reattach`.
+    ensures reattached_key_has_the_value_was { OnOk result (IsDetached store.old (K.data_of key)) }
+    ensures reattached_key_has_the_value_live { OnOk result (store.new.live ≡ map.insert store.old.live (K.data_of key) value) }
+    ensures reattached_key_has_the_value_detached { OnOk result (store.new.detached ≡ set.remove store.old.detached (K.data_of key)) }
+    ensures reattached_key_has_the_value_next { OnOk result (store.new.next ≡ store.old.next) }
+    // It fails only where the key isn't detached, and the capacity stays.
+    // Holds by `err` and `valid` of `reattach`.
+    ensures reattach_needs_no_memory_succeeds { IsDetached store.old (K.data_of key) → IsOk result }
+    ensures reattach_needs_no_memory_capacity { store.new.capacity ≡ store.old.capacity }
+    // Where it fails, nothing changes, and the value comes back.
+    // Holds by `err` and `unchanged` of `reattach`.
+    ensures failed_reattach_changes_nothing_unchanged { OnErr result (store.new ≡ store.old) }
+    ensures failed_reattach_changes_nothing_back { IfErr result (λ error. error ≡ ReattachError.NotDetached value) }
 {
     store.reattach(key, value)
 }

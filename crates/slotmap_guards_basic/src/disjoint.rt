@@ -7,41 +7,24 @@ ghost use Rattle.slotmap_core.specs.Words.{CanReplace, with_values};
 use slotmap_basic::SlotMap;
 use slotmap_core::keys::Key;
 
-/// It succeeds exactly where each key is live and no two are equal.
-/// Refuses `replace_disjoint_takes_equal_keys`: `which` of `replace_disjoint`.
-pub fn replace_disjoint_takes_live_keys_that_differ<K: Key, V: Drop, const N: usize>(
+/// Guards of `replace_disjoint`.
+pub fn replace_disjoint<K: Key, V: Drop, const N: usize>(
     store: &mut SlotMap<K, V>,
     keys: [K; N],
     values: [V; N],
 ) -> Result<[V; N], [V; N]>
-    ensures { IsOk result ↔ CanReplace store.old (list_map K.data_of keys) }
-{
-    store.replace_disjoint(keys, values)
-}
-
-/// The values that the keys had are returned, in their order. Each key has the value at its
-/// position, and nothing else changes.
-/// Holds by `value` and `ok` of `replace_disjoint`.
-pub fn replace_disjoint_exchanges_each_value<K: Key, V: Drop, const N: usize>(
-    store: &mut SlotMap<K, V>,
-    keys: [K; N],
-    values: [V; N],
-) -> Result<[V; N], [V; N]>
-    ensures old { IfOk result (λ before. list_map (map.get store.old.live) (list_map K.data_of keys) ≡ list_map Some before) }
-    ensures new { OnOk result (store.new ≡ with_values store.old (list_map K.data_of keys) values) }
-{
-    store.replace_disjoint(keys, values)
-}
-
-/// Where it fails, nothing changes, and the new values come back.
-/// Refuses `replace_disjoint_writes_before_it_looks`: `unchanged` and `err` of `replace_disjoint`.
-pub fn failed_replace_disjoint_changes_nothing<K: Key, V: Drop, const N: usize>(
-    store: &mut SlotMap<K, V>,
-    keys: [K; N],
-    values: [V; N],
-) -> Result<[V; N], [V; N]>
-    ensures unchanged { OnErr result (store.new ≡ store.old) }
-    ensures back { IfErr result (λ back. back ≡ values) }
+    // It succeeds exactly where each key is live and no two are equal.
+    // Refuses `replace_disjoint_takes_equal_keys`: `which` of `replace_disjoint`.
+    ensures replace_disjoint_takes_live_keys_that_differ { IsOk result ↔ CanReplace store.old (list_map K.data_of keys) }
+    // The values that the keys had are returned, in their order. Each key has the value at its
+    // position, and nothing else changes.
+    // Holds by `value` and `ok` of `replace_disjoint`.
+    ensures replace_disjoint_exchanges_each_value_old { IfOk result (λ before. list_map (map.get store.old.live) (list_map K.data_of keys) ≡ list_map Some before) }
+    ensures replace_disjoint_exchanges_each_value_new { OnOk result (store.new ≡ with_values store.old (list_map K.data_of keys) values) }
+    // Where it fails, nothing changes, and the new values come back.
+    // Refuses `replace_disjoint_writes_before_it_looks`: `unchanged` and `err` of `replace_disjoint`.
+    ensures failed_replace_disjoint_changes_nothing_unchanged { OnErr result (store.new ≡ store.old) }
+    ensures failed_replace_disjoint_changes_nothing_back { IfErr result (λ back. back ≡ values) }
 {
     store.replace_disjoint(keys, values)
 }

@@ -41,22 +41,14 @@ pub fn owned_iterator_lists_each_pair_by_index<K: Key, V: Drop>(
     store.into_iter()
 }
 
-/// A copy yields the same keys in the same order, each with a clone of its value.
-/// Refuses `an_owned_iterator_copy_passes_a_pair_over`: `clones` of `clone`.
-pub fn copied_owned_iterator_yields_clones<K: Key, V: Clone>(
-    pairs: &IntoIter<K, V>,
-) -> Result<IntoIter<K, V>, AllocError>
-    ensures { IfOk result (AreClones V.is_clone pairs.now) }
-{
-    pairs.clone()
-}
-
-/// Where clones equal their values, it yields the same pairs.
-/// Holds by `copies_if_clones_equal` of `clone`.
-pub fn copied_owned_iterator_yields_equal_clones<K: Key, V: Clone>(
-    pairs: &IntoIter<K, V>,
-) -> Result<IntoIter<K, V>, AllocError>
-    ensures { ClonesEqual V.is_clone → IfOk result (λ copy. copy ≡ pairs.now) }
+/// Guards of `clone` of `IntoIter`.
+pub fn clone<K: Key, V: Clone>(pairs: &IntoIter<K, V>) -> Result<IntoIter<K, V>, AllocError>
+    // A copy yields the same keys in the same order, each with a clone of its value.
+    // Refuses `an_owned_iterator_copy_passes_a_pair_over`: `clones` of `clone`.
+    ensures copied_owned_iterator_yields_clones { IfOk result (AreClones V.is_clone pairs.now) }
+    // Where clones equal their values, it yields the same pairs.
+    // Holds by `copies_if_clones_equal` of `clone`.
+    ensures copied_owned_iterator_yields_equal_clones { ClonesEqual V.is_clone → IfOk result (λ copy. copy ≡ pairs.now) }
 {
     pairs.clone()
 }

@@ -1,7 +1,7 @@
 //! How many keys there are, and room for more.
 
 ghost use Rattle.std.specs.FinMap as map;
-ghost use Rattle.std.specs.Prelude.{◌≡◌, ◌+◌, ◌<◌, ◌≤◌, ◌↔◌, [], Some, IfOk, IfErr, OnOk, IsOk, IsTrue, Err};
+ghost use Rattle.std.specs.Prelude.{◌≡◌, ◌+◌, ◌<◌, ◌≤◌, ◌↔◌, [], Some, IfOk, IfErr, OnOk, IsOk, IsTrue, Err, ◌∷◌, ℕ, List};
 ghost use Rattle.slotmap_core.specs.Words.{used, places, most, IsNew, Keeps};
 
 use slotmap_basic::SlotMap;
@@ -33,63 +33,53 @@ pub fn with_key_makes_an_empty_map<K: Key, V: Drop>(
     SlotMap::with_key(alloc)
 }
 
-/// There is room and capacity for so many keys, and nothing is in the map.
-/// Holds by `room`, `capacity`, `starts` and `stack` of `with_capacity`.
-pub fn with_capacity_makes_room<V: Drop>(
+/// Guards of `with_capacity`.
+pub fn with_capacity<V: Drop>(
     alloc: Global,
     capacity: usize,
 ) -> Result<SlotMap<DefaultKey, V>, ReserveError>
-    ensures room { IfOk result (λ made. capacity ≤ made.room) }
-    ensures capacity { IfOk result (λ made. capacity ≤ made.capacity) }
-    ensures empty { IfOk result (λ made. IsNew made) }
-    ensures stack { IfOk result (λ made. made.stack ≡ Some []) }
+    // There is room and capacity for so many keys, and nothing is in the map.
+    // Holds by `room`, `capacity`, `starts` and `stack` of `with_capacity`.
+    ensures with_capacity_makes_room_room { IfOk result (λ made. capacity ≤ made.room) }
+    ensures with_capacity_makes_room_capacity { IfOk result (λ made. capacity ≤ made.capacity) }
+    ensures with_capacity_makes_room_empty { IfOk result (λ made. IsNew made) }
+    ensures with_capacity_makes_room_stack { IfOk result (λ made. made.stack ≡ Some []) }
+    // It fails with `TooGreat` exactly above the limit.
+    // Holds by `err` of `with_capacity`.
+    ensures with_capacity_is_too_great_above_the_limit_alone_above { result ≡ Err ReserveError.TooGreat → most < capacity }
+    ensures with_capacity_is_too_great_above_the_limit_alone_within { result ≡ Err ReserveError.Memory → capacity ≤ most }
 {
     SlotMap::with_capacity(alloc, capacity)
 }
 
-/// It fails with `TooGreat` exactly above the limit.
-/// Holds by `err` of `with_capacity`.
-pub fn with_capacity_is_too_great_above_the_limit_alone<V: Drop>(
-    alloc: Global,
-    capacity: usize,
-) -> Result<SlotMap<DefaultKey, V>, ReserveError>
-    ensures above { result ≡ Err ReserveError.TooGreat → most < capacity }
-    ensures within { result ≡ Err ReserveError.Memory → capacity ≤ most }
-{
-    SlotMap::with_capacity(alloc, capacity)
-}
-
-/// There is room and capacity for so many keys, and nothing is in the map.
-/// Refuses `with_capacity_takes_no_room`: `room`, `capacity`, `starts` and `stack` of
-/// `with_capacity_and_key`.
-pub fn with_capacity_and_key_makes_room<K: Key, V: Drop>(
+/// Guards of `with_capacity_and_key`.
+pub fn with_capacity_and_key<K: Key, V: Drop>(
     alloc: Global,
     capacity: usize,
 ) -> Result<SlotMap<K, V>, ReserveError>
-    ensures room { IfOk result (λ made. capacity ≤ made.room) }
-    ensures capacity { IfOk result (λ made. capacity ≤ made.capacity) }
-    ensures empty { IfOk result (λ made. IsNew made) }
-    ensures stack { IfOk result (λ made. made.stack ≡ Some []) }
+    // There is room and capacity for so many keys, and nothing is in the map.
+    // Refuses `with_capacity_takes_no_room`: `room`, `capacity`, `starts` and `stack` of
+    // `with_capacity_and_key`.
+    ensures with_capacity_and_key_makes_room_room { IfOk result (λ made. capacity ≤ made.room) }
+    ensures with_capacity_and_key_makes_room_capacity { IfOk result (λ made. capacity ≤ made.capacity) }
+    ensures with_capacity_and_key_makes_room_empty { IfOk result (λ made. IsNew made) }
+    ensures with_capacity_and_key_makes_room_stack { IfOk result (λ made. made.stack ≡ Some []) }
+    // It fails with `TooGreat` exactly above the limit.
+    // Holds by `err` of `with_capacity_and_key`.
+    ensures with_capacity_and_key_is_too_great_above_the_limit_alone_above { result ≡ Err ReserveError.TooGreat → most < capacity }
+    ensures with_capacity_and_key_is_too_great_above_the_limit_alone_within { result ≡ Err ReserveError.Memory → capacity ≤ most }
 {
     SlotMap::with_capacity_and_key(alloc, capacity)
 }
 
-/// It fails with `TooGreat` exactly above the limit.
-/// Holds by `err` of `with_capacity_and_key`.
-pub fn with_capacity_and_key_is_too_great_above_the_limit_alone<K: Key, V: Drop>(
-    alloc: Global,
-    capacity: usize,
-) -> Result<SlotMap<K, V>, ReserveError>
-    ensures above { result ≡ Err ReserveError.TooGreat → most < capacity }
-    ensures within { result ≡ Err ReserveError.Memory → capacity ≤ most }
-{
-    SlotMap::with_capacity_and_key(alloc, capacity)
-}
-
-/// It is the number of live keys.
-/// Refuses `len_counts_places`: `value` of `len`.
-pub fn len_counts_live_keys<K: Key, V: Drop>(store: &SlotMap<K, V>) -> usize
-    ensures { result ≡ map.len store.now.live }
+/// Guards of `len`.
+pub fn len<K: Key, V: Drop>(store: &SlotMap<K, V>) -> usize
+    // It is the number of live keys.
+    // Refuses `len_counts_places`: `value` of `len`.
+    ensures len_counts_live_keys { result ≡ map.len store.now.live }
+    // The map offers the index that was freed last.
+    // Holds by `valid` of each call.
+    ensures slot_freed_last_is_offered { (index : ℕ) (rest : List ℕ) → used store.now < most → store.now.stack ≡ Some (index ∷ rest) → store.now.offer.index ≡ index }
 {
     store.len()
 }
@@ -112,106 +102,56 @@ pub fn capacity_is_for_live_keys_and_room<K: Key, V: Drop>(store: &SlotMap<K, V>
     store.capacity()
 }
 
-/// There is room for so many more keys. The map holds what it held, and no capacity is lost.
-/// Refuses `reserve_makes_room_for_half`: `makes_room` of `reserve`.
-pub fn reserve_makes_room<K: Key, V: Drop>(
+/// Guards of `reserve`.
+pub fn reserve<K: Key, V: Drop>(
     store: &mut SlotMap<K, V>,
     additional: usize,
 ) -> Result<(), ReserveError>
-    ensures room { OnOk result (additional ≤ store.new.room) }
-    ensures fits { OnOk result (used store.old + additional ≤ most) }
-    ensures capacity { OnOk result (map.len store.old.live + additional ≤ store.new.capacity) }
-    ensures keeps { Keeps store.old store.new }
-    ensures grows { store.old.capacity ≤ store.new.capacity }
+    // There is room for so many more keys. The map holds what it held, and no capacity is lost.
+    // Refuses `reserve_makes_room_for_half`: `makes_room` of `reserve`.
+    ensures reserve_makes_room_room { OnOk result (additional ≤ store.new.room) }
+    ensures reserve_makes_room_fits { OnOk result (used store.old + additional ≤ most) }
+    ensures reserve_makes_room_capacity { OnOk result (map.len store.old.live + additional ≤ store.new.capacity) }
+    ensures reserve_makes_room_keeps { Keeps store.old store.new }
+    ensures reserve_makes_room_grows { store.old.capacity ≤ store.new.capacity }
+    // Where there is room already, it succeeds and changes nothing.
+    // Refuses `reserve_takes_more_where_there_is_room`: `makes_room` of `reserve`.
+    ensures reserve_with_room_changes_nothing_succeeds { additional ≤ store.old.room → IsOk result }
+    ensures reserve_with_room_changes_nothing_unchanged { additional ≤ store.old.room → store.new ≡ store.old }
+    // It fails with `TooGreat` exactly above the limit.
+    // Holds by `err` of `reserve`.
+    ensures reserve_is_too_great_above_the_limit_alone_above { result ≡ Err ReserveError.TooGreat → most < used store.old + additional }
+    ensures reserve_is_too_great_above_the_limit_alone_within { result ≡ Err ReserveError.Memory → used store.old + additional ≤ most }
+    // It can't fail for as many keys as slots are vacant.
+    // Holds by `reuses` of `reserve`.
+    ensures reserve_for_vacant_slots_succeeds { additional ≤ map.len store.old.next → IsOk result }
 {
     store.reserve(additional)
 }
 
-/// Where there is room already, it succeeds and changes nothing.
-/// Refuses `reserve_takes_more_where_there_is_room`: `makes_room` of `reserve`.
-pub fn reserve_with_room_changes_nothing<K: Key, V: Drop>(
+/// Guards of `try_reserve`.
+pub fn try_reserve<K: Key, V: Drop>(
     store: &mut SlotMap<K, V>,
     additional: usize,
 ) -> Result<(), ReserveError>
-    requires { additional ≤ store.old.room }
-    ensures succeeds { IsOk result }
-    ensures unchanged { store.new ≡ store.old }
-{
-    store.reserve(additional)
-}
-
-/// It fails with `TooGreat` exactly above the limit.
-/// Holds by `err` of `reserve`.
-pub fn reserve_is_too_great_above_the_limit_alone<K: Key, V: Drop>(
-    store: &mut SlotMap<K, V>,
-    additional: usize,
-) -> Result<(), ReserveError>
-    ensures above { result ≡ Err ReserveError.TooGreat → most < used store.old + additional }
-    ensures within { result ≡ Err ReserveError.Memory → used store.old + additional ≤ most }
-{
-    store.reserve(additional)
-}
-
-/// It can't fail for as many keys as slots are vacant.
-/// Holds by `reuses` of `reserve`.
-pub fn reserve_for_vacant_slots_succeeds<K: Key, V: Drop>(
-    store: &mut SlotMap<K, V>,
-    additional: usize,
-) -> Result<(), ReserveError>
-    requires { additional ≤ map.len store.old.next }
-    ensures { IsOk result }
-{
-    store.reserve(additional)
-}
-
-/// There is room for so many more keys. The map holds what it held, and no capacity is lost.
-/// Refuses `try_reserve_makes_no_room`: `makes_room` of `try_reserve`.
-pub fn try_reserve_makes_room<K: Key, V: Drop>(
-    store: &mut SlotMap<K, V>,
-    additional: usize,
-) -> Result<(), ReserveError>
-    ensures room { OnOk result (additional ≤ store.new.room) }
-    ensures fits { OnOk result (used store.old + additional ≤ most) }
-    ensures capacity { OnOk result (map.len store.old.live + additional ≤ store.new.capacity) }
-    ensures keeps { Keeps store.old store.new }
-    ensures grows { store.old.capacity ≤ store.new.capacity }
-{
-    store.try_reserve(additional)
-}
-
-/// Where there is room already, it succeeds and changes nothing.
-/// Holds by `makes_room` of `try_reserve`.
-pub fn try_reserve_with_room_changes_nothing<K: Key, V: Drop>(
-    store: &mut SlotMap<K, V>,
-    additional: usize,
-) -> Result<(), ReserveError>
-    requires { additional ≤ store.old.room }
-    ensures succeeds { IsOk result }
-    ensures unchanged { store.new ≡ store.old }
-{
-    store.try_reserve(additional)
-}
-
-/// It fails with `TooGreat` exactly above the limit.
-/// Holds by `err` of `try_reserve`.
-pub fn try_reserve_is_too_great_above_the_limit_alone<K: Key, V: Drop>(
-    store: &mut SlotMap<K, V>,
-    additional: usize,
-) -> Result<(), ReserveError>
-    ensures above { result ≡ Err ReserveError.TooGreat → most < used store.old + additional }
-    ensures within { result ≡ Err ReserveError.Memory → used store.old + additional ≤ most }
-{
-    store.try_reserve(additional)
-}
-
-/// It can't fail for as many keys as slots are vacant.
-/// Holds by `reuses` of `try_reserve`.
-pub fn try_reserve_for_vacant_slots_succeeds<K: Key, V: Drop>(
-    store: &mut SlotMap<K, V>,
-    additional: usize,
-) -> Result<(), ReserveError>
-    requires { additional ≤ map.len store.old.next }
-    ensures { IsOk result }
+    // There is room for so many more keys. The map holds what it held, and no capacity is lost.
+    // Refuses `try_reserve_makes_no_room`: `makes_room` of `try_reserve`.
+    ensures try_reserve_makes_room_room { OnOk result (additional ≤ store.new.room) }
+    ensures try_reserve_makes_room_fits { OnOk result (used store.old + additional ≤ most) }
+    ensures try_reserve_makes_room_capacity { OnOk result (map.len store.old.live + additional ≤ store.new.capacity) }
+    ensures try_reserve_makes_room_keeps { Keeps store.old store.new }
+    ensures try_reserve_makes_room_grows { store.old.capacity ≤ store.new.capacity }
+    // Where there is room already, it succeeds and changes nothing.
+    // Holds by `makes_room` of `try_reserve`.
+    ensures try_reserve_with_room_changes_nothing_succeeds { additional ≤ store.old.room → IsOk result }
+    ensures try_reserve_with_room_changes_nothing_unchanged { additional ≤ store.old.room → store.new ≡ store.old }
+    // It fails with `TooGreat` exactly above the limit.
+    // Holds by `err` of `try_reserve`.
+    ensures try_reserve_is_too_great_above_the_limit_alone_above { result ≡ Err ReserveError.TooGreat → most < used store.old + additional }
+    ensures try_reserve_is_too_great_above_the_limit_alone_within { result ≡ Err ReserveError.Memory → used store.old + additional ≤ most }
+    // It can't fail for as many keys as slots are vacant.
+    // Holds by `reuses` of `try_reserve`.
+    ensures try_reserve_for_vacant_slots_succeeds { additional ≤ map.len store.old.next → IsOk result }
 {
     store.try_reserve(additional)
 }

@@ -98,30 +98,17 @@ pub fn index_mut_shows_the_value<K: Key, V: Drop>(store: &mut DenseSlotMap<K, V>
     &mut store[key]
 }
 
-/// A live key has the new value, and its old one is returned. Every other key has its own.
-/// Refuses `replace_refuses_a_live_key`: `ok`, `replaces` and `err` of `replace`.
-pub fn replace_exchanges_the_value<K: Key, V: Drop>(
-    store: &mut DenseSlotMap<K, V>,
-    key: K,
-    value: V,
-) -> Result<V, V>
-    requires { IsLive store.old.content (K.data_of key) }
-    ensures succeeds { IsOk result }
-    ensures old { IfOk result (λ before. map.get store.old.content.live (K.data_of key) ≡ Some before) }
-    ensures new { OnOk result (store.new.content.live ≡ map.insert store.old.content.live (K.data_of key) value) }
-{
-    store.replace(key, value)
-}
-
-/// Where it fails, nothing changes, and the new value comes back.
-/// Holds by `err` and `unchanged` of `replace`.
-pub fn failed_replace_changes_nothing<K: Key, V: Drop>(
-    store: &mut DenseSlotMap<K, V>,
-    key: K,
-    value: V,
-) -> Result<V, V>
-    ensures unchanged { OnErr result (store.new ≡ store.old) }
-    ensures back { IfErr result (λ back. back ≡ value) }
+/// Guards of `replace`.
+pub fn replace<K: Key, V: Drop>(store: &mut DenseSlotMap<K, V>, key: K, value: V) -> Result<V, V>
+    // A live key has the new value, and its old one is returned. Every other key has its own.
+    // Refuses `replace_refuses_a_live_key`: `ok`, `replaces` and `err` of `replace`.
+    ensures replace_exchanges_the_value_succeeds { IsLive store.old.content (K.data_of key) → IsOk result }
+    ensures replace_exchanges_the_value_old { IsLive store.old.content (K.data_of key) → IfOk result (λ before. map.get store.old.content.live (K.data_of key) ≡ Some before) }
+    ensures replace_exchanges_the_value_new { IsLive store.old.content (K.data_of key) → OnOk result (store.new.content.live ≡ map.insert store.old.content.live (K.data_of key) value) }
+    // Where it fails, nothing changes, and the new value comes back.
+    // Holds by `err` and `unchanged` of `replace`.
+    ensures failed_replace_changes_nothing_unchanged { OnErr result (store.new ≡ store.old) }
+    ensures failed_replace_changes_nothing_back { IfErr result (λ back. back ≡ value) }
 {
     store.replace(key, value)
 }

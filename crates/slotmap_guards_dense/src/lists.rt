@@ -2,8 +2,7 @@
 
 ghost use Rattle.std.specs.FinMap as map;
 ghost use Rattle.std.specs.Prelude.{◌≡◌, Some, IfOk, IfErr, IsOk, false};
-ghost use Rattle.slotmap_core.specs.Words.{Key as KeyOf, IsContent, IsCloneOf, ClonesEqual, start_live, start_stack, StartsFrom, Accepts, list_limit, RefusesStart};
-ghost use Rattle.slotmap_core.specs.Words.{Writes, WritesClones, Restores, Bool, read_slots, Content};
+ghost use Rattle.slotmap_core.specs.Words.{Key as KeyOf, IsContent, IsCloneOf, ClonesEqual, start_live, start_stack, StartsFrom, Accepts, list_limit, RefusesStart, Writes, WritesClones, Restores, Bool, read_slots, Content};
 
 use slotmap_core::errors::{OutOfMemory, SlotsError};
 use slotmap_core::keys::Key;
@@ -11,115 +10,55 @@ use slotmap_core::serial::SlotRecord;
 use slotmap_dense::DenseSlotMap;
 use std::alloc::Global;
 
-/// Where clones equal their values, the list has a record for each slot: the version and the value
-/// of a live key, and the version before the next key of a vacant slot.
-/// Refuses `to_slots_writes_the_first_value_everywhere`, `to_slots_writes_odd_versions_alone`:
-/// `writes_if_clones_equal` of `to_slots`.
-pub fn to_slots_writes_each_slot<K: Key, V: Clone + Drop>(
+/// Guards of `to_slots`.
+pub fn to_slots<K: Key, V: Clone + Drop>(
     store: &DenseSlotMap<K, V>,
 ) -> Result<Vec<SlotRecord<V>>, OutOfMemory>
-    ensures { ClonesEqual V.is_clone → IfOk result (λ list. Writes store.now.content list.items) }
+    // Where clones equal their values, the list has a record for each slot: the version and the value
+    // of a live key, and the version before the next key of a vacant slot.
+    // Refuses `to_slots_writes_the_first_value_everywhere`, `to_slots_writes_odd_versions_alone`:
+    // `writes_if_clones_equal` of `to_slots`.
+    ensures to_slots_writes_each_slot { ClonesEqual V.is_clone → IfOk result (λ list. Writes store.now.content list.items) }
+    // The list is that of a copy, and has a clone of each value.
+    // Holds by `contents` and `writes` of `to_slots`.
+    ensures to_slots_clones_each_value_clones { IfOk result (λ list. (key : KeyOf) → IsCloneOf V.is_clone (map.get store.now.content.live key) (map.get (start_live list.items) key)) }
+    ensures to_slots_clones_each_value_writes { IfOk result (λ list. WritesClones V.is_clone false store.now.content list.items) }
+    // Where clones equal their values, the list has the live keys with their values.
+    // Holds by `contents_if_clones_equal` of `to_slots`.
+    ensures to_slots_keeps_the_live_keys { ClonesEqual V.is_clone → IfOk result (λ list. start_live list.items ≡ store.now.content.live) }
 {
     store.to_slots()
 }
 
-/// The list is that of a copy, and has a clone of each value.
-/// Holds by `contents` and `writes` of `to_slots`.
-pub fn to_slots_clones_each_value<K: Key, V: Clone + Drop>(
-    store: &DenseSlotMap<K, V>,
-) -> Result<Vec<SlotRecord<V>>, OutOfMemory>
-    ensures clones { IfOk result (λ list. (key : KeyOf) → IsCloneOf V.is_clone (map.get store.now.content.live key) (map.get (start_live list.items) key)) }
-    ensures writes { IfOk result (λ list. WritesClones V.is_clone false store.now.content list.items) }
-{
-    store.to_slots()
-}
-
-/// Where clones equal their values, the list has the live keys with their values.
-/// Holds by `contents_if_clones_equal` of `to_slots`.
-pub fn to_slots_keeps_the_live_keys<K: Key, V: Clone + Drop>(
-    store: &DenseSlotMap<K, V>,
-) -> Result<Vec<SlotRecord<V>>, OutOfMemory>
-    ensures { ClonesEqual V.is_clone → IfOk result (λ list. start_live list.items ≡ store.now.content.live) }
-{
-    store.to_slots()
-}
-
-/// The live keys are those of odd versions, no key is detached, and the vacant and the retired
-/// slots are as the list says.
-/// Refuses `from_slots_stores_position_0`: `reads` of `from_slots`.
-pub fn from_slots_reads_each_slot<K: Key, V: Drop>(
+/// Guards of `from_slots`.
+pub fn from_slots<K: Key, V: Drop>(
     alloc: Global,
     list: Vec<SlotRecord<V>>,
 ) -> Result<DenseSlotMap<K, V>, SlotsError>
-    ensures live { IfOk result (λ made. made.content.live ≡ start_live list.items) }
-    ensures starts { IfOk result (λ made. StartsFrom list.items made.content) }
-{
-    DenseSlotMap::from_slots(alloc, list)
-}
-
-/// A map that is read from a list is written as that list, except for the first version.
-/// Holds by `reads` of `from_slots`.
-pub fn read_list_is_written_back<K: Key, V: Drop>(
-    alloc: Global,
-    list: Vec<SlotRecord<V>>,
-) -> Result<DenseSlotMap<K, V>, SlotsError>
-    ensures { IfOk result (λ made. Writes made.content (read_slots list.items)) }
-{
-    DenseSlotMap::from_slots(alloc, list)
-}
-
-/// A map that was written as the list is read back, except that its detached keys are removed.
-/// Holds by `reads` of `from_slots`.
-pub fn written_map_is_read_back<K: Key, V: Drop>(
-    alloc: Global,
-    list: Vec<SlotRecord<V>>,
-) -> Result<DenseSlotMap<K, V>, SlotsError>
-    ensures { IfOk result (λ made. (any : Bool) (old : Content V) → IsContent any old → Writes old list.items → Restores old made.content) }
-{
-    DenseSlotMap::from_slots(alloc, list)
-}
-
-/// A list is read only if it is short, its first version is even, and each slot has a value where
-/// its version is odd.
-/// Refuses `from_slots_accepts_a_longer_list`: `accepted` of `from_slots`.
-pub fn from_slots_reads_consistent_lists_alone<K: Key, V: Drop>(
-    alloc: Global,
-    list: Vec<SlotRecord<V>>,
-) -> Result<DenseSlotMap<K, V>, SlotsError>
-    ensures { IsOk result → Accepts list.items list_limit }
-{
-    DenseSlotMap::from_slots(alloc, list)
-}
-
-/// The first error that applies is returned.
-/// Holds by `err` of `from_slots`.
-pub fn from_slots_says_what_is_wrong<K: Key, V: Drop>(
-    alloc: Global,
-    list: Vec<SlotRecord<V>>,
-) -> Result<DenseSlotMap<K, V>, SlotsError>
-    ensures { IfErr result (RefusesStart list.items list_limit) }
-{
-    DenseSlotMap::from_slots(alloc, list)
-}
-
-/// Inserts reuse the vacant slots first, the largest index first.
-/// Holds by `stack` of `from_slots`.
-pub fn from_slots_reuses_the_largest_index_first<K: Key, V: Drop>(
-    alloc: Global,
-    list: Vec<SlotRecord<V>>,
-) -> Result<DenseSlotMap<K, V>, SlotsError>
-    ensures { IfOk result (λ made. made.content.stack ≡ Some (start_stack list.items)) }
-{
-    DenseSlotMap::from_slots(alloc, list)
-}
-
-/// The packed order is that of ascending indices.
-/// Holds by `in_order` of `from_slots`.
-pub fn from_slots_packs_by_index<K: Key, V: Drop>(
-    alloc: Global,
-    list: Vec<SlotRecord<V>>,
-) -> Result<DenseSlotMap<K, V>, SlotsError>
-    ensures { IfOk result (λ made. made.keys ≡ map.keys made.content.live) }
+    // The live keys are those of odd versions, no key is detached, and the vacant and the retired
+    // slots are as the list says.
+    // Refuses `from_slots_stores_position_0`: `reads` of `from_slots`.
+    ensures from_slots_reads_each_slot_live { IfOk result (λ made. made.content.live ≡ start_live list.items) }
+    ensures from_slots_reads_each_slot_starts { IfOk result (λ made. StartsFrom list.items made.content) }
+    // A map that is read from a list is written as that list, except for the first version.
+    // Holds by `reads` of `from_slots`.
+    ensures read_list_is_written_back { IfOk result (λ made. Writes made.content (read_slots list.items)) }
+    // A map that was written as the list is read back, except that its detached keys are removed.
+    // Holds by `reads` of `from_slots`.
+    ensures written_map_is_read_back { IfOk result (λ made. (any : Bool) (old : Content V) → IsContent any old → Writes old list.items → Restores old made.content) }
+    // A list is read only if it is short, its first version is even, and each slot has a value where
+    // its version is odd.
+    // Refuses `from_slots_accepts_a_longer_list`: `accepted` of `from_slots`.
+    ensures from_slots_reads_consistent_lists_alone { IsOk result → Accepts list.items list_limit }
+    // The first error that applies is returned.
+    // Holds by `err` of `from_slots`.
+    ensures from_slots_says_what_is_wrong { IfErr result (RefusesStart list.items list_limit) }
+    // Inserts reuse the vacant slots first, the largest index first.
+    // Holds by `stack` of `from_slots`.
+    ensures from_slots_reuses_the_largest_index_first { IfOk result (λ made. made.content.stack ≡ Some (start_stack list.items)) }
+    // The packed order is that of ascending indices.
+    // Holds by `in_order` of `from_slots`.
+    ensures from_slots_packs_by_index { IfOk result (λ made. made.keys ≡ map.keys made.content.live) }
 {
     DenseSlotMap::from_slots(alloc, list)
 }

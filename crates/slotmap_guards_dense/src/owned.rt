@@ -37,22 +37,14 @@ pub fn owned_iterator_lists_each_pair<K: Key, V: Drop>(store: DenseSlotMap<K, V>
     store.into_iter()
 }
 
-/// A copy yields the same keys in the same order, each with a clone of its value.
-/// Refuses `a_cloned_owned_iterator_starts_anew`: `clones` of `clone`.
-pub fn copied_owned_iterator_yields_clones<K: Key, V: Clone>(
-    pairs: &IntoIter<K, V>,
-) -> Result<IntoIter<K, V>, AllocError>
-    ensures { IfOk result (AreClones V.is_clone pairs.now) }
-{
-    pairs.clone()
-}
-
-/// Where clones equal their values, it yields the same pairs.
-/// Holds by `copies_if_clones_equal` of `clone`.
-pub fn copied_owned_iterator_yields_equal_clones<K: Key, V: Clone>(
-    pairs: &IntoIter<K, V>,
-) -> Result<IntoIter<K, V>, AllocError>
-    ensures { ClonesEqual V.is_clone → IfOk result (λ copy. copy ≡ pairs.now) }
+/// Guards of `clone` of `IntoIter`.
+pub fn clone<K: Key, V: Clone>(pairs: &IntoIter<K, V>) -> Result<IntoIter<K, V>, AllocError>
+    // A copy yields the same keys in the same order, each with a clone of its value.
+    // Refuses `a_cloned_owned_iterator_starts_anew`: `clones` of `clone`.
+    ensures copied_owned_iterator_yields_clones { IfOk result (AreClones V.is_clone pairs.now) }
+    // Where clones equal their values, it yields the same pairs.
+    // Holds by `copies_if_clones_equal` of `clone`.
+    ensures copied_owned_iterator_yields_equal_clones { ClonesEqual V.is_clone → IfOk result (λ copy. copy ≡ pairs.now) }
 {
     pairs.clone()
 }

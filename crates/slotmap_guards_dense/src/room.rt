@@ -1,8 +1,8 @@
 //! How many keys there are, and room for more.
 
 ghost use Rattle.std.specs.FinMap as map;
-ghost use Rattle.std.specs.Prelude.{◌≡◌, ◌+◌, ◌<◌, ◌≤◌, ◌↔◌, [], Some, IfOk, IfErr, OnOk, IsOk, IsTrue, Err};
-ghost use Rattle.slotmap_core.specs.Words.{used, most, IsNew, Keeps};
+ghost use Rattle.std.specs.Prelude.{◌≡◌, ◌+◌, ◌<◌, ◌≤◌, ◌↔◌, [], Some, IfOk, IfErr, OnOk, IsOk, IsTrue, Err, ◌∷◌, ℕ, List, zip};
+ghost use Rattle.slotmap_core.specs.Words.{used, most, IsNew, Keeps, IsListing};
 ghost use Rattle.slotmap_dense.specs.Dense.{SameOrder};
 
 use slotmap_core::errors::ReserveError;
@@ -36,65 +36,58 @@ pub fn with_key_makes_an_empty_map<K: Key, V: Drop>(
     DenseSlotMap::with_key(alloc)
 }
 
-/// There is room and capacity for so many keys, and nothing is in the map.
-/// Holds by `room`, `capacity`, `starts` and `stack`, `empty` of `with_capacity`.
-pub fn with_capacity_makes_room<V: Drop>(
+/// Guards of `with_capacity`.
+pub fn with_capacity<V: Drop>(
     alloc: Global,
     capacity: usize,
 ) -> Result<DenseSlotMap<DefaultKey, V>, ReserveError>
-    ensures room { IfOk result (λ made. capacity ≤ made.content.room) }
-    ensures capacity { IfOk result (λ made. capacity ≤ made.content.capacity) }
-    ensures empty { IfOk result (λ made. IsNew made.content) }
-    ensures stack { IfOk result (λ made. made.content.stack ≡ Some []) }
-    ensures order { IfOk result (λ made. made.values ≡ []) }
+    // There is room and capacity for so many keys, and nothing is in the map.
+    // Holds by `room`, `capacity`, `starts` and `stack`, `empty` of `with_capacity`.
+    ensures with_capacity_makes_room_room { IfOk result (λ made. capacity ≤ made.content.room) }
+    ensures with_capacity_makes_room_capacity { IfOk result (λ made. capacity ≤ made.content.capacity) }
+    ensures with_capacity_makes_room_empty { IfOk result (λ made. IsNew made.content) }
+    ensures with_capacity_makes_room_stack { IfOk result (λ made. made.content.stack ≡ Some []) }
+    ensures with_capacity_makes_room_order { IfOk result (λ made. made.values ≡ []) }
+    // It fails with `TooGreat` exactly above the limit.
+    // Holds by `err` of `with_capacity`.
+    ensures with_capacity_is_too_great_above_the_limit_alone_above { result ≡ Err ReserveError.TooGreat → most < capacity }
+    ensures with_capacity_is_too_great_above_the_limit_alone_within { result ≡ Err ReserveError.Memory → capacity ≤ most }
 {
     DenseSlotMap::with_capacity(alloc, capacity)
 }
 
-/// It fails with `TooGreat` exactly above the limit.
-/// Holds by `err` of `with_capacity`.
-pub fn with_capacity_is_too_great_above_the_limit_alone<V: Drop>(
-    alloc: Global,
-    capacity: usize,
-) -> Result<DenseSlotMap<DefaultKey, V>, ReserveError>
-    ensures above { result ≡ Err ReserveError.TooGreat → most < capacity }
-    ensures within { result ≡ Err ReserveError.Memory → capacity ≤ most }
-{
-    DenseSlotMap::with_capacity(alloc, capacity)
-}
-
-/// There is room and capacity for so many keys, and nothing is in the map.
-/// Refuses `with_capacity_makes_no_room_for_keys`: `room`, `capacity`, `starts` and `stack`,
-/// `empty` of `with_capacity_and_key`.
-pub fn with_capacity_and_key_makes_room<K: Key, V: Drop>(
+/// Guards of `with_capacity_and_key`.
+pub fn with_capacity_and_key<K: Key, V: Drop>(
     alloc: Global,
     capacity: usize,
 ) -> Result<DenseSlotMap<K, V>, ReserveError>
-    ensures room { IfOk result (λ made. capacity ≤ made.content.room) }
-    ensures capacity { IfOk result (λ made. capacity ≤ made.content.capacity) }
-    ensures empty { IfOk result (λ made. IsNew made.content) }
-    ensures stack { IfOk result (λ made. made.content.stack ≡ Some []) }
-    ensures order { IfOk result (λ made. made.values ≡ []) }
+    // There is room and capacity for so many keys, and nothing is in the map.
+    // Refuses `with_capacity_makes_no_room_for_keys`: `room`, `capacity`, `starts` and `stack`,
+    // `empty` of `with_capacity_and_key`.
+    ensures with_capacity_and_key_makes_room_room { IfOk result (λ made. capacity ≤ made.content.room) }
+    ensures with_capacity_and_key_makes_room_capacity { IfOk result (λ made. capacity ≤ made.content.capacity) }
+    ensures with_capacity_and_key_makes_room_empty { IfOk result (λ made. IsNew made.content) }
+    ensures with_capacity_and_key_makes_room_stack { IfOk result (λ made. made.content.stack ≡ Some []) }
+    ensures with_capacity_and_key_makes_room_order { IfOk result (λ made. made.values ≡ []) }
+    // It fails with `TooGreat` exactly above the limit.
+    // Holds by `err` of `with_capacity_and_key`.
+    ensures with_capacity_and_key_is_too_great_above_the_limit_alone_above { result ≡ Err ReserveError.TooGreat → most < capacity }
+    ensures with_capacity_and_key_is_too_great_above_the_limit_alone_within { result ≡ Err ReserveError.Memory → capacity ≤ most }
 {
     DenseSlotMap::with_capacity_and_key(alloc, capacity)
 }
 
-/// It fails with `TooGreat` exactly above the limit.
-/// Holds by `err` of `with_capacity_and_key`.
-pub fn with_capacity_and_key_is_too_great_above_the_limit_alone<K: Key, V: Drop>(
-    alloc: Global,
-    capacity: usize,
-) -> Result<DenseSlotMap<K, V>, ReserveError>
-    ensures above { result ≡ Err ReserveError.TooGreat → most < capacity }
-    ensures within { result ≡ Err ReserveError.Memory → capacity ≤ most }
-{
-    DenseSlotMap::with_capacity_and_key(alloc, capacity)
-}
-
-/// It is the number of live keys.
-/// Refuses `len_answers_the_capacity`: `value` of `len`.
-pub fn len_counts_live_keys<K: Key, V: Drop>(store: &DenseSlotMap<K, V>) -> usize
-    ensures { result ≡ map.len store.now.content.live }
+/// Guards of `len`.
+pub fn len<K: Key, V: Drop>(store: &DenseSlotMap<K, V>) -> usize
+    // It is the number of live keys.
+    // Refuses `len_answers_the_capacity`: `value` of `len`.
+    ensures len_counts_live_keys { result ≡ map.len store.now.content.live }
+    // The map offers the index that was freed last.
+    // Holds by `valid` of each call.
+    ensures slot_freed_last_is_offered { (index : ℕ) (rest : List ℕ) → used store.now.content < most → store.now.content.stack ≡ Some (index ∷ rest) → store.now.content.offer.index ≡ index }
+    // The keys with the values at their positions are the live keys with their values.
+    // Holds by `valid` of each call.
+    ensures packed_keys_are_the_live_keys { IsListing store.now.content.live (zip store.now.keys store.now.values) }
 {
     store.len()
 }
@@ -116,105 +109,57 @@ pub fn capacity_is_for_live_keys_and_room<K: Key, V: Drop>(store: &DenseSlotMap<
     store.capacity()
 }
 
-/// There is room for so many more keys. The map holds what it held, and no capacity is lost.
-/// Refuses `reserve_makes_no_room_for_keys`, `reserve_makes_no_room_for_values`,
-/// `reserve_accepts_beyond_the_limit`: `makes_room` of `reserve`.
-pub fn reserve_makes_room<K: Key, V: Drop>(
+/// Guards of `reserve`.
+pub fn reserve<K: Key, V: Drop>(
     store: &mut DenseSlotMap<K, V>,
     additional: usize,
 ) -> Result<(), ReserveError>
-    ensures room { OnOk result (additional ≤ store.new.content.room) }
-    ensures fits { OnOk result (used store.old.content + additional ≤ most) }
-    ensures capacity { OnOk result (map.len store.old.content.live + additional ≤ store.new.content.capacity) }
-    ensures keeps { Keeps store.old.content store.new.content }
-    ensures grows { store.old.content.capacity ≤ store.new.content.capacity }
+    // There is room for so many more keys. The map holds what it held, and no capacity is lost.
+    // Refuses `reserve_makes_no_room_for_keys`, `reserve_makes_no_room_for_values`,
+    // `reserve_accepts_beyond_the_limit`: `makes_room` of `reserve`.
+    ensures reserve_makes_room_room { OnOk result (additional ≤ store.new.content.room) }
+    ensures reserve_makes_room_fits { OnOk result (used store.old.content + additional ≤ most) }
+    ensures reserve_makes_room_capacity { OnOk result (map.len store.old.content.live + additional ≤ store.new.content.capacity) }
+    ensures reserve_makes_room_keeps { Keeps store.old.content store.new.content }
+    ensures reserve_makes_room_grows { store.old.content.capacity ≤ store.new.content.capacity }
+    // Where there is room already, it succeeds and changes nothing.
+    // Refuses `reserve_takes_more_where_there_is_room`: `makes_room` of `reserve`.
+    ensures reserve_with_room_changes_nothing_succeeds { additional ≤ store.old.content.room → IsOk result }
+    ensures reserve_with_room_changes_nothing_unchanged { additional ≤ store.old.content.room → store.new ≡ store.old }
+    // It fails with `TooGreat` exactly above the limit.
+    // Holds by `err` of `reserve`.
+    ensures reserve_is_too_great_above_the_limit_alone_above { result ≡ Err ReserveError.TooGreat → most < used store.old.content + additional }
+    ensures reserve_is_too_great_above_the_limit_alone_within { result ≡ Err ReserveError.Memory → used store.old.content + additional ≤ most }
+    // The packed order stays.
+    // Holds by `makes_room` of `reserve`.
+    ensures reserve_keeps_the_order { SameOrder store.old store.new }
 {
     store.reserve(additional)
 }
 
-/// Where there is room already, it succeeds and changes nothing.
-/// Refuses `reserve_takes_more_where_there_is_room`: `makes_room` of `reserve`.
-pub fn reserve_with_room_changes_nothing<K: Key, V: Drop>(
+/// Guards of `try_reserve`.
+pub fn try_reserve<K: Key, V: Drop>(
     store: &mut DenseSlotMap<K, V>,
     additional: usize,
 ) -> Result<(), ReserveError>
-    requires { additional ≤ store.old.content.room }
-    ensures succeeds { IsOk result }
-    ensures unchanged { store.new ≡ store.old }
-{
-    store.reserve(additional)
-}
-
-/// It fails with `TooGreat` exactly above the limit.
-/// Holds by `err` of `reserve`.
-pub fn reserve_is_too_great_above_the_limit_alone<K: Key, V: Drop>(
-    store: &mut DenseSlotMap<K, V>,
-    additional: usize,
-) -> Result<(), ReserveError>
-    ensures above { result ≡ Err ReserveError.TooGreat → most < used store.old.content + additional }
-    ensures within { result ≡ Err ReserveError.Memory → used store.old.content + additional ≤ most }
-{
-    store.reserve(additional)
-}
-
-/// There is room for so many more keys. The map holds what it held, and no capacity is lost.
-/// Holds by `makes_room` of `try_reserve`.
-pub fn try_reserve_makes_room<K: Key, V: Drop>(
-    store: &mut DenseSlotMap<K, V>,
-    additional: usize,
-) -> Result<(), ReserveError>
-    ensures room { OnOk result (additional ≤ store.new.content.room) }
-    ensures fits { OnOk result (used store.old.content + additional ≤ most) }
-    ensures capacity { OnOk result (map.len store.old.content.live + additional ≤ store.new.content.capacity) }
-    ensures keeps { Keeps store.old.content store.new.content }
-    ensures grows { store.old.content.capacity ≤ store.new.content.capacity }
-{
-    store.try_reserve(additional)
-}
-
-/// Where there is room already, it succeeds and changes nothing.
-/// Holds by `makes_room` of `try_reserve`.
-pub fn try_reserve_with_room_changes_nothing<K: Key, V: Drop>(
-    store: &mut DenseSlotMap<K, V>,
-    additional: usize,
-) -> Result<(), ReserveError>
-    requires { additional ≤ store.old.content.room }
-    ensures succeeds { IsOk result }
-    ensures unchanged { store.new ≡ store.old }
-{
-    store.try_reserve(additional)
-}
-
-/// It fails with `TooGreat` exactly above the limit.
-/// Holds by `err` of `try_reserve`.
-pub fn try_reserve_is_too_great_above_the_limit_alone<K: Key, V: Drop>(
-    store: &mut DenseSlotMap<K, V>,
-    additional: usize,
-) -> Result<(), ReserveError>
-    ensures above { result ≡ Err ReserveError.TooGreat → most < used store.old.content + additional }
-    ensures within { result ≡ Err ReserveError.Memory → used store.old.content + additional ≤ most }
-{
-    store.try_reserve(additional)
-}
-
-/// The packed order stays.
-/// Holds by `makes_room` of `reserve`.
-pub fn reserve_keeps_the_order<K: Key, V: Drop>(
-    store: &mut DenseSlotMap<K, V>,
-    additional: usize,
-) -> Result<(), ReserveError>
-    ensures { SameOrder store.old store.new }
-{
-    store.reserve(additional)
-}
-
-/// The packed order stays.
-/// Holds by `makes_room` of `try_reserve`.
-pub fn try_reserve_keeps_the_order<K: Key, V: Drop>(
-    store: &mut DenseSlotMap<K, V>,
-    additional: usize,
-) -> Result<(), ReserveError>
-    ensures { SameOrder store.old store.new }
+    // There is room for so many more keys. The map holds what it held, and no capacity is lost.
+    // Holds by `makes_room` of `try_reserve`.
+    ensures try_reserve_makes_room_room { OnOk result (additional ≤ store.new.content.room) }
+    ensures try_reserve_makes_room_fits { OnOk result (used store.old.content + additional ≤ most) }
+    ensures try_reserve_makes_room_capacity { OnOk result (map.len store.old.content.live + additional ≤ store.new.content.capacity) }
+    ensures try_reserve_makes_room_keeps { Keeps store.old.content store.new.content }
+    ensures try_reserve_makes_room_grows { store.old.content.capacity ≤ store.new.content.capacity }
+    // Where there is room already, it succeeds and changes nothing.
+    // Holds by `makes_room` of `try_reserve`.
+    ensures try_reserve_with_room_changes_nothing_succeeds { additional ≤ store.old.content.room → IsOk result }
+    ensures try_reserve_with_room_changes_nothing_unchanged { additional ≤ store.old.content.room → store.new ≡ store.old }
+    // It fails with `TooGreat` exactly above the limit.
+    // Holds by `err` of `try_reserve`.
+    ensures try_reserve_is_too_great_above_the_limit_alone_above { result ≡ Err ReserveError.TooGreat → most < used store.old.content + additional }
+    ensures try_reserve_is_too_great_above_the_limit_alone_within { result ≡ Err ReserveError.Memory → used store.old.content + additional ≤ most }
+    // The packed order stays.
+    // Holds by `makes_room` of `try_reserve`.
+    ensures try_reserve_keeps_the_order { SameOrder store.old store.new }
 {
     store.try_reserve(additional)
 }

@@ -1,7 +1,6 @@
 //! The values as slices, in packed order.
 
-ghost use Rattle.std.specs.Prelude.{◌≡◌, zip, map as list_map};
-ghost use Rattle.slotmap_core.specs.Words.{IsListing};
+ghost use Rattle.std.specs.Prelude.{◌≡◌, map as list_map};
 
 use slotmap_core::keys::Key;
 use slotmap_dense::DenseSlotMap;
@@ -61,12 +60,4 @@ pub fn as_mut_slices_lends_the_values<K: Key, V: Drop>(
     ensures values { result.1.now ≡ store.old.values }
 {
     store.as_mut_slices()
-}
-
-/// The keys with the values at their positions are the live keys with their values.
-/// Holds by `valid` of each call.
-pub fn packed_keys_are_the_live_keys<K: Key, V: Drop>(store: &DenseSlotMap<K, V>) -> usize
-    ensures { IsListing store.now.content.live (zip store.now.keys store.now.values) }
-{
-    store.len()
 }

@@ -1,18 +1,24 @@
 //! Iterators over the keys and values.
 
 ghost use Rattle.std.specs.FinMap as map;
-ghost use Rattle.std.specs.Prelude.{◌≡◌, ◌∷◌, [], Some, IfOk, IfSome, IfNone, IsOk, length};
+ghost use Rattle.std.specs.Prelude.{◌≡◌, ◌∷◌, [], Some, IfOk, IfSome, IfNone, IsOk, length, ◌+◌, ◌*◌, ◌≤◌};
 ghost use Rattle.slotmap_core.specs.Words.{IsListing, IsKeyListing, IsValueListing};
+ghost use Rattle.slotmap_hop.specs.Iter.{ListsRetired};
 
 use slotmap_core::keys::Key;
 use slotmap_hop::{HopSlotMap, Iter, Keys, Values};
 use std::alloc::AllocError;
 
-/// Each live key is yielded once with its value, by ascending index.
-/// Holds by `listing` and `in_order` of `iter`.
-pub fn iter_lists_each_pair_once<K: Key, V>(store: &HopSlotMap<K, V>) -> Iter<'_, K, V>
-    ensures listing { IsListing store.now.content.live result.rest }
-    ensures order { result.rest ≡ map.entries store.now.content.live }
+/// Guards of `iter`.
+pub fn iter<K: Key, V>(store: &HopSlotMap<K, V>) -> Iter<'_, K, V>
+    // Each live key is yielded once with its value, by ascending index.
+    // Holds by `listing` and `in_order` of `iter`.
+    ensures iter_lists_each_pair_once_listing { IsListing store.now.content.live result.rest }
+    ensures iter_lists_each_pair_once_order { result.rest ≡ map.entries store.now.content.live }
+    // It has read no slot, and has each retired slot ahead of it.
+    // Holds by `reads` and `retired` of `iter`.
+    ensures iter_starts_with_no_read_reads { result.reads ≡ 0 }
+    ensures iter_starts_with_no_read_retired { ListsRetired store.now result.retired }
 {
     store.iter()
 }
@@ -26,29 +32,44 @@ pub fn iter_yields_a_live_key_with_its_value<K: Key, V>(store: &HopSlotMap<K, V>
     store.iter().next()
 }
 
-/// Each live key is yielded once, by ascending index.
-/// Holds by `listing` and `in_order` of `keys`.
-pub fn keys_lists_each_key_once<K: Key, V>(store: &HopSlotMap<K, V>) -> Keys<'_, K, V>
-    ensures listing { IsKeyListing store.now.content.live result.rest }
-    ensures order { result.rest ≡ map.keys store.now.content.live }
+/// Guards of `keys`.
+pub fn keys<K: Key, V>(store: &HopSlotMap<K, V>) -> Keys<'_, K, V>
+    // Each live key is yielded once, by ascending index.
+    // Holds by `listing` and `in_order` of `keys`.
+    ensures keys_lists_each_key_once_listing { IsKeyListing store.now.content.live result.rest }
+    ensures keys_lists_each_key_once_order { result.rest ≡ map.keys store.now.content.live }
+    // It has read no slot, and has each retired slot ahead of it.
+    // Holds by `reads` and `retired` of `keys`.
+    ensures keys_starts_with_no_read_reads { result.reads ≡ 0 }
+    ensures keys_starts_with_no_read_retired { ListsRetired store.now result.retired }
 {
     store.keys()
 }
 
-/// The value of each live key is yielded once, by ascending index.
-/// Holds by `listing` and `in_order` of `values`.
-pub fn values_lists_each_value_once<K: Key, V>(store: &HopSlotMap<K, V>) -> Values<'_, K, V>
-    ensures listing { IsValueListing store.now.content.live result.rest }
-    ensures order { result.rest ≡ map.values store.now.content.live }
+/// Guards of `values`.
+pub fn values<K: Key, V>(store: &HopSlotMap<K, V>) -> Values<'_, K, V>
+    // The value of each live key is yielded once, by ascending index.
+    // Holds by `listing` and `in_order` of `values`.
+    ensures values_lists_each_value_once_listing { IsValueListing store.now.content.live result.rest }
+    ensures values_lists_each_value_once_order { result.rest ≡ map.values store.now.content.live }
+    // It has read no slot, and has each retired slot ahead of it.
+    // Holds by `reads` and `retired` of `values`.
+    ensures values_starts_with_no_read_reads { result.reads ≡ 0 }
+    ensures values_starts_with_no_read_retired { ListsRetired store.now result.retired }
 {
     store.values()
 }
 
-/// The first item that is left is yielded, and then the others are left.
-/// Holds by `next_gives` of `Iter`.
-pub fn iter_yields_its_first_pair<'a, K: Key, V>(items: &mut Iter<'a, K, V>) -> Option<(K, &'a V)>
-    ensures some { IfSome result (λ item. items.old.rest ≡ (K.data_of item.0, item.1.now) ∷ items.new.rest) }
-    ensures none { IfNone result (items.old.rest ≡ []) }
+/// Guards of `next` of `Iter`.
+pub fn iter_next<'a, K: Key, V>(items: &mut Iter<'a, K, V>) -> Option<(K, &'a V)>
+    // The first item that is left is yielded, and then the others are left.
+    // Holds by `next_gives` of `Iter`.
+    ensures iter_yields_its_first_pair_some { IfSome result (λ item. items.old.rest ≡ (K.data_of item.0, item.1.now) ∷ items.new.rest) }
+    ensures iter_yields_its_first_pair_none { IfNone result (items.old.rest ≡ []) }
+    // A step reads at most two slots, and two more for each retired slot that it passes.
+    // Refuses `next_live_steps_over_each_vacant_slot`: `next_gives` of `Iter`.
+    ensures iter_reads_few_slots_some { items.old.reads ≤ items.new.reads }
+    ensures iter_reads_few_slots_few { items.new.reads + 2 * length items.new.retired ≤ items.old.reads + 2 * length items.old.retired + 2 }
 {
     items.next()
 }
@@ -75,11 +96,16 @@ pub fn copied_iter_yields_the_same<'a, K: Key, V>(
     items.clone()
 }
 
-/// The first item that is left is yielded, and then the others are left.
-/// Holds by `next_gives` of `Keys`.
-pub fn keys_yields_its_first_item<'a, K: Key, V>(items: &mut Keys<'a, K, V>) -> Option<K>
-    ensures some { IfSome result (λ item. items.old.rest ≡ K.data_of item ∷ items.new.rest) }
-    ensures none { IfNone result (items.old.rest ≡ []) }
+/// Guards of `next` of `Keys`.
+pub fn keys_next<'a, K: Key, V>(items: &mut Keys<'a, K, V>) -> Option<K>
+    // The first item that is left is yielded, and then the others are left.
+    // Holds by `next_gives` of `Keys`.
+    ensures keys_yields_its_first_item_some { IfSome result (λ item. items.old.rest ≡ K.data_of item ∷ items.new.rest) }
+    ensures keys_yields_its_first_item_none { IfNone result (items.old.rest ≡ []) }
+    // A step reads at most two slots, and two more for each retired slot that it passes.
+    // Holds by `next_gives` of `Keys`.
+    ensures keys_reads_few_slots_some { items.old.reads ≤ items.new.reads }
+    ensures keys_reads_few_slots_few { items.new.reads + 2 * length items.new.retired ≤ items.old.reads + 2 * length items.old.retired + 2 }
 {
     items.next()
 }
@@ -106,11 +132,16 @@ pub fn copied_keys_yields_the_same<'a, K: Key, V>(
     items.clone()
 }
 
-/// The first item that is left is yielded, and then the others are left.
-/// Holds by `next_gives` of `Values`.
-pub fn values_yields_its_first_item<'a, K: Key, V>(items: &mut Values<'a, K, V>) -> Option<&'a V>
-    ensures some { IfSome result (λ item. items.old.rest ≡ item.now ∷ items.new.rest) }
-    ensures none { IfNone result (items.old.rest ≡ []) }
+/// Guards of `next` of `Values`.
+pub fn values_next<'a, K: Key, V>(items: &mut Values<'a, K, V>) -> Option<&'a V>
+    // The first item that is left is yielded, and then the others are left.
+    // Holds by `next_gives` of `Values`.
+    ensures values_yields_its_first_item_some { IfSome result (λ item. items.old.rest ≡ item.now ∷ items.new.rest) }
+    ensures values_yields_its_first_item_none { IfNone result (items.old.rest ≡ []) }
+    // A step reads at most two slots, and two more for each retired slot that it passes.
+    // Holds by `next_gives` of `Values`.
+    ensures values_reads_few_slots_some { items.old.reads ≤ items.new.reads }
+    ensures values_reads_few_slots_few { items.new.reads + 2 * length items.new.retired ≤ items.old.reads + 2 * length items.old.retired + 2 }
 {
     items.next()
 }

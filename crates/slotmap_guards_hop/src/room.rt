@@ -1,9 +1,10 @@
 //! How many keys there are, and room for more.
 
 ghost use Rattle.std.specs.FinMap as map;
-ghost use Rattle.std.specs.Prelude.{◌≡◌, ◌+◌, ◌<◌, ◌≤◌, ◌↔◌, IfOk, IfErr, OnOk, IsOk, IsTrue, Err};
-ghost use Rattle.slotmap_core.specs.Words.{used, most, IsNew, Keeps};
+ghost use Rattle.std.specs.Prelude.{◌≡◌, ◌+◌, ◌<◌, ◌≤◌, ◌↔◌, IfOk, IfErr, OnOk, IsOk, IsTrue, Err, ◌||◌, ◌==◌};
+ghost use Rattle.slotmap_core.specs.Words.{used, most, IsNew, Keeps, places};
 ghost use Rattle.slotmap_hop.specs.HopContent.{NoBlocks};
+ghost use Rattle.slotmap_hop.specs.Blocks.{HasMaximalBlocks, offer_place};
 
 use slotmap_core::errors::ReserveError;
 use slotmap_core::keys::{DefaultKey, Key};
@@ -34,63 +35,57 @@ pub fn with_key_makes_an_empty_map<K: Key, V: Drop>(
     HopSlotMap::with_key(alloc)
 }
 
-/// There is room and capacity for so many keys, and nothing is in the map.
-/// Holds by `room`, `capacity`, `starts` and `blocks` of `with_capacity`.
-pub fn with_capacity_makes_room<V: Drop>(
+/// Guards of `with_capacity`.
+pub fn with_capacity<V: Drop>(
     alloc: Global,
     capacity: usize,
 ) -> Result<HopSlotMap<DefaultKey, V>, ReserveError>
-    ensures room { IfOk result (λ made. capacity ≤ made.content.room) }
-    ensures capacity { IfOk result (λ made. capacity ≤ made.content.capacity) }
-    ensures empty { IfOk result (λ made. IsNew made.content) }
-    ensures blocks { IfOk result (λ made. NoBlocks made.blocks) }
+    // There is room and capacity for so many keys, and nothing is in the map.
+    // Holds by `room`, `capacity`, `starts` and `blocks` of `with_capacity`.
+    ensures with_capacity_makes_room_room { IfOk result (λ made. capacity ≤ made.content.room) }
+    ensures with_capacity_makes_room_capacity { IfOk result (λ made. capacity ≤ made.content.capacity) }
+    ensures with_capacity_makes_room_empty { IfOk result (λ made. IsNew made.content) }
+    ensures with_capacity_makes_room_blocks { IfOk result (λ made. NoBlocks made.blocks) }
+    // It fails with `TooGreat` exactly above the limit.
+    // Holds by `err` of `with_capacity`.
+    ensures with_capacity_is_too_great_above_the_limit_alone_above { result ≡ Err ReserveError.TooGreat → most < capacity }
+    ensures with_capacity_is_too_great_above_the_limit_alone_within { result ≡ Err ReserveError.Memory → capacity ≤ most }
 {
     HopSlotMap::with_capacity(alloc, capacity)
 }
 
-/// It fails with `TooGreat` exactly above the limit.
-/// Holds by `err` of `with_capacity`.
-pub fn with_capacity_is_too_great_above_the_limit_alone<V: Drop>(
-    alloc: Global,
-    capacity: usize,
-) -> Result<HopSlotMap<DefaultKey, V>, ReserveError>
-    ensures above { result ≡ Err ReserveError.TooGreat → most < capacity }
-    ensures within { result ≡ Err ReserveError.Memory → capacity ≤ most }
-{
-    HopSlotMap::with_capacity(alloc, capacity)
-}
-
-/// There is room and capacity for so many keys, and nothing is in the map.
-/// Refuses `with_capacity_makes_no_room_for_the_sentinel`: `room`, `capacity`, `starts` and
-/// `blocks` of `with_capacity_and_key`.
-pub fn with_capacity_and_key_makes_room<K: Key, V: Drop>(
+/// Guards of `with_capacity_and_key`.
+pub fn with_capacity_and_key<K: Key, V: Drop>(
     alloc: Global,
     capacity: usize,
 ) -> Result<HopSlotMap<K, V>, ReserveError>
-    ensures room { IfOk result (λ made. capacity ≤ made.content.room) }
-    ensures capacity { IfOk result (λ made. capacity ≤ made.content.capacity) }
-    ensures empty { IfOk result (λ made. IsNew made.content) }
-    ensures blocks { IfOk result (λ made. NoBlocks made.blocks) }
+    // There is room and capacity for so many keys, and nothing is in the map.
+    // Refuses `with_capacity_makes_no_room_for_the_sentinel`: `room`, `capacity`, `starts` and
+    // `blocks` of `with_capacity_and_key`.
+    ensures with_capacity_and_key_makes_room_room { IfOk result (λ made. capacity ≤ made.content.room) }
+    ensures with_capacity_and_key_makes_room_capacity { IfOk result (λ made. capacity ≤ made.content.capacity) }
+    ensures with_capacity_and_key_makes_room_empty { IfOk result (λ made. IsNew made.content) }
+    ensures with_capacity_and_key_makes_room_blocks { IfOk result (λ made. NoBlocks made.blocks) }
+    // It fails with `TooGreat` exactly above the limit.
+    // Holds by `err` of `with_capacity_and_key`.
+    ensures with_capacity_and_key_is_too_great_above_the_limit_alone_above { result ≡ Err ReserveError.TooGreat → most < capacity }
+    ensures with_capacity_and_key_is_too_great_above_the_limit_alone_within { result ≡ Err ReserveError.Memory → capacity ≤ most }
 {
     HopSlotMap::with_capacity_and_key(alloc, capacity)
 }
 
-/// It fails with `TooGreat` exactly above the limit.
-/// Holds by `err` of `with_capacity_and_key`.
-pub fn with_capacity_and_key_is_too_great_above_the_limit_alone<K: Key, V: Drop>(
-    alloc: Global,
-    capacity: usize,
-) -> Result<HopSlotMap<K, V>, ReserveError>
-    ensures above { result ≡ Err ReserveError.TooGreat → most < capacity }
-    ensures within { result ≡ Err ReserveError.Memory → capacity ≤ most }
-{
-    HopSlotMap::with_capacity_and_key(alloc, capacity)
-}
-
-/// It is the number of live keys.
-/// Refuses `len_counts_vacant_places`: `value` of `len`.
-pub fn len_counts_live_keys<K: Key, V: Drop>(store: &HopSlotMap<K, V>) -> usize
-    ensures { result ≡ map.len store.now.content.live }
+/// Guards of `len`.
+pub fn len<K: Key, V: Drop>(store: &HopSlotMap<K, V>) -> usize
+    // It is the number of live keys.
+    // Refuses `len_counts_vacant_places`: `value` of `len`.
+    ensures len_counts_live_keys { result ≡ map.len store.now.content.live }
+    // Each block is as long as can be, and each vacant slot is in one.
+    // Holds by `valid` of each call.
+    ensures blocks_are_the_vacant_slots { HasMaximalBlocks (λ index. (index == 0) || map.contains_key store.now.content.next index) store.now.blocks }
+    // The map offers the back of the first block in their list, and a new slot only where there is
+    // none.
+    // Holds by `valid` of each call.
+    ensures back_of_the_first_block_is_offered { used store.now.content < most → store.now.content.offer.index ≡ offer_place store.now.blocks (places store.now.content + 1) }
 {
     store.len()
 }
@@ -112,107 +107,63 @@ pub fn capacity_is_for_live_keys_and_room<K: Key, V: Drop>(store: &HopSlotMap<K,
     store.capacity()
 }
 
-/// There is room for so many more keys. The map holds what it held, and no capacity is lost.
-/// Refuses `reserve_accepts_beyond_the_limit`, `reserve_counts_retired_places_as_free`:
-/// `makes_room` of `reserve`.
-pub fn reserve_makes_room<K: Key, V: Drop>(
+/// Guards of `reserve`.
+pub fn reserve<K: Key, V: Drop>(
     store: &mut HopSlotMap<K, V>,
     additional: usize,
 ) -> Result<(), ReserveError>
-    ensures room { OnOk result (additional ≤ store.new.content.room) }
-    ensures fits { OnOk result (used store.old.content + additional ≤ most) }
-    ensures capacity { OnOk result (map.len store.old.content.live + additional ≤ store.new.content.capacity) }
-    ensures keeps { Keeps store.old.content store.new.content }
-    ensures grows { store.old.content.capacity ≤ store.new.content.capacity }
+    // There is room for so many more keys. The map holds what it held, and no capacity is lost.
+    // Refuses `reserve_accepts_beyond_the_limit`, `reserve_counts_retired_places_as_free`:
+    // `makes_room` of `reserve`.
+    ensures reserve_makes_room_room { OnOk result (additional ≤ store.new.content.room) }
+    ensures reserve_makes_room_fits { OnOk result (used store.old.content + additional ≤ most) }
+    ensures reserve_makes_room_capacity { OnOk result (map.len store.old.content.live + additional ≤ store.new.content.capacity) }
+    ensures reserve_makes_room_keeps { Keeps store.old.content store.new.content }
+    ensures reserve_makes_room_grows { store.old.content.capacity ≤ store.new.content.capacity }
+    // Where there is room already, it succeeds and changes nothing.
+    // Refuses `reserve_takes_more_where_there_is_room`: `makes_room` of `reserve`.
+    ensures reserve_with_room_changes_nothing_succeeds { additional ≤ store.old.content.room → IsOk result }
+    ensures reserve_with_room_changes_nothing_unchanged { additional ≤ store.old.content.room → store.new ≡ store.old }
+    // It fails with `TooGreat` exactly above the limit.
+    // Holds by `err` of `reserve`.
+    ensures reserve_is_too_great_above_the_limit_alone_above { result ≡ Err ReserveError.TooGreat → most < used store.old.content + additional }
+    ensures reserve_is_too_great_above_the_limit_alone_within { result ≡ Err ReserveError.Memory → used store.old.content + additional ≤ most }
+    // It can't fail for as many keys as slots are vacant.
+    // Holds by `reuses` of `reserve`.
+    ensures reserve_for_vacant_slots_succeeds { additional ≤ map.len store.old.content.next → IsOk result }
+    // The blocks of vacant slots stay.
+    // Holds by `makes_room` of `reserve`.
+    ensures reserve_keeps_the_blocks { store.new.blocks ≡ store.old.blocks }
 {
     store.reserve(additional)
 }
 
-/// Where there is room already, it succeeds and changes nothing.
-/// Refuses `reserve_takes_more_where_there_is_room`: `makes_room` of `reserve`.
-pub fn reserve_with_room_changes_nothing<K: Key, V: Drop>(
+/// Guards of `try_reserve`.
+pub fn try_reserve<K: Key, V: Drop>(
     store: &mut HopSlotMap<K, V>,
     additional: usize,
 ) -> Result<(), ReserveError>
-    requires { additional ≤ store.old.content.room }
-    ensures succeeds { IsOk result }
-    ensures unchanged { store.new ≡ store.old }
-{
-    store.reserve(additional)
-}
-
-/// It fails with `TooGreat` exactly above the limit.
-/// Holds by `err` of `reserve`.
-pub fn reserve_is_too_great_above_the_limit_alone<K: Key, V: Drop>(
-    store: &mut HopSlotMap<K, V>,
-    additional: usize,
-) -> Result<(), ReserveError>
-    ensures above { result ≡ Err ReserveError.TooGreat → most < used store.old.content + additional }
-    ensures within { result ≡ Err ReserveError.Memory → used store.old.content + additional ≤ most }
-{
-    store.reserve(additional)
-}
-
-/// It can't fail for as many keys as slots are vacant.
-/// Holds by `reuses` of `reserve`.
-pub fn reserve_for_vacant_slots_succeeds<K: Key, V: Drop>(
-    store: &mut HopSlotMap<K, V>,
-    additional: usize,
-) -> Result<(), ReserveError>
-    requires { additional ≤ map.len store.old.content.next }
-    ensures { IsOk result }
-{
-    store.reserve(additional)
-}
-
-/// There is room for so many more keys. The map holds what it held, and no capacity is lost.
-/// Holds by `makes_room` of `try_reserve`.
-pub fn try_reserve_makes_room<K: Key, V: Drop>(
-    store: &mut HopSlotMap<K, V>,
-    additional: usize,
-) -> Result<(), ReserveError>
-    ensures room { OnOk result (additional ≤ store.new.content.room) }
-    ensures fits { OnOk result (used store.old.content + additional ≤ most) }
-    ensures capacity { OnOk result (map.len store.old.content.live + additional ≤ store.new.content.capacity) }
-    ensures keeps { Keeps store.old.content store.new.content }
-    ensures grows { store.old.content.capacity ≤ store.new.content.capacity }
-{
-    store.try_reserve(additional)
-}
-
-/// Where there is room already, it succeeds and changes nothing.
-/// Holds by `makes_room` of `try_reserve`.
-pub fn try_reserve_with_room_changes_nothing<K: Key, V: Drop>(
-    store: &mut HopSlotMap<K, V>,
-    additional: usize,
-) -> Result<(), ReserveError>
-    requires { additional ≤ store.old.content.room }
-    ensures succeeds { IsOk result }
-    ensures unchanged { store.new ≡ store.old }
-{
-    store.try_reserve(additional)
-}
-
-/// It fails with `TooGreat` exactly above the limit.
-/// Holds by `err` of `try_reserve`.
-pub fn try_reserve_is_too_great_above_the_limit_alone<K: Key, V: Drop>(
-    store: &mut HopSlotMap<K, V>,
-    additional: usize,
-) -> Result<(), ReserveError>
-    ensures above { result ≡ Err ReserveError.TooGreat → most < used store.old.content + additional }
-    ensures within { result ≡ Err ReserveError.Memory → used store.old.content + additional ≤ most }
-{
-    store.try_reserve(additional)
-}
-
-/// It can't fail for as many keys as slots are vacant.
-/// Holds by `reuses` of `try_reserve`.
-pub fn try_reserve_for_vacant_slots_succeeds<K: Key, V: Drop>(
-    store: &mut HopSlotMap<K, V>,
-    additional: usize,
-) -> Result<(), ReserveError>
-    requires { additional ≤ map.len store.old.content.next }
-    ensures { IsOk result }
+    // There is room for so many more keys. The map holds what it held, and no capacity is lost.
+    // Holds by `makes_room` of `try_reserve`.
+    ensures try_reserve_makes_room_room { OnOk result (additional ≤ store.new.content.room) }
+    ensures try_reserve_makes_room_fits { OnOk result (used store.old.content + additional ≤ most) }
+    ensures try_reserve_makes_room_capacity { OnOk result (map.len store.old.content.live + additional ≤ store.new.content.capacity) }
+    ensures try_reserve_makes_room_keeps { Keeps store.old.content store.new.content }
+    ensures try_reserve_makes_room_grows { store.old.content.capacity ≤ store.new.content.capacity }
+    // Where there is room already, it succeeds and changes nothing.
+    // Holds by `makes_room` of `try_reserve`.
+    ensures try_reserve_with_room_changes_nothing_succeeds { additional ≤ store.old.content.room → IsOk result }
+    ensures try_reserve_with_room_changes_nothing_unchanged { additional ≤ store.old.content.room → store.new ≡ store.old }
+    // It fails with `TooGreat` exactly above the limit.
+    // Holds by `err` of `try_reserve`.
+    ensures try_reserve_is_too_great_above_the_limit_alone_above { result ≡ Err ReserveError.TooGreat → most < used store.old.content + additional }
+    ensures try_reserve_is_too_great_above_the_limit_alone_within { result ≡ Err ReserveError.Memory → used store.old.content + additional ≤ most }
+    // It can't fail for as many keys as slots are vacant.
+    // Holds by `reuses` of `try_reserve`.
+    ensures try_reserve_for_vacant_slots_succeeds { additional ≤ map.len store.old.content.next → IsOk result }
+    // The blocks of vacant slots stay.
+    // Holds by `makes_room` of `try_reserve`.
+    ensures try_reserve_keeps_the_blocks { store.new.blocks ≡ store.old.blocks }
 {
     store.try_reserve(additional)
 }

@@ -9,10 +9,8 @@ use slotmap_core::secondary::{Secondary, SecondaryCommand, SecondaryReply};
 use slotmap_run::secondary::run_secondary;
 use std::alloc::Global;
 
-/// The replies are a run of the machine of a side table, and the table holds what it then holds.
-/// Refuses `run_secondary_answers_the_new_value`, `run_secondary_says_the_contrary_of_contains`:
-/// `run` of `run_secondary`.
-pub fn run_secondary_replies_as_the_machine<S, K, V, R, L>(
+/// Guards of `run_secondary`.
+pub fn guards_of_run_secondary<S, K, V, R, L>(
     alloc: Global,
     map: &mut S,
     commands: Vec<SecondaryCommand<K, V>>,
@@ -24,29 +22,15 @@ where
     V: Drop,
     R: Drop,
     L: Fn(&V) -> R + Drop,
-    requires looks { L.IsAlwaysCallable look }
-    ensures run { let what = given_secondary K.data_of L.Fn look in IfOk result (λ replies. Run (SideStep what) (S.pairs map.old) commands.items replies.items (S.pairs map.new)) }
-{
-    run_secondary(alloc, map, commands, look)
-}
-
-/// Where memory for the replies runs out, the commands come back, and the table is as it was.
-/// Holds by `err` and `unchanged` of `run_secondary`.
-pub fn failed_run_secondary_changes_nothing<S, K, V, R, L>(
-    alloc: Global,
-    map: &mut S,
-    commands: Vec<SecondaryCommand<K, V>>,
-    look: L,
-) -> Result<Vec<SecondaryReply<V, R>>, Vec<SecondaryCommand<K, V>>>
-where
-    S: Secondary<K, V>,
-    K: Key,
-    V: Drop,
-    R: Drop,
-    L: Fn(&V) -> R + Drop,
-    requires looks { L.IsAlwaysCallable look }
-    ensures back { IfErr result (λ back. back ≡ commands) }
-    ensures unchanged { OnErr result (S.pairs map.new ≡ S.pairs map.old) }
+    requires { L.IsAlwaysCallable look }
+    // The replies are a run of the machine of a side table, and the table holds what it then holds.
+    // Refuses `run_secondary_answers_the_new_value`, `run_secondary_says_the_contrary_of_contains`:
+    // `run` of `run_secondary`.
+    ensures run_secondary_replies_as_the_machine_run { let what = given_secondary K.data_of L.Fn look in IfOk result (λ replies. Run (SideStep what) (S.pairs map.old) commands.items replies.items (S.pairs map.new)) }
+    // Where memory for the replies runs out, the commands come back, and the table is as it was.
+    // Holds by `err` and `unchanged` of `run_secondary`.
+    ensures failed_run_secondary_changes_nothing_back { IfErr result (λ back. back ≡ commands) }
+    ensures failed_run_secondary_changes_nothing_unchanged { OnErr result (S.pairs map.new ≡ S.pairs map.old) }
 {
     run_secondary(alloc, map, commands, look)
 }

@@ -97,51 +97,25 @@ pub fn index_mut_shows_the_value<K: Key, V: Drop>(table: &mut SecondaryMap<K, V>
     &mut table[key]
 }
 
-/// It succeeds exactly where each key has a value and no two are equal.
-/// Holds by `which` of `replace_disjoint`.
-pub fn replace_disjoint_takes_other_keys_alone<K: Key, V: Drop, const N: usize>(
+/// Guards of `replace_disjoint`.
+pub fn replace_disjoint<K: Key, V: Drop, const N: usize>(
     table: &mut SecondaryMap<K, V>,
     keys: [K; N],
     values: [V; N],
 ) -> Result<[V; N], [V; N]>
-    ensures { IsOk result ↔ CanReplace get table.old.pairs (list_map K.data_of keys) }
-{
-    table.replace_disjoint(keys, values)
-}
-
-/// The values that the keys had are returned, in their order.
-/// Holds by `value` of `replace_disjoint`.
-pub fn replace_disjoint_returns_the_old_values<K: Key, V: Drop, const N: usize>(
-    table: &mut SecondaryMap<K, V>,
-    keys: [K; N],
-    values: [V; N],
-) -> Result<[V; N], [V; N]>
-    ensures { IfOk result (λ before. list_map (get table.old.pairs) (list_map K.data_of keys) ≡ list_map Some before) }
-{
-    table.replace_disjoint(keys, values)
-}
-
-/// Each key has the value at its position, and nothing else changes.
-/// Holds by `ok` of `replace_disjoint`.
-pub fn replace_disjoint_writes_each_value<K: Key, V: Drop, const N: usize>(
-    table: &mut SecondaryMap<K, V>,
-    keys: [K; N],
-    values: [V; N],
-) -> Result<[V; N], [V; N]>
-    ensures { OnOk result (table.new.pairs ≡ with_values bind table.old.pairs (list_map K.data_of keys) values) }
-{
-    table.replace_disjoint(keys, values)
-}
-
-/// Where it fails, nothing changes, and the new values come back.
-/// Refuses `replace_disjoint_writes_before_it_looks`: `unchanged` and `err` of `replace_disjoint`.
-pub fn failed_replace_disjoint_changes_nothing<K: Key, V: Drop, const N: usize>(
-    table: &mut SecondaryMap<K, V>,
-    keys: [K; N],
-    values: [V; N],
-) -> Result<[V; N], [V; N]>
-    ensures unchanged { OnErr result (table.new ≡ table.old) }
-    ensures back { IfErr result (λ back. back ≡ values) }
+    // It succeeds exactly where each key has a value and no two are equal.
+    // Holds by `which` of `replace_disjoint`.
+    ensures replace_disjoint_takes_other_keys_alone { IsOk result ↔ CanReplace get table.old.pairs (list_map K.data_of keys) }
+    // The values that the keys had are returned, in their order.
+    // Holds by `value` of `replace_disjoint`.
+    ensures replace_disjoint_returns_the_old_values { IfOk result (λ before. list_map (get table.old.pairs) (list_map K.data_of keys) ≡ list_map Some before) }
+    // Each key has the value at its position, and nothing else changes.
+    // Holds by `ok` of `replace_disjoint`.
+    ensures replace_disjoint_writes_each_value { OnOk result (table.new.pairs ≡ with_values bind table.old.pairs (list_map K.data_of keys) values) }
+    // Where it fails, nothing changes, and the new values come back.
+    // Refuses `replace_disjoint_writes_before_it_looks`: `unchanged` and `err` of `replace_disjoint`.
+    ensures failed_replace_disjoint_changes_nothing_unchanged { OnErr result (table.new ≡ table.old) }
+    ensures failed_replace_disjoint_changes_nothing_back { IfErr result (λ back. back ≡ values) }
 {
     table.replace_disjoint(keys, values)
 }

@@ -7,12 +7,17 @@ use slotmap_core::keys::Key;
 use slotmap_secondary::SecondaryMap;
 use std::alloc::AllocError;
 
-/// A copy has the same keys, each with a clone of its value.
-/// Refuses `clone_gives_version_3_in_place_of_1`, `clone_counts_nothing`: `clones` of `clone`.
-pub fn copy_has_a_clone_of_each_value<K: Key, V: Clone>(
-    table: &SecondaryMap<K, V>,
-) -> Result<SecondaryMap<K, V>, AllocError>
-    ensures { IfOk result (λ copy. (key : KeyOf) → IsCloneOf V.is_clone (get table.now.pairs key) (get copy.pairs key)) }
+/// Guards of `clone`.
+pub fn clone<K: Key, V: Clone>(table: &SecondaryMap<K, V>) -> Result<SecondaryMap<K, V>, AllocError>
+    // A copy has the same keys, each with a clone of its value.
+    // Refuses `clone_gives_version_3_in_place_of_1`, `clone_counts_nothing`: `clones` of `clone`.
+    ensures copy_has_a_clone_of_each_value { IfOk result (λ copy. (key : KeyOf) → IsCloneOf V.is_clone (get table.now.pairs key) (get copy.pairs key)) }
+    // Where clones equal their values, the copy holds what the map holds.
+    // Holds by `copies_if_clones_equal` of `clone`.
+    ensures copy_equals_the_map { ClonesEqual V.is_clone → IfOk result (λ copy. copy.pairs ≡ table.now.pairs) }
+    // A copy has as many slots.
+    // Holds by `places` of `clone`.
+    ensures copy_has_as_many_slots { IfOk result (λ copy. copy.places ≡ table.now.places) }
 {
     table.clone()
 }
@@ -27,44 +32,17 @@ pub fn copy_by_the_trait_has_a_clone_of_each_value<K: Key, V: Clone>(
     Clone::clone(table)
 }
 
-/// Where clones equal their values, the copy holds what the map holds.
-/// Holds by `copies_if_clones_equal` of `clone`.
-pub fn copy_equals_the_map<K: Key, V: Clone>(
-    table: &SecondaryMap<K, V>,
-) -> Result<SecondaryMap<K, V>, AllocError>
-    ensures { ClonesEqual V.is_clone → IfOk result (λ copy. copy.pairs ≡ table.now.pairs) }
-{
-    table.clone()
-}
-
-/// A copy has as many slots.
-/// Holds by `places` of `clone`.
-pub fn copy_has_as_many_slots<K: Key, V: Clone>(
-    table: &SecondaryMap<K, V>,
-) -> Result<SecondaryMap<K, V>, AllocError>
-    ensures { IfOk result (λ copy. copy.places ≡ table.now.places) }
-{
-    table.clone()
-}
-
-/// The map has the keys of the other, each with a clone of its value.
-/// Refuses `clone_from_drops_the_copy`: `clones` of `clone_from`.
-pub fn clone_from_has_a_clone_of_each_value<K: Key, V: Clone + Drop>(
+/// Guards of `clone_from`.
+pub fn clone_from<K: Key, V: Clone + Drop>(
     table: &mut SecondaryMap<K, V>,
     source: &SecondaryMap<K, V>,
 ) -> Result<(), AllocError>
-    ensures { OnOk result ((key : KeyOf) → IsCloneOf V.is_clone (get source.now.pairs key) (get table.new.pairs key)) }
-{
-    table.clone_from(source)
-}
-
-/// Where it fails, the map is as it was.
-/// Holds by `unchanged` of `clone_from`.
-pub fn failed_clone_from_changes_nothing<K: Key, V: Clone + Drop>(
-    table: &mut SecondaryMap<K, V>,
-    source: &SecondaryMap<K, V>,
-) -> Result<(), AllocError>
-    ensures { OnErr result (table.new ≡ table.old) }
+    // The map has the keys of the other, each with a clone of its value.
+    // Refuses `clone_from_drops_the_copy`: `clones` of `clone_from`.
+    ensures clone_from_has_a_clone_of_each_value { OnOk result ((key : KeyOf) → IsCloneOf V.is_clone (get source.now.pairs key) (get table.new.pairs key)) }
+    // Where it fails, the map is as it was.
+    // Holds by `unchanged` of `clone_from`.
+    ensures failed_clone_from_changes_nothing { OnErr result (table.new ≡ table.old) }
 {
     table.clone_from(source)
 }

@@ -9,15 +9,23 @@ use slotmap_core::keys::Key;
 use slotmap_secondary::SecondaryMap;
 use std::alloc::Global;
 
-/// Each pair that the iterator yields is put, one after the other. It stops early only where memory
-/// runs out for a pair, which comes back.
-/// Refuses `extend_puts_under_the_null_key`: the premise and `extends` of `extend`.
-pub fn extend_puts_each_pair<K: Key, V: Drop, I: IntoIterator<Item = (K, V)>>(
+/// Guards of `extend`.
+pub fn extend<K: Key, V: Drop, I: IntoIterator<Item = (K, V)>>(
     table: &mut SecondaryMap<K, V>,
     iter: I,
 ) -> Result<(), (K, V)>
     requires { (it : I.IntoIter) → I.into_iter_gives iter it → I.IntoIter.can_next it × IsFinite (I.IntoIter.remaining it) }
-    ensures { (it : I.IntoIter) × I.into_iter_gives iter it × Extends K.data_of it table.old.pairs result table.new.pairs I.IntoIter.next_gives }
+    // Each pair that the iterator yields is put, one after the other. It stops early only where memory
+    // runs out for a pair, which comes back.
+    // Refuses `extend_puts_under_the_null_key`: the premise and `extends` of `extend`.
+    ensures extend_puts_each_pair { (it : I.IntoIter) × I.into_iter_gives iter it × Extends K.data_of it table.old.pairs result table.new.pairs I.IntoIter.next_gives }
+    // A pair comes back only if there was no memory for its index. The last slot that was made holds a
+    // pair, and no memory is asked for where there is some.
+    // Refuses `extend_gives_up_though_there_is_room`, `extend_makes_2000_slots`: `back` and `grows` of
+    // `extend`.
+    ensures extend_gives_up_beyond_the_memory_alone_back { IfErr result (λ back. table.new.capacity < (K.data_of back.0).index) }
+    ensures extend_gives_up_beyond_the_memory_alone_slots { (table.new.places ≡ table.old.places) ⊎ (map.contains_key table.new.pairs (table.new.places - 1) ≡ true) }
+    ensures extend_gives_up_beyond_the_memory_alone_capacity { table.new.places ≤ table.old.capacity + 1 → table.new.capacity ≡ table.old.capacity }
 {
     table.extend(iter)
 }
@@ -34,22 +42,6 @@ pub fn extend_refs_puts_each_pair<
     ensures { (it : I.IntoIter) × I.into_iter_gives iter it × ExtendsBy K.data_of it table.old.pairs result table.new.pairs I.IntoIter.next_gives }
 {
     table.extend_refs(iter)
-}
-
-/// A pair comes back only if there was no memory for its index. The last slot that was made holds a
-/// pair, and no memory is asked for where there is some.
-/// Refuses `extend_gives_up_though_there_is_room`, `extend_makes_2000_slots`: `back` and `grows` of
-/// `extend`.
-pub fn extend_gives_up_beyond_the_memory_alone<K: Key, V: Drop, I: IntoIterator<Item = (K, V)>>(
-    table: &mut SecondaryMap<K, V>,
-    iter: I,
-) -> Result<(), (K, V)>
-    requires { (it : I.IntoIter) → I.into_iter_gives iter it → I.IntoIter.can_next it × IsFinite (I.IntoIter.remaining it) }
-    ensures back { IfErr result (λ back. table.new.capacity < (K.data_of back.0).index) }
-    ensures slots { (table.new.places ≡ table.old.places) ⊎ (map.contains_key table.new.pairs (table.new.places - 1) ≡ true) }
-    ensures capacity { table.new.places ≤ table.old.capacity + 1 → table.new.capacity ≡ table.old.capacity }
-{
-    table.extend(iter)
 }
 
 /// Each pair that the iterator yields is put into an empty map, one after the other.

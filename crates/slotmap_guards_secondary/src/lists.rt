@@ -11,79 +11,43 @@ use slotmap_core::serial::SlotRecord;
 use slotmap_secondary::SecondaryMap;
 use std::alloc::Global;
 
-/// Where clones equal their values, the list has a record for each slot, with the version and the
-/// value of its key.
-/// Refuses `to_slots_leaves_place_0_out`, `to_slots_writes_the_next_version`,
-/// `to_slots_writes_the_slots_in_reverse`: `writes_if_clones_equal` of `to_slots`.
-pub fn to_slots_writes_each_slot<K: Key, V: Clone + Drop>(
+/// Guards of `to_slots`.
+pub fn to_slots<K: Key, V: Clone + Drop>(
     table: &SecondaryMap<K, V>,
 ) -> Result<Vec<SlotRecord<V>>, OutOfMemory>
-    ensures { ClonesEqual V.is_clone → IfOk result (λ list. WritesSide table.now list.items) }
+    // Where clones equal their values, the list has a record for each slot, with the version and the
+    // value of its key.
+    // Refuses `to_slots_leaves_place_0_out`, `to_slots_writes_the_next_version`,
+    // `to_slots_writes_the_slots_in_reverse`: `writes_if_clones_equal` of `to_slots`.
+    ensures to_slots_writes_each_slot { ClonesEqual V.is_clone → IfOk result (λ list. WritesSide table.now list.items) }
+    // The list has a clone of each value, under its key.
+    // Holds by `contents` of `to_slots`.
+    ensures to_slots_clones_each_value { IfOk result (λ list. (key : KeyOf) → IsCloneOf V.is_clone (get table.now.pairs key) (map.get (start_live list.items) key)) }
+    // Where clones equal their values, the list has the keys with their values.
+    // Holds by `contents_if_clones_equal` of `to_slots`.
+    ensures to_slots_keeps_the_keys { ClonesEqual V.is_clone → IfOk result (λ list. start_live list.items ≡ keyed table.now.pairs) }
 {
     table.to_slots()
 }
 
-/// The list has a clone of each value, under its key.
-/// Holds by `contents` of `to_slots`.
-pub fn to_slots_clones_each_value<K: Key, V: Clone + Drop>(
-    table: &SecondaryMap<K, V>,
-) -> Result<Vec<SlotRecord<V>>, OutOfMemory>
-    ensures { IfOk result (λ list. (key : KeyOf) → IsCloneOf V.is_clone (get table.now.pairs key) (map.get (start_live list.items) key)) }
-{
-    table.to_slots()
-}
-
-/// Where clones equal their values, the list has the keys with their values.
-/// Holds by `contents_if_clones_equal` of `to_slots`.
-pub fn to_slots_keeps_the_keys<K: Key, V: Clone + Drop>(
-    table: &SecondaryMap<K, V>,
-) -> Result<Vec<SlotRecord<V>>, OutOfMemory>
-    ensures { ClonesEqual V.is_clone → IfOk result (λ list. start_live list.items ≡ keyed table.now.pairs) }
-{
-    table.to_slots()
-}
-
-/// The keys are those of odd versions, each with its value.
-/// Holds by `contents` of `from_slots`.
-pub fn from_slots_reads_each_slot<K: Key, V: Drop>(
+/// Guards of `from_slots`.
+pub fn from_slots<K: Key, V: Drop>(
     alloc: Global,
     list: Vec<SlotRecord<V>>,
 ) -> Result<SecondaryMap<K, V>, SlotsError>
-    ensures { IfOk result (λ made. keyed made.pairs ≡ start_live list.items) }
-{
-    SecondaryMap::from_slots(alloc, list)
-}
-
-/// There are as many slots as records.
-/// Holds by `places` of `from_slots`.
-pub fn from_slots_makes_a_slot_for_each_record<K: Key, V: Drop>(
-    alloc: Global,
-    list: Vec<SlotRecord<V>>,
-) -> Result<SecondaryMap<K, V>, SlotsError>
-    ensures { IfOk result (λ made. made.places ≡ length list.items) }
-{
-    SecondaryMap::from_slots(alloc, list)
-}
-
-/// A list is read only if it is short, its first version is even, and each slot has a value where
-/// its version is odd.
-/// Refuses `from_slots_reads_odd_versions_without_a_value`: `accepted` of `from_slots`.
-pub fn from_slots_reads_consistent_lists_alone<K: Key, V: Drop>(
-    alloc: Global,
-    list: Vec<SlotRecord<V>>,
-) -> Result<SecondaryMap<K, V>, SlotsError>
-    ensures { IsOk result → Accepts list.items side_list_limit }
-{
-    SecondaryMap::from_slots(alloc, list)
-}
-
-/// The first error that applies is returned.
-/// Holds by `err` of `from_slots`.
-pub fn from_slots_says_what_is_wrong<K: Key, V: Drop>(
-    alloc: Global,
-    list: Vec<SlotRecord<V>>,
-) -> Result<SecondaryMap<K, V>, SlotsError>
-    ensures { IfErr result (RefusesStart list.items side_list_limit) }
+    // The keys are those of odd versions, each with its value.
+    // Holds by `contents` of `from_slots`.
+    ensures from_slots_reads_each_slot { IfOk result (λ made. keyed made.pairs ≡ start_live list.items) }
+    // There are as many slots as records.
+    // Holds by `places` of `from_slots`.
+    ensures from_slots_makes_a_slot_for_each_record { IfOk result (λ made. made.places ≡ length list.items) }
+    // A list is read only if it is short, its first version is even, and each slot has a value where
+    // its version is odd.
+    // Refuses `from_slots_reads_odd_versions_without_a_value`: `accepted` of `from_slots`.
+    ensures from_slots_reads_consistent_lists_alone { IsOk result → Accepts list.items side_list_limit }
+    // The first error that applies is returned.
+    // Holds by `err` of `from_slots`.
+    ensures from_slots_says_what_is_wrong { IfErr result (RefusesStart list.items side_list_limit) }
 {
     SecondaryMap::from_slots(alloc, list)
 }

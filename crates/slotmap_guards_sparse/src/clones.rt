@@ -7,12 +7,16 @@ use slotmap_core::keys::Key;
 use slotmap_sparse::SparseSecondaryMap;
 use std::alloc::AllocError;
 
-/// A copy has the same keys, each with a clone of its value.
-/// Refuses `clone_sets_a_version_back`: `clones` of `clone`.
-pub fn copy_has_a_clone_of_each_value<K: Key, V: Clone>(
+/// Guards of `clone`.
+pub fn clone<K: Key, V: Clone>(
     table: &SparseSecondaryMap<K, V>,
 ) -> Result<SparseSecondaryMap<K, V>, AllocError>
-    ensures { IfOk result (λ copy. (key : KeyOf) → IsCloneOf V.is_clone (get table.now.pairs key) (get copy.pairs key)) }
+    // A copy has the same keys, each with a clone of its value.
+    // Refuses `clone_sets_a_version_back`: `clones` of `clone`.
+    ensures copy_has_a_clone_of_each_value { IfOk result (λ copy. (key : KeyOf) → IsCloneOf V.is_clone (get table.now.pairs key) (get copy.pairs key)) }
+    // Where clones equal their values, the copy holds what the map holds.
+    // Holds by `copies_if_clones_equal` of `clone`.
+    ensures copy_equals_the_map { ClonesEqual V.is_clone → IfOk result (λ copy. copy.pairs ≡ table.now.pairs) }
 {
     table.clone()
 }
@@ -27,34 +31,17 @@ pub fn copy_by_the_trait_has_a_clone_of_each_value<K: Key, V: Clone>(
     Clone::clone(table)
 }
 
-/// Where clones equal their values, the copy holds what the map holds.
-/// Holds by `copies_if_clones_equal` of `clone`.
-pub fn copy_equals_the_map<K: Key, V: Clone>(
-    table: &SparseSecondaryMap<K, V>,
-) -> Result<SparseSecondaryMap<K, V>, AllocError>
-    ensures { ClonesEqual V.is_clone → IfOk result (λ copy. copy.pairs ≡ table.now.pairs) }
-{
-    table.clone()
-}
-
-/// The map has the keys of the other, each with a clone of its value.
-/// Holds by `clones` of `clone_from`.
-pub fn clone_from_has_a_clone_of_each_value<K: Key, V: Clone + Drop>(
+/// Guards of `clone_from`.
+pub fn clone_from<K: Key, V: Clone + Drop>(
     table: &mut SparseSecondaryMap<K, V>,
     source: &SparseSecondaryMap<K, V>,
 ) -> Result<(), AllocError>
-    ensures { OnOk result ((key : KeyOf) → IsCloneOf V.is_clone (get source.now.pairs key) (get table.new.pairs key)) }
-{
-    table.clone_from(source)
-}
-
-/// Where it fails, the map is as it was.
-/// Holds by `unchanged` of `clone_from`.
-pub fn failed_clone_from_changes_nothing<K: Key, V: Clone + Drop>(
-    table: &mut SparseSecondaryMap<K, V>,
-    source: &SparseSecondaryMap<K, V>,
-) -> Result<(), AllocError>
-    ensures { OnErr result (table.new ≡ table.old) }
+    // The map has the keys of the other, each with a clone of its value.
+    // Holds by `clones` of `clone_from`.
+    ensures clone_from_has_a_clone_of_each_value { OnOk result ((key : KeyOf) → IsCloneOf V.is_clone (get source.now.pairs key) (get table.new.pairs key)) }
+    // Where it fails, the map is as it was.
+    // Holds by `unchanged` of `clone_from`.
+    ensures failed_clone_from_changes_nothing { OnErr result (table.new ≡ table.old) }
 {
     table.clone_from(source)
 }

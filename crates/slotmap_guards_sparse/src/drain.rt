@@ -7,10 +7,14 @@ ghost use Rattle.slotmap_core.specs.Words.{get};
 use slotmap_core::keys::Key;
 use slotmap_sparse::SparseSecondaryMap;
 
-/// A drain that is dropped before it yields anything removes every key.
-/// Refuses `drain_leaves_the_rest`: `ends` of its drop, and `map` of `drain`.
-pub fn dropped_drain_leaves_no_key<K: Key, V: Drop>(table: &mut SparseSecondaryMap<K, V>)
-    ensures { table.new.pairs ≡ map.empty }
+/// Guards of `drain`.
+pub fn drain<K: Key, V: Drop>(table: &mut SparseSecondaryMap<K, V>)
+    // A drain that is dropped before it yields anything removes every key.
+    // Refuses `drain_leaves_the_rest`: `ends` of its drop, and `map` of `drain`.
+    ensures dropped_drain_leaves_no_key { table.new.pairs ≡ map.empty }
+    // No capacity is lost.
+    // Holds by `capacity` of its drop, and `map` of `drain`.
+    ensures dropped_drain_loses_no_capacity { table.old.capacity ≤ table.new.capacity }
 {
     table.drain();
 }
@@ -26,12 +30,4 @@ pub fn early_dropped_drain_leaves_no_key<K: Key, V: Drop>(
     ensures empty { table.new.pairs ≡ map.empty }
 {
     table.drain().next()
-}
-
-/// No capacity is lost.
-/// Holds by `capacity` of its drop, and `map` of `drain`.
-pub fn dropped_drain_loses_no_capacity<K: Key, V: Drop>(table: &mut SparseSecondaryMap<K, V>)
-    ensures { table.old.capacity ≤ table.new.capacity }
-{
-    table.drain();
 }

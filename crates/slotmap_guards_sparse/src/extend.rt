@@ -9,15 +9,22 @@ use slotmap_core::keys::Key;
 use slotmap_sparse::SparseSecondaryMap;
 use std::alloc::Global;
 
-/// Each pair that the iterator yields is put, one after the other. It stops early only where memory
-/// runs out for a pair, which comes back.
-/// Refuses `extend_puts_under_the_null_key`: the premise and `extends` of `extend`.
-pub fn extend_puts_each_pair<K: Key, V: Drop, I: IntoIterator<Item = (K, V)>>(
+/// Guards of `extend`.
+pub fn extend<K: Key, V: Drop, I: IntoIterator<Item = (K, V)>>(
     table: &mut SparseSecondaryMap<K, V>,
     iter: I,
 ) -> Result<(), (K, V)>
     requires { (it : I.IntoIter) → I.into_iter_gives iter it → I.IntoIter.can_next it × IsFinite (I.IntoIter.remaining it) }
-    ensures { (it : I.IntoIter) × I.into_iter_gives iter it × Extends K.data_of it table.old.pairs result table.new.pairs I.IntoIter.next_gives }
+    // Each pair that the iterator yields is put, one after the other. It stops early only where memory
+    // runs out for a pair, which comes back.
+    // Refuses `extend_puts_under_the_null_key`: the premise and `extends` of `extend`.
+    ensures extend_puts_each_pair { (it : I.IntoIter) × I.into_iter_gives iter it × Extends K.data_of it table.old.pairs result table.new.pairs I.IntoIter.next_gives }
+    // A pair comes back only if there was no memory for one more key, and nothing is at its index.
+    // Refuses `extend_gives_up_though_there_is_room`, `extend_gives_up_at_an_older_pair_when_full`:
+    // `full` and `absent` of `extend`.
+    ensures extend_gives_up_with_no_room_alone_full { OnErr result (table.old.capacity ≤ map.len table.new.pairs) }
+    ensures extend_gives_up_with_no_room_alone_absent { IfErr result (λ back. map.get table.new.pairs (K.data_of back.0).index ≡ None) }
+    ensures extend_gives_up_with_no_room_alone_capacity { table.old.capacity ≤ table.new.capacity }
 {
     table.extend(iter)
 }
@@ -34,21 +41,6 @@ pub fn extend_refs_puts_each_pair<
     ensures { (it : I.IntoIter) × I.into_iter_gives iter it × ExtendsBy K.data_of it table.old.pairs result table.new.pairs I.IntoIter.next_gives }
 {
     table.extend_refs(iter)
-}
-
-/// A pair comes back only if there was no memory for one more key, and nothing is at its index.
-/// Refuses `extend_gives_up_though_there_is_room`, `extend_gives_up_at_an_older_pair_when_full`:
-/// `full` and `absent` of `extend`.
-pub fn extend_gives_up_with_no_room_alone<K: Key, V: Drop, I: IntoIterator<Item = (K, V)>>(
-    table: &mut SparseSecondaryMap<K, V>,
-    iter: I,
-) -> Result<(), (K, V)>
-    requires { (it : I.IntoIter) → I.into_iter_gives iter it → I.IntoIter.can_next it × IsFinite (I.IntoIter.remaining it) }
-    ensures full { OnErr result (table.old.capacity ≤ map.len table.new.pairs) }
-    ensures absent { IfErr result (λ back. map.get table.new.pairs (K.data_of back.0).index ≡ None) }
-    ensures capacity { table.old.capacity ≤ table.new.capacity }
-{
-    table.extend(iter)
 }
 
 /// Each pair that the iterator yields is put into an empty map, one after the other.

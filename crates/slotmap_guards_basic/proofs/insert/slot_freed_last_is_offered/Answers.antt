@@ -1,5 +1,0 @@
-use Rattle.std.proofs.Common.{◌∷◌, refl}
-use Rattle.slotmap_guards_basic.proofs.insert.slot_freed_last_is_offered.Goals as goal
-
-pub returns : goal.returns
-returns g c index rest below is = (c.len.ensures.valid.stacked (index ∷ rest) is).top below index rest refl
