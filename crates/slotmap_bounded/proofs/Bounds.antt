@@ -111,11 +111,3 @@ module _ {V : Type 0} {c : Content V} {room capacity : ℕ} (is : IsBounded c ro
 
   pub copied_clones : IsCloneBy is_clone (bounded c room capacity) (bounded new room capacity)
   copied_clones = grind (arith, clones.live)
-
--- no key is live where none is at any index
-pub none_live : {V : Type 0} (c : Content V) (index : ℕ) → IsContent true c → places c < index → ((k : Key) → IsLive c k → index ≤ k.index) → c.live ≡ map.empty
-none_live {V} c index valid past above = map.same_map keys_total exact_keys c.live map.empty (λ q. none q (map.get c.live q) refl ∙ sym (map.get-empty {X = V} key_cmp q))
-  where
-    none : (q : Key) (o : Option V) → map.get c.live q ≡ o → map.get c.live q ≡ None
-    none q None is = is
-    none q (Some v) is = absurd (let live : IsLive c q = ap is_some is in omega (arith, above q live, (valid.within q (inl (inl live))).1))

@@ -1,12 +1,12 @@
 -- How often a key is in a list, with another one behind it, without one, or from a place on.
-use Rattle.std.proofs.Common.{◌≡◌, ◌≢◌, ℕ, ◌+◌, ◌<◌, ◌≤◌, ◌⊎◌, Bool, true, false, cond, not, List, [], ◌∷◌, ◌++◌, length, get_or, take, drop, drop-cons}
+use Rattle.std.proofs.Common.{◌≡◌, ◌≢◌, ℕ, ◌+◌, ◌<◌, ◌≤◌, ◌⊎◌, Bool, true, false, cond, not, List, [], ◌∷◌, ◌++◌, length, get_or, take, drop, drop-cons, is_some}
 use Rattle.std.proofs.Common.{add-one, refl, sym, ap, ◌∙◌, inl, inr, arith}
 use Rattle.std.specs.List.{filter}
 use Rattle.std.proofs.Math.ListN.{drop_of_length-le}
 use Rattle.std.proofs.lemmas.List.Elements.{filter-append}
 use Rattle.std.proofs.lemmas.List.Sums.{sum_by-cons, sum_by_push, sum_by-append, sum_by-take-drop}
 use Rattle.slotmap.specs.Words.{Key, key_cmp, same_keys}
-use Rattle.slotmap.proofs.Callers.{same_or_other, keys_total, exact_keys, left_in, len_removed}
+use Rattle.slotmap.proofs.Callers.{same_or_other, keys_total, exact_keys, left_in, len_removed, none_found, untied}
 use Rattle.slotmap_bounded.specs.KeyLists.{is_key, same, times, without}
 use Rattle.std.specs.FinMap as map
 
@@ -89,3 +89,18 @@ no_more_than (k ∷ ks) m once there = let first = times_first k k ks in let one
       len_removed keys_total exact_keys m k
           (there k (omega arith)),
     )
+
+-- keys among which each key of a map is are no fewer than the map has
+module _ {V : Type 0} where
+  in_rest : (m : map.FinMap key_cmp V) (k x : Key) → map.contains_key (map.remove m k) x ≡ true → (x ≢ k) × (map.contains_key m x ≡ true)
+  in_rest m k x there = grind (arith, map.get-remove keys_total m k x, untied keys_total exact_keys x k)
+
+  pub no_fewer_than : (ks : List Key) (m : map.FinMap key_cmp V) → ((k : Key) → map.contains_key m k ≡ true → 0 < times k ks) → map.len m ≤ length ks
+  no_fewer_than [] m all = omega (arith, ap map.len (none_found m (λ k v found. absurd (omega (arith, all k (ap is_some found))))) ∙ map.len-empty key_cmp V)
+  no_fewer_than (k ∷ ks) m all = let rest = no_fewer_than ks (map.remove m k) (λ x there. (let was = in_rest m k x there in
+      omega (arith, all x was.1, times_first x k ks, one_other k x (λ is. was.0 (sym is))))) in grind (arith, map.len-remove keys_total m k, rest)
+
+  -- keys among which each key of a map is once, and no other, are as many as the map has
+  pub as_many : (ks : List Key) (m : map.FinMap key_cmp V) → ((k : Key) → times k ks ≤ 1) → ((k : Key) → 0 < times k ks → map.contains_key m k ≡ true)
+      → ((k : Key) → map.contains_key m k ≡ true → 0 < times k ks) → length ks ≡ map.len m
+  as_many ks m once only all = omega (arith, no_more_than ks m once only, no_fewer_than ks m all)

@@ -1,9 +1,9 @@
 -- The keys of a finite map, each once.
-use Rattle.std.proofs.Common.{◌≡◌, ◌<◌, ◌≤◌, true, List, [], ◌∷◌, map as list_map, is_lt, refl, sym, ap, ◌∙◌, inl, inr, arith}
-use Rattle.std.specs.{List.list_any, Ordering.eq_by_cmp}
+use Rattle.std.proofs.Common.{◌≡◌, ◌<◌, ◌≤◌, true, Some, List, [], ◌∷◌, map as list_map, is_lt, refl, sym, ap, ◌∙◌, inl, inr, arith}
+use Rattle.std.specs.{List.All, List.list_any, Ordering.eq_by_cmp}
 use Rattle.std.specs.FinMap.Entries.{below_all, is_sorted}
-use Rattle.slotmap.specs.Words.{Key, key_cmp, same_keys}
-use Rattle.slotmap.proofs.Callers.{same_or_other, keys_total, exact_keys, itself, tied}
+use Rattle.slotmap.specs.Words.{Key, key_cmp, same_keys, IsListing}
+use Rattle.slotmap.proofs.Callers.{same_or_other, keys_total, exact_keys, itself, tied, walk_start}
 use Rattle.slotmap_bounded.specs.KeyLists.{times}
 use Rattle.slotmap_bounded.proofs.Counts.{one_itself, one_other, times_first}
 use Rattle.std.specs.FinMap as map
@@ -41,3 +41,13 @@ module _ {V : Type 0} (live : map.FinMap key_cmp V) where
 
   pub keys_once : (q : Key) → times q (map.keys live) ≤ 1
   keys_once = sorted_once (map.entries live) (grind (arith, map.entries_sorted live))
+
+  -- each of its entries is a key with its value
+  listing : IsListing live (map.entries live)
+  listing = record {
+    all = map.same_map keys_total exact_keys _ _ (λ q. map.get-from_entries keys_total (map.entries live) q ∙ sym (map.get-entries live q));
+    once = sym (map.len-entries live);
+  }
+
+  pub entries_there : All (λ e. map.get live e.0 ≡ Some e.1) (map.entries live)
+  entries_there = (walk_start live (map.entries live) (λ k v. Unit {0}) listing).all

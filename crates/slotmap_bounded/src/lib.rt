@@ -6,8 +6,7 @@
 //! first makes its tables long enough for that, and then reserves. If one of the two fails, it still
 //! has room for all that it promises.
 //!
-//! Each call costs what the call of the `SlotMap` costs, but for [`BoundedMap::clear`], which takes time
-//! linear in the capacity.
+//! Each call costs what the call of the `SlotMap` costs.
 //!
 //! ```
 //! let mut map: BoundedMap<DefaultKey, &str> = BoundedMap::with_capacity(alloc, 1)?;
@@ -24,7 +23,7 @@ ghost use Rattle.std.specs.Prelude.{◌↔◌, OnSome, IfSome, IfNone, Ok, optio
 ghost use Rattle.std.specs.FinMap as map;
 ghost use Rattle.std.specs.Borrow.{sem};
 ghost use Rattle.std.specs.Option.{option_copied_mut};
-ghost use Rattle.slotmap.specs.Words.{Key as KeyOf, IsContent, IsCloneBy, IsLive, IsNew, Inserts, Leaves, MakesRoom, RefusesCapacity, Removes, StaysValid, is_last, most, places, used};
+ghost use Rattle.slotmap.specs.Words.{Key as KeyOf, IsContent, IsCloneBy, IsLive, IsNew, Inserts, Leaves, MakesRoom, RefusesCapacity, Removes, StaysValid, index_after, is_last, most, places, used};
 ghost use Rattle.slotmap_bounded.specs.Bounded.{capacity_with, grown as grown_by};
 
 mod keys;
@@ -285,7 +284,10 @@ impl<K: Key, V: Drop> BoundedMap<K, V> {
         Some(value)
     }
 
-    /// Removes all keys. The capacity stays, and it takes time linear in it.
+    /// Removes all keys. The capacity stays.
+    ///
+    /// It takes time linear in the number of slots that have had a key, and looks at up to 64 vacant ones
+    /// at a time. Room that no key has used yet costs nothing.
     ///
     /// ```
     /// let mut map: BoundedMap<DefaultKey, &str> = BoundedMap::with_capacity(alloc, 1)?;
@@ -298,24 +300,35 @@ impl<K: Key, V: Drop> BoundedMap<K, V> {
         ensures leaves { Leaves self.old self.new }
         ensures valid { StaysValid true self.old self.new }
     {
-        for index in 0..self.capacity() + 1 {
-            self.clear_at(index as u32);
+        let _ = self.len();
+        let mut last = None;
+        while let Some(key) = self.key_after(last) {
+            self.remove_live(key);
+            last = Some(key);
         }
     }
 
-    // Removes the key with this index, if one is live.
-    fn clear_at(&mut self, index: u32)
-        ensures gone { (k : KeyOf) → IsLive self.new k → k.index ≢ index }
+    // Returns the live key with the least index above that of the last one.
+    fn key_after(&self, last: Option<K>) -> Option<K>
+        ensures live { IfSome result (λ key. IsLive self.now (K.data_of key)) }
+        ensures least { IfSome result (λ key. (other : KeyOf) → IsLive self.now other → index_after K.data_of last ≤ other.index → (K.data_of key).index ≤ other.index) }
+        ensures none { IfNone result ((other : KeyOf) → IsLive self.now other → other.index < index_after K.data_of last) }
+    {
+        match self.map.next_after(last) {
+            Some((key, _)) => Some(key),
+            None => None,
+        }
+    }
+
+    // Removes a live key.
+    fn remove_live(&mut self, key: K)
+        requires { IsLive self.old (K.data_of key) }
+        ensures gone { (k : KeyOf) → IsLive self.new k → k.index ≢ (K.data_of key).index }
+        ensures fewer { map.len self.new.live < map.len self.old.live }
         ensures leaves { Leaves self.old self.new }
         ensures valid { StaysValid true self.old self.new }
     {
-        let _ = self.capacity();
-        match self.key_at(index) {
-            Some(key) => {
-                self.remove(key);
-            }
-            None => (),
-        }
+        self.remove(key);
     }
 
     /// Returns whether a key is live, in constant time.
@@ -478,6 +491,7 @@ impl<K: Key, V: Clone> BoundedMap<K, V> {
     pub fn clone(&self) -> Result<Self, AllocError>
         ensures clones { IfOk result (IsCloneBy V.is_clone self.now) }
         ensures capacity { IfOk result (λ copy. copy.capacity ≡ self.now.capacity) }
+        ensures room { IfOk result (λ copy. copy.room ≡ self.now.room) }
         ensures valid { IfOk result (IsContent true) }
     {
         let mut map = self.map.clone()?;

@@ -2,7 +2,7 @@
 use Rattle.slotmap_graph.proofs.Common.{Option, option_map, append_assoc, MatchOption, times_first, without_none, times_joined, cons_option, take-append-le, fold-append, IsBreadthFirst, entries_along}
 use Rattle.slotmap_graph.proofs.Common.{◌∙◌, is_some, append-nil, without, one_itself, one_other, SeenEdge, ends_at, ListsEdges, edges_at, IsJoined, take_more, take_all, ends_along, first_or}
 use Rattle.slotmap_graph.proofs.Common.{Some, None, List, refl, arith, false, ℕ, true, cond, length, get_or, take, nat_eq, IsLive, same, times, is_key, Edges, from, GoesOn, HasEdge, goes_to, marked}
-use Rattle.slotmap_graph.proofs.Common.{[], ap, sym, Key, Seen, to, find, fold}
+use Rattle.slotmap_graph.proofs.Common.{[], ap, sym, Key, Seen, to, find, fold, same_Some, All, All-nil, All-cons}
 use Rattle.std.proofs.Common.{◌≡◌, ◌≢◌, ◌<◌, ◌≤◌, ◌∷◌, ◌+◌, ◌++◌}
 use Rattle.std.proofs.lemmas.List.{Elements.filter_map-append, Folds.find-append}
 use Rattle.std.specs.FinMap as map
@@ -77,6 +77,33 @@ module _ {E : Type 0} (end : SeenEdge E → Key) (edges : Edges E) where
 -- the edge of the first key comes first
 pub first_entry : {E : Type 0} (edges : Edges E) (k : Key) (e : SeenEdge E) (ks : List Key) → map.get edges k ≡ Some e → entries_along edges (k ∷ ks) ≡ (k, e) ∷ entries_along edges ks
 first_entry edges k e ks there = ap (λ o. cons_option (option_map (λ e. (k, e)) o) (entries_along edges ks)) there
+
+-- what holds of the end of each edge holds of the ends of these
+pub ends_all : {E : Type 0} (end : SeenEdge E → Key) (edges : Edges E) (P : Key → Type 0) → ((k : Key) (e : SeenEdge E) → map.get edges k ≡ Some e → P (end e))
+    → (ks : List Key) → All P (ends_along end edges ks)
+ends_all end edges P each [] = All-nil P
+ends_all end edges P each (k ∷ ks) = let rest = ends_all end edges P each ks in
+    elim (map.get edges k) as (λ o. map.get edges k ≡ o → All P (cons_option (option_map end o) (ends_along end edges ks))) [
+      | None ↦ λ there. rest
+      | Some e ↦ λ there. All-cons P (end e) (ends_along end edges ks) (each k e there) rest
+    ] refl
+
+-- what holds of each edge of a list
+pub entries_all : {E : Type 0} (edges : Edges E) (P : Key × SeenEdge E → Type 0) (ks : List Key)
+    → ((k : Key) (e : SeenEdge E) → 0 < times k ks → map.get edges k ≡ Some e → P (k, e)) → All P (entries_along edges ks)
+entries_all edges P [] each = All-nil P
+entries_all edges P (k ∷ ks) each =
+    let rest = entries_all edges P ks (λ q e more there. each q e (omega (arith, times_first q k ks, more)) there) in
+    elim (map.get edges k) as (λ o. map.get edges k ≡ o → All P (cons_option (option_map (λ e. (k, e)) o) (entries_along edges ks))) [
+      | None ↦ λ there. rest
+      | Some e ↦ λ there. All-cons P (k, e) (entries_along edges ks) (each k e (omega (arith, times_first k k ks, one_itself k)) there) rest
+    ] refl
+
+-- the first node of an edge in the list of a node, or its second one, is that node
+pub listed_end : {E : Type 0} (end : SeenEdge E → Key) (edges : Edges E) (node : Key) (ks : List Key) → ListsEdges end edges node ks
+    → (k : Key) (e : SeenEdge E) → 0 < times k ks → map.get edges k ≡ Some e → end e ≡ node
+listed_end end edges node ks lists k e more there =
+    let found = listed_edge end edges node ks lists k more in ap end (same_Some _ _ (sym there ∙ found.1)) ∙ found.2
 
 -- what the first step of an iterator over a list yields
 pub first_step : (ks rest : List Key) (found : Option Key) → MatchOption found ((ks ≡ []) × (rest ≡ [])) (λ x. ks ≡ x ∷ rest) → found ≡ first_or ks None

@@ -6,7 +6,8 @@ pub use Rattle.std.proofs.lemmas.Bool.Decides.{nat_tests}
 pub use Rattle.std.proofs.lemmas.List.{take_more, take_all, take-append-le, length-replicate, length-map, map-append, get_or-map, drop-append-le}
 pub use Rattle.std.proofs.lemmas.List.Sums.{fold-append, sum_by-take-drop}
 pub use Rattle.std.proofs.lemmas.Option.{same_Some}
-pub use Rattle.std.specs.List.{cons_option, find, fold, filter, filter_map, list_any}
+pub use Rattle.std.proofs.lemmas.List.Elements.{All-cons, All-nil, All-weaker}
+pub use Rattle.std.specs.List.{All, cons_option, find, fold, filter, filter_map, list_any}
 pub use Rattle.std.specs.Option.{option_and_then}
 pub use Rattle.slotmap.proofs.Callers.{same_or_other, get-insert_here, get-insert_other, spent_inserts, same_lent, leaves_by_removal, leaves_in_turn, inserted_fresh, live-insert_still, get-bind_other}
 pub use Rattle.slotmap.proofs.Callers.{spent_keeps, spent_leaves, clone_copies, beside_empty, removed_spent, spent_removes, remove_spent, spent_remove, get-put_live, get-put_other, get-bind_here}
@@ -17,9 +18,9 @@ pub use Rattle.slotmap_bounded.proofs.Indices.{indices_inserted, indices_still, 
 pub use Rattle.slotmap_bounded.proofs.Indices.{key_is, same_at, no_key, some_is, back_has, back_key, front_has, front_key}
 pub use Rattle.slotmap_bounded.specs.Indices.{HaveIndices, AreIndices, key_at, keys_at}
 pub use Rattle.slotmap_bounded.proofs.Counts.{one_itself, times_first, without_none, times_joined, times_pushed, times_there, here_or_behind, none_behind, no_more_than, filter_less, behind_split}
-pub use Rattle.slotmap_bounded.proofs.Counts.{one_other, is_itself, is_other, filter_all}
+pub use Rattle.slotmap_bounded.proofs.Counts.{one_other, is_itself, is_other, filter_all, as_many}
 pub use Rattle.slotmap_bounded.proofs.Linking.{in_midst, split_at}
-pub use Rattle.slotmap_bounded.proofs.MapKeys.{key_live, keys_once, key_there}
+pub use Rattle.slotmap_bounded.proofs.MapKeys.{key_live, keys_once, key_there, entries_there}
 pub use Rattle.slotmap_bounded.specs.KeyLists.{same, times, without, is_key}
 pub use Rattle.slotmap_links.proofs.Changes.{list_cleared, pushed_here, pushed_still, pushed_was, covered}
 pub use Rattle.slotmap_links.proofs.Linking.{after_inside, cut_at, cons_not_nil}

@@ -3,7 +3,7 @@ use Rattle.slotmap_graph.proofs.Common.{◌∙◌, append_assoc, eq-zero-or-pos,
 use Rattle.slotmap_graph.proofs.Common.{option_map, append-nil, nat_tests, one_itself, one_other, times_first, times_there, behind_split, no_more_than, cons_not_nil, GoesForward, edges_out, passed_of}
 use Rattle.slotmap_graph.proofs.Common.{length, get_or, nat_eq, is_some, take_all, split_at, in_midst, SeenEdge, IsJoined, edges_at, ends_at, LeadsBy, HasCycle, Sorting, Counting, key_live, key_there}
 use Rattle.slotmap_graph.proofs.Common.{ℕ, zero, suc, Bool, true, false, Some, List, take, drop, refl, subst, arith, IsLive, Pairs, same, times, cut_at, Seen, Edges, ByNode, from, GoesOn, IsLeft}
-use Rattle.slotmap_graph.proofs.Common.{[], sym, ap, inl, inr, Key, get, to}
+use Rattle.slotmap_graph.proofs.Common.{[], sym, ap, inl, inr, Key, get, to, as_many, key_cmp}
 use Rattle.std.proofs.Common.{if◌then◌else◌, ◌≡◌, ◌≢◌, ◌+◌, ◌-◌, ◌<◌, ◌≤◌, ◌⊎◌, ◌∷◌, ◌++◌}
 use Rattle.slotmap_graph.proofs.Adjacent.{listed_edge, edge_listed, next_seen, taken}
 use Rattle.std.specs.FinMap as map
@@ -155,6 +155,10 @@ module _ {N E : Type 0} (s : Seen N E) (counts : Pairs ℕ) (found passed : List
 
   pub found_fits : length found ≤ map.len s.nodes.live
   found_fits = no_more_than found s.nodes.live found_once sorting.live
+
+-- a list that has each node once has as many as there are
+pub all_found : {N : Type 0} (live : map.FinMap key_cmp N) (found : List Key) → ((x : Key) → times x found ≡ (if map.contains_key live x then 1 else 0)) → length found ≡ map.len live
+all_found live found once = as_many found live (λ x. grind (arith, once x)) (λ x more. grind (arith, once x)) (λ x there. grind (arith, once x))
 
 -- the outgoing edges of some nodes
 module _ {N E : Type 0} (s : Seen N E) (joined : IsJoined s) where

@@ -281,7 +281,8 @@ impl<K: Key, N: Drop, E: Drop> Graph<K, N, E> {
     /// Removes all nodes and all edges. Their keys are never used again. No room is lost, and the
     /// capacities stay.
     ///
-    /// It takes time linear in the two capacities.
+    /// It takes time linear in the number of slots that have had a node or an edge. It also resets the ends
+    /// of the lists of each node that there is room for, 24 bytes a node.
     ///
     /// ```
     /// let mut graph: Graph<NodeKey, &str, u64> = Graph::new(alloc)?;

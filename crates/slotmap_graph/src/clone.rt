@@ -21,8 +21,9 @@ impl<K: Key, N: Clone, E: Clone> Graph<K, N, E> {
     /// Returns a copy of the graph, with clones of the values under the same keys.
     ///
     /// The edges of each node are listed in the same order, and both graphs will return the same new
-    /// keys. If memory runs out, or the clone of a value fails, the call fails, and what was copied is
-    /// dropped. It takes time linear in the two capacities.
+    /// keys. The copy has the same room and the same capacities. If memory runs out, or the clone of a
+    /// value fails, the call fails, and what was copied is dropped. It takes time linear in the two
+    /// capacities.
     ///
     /// ```
     /// let mut graph: Graph<NodeKey, &str, u64> = Graph::new(alloc)?;
@@ -37,6 +38,10 @@ impl<K: Key, N: Clone, E: Clone> Graph<K, N, E> {
         ensures edges { IfOk result (λ copy. IsCloneBy (clones_edge E.is_clone) self.now.edges copy.edges) }
         ensures out { IfOk result (λ copy. SameEdges self.now.out copy.out) }
         ensures into { IfOk result (λ copy. SameEdges self.now.into copy.into) }
+        ensures nodes_capacity { IfOk result (λ copy. copy.nodes.capacity ≡ self.now.nodes.capacity) }
+        ensures nodes_room { IfOk result (λ copy. copy.nodes.room ≡ self.now.nodes.room) }
+        ensures edges_capacity { IfOk result (λ copy. copy.edges.capacity ≡ self.now.edges.capacity) }
+        ensures edges_room { IfOk result (λ copy. copy.edges.room ≡ self.now.edges.room) }
 
         // Where clones equal their values, so do the nodes and the edges.
         ensures same_nodes { IfOk result (λ copy. ClonesEqual N.is_clone → IsCopy self.now.nodes copy.nodes) }

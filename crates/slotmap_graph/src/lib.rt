@@ -24,8 +24,10 @@
 //! - [`Graph::reachable`] takes time linear in the number of nodes that it finds and of their edges, and
 //!   in the largest index of one of them.
 //! - [`Graph::topological_order`] takes time linear in the number of slots of nodes and edges.
-//! - [`Graph::clone`], [`Graph::clear`], [`Graph::with_capacity`] and [`Graph::with_capacity_and_key`]
-//!   take time linear in the two capacities. So does printing a graph with `{:?}`.
+//! - [`Graph::clear`] takes time linear in the number of slots that have had a node or an edge. It also
+//!   resets the ends of the lists of each node that there is room for, 24 bytes a node.
+//! - [`Graph::clone`], [`Graph::with_capacity`] and [`Graph::with_capacity_and_key`] take time linear in
+//!   the two capacities. So does printing a graph with `{:?}`.
 //!
 //! Memory is asked for only by the calls that make a graph, reserve room, add or copy, and by those that
 //! take an `alloc`.

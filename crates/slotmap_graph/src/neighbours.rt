@@ -2,7 +2,8 @@
 
 ghost use Rattle.std.specs.Prelude.{◌≡◌};
 ghost use Rattle.std.specs.Iterator.{YieldsFirstBy, item_count};
-ghost use Rattle.slotmap.specs.Words.{Key as KeyOf};
+ghost use Rattle.std.specs.List.{All};
+ghost use Rattle.slotmap.specs.Words.{Key as KeyOf, IsLive};
 ghost use Rattle.slotmap_graph.specs.Parts.{SeenEdge, edges_at, from, to};
 ghost use Rattle.slotmap_graph.specs.Search.{ends_along};
 ghost use Rattle.slotmap_graph.specs.Threads.{IsThreaded, by_node, far_end};
@@ -68,7 +69,8 @@ impl<K: Key, N: Drop, E: Drop> Graph<K, N, E> {
     /// Returns an iterator over the nodes where this node's outgoing edges end, one for each edge, in the
     /// order of [`Graph::edges_from`].
     ///
-    /// Constant time. It needs no memory. A node that doesn't exist has none.
+    /// Constant time. It needs no memory. A node that doesn't exist has none. Each node that it yields
+    /// exists, so `graph[node]` reads its value.
     ///
     /// ```
     /// let mut graph: Graph<NodeKey, &str, u64> = Graph::new(alloc)?;
@@ -78,9 +80,13 @@ impl<K: Key, N: Drop, E: Drop> Graph<K, N, E> {
     /// let mut nodes = graph.neighbours_from(a);
     /// assert_eq!(rt; nodes.next(), Some(b));
     /// assert_eq!(rt; nodes.next(), None);
+    /// for next in graph.neighbours_from(a) {
+    ///     assert_eq!(rt; graph[next], "b");
+    /// }
     /// ```
     pub fn neighbours_from(&self, node: K) -> Neighbours<'_, K, E>
-        ensures { result ≡ ends_along to self.now.edges.live (edges_at self.now.out (K.data_of node)) }
+        ensures in_order { result ≡ ends_along to self.now.edges.live (edges_at self.now.out (K.data_of node)) }
+        ensures live { All (IsLive self.now.nodes) result }
     {
         neighbours_of(Direction::Out, &self.nodes, &self.edges, &self.out, node)
     }
@@ -88,7 +94,8 @@ impl<K: Key, N: Drop, E: Drop> Graph<K, N, E> {
     /// Returns an iterator over the nodes where this node's incoming edges begin, one for each edge, in
     /// the order of [`Graph::edges_to`].
     ///
-    /// Constant time. It needs no memory. A node that doesn't exist has none.
+    /// Constant time. It needs no memory. A node that doesn't exist has none. Each node that it yields
+    /// exists, so `graph[node]` reads its value.
     ///
     /// ```
     /// let mut graph: Graph<NodeKey, &str, u64> = Graph::new(alloc)?;
@@ -100,7 +107,8 @@ impl<K: Key, N: Drop, E: Drop> Graph<K, N, E> {
     /// assert_eq!(rt; nodes.next(), None);
     /// ```
     pub fn neighbours_to(&self, node: K) -> Neighbours<'_, K, E>
-        ensures { result ≡ ends_along from self.now.edges.live (edges_at self.now.into (K.data_of node)) }
+        ensures in_order { result ≡ ends_along from self.now.edges.live (edges_at self.now.into (K.data_of node)) }
+        ensures live { All (IsLive self.now.nodes) result }
     {
         neighbours_of(Direction::Into, &self.nodes, &self.edges, &self.into, node)
     }

@@ -211,7 +211,7 @@ impl<K: Key, N: Drop, E: Drop> Graph<K, N, E> {
         }
     }
 
-    /// Returns the nodes in an order in which each edge goes forward.
+    /// Returns all nodes, each once, in an order in which each edge goes forward.
     ///
     /// It takes time linear in the number of slots of nodes and of edges. It fails with `Memory` if
     /// memory runs out, and else with `Cycle` if there is no such order. That error holds an edge from
@@ -229,6 +229,7 @@ impl<K: Key, N: Drop, E: Drop> Graph<K, N, E> {
     /// ```
     pub fn topological_order(&self, alloc: Global) -> Result<Vec<K>, OrderError>
         ensures once { IfOk result (λ found. (x : KeyOf) → times x (list_map K.data_of found.items) ≡ (if map.contains_key self.now.nodes.live x then 1 else 0)) }
+        ensures count { IfOk result (λ found. length found.items ≡ map.len self.now.nodes.live) }
         ensures forward { IfOk result (λ found. GoesForward self.now.edges.live (list_map K.data_of found.items)) }
         ensures acyclic { IfOk result (λ found. HasCycle self.now.edges.live → ⊥) }
         ensures err { IfErr result (RefusesOrder self.now.edges.live) }

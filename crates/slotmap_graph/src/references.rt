@@ -2,8 +2,9 @@
 
 ghost use Rattle.std.specs.Prelude.{◌≡◌, ◌≤◌, length, Some, IfSome};
 ghost use Rattle.std.specs.Iterator.{YieldsFirstBy, item_count, at_most, UpTo};
+ghost use Rattle.std.specs.List.{All};
 ghost use Rattle.std.specs.FinMap as map;
-ghost use Rattle.slotmap.specs.Words.{Key as KeyOf};
+ghost use Rattle.slotmap.specs.Words.{Key as KeyOf, IsLive};
 ghost use Rattle.slotmap_graph.specs.Parts.{SeenEdge, edges_at};
 ghost use Rattle.slotmap_graph.specs.Search.{entries_along};
 ghost use Rattle.slotmap_graph.specs.Threads.{IsThreaded, by_node};
@@ -136,7 +137,8 @@ impl<K: Key, N: Drop, E: Drop> Graph<K, N, E> {
     /// Returns an iterator over the edges by ascending index: the key of each, the nodes where it begins
     /// and ends, and its value.
     ///
-    /// It is made in constant time. All its steps together read each slot of the edges once.
+    /// It is made in constant time. All its steps together read each slot of the edges once. Both nodes
+    /// of each edge exist, so `graph[from]` and `graph[to]` read their values.
     ///
     /// ```
     /// let mut graph: Graph<NodeKey, &str, u64> = Graph::new(alloc)?;
@@ -148,7 +150,9 @@ impl<K: Key, N: Drop, E: Drop> Graph<K, N, E> {
     /// assert!(rt; edges.next().is_none());
     /// ```
     pub fn edge_references(&self) -> EdgeReferences<'_, K, E>
-        ensures { result ≡ map.entries self.now.edges.live }
+        ensures entries { result ≡ map.entries self.now.edges.live }
+        ensures live { All (λ e. IsLive self.now.nodes e.1.from × IsLive self.now.nodes e.1.to) result }
+        ensures only { All (λ e. map.get self.now.edges.live e.0 ≡ Some e.1) result }
     {
         EdgeReferences {
             edges: self.edges.iter(),
@@ -159,7 +163,8 @@ impl<K: Key, N: Drop, E: Drop> Graph<K, N, E> {
     /// Returns an iterator over a node's outgoing edges, in the order of [`Graph::edges_from`]: the key of
     /// each, the nodes where it begins and ends, and its value.
     ///
-    /// Constant time. A step looks up one edge. A node that doesn't exist has none.
+    /// Constant time. A step looks up one edge. A node that doesn't exist has none. Both nodes of each
+    /// edge exist.
     ///
     /// ```
     /// let mut graph: Graph<NodeKey, &str, u64> = Graph::new(alloc)?;
@@ -171,7 +176,9 @@ impl<K: Key, N: Drop, E: Drop> Graph<K, N, E> {
     /// assert!(rt; edges.next().is_none());
     /// ```
     pub fn edge_references_from(&self, node: K) -> EdgeReferencesAt<'_, K, E>
-        ensures { result ≡ entries_along self.now.edges.live (edges_at self.now.out (K.data_of node)) }
+        ensures in_order { result ≡ entries_along self.now.edges.live (edges_at self.now.out (K.data_of node)) }
+        ensures live { All (λ e. IsLive self.now.nodes e.1.from × IsLive self.now.nodes e.1.to) result }
+        ensures only { All (λ e. (map.get self.now.edges.live e.0 ≡ Some e.1) × (e.1.from ≡ K.data_of node)) result }
     {
         references_of(&self.nodes, &self.edges, &self.out, node)
     }
@@ -179,7 +186,8 @@ impl<K: Key, N: Drop, E: Drop> Graph<K, N, E> {
     /// Returns an iterator over a node's incoming edges, in the order of [`Graph::edges_to`]: the key of
     /// each, the nodes where it begins and ends, and its value.
     ///
-    /// Constant time. A step looks up one edge. A node that doesn't exist has none.
+    /// Constant time. A step looks up one edge. A node that doesn't exist has none. Both nodes of each
+    /// edge exist.
     ///
     /// ```
     /// let mut graph: Graph<NodeKey, &str, u64> = Graph::new(alloc)?;
@@ -191,7 +199,9 @@ impl<K: Key, N: Drop, E: Drop> Graph<K, N, E> {
     /// assert_eq!(rt; graph.edge_references_to(a).len(), 0);
     /// ```
     pub fn edge_references_to(&self, node: K) -> EdgeReferencesAt<'_, K, E>
-        ensures { result ≡ entries_along self.now.edges.live (edges_at self.now.into (K.data_of node)) }
+        ensures in_order { result ≡ entries_along self.now.edges.live (edges_at self.now.into (K.data_of node)) }
+        ensures live { All (λ e. IsLive self.now.nodes e.1.from × IsLive self.now.nodes e.1.to) result }
+        ensures only { All (λ e. (map.get self.now.edges.live e.0 ≡ Some e.1) × (e.1.to ≡ K.data_of node)) result }
     {
         references_of(&self.nodes, &self.edges, &self.into, node)
     }

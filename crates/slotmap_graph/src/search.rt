@@ -1,6 +1,6 @@
 //! The calls that follow edges: neighbours, edges between two nodes, and reachable nodes.
 
-ghost use Rattle.std.specs.Prelude.{◌≡◌, ◌≢◌, ◌<◌, ◌≤◌, Some, IfOk, OnOk, true, option_map, map as list_map};
+ghost use Rattle.std.specs.Prelude.{◌≡◌, ◌≢◌, ◌<◌, ◌≤◌, Some, IfOk, OnOk, true, length, option_map, map as list_map};
 ghost use Rattle.std.specs.List.{find, fold};
 ghost use Rattle.std.specs.FinMap as map;
 ghost use Rattle.slotmap.specs.Words.{Key as KeyOf, IsBeside, IsContent, IsLive, get, contains_key};
@@ -156,6 +156,7 @@ impl<K: Key, N: Drop, E: Drop> Graph<K, N, E> {
     /// ```
     pub fn reachable(&self, alloc: Global, from: K) -> Result<Vec<K>, AllocError>
         ensures once { IfOk result (λ found. (x : KeyOf) → times x (list_map K.data_of found.items) ≤ 1) }
+        ensures count { IfOk result (λ found. length found.items ≤ map.len self.now.nodes.live) }
         ensures found_is_reachable { IfOk result (λ found. (x : KeyOf) → 0 < times x (list_map K.data_of found.items) → Leads self.now.edges.live (K.data_of from) x) }
         ensures reachable_is_found { IfOk result (λ found. (x : KeyOf) → IsLive self.now.nodes (K.data_of from)
             → Leads self.now.edges.live (K.data_of from) x → 0 < times x (list_map K.data_of found.items)) }

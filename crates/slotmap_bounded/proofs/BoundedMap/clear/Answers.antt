@@ -1,15 +1,14 @@
-use Rattle.std.proofs.Common.{arith, ◌∙◌}
-use Rattle.slotmap.proofs.Callers.{leaves_in_turn}
-use Rattle.slotmap_bounded.proofs.Bounds.{none_live}
+use Rattle.std.proofs.Common.{arith, ap, is_some, ◌∙◌}
+use Rattle.slotmap.proofs.Callers.{leaves_in_turn, none_found}
 use Rattle.slotmap_bounded.proofs.BoundedMap.clear.Goals as goal
 
-pub loop-index-preserved : goal.loop-index-preserved
-loop-index-preserved g c = let so_far = c.loop-index.invariant in record {
-  above = λ k live. omega (arith, so_far.above k (c.clear_at.ensures.leaves.no_more k live), c.clear_at.ensures.gone k live);
-  leaves = leaves_in_turn c.args.self.now c.loop-index.self c.clear_at.new.self so_far.leaves c.clear_at.ensures.leaves;
-  stays = record { before = so_far.stays.before; after = c.clear_at.ensures.valid.after; capacity = c.clear_at.ensures.valid.capacity ∙ so_far.stays.capacity };
+pub loop-key-preserved : goal.loop-key-preserved
+loop-key-preserved g c = let so_far = c.loop-key.invariant in let removed = c.remove_live.ensures in record {
+  above = λ k live. let was = removed.leaves.no_more k live in omega (arith, c.in-Some.ensures.least k was (so_far.above k was), removed.gone k live);
+  leaves = leaves_in_turn c.args.self.now c.loop-key.self c.remove_live.new.self so_far.leaves removed.leaves;
+  stays = record { before = so_far.stays.before; after = removed.valid.after; capacity = removed.valid.capacity ∙ so_far.stays.capacity };
 }
 
 pub returns-clause-empty : goal.returns-clause-empty
-returns-clause-empty g c = let same = c.loop-index.invariant.leaves.same_places in let within = c.capacity-index-end.ensures.places in
-    none_live c.loop-index.self c.loop-index.index c.loop-index.invariant.stays.after (omega (arith, same, within, c.loop-index-test.false)) c.loop-index.invariant.above
+returns-clause-empty g c = none_found c.loop-key.self.live
+    (λ k v found. let live = ap is_some found in absurd (omega (arith, c.in_default.ensures.none k live, c.loop-key.invariant.above k live)))

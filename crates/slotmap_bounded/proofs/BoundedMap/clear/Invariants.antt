@@ -1,11 +1,15 @@
 use Rattle.std.proofs.Common.{◌≤◌, true}
-use Rattle.slotmap.specs.Words.{Key, IsLive, Leaves, StaysValid}
+use Rattle.std.specs.FinMap as map
+use Rattle.slotmap.specs.Words.{Key, IsLive, Leaves, StaysValid, index_after}
 use Rattle.slotmap_bounded.proofs.BoundedMap.clear.Given as goal
 
--- no key is live below the index
-abbrev pub invariant-loop-index : goal.invariant-loop-index
-invariant-loop-index g l = record {
-  above : (k : Key) → IsLive l.self k → l.index ≤ k.index;
+-- no key is live up to the last one that was removed
+abbrev pub invariant-loop-key : goal.invariant-loop-key
+invariant-loop-key g l = record {
+  above : (k : Key) → IsLive l.self k → index_after g.K.Key.data_of l.last ≤ k.index;
   leaves : Leaves l.initial.self l.self;
   stays : StaysValid true l.initial.self l.self;
 }
+
+abbrev pub decreases-loop-key : goal.decreases-loop-key
+decreases-loop-key g l = map.len l.self.live

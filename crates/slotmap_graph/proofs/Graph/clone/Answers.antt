@@ -14,6 +14,10 @@ returns g c = let n = c.in_ok-nodes.ensures in let e = c.in_ok-edges.ensures in 
   edges = rw (← c.self.view_is) e.clones;
   out = rw (← c.self.view_is) (copied_seen c.self.invariant.out n.clones n.capacity is_clone e.clones e.capacity (copied_from is_clone) c.in_ok-out.ensures);
   into = rw (← c.self.view_is) (copied_seen c.self.invariant.into n.clones n.capacity is_clone e.clones e.capacity (copied_to is_clone) c.in_ok-into.ensures);
+  nodes_capacity = rw (← c.self.view_is) n.capacity;
+  nodes_room = rw (← c.self.view_is) n.room;
+  edges_capacity = rw (← c.self.view_is) e.capacity;
+  edges_room = rw (← c.self.view_is) e.room;
   same_nodes = clone_copies g.N.Clone.is_clone c.args.self.now.nodes _ (rw (ap (λ s. s.nodes) c.self.view_is) at n.clones);
   same_edges = λ same. clone_copies (clones_edge is_clone) c.args.self.now.edges _ (rw (ap (λ s. s.edges) c.self.view_is) at e.clones) (edges_equal is_clone same);
 }

@@ -72,6 +72,7 @@ returns g c =
     let past : length keys ≤ c.loop-at.at = omega (arith, c.loop-at.found.ok.0, long) in
     record {
       once = listed_once seen keys searching.listed;
+      count = omega (arith, searching_fits nodes edges from seen keys c.loop-at.at searching, long);
       found_is_reachable = λ x more. (searching_found nodes edges from seen keys c.loop-at.at searching x more).1;
       reachable_is_found = λ x live leads. searching_all nodes edges from seen keys c.loop-at.at searching past x leads;
       live = λ x more. (rw (← c.self.view_is) (sym c.contains_key.ensures.value ∙ c.if-not-contains_key.false), (searching_found nodes edges from seen keys c.loop-at.at searching x more).0);

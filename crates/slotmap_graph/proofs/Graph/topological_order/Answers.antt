@@ -1,6 +1,6 @@
 use Rattle.slotmap_graph.proofs.Common.{◌∙◌, length, sym, ap, arith, list_map, get_or-map, length-map, IsJoined, Sorting, edges_out}
 use Rattle.std.proofs.Common.{◌≡◌, ◌<◌}
-use Rattle.slotmap_graph.proofs.TopologicalOrders.{ended, found_fits, ordered, sorting_start}
+use Rattle.slotmap_graph.proofs.TopologicalOrders.{ended, found_fits, ordered, sorting_start, all_found}
 use Rattle.slotmap_graph.proofs.GraphSteps.{graph_joined}
 use Rattle.slotmap_graph.proofs.Graph.topological_order.Goals.{After-loop-at}
 use Rattle.slotmap_graph.proofs.Graph.topological_order.Goals as goal
@@ -35,7 +35,8 @@ pub returns-in-None : goal.returns-in-None
 returns-in-None g c =
     let joined : IsJoined c.args.self.now = rw (← c.self.view_is) (graph_joined _ _ _ _ c.self.invariant) in
     let order = ordered c.args.self.now joined c.loop-at.counts.pairs _ (sorted g (goal.at.returns-in-None g c).After-loop-at) c.in-None.ensures.none in
-    record { once = order.once; forward = order.forward; acyclic = order.acyclic; err = tt }
+    let count = sym (length-map c.loop-at.found.items g.K.Key.data_of) ∙ all_found c.args.self.now.nodes.live _ order.once in
+    record { once = order.once; count = count; forward = order.forward; acyclic = order.acyclic; err = tt }
 
 pub closing_edge-requires-clause-valid : goal.closing_edge-requires-clause-valid
 closing_edge-requires-clause-valid g c = rw (← c.self.view_is) (c.len.ensures.valid)

@@ -1,0 +1,19 @@
+use Rattle.std.proofs.Common.{◌≡◌}
+use Rattle.slotmap_graph.proofs.Common.{from, IsLive, Key, SeenEdge, Some, by_node, edges_at}
+use Rattle.slotmap_graph.proofs.Adjacent.{entries_all, listed_end}
+use Rattle.slotmap_graph.proofs.Threaded.{lists}
+use Rattle.std.specs.FinMap as map
+use Rattle.slotmap_graph.proofs.Graph.edge_references_from.Goals as goal
+
+pub returns-clause-live : goal.returns-clause-live
+returns-clause-live g c = let nodes = c.self.inside.nodes in
+    rw (← c.self.view_is, c.references_of.ensures) (entries_all c.self.inside.edges.live (λ (e : Key × SeenEdge g.row.E.Denot). IsLive nodes e.1.from × IsLive nodes e.1.to) _
+    (λ k e more there. (c.self.invariant.out.ends k e there, c.self.invariant.into.ends k e there)))
+
+pub returns-clause-only : goal.returns-clause-only
+returns-clause-only g c =
+    let node = g.K.Key.data_of c.args.node in
+    let edges = c.self.inside.edges.live in
+    let listed = edges_at (by_node c.self.inside.nodes.live edges c.self.inside.out) node in
+    rw (← c.self.view_is, c.references_of.ensures) (entries_all edges (λ (e : Key × SeenEdge g.row.E.Denot). (map.get edges e.0 ≡ Some e.1) × (e.1.from ≡ node)) listed
+    (λ k e more there. (there, listed_end from edges node listed (lists c.self.invariant.out node) k e more there)))
