@@ -544,6 +544,8 @@ def world_part(size):
     first = {key: value + 1 for key, value in first.items() if (value + 1) % 4 != 0}
     tell("three", joined(packed, first, second, first))
     tell("without the first", joined([key for key in packed if key not in first], second))
+    optional = [[number[key], first[key], *([second[key]] if key in second else [])] for key in packed if key in first]
+    tell("perhaps the second", [n for found in optional for n in found])
     for key in packed:
         if key in first and key in second:
             first[key] += second[key]
@@ -572,6 +574,10 @@ def world_part(size):
     tell("replaced", replaced)
     tell_all([])
     tell_all(packed)
+    # The kinds are named in another order than their tables lie in.
+    tell("of three kinds", [n for key in range(size) for n in (key, key * 2, key * 3, key * 4)])
+    tell("taken off", [key * 3 for key in range(0, size, 2)])
+    tell("of those left", [n for key in range(1, size, 2) for n in (key, key * 2, key * 3, key * 4)])
 
 
 for word in sys.argv[1:]:

@@ -8,7 +8,7 @@ use Rattle.std.proofs.lemmas.{Grind.common_steps, List.length-map}
 use Rattle.std.proofs.lemmas.Slice.Zip.{length-zip}
 use Rattle.std.specs.{List.cons_option, Option.option_map}
 use Rattle.slotmap.specs.Words.{Key, key_cmp, ClosesGap, Dense, IsDense, IsLive}
-use Rattle.slotmap_entities.specs.World.{World, found_by, both_found_by, three_found_by, found_without}
+use Rattle.slotmap_entities.specs.World.{World, found_by, both_found_by, three_found_by, found_without, optional_found_by}
 use Rattle.slotmap.proofs.Callers.{keys_total, exact_keys, tied, alike_or_apart, get_after_remove, live-remove_other}
 use Rattle.std.specs.FinMap as map
 
@@ -315,3 +315,7 @@ module _ {V : Type 0} (d : Dense V) (valid : IsDense d) where
   pub found_without_live : {C : Type 0} (has : Key → Bool) (find : Key → Option C) → All (λ e. IsLive d.content e.0) (found_without has find d.keys)
   found_without_live has find = all_found (IsLive d.content) (λ k. if has k then None else option_map (λ c. (k, c)) (find k))
       (λ k. by_test k (has k) (option_map (λ c. (k, c)) (find k)) (by_map k (find k) (λ c. (k, c)) (λ c. refl))) d.keys keys_live
+
+  pub optional_found_live : {A B : Type 0} (a : Key → Option A) (b : Key → Option B) → All (λ e. IsLive d.content e.0) (optional_found_by a b d.keys)
+  optional_found_live a b = all_found (IsLive d.content) (λ k. option_map (λ x. (k, (x, b k))) (a k))
+      (λ k. by_map k (a k) (λ x. (k, (x, b k))) (λ x. refl)) d.keys keys_live

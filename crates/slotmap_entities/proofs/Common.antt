@@ -6,4 +6,4 @@ pub use Rattle.slotmap.specs.Words.{contains_key, get, Key, key_cmp, keyed, Pair
 pub use Rattle.slotmap_entities.proofs.LiveOnly.{own_beside, removed_live, table_live}
 pub use Rattle.slotmap_entities.proofs.Spawned.{inserted_live, kept_still, spawned_bare, spawned_index, spawned_spent, spawned_still, when_ok}
 pub use Rattle.slotmap_entities.proofs.TableCount.{none_more, one_more}
-pub use Rattle.slotmap_entities.specs.World.{both_found_by, found_by, found_without, three_found_by, World}
+pub use Rattle.slotmap_entities.specs.World.{both_found_by, found_by, found_without, optional_found_by, three_found_by, World}

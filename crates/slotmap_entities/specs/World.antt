@@ -66,3 +66,7 @@ three_found_by a b c ks = filter_map (λ k. option_and_then (λ x. option_and_th
 -- the keys of a list for which there is something and `has` is false, each with it
 abbrev pub found_without : {C : Type 0} → (Key → Bool) → (Key → Option C) → List Key → List (Key × C)
 found_without has find ks = filter_map (λ k. if has k then None else option_map (λ c. (k, c)) (find k)) ks
+
+-- the keys of a list for which there is a first thing, each with it, and with the second where there is one
+abbrev pub optional_found_by : {A B : Type 0} → (Key → Option A) → (Key → Option B) → List Key → List (Key × (A × Option B))
+optional_found_by a b ks = filter_map (λ k. option_map (λ x. (k, (x, b k))) (a k)) ks

@@ -12,7 +12,7 @@ use crate::{Apart, Kind, Table, Tables, World};
 use slotmap::{DenseSlotMap, InsertWithError, Key};
 
 // Adds an entity, and a component beside it in each of two tables.
-fn spawn_with_both<K: Key, E: Drop, T: Tables<K>, A: Apart<K, T, B>, B: Kind<K, T>>(
+pub(crate) fn spawn_with_both<K: Key, E: Drop, T: Tables<K>, A: Apart<K, T, B>, B: Kind<K, T>>(
     entities: &mut DenseSlotMap<K, E>,
     tables: &mut T,
     entity: E,

@@ -2,12 +2,14 @@
 
 mod keys;
 mod loops;
+mod threes;
 
 use crate::items::{increment, keep};
 use crate::random::Random;
 use crate::sums::{Sum, tell};
 use crate::worlds::keys::run_keys;
 use crate::worlds::loops::run_loops;
+use crate::worlds::threes::run_threes;
 use slotmap::{DefaultKey, ReserveError, SecondaryMap, SparseSecondaryMap};
 use slotmap_entities::{Apart, CloneTable, CloneTables, First, Kind, Second, Table, Tables, World};
 use std::alloc::Global;
@@ -432,4 +434,5 @@ pub fn run(rt: &HostRuntime, size: u64) -> bool {
         && run_tables::<SecondaryMap<DefaultKey, u64>, SparseSecondaryMap<DefaultKey, u64>>(
             rt, size,
         )
+        && run_threes(rt, size)
 }

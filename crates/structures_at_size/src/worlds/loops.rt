@@ -1,4 +1,4 @@
-//! Loops over a world of numbers: joins of three kinds and of one without another, and a loop over the positions of the keys,
+//! Loops over a world of numbers: joins of three kinds, of one without another and of one with an optional one, and a loop over the positions of the keys,
 //! which writes components on the way.
 
 use crate::sums::{Sum, tell};
@@ -38,6 +38,24 @@ where
     for (key, second) in world.with_without::<S, F>() {
         sum.add_found(world.get(key));
         sum.add(*second);
+    }
+    sum
+}
+
+// The entities that have a first component, in packed order, each before the component, and before the second one if it has one.
+fn sum_with_optional<'a, T, F, S>(world: &'a Numbers<T>) -> Sum
+where
+    T: Tables<DefaultKey>,
+    F: Kind<DefaultKey, T>,
+    S: Kind<DefaultKey, T>,
+    F::Table: Table<DefaultKey, Component = u64> + 'a,
+    S::Table: Table<DefaultKey, Component = u64> + 'a,
+{
+    let mut sum = Sum::new();
+    for (key, first, second) in world.with_optional::<F, S>() {
+        sum.add_found(world.get(key));
+        sum.add(*first);
+        sum.add_some(second.copied());
     }
     sum
 }
@@ -87,8 +105,10 @@ where
 {
     let three = sum_with_three::<T, F, S>(world);
     let without = sum_with_without::<T, F, S>(world);
+    let optional = sum_with_optional::<T, F, S>(world);
     move_all::<T, F, S>(world);
     tell(rt, "three", three)
         && tell(rt, "without the first", without)
+        && tell(rt, "perhaps the second", optional)
         && tell(rt, "moved", sum_with::<T, F>(world))
 }
