@@ -19,4 +19,5 @@ pub mod room;
 pub mod searches;
 pub mod stores;
 pub mod timer;
+pub mod triplets;
 pub mod twins;
