@@ -9,6 +9,9 @@ use slotmap::{
 use slotmap_rows::Counts;
 use std::alloc::Global;
 
+/// A command of `run_joined`.
+pub type Plain = JoinedCommand<u64, u64>;
+
 /// Commands that are run on two maps: by `run_joined` or by `run_joined_detaching`.
 pub trait Joins<M, S>: Sized + Drop {
     /// Returns the command of a step, if there is one.
@@ -25,7 +28,39 @@ pub trait Joins<M, S>: Sized + Drop {
     ) -> Option<Vec<Reply>>;
 }
 
-impl<M, S> Joins<M, S> for JoinedCommand<u64, u64>
+// One try of a run.
+fn try_joined<M, S>(
+    alloc: Global,
+    counts: &Counts,
+    primary: &mut M,
+    secondary: &mut S,
+    list: Vec<Plain>,
+) -> Result<Vec<Reply>, Vec<Plain>>
+where
+    M: Primary<DefaultKey, u64>,
+    S: Secondary<DefaultKey, u64>,
+{
+    let look = |value: &u64| counts.look(*value);
+    run_joined(alloc, primary, secondary, list, look)
+}
+
+// The same where keys can be detached.
+fn try_detaching<M, S>(
+    alloc: Global,
+    counts: &Counts,
+    primary: &mut M,
+    secondary: &mut S,
+    list: Vec<Step>,
+) -> Result<Vec<Reply>, Vec<Step>>
+where
+    M: Detaching<DefaultKey, u64>,
+    S: Secondary<DefaultKey, u64>,
+{
+    let look = |value: &u64| counts.look(*value);
+    run_joined_detaching(alloc, primary, secondary, list, look)
+}
+
+impl<M, S> Joins<M, S> for Plain
 where
     M: Primary<DefaultKey, u64>,
     S: Secondary<DefaultKey, u64>,
@@ -44,18 +79,17 @@ where
         secondary: &mut S,
         list: Vec<Self>,
     ) -> Option<Vec<Reply>> {
-        let look = |value: &u64| counts.look(*value);
-        match run_joined(alloc, primary, secondary, list, look) {
+        match try_joined(alloc, counts, primary, secondary, list) {
             Ok(replies) => Some(replies),
             Err(list) => {
                 counts.count_made_twice();
-                run_joined(alloc, primary, secondary, list, look).ok()
+                try_joined(alloc, counts, primary, secondary, list).ok()
             }
         }
     }
 }
 
-impl<M, S> Joins<M, S> for JoinedDetachCommand<u64, u64>
+impl<M, S> Joins<M, S> for Step
 where
     M: Detaching<DefaultKey, u64>,
     S: Secondary<DefaultKey, u64>,
@@ -71,12 +105,11 @@ where
         secondary: &mut S,
         list: Vec<Self>,
     ) -> Option<Vec<Reply>> {
-        let look = |value: &u64| counts.look(*value);
-        match run_joined_detaching(alloc, primary, secondary, list, look) {
+        match try_detaching(alloc, counts, primary, secondary, list) {
             Ok(replies) => Some(replies),
             Err(list) => {
                 counts.count_made_twice();
-                run_joined_detaching(alloc, primary, secondary, list, look).ok()
+                try_detaching(alloc, counts, primary, secondary, list).ok()
             }
         }
     }

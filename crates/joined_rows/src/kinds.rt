@@ -1,10 +1,11 @@
 //! The kinds of runs that rows are for.
 
-use crate::joins::Joins;
+use crate::joins::{Joins, Plain};
 use crate::runs::{Fresh, Runs};
+use crate::steps::Step;
 use slotmap::{
-    DefaultKey, DenseSlotMap, HopSlotMap, JoinedCommand, JoinedDetachCommand, Primary,
-    SecondaryMap, SlotMap, SparseSecondaryMap,
+    DefaultKey, DenseSlotMap, Detaching, HopSlotMap, Primary, SecondaryMap, SlotMap,
+    SparseSecondaryMap,
 };
 use slotmap_rows::{File, Kinds, Stop};
 use std::io::Write;
@@ -18,10 +19,6 @@ type Hop = HopSlotMap<DefaultKey, u64>;
 type Vector = SecondaryMap<DefaultKey, u64>;
 
 type Hashed = SparseSecondaryMap<DefaultKey, u64>;
-
-type Plain = JoinedCommand<u64, u64>;
-
-type Detaches = JoinedDetachCommand<u64, u64>;
 
 /// All kinds.
 pub struct All;
@@ -44,28 +41,63 @@ where
     file.hold(kind, &mut runs, output)
 }
 
+// `run_joined` on a map, with each secondary map beside it.
+fn hold_beside_each<M: Primary<DefaultKey, u64> + Drop>(
+    file: File<'_, '_>,
+    with_secondary: &str,
+    with_sparse: &str,
+    output: &mut impl Write,
+) -> Result<bool, Stop> {
+    Ok(
+        hold_runs::<M, Vector, Plain>(file, with_secondary, output)?
+            & hold_runs::<M, Hashed, Plain>(file, with_sparse, output)?,
+    )
+}
+
 // `run_joined`.
 fn hold_joined(file: File<'_, '_>, output: &mut impl Write) -> Result<bool, Stop> {
-    let of_basic = hold_runs::<Basic, Vector, Plain>(file, "basic_with_secondary", output)?
-        & hold_runs::<Basic, Hashed, Plain>(file, "basic_with_sparse", output)?;
-    let of_dense = hold_runs::<Dense, Vector, Plain>(file, "dense_with_secondary", output)?
-        & hold_runs::<Dense, Hashed, Plain>(file, "dense_with_sparse", output)?;
-    let of_hop = hold_runs::<Hop, Vector, Plain>(file, "hop_with_secondary", output)?
-        & hold_runs::<Hop, Hashed, Plain>(file, "hop_with_sparse", output)?;
+    let of_basic = hold_beside_each::<Basic>(
+        file,
+        "basic_with_secondary",
+        "basic_with_sparse",
+        output,
+    )?;
+    let of_dense = hold_beside_each::<Dense>(
+        file,
+        "dense_with_secondary",
+        "dense_with_sparse",
+        output,
+    )?;
+    let of_hop = hold_beside_each::<Hop>(file, "hop_with_secondary", "hop_with_sparse", output)?;
     Ok(of_basic && of_dense && of_hop)
+}
+
+// `run_joined_detaching` on a map, with each secondary map beside it.
+fn hold_detaching_beside_each<M: Detaching<DefaultKey, u64> + Drop>(
+    file: File<'_, '_>,
+    with_secondary: &str,
+    with_sparse: &str,
+    output: &mut impl Write,
+) -> Result<bool, Stop> {
+    Ok(
+        hold_runs::<M, Vector, Step>(file, with_secondary, output)?
+            & hold_runs::<M, Hashed, Step>(file, with_sparse, output)?,
+    )
 }
 
 // `run_joined_detaching`.
 fn hold_detaching(file: File<'_, '_>, output: &mut impl Write) -> Result<bool, Stop> {
-    let of_basic = hold_runs::<Basic, Vector, Detaches>(
+    let of_basic = hold_detaching_beside_each::<Basic>(
         file,
         "detaching_basic_with_secondary",
+        "detaching_basic_with_sparse",
         output,
-    )? & hold_runs::<Basic, Hashed, Detaches>(file, "detaching_basic_with_sparse", output)?;
-    let of_dense = hold_runs::<Dense, Vector, Detaches>(
+    )?;
+    let of_dense = hold_detaching_beside_each::<Dense>(
         file,
         "detaching_dense_with_secondary",
+        "detaching_dense_with_sparse",
         output,
-    )? & hold_runs::<Dense, Hashed, Detaches>(file, "detaching_dense_with_sparse", output)?;
+    )?;
     Ok(of_basic && of_dense)
 }

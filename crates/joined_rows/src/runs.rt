@@ -1,7 +1,7 @@
 //! The lists of commands of a row.
 
 use crate::joins::Joins;
-use crate::replies::write_reply;
+use crate::replies::{Reply, write_reply};
 use crate::steps::{Step, inserted, read_step};
 use slotmap::{DefaultKey, Primary, ReserveError, SecondaryMap, SparseSecondaryMap};
 use slotmap_rows::{Call, Stop, Subject, Supply, Word, Words, write_count};
@@ -31,11 +31,20 @@ type Types<M, S, C> = PhantomData<(M, S, C)>;
 
 /// The commands of a row so far; `None` ends a list. With each call all lists are run anew on new
 /// maps, one after the other, and the result is the last reply.
-#[derive(Drop)]
 pub struct Runs<'a, M, S, C> {
     supply: Supply<'a>,
     steps: Vec<Option<Step>>,
     types: Types<M, S, C>,
+}
+
+impl<'a, M, S, C> Drop for Runs<'a, M, S, C> {
+    fn drop(self) {
+        let Runs {
+            supply: _supply,
+            steps: _steps,
+            types: _types,
+        } = self;
+    }
 }
 
 impl<'a, M, S, C> Runs<'a, M, S, C>
@@ -54,33 +63,68 @@ where
     }
 
     // Adds the commands of a call, and runs all. `looks` adds none.
-    fn add(&mut self, call: &Call<'_>, reply: &mut String) -> Result<(), Stop> {
+    fn serve(&mut self, call: &Call<'_>, reply: &mut String) -> Result<(), Stop> {
         match (call.name, call.words) {
-            ("looks", Words::Nothing) => {
-                return Ok(write!(reply, "{}", self.supply.counts.looks())?);
+            ("looks", Words::Nothing) => Ok(write!(reply, "{}", self.supply.counts.looks())?),
+            _ => {
+                self.add(call)?;
+                self.run(reply)
             }
-            ("next_list", Words::Nothing) => self.steps.push(None)?,
-            ("insert_many", Words::Number(count)) => {
-                for turn in 0..count {
-                    self.steps.push(Some(inserted(turn.wrapping_add(1))))?;
-                }
-            }
-            _ => self
-                .steps
-                .push(Some(read_step(call).ok_or(Stop::Unknown)?))?,
         }
-        self.run(reply)
+    }
+
+    // Adds the commands of a call, or ends a list.
+    fn add(&mut self, call: &Call<'_>) -> Result<(), Stop> {
+        match (call.name, call.words) {
+            ("next_list", Words::Nothing) => Ok(self.steps.push(None)?),
+            ("insert_many", Words::Number(count)) => self.add_inserts(count),
+            _ => self.add_step(read_step(call)),
+        }
+    }
+
+    // Adds so many inserts.
+    fn add_inserts(&mut self, count: u64) -> Result<(), Stop> {
+        for turn in 0..count {
+            self.steps.push(Some(inserted(turn.wrapping_add(1))))?;
+        }
+        Ok(())
+    }
+
+    // Adds a command, if there is one.
+    fn add_step(&mut self, step: Option<Step>) -> Result<(), Stop> {
+        match step {
+            Some(step) => Ok(self.steps.push(Some(step))?),
+            None => Err(Stop::Unknown),
+        }
     }
 
     // Runs all lists of the row on new maps, and writes the last reply.
     fn run(&self, reply: &mut String) -> Result<(), Stop> {
-        let alloc = self.supply.alloc;
-        let mut primary = M::with_key(alloc).map_err(|_| Stop::Memory)?;
-        let mut secondary = S::fresh(alloc).map_err(|_| Stop::Memory)?;
+        match M::with_key(self.supply.alloc) {
+            Ok(mut primary) => self.run_on(&mut primary, reply),
+            Err(_) => Err(Stop::Memory),
+        }
+    }
+
+    // The same on this primary map.
+    fn run_on(&self, primary: &mut M, reply: &mut String) -> Result<(), Stop> {
+        match S::fresh(self.supply.alloc) {
+            Ok(mut secondary) => self.run_on_both(primary, &mut secondary, reply),
+            Err(_) => Err(Stop::Memory),
+        }
+    }
+
+    // The same on these maps.
+    fn run_on_both(
+        &self,
+        primary: &mut M,
+        secondary: &mut S,
+        reply: &mut String,
+    ) -> Result<(), Stop> {
         self.supply.counts.begin_looks();
         for list in self.steps.split(|step| step.is_none()) {
             reply.clear();
-            self.run_list(&mut primary, &mut secondary, list, reply)?;
+            self.run_list(primary, secondary, list, reply)?;
         }
         Ok(())
     }
@@ -94,20 +138,36 @@ where
         reply: &mut String,
     ) -> Result<(), Stop> {
         let Supply { alloc, counts } = self.supply;
-        let mut commands = Vec::with_capacity(alloc, list.len())?;
-        for step in list {
-            if let Some(step) = step {
-                commands.push(C::of_step(step).ok_or(Stop::Unknown)?)?;
+        let commands = commands_of::<M, S, C>(alloc, list)?;
+        let count = commands.len();
+        match C::run(alloc, counts, primary, secondary, commands) {
+            Some(replies) => write_replies(reply, &replies, count),
+            None => Err(Stop::Memory),
+        }
+    }
+}
+
+// The commands of the steps of a list.
+fn commands_of<M, S, C: Joins<M, S>>(alloc: Global, list: &[Option<Step>]) -> Result<Vec<C>, Stop> {
+    let mut commands = Vec::with_capacity(alloc, list.len())?;
+    for step in list {
+        if let Some(step) = step {
+            match C::of_step(step) {
+                Some(command) => commands.push(command)?,
+                None => return Err(Stop::Unknown),
             }
         }
-        let count = commands.len();
-        let replies = C::run(alloc, counts, primary, secondary, commands).ok_or(Stop::Memory)?;
-        for told in &replies {
-            reply.clear();
-            write_reply(reply, told)?;
-        }
-        write_count(reply, replies.len(), count)
     }
+    Ok(commands)
+}
+
+// Writes the last reply to so many commands.
+fn write_replies(reply: &mut String, replies: &[Reply], count: usize) -> Result<(), Stop> {
+    for told in replies {
+        reply.clear();
+        write_reply(reply, told)?;
+    }
+    write_count(reply, replies.len(), count)
 }
 
 impl<'a, M, S, C> Subject for Runs<'a, M, S, C>
@@ -124,7 +184,7 @@ where
 
     fn call(&mut self, call: &Call<'_>, _list: &[Word], reply: &mut String) -> Result<(), Stop> {
         let before = self.steps.len();
-        let added = self.add(call, reply);
+        let added = self.serve(call, reply);
         if added.is_err() {
             self.steps.truncate(before);
         }
