@@ -25,7 +25,7 @@ pub use Rattle.slotmap_bounded.specs.Bounded.{capacity_with}
 pub use Rattle.slotmap_bounded.specs.Indices.{AreIndices, HasKey, HaveIndices, found_at, key_at, keys_at}
 pub use Rattle.slotmap_bounded.proofs.Alone.{len_alike}
 pub use Rattle.slotmap_bounded.proofs.Changed.{changed_gives, changed_here, changed_keeps, changed_other}
-pub use Rattle.slotmap_bounded.proofs.Counts.{is_itself, no_more_than, one_itself, one_other, times_first, times_gone, times_joined, times_pushed, times_without, without_none, without_pushed}
+pub use Rattle.slotmap_bounded.proofs.Counts.{as_many, is_itself, no_more_than, one_itself, one_other, times_first, times_gone, times_joined, times_pushed, times_without, without_none, without_pushed}
 pub use Rattle.slotmap_bounded.proofs.Linking.{in_midst, none_last}
 pub use Rattle.slotmap_bounded.proofs.MapKeys.{key_live, key_there, keys_once}
 pub use Rattle.slotmap_bounded.proofs.Mapped.{entries-made, get-made, made, some-mapped}

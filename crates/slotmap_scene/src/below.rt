@@ -1,6 +1,6 @@
 //! The nodes below a node.
 
-ghost use Rattle.std.specs.Prelude.{◌≡◌, ◌≢◌, ◌<◌, ◌≤◌, ◌∷◌, [], Some, IfOk, option_map, map as list_map};
+ghost use Rattle.std.specs.Prelude.{◌≡◌, ◌≢◌, ◌<◌, ◌≤◌, ◌∷◌, [], Some, IfOk, length, option_map, map as list_map};
 ghost use Rattle.std.specs.Iterator.{YieldsFirstBy, item_count};
 ghost use Rattle.std.specs.List.{All};
 ghost use Rattle.slotmap.specs.Words.{Key as KeyOf};
@@ -114,6 +114,7 @@ impl<K: Key, T: Drop> Scene<K, T> {
     /// assert_eq!(rt; below.next(), None);
     /// ```
     pub fn keys_below(&self, node: K) -> KeysBelow<'_, K, T>
+        ensures list { result ≡ all_below self.now.live (K.data_of node) }
         ensures order { GoesDown self.now.live (children_of self.now.live (K.data_of node)) result }
 
         // Each node below it, and no other, is there once.
@@ -132,9 +133,9 @@ impl<K: Key, T: Drop> Scene<K, T> {
     /// Returns the keys of the nodes below a node, depth-first: each node comes before those below it,
     /// and the children of each in their order.
     ///
-    /// The node itself isn't among them, and a node that doesn't exist has none. If memory runs out, the
-    /// call fails; [`Scene::keys_below`] needs none. It takes time linear in the number of keys that it
-    /// returns.
+    /// The node itself isn't among them, and a node that doesn't exist has none. They are those that
+    /// [`Scene::keys_below`] yields. If memory runs out, the call fails; `keys_below` needs none. It takes
+    /// time linear in the number of keys that it returns.
     ///
     /// ```
     /// let mut scene: Scene<DefaultKey, &str> = Scene::new(alloc)?;
@@ -145,6 +146,8 @@ impl<K: Key, T: Drop> Scene<K, T> {
     /// assert_eq!(rt; scene.descendants(car)?.as_slice(), [door, handle, wheel].as_slice());
     /// ```
     pub fn descendants(&self, node: K) -> Result<Vec<K>, AllocError>
+        ensures list { IfOk result (λ keys. list_map K.data_of keys.items ≡ all_below self.now.live (K.data_of node)) }
+        ensures count { IfOk result (λ keys. length keys.items ≡ length (all_below self.now.live (K.data_of node))) }
         ensures order { IfOk result (λ keys. GoesDown self.now.live (children_of self.now.live (K.data_of node)) (list_map K.data_of keys.items)) }
 
         // Each node below it, and no other, is there once.

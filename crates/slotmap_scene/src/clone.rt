@@ -11,7 +11,7 @@ use std::alloc::AllocError;
 use std::marker::PhantomData;
 
 impl<T: Clone> Clone for Nodes<T> {
-    ghost is_clone = { IsCloneBy (IsNodeClone T.is_clone) };
+    ghost is_clone = { λ nodes copy. IsCloneBy (IsNodeClone T.is_clone) nodes copy × (copy.capacity ≡ nodes.capacity) × (copy.room ≡ nodes.room) };
 
     fn clone(&self) -> Result<Self, AllocError> {
         Ok(Nodes {
@@ -25,8 +25,9 @@ impl<T: Clone> Clone for Nodes<T> {
 impl<K: Key, T: Clone> Scene<K, T> {
     /// Returns a copy of the scene: the same trees, with clones of the values under the same keys.
     ///
-    /// Both scenes will return the same new keys. If memory runs out, or the clone of a value fails, the
-    /// call fails, and what was copied is dropped. It takes time linear in the capacity.
+    /// Both scenes will return the same new keys. The copy has the same room and the same capacity. If
+    /// memory runs out, or the clone of a value fails, the call fails, and what was copied is dropped. It
+    /// takes time linear in the capacity.
     ///
     /// ```
     /// let mut scene: Scene<DefaultKey, u64> = Scene::new(alloc)?;
@@ -38,6 +39,8 @@ impl<K: Key, T: Clone> Scene<K, T> {
     pub fn clone(&self) -> Result<Self, AllocError>
         ensures clones { IfOk result (IsCloneBy (IsNodeClone T.is_clone) self.now) }
         ensures copies_if_clones_equal { IfOk result (λ copy. ClonesEqual T.is_clone → IsCopy self.now copy) }
+        ensures capacity { IfOk result (λ copy. copy.capacity ≡ self.now.capacity) }
+        ensures room { IfOk result (λ copy. copy.room ≡ self.now.room) }
     {
         Ok(Scene {
             alloc: self.alloc,

@@ -1,7 +1,8 @@
 //! The transforms of all nodes in the coordinates of their roots, in one pass from the roots down.
 
-ghost use Rattle.std.specs.Prelude.{◌≡◌, ◌<◌, ◌≤◌, ◌++◌, [], IfOk, OnOk};
+ghost use Rattle.std.specs.Prelude.{◌≡◌, ◌<◌, ◌≤◌, ◌++◌, [], IfOk, OnOk, length};
 ghost use Rattle.std.specs.List.{All};
+ghost use Rattle.std.specs.FinMap as map;
 ghost use Rattle.slotmap.specs.Words.{Key as KeyOf};
 ghost use Rattle.slotmap_bounded.specs.KeyLists.{times};
 ghost use Rattle.slotmap_scene.specs.Above.{roots_in};
@@ -76,6 +77,7 @@ impl<K: Key, T: HasTransform + Drop> Scene<K, T> {
         ensures all { IfOk result (λ all. (k : KeyOf) → has_node self.now.live k → 0 < times k (keys_of_pairs K.data_of all.items)) }
         ensures only { IfOk result (λ all. (k : KeyOf) → 0 < times k (keys_of_pairs K.data_of all.items) → has_node self.now.live k) }
         ensures once { IfOk result (λ all. (k : KeyOf) → times k (keys_of_pairs K.data_of all.items) ≤ 1) }
+        ensures count { IfOk result (λ all. length all.items ≡ map.len self.now.live) }
     {
         let mut all = Vec::with_capacity(self.alloc, self.len())?;
         self.push_roots(&mut all)?;

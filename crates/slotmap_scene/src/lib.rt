@@ -30,8 +30,10 @@
 //! - [`Scene::remove`] takes time linear in the number of nodes that it removes, and
 //!   [`Scene::descendants`] in the number of those that it lists. So do all steps of
 //!   [`Scene::keys_below`] together, and one of them at most in the depth of the trees.
-//! - [`Scene::clear`], [`Scene::clone`], [`Scene::with_capacity`] and [`Scene::with_capacity_and_key`]
-//!   take time linear in the capacity.
+//! - [`Scene::clear`] takes time linear in the number of slots that have had a node. It also resets the
+//!   ends of the list of children of each node that there is room for, 12 bytes a node.
+//! - [`Scene::clone`], [`Scene::with_capacity`] and [`Scene::with_capacity_and_key`] take time linear in
+//!   the capacity.
 //! - [`Scene::world_transforms`] takes time linear in the number of slots. So do all steps of
 //!   [`Scene::iter`], [`Scene::keys`], [`Scene::values`] or [`Scene::roots`] together.
 //!

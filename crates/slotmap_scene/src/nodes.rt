@@ -181,6 +181,9 @@ impl<K: Key, T: Drop> Scene<K, T> {
     /// Removes all nodes. Their keys, and those that were spent before, are never used again. No room is
     /// lost, and the capacity stays.
     ///
+    /// It takes time linear in the number of slots that have had a node. It also resets the ends of the list
+    /// of children of each node that there is room for, 12 bytes a node.
+    ///
     /// ```
     /// let mut scene: Scene<DefaultKey, &str> = Scene::new(alloc)?;
     /// let car = scene.add_root("car")?;

@@ -1,22 +1,23 @@
-use Rattle.std.proofs.Common.{◌++◌, ◌≢◌}
-use Rattle.slotmap_scene.proofs.Common.{IsWithin, ap, append-nil, arith, common_steps, has_node, list_map, subst, ◌∙◌}
+use Rattle.std.proofs.Common.{◌++◌, ◌≡◌, ◌≢◌}
+use Rattle.slotmap_scene.proofs.Common.{IsWithin, all_below, ap, append-nil, has_node, length, length-map, list_map, refl, subst, sym, ◌∙◌}
 use Rattle.slotmap_scene.proofs.Descending.{Descended, each_listed}
+use Rattle.slotmap_scene.proofs.KeyLoops.{passed}
 use Rattle.slotmap_scene.proofs.Scene.descendants.Goals as goal
 
 pub loop-key-init : goal.loop-key-init
-loop-key-init g c =
-    let e = c.keys_below-key-items.ensures in
-    (tt, tt, rw (c.new-below.ensures.items, c.into_iter-key-iterator.ensures.into_iter_gives) (record { order = e.order; all = e.all; only = e.only; once = e.once }))
+loop-key-init g c = (tt, tt, rw (c.new-below.ensures.items, c.into_iter-key-iterator.ensures.into_iter_gives) c.keys_below-key-items.ensures.list)
 
 pub loop-key-preserved : goal.loop-key-preserved
-loop-key-preserved g c = grind (arith, common_steps, c.in-Some.ensures.steps, c.in_ok-push.ensures.items, c.loop-key.invariant.2)
+loop-key-preserved g c = (tt, tt, passed _ _ _ c.in-Some.ensures.steps g.K.Key.data_of _ _ _ refl c.in_ok-push.ensures.items ∙ c.loop-key.invariant.2)
 
 pub returns : goal.returns
 returns g c =
-    let listed = list_map g.K.Key.data_of c.loop-key.below.items in
-    let all = ap (λ l. listed ++ l) c.in-None.ensures.steps.0 ∙ append-nil listed in
+    let items = c.loop-key.below.items in
+    let listed = list_map g.K.Key.data_of items in
     let nodes = c.args.self.now.live in
     let node = g.K.Key.data_of c.args.node in
-    let done = subst (Descended nodes node) all c.loop-key.invariant.2 in
+    let below = c.keys_below-key-items.ensures in
+    let is : listed ≡ all_below nodes node = sym (ap (λ l. listed ++ l) c.in-None.ensures.steps.0 ∙ append-nil listed) ∙ c.loop-key.invariant.2 in
+    let done = subst (Descended nodes node) (below.list ∙ sym is) (record { order = below.order; all = below.all; only = below.only; once = below.once }) in
     let only = each_listed g.K.Key.data_of (λ k. has_node nodes k × IsWithin nodes k node × (k ≢ node)) _ done.only in
-    record { order = done.order; all = done.all; only = only; once = done.once }
+    record { list = is; count = sym (length-map items g.K.Key.data_of) ∙ ap length is; order = done.order; all = done.all; only = only; once = done.once }

@@ -1,3 +1,4 @@
+use Rattle.slotmap_scene.proofs.Common.{refl}
 use Rattle.slotmap_scene.proofs.Descending.{below_all, below_once, below_only, below_order, walk_begins}
 use Rattle.slotmap_scene.proofs.Scene.keys_below.Goals as goal
 
@@ -8,4 +9,4 @@ pub returns : goal.returns
 returns g c =
     let scene = rw c.self.view_is at c.self.invariant in
     rw (walk_begins _ scene _ _ c.first_child.ensures.value).1
-    (record { order = below_order _ scene _; all = below_all _ scene _; only = below_only _ scene _; once = below_once _ scene _ })
+    (record { list = refl; order = below_order _ scene _; all = below_all _ scene _; only = below_only _ scene _; once = below_once _ scene _ })

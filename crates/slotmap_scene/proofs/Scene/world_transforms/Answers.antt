@@ -1,4 +1,4 @@
-use Rattle.slotmap_scene.proofs.Common.{ap, arith, get_or-map, length-map, rules, sym, ◌∙◌}
+use Rattle.slotmap_scene.proofs.Common.{ap, arith, as_many, get_or-map, length-map, rules, sym, ◌∙◌}
 use Rattle.slotmap_scene.proofs.ByLevel.{going_on, levels_all, levels_done, levels_live, levels_long, levels_once}
 use Rattle.slotmap_scene.proofs.ListedWorlds.{worlds_composed}
 use Rattle.slotmap_scene.proofs.Scene.world_transforms.Goals as goal
@@ -27,4 +27,6 @@ returns g c =
       all = levels_all _ scene _ _ c.loop-at.invariant.levels (omega arith);
       only = levels_live _ scene _ _ c.loop-at.invariant.levels;
       once = levels_once _ scene _ _ c.loop-at.invariant.levels;
+      count = sym same ∙ as_many _ _ (levels_once _ scene _ _ c.loop-at.invariant.levels) (levels_live _ scene _ _ c.loop-at.invariant.levels)
+          (levels_all _ scene _ _ c.loop-at.invariant.levels (omega arith));
     }

@@ -9,4 +9,4 @@ pub returns : goal.returns
 returns g c =
     let parents = each_same c.self.inside.parents.items c.in_ok-clone-2.field-0.items c.in_ok-clone-2.ensures.cases.0 in
     let copied = copied_seen c.self.invariant g.T.Clone.is_clone c.in_ok-clone.field-0 c.in_ok-clone.ensures.clones c.in_ok-clone.ensures.capacity in
-    rw (parents, c.in_ok-clone-3.ensures, ← c.self.view_is) (record { cases = copied })
+    rw (parents, c.in_ok-clone-3.ensures, ← c.self.view_is) (record { cases = (copied, c.in_ok-clone.ensures.capacity, c.in_ok-clone.ensures.room) })
