@@ -1,4 +1,4 @@
-//! A graph whose cycles are cut, and nodes without edges.
+//! A graph whose cycles are cut, nodes without edges, and sums of the values beside a node.
 
 ghost use Rattle.std.specs.Prelude.{◌≡◌, None, IfSome};
 ghost use Rattle.std.specs.FinMap as map;
@@ -23,6 +23,7 @@ pub fn cut(graph: &mut Graph<NodeKey, u64, u64>, alloc: Global) -> Option<EdgeKe
 /// Returns how many nodes there are if they have an order in which each edge goes forward. Else it removes
 /// an edge that closes a cycle, unless memory runs out.
 pub fn sort(graph: &mut Graph<NodeKey, u64, u64>, alloc: Global) -> Option<usize>
+    ensures count { IfSome result (λ count. count ≡ map.len graph.old.nodes.live) }
     ensures acyclic { IfSome result (λ _. HasCycle graph.old.edges.live → ⊥) }
     ensures nodes { graph.new.nodes ≡ graph.old.nodes }
 {
@@ -51,4 +52,22 @@ pub fn cleared(graph: &mut Graph<NodeKey, u64, u64>, node: NodeKey) -> usize
 {
     graph.clear();
     graph.out_degree(node)
+}
+
+/// Adds up the values of the nodes to which a node's edges lead.
+pub fn sum_next(graph: &Graph<NodeKey, u64, u64>, node: NodeKey) -> u64 {
+    let mut sum: u64 = 0;
+    for next in graph.neighbours_from(node) {
+        sum = sum.wrapping_add(graph[next]);
+    }
+    sum
+}
+
+/// Adds up the length of each of a node's outgoing edges, times the value at its end.
+pub fn sum_weighted(graph: &Graph<NodeKey, u64, u64>, node: NodeKey) -> u64 {
+    let mut sum: u64 = 0;
+    for (_, _, to, length) in graph.edge_references_from(node) {
+        sum = sum.wrapping_add(length.wrapping_mul(graph[to]));
+    }
+    sum
 }
