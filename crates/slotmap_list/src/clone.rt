@@ -10,8 +10,9 @@ use std::alloc::AllocError;
 impl<K: Key, T: Clone> StableList<K, T> {
     /// Returns a copy of the list, with clones of the values under the same cursors.
     ///
-    /// Both lists will return the same new cursors. If memory runs out, or the clone of a value fails, the
-    /// call fails, and what was copied is dropped. It takes time linear in the capacity.
+    /// Both lists will return the same new cursors. The copy has the same room and the same capacity. If
+    /// memory runs out, or the clone of a value fails, the call fails, and what was copied is dropped. It
+    /// takes time linear in the capacity.
     ///
     /// ```
     /// let mut list = StableList::new(alloc)?;
@@ -24,6 +25,8 @@ impl<K: Key, T: Clone> StableList<K, T> {
         ensures clones { IfOk result (λ copy. AreClones T.is_clone self.now.elements copy.elements) }
         ensures same_if_clones_equal { IfOk result (λ copy. ClonesEqual T.is_clone → copy.elements ≡ self.now.elements) }
         ensures cursors { IfOk result (λ copy. IsCopy self.now.cursors copy.cursors) }
+        ensures capacity { IfOk result (λ copy. copy.cursors.capacity ≡ self.now.cursors.capacity) }
+        ensures room { IfOk result (λ copy. copy.cursors.room ≡ self.now.cursors.room) }
     {
         Ok(StableList {
             values: self.values.clone()?,

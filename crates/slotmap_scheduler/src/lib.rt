@@ -250,7 +250,8 @@ impl<K: Key, T: Drop> Scheduler<K, T> {
         self.len() == 0
     }
 
-    /// Returns for how many jobs there is memory, in constant time.
+    /// Returns for how many jobs there is memory, in constant time. These are at least those that wait and
+    /// those for which there is room.
     ///
     /// ```
     /// let mut scheduler: Scheduler<DefaultKey, &str> = Scheduler::with_capacity(alloc, 2)?;
@@ -261,6 +262,7 @@ impl<K: Key, T: Drop> Scheduler<K, T> {
     /// ```
     pub fn capacity(&self) -> usize
         ensures value { result ≡ self.now.handles.capacity }
+        ensures fits { map.len self.now.handles.live + self.now.handles.room ≤ result }
         ensures valid { IsContent true self.now.handles }
     {
         self.jobs.capacity().min(self.heap.capacity())

@@ -13,3 +13,9 @@ returns-clause-same_if_clones_equal g c same = clones_are_same g.T.Clone.is_clon
 
 pub returns-clause-cursors : goal.returns-clause-cursors
 returns-clause-cursors g c = rw (← c.self.view_is) (alone-copy _ _ _ c.in_ok-clone.ensures.clones)
+
+pub returns-clause-capacity : goal.returns-clause-capacity
+returns-clause-capacity g c = rw (← c.self.view_is) c.in_ok-clone.ensures.capacity
+
+pub returns-clause-room : goal.returns-clause-room
+returns-clause-room g c = rw (← c.self.view_is) c.in_ok-clone.ensures.room
