@@ -68,6 +68,3 @@ pub use slotmap_run::primary::{run, run_detaching, run_detaching_new, run_new};
 pub use slotmap_run::secondary::run_secondary;
 pub use slotmap_secondary::SecondaryMap;
 pub use slotmap_sparse::SparseSecondaryMap;
-
-#[cfg(test)]
-mod tests;

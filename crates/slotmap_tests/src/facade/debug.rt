@@ -1,7 +1,7 @@
 //! What slots and `OrPut` print with `{:?}`. What maps, entries and iterators print is tested with their names.
 
 use super::text::{Text, hold_text};
-use crate::{OrPut, SlotRecord};
+use slotmap::{OrPut, SlotRecord};
 use std::alloc::Global;
 use std::test::Fail;
 

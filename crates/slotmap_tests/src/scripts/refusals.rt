@@ -1,7 +1,7 @@
 //! Replies that no small script produces, and maps that have fewer lines.
 
 ghost use Rattle.std.specs.Prelude.{if◌then◌else◌, nat_le, length, Some, None, IfSome, ⊤};
-ghost use Rattle.json_and_script_tests.specs.Words.{more_than_three};
+ghost use Rattle.slotmap_tests.specs.Words.{more_than_three};
 
 use slotmap_basic::SlotMap;
 use slotmap_core::commands::Reply;

@@ -1,7 +1,7 @@
 //! Memory that no process has: 4294967294 values of 1 MiB take more bytes than it can address. So a call that reserves room
 //! for them is refused, whatever the system promises.
 
-use crate::{
+use slotmap::{
     DefaultKey, DenseSlotMap, HopSlotMap, Primary, ReserveError, SecondaryMap, SlotMap,
     SparseSecondaryMap,
 };

@@ -1,7 +1,7 @@
 //! The message of each error, and what it prints with `{:?}`.
 
 use super::text::hold_text;
-use crate::{
+use slotmap::{
     InsertError, InsertWithError, JsonError, NoEntry, OutOfMemory, PutError, ReattachError,
     ReserveError, SlotsError, TryInsertError,
 };

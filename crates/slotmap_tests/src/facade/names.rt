@@ -1,8 +1,8 @@
-//! Names of this crate that no other test uses: the types of iterators and entries. The traits of the maps aren't in scope here, so
+//! Names of `slotmap` that no other test uses: the types of iterators and entries. The traits of the maps aren't in scope here, so
 //! each call is the map's own. What iterators print is tested here too.
 
 use super::text::{Text, hold_text, key, no_memory};
-use crate::{
+use slotmap::{
     DefaultKey, DenseSlotMap, HopSlotMap, Key, KeyData, NodeKey, OrPut, SecondaryMap, SlotMap,
     SparseSecondaryMap, basic, dense, hop, secondary, sparse_secondary,
 };

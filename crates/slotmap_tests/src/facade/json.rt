@@ -1,9 +1,9 @@
 //! A map whose values are keys, as JSON and back.
 
-use crate::{
+use serde_json::Value;
+use slotmap::{
     DefaultKey, Key, SlotMap, key_from_value, key_to_value, slots_from_value, slots_to_value,
 };
-use serde_json::Value;
 use std::alloc::Global;
 use std::test::Fail;
 

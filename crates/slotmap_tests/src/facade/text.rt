@@ -1,6 +1,6 @@
 //! Keys, errors and texts of the tests.
 
-use crate::{DefaultKey, KeyData};
+use slotmap::{DefaultKey, KeyData};
 use std::alloc::AllocError;
 use std::process::Abort;
 use std::test::Fail;

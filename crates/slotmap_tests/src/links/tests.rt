@@ -1,7 +1,7 @@
 //! Calls on their happy path. A function `.._well` says whether the calls of its test return what they should.
 
 ghost use Rattle.std.specs.Prelude.{◌≡◌, ◌∷◌, [], IfOk};
-ghost use Rattle.structure_tests.specs.Filled.{with_one};
+ghost use Rattle.slotmap_tests.specs.Filled.{with_one};
 
 use slotmap_links::Links;
 use std::alloc::Global;

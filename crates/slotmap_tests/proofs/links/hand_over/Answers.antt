@@ -1,7 +1,7 @@
 use Rattle.std.proofs.Common.{◌≡◌, ◌<◌, ◌++◌, ◌∷◌, [], ◌∙◌, ap, sym, subst, length, arith}
 use Rattle.slotmap_links.specs.Lists.{IsFree, list_of, with_list, without}
 use Rattle.slotmap_links.proofs.Callers.{list_now, list_other, owners_stay, taken_free}
-use Rattle.structure_tests.proofs.links.hand_over.Goals as goal
+use Rattle.slotmap_tests.proofs.links.hand_over.Goals as goal
 
 pub put_last-requires-clause-owner : goal.put_last-requires-clause-owner
 put_last-requires-clause-owner c = rw (c.take_out.ensures, owners_stay) c.requires.to

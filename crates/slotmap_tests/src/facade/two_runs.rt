@@ -1,10 +1,10 @@
 //! Runs one after the other on one map, each with closures of its own.
 
 ghost use Rattle.std.specs.Prelude.{◌++◌, IfSome, ⊤};
-ghost use Rattle.slotmap_core.specs.Words.{DetachLaws, Laws, NoKeyTwice, absent, known_from};
+ghost use Rattle.slotmap.specs.Words.{DetachLaws, Laws, NoKeyTwice, absent, known_from};
 
 use super::text::key;
-use crate::{
+use slotmap::{
     Command, DefaultKey, DetachCommand, Detaching, Key, Primary, Reply, SlotMap, run,
     run_detaching, run_detaching_new,
 };

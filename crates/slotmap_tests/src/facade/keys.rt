@@ -1,6 +1,6 @@
 //! Keys: their numbers, debug texts, order and hash.
 
-use crate::{DefaultKey, Key, KeyData, NodeKey, is_older_version};
+use slotmap::{DefaultKey, Key, KeyData, NodeKey, is_older_version};
 use std::alloc::Global;
 use std::collections::HashSet;
 use std::fmt::Debug;

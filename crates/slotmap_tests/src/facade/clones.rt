@@ -1,6 +1,6 @@
 //! A struct that holds maps derives `Clone`. Calls of `clone` itself are in `clones.rows` and `copies.rows`.
 
-use crate::{DefaultKey, DenseSlotMap, SlotMap};
+use slotmap::{DefaultKey, DenseSlotMap, SlotMap};
 use std::alloc::{AllocError, Global};
 use std::test::Fail;
 

@@ -1,8 +1,8 @@
 //! Iterators are cloned where values can't be.
 
 use super::text::{key, no_memory};
-use crate::{DefaultKey, DenseSlotMap, HopSlotMap, SecondaryMap, SlotMap, SparseSecondaryMap};
-use std::alloc::{AllocError, Global};
+use slotmap::{DefaultKey, DenseSlotMap, HopSlotMap, SecondaryMap, SlotMap, SparseSecondaryMap};
+use std::alloc::Global;
 use std::process::Abort;
 use std::test::Fail;
 
@@ -27,15 +27,17 @@ where
 }
 
 // Whether an iterator over two items and its clone after the first both yield the second one.
-fn is_cloned<I>(mut walk: I) -> Result<bool, AllocError>
+fn is_cloned<I>(mut walk: I) -> bool
 where
     I: Iterator + Clone,
     I::Item: Drop,
     requires always { (state : I) → I.can_next state }
 {
     let has_first = walk.next().is_some();
-    let copy = walk.clone()?;
-    Ok(has_first && has_one(copy) && has_one(walk))
+    match walk.clone() {
+        Ok(copy) => has_first & has_one(copy) & has_one(walk),
+        Err(_) => false,
+    }
 }
 
 /// A map of tickets, whose iterators are cloned.
@@ -44,12 +46,12 @@ trait Lends: Drop {
     fn two(alloc: Global) -> Result<Self, Fail>;
 
     /// Whether all iterators that it lends are cloned.
-    fn are_cloned(&self) -> Result<bool, AllocError>;
+    fn are_cloned(&self) -> bool;
 }
 
 macro_rules! are_cloned {
     ($map:expr) => {
-        Ok(is_cloned($map.iter())? && is_cloned($map.keys())? && is_cloned($map.values())?)
+        is_cloned($map.iter()) && is_cloned($map.keys()) && is_cloned($map.values())
     };
 }
 
@@ -61,7 +63,7 @@ impl Lends for SlotMap<DefaultKey, Ticket> {
         Ok(map)
     }
 
-    fn are_cloned(&self) -> Result<bool, AllocError> {
+    fn are_cloned(&self) -> bool {
         are_cloned!(self)
     }
 }
@@ -74,7 +76,7 @@ impl Lends for DenseSlotMap<DefaultKey, Ticket> {
         Ok(map)
     }
 
-    fn are_cloned(&self) -> Result<bool, AllocError> {
+    fn are_cloned(&self) -> bool {
         are_cloned!(self)
     }
 }
@@ -87,7 +89,7 @@ impl Lends for HopSlotMap<DefaultKey, Ticket> {
         Ok(map)
     }
 
-    fn are_cloned(&self) -> Result<bool, AllocError> {
+    fn are_cloned(&self) -> bool {
         are_cloned!(self)
     }
 }
@@ -100,7 +102,7 @@ impl Lends for SecondaryMap<DefaultKey, Ticket> {
         Ok(map)
     }
 
-    fn are_cloned(&self) -> Result<bool, AllocError> {
+    fn are_cloned(&self) -> bool {
         are_cloned!(self)
     }
 }
@@ -113,14 +115,14 @@ impl Lends for SparseSecondaryMap<DefaultKey, Ticket> {
         Ok(map)
     }
 
-    fn are_cloned(&self) -> Result<bool, AllocError> {
+    fn are_cloned(&self) -> bool {
         are_cloned!(self)
     }
 }
 
 fn hold_cloned<M: Lends>(rt: &impl Abort, alloc: Global) -> Result<(), Fail> {
     let map = M::two(alloc)?;
-    assert!(rt; map.are_cloned()?);
+    assert!(rt; map.are_cloned());
     Ok(())
 }
 
