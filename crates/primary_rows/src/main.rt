@@ -6,7 +6,7 @@
 //! more in two runs, by `run_new` and `run`. The result is the last reply. In `detaching-basic` and `detaching-dense` the runs are
 //! those of maps whose keys can be detached. The statuses are those of `run_program`.
 //!
-//! `slotmap_rows_primary` says which calls the maps have, and how keys, values and slots are written.
+//! `map_calls.rt` says which calls the maps have, and how keys, values and slots are written.
 //!
 //! Calls in runs: `insert V`, `insert_made`, `insert_many N` of the values from 1 on, `get K`, `contains_key K`, `replace K V`,
 //! `remove K`, `retain even`, `clear`, `drain_into`, `keys_into`, `len` and `reserve N`; where keys can be detached also `detach K`
@@ -16,14 +16,28 @@
 //! sum of its replies. A run that is refused is made once more with the commands that it hands back.
 #![tactic(auto)]
 
+mod basic;
+mod dense;
+mod detached;
+mod forms;
+mod held;
+mod hop;
+mod inserts;
+mod keyed;
+mod lists;
+mod many;
+mod map_calls;
+mod maps;
+mod packed;
 mod runs;
 mod script;
+mod sized;
 mod steps;
 
+use crate::map_calls::{hold_basic, hold_dense, hold_hop};
 use crate::runs::{Detachable, Plain, Runner, Runs};
 use slotmap::{DefaultKey, DenseSlotMap, HopSlotMap, SlotMap};
 use slotmap_rows::{File, Kinds, Number, Stop, run_program};
-use slotmap_rows_primary::{hold_basic, hold_dense, hold_hop};
 use std::io::Write;
 use std::process::ExitCode;
 

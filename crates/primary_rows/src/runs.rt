@@ -1,5 +1,6 @@
 //! Runs of commands held to rows.
 
+use crate::inserts::{Made, make};
 use crate::script::Script;
 use crate::steps::{Answer, Step, plain_command, read_step, write_answer};
 use slotmap::{
@@ -9,7 +10,6 @@ use slotmap::{
 use slotmap_rows::{
     Call, Number, Outcome, Stop, Subject, Sum, Supply, Word, Words, keep_even, look,
 };
-use slotmap_rows_primary::{Made, make};
 use std::marker::PhantomData;
 
 type Answers<'a> = Vec<Answer<'a>>;

@@ -1,9 +1,9 @@
 //! Calls on the entry of a key.
 
+use crate::held::{Change, Given, Held, Pair, Put, Told};
 use crate::maps::Maps;
 use slotmap::{DefaultKey, Key, Secondary};
 use slotmap_rows::{Number, Stop, write_key, write_option, write_pair};
-use slotmap_rows_secondary::{Change, Given, Held, Pair, Put, Told};
 
 impl<'a, M: Held<'a, H> + Secondary<DefaultKey, Number<'a>> + Clone, H: Copy> Maps<'a, M, H> {
     /// The calls on an entry.

@@ -1,9 +1,9 @@
 //! Calls on one key.
 
+use crate::held::{Held, Pair};
 use crate::maps::Maps;
 use slotmap::{DefaultKey, OrPut, PutError, Secondary};
 use slotmap_rows::{Number, Outcome, Stop, Way, taken, write_option, write_put};
-use slotmap_rows_secondary::{Held, Pair};
 
 impl<'a, M: Held<'a, H> + Secondary<DefaultKey, Number<'a>> + Clone, H: Copy> Maps<'a, M, H> {
     /// The calls on a key, or those on its entry.

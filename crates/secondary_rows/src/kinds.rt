@@ -1,12 +1,12 @@
 //! The kinds of maps and runs that rows are for.
 
+use crate::hashers::{Constant, NoHasher, Seed, Sparse};
 use crate::maps::Maps;
 use crate::plain::{Plain, PlainMap};
 use crate::runs::{Alone, Bench, Runs};
 use slotmap::sparse_secondary::DefaultHasher;
 use slotmap::{DefaultKey, SecondaryMap, SparseSecondaryMap};
 use slotmap_rows::{File, Kinds, Number, Stop};
-use slotmap_rows_secondary::{Constant, NoHasher, Seed, Sparse};
 use std::collections::hash_map::RandomState;
 use std::io::Write;
 

@@ -1,13 +1,14 @@
 //! Calls on lists, of pairs and of slots.
 
 use crate::call::read_pair;
+use crate::hashers::Pairs;
+use crate::held::{Held, Keep};
 use crate::maps::Maps;
 use slotmap::{DefaultKey, Secondary, SlotsError};
 use slotmap_rows::{
     Mode, Number, Outcome, Slots, Stop, Supply, Word, read_slots, write_put_three, write_put_two,
     write_slots,
 };
-use slotmap_rows_secondary::{Held, Keep, Pairs};
 
 impl<'a, M: Held<'a, H> + Secondary<DefaultKey, Number<'a>> + Clone, H: Copy> Maps<'a, M, H> {
     /// The calls that are given a list of words.

@@ -73,6 +73,8 @@
 mod call;
 mod entered;
 mod fresh;
+mod hashers;
+mod held;
 mod keyed;
 mod kinds;
 mod lists;
@@ -80,7 +82,11 @@ mod many;
 mod maps;
 mod plain;
 mod runs;
+mod secondary;
+mod shared;
 mod sized;
+mod sparse;
+mod walks;
 
 use crate::kinds::All;
 use slotmap_rows::run_program;

@@ -1,9 +1,10 @@
 //! Iterators, and calls on the whole map.
 
+use crate::held::Held;
 use crate::maps::Maps;
+use crate::walks::{Walked, write_walked};
 use slotmap::{DefaultKey, Secondary};
 use slotmap_rows::{Number, Outcome, Stop};
-use slotmap_rows_secondary::{Held, Walked, write_walked};
 
 impl<'a, M: Held<'a, H> + Secondary<DefaultKey, Number<'a>> + Clone, H: Copy> Maps<'a, M, H> {
     /// The iterators, or the other calls with a number.

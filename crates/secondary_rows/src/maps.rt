@@ -1,8 +1,8 @@
 //! The map of a row and the map set beside it.
 
+use crate::held::Held;
 use slotmap::{DefaultKey, Secondary};
 use slotmap_rows::{Call, Number, Outcome, Stop, Subject, Supply, Word, Words};
-use slotmap_rows_secondary::Held;
 use std::mem;
 
 /// The map of a row, and the map set beside it.

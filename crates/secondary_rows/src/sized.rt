@@ -1,9 +1,9 @@
 //! Calls on the size of a map, and calls that make one.
 
+use crate::held::Held;
 use crate::maps::Maps;
 use slotmap::{DefaultKey, Secondary};
 use slotmap_rows::{Number, Outcome, Stop, write_reserved};
-use slotmap_rows_secondary::Held;
 
 impl<'a, M: Held<'a, H> + Secondary<DefaultKey, Number<'a>> + Clone, H: Copy> Maps<'a, M, H> {
     /// The calls with a number that are no iterator's.

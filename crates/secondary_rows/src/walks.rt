@@ -1,4 +1,4 @@
-//! Iterators, step by step.
+//! Iterators, walked for so many steps. What one yields is a list, since the order of a sparse map is unspecified.
 
 ghost use Rattle.std.specs.Iterator.{IsFinite};
 

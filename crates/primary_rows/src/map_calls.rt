@@ -45,25 +45,9 @@
 //!
 //! Calls of `HopSlotMap` alone: `reads WALK N LEAST MOST`, with `iter`, `keys` or `values`, is whether N steps read a number of slots
 //! within bounds; a clone has to count as many.
-#![tactic(auto)]
-
-mod basic;
-mod dense;
-mod detached;
-mod forms;
-mod held;
-mod hop;
-mod inserts;
-mod keyed;
-mod lists;
-mod many;
-mod maps;
-mod packed;
-mod sized;
 
 use crate::held::Held;
 use crate::maps::Maps;
-pub use inserts::{Made, make};
 use slotmap::{DefaultKey, DenseSlotMap, HopSlotMap, Primary, SlotMap};
 use slotmap_rows::{File, Number, Stop};
 use std::io::Write;
