@@ -1,4 +1,4 @@
-use Rattle.slotmap_dense.proofs.Common.{subst, arith, common_steps, key_there, key_exchanged, IsDense, dense_written}
+use Rattle.slotmap_dense.proofs.Common.{refl, rules, subst, arith, common_steps, key_there, key_exchanged, IsDense, dense_written}
 use Rattle.slotmap_dense.proofs.DenseSlotMap.replace_disjoint.Goals as goal
 
 pub swap_value-requires : goal.swap_value-requires
@@ -17,7 +17,11 @@ loop-i-preserved g c =
     })
 
 pub loop-i-init : goal.loop-i-init
-loop-i-init g c = grind (arith, common_steps)
+loop-i-init g c = record {
+  well = c.note_valid.ensures;
+  capacity = refl;
+  done = record { can = c.can_replace.ensures.which.0 c.if-not-can_replace.false; long = refl; wrote = refl; taken = refl; rest = refl };
+}
 
 pub returns-clause-which : goal.returns-clause-which
 returns-clause-which g c = grind (arith, common_steps)
@@ -27,3 +31,12 @@ returns-clause-value g c = grind (arith, common_steps)
 
 pub returns-clause-ok : goal.returns-clause-ok
 returns-clause-ok g c = grind (arith, common_steps)
+
+pub returns-then-not-can_replace-clause-which : goal.returns-then-not-can_replace-clause-which
+returns-then-not-can_replace-clause-which g c = search rules
+
+pub returns-then-not-can_replace-clause-err : goal.returns-then-not-can_replace-clause-err
+returns-then-not-can_replace-clause-err g c = refl
+
+pub returns-then-not-can_replace-clause-unchanged : goal.returns-then-not-can_replace-clause-unchanged
+returns-then-not-can_replace-clause-unchanged g c = refl

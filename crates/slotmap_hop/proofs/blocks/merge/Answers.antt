@@ -1,5 +1,5 @@
 use Rattle.std.proofs.Common.{◌≡◌, ◌+◌, ◌-◌}
-use Rattle.slotmap_hop.proofs.Common.{common_steps, ◌∙◌, flags_kept, leads_kept, tails_kept, vacancy_kept, left_tails, front_leads, front_ready, back_ready, after_head, joins_between}
+use Rattle.slotmap_hop.proofs.Common.{◌∙◌, flags_kept, leads_kept, tails_kept, vacancy_kept, left_tails, front_leads, front_ready, back_ready, after_head, joins_between, refl}
 use Rattle.slotmap_hop.proofs.Common.{rules, true, arith, ends_kept, ready, prev_is, vacant_at, prev_at, end_at, all_links, first}
 use Rattle.slotmap_hop.proofs.blocks.merge.Goals.{After-prev_of-before, After-front_of-front}
 use Rattle.slotmap_hop.proofs.blocks.merge.Goals as goal
@@ -29,7 +29,10 @@ pub name_front-requires : goal.name_front-requires
 name_front-requires g c = search (rules, arith, front_there, vacancy_kept, flags_kept, back_ready)
 
 pub returns-clause-blocks : goal.returns-clause-blocks
-returns-clause-blocks g c = grind (arith, common_steps, joins_between, before)
+returns-clause-blocks g c =
+    rw (c.name_front.ensures.links, c.name_back.ensures.links)
+    (joins_between c.requires.can c.requires.right (all_links c.relink.new.slots) c.requires.left c.next_of-after.ensures c.back_of-back.ensures
+    (before g (goal.at.returns-clause-blocks g c).After-prev_of-before) c.relink.ensures.links c.relink.ensures.ends c.front_of-front.ensures c.prev_of-prev.ensures refl)
 
 pub back_of-back-requires : goal.back_of-back-requires
 back_of-back-requires g c = grind (arith, ready, first)

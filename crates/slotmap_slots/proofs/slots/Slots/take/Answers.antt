@@ -1,5 +1,5 @@
 use Rattle.std.proofs.Common.{◌≡◌, ◌+◌, ◌%◌, ◌^◌}
-use Rattle.slotmap_slots.proofs.Common.{nat_eq, last_version, is_some, head_fits, settled_present, settled_positive, settled_value, removed_last, removed_other}
+use Rattle.slotmap_slots.proofs.Common.{FitsEmpty-free, nat_eq, last_version, is_some, head_fits, settled_present, settled_positive, settled_value, removed_last, removed_other}
 use Rattle.slotmap_slots.proofs.Common.{true, false, ap, arith, eq-eqb, ne_eqb}
 use Rattle.slotmap_slots.proofs.slots.Slots.take.Goals.{Then-after-eq0, Else-after-eq0}
 use Rattle.slotmap_slots.proofs.slots.Slots.take.Goals as goal
@@ -22,7 +22,8 @@ take-requires-clause-there g c = rw c.idx-index.ensures.value (ap is_some (settl
 
 pub invariant_of-self : goal.invariant_of-self
 invariant_of-self g c =
-    grind (arith, removed_last c.self.invariant c.self.view_is c.args.key c.requires (last g (goal.at.invariant_of-self g c).Then-after-eq0), last g (goal.at.invariant_of-self g c).Then-after-eq0)
+    rw (c.take.ensures.left, c.take.ensures.same_room, c.idx-index.ensures.value)
+    (removed_last c.self.invariant c.self.view_is c.args.key c.requires (last g (goal.at.invariant_of-self g c).Then-after-eq0)).settled
 
 pub returns-then-after-eq0-clause-value : goal.returns-then-after-eq0-clause-value
 returns-then-after-eq0-clause-value g c = settled_value c.self.invariant c.self.view_is c.args.key c.requires _ c.idx-index.ensures.value _ c.take.ensures.value
@@ -42,7 +43,8 @@ take-payload-requires-clause-there g c = rw c.idx-index.ensures.value (ap is_som
 
 pub take-payload-requires-clause-out : goal.take-payload-requires-clause-out
 take-payload-requires-clause-out g c =
-    grind (arith, settled_present c.self.invariant c.self.view_is c.args.key c.requires, (settled_present c.self.invariant c.self.view_is c.args.key c.requires).odd, head_fits c.self.invariant.sound)
+    FitsEmpty-free _ _ (omega (arith, c.version-version.ensures.value, (settled_present c.self.invariant c.self.view_is c.args.key c.requires).odd)) (head_fits c.self.invariant.sound)
+    (λ e. omega (arith, e, c.if-after-eq0.false))
 
 pub invariant_of-self-2 : goal.invariant_of-self-2
 invariant_of-self-2 g c =
