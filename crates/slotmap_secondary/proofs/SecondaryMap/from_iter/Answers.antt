@@ -1,4 +1,4 @@
-use Rattle.slotmap_secondary.proofs.Common.{Pairs, AllPut, subst}
+use Rattle.slotmap_secondary.proofs.Common.{Pairs, AllPut, subst, arith, common_steps}
 use Rattle.slotmap_secondary.proofs.SecondaryMap.from_iter.Goals as goal
 
 pub returns-in-Err-clause-err : goal.returns-in-Err-clause-err
@@ -17,3 +17,9 @@ returns-in-Err-clause-err g c =
         beyond = c.in-Err.ensures.back;
       },
     )
+
+pub returns-in_default : goal.returns-in_default
+returns-in_default g c = grind (arith, common_steps)
+
+pub returns-in-Ok-extend : goal.returns-in-Ok-extend
+returns-in-Ok-extend g c = grind (arith, common_steps)

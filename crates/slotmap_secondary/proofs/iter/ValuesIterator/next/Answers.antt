@@ -18,3 +18,12 @@ invariant_of-self g c = grind (arith, common_steps)
 
 pub sure-requires : goal.sure-requires
 sure-requires g c = grind (arith, common_steps)
+
+pub returns-then-self-eq0-clause-steps : goal.returns-then-self-eq0-clause-steps
+returns-then-self-eq0-clause-steps g c = grind (arith, common_steps)
+
+pub returns-in-Occupied-clause-steps : goal.returns-in-Occupied-clause-steps
+returns-in-Occupied-clause-steps g c = grind (arith, common_steps)
+
+pub returns-in-Occupied-clause-goes : goal.returns-in-Occupied-clause-goes
+returns-in-Occupied-clause-goes g c = grind (arith, common_steps)
