@@ -2,14 +2,14 @@
 
 ghost use Rattle.std.specs.FinMap as map;
 ghost use Rattle.std.specs.Prelude.{◌≡◌, ◌∷◌, Some, IfSome, IfNone};
-ghost use Rattle.slotmap_core.specs.Words.{places};
-ghost use Rattle.slotmap_basic.specs.Drain.{DrainCanStep, drain_live};
+ghost use Rattle.slotmap_core.specs.Words.{EmptiesByIndex, InOrderAlong, KeepsAlong, KeepsLoan, ListsAlong, places};
+ghost use Rattle.slotmap_basic.specs.Drain.{DrainCanStep, DrainSteps, drain_live, drain_loan};
 
 use slotmap_basic::{Drain, SlotMap};
 use slotmap_core::keys::Key;
 
 /// A drain that is dropped before it yields anything removes every key.
-/// Refuses `drain_leaves_the_rest`: `ends` of its drop, and `map` of `drain`.
+/// Refuses `drain_leaves_the_rest`: `ends` of its drop, and `map` and `same_reference` of `drain`.
 pub fn dropped_drain_leaves_no_key<K: Key, V: Drop>(store: &mut SlotMap<K, V>)
     ensures { store.new.live ≡ map.empty }
 {
@@ -19,7 +19,7 @@ pub fn dropped_drain_leaves_no_key<K: Key, V: Drop>(store: &mut SlotMap<K, V>)
 /// It yields a live key with its value, and nothing only where no key is live. One that is dropped
 /// early removes every key. Detached keys, slots and capacity stay.
 /// Refuses `drain_answers_another_key`, `drain_reserves_at_each_step`, `drain_reserves_at_its_end`:
-/// `next_gives`, `ends` of its drop, and `map` of `drain`.
+/// `next_gives`, `ends` of its drop, and `map`, `same_reference` and `ready` of `drain`.
 pub fn early_dropped_drain_leaves_no_key<K: Key, V: Drop>(
     store: &mut SlotMap<K, V>,
 ) -> Option<(K, V)>
@@ -42,4 +42,19 @@ pub fn drain_yields_the_smallest_index<'a, K: Key, V: Drop>(
     ensures { IfSome result (λ pair. map.entries (drain_live pairs.old) ≡ (K.data_of pair.0, pair.1) ∷ map.entries (drain_live pairs.new)) }
 {
     pairs.next()
+}
+
+/// Guards of `drain`, for callers that take several pairs.
+pub fn drain_along<K: Key, V: Drop>(store: &mut SlotMap<K, V>) -> Drain<'_, K, V>
+    // The same map is lent after each step, and is emptied alike.
+    // Holds by `stays` of `drain`.
+    ensures drain_keeps_its_map { KeepsAlong (DrainSteps K.data_of) (KeepsLoan drain_loan EmptiesByIndex) result }
+    // The pairs that it yields, and those that the map still holds then, are those that it held.
+    // Holds by `lists` of `drain`.
+    ensures drain_yields_each_pair_once { ListsAlong K.data_of drain_live (DrainSteps K.data_of) result }
+    // They are yielded by ascending index.
+    // Holds by `in_order` of `drain`.
+    ensures drain_yields_by_index { InOrderAlong K.data_of drain_live (DrainSteps K.data_of) result }
+{
+    store.drain()
 }

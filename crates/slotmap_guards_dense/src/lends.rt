@@ -3,10 +3,12 @@
 ghost use Rattle.std.specs.FinMap as map;
 ghost use Rattle.std.specs.Prelude.{◌≡◌, ◌↔◌, ◌∷◌, [], Some, IfSome, IfNone, IsSome, List, length, zip, map as list_map};
 ghost use Rattle.slotmap_core.specs.Several.{CanReplace};
+ghost use Rattle.slotmap_core.specs.Words.{YieldsMutRefsInOrder};
 ghost use Rattle.slotmap_dense.specs.Dense.{value_of};
+ghost use Rattle.slotmap_dense.specs.IterMut.{values_mut_rest, values_mut_steps};
 
 use slotmap_core::keys::Key;
-use slotmap_dense::DenseSlotMap;
+use slotmap_dense::{DenseSlotMap, ValuesMut};
 
 /// The values of both keys are lent, in their order, exactly where both are live and differ.
 /// Refuses `get_disjoint_mut_lends_in_the_other_order`: `which` and `value` of `get_disjoint_mut`.
@@ -33,7 +35,8 @@ pub fn get_disjoint_unchecked_mut_lends_both_values<K: Key, V: Drop>(
 }
 
 /// A live key is lent with its value.
-/// Refuses `iter_mut_gives_another_key`: `in_order` of `iter_mut`, and `next_gives` of `IterMut`.
+/// Refuses `iter_mut_gives_another_key`: `in_order` and `ready` of `iter_mut`, and `next_gives` of
+/// `IterMut`.
 pub fn iter_mut_lends_a_live_key_with_its_value<K: Key, V: Drop>(
     store: &mut DenseSlotMap<K, V>,
 ) -> Option<(K, &mut V)>
@@ -85,4 +88,14 @@ pub fn values_mut_keeps_keys_and_slots<K: Key, V: Drop>(store: &mut DenseSlotMap
     ensures slots { store.new.content.next ≡ store.old.content.next }
 {
     store.values_mut();
+}
+
+/// It lends the values one after the other, in packed order.
+/// Holds by `runs` of `values_mut`.
+pub fn values_mut_runs_in_order<K: Key, V: Drop>(
+    store: &mut DenseSlotMap<K, V>,
+) -> ValuesMut<'_, K, V>
+    ensures { YieldsMutRefsInOrder (values_mut_steps {K = K} {V = V}) values_mut_rest }
+{
+    store.values_mut()
 }

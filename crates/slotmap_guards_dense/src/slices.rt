@@ -61,3 +61,13 @@ pub fn as_mut_slices_lends_the_values<K: Key, V: Drop>(
 {
     store.as_mut_slices()
 }
+
+/// So it is with the values of `as_mut_slices`.
+/// Holds by `writes_back` and `values` of `as_mut_slices`.
+pub fn values_move_beside_the_keys<K: Key, V: Drop>(store: &mut DenseSlotMap<K, V>)
+    ensures keys { store.new.keys ≡ store.old.keys }
+    ensures slots { store.new.content.next ≡ store.old.content.next }
+{
+    let (_, values) = store.as_mut_slices();
+    values.reverse();
+}

@@ -43,6 +43,12 @@ pub fn clone_from<K: Key, V: Clone + Drop>(
     // Where it fails, the map is as it was.
     // Holds by `unchanged` of `clone_from`.
     ensures failed_clone_from_changes_nothing { OnErr result (table.new ≡ table.old) }
+    // It has as many slots as the other.
+    // Holds by `places` of `clone_from`.
+    ensures clone_from_has_as_many_slots { OnOk result (table.new.places ≡ source.now.places) }
+    // Where clones equal their values, the map holds what the other holds.
+    // Holds by `copies_if_clones_equal` of `clone_from`.
+    ensures clone_from_equals_the_other { OnOk result (ClonesEqual V.is_clone → table.new.pairs ≡ source.now.pairs) }
 {
     table.clone_from(source)
 }

@@ -2,11 +2,11 @@
 
 ghost use Rattle.std.specs.Prelude.{◌≡◌, ◌≢◌, ◌≤◌, ◌↔◌, Some, OnSome, IfSome, IsSome, IsTrue, true, false};
 ghost use Rattle.slotmap_core.specs.Words.{get, contains_key, entry, bind, remove, is_null, vacant, no_entry, occupied};
-ghost use Rattle.slotmap_secondary.specs.Entry.{IsSideInPlace, side_entry_value};
+ghost use Rattle.slotmap_secondary.specs.Entry.{IsSideInPlace, IsWritten, entry_without, side_entry_key, side_entry_value};
 
 use slotmap_core::keys::Key;
 use slotmap_core::secondary::NoEntry;
-use slotmap_secondary::{Entry, SecondaryMap};
+use slotmap_secondary::{Entry, OccupiedEntry, SecondaryMap, VacantEntry};
 
 /// The null key has no entry, nor has a key that is older than the one at its index: the call
 /// returns `None`, and only then.
@@ -67,8 +67,8 @@ pub fn entry_with_room_needs_no_memory<K: Key, V: Drop>(
 
 /// An occupied entry keeps its value, and a vacant one gets the new one: what is written then is
 /// found under the key, and nothing else changes.
-/// Refuses `vacant_insert_puts_under_another_key`: `ok` of `try_entry`, and `writes_back` and
-/// `value` of `or_insert`.
+/// Refuses `vacant_insert_puts_under_another_key`: `ok` and `unchanged` of `try_entry`, and
+/// `writes_back` and `value` of `or_insert`.
 pub fn or_insert_puts_under_the_key<K: Key, V: Drop>(
     table: &mut SecondaryMap<K, V>,
     key: K,
@@ -181,8 +181,8 @@ pub fn occupied_entry_hands_its_value_on<K: Key, V: Drop>(
 }
 
 /// The closure of `and_modify` changes the value of the entry's key, and no other.
-/// Refuses `and_modify_changes_another_key`: `ok` of `try_entry`, and `value` and `same_writes` of
-/// `and_modify`.
+/// Refuses `and_modify_changes_another_key`: `ok` of `try_entry`, and `value`, `same_map`, `in_place` and
+/// `same_writes` of `and_modify`.
 pub fn modified_value_is_that_of_the_key<K: Key, V: Drop>(
     table: &mut SecondaryMap<K, V>,
     key: K,
@@ -208,5 +208,109 @@ pub fn vacant_entry_puts_under_its_key<K: Key, V: Drop>(
 {
     if let Ok(Entry::Vacant(found)) = table.try_entry(key) {
         *found.insert(value) = last;
+    }
+}
+
+/// The entry's key is shown.
+/// Holds by `ensures` of `key` of `Entry`.
+pub fn entry_shows_its_key<K: Key, V: Drop>(found: &Entry<'_, K, V>) -> K
+    ensures { result ≡ side_entry_key found.now }
+{
+    found.key()
+}
+
+/// The entry's key is shown.
+/// Holds by `ensures` of `key` of `VacantEntry`.
+pub fn vacant_entry_shows_its_key<K: Key, V: Drop>(found: &VacantEntry<'_, K, V>) -> K
+    ensures { result ≡ side_entry_key (Entry.Vacant found.now) }
+{
+    found.key()
+}
+
+/// The entry's key and value are shown.
+/// Holds by `ensures` of `key` and of `get` of `OccupiedEntry`.
+pub fn occupied_entry_shows_its_pair<'b, 'a, K: Key, V: Drop>(
+    found: &'b OccupiedEntry<'a, K, V>,
+) -> (K, &'b V)
+    requires { IsSideInPlace K.data_of (Entry.Occupied found.now) }
+    ensures key { result.0 ≡ side_entry_key (Entry.Occupied found.now) }
+    ensures value { side_entry_value K.data_of (Entry.Occupied found.now) ≡ Some result.1.now }
+{
+    (found.key(), found.get())
+}
+
+/// What is written through `get_mut` is the entry's value then.
+/// Holds by `writes_back` and `written` of `get_mut` of `OccupiedEntry`.
+pub fn occupied_entry_keeps_what_is_written<K: Key, V: Drop>(
+    found: &mut OccupiedEntry<'_, K, V>,
+    value: V,
+)
+    requires { IsSideInPlace K.data_of (Entry.Occupied found.old) }
+    ensures { IsWritten K.data_of (Entry.Occupied found.old) value (Entry.Occupied found.new) }
+{
+    *found.get_mut() = value;
+}
+
+/// What is inserted is the entry's value then.
+/// Holds by `written` of `insert` of `OccupiedEntry`.
+pub fn occupied_entry_keeps_what_is_inserted<K: Key, V: Drop>(
+    found: &mut OccupiedEntry<'_, K, V>,
+    value: V,
+) -> V
+    requires { IsSideInPlace K.data_of (Entry.Occupied found.old) }
+    ensures { IsWritten K.data_of (Entry.Occupied found.old) value (Entry.Occupied found.new) }
+{
+    found.insert(value)
+}
+
+/// The value that the key has is lent.
+/// Holds by `value` of `into_mut` of `OccupiedEntry`.
+pub fn occupied_entry_lends_its_value<'a, K: Key, V: Drop>(
+    found: OccupiedEntry<'a, K, V>,
+) -> &'a mut V
+    requires { IsSideInPlace K.data_of (Entry.Occupied found) }
+    ensures { side_entry_value K.data_of (Entry.Occupied found.entry) ≡ Some result.now }
+{
+    found.into_mut()
+}
+
+/// The entry is that of the same key, and its removal leaves the same.
+/// Holds by `key` and `same_removal` of `and_modify`.
+pub fn modified_entry_is_that_of_the_key<'a, K: Key, V: Drop>(
+    found: Entry<'a, K, V>,
+) -> Entry<'a, K, V>
+    requires { IsSideInPlace K.data_of found }
+    ensures key { side_entry_key result ≡ side_entry_key found.entry }
+    ensures removal { entry_without K.data_of result ≡ entry_without K.data_of found.entry }
+{
+    found.and_modify(|_| ())
+}
+
+/// So it is by `entry`, where a closure makes the value.
+/// Holds by `ok` of `entry`, and `writes_back` of `or_insert_with`.
+pub fn or_insert_with_puts_under_the_key<K: Key, V: Drop>(
+    table: &mut SecondaryMap<K, V>,
+    key: K,
+    value: V,
+    last: V,
+)
+    ensures { entry table.old.pairs (K.data_of key) ≢ no_entry → (K.data_of key).index ≤ table.old.capacity → table.new.pairs ≡ bind table.old.pairs (K.data_of key) last }
+{
+    if let Ok(Some(found)) = table.entry(key) {
+        *found.or_insert_with(|| value) = last;
+    }
+}
+
+/// So it is with the default value.
+/// Holds by `ok` of `try_entry`, and `writes_back` of `or_default`.
+pub fn or_default_puts_under_the_key<K: Key, V: Default + Drop>(
+    table: &mut SecondaryMap<K, V>,
+    key: K,
+    last: V,
+)
+    ensures { entry table.old.pairs (K.data_of key) ≢ no_entry → (K.data_of key).index ≤ table.old.capacity → table.new.pairs ≡ bind table.old.pairs (K.data_of key) last }
+{
+    if let Ok(found) = table.try_entry(key) {
+        *found.or_default() = last;
     }
 }

@@ -82,6 +82,9 @@ pub fn or_put<K: Key, V: Drop>(table: &mut SecondaryMap<K, V>, key: K, value: V)
     ensures or_put_makes_the_slots_of_a_placed_key_alone_placed { result ≡ OrPut.Placed → table.new.places ≡ max table.old.places ((K.data_of key).index + 1) }
     ensures or_put_makes_the_slots_of_a_placed_key_alone_capacity { (K.data_of key).index ≤ table.old.capacity → table.new.capacity ≡ table.old.capacity }
     ensures or_put_makes_the_slots_of_a_placed_key_alone_kept { result ≡ OrPut.Kept value → table.new ≡ table.old }
+    // No capacity is lost.
+    // Holds by `grows` of `or_put`.
+    ensures or_put_loses_no_capacity { table.old.capacity ≤ table.new.capacity }
 {
     table.or_put(key, value)
 }

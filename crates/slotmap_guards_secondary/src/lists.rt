@@ -3,7 +3,7 @@
 ghost use Rattle.std.specs.FinMap as map;
 ghost use Rattle.std.specs.Prelude.{◌≡◌, IfOk, IfErr, IsOk, length};
 ghost use Rattle.slotmap_core.specs.Words.{Key as KeyOf, IsCloneOf, ClonesEqual, start_live, Accepts, RefusesStart, get, keyed, side_list_limit};
-ghost use Rattle.slotmap_secondary.specs.Written.{WritesSide};
+ghost use Rattle.slotmap_secondary.specs.Written.{WritesSide, WritesSideClones};
 
 use slotmap_core::errors::{OutOfMemory, SlotsError};
 use slotmap_core::keys::Key;
@@ -20,6 +20,9 @@ pub fn to_slots<K: Key, V: Clone + Drop>(
     // Refuses `to_slots_leaves_place_0_out`, `to_slots_writes_the_next_version`,
     // `to_slots_writes_the_slots_in_reverse`: `writes_if_clones_equal` of `to_slots`.
     ensures to_slots_writes_each_slot { ClonesEqual V.is_clone → IfOk result (λ list. WritesSide table.now list.items) }
+    // The list is that of a copy, which has a clone under each key.
+    // Holds by `writes` of `to_slots`.
+    ensures to_slots_writes_a_copy { IfOk result (λ list. WritesSideClones V.is_clone table.now list.items) }
     // The list has a clone of each value, under its key.
     // Holds by `contents` of `to_slots`.
     ensures to_slots_clones_each_value { IfOk result (λ list. (key : KeyOf) → IsCloneOf V.is_clone (get table.now.pairs key) (map.get (start_live list.items) key)) }

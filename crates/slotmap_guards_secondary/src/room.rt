@@ -14,6 +14,9 @@ pub fn new<K: Key, V: Drop>(alloc: Global) -> Result<SecondaryMap<K, V>, Reserve
     // No key is in it.
     // Holds by `empty` of `new`.
     ensures new_makes_an_empty_map { IfOk result (λ made. (key : KeyOf) → get made.pairs key ≡ None) }
+    // It has the slot of index 0 alone.
+    // Holds by `places` of `new`.
+    ensures new_makes_one_slot { IfOk result (λ made. made.places ≡ 1) }
     // It fails only where memory runs out.
     // Refuses `new_asks_for_too_many`: `err` of `new`.
     ensures new_fails_for_memory_alone { IfErr result (λ error. error ≡ ReserveError.Memory) }
@@ -30,6 +33,9 @@ pub fn with_capacity<K: Key, V: Drop>(
     // Refuses `with_capacity_asks_for_one_place`: `capacity` and `empty` of `with_capacity`.
     ensures with_capacity_makes_room_capacity { IfOk result (λ made. capacity ≤ made.capacity) }
     ensures with_capacity_makes_room_empty { IfOk result (λ made. (key : KeyOf) → get made.pairs key ≡ None) }
+    // It has the slot of index 0 alone.
+    // Holds by `places` of `with_capacity`.
+    ensures with_capacity_makes_one_slot { IfOk result (λ made. made.places ≡ 1) }
     // It fails with `TooGreat` exactly above the limit.
     // Refuses `with_capacity_beyond_the_limit`: `err` and `fits` of `with_capacity`.
     ensures with_capacity_is_too_great_above_the_limit_alone_above { result ≡ Err ReserveError.TooGreat → most < capacity }

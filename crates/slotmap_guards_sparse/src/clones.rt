@@ -42,6 +42,9 @@ pub fn clone_from<K: Key, V: Clone + Drop>(
     // Where it fails, the map is as it was.
     // Holds by `unchanged` of `clone_from`.
     ensures failed_clone_from_changes_nothing { OnErr result (table.new ≡ table.old) }
+    // Where clones equal their values, the map holds what the other holds.
+    // Holds by `copies_if_clones_equal` of `clone_from`.
+    ensures clone_from_equals_the_other { OnOk result (ClonesEqual V.is_clone → table.new.pairs ≡ source.now.pairs) }
 {
     table.clone_from(source)
 }

@@ -1,14 +1,15 @@
 //! Entries of a key.
 
 ghost use Rattle.std.specs.FinMap as map;
-ghost use Rattle.std.specs.Prelude.{◌≡◌, ◌<◌, ◌↔◌, Some, None, IfOk, OnSome, IfSome, IsOk, IsSome, IsTrue, true, false};
+ghost use Rattle.std.specs.Prelude.{◌≡◌, ◌<◌, ◌≤◌, ◌↔◌, Some, None, IfOk, IfErr, OnSome, IfSome, IsOk, IsSome, IsTrue, true, false};
 ghost use Rattle.slotmap_core.specs.Words.{get, contains_key, entry, bind, remove, is_null, no_entry, occupied};
-ghost use Rattle.slotmap_sparse.specs.Entry.{IsSparseInPlace, sparse_entry_value};
+ghost use Rattle.slotmap_sparse.specs.Content.{room};
+ghost use Rattle.slotmap_sparse.specs.Entry.{IsSparseInPlace, IsWritten, entry_without, sparse_entry_key, sparse_entry_value};
 
 use slotmap_core::errors::{OutOfMemory, PutError};
 use slotmap_core::keys::Key;
 use slotmap_core::secondary::NoEntry;
-use slotmap_sparse::{Entry, SparseSecondaryMap};
+use slotmap_sparse::{Entry, OccupiedEntry, SparseSecondaryMap, VacantEntry};
 
 /// The null key has no entry, nor has a key that is older than the one at its index: the call
 /// returns `None`, and only then.
@@ -54,8 +55,8 @@ pub fn entry_never_fails<K: Key, V: Drop>(table: &mut SparseSecondaryMap<K, V>, 
 
 /// An occupied entry's key and value are returned, and the key is found no longer. Nothing else
 /// changes.
-/// Refuses `remove_entry_answers_another_key`: `ok` of `try_entry`, and `key`, `value` and
-/// `removes` of `remove_entry`.
+/// Refuses `remove_entry_answers_another_key`: `ok` of `try_entry`, and `key`, `value`, `removes` and
+/// `room` of `remove_entry`.
 pub fn remove_entry_takes_the_pair<K: Key, V: Drop>(
     table: &mut SparseSecondaryMap<K, V>,
     key: K,
@@ -63,6 +64,7 @@ pub fn remove_entry_takes_the_pair<K: Key, V: Drop>(
     ensures pair { IfSome result (λ pair. (K.data_of pair.0 ≡ K.data_of key) × (get table.old.pairs (K.data_of key) ≡ Some pair.1)) }
     ensures removed { OnSome result (table.new.pairs ≡ remove table.old.pairs (K.data_of key)) }
     ensures there { contains_key table.old.pairs (K.data_of key) ≡ true → is_null (K.data_of key) ≡ false → IsSome result }
+    ensures room { OnSome result (room table.old ≤ room table.new) }
 {
     match table.try_entry(key) {
         Ok(Entry::Occupied(found)) => Some(found.remove_entry()),
@@ -71,13 +73,14 @@ pub fn remove_entry_takes_the_pair<K: Key, V: Drop>(
 }
 
 /// The value is returned, and the key is found no longer. Nothing else changes.
-/// Holds by `ok` of `try_entry`, and `value` and `removes` of `remove`.
+/// Holds by `ok` of `try_entry`, and `value`, `removes` and `room` of `remove`.
 pub fn occupied_entry_removes_its_key<K: Key, V: Drop>(
     table: &mut SparseSecondaryMap<K, V>,
     key: K,
 ) -> Option<V>
     ensures value { IfSome result (λ value. get table.old.pairs (K.data_of key) ≡ Some value) }
     ensures removed { OnSome result (table.new.pairs ≡ remove table.old.pairs (K.data_of key)) }
+    ensures room { OnSome result (room table.old ≤ room table.new) }
 {
     match table.try_entry(key) {
         Ok(Entry::Occupied(found)) => Some(found.remove()),
@@ -215,4 +218,160 @@ pub fn or_default_keeps_the_value_of_the_key<'a, K: Key, V: Default + Drop>(
     ensures succeeds { (standing : V) → sparse_entry_value K.data_of found.entry ≡ Some standing → IsOk result }
 {
     found.or_default()
+}
+
+/// The entry's key is shown.
+/// Holds by `ensures` of `key` of `Entry`.
+pub fn entry_shows_its_key<K: Key, V: Drop>(found: &Entry<'_, K, V>) -> K
+    ensures { result ≡ sparse_entry_key found.now }
+{
+    found.key()
+}
+
+/// The entry's key is shown.
+/// Holds by `ensures` of `key` of `VacantEntry`.
+pub fn vacant_entry_shows_its_key<K: Key, V: Drop>(found: &VacantEntry<'_, K, V>) -> K
+    ensures { result ≡ sparse_entry_key (Entry.Vacant found.now) }
+{
+    found.key()
+}
+
+/// The entry's key and value are shown.
+/// Holds by `ensures` of `key` and of `get` of `OccupiedEntry`.
+pub fn occupied_entry_shows_its_pair<'b, 'a, K: Key, V: Drop>(
+    found: &'b OccupiedEntry<'a, K, V>,
+) -> (K, &'b V)
+    requires { IsSparseInPlace K.data_of (Entry.Occupied found.now) }
+    ensures key { result.0 ≡ sparse_entry_key (Entry.Occupied found.now) }
+    ensures value { sparse_entry_value K.data_of (Entry.Occupied found.now) ≡ Some result.1.now }
+{
+    (found.key(), found.get())
+}
+
+/// What is written through `get_mut` is the entry's value then.
+/// Holds by `writes_back` and `written` of `get_mut` of `OccupiedEntry`.
+pub fn occupied_entry_keeps_what_is_written<K: Key, V: Drop>(
+    found: &mut OccupiedEntry<'_, K, V>,
+    value: V,
+)
+    requires { IsSparseInPlace K.data_of (Entry.Occupied found.old) }
+    ensures { IsWritten K.data_of (Entry.Occupied found.old) value (Entry.Occupied found.new) }
+{
+    *found.get_mut() = value;
+}
+
+/// What is inserted is the entry's value then.
+/// Holds by `written` of `insert` of `OccupiedEntry`.
+pub fn occupied_entry_keeps_what_is_inserted<K: Key, V: Drop>(
+    found: &mut OccupiedEntry<'_, K, V>,
+    value: V,
+) -> V
+    requires { IsSparseInPlace K.data_of (Entry.Occupied found.old) }
+    ensures { IsWritten K.data_of (Entry.Occupied found.old) value (Entry.Occupied found.new) }
+{
+    found.insert(value)
+}
+
+/// The value that the key has is lent.
+/// Holds by `value` of `into_mut` of `OccupiedEntry`.
+pub fn occupied_entry_lends_its_value<'a, K: Key, V: Drop>(
+    found: OccupiedEntry<'a, K, V>,
+) -> &'a mut V
+    requires { IsSparseInPlace K.data_of (Entry.Occupied found) }
+    ensures { sparse_entry_value K.data_of (Entry.Occupied found.entry) ≡ Some result.now }
+{
+    found.into_mut()
+}
+
+/// The entry is that of the same key, and its removal leaves the same.
+/// Holds by `key` and `same_removal` of `and_modify`.
+pub fn modified_entry_is_that_of_the_key<'a, K: Key, V: Drop>(
+    found: Entry<'a, K, V>,
+) -> Entry<'a, K, V>
+    requires { IsSparseInPlace K.data_of found }
+    ensures key { sparse_entry_key result ≡ sparse_entry_key found.entry }
+    ensures removal { entry_without K.data_of result ≡ entry_without K.data_of found.entry }
+{
+    found.and_modify(|_| ())
+}
+
+/// A key with no entry changes nothing.
+/// Holds by `unchanged` and `which` of `try_entry`.
+pub fn refused_entry_changes_nothing<K: Key, V: Drop>(
+    table: &mut SparseSecondaryMap<K, V>,
+    key: K,
+    value: V,
+)
+    ensures { entry table.old.pairs (K.data_of key) ≡ no_entry → table.new ≡ table.old }
+{
+    if let Ok(found) = table.try_entry(key) {
+        let _ = found.or_insert(value);
+    }
+}
+
+/// By `entry`, a key that has a value is removed.
+/// Holds by `which` and `ok` of `entry`.
+pub fn entry_is_that_of_the_key<K: Key, V: Drop>(
+    table: &mut SparseSecondaryMap<K, V>,
+    key: K,
+) -> Option<V>
+    ensures { OnSome result (table.new.pairs ≡ remove table.old.pairs (K.data_of key)) }
+{
+    match table.entry(key) {
+        Ok(Some(Entry::Occupied(found))) => Some(found.remove()),
+        _ => None
+    }
+}
+
+/// The closure of `and_modify` changes the value of the entry's key, and no other.
+/// Holds by `ok` of `try_entry`, and `value`, `same_map`, `in_place` and `same_writes` of `and_modify`.
+pub fn modified_value_is_that_of_the_key<K: Key, V: Drop>(
+    table: &mut SparseSecondaryMap<K, V>,
+    key: K,
+    value: V,
+    last: V,
+)
+    requires absent { map.get table.old.pairs (K.data_of key).index ≡ None }
+    requires not_null { is_null (K.data_of key) ≡ false }
+    requires room { map.len table.old.pairs < table.old.capacity }
+    ensures { table.new.pairs ≡ bind table.old.pairs (K.data_of key) last }
+{
+    if let Ok(found) = table.try_entry(key) {
+        if let Ok(place) = found.and_modify(|_| ()).or_insert(value) {
+            *place = last;
+        }
+    }
+}
+
+/// A key at whose index nothing stands gets the value, where there is room, through its vacant entry.
+/// Holds by `ok` of `try_entry`, and `writes_back` and `room` of `insert` of `VacantEntry`.
+pub fn vacant_entry_puts_under_its_key<K: Key, V: Drop>(
+    table: &mut SparseSecondaryMap<K, V>,
+    key: K,
+    value: V,
+    last: V,
+)
+    requires absent { map.get table.old.pairs (K.data_of key).index ≡ None }
+    requires not_null { is_null (K.data_of key) ≡ false }
+    requires room { map.len table.old.pairs < table.old.capacity }
+    ensures { table.new.pairs ≡ bind table.old.pairs (K.data_of key) last }
+{
+    if let Ok(Entry::Vacant(found)) = table.try_entry(key) {
+        if let Ok(place) = found.insert(value) {
+            *place = last;
+        }
+    }
+}
+
+/// The new value is lent, or comes back.
+/// Holds by `value` and `err` of `insert` of `VacantEntry`.
+pub fn vacant_entry_lends_the_new_value<'a, K: Key, V: Drop>(
+    found: VacantEntry<'a, K, V>,
+    value: V,
+) -> Result<&'a mut V, PutError<V>>
+    requires { IsSparseInPlace K.data_of (Entry.Vacant found) }
+    ensures lent { IfOk result (λ place. place.now ≡ value) }
+    ensures back { IfErr result (λ error. error.0 ≡ value) }
+{
+    found.insert(value)
 }

@@ -1,13 +1,15 @@
 //! Many pairs at once.
 
 ghost use Rattle.std.specs.FinMap as map;
-ghost use Rattle.std.specs.Prelude.{◌≡◌, ◌≤◌, None, IfOk, IfErr, OnErr, List};
-ghost use Rattle.std.specs.Iterator.{Drains, IsFinite};
+ghost use Rattle.std.specs.Prelude.{◌≡◌, ◌≤◌, None, IfOk, IfErr, OnErr, List, Some};
+ghost use Rattle.std.specs.Iterator.{Drains, IsFinite, YieldsThen};
 ghost use Rattle.slotmap_core.specs.Words.{AllPut, Extends, ExtendsBy};
+ghost use Rattle.slotmap_sparse.specs.Extend.{LacksRoomForPair};
 
 use slotmap_core::keys::Key;
 use slotmap_sparse::SparseSecondaryMap;
 use std::alloc::Global;
+use std::hash::BuildHasher;
 
 /// Guards of `extend`.
 pub fn extend<K: Key, V: Drop, I: IntoIterator<Item = (K, V)>>(
@@ -21,7 +23,7 @@ pub fn extend<K: Key, V: Drop, I: IntoIterator<Item = (K, V)>>(
     ensures extend_puts_each_pair { (it : I.IntoIter) × I.into_iter_gives iter it × Extends K.data_of it table.old.pairs result table.new.pairs I.IntoIter.next_gives }
     // A pair comes back only if there was no memory for one more key, and nothing is at its index.
     // Refuses `extend_gives_up_though_there_is_room`, `extend_gives_up_at_an_older_pair_when_full`:
-    // `full` and `absent` of `extend`.
+    // `full`, `absent` and `capacity` of `extend`.
     ensures extend_gives_up_with_no_room_alone_full { OnErr result (table.old.capacity ≤ map.len table.new.pairs) }
     ensures extend_gives_up_with_no_room_alone_absent { IfErr result (λ back. map.get table.new.pairs (K.data_of back.0).index ≡ None) }
     ensures extend_gives_up_with_no_room_alone_capacity { table.old.capacity ≤ table.new.capacity }
@@ -29,29 +31,56 @@ pub fn extend<K: Key, V: Drop, I: IntoIterator<Item = (K, V)>>(
     table.extend(iter)
 }
 
-/// So it is of an iterator over references.
-/// Holds by the premise and `extends` of `extend_refs`.
-pub fn extend_refs_puts_each_pair<
-    'b,
-    K: Key,
-    V: Copy + Drop + 'b,
-    I: IntoIterator<Item = (K, &'b V)>,
->(table: &mut SparseSecondaryMap<K, V>, iter: I) -> Result<(), (K, V)>
+/// Guards of `extend_refs`.
+pub fn extend_refs<'b, K: Key, V: Copy + Drop + 'b, I: IntoIterator<Item = (K, &'b V)>>(
+    table: &mut SparseSecondaryMap<K, V>,
+    iter: I,
+) -> Result<(), (K, V)>
     requires { (it : I.IntoIter) → I.into_iter_gives iter it → I.IntoIter.can_next it × IsFinite (I.IntoIter.remaining it) }
-    ensures { (it : I.IntoIter) × I.into_iter_gives iter it × ExtendsBy K.data_of it table.old.pairs result table.new.pairs I.IntoIter.next_gives }
+    // So it is of an iterator over references.
+    // Holds by the premise and `extends` of `extend_refs`.
+    ensures extend_refs_puts_each_pair { (it : I.IntoIter) × I.into_iter_gives iter it × ExtendsBy K.data_of it table.old.pairs result table.new.pairs I.IntoIter.next_gives }
+    // Holds by `full`, `absent` and `capacity` of `extend_refs`.
+    ensures extend_refs_gives_up_with_no_room_alone_full { OnErr result (table.old.capacity ≤ map.len table.new.pairs) }
+    ensures extend_refs_gives_up_with_no_room_alone_absent { IfErr result (λ back. map.get table.new.pairs (K.data_of back.0).index ≡ None) }
+    ensures extend_refs_gives_up_with_no_room_alone_capacity { table.old.capacity ≤ table.new.capacity }
 {
     table.extend_refs(iter)
 }
 
-/// Each pair that the iterator yields is put into an empty map, one after the other.
-/// Holds by the premise and `ok` of `from_iter`.
-pub fn from_iter_puts_each_pair<K: Key, V: Drop, I: IntoIterator<Item = (K, V)> + Drop>(
+/// Guards of `from_iter`.
+pub fn from_iter<K: Key, V: Drop, I: IntoIterator<Item = (K, V)> + Drop>(
     alloc: Global,
     iter: I,
 ) -> Result<SparseSecondaryMap<K, V>, Option<(K, V)>>
     requires { (it : I.IntoIter) → I.into_iter_gives iter it → I.IntoIter.can_next it × IsFinite (I.IntoIter.remaining it) }
-    ensures { IfOk result (λ made. (it : I.IntoIter) × (pairs : List (K × V)) × I.into_iter_gives iter it
+    // Each pair that the iterator yields is put into an empty map, one after the other.
+    // Holds by the premise and `ok` of `from_iter`.
+    ensures from_iter_puts_each_pair { IfOk result (λ made. (it : I.IntoIter) × (pairs : List (K × V)) × I.into_iter_gives iter it
         × Drains I.IntoIter.next_gives it pairs × AllPut K.data_of map.empty pairs made.pairs) }
+    // A pair comes back whose key could be inserted, once those before it were put.
+    // Holds by `err` of `from_iter`.
+    ensures from_iter_gives_up_for_want_of_room { IfErr result (λ back. (pair : K × V) × (back ≡ Some pair) × (it : I.IntoIter) × (pairs : List (K × V)) × (rest : I.IntoIter)
+        × I.into_iter_gives iter it × YieldsThen I.IntoIter.next_gives it pairs (Some pair) rest × LacksRoomForPair K.data_of pairs pair) }
 {
     SparseSecondaryMap::from_iter(alloc, iter)
+}
+
+/// Guards of `from_iter_with_hasher`.
+pub fn from_iter_with_hasher<
+    K: Key,
+    V: Drop,
+    S: BuildHasher + Drop,
+    I: IntoIterator<Item = (K, V)> + Drop,
+>(alloc: Global, iter: I, hash_builder: S) -> Result<SparseSecondaryMap<K, V, S>, Option<(K, V)>>
+    requires { (it : I.IntoIter) → I.into_iter_gives iter it → I.IntoIter.can_next it × IsFinite (I.IntoIter.remaining it) }
+    // So it is with the caller's own hasher.
+    // Holds by the premise and `ok` of `from_iter_with_hasher`.
+    ensures from_iter_with_hasher_puts_each_pair { IfOk result (λ made. (it : I.IntoIter) × (pairs : List (K × V)) × I.into_iter_gives iter it
+        × Drains I.IntoIter.next_gives it pairs × AllPut K.data_of map.empty pairs made.pairs) }
+    // Holds by `err` of `from_iter_with_hasher`.
+    ensures from_iter_with_hasher_gives_up_for_want_of_room { IfErr result (λ back. (pair : K × V) × (back ≡ Some pair) × (it : I.IntoIter) × (pairs : List (K × V)) × (rest : I.IntoIter)
+        × I.into_iter_gives iter it × YieldsThen I.IntoIter.next_gives it pairs (Some pair) rest × LacksRoomForPair K.data_of pairs pair) }
+{
+    SparseSecondaryMap::from_iter_with_hasher(alloc, iter, hash_builder)
 }

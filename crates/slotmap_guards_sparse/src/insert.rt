@@ -55,6 +55,9 @@ pub fn insert<K: Key, V: Drop>(
     // No capacity is lost.
     // Holds by `capacity` of `insert`.
     ensures insert_loses_no_capacity { table.old.capacity ≤ table.new.capacity }
+    // For the null key it asks for no memory.
+    // Holds by `null` of `insert`.
+    ensures insert_of_the_null_key_asks_for_no_memory { is_null (K.data_of key) ≡ true → table.new.capacity ≡ table.old.capacity }
 {
     table.insert(key, value)
 }
@@ -82,6 +85,12 @@ pub fn or_put<K: Key, V: Drop>(table: &mut SparseSecondaryMap<K, V>, key: K, val
     // Where the index has a pair, the capacity stays.
     // Refuses `or_put_asks_for_memory_where_it_keeps`: `stood` of `or_put`.
     ensures or_put_over_a_pair_asks_for_no_memory { map.contains_key table.old.pairs (K.data_of key).index ≡ true → table.new.capacity ≡ table.old.capacity }
+    // No capacity is lost.
+    // Holds by `capacity` of `or_put`.
+    ensures or_put_loses_no_capacity { table.old.capacity ≤ table.new.capacity }
+    // For the null key it asks for no memory.
+    // Holds by `null` of `or_put`.
+    ensures or_put_of_the_null_key_asks_for_no_memory { is_null (K.data_of key) ≡ true → table.new.capacity ≡ table.old.capacity }
 {
     table.or_put(key, value)
 }

@@ -19,7 +19,7 @@ pub fn remove<K: Key, V: Drop>(table: &mut SparseSecondaryMap<K, V>, key: K) -> 
     // Holds by `removes` of `remove`.
     ensures remove_keeps_other_indices { (other : KeyOf) → other.index ≢ (K.data_of key).index → get table.new.pairs other ≡ get table.old.pairs other }
     // Where the key has no value, nothing changes.
-    // Holds by `removes` of `remove`.
+    // Holds by `value` and `unchanged` of `remove`.
     ensures removal_of_a_stale_key_changes_nothing { get table.old.pairs (K.data_of key) ≡ None → table.new ≡ table.old }
     // There is room for as many further keys.
     // Holds by `room` of `remove`.

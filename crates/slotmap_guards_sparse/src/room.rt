@@ -9,6 +9,7 @@ use slotmap_core::errors::ReserveError;
 use slotmap_core::keys::Key;
 use slotmap_sparse::SparseSecondaryMap;
 use std::alloc::Global;
+use std::hash::BuildHasher;
 
 /// Guards of `new`.
 pub fn new<K: Key, V: Drop>(alloc: Global) -> Result<SparseSecondaryMap<K, V>, ReserveError>
@@ -38,6 +39,40 @@ pub fn with_capacity<K: Key, V: Drop>(
     ensures with_capacity_is_too_great_above_the_limit_alone_memory { result ≡ Err ReserveError.Memory → capacity ≤ most_keys }
 {
     SparseSecondaryMap::with_capacity(alloc, capacity)
+}
+
+/// Guards of `with_hasher`.
+pub fn with_hasher<K: Key, V: Drop, S: BuildHasher + Drop>(
+    alloc: Global,
+    hash_builder: S,
+) -> Result<SparseSecondaryMap<K, V, S>, ReserveError>
+    // No key is in it.
+    // Holds by `empty` of `with_hasher`.
+    ensures with_hasher_makes_an_empty_map { IfOk result (λ made. (key : KeyOf) → get made.pairs key ≡ None) }
+    // It can't fail.
+    // Holds by `ok` of `with_hasher`.
+    ensures with_hasher_succeeds { IsOk result }
+{
+    SparseSecondaryMap::with_hasher(alloc, hash_builder)
+}
+
+/// Guards of `with_capacity_and_hasher`.
+pub fn with_capacity_and_hasher<K: Key, V: Drop, S: BuildHasher + Drop>(
+    alloc: Global,
+    capacity: usize,
+    hash_builder: S,
+) -> Result<SparseSecondaryMap<K, V, S>, ReserveError>
+    // There is memory for so many, and no key is in the map.
+    // Holds by `capacity` and `empty` of `with_capacity_and_hasher`.
+    ensures with_capacity_and_hasher_makes_room_capacity { IfOk result (λ made. capacity ≤ made.capacity) }
+    ensures with_capacity_and_hasher_makes_room_empty { IfOk result (λ made. (key : KeyOf) → get made.pairs key ≡ None) }
+    // It fails with `TooGreat` exactly above the limit.
+    // Holds by `err` and `fits` of `with_capacity_and_hasher`.
+    ensures with_capacity_and_hasher_is_too_great_above_the_limit_alone_above { result ≡ Err ReserveError.TooGreat → most_keys < capacity }
+    ensures with_capacity_and_hasher_is_too_great_above_the_limit_alone_within { OnOk result (capacity ≤ most_keys) }
+    ensures with_capacity_and_hasher_is_too_great_above_the_limit_alone_memory { result ≡ Err ReserveError.Memory → capacity ≤ most_keys }
+{
+    SparseSecondaryMap::with_capacity_and_hasher(alloc, capacity, hash_builder)
 }
 
 /// It is the number of keys.
