@@ -43,6 +43,20 @@ abbrev pub RefusesNext : {E : Type 0} → Content E → InsertWithError → Type
 RefusesNext entities insert.Full = used entities ≡ most
 RefusesNext entities insert.Memory = used entities < most
 
+-- the error of a spawn for which no room could be made
+abbrev pub refusal : {E C : Type 0} → InsertWithError → E → C → SpawnError E C
+refusal insert.Full entity c = NoKey entity c
+refusal insert.Memory entity c = NoMemory entity c
+
+-- the same error with one more component behind the one that it holds, and behind the two
+abbrev pub with_second : {E A B : Type 0} → SpawnError E A → B → SpawnError E (A × B)
+with_second (NoKey entity a) b = NoKey entity (a, b)
+with_second (NoMemory entity a) b = NoMemory entity (a, b)
+
+abbrev pub with_third : {E A B C : Type 0} → SpawnError E (A × B) → C → SpawnError E (A × B × C)
+with_third (NoKey entity both) c = NoKey entity (both.0, both.1, c)
+with_third (NoMemory entity both) c = NoMemory entity (both.0, both.1, c)
+
 -- a table once k has this component, and each other key what it had
 abbrev pub Gains : {C : Type 0} → Pairs C → Key → C → Pairs C → Type 0
 Gains old k c new = (get new k ≡ Some c) × ((q : Key) → q ≢ k → get new q ≡ get old q)

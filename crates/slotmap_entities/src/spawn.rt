@@ -3,7 +3,7 @@
 ghost use Rattle.std.specs.Prelude.{◌≡◌, ◌≢◌, ℕ, ◌+◌, ◌<◌, ◌≤◌, Some, None, false, IfOk, IsOk, OnOk, IfErr, OnErr};
 ghost use Rattle.std.specs.FinMap as map;
 ghost use Rattle.slotmap.specs.Words.{Key as KeyOf, Inserts, IsBeside, IsDense, IsSpent, Keeps, KeepsSpent, Appends, SameOrder, RefusesInsert, get, most, places, used};
-ghost use Rattle.slotmap_entities.specs.World.{RefusesNext, RefusesSpawn};
+ghost use Rattle.slotmap_entities.specs.World.{RefusesNext, RefusesSpawn, refusal};
 
 use crate::components::{ComponentOf, attach};
 use crate::{Apart, Kind, Table, Tables, World};
@@ -65,6 +65,16 @@ pub(crate) fn make_room<K: Key, E: Drop, M: Table<K>>(
     Ok(())
 }
 
+// The error of a spawn for which no room could be made.
+pub(crate) fn refused<E, C>(error: InsertWithError, entity: E, component: C) -> SpawnError<E, C>
+    ensures { result ≡ refusal error entity component }
+{
+    match error {
+        InsertWithError::Full => SpawnError::Full(entity, component),
+        InsertWithError::Memory => SpawnError::Memory(entity, component),
+    }
+}
+
 // Adds an entity, and a component beside it, into the table of its kind.
 pub(crate) fn spawn_with<K: Key, E: Drop, M: Table<K>>(
     entities: &mut DenseSlotMap<K, E>,
@@ -91,8 +101,7 @@ pub(crate) fn spawn_with<K: Key, E: Drop, M: Table<K>>(
 {
     match make_room(entities, table) {
         Ok(()) => {}
-        Err(InsertWithError::Full) => return Err(SpawnError::Full(entity, component)),
-        Err(InsertWithError::Memory) => return Err(SpawnError::Memory(entity, component)),
+        Err(error) => return Err(refused(error, entity, component)),
     }
     match entities.insert(entity) {
         Ok(key) => {

@@ -3,13 +3,23 @@
 ghost use Rattle.std.specs.Prelude.{◌≡◌, ◌≢◌, ℕ, ◌+◌, ◌<◌, ◌≤◌, Some, None, false, IfOk, IsOk, IfErr, OnErr};
 ghost use Rattle.std.specs.FinMap as map;
 ghost use Rattle.slotmap.specs.Words.{Key as KeyOf, Inserts, IsDense, IsSpent, Keeps, KeepsSpent, Appends, SameOrder, get, places};
-ghost use Rattle.slotmap_entities.specs.World.{Gains, OnlyLive, RefusesSpawn};
+ghost use Rattle.slotmap_entities.specs.World.{Gains, OnlyLive, RefusesSpawn, with_second};
 
 use crate::both::BothOf;
 use crate::components::{ComponentOf, attach};
-use crate::spawn::{SpawnError, make_room, spawn_with};
+use crate::spawn::{SpawnError, make_room, refused, spawn_with};
 use crate::{Apart, Kind, Table, Tables, World};
-use slotmap::{DenseSlotMap, InsertWithError, Key};
+use slotmap::{DenseSlotMap, Key};
+
+// The same error with the second component beside the first.
+fn beside<E, A, B>(error: SpawnError<E, A>, second: B) -> SpawnError<E, (A, B)>
+    ensures { result ≡ with_second error second }
+{
+    match error {
+        SpawnError::Full(entity, first) => SpawnError::Full(entity, (first, second)),
+        SpawnError::Memory(entity, first) => SpawnError::Memory(entity, (first, second)),
+    }
+}
 
 // Adds an entity, and a component beside it in each of two tables.
 pub(crate) fn spawn_with_both<K: Key, E: Drop, T: Tables<K>, A: Apart<K, T, B>, B: Kind<K, T>>(
@@ -43,16 +53,14 @@ pub(crate) fn spawn_with_both<K: Key, E: Drop, T: Tables<K>, A: Apart<K, T, B>, 
 {
     match make_room(entities, B::table_mut(tables)) {
         Ok(()) => {}
-        Err(InsertWithError::Full) => return Err(SpawnError::Full(entity, (first, second))),
-        Err(InsertWithError::Memory) => return Err(SpawnError::Memory(entity, (first, second))),
+        Err(error) => return Err(refused(error, entity, (first, second))),
     }
     match spawn_with(entities, A::table_mut(tables), entity, first) {
         Ok(key) => {
             let _ = attach(entities, B::table_mut(tables), key, second);
             Ok(key)
         }
-        Err(SpawnError::Full(entity, first)) => Err(SpawnError::Full(entity, (first, second))),
-        Err(SpawnError::Memory(entity, first)) => Err(SpawnError::Memory(entity, (first, second))),
+        Err(error) => Err(beside(error, second)),
     }
 }
 

@@ -3,13 +3,13 @@
 ghost use Rattle.std.specs.Prelude.{◌≡◌, ◌≢◌, ℕ, ◌+◌, ◌<◌, ◌≤◌, Some, None, false, IfOk, IsOk, IfErr, OnErr};
 ghost use Rattle.std.specs.FinMap as map;
 ghost use Rattle.slotmap.specs.Words.{Key as KeyOf, Inserts, IsDense, IsSpent, Keeps, KeepsSpent, Appends, SameOrder, get, places};
-ghost use Rattle.slotmap_entities.specs.World.{Gains, OnlyLive, RefusesSpawn};
+ghost use Rattle.slotmap_entities.specs.World.{Gains, OnlyLive, RefusesSpawn, with_third};
 
 use crate::components::{ComponentOf, attach};
-use crate::spawn::{SpawnError, make_room};
+use crate::spawn::{SpawnError, make_room, refused};
 use crate::spawn_both::spawn_with_both;
 use crate::{Apart, Table, Tables, World};
-use slotmap::{DenseSlotMap, InsertWithError, Key};
+use slotmap::{DenseSlotMap, Key};
 
 // Three components.
 type ThreeOf<K, T, A, B, C> = (
@@ -17,6 +17,16 @@ type ThreeOf<K, T, A, B, C> = (
     ComponentOf<K, T, B>,
     ComponentOf<K, T, C>,
 );
+
+// The same error with the third component beside the first two.
+fn beside<E, A, B, C>(error: SpawnError<E, (A, B)>, third: C) -> SpawnError<E, (A, B, C)>
+    ensures { result ≡ with_third error third }
+{
+    match error {
+        SpawnError::Full(entity, both) => SpawnError::Full(entity, (both.0, both.1, third)),
+        SpawnError::Memory(entity, both) => SpawnError::Memory(entity, (both.0, both.1, third)),
+    }
+}
 
 // Adds an entity, and a component beside it in each of three tables.
 fn spawn_with_three<
@@ -62,23 +72,14 @@ fn spawn_with_three<
 {
     match make_room(entities, C::table_mut(tables)) {
         Ok(()) => {}
-        Err(InsertWithError::Full) => return Err(SpawnError::Full(entity, (first, second, third))),
-        Err(InsertWithError::Memory) => return Err(SpawnError::Memory(
-            entity,
-            (first, second, third),
-        )),
+        Err(error) => return Err(refused(error, entity, (first, second, third))),
     }
     match spawn_with_both::<K, E, T, A, B>(entities, tables, entity, first, second) {
         Ok(key) => {
             let _ = attach(entities, C::table_mut(tables), key, third);
             Ok(key)
         }
-        Err(SpawnError::Full(entity, both)) => {
-            Err(SpawnError::Full(entity, (both.0, both.1, third)))
-        }
-        Err(SpawnError::Memory(entity, both)) => {
-            Err(SpawnError::Memory(entity, (both.0, both.1, third)))
-        }
+        Err(error) => Err(beside(error, third)),
     }
 }
 

@@ -1,4 +1,4 @@
-use Rattle.slotmap_entities.proofs.Common.{ap, rules, ◌∙◌, own_beside, table_live, inserted_live, kept_still, when_ok}
+use Rattle.slotmap_entities.proofs.Common.{ap, arith, rules, ◌∙◌, own_beside, table_live, inserted_live, kept_still, when_ok}
 use Rattle.std.proofs.Common.{◌+◌}
 use Rattle.slotmap_entities.proofs.spawn_both.spawn_with_both.Goals as goal
 
@@ -59,3 +59,39 @@ returns-in-Ok-spawn_with g c =
       capacity = search rules;
       valid = search rules;
     }
+
+pub returns-in-Err-spawn_with-clause-room : goal.returns-in-Err-spawn_with-clause-room
+returns-in-Err-spawn_with-clause-room g c has first second =
+    let was = c.table_mut-2.ensures.value ∙ g.met.A.Apart.first_kept c.args.tables.now c.make_room.new.table in
+    let keeps = c.in-Ok.ensures.keeps in
+    c.in-Err-spawn_with.ensures.room (omega (arith, has, keeps.room)) (rw (was, keeps.offer) first)
+
+pub returns-in-Err-spawn_with-clause-less_first_room : goal.returns-in-Err-spawn_with-clause-less_first_room
+returns-in-Err-spawn_with-clause-less_first_room g c i count fit =
+    let room = g.B.Kind.with_table c.args.tables.now c.make_room.new.table in
+    let was = c.table_mut-2.ensures.value ∙ g.met.A.Apart.first_kept c.args.tables.now c.make_room.new.table in
+    rw (g.met.A.Kind.table_put room c.spawn_with.new.table) (c.in-Err-spawn_with.ensures.less_room i count (rw was fit))
+
+pub returns-in-Err-spawn_with-clause-refused_first_room : goal.returns-in-Err-spawn_with-clause-refused_first_room
+returns-in-Err-spawn_with-clause-refused_first_room g c i count fit =
+    let room = g.B.Kind.with_table c.args.tables.now c.make_room.new.table in
+    let was = c.table_mut-2.ensures.value ∙ g.met.A.Apart.first_kept c.args.tables.now c.make_room.new.table in
+    rw (g.met.A.Kind.table_put room c.spawn_with.new.table) (c.in-Err-spawn_with.ensures.refused_room i count (rw was fit))
+
+pub returns-in-Err-spawn_with-clause-same_first : goal.returns-in-Err-spawn_with-clause-same_first
+returns-in-Err-spawn_with-clause-same_first g c =
+    let room = g.B.Kind.with_table c.args.tables.now c.make_room.new.table in
+    let was = c.table_mut-2.ensures.value ∙ g.met.A.Apart.first_kept c.args.tables.now c.make_room.new.table in
+    ap g.A.Table.Table.pairs (g.met.A.Kind.table_put room c.spawn_with.new.table) ∙ c.in-Err-spawn_with.ensures.same_components ∙ ap g.A.Table.Table.pairs was
+
+pub returns-in-Err-spawn_with-clause-refused_second_room : goal.returns-in-Err-spawn_with-clause-refused_second_room
+returns-in-Err-spawn_with-clause-refused_second_room g c i count fit =
+    let room = g.B.Kind.with_table c.args.tables.now c.make_room.new.table in
+    rw (g.met.A.Apart.second_kept room c.spawn_with.new.table, g.met.B.Kind.table_put c.args.tables.now c.make_room.new.table)
+    (c.in-Ok.ensures.same_room i count (rw c.table_mut.ensures.value fit))
+
+pub returns-in-Err-spawn_with-clause-same_second : goal.returns-in-Err-spawn_with-clause-same_second
+returns-in-Err-spawn_with-clause-same_second g c =
+    let room = g.B.Kind.with_table c.args.tables.now c.make_room.new.table in
+    ap g.B.Table.Table.pairs (g.met.A.Apart.second_kept room c.spawn_with.new.table ∙ g.met.B.Kind.table_put c.args.tables.now c.make_room.new.table)
+    ∙ c.in-Ok.ensures.same_components ∙ ap g.B.Table.Table.pairs c.table_mut.ensures.value

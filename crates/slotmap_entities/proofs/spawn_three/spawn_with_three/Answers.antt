@@ -76,64 +76,88 @@ returns-in-Ok-spawn_with_both g c =
       valid = search rules;
     }
 
--- where memory runs out for the entity or for one of the first two components, the third table has no less room
-pub returns-in-Err-Memory-spawn_with_both-clause-less_third_room : goal.returns-in-Err-Memory-spawn_with_both-clause-less_third_room
-returns-in-Err-Memory-spawn_with_both-clause-less_third_room g c i count fit =
+-- where the entity and the first two components are refused, the third table has no less room
+pub returns-in-Err-spawn_with_both-clause-less_third_room : goal.returns-in-Err-spawn_with_both-clause-less_third_room
+returns-in-Err-spawn_with_both-clause-less_third_room g c i count fit =
     let tables = c.args.tables.now in
     let m = c.make_room.new.table in
     let room = g.C.Kind.with_table tables m in
     let both = c.spawn_with_both.new.tables in
     let a = g.A.Kind.table both in
     let b = g.B.Kind.table both in
-    let given = c.in-Err-Memory-spawn_with_both.ensures in
+    let given = c.in-Err-spawn_with_both.ensures in
     let third_was = ap g.C.Kind.table given.kinds ∙ g.met.B.Apart.second_kept (g.A.Kind.with_table room a) b
     ∙ g.met.C.Apart.first_kept room a ∙ g.met.C.Kind.table_put tables m in
     rw third_was (g.met.C.Table.Table.fewer_fit m i i count (count + 1) (omega arith) (omega arith) (c.in-Ok.ensures.same_room i (count + 1) (rw c.table_mut.ensures.value fit)))
 
-pub returns-in-Err-Memory-spawn_with_both-clause-refused_third_room : goal.returns-in-Err-Memory-spawn_with_both-clause-refused_third_room
-returns-in-Err-Memory-spawn_with_both-clause-refused_third_room g c i count fit =
+pub returns-in-Err-spawn_with_both-clause-refused_third_room : goal.returns-in-Err-spawn_with_both-clause-refused_third_room
+returns-in-Err-spawn_with_both-clause-refused_third_room g c i count fit =
     let tables = c.args.tables.now in
     let m = c.make_room.new.table in
     let room = g.C.Kind.with_table tables m in
     let both = c.spawn_with_both.new.tables in
     let a = g.A.Kind.table both in
     let b = g.B.Kind.table both in
-    let given = c.in-Err-Memory-spawn_with_both.ensures in
+    let given = c.in-Err-spawn_with_both.ensures in
     let third_was = ap g.C.Kind.table given.kinds ∙ g.met.B.Apart.second_kept (g.A.Kind.with_table room a) b
     ∙ g.met.C.Apart.first_kept room a ∙ g.met.C.Kind.table_put tables m in
     rw third_was (c.in-Ok.ensures.same_room i count (rw c.table_mut.ensures.value fit))
 
-pub returns-in-Err-Memory-spawn_with_both-clause-same_third : goal.returns-in-Err-Memory-spawn_with_both-clause-same_third
-returns-in-Err-Memory-spawn_with_both-clause-same_third g c =
+pub returns-in-Err-spawn_with_both-clause-same_third : goal.returns-in-Err-spawn_with_both-clause-same_third
+returns-in-Err-spawn_with_both-clause-same_third g c =
     let tables = c.args.tables.now in
     let m = c.make_room.new.table in
     let room = g.C.Kind.with_table tables m in
     let both = c.spawn_with_both.new.tables in
     let a = g.A.Kind.table both in
     let b = g.B.Kind.table both in
-    let given = c.in-Err-Memory-spawn_with_both.ensures in
+    let given = c.in-Err-spawn_with_both.ensures in
     let third_was = ap g.C.Kind.table given.kinds ∙ g.met.B.Apart.second_kept (g.A.Kind.with_table room a) b
     ∙ g.met.C.Apart.first_kept room a ∙ g.met.C.Kind.table_put tables m in
     ap g.C.Table.Table.pairs third_was ∙ c.in-Ok.ensures.same_components ∙ ap g.C.Table.Table.pairs c.table_mut.ensures.value
 
-pub returns-in-Err-Memory-spawn_with_both-clause-refused_second_room : goal.returns-in-Err-Memory-spawn_with_both-clause-refused_second_room
-returns-in-Err-Memory-spawn_with_both-clause-refused_second_room g c i count fit =
-    c.in-Err-Memory-spawn_with_both.ensures.refused_second_room i count (rw (g.met.B.Apart.first_kept c.args.tables.now c.make_room.new.table) fit)
+pub returns-in-Err-spawn_with_both-clause-refused_second_room : goal.returns-in-Err-spawn_with_both-clause-refused_second_room
+returns-in-Err-spawn_with_both-clause-refused_second_room g c i count fit =
+    c.in-Err-spawn_with_both.ensures.refused_second_room i count (rw (g.met.B.Apart.first_kept c.args.tables.now c.make_room.new.table) fit)
 
-pub returns-in-Err-Memory-spawn_with_both-clause-same_second : goal.returns-in-Err-Memory-spawn_with_both-clause-same_second
-returns-in-Err-Memory-spawn_with_both-clause-same_second g c =
-    c.in-Err-Memory-spawn_with_both.ensures.same_second ∙ ap g.B.Table.Table.pairs (g.met.B.Apart.first_kept c.args.tables.now c.make_room.new.table)
+pub returns-in-Err-spawn_with_both-clause-same_second : goal.returns-in-Err-spawn_with_both-clause-same_second
+returns-in-Err-spawn_with_both-clause-same_second g c =
+    c.in-Err-spawn_with_both.ensures.same_second ∙ ap g.B.Table.Table.pairs (g.met.B.Apart.first_kept c.args.tables.now c.make_room.new.table)
 
-pub returns-in-Err-Memory-spawn_with_both-clause-kinds : goal.returns-in-Err-Memory-spawn_with_both-clause-kinds
-returns-in-Err-Memory-spawn_with_both-clause-kinds g c =
+pub returns-in-Err-spawn_with_both-clause-kinds : goal.returns-in-Err-spawn_with_both-clause-kinds
+returns-in-Err-spawn_with_both-clause-kinds g c =
     let tables = c.args.tables.now in
     let m = c.make_room.new.table in
     let room = g.C.Kind.with_table tables m in
     let both = c.spawn_with_both.new.tables in
     let a = g.A.Kind.table both in
     let b = g.B.Kind.table both in
-    let given = c.in-Err-Memory-spawn_with_both.ensures in
+    let given = c.in-Err-spawn_with_both.ensures in
     let third_was = ap g.C.Kind.table given.kinds ∙ g.met.B.Apart.second_kept (g.A.Kind.with_table room a) b
     ∙ g.met.C.Apart.first_kept room a ∙ g.met.C.Kind.table_put tables m in
     let moved = ap (λ t. g.B.Kind.with_table t b) (sym (g.met.C.Apart.any_order tables m a)) ∙ g.met.B.Apart.any_order (g.A.Kind.with_table tables a) b m in
     rw third_was (given.kinds ∙ moved)
+
+pub returns-in-Err-spawn_with_both-clause-room : goal.returns-in-Err-spawn_with_both-clause-room
+returns-in-Err-spawn_with_both-clause-room g c has first second third =
+    let tables = c.args.tables.now in
+    let m = c.make_room.new.table in
+    let keeps = c.in-Ok.ensures.keeps in
+    c.in-Err-spawn_with_both.ensures.room (omega (arith, has, keeps.room)) (rw (g.met.C.Apart.second_kept tables m, keeps.offer) first)
+    (rw (g.met.B.Apart.first_kept tables m, keeps.offer) second)
+
+pub returns-in-Err-spawn_with_both-clause-less_first_room : goal.returns-in-Err-spawn_with_both-clause-less_first_room
+returns-in-Err-spawn_with_both-clause-less_first_room g c i count fit =
+    c.in-Err-spawn_with_both.ensures.less_first_room i count (rw (g.met.C.Apart.second_kept c.args.tables.now c.make_room.new.table) fit)
+
+pub returns-in-Err-spawn_with_both-clause-less_second_room : goal.returns-in-Err-spawn_with_both-clause-less_second_room
+returns-in-Err-spawn_with_both-clause-less_second_room g c i count fit =
+    c.in-Err-spawn_with_both.ensures.less_second_room i count (rw (g.met.B.Apart.first_kept c.args.tables.now c.make_room.new.table) fit)
+
+pub returns-in-Err-spawn_with_both-clause-refused_first_room : goal.returns-in-Err-spawn_with_both-clause-refused_first_room
+returns-in-Err-spawn_with_both-clause-refused_first_room g c i count fit =
+    c.in-Err-spawn_with_both.ensures.refused_first_room i count (rw (g.met.C.Apart.second_kept c.args.tables.now c.make_room.new.table) fit)
+
+pub returns-in-Err-spawn_with_both-clause-same_first : goal.returns-in-Err-spawn_with_both-clause-same_first
+returns-in-Err-spawn_with_both-clause-same_first g c =
+    c.in-Err-spawn_with_both.ensures.same_first ∙ ap g.A.Table.Table.pairs (g.met.C.Apart.second_kept c.args.tables.now c.make_room.new.table)
