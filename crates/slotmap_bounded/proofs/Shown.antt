@@ -1,6 +1,6 @@
 -- What is known of a content, and of how a call changes it, where it has other live values under the same keys.
-use Rattle.std.proofs.Common.{◌≡◌, ◌≤◌, ℕ, ◌&&◌, ◌||◌, ◌⊎◌, Bool, List, Some, not, sym, ap, ◌∙◌, inl, inr, arith}
-use Rattle.slotmap.specs.Words.{Key, key_cmp, Content, IsContent, IsSpent, Stands, IsRetired, Inserts, Removes, Keeps, Leaves, MakesRoom, is_last}
+use Rattle.std.proofs.Common.{◌≡◌, ◌≤◌, ℕ, ◌&&◌, ◌||◌, Bool, List, Some, not, sym, ap, ◌∙◌, inl, inr, arith}
+use Rattle.slotmap.specs.Words.{Key, key_cmp, Content, IsContent, IsSpent, Inserts, Removes, Keeps, Leaves, MakesRoom, is_last}
 use Rattle.slotmap_bounded.specs.Mapped.{with_live}
 use Rattle.std.specs.FinMap as map
 use Rattle.std.specs.FinSet as set

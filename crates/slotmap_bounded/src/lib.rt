@@ -18,15 +18,17 @@
 //! ```
 #![tactic(auto, using(slotmap::proofs::Callers::keys))]
 
-ghost use Rattle.std.specs.Prelude.{◌≡◌, ◌≢◌, ℕ, ◌+◌, ◌-◌, ◌<◌, ◌≤◌, if◌then◌else◌, Some, IfOk, OnOk, OnErr, IfErr, IsOk, IsTrue};
-ghost use Rattle.std.specs.Prelude.{◌↔◌, OnSome, IfSome, IfNone, Ok, option_copied, false, true};
+ghost use Rattle.std.specs.Prelude.{◌≡◌, ◌≢◌, ◌+◌, ◌-◌, ◌<◌, ◌≤◌, if◌then◌else◌, Some, IfOk, OnOk, OnErr, IfErr, IsOk, IsTrue};
+ghost use Rattle.std.specs.Prelude.{◌↔◌, OnSome, IfSome, IfNone, Ok, option_copied, true};
 ghost use Rattle.std.specs.FinMap as map;
 ghost use Rattle.std.specs.Borrow.{sem};
 ghost use Rattle.std.specs.Option.{option_copied_mut};
-ghost use Rattle.slotmap.specs.Words.{Key as KeyOf, IsContent, IsCloneBy, IsLive, IsNew, Inserts, Leaves, MakesRoom, RefusesCapacity, Removes, StaysValid, index_after, is_last, most, places, used};
+ghost use Rattle.slotmap.specs.Words.{Key as KeyOf, IsContent, IsCloneBy, IsLive, IsNew, Inserts, MakesRoom, RefusesCapacity, Removes, StaysValid, is_last, most, places, used};
 ghost use Rattle.slotmap_bounded.specs.Bounded.{capacity_with, grown as grown_by};
 
+mod clear;
 mod keys;
+mod next_after;
 
 pub use keys::{inner, outer};
 use slotmap::basic::{Iter, Keys};
@@ -282,53 +284,6 @@ impl<K: Key, V: Drop> BoundedMap<K, V> {
         let value = self.map.remove(key)?;
         self.room += freed(key);
         Some(value)
-    }
-
-    /// Removes all keys. The capacity stays.
-    ///
-    /// It takes time linear in the number of slots that have had a key, and looks at up to 64 vacant ones
-    /// at a time. Room that no key has used yet costs nothing.
-    ///
-    /// ```
-    /// let mut map: BoundedMap<DefaultKey, &str> = BoundedMap::with_capacity(alloc, 1)?;
-    /// map.insert_reserved("a");
-    /// map.clear();
-    /// assert_eq!(rt; (map.len(), map.capacity()), (0, 1));
-    /// ```
-    pub fn clear(&mut self)
-        ensures empty { self.new.live ≡ map.empty }
-        ensures leaves { Leaves self.old self.new }
-        ensures valid { StaysValid true self.old self.new }
-    {
-        let _ = self.len();
-        let mut last = None;
-        while let Some(key) = self.key_after(last) {
-            self.remove_live(key);
-            last = Some(key);
-        }
-    }
-
-    // Returns the live key with the least index above that of the last one.
-    fn key_after(&self, last: Option<K>) -> Option<K>
-        ensures live { IfSome result (λ key. IsLive self.now (K.data_of key)) }
-        ensures least { IfSome result (λ key. (other : KeyOf) → IsLive self.now other → index_after K.data_of last ≤ other.index → (K.data_of key).index ≤ other.index) }
-        ensures none { IfNone result ((other : KeyOf) → IsLive self.now other → other.index < index_after K.data_of last) }
-    {
-        match self.map.next_after(last) {
-            Some((key, _)) => Some(key),
-            None => None,
-        }
-    }
-
-    // Removes a live key.
-    fn remove_live(&mut self, key: K)
-        requires { IsLive self.old (K.data_of key) }
-        ensures gone { (k : KeyOf) → IsLive self.new k → k.index ≢ (K.data_of key).index }
-        ensures fewer { map.len self.new.live < map.len self.old.live }
-        ensures leaves { Leaves self.old self.new }
-        ensures valid { StaysValid true self.old self.new }
-    {
-        self.remove(key);
     }
 
     /// Returns whether a key is live, in constant time.

@@ -29,8 +29,9 @@
 //! - [`Graph::clone`], [`Graph::with_capacity`] and [`Graph::with_capacity_and_key`] take time linear in
 //!   the two capacities. So does printing a graph with `{:?}`.
 //!
-//! Memory is asked for only by the calls that make a graph, reserve room, add or copy, and by those that
-//! take an `alloc`.
+//! The calls that make a graph, reserve room, add or copy may fail for memory, and so may those that
+//! take an `alloc`. No clause says that the others ask for none: a capacity is a number that a graph
+//! counts.
 //!
 //! ```
 //! let mut graph: Graph<NodeKey, &str, u64> = Graph::new(alloc)?;

@@ -1,9 +1,9 @@
-//! Steps from edge to edge, between which the graph may change.
+//! Steps from node to node and from edge to edge, between which the graph may change.
 
-ghost use Rattle.std.specs.Prelude.{◌≡◌, ◌<◌, None};
+ghost use Rattle.std.specs.Prelude.{◌≡◌, ◌<◌, ◌≤◌, None, IfSome, IfNone, true};
 ghost use Rattle.std.specs.Option.{option_and_then};
 ghost use Rattle.std.specs.FinMap as map;
-ghost use Rattle.slotmap.specs.Words.{Content, Key as KeyOf};
+ghost use Rattle.slotmap.specs.Words.{Content, IsContent, IsLive, Key as KeyOf, index_after};
 ghost use Rattle.slotmap_bounded.specs.KeyLists.{times};
 ghost use Rattle.slotmap_links.specs.Lists.{first_or};
 ghost use Rattle.slotmap_graph.specs.Parts.{ListsEdges, SeenEdge, edges_at, from, key_after, to};
@@ -27,6 +27,58 @@ fn next_of<N, E: Drop>(edges: &Edges<E>, links: &Links, edge: EdgeKey) -> Option
 }
 
 impl<K: Key, N: Drop, E: Drop> Graph<K, N, E> {
+    /// Returns the live node with the least index above that of `node`, or `None` if no live node has a
+    /// greater index. With no node it returns the first one.
+    ///
+    /// Calls in turn, each with the node that the last one returned, yield what [`Graph::nodes`] yields.
+    /// They borrow nothing meanwhile, so the values of nodes can be written on the way, and nodes and
+    /// edges can be added and removed. Only the index of `node` counts. It takes time linear in the
+    /// number of slots that it passes over.
+    ///
+    /// ```
+    /// let mut graph: Graph<NodeKey, &str, u64> = Graph::new(alloc)?;
+    /// let a = graph.add_node("a")?;
+    /// let b = graph.add_node("b")?;
+    /// assert_eq!(rt; graph.next_node(None), Some(a));
+    /// assert_eq!(rt; graph.next_node(Some(a)), Some(b));
+    /// assert_eq!(rt; graph.next_node(Some(b)), None);
+    /// ```
+    pub fn next_node(&self, node: Option<K>) -> Option<K>
+        ensures live { IfSome result (λ found. IsLive self.now.nodes (K.data_of found)) }
+        ensures after { IfSome result (λ found. index_after K.data_of node ≤ (K.data_of found).index) }
+        ensures first { IfSome result (λ found. (other : KeyOf) → IsLive self.now.nodes other →
+            index_after K.data_of node ≤ other.index → (K.data_of found).index ≤ other.index) }
+        ensures none { IfNone result ((other : KeyOf) → IsLive self.now.nodes other → other.index < index_after K.data_of node) }
+        ensures valid { IsContent true self.now.nodes }
+    {
+        self.nodes.next_after(node)
+    }
+
+    /// Returns the live edge with the least index above that of `edge`, or `None` if no live edge has a
+    /// greater index. With no edge it returns the first one.
+    ///
+    /// Calls in turn, each with the edge that the last one returned, yield what [`Graph::edges`] yields,
+    /// and borrow nothing meanwhile, as those of [`Graph::next_node`]. It takes time linear in the number
+    /// of slots that it passes over.
+    ///
+    /// ```
+    /// let mut graph: Graph<NodeKey, &str, u64> = Graph::new(alloc)?;
+    /// let a = graph.add_node("a")?;
+    /// let edge = graph.add_edge(a, a, 5)?;
+    /// assert_eq!(rt; graph.next_edge(None), Some(edge));
+    /// assert_eq!(rt; graph.next_edge(Some(edge)), None);
+    /// ```
+    pub fn next_edge(&self, edge: Option<EdgeKey>) -> Option<EdgeKey>
+        ensures live { IfSome result (λ found. IsLive self.now.edges found) }
+        ensures after { IfSome result (λ found. index_after (λ e. e) edge ≤ found.index) }
+        ensures first { IfSome result (λ found. (other : KeyOf) → IsLive self.now.edges other →
+            index_after (λ e. e) edge ≤ other.index → found.index ≤ other.index) }
+        ensures none { IfNone result ((other : KeyOf) → IsLive self.now.edges other → other.index < index_after (λ e. e) edge) }
+        ensures valid { IsContent true self.now.edges }
+    {
+        self.edges.next_after(edge)
+    }
+
     /// Returns the first of a node's outgoing edges, or `None` if it has none.
     ///
     /// With [`Graph::next_from`] it goes along the edges in the order of [`Graph::edges_from`]. It

@@ -16,7 +16,7 @@
 //! - [`Links::clear`] takes time linear in [`Links::owners`], and [`Links::clone`] in [`Links::owners`]
 //!   and [`Links::members`].
 //!
-//! The two covers and `clone` are the only calls that ask for memory.
+//! Only the two covers and `clone` can fail. No clause says that the other calls ask for no memory.
 //!
 //! ```
 //! let mut links = Links::new(alloc);

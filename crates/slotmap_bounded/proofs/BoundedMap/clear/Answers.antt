@@ -4,7 +4,7 @@ use Rattle.slotmap_bounded.proofs.BoundedMap.clear.Goals as goal
 
 pub loop-key-preserved : goal.loop-key-preserved
 loop-key-preserved g c = let so_far = c.loop-key.invariant in let removed = c.remove_live.ensures in record {
-  above = λ k live. let was = removed.leaves.no_more k live in omega (arith, c.in-Some.ensures.least k was (so_far.above k was), removed.gone k live);
+  above = λ k live. let was = removed.leaves.no_more k live in omega (arith, c.in-Some.ensures.first k was (so_far.above k was), removed.gone k live);
   leaves = leaves_in_turn c.args.self.now c.loop-key.self c.remove_live.new.self so_far.leaves removed.leaves;
   stays = record { before = so_far.stays.before; after = removed.valid.after; capacity = removed.valid.capacity ∙ so_far.stays.capacity };
 }
