@@ -1,4 +1,4 @@
--- What callers of a scene cite: of parents and of what is within a node, where a node was moved, and where children are taken one by one.
+-- What callers of a scene cite: of parents and of what is within a node, where a node was moved, where children are taken one by one, and of a loop below a node.
 use Rattle.std.proofs.Common.{◌++◌, ◌+◌, ◌<◌, ◌↔◌, ◌∷◌, ◌≡◌, ◌≢◌}
 use Rattle.slotmap_scene.proofs.Common.{IsMoved, IsScene, IsWithin, Key, List, Nodes, Option, SiblingSide, Some, StepsTo, [], ap, arith, beside_first, children_in, children_of, forgets, inl, inr}
 use Rattle.slotmap_scene.proofs.Common.{is_itself, length, option_map, parent_of, placed, refl, same_or_other, suc, sym, times, times_first, times_gone, without, without_none, without_pushed}
@@ -8,7 +8,9 @@ use Rattle.std.specs.FinMap as map
 -- a node with a parent exists, and so does the parent; no node is above itself; and whether a node is within another one is up to its parent
 pub use Rattle.slotmap_scene.proofs.Climbs.{has_parent, no_cycle, parent_there, within_up}
 -- a node without a first child has none
-pub use Rattle.slotmap_scene.proofs.Descending.{none_first}
+pub use Rattle.slotmap_scene.proofs.Walking.{none_first}
+-- a loop along the nodes below a node that writes them on its way, and the nodes below one where a value was changed
+pub use Rattle.slotmap_scene.proofs.BelowLoops.{GoesBelow, below_changed, below_end, below_here, below_less, below_next, below_other, below_others, below_start, below_still, left_below, value_unwritten, value_written}
 
 -- for `using`
 pub ruleset families = (without_pushed)

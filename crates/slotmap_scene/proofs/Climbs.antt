@@ -43,7 +43,7 @@ module _ {T : Type 0} where
   alone_within nodes k childless zero q same = same
   alone_within nodes k childless (suc n) q steps = absurd (childless q (steps.1.0 ∙ ap Some (alone_within nodes k childless n steps.0 steps.1.1)))
 
-  root_within : (nodes : Nodes T) (k other : Key) → parent_of nodes k ≡ None → k ≢ other → IsWithin nodes k other → ⊥
+  pub root_within : (nodes : Nodes T) (k other : Key) → parent_of nodes k ≡ None → k ≢ other → IsWithin nodes k other → ⊥
   root_within nodes k other is apart w = by w.0 w.1
     where
       by : (n : ℕ) → StepsTo nodes n k other → ⊥
@@ -59,7 +59,7 @@ module _ {T : Type 0} where
       by (Some node) e = refl
 
   -- no node is above itself
-  steps_sum : (nodes : Nodes T) (n j m : ℕ) (k other : Key) → ClimbsTo nodes n k → StepsTo nodes j k other → ClimbsTo nodes m other → n ≡ j + m
+  pub steps_sum : (nodes : Nodes T) (n j m : ℕ) (k other : Key) → ClimbsTo nodes n k → StepsTo nodes j k other → ClimbsTo nodes m other → n ≡ j + m
   steps_sum nodes n zero m k other up same up_other = one_way nodes n m k up (subst (ClimbsTo nodes m) (sym same) up_other) ∙ omega arith
   steps_sum nodes n (suc j) m k other up steps up_other =
       let next = next_up nodes n k steps.0 up steps.1.0 in let sum = steps_sum nodes next.0 j m steps.0 other next.1.1 steps.1.1 up_other in let one = next.1.0 in omega arith
@@ -78,7 +78,7 @@ module _ {T : Type 0} where
         (leads.0, (keys q apart ∙ leads.1.0, parents q apart ∙ leads.1.1, outside n leads.0 (λ w. out (suc w.0, (leads.0, (leads.1.1, w.1)))) leads.1.2))
 
   -- a way has fewer steps than there are nodes: without the first of them, there is still the way from the second one
-  short : (n : ℕ) (nodes : Nodes T) (k : Key) → ClimbsTo nodes n k → n < map.len nodes
+  pub short : (n : ℕ) (nodes : Nodes T) (k : Key) → ClimbsTo nodes n k → n < map.len nodes
   short zero nodes k leads = omega (arith, some_entry keys_total exact_keys nodes k leads.0)
   short (suc n) nodes k leads =
       let others = λ (q : Key) (other : q ≢ k). get_removed nodes k q other in

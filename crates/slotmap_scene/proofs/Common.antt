@@ -25,8 +25,8 @@ pub use Rattle.slotmap_bounded.specs.Bounded.{capacity_with}
 pub use Rattle.slotmap_bounded.specs.Indices.{AreIndices, HasKey, HaveIndices, found_at, key_at, keys_at}
 pub use Rattle.slotmap_bounded.proofs.Alone.{len_alike}
 pub use Rattle.slotmap_bounded.proofs.Changed.{changed_gives, changed_here, changed_keeps, changed_other}
-pub use Rattle.slotmap_bounded.proofs.Counts.{as_many, is_itself, no_more_than, one_itself, one_other, times_first, times_gone, times_joined, times_pushed, times_without, without_none, without_pushed}
-pub use Rattle.slotmap_bounded.proofs.Linking.{in_midst, none_last}
+pub use Rattle.slotmap_bounded.proofs.Counts.{as_many, is_itself, is_other, no_more_than, one_itself, one_other, times_first, times_gone, times_joined, times_pushed, times_without, without_none, without_pushed}
+pub use Rattle.slotmap_bounded.proofs.Linking.{in_midst, none_last, split_at}
 pub use Rattle.slotmap_bounded.proofs.MapKeys.{key_live, key_there, keys_once}
 pub use Rattle.slotmap_bounded.proofs.Mapped.{entries-made, get-made, made, some-mapped}
 pub use Rattle.slotmap_bounded.proofs.Shown.{shown_content, shown_inserts, shown_leaves, shown_makes_room, shown_spent}
@@ -40,7 +40,7 @@ pub use Rattle.slotmap_links.proofs.Linking.{after_inside, before_inside, first_
 pub use Rattle.slotmap_links.specs.Lists.{AreDisjoint, CoversMore, IsFree, IsIn, Lists, first_or, last_or as last_number, list_of, number_after, number_before, times as often, with_list}
 pub use Rattle.slotmap_links.specs.Lists.{without as without_number}
 pub use Rattle.slotmap_scene.specs.Above.{GoesUp, HasRoot, keys_up, roots_in}
-pub use Rattle.slotmap_scene.specs.Below.{AreAhead, GoesDown, WalkStands, WalksBelow, all_below, keys_down, keys_from}
+pub use Rattle.slotmap_scene.specs.Below.{GoesDown, IsTop, WalksBelow, all_below, keys_down, keys_from}
 pub use Rattle.slotmap_scene.specs.Climb.{ClimbsTo, IsTree, IsWithin, StepsTo, has_node, lacks_node, parent_in, parent_of, with_parent}
 pub use Rattle.slotmap_scene.specs.Family.{AreListed, IsMoved, IsNewChild, IsNodeClone, IsScene, SiblingSide, as_placed, behind, beside_first, child, children_in, children_of, children_under, forgets}
 pub use Rattle.slotmap_scene.specs.Family.{in_front, is_parent, placed, put_in_place, siblings_of, value_of, with_children_of, with_value, without_child}

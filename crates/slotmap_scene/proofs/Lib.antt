@@ -1,3 +1,4 @@
+mod BelowLoops
 mod ByLevel
 pub mod Callers
 mod ChildLists
@@ -12,4 +13,6 @@ pub mod Offsets
 mod Placing
 mod Removals
 mod SceneSteps
+mod Visiting
+mod Walking
 pub mod Worlds

@@ -1,9 +1,10 @@
 -- The keys below a node, in the order of the trees.
-use Rattle.std.specs.Prelude.{◌≡◌, ℕ, zero, suc, cond, Option, Some, None, IfSome, List, [], ◌∷◌, ◌++◌}
+use Rattle.std.specs.Prelude.{◌≡◌, ◌<◌, ◌⊎◌, ℕ, zero, suc, cond, Option, Some, None, IfSome, List, [], ◌∷◌, ◌++◌}
 use Rattle.std.specs.FinMap as map
 use Rattle.slotmap.specs.Words.{Key}
-use Rattle.slotmap_bounded.specs.KeyLists.{is_key}
+use Rattle.slotmap_bounded.specs.KeyLists.{is_key, times}
 use Rattle.slotmap_scene.specs.Node.{Nodes}
+use Rattle.slotmap_scene.specs.Climb.{IsWithin, parent_of}
 use Rattle.slotmap_scene.specs.Family.{children_of, IsScene}
 
 -- the part of a list from a key on
@@ -29,25 +30,11 @@ module _ {T : Type 0} where
   abbrev pub all_below : Nodes T → Key → List Key
   all_below nodes node = keys_down nodes (map.len nodes) (children_of nodes node)
 
-  -- these keys are ahead once k and all below it are listed: its later siblings, those of its parent, and so on,
-  -- up to the node, which is so many steps above k
-  abbrev pub AreAhead : Nodes T → Key → ℕ → Key → List Key → Type 0
-  AreAhead nodes node zero k ahead = (k ≡ node) × (ahead ≡ [])
-  AreAhead nodes node (suc n) k ahead =
-      (p : Key) × (before : List Key) × (after : List Key) × (others : List Key)
-      × (children_of nodes p ≡ before ++ k ∷ after) × (ahead ≡ after ++ others) × AreAhead nodes node n p others
+  -- a walk that is to stay below a node, and is at k, ends at this node, or at the root of k if k isn't below it
+  abbrev pub IsTop : Nodes T → Key → Key → Key → Type 0
+  IsTop nodes node k top = IsWithin nodes k top × ((top ≡ node) ⊎ ((parent_of nodes top ≡ None) × (IsWithin nodes k node → ⊥)))
 
-  -- a walk through all that is below a node stands at k
-  pub record WalkStands (nodes : Nodes T) (node k : Key) : Type 0 where
-    pub done : List Key
-    pub rest : List Key
-    pub ahead : List Key
-    pub steps : ℕ
-    pub split : all_below nodes node ≡ done ++ k ∷ rest
-    pub goes : GoesDown nodes (children_of nodes k ++ ahead) rest
-    pub is_ahead : AreAhead nodes node (suc steps) k ahead
-
-  -- what holds of each walk: it stands at a key, or has come to its end
+  -- what holds of each walk: it is at one of the nodes below a node, or has come to its end
   pub record WalksBelow (nodes : Nodes T) (node : Key) (at : Option Key) : Type 0 where
     pub scene : IsScene nodes
-    pub stands : IfSome at (WalkStands nodes node)
+    pub inside : IfSome at (λ k. 0 < times k (all_below nodes node))

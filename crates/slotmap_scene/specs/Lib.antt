@@ -8,4 +8,5 @@ pub mod Levels
 pub mod Node
 pub mod Offset
 pub mod Refusals
+pub mod Visits
 pub mod WorldValue

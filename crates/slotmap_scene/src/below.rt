@@ -1,13 +1,14 @@
 //! The nodes below a node.
 
-ghost use Rattle.std.specs.Prelude.{◌≡◌, ◌≢◌, ◌<◌, ◌≤◌, ◌∷◌, [], Some, IfOk, length, option_map, map as list_map};
+ghost use Rattle.std.specs.Prelude.{◌≡◌, ◌≢◌, ◌<◌, ◌≤◌, ◌∷◌, [], None, Some, IfOk, IfSome, length, option_map, map as list_map};
 ghost use Rattle.std.specs.Iterator.{YieldsFirstBy, item_count};
 ghost use Rattle.std.specs.List.{All};
 ghost use Rattle.slotmap.specs.Words.{Key as KeyOf};
 ghost use Rattle.slotmap_bounded.specs.KeyLists.{times};
-ghost use Rattle.slotmap_scene.specs.Below.{GoesDown, WalksBelow, all_below, keys_from};
-ghost use Rattle.slotmap_scene.specs.Climb.{IsWithin, has_node};
-ghost use Rattle.slotmap_scene.specs.Family.{children_of};
+ghost use Rattle.slotmap_links.specs.Lists.{first_or};
+ghost use Rattle.slotmap_scene.specs.Below.{GoesDown, IsTop, WalksBelow, all_below, keys_from};
+ghost use Rattle.slotmap_scene.specs.Climb.{IsWithin, has_node, lacks_node, parent_of};
+ghost use Rattle.slotmap_scene.specs.Family.{behind, children_of};
 
 use crate::Scene;
 use slotmap::Key;
@@ -49,7 +50,7 @@ impl<'a, K: Key, T: Drop> Iterator for KeysBelow<'a, K, T> {
 
     fn next(&mut self) -> Option<K> {
         let key = self.at?;
-        self.at = self.scene.next_below(self.node, key);
+        self.at = self.scene.key_behind(self.node, key);
         Some(key)
     }
 }
@@ -57,14 +58,13 @@ impl<'a, K: Key, T: Drop> Iterator for KeysBelow<'a, K, T> {
 impl<'a, K: Key, T: Drop> FusedIterator for KeysBelow<'a, K, T> {}
 
 impl<K: Key, T: Drop> Scene<K, T> {
-    // The key behind this one on a walk through all that is below a node. This one has no children, so it
-    // is the next sibling of the first node on the way up that has one.
+    // The key after this one on a walk that is to stay below a node. This one has no children, so it is the
+    // next sibling of the first node on the way up that has one.
     fn next_above(&self, node: K, key: K) -> Option<K>
-        requires walks { WalksBelow self.now.live (K.data_of node) (Some (K.data_of key)) }
-        requires leaf { children_of self.now.live (K.data_of key) ≡ [] }
-        ensures walks { WalksBelow self.now.live (K.data_of node) (option_map K.data_of result) }
-        ensures rest { keys_from (Some (K.data_of key)) (all_below self.now.live (K.data_of node))
-            ≡ K.data_of key ∷ keys_from (option_map K.data_of result) (all_below self.now.live (K.data_of node)) }
+        requires { children_of self.now.live (K.data_of key) ≡ [] }
+        ensures comes { (top : KeyOf) → IsTop self.now.live (K.data_of node) (K.data_of key) top
+            → option_map K.data_of result ≡ behind (K.data_of key) (top ∷ all_below self.now.live top) }
+        ensures live { IfSome result (λ next. has_node self.now.live (K.data_of next)) }
     {
         let end = inner(node);
         let mut at = key;
@@ -80,17 +80,65 @@ impl<K: Key, T: Drop> Scene<K, T> {
         None
     }
 
-    // The key behind this one on a walk through all that is below a node: its first child, if it has one.
-    fn next_below(&self, node: K, key: K) -> Option<K>
+    /// Returns the node after `key` among the nodes below `node`, in the order of [`Scene::keys_below`], or
+    /// `None` after the last of them. After `node` itself comes the first of them.
+    ///
+    /// So a loop can write each node below a node on its way, and needs no memory: it begins with
+    /// `next_below(node, node)`, and goes on from each key that it was given. It may change values, and has
+    /// to leave parents and children as they are.
+    ///
+    /// If `key` doesn't exist, it returns `None`. If `key` exists and isn't `node` or below it, the walk goes
+    /// on to the end of the tree that `key` is in, as if `node` were the root of this tree.
+    ///
+    /// It takes time linear in the depth of `key` at most. A walk through all nodes below a node takes time
+    /// linear in their number.
+    ///
+    /// ```
+    /// let mut scene: Scene<DefaultKey, u64> = Scene::new(alloc)?;
+    /// let car = scene.add_root(1)?;
+    /// let door = scene.add_child(car, 2)?;
+    /// let wheel = scene.add_child(car, 3)?;
+    /// let handle = scene.add_child(door, 4)?;
+    /// let mut at = scene.next_below(car, car);
+    /// while let Some(key) = at {
+    ///     if let Some(value) = scene.get_mut(key) {
+    ///         *value = 0;
+    ///     }
+    ///     at = scene.next_below(car, key);
+    /// }
+    /// assert_eq!(rt; (scene[car], scene[door], scene[handle], scene[wheel]), (1, 0, 0, 0));
+    /// assert_eq!(rt; scene.next_below(door, door), Some(handle));
+    /// assert_eq!(rt; scene.next_below(door, handle), None);
+    /// ```
+    pub fn next_below(&self, node: K, key: K) -> Option<K>
+        ensures first { K.data_of key ≡ K.data_of node → option_map K.data_of result ≡ first_or (all_below self.now.live (K.data_of node)) None }
+        ensures along { 0 < times (K.data_of key) (all_below self.now.live (K.data_of node))
+            → option_map K.data_of result ≡ behind (K.data_of key) (all_below self.now.live (K.data_of node)) }
+
+        // It stays below the node, or else in the tree that the key is in.
+        ensures within { IsWithin self.now.live (K.data_of key) (K.data_of node)
+            → IfSome result (λ next. IsWithin self.now.live (K.data_of next) (K.data_of node) × (K.data_of next ≢ K.data_of node)) }
+        ensures elsewhere { (root : KeyOf) → (IsWithin self.now.live (K.data_of key) (K.data_of node) → ⊥)
+            → IsWithin self.now.live (K.data_of key) root → parent_of self.now.live root ≡ None
+            → option_map K.data_of result ≡ behind (K.data_of key) (root ∷ all_below self.now.live root) }
+        ensures stale { lacks_node self.now.live (K.data_of key) → result ≡ None }
+        ensures live { IfSome result (λ next. has_node self.now.live (K.data_of next)) }
+    {
+        let _ = &self.alloc;
+        if let Some(child) = self.first_child(key) {
+            return Some(child);
+        }
+        self.next_above(node, key)
+    }
+
+    // The key behind the one at which a walk is.
+    fn key_behind(&self, node: K, key: K) -> Option<K>
         requires { WalksBelow self.now.live (K.data_of node) (Some (K.data_of key)) }
         ensures walks { WalksBelow self.now.live (K.data_of node) (option_map K.data_of result) }
         ensures rest { keys_from (Some (K.data_of key)) (all_below self.now.live (K.data_of node))
             ≡ K.data_of key ∷ keys_from (option_map K.data_of result) (all_below self.now.live (K.data_of node)) }
     {
-        if let Some(child) = self.first_child(key) {
-            return Some(child);
-        }
-        self.next_above(node, key)
+        self.next_below(node, key)
     }
 
     /// Returns an iterator over the keys of the nodes below a node, depth-first: each node comes before

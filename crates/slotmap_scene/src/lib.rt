@@ -6,7 +6,9 @@
 //! - The nodes form trees: each has a root above it, [`Scene::depth`] steps away.
 //! - Each node appears exactly once in its parent's list of children, and in no other.
 //! - [`Scene::descendants`] lists the nodes below a node, each once: depth-first, in the order of the
-//!   children. [`Scene::keys_below`] yields them one by one, and needs no memory.
+//!   children. [`Scene::keys_below`] yields them one by one, and [`Scene::next_below`] goes from one to
+//!   the next, while values may change. [`Scene::walk`] enters each node before those below it, and
+//!   leaves it after them. These three need no memory.
 //! - [`Scene::reparent`] moves a node with its subtree, as the last child of its new parent, and
 //!   [`Scene::move_before`] and [`Scene::move_after`] to a place beside a sibling. `reparent` is refused
 //!   exactly if a node doesn't exist or the move would make a cycle. A move beside a sibling is also
@@ -27,6 +29,8 @@
 //!   [`Scene::reparent`] in the number of those above the new parent. [`Scene::move_before`] and
 //!   [`Scene::move_after`] take time linear in the number of those above the sibling, unless both nodes
 //!   have the same parent.
+//! - [`Scene::next_below`] takes time linear in the depth of the key at most. All steps of a walk below
+//!   a node together take time linear in the number of its nodes.
 //! - [`Scene::remove`] takes time linear in the number of nodes that it removes, and
 //!   [`Scene::descendants`] in the number of those that it lists. So do all steps of
 //!   [`Scene::keys_below`] together, and one of them at most in the depth of the trees.
@@ -34,6 +38,7 @@
 //!   ends of the list of children of each node that there is room for, 12 bytes a node.
 //! - [`Scene::clone`], [`Scene::with_capacity`] and [`Scene::with_capacity_and_key`] take time linear in
 //!   the capacity.
+//! - All steps of [`Scene::walk`] together take time linear in the number of nodes that it visits.
 //! - [`Scene::world_transforms`] takes time linear in the number of slots. So do all steps of
 //!   [`Scene::iter`], [`Scene::keys`], [`Scene::values`] or [`Scene::roots`] together.
 //!
@@ -72,6 +77,7 @@ use std::alloc::Global;
 use std::marker::{Model, PhantomData};
 use std::ops::Index;
 use thiserror::Error;
+pub use walk::{Visit, Walk};
 
 mod above;
 mod below;
@@ -87,6 +93,7 @@ mod links;
 mod nodes;
 mod siblings;
 mod tree;
+mod walk;
 pub mod world;
 
 /// Nodes in trees, under keys of type `K`.

@@ -1,5 +1,6 @@
 use Rattle.slotmap_scene.proofs.Common.{refl}
-use Rattle.slotmap_scene.proofs.Descending.{below_all, below_once, below_only, below_order, walk_begins}
+use Rattle.slotmap_scene.proofs.Descending.{below_all, below_once, below_only, below_order}
+use Rattle.slotmap_scene.proofs.Walking.{walk_begins}
 use Rattle.slotmap_scene.proofs.Scene.keys_below.Goals as goal
 
 pub invariant_of-result : goal.invariant_of-result

@@ -2,4 +2,4 @@ use Rattle.slotmap_scene.proofs.Common.{arith, option_map}
 use Rattle.slotmap_scene.proofs.below.KeysBelowIterator.next.Goals as goal
 
 pub returns-clause-steps : goal.returns-clause-steps
-returns-clause-steps g c = grind (arith, option_map, c.next_below-self-inside.ensures.rest)
+returns-clause-steps g c = grind (arith, option_map, c.key_behind-self-inside.ensures.rest)
