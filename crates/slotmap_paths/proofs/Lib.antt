@@ -1,0 +1,3 @@
+mod Settled
+mod EdgeSteps
+mod Candidates

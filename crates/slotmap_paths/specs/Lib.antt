@@ -1,0 +1,4 @@
+pub mod Costs
+pub mod Paths
+pub mod Settling
+pub mod Searching
