@@ -24,6 +24,8 @@
 #
 # Once room was made for a hundred keys, no insert of one of them asks for memory. Nor does any call that never allocates, in a
 # map of a hundred keys: a removal, a detach, a reattach, a replacement, a clear, a retain, a drain, a reserve that finds room.
+# Nor does an add, a move or a removal of a list, a graph, a scene or a scheduler within the room for a hundred elements: turns of
+# such calls ask for memory no more often than no turn.
 #
 # No row asks for far more memory than it needs. Over a file of rows the largest request is at most 256 KiB, which is ten
 # thousand slots of 24 bytes. Where a call is repeated over 1,000 times it is at most 16 MiB.
@@ -262,6 +264,25 @@ check_rooms() {
     echo "$1: no request within the room that was made"
 }
 
+# count_turns PROGRAM WORD: how often structures_at_size asks for memory in the turns of a structure that a word names.
+count_turns() {
+    env "LD_PRELOAD=$scratch/refuse.so" REFUSE_COUNT=1 "$1" "$2" 2>"$scratch/turns" >/dev/null || echo "and fails"
+    sed -n 's/^requests \([0-9]*\) .*/\1/p' "$scratch/turns"
+}
+
+# check_structures PROGRAM: no call of these structures asks for memory within the room that was made.
+check_structures() {
+    local structure least seen
+    for structure in list graph scene scheduler; do
+        least=$(count_turns "$1" $structure:0)
+        seen=$(count_turns "$1" $structure:20)
+        [[ -n $seen && $seen = "$least" && $seen != *fails* ]] && continue
+        echo "fault: a $structure asks for memory within its room: $seen requests in 20 turns, $least in none"
+        exit 1
+    done
+    echo "structures_at_size: no request of a list, a graph, a scene or a scheduler within the room that was made"
+}
+
 # try_rows PROGRAM: the row files that the program's file `args` names.
 try_rows() {
     local data=$top/crates/$1/data file
@@ -294,6 +315,7 @@ try_slotrun() {
 # try_sizes: the calls of the five structures at 10 elements.
 try_sizes() {
     local folder=$top/crates/structures_at_size
+    check_structures "$folder/out/structures_at_size"
     "$folder/out/structures_at_size" 10 >"$scratch/sizes"
     python3 "$folder/expected.py" 10 | diff "$scratch/sizes" - || exit 1
     try_case check_sizes "$top" "$folder/out/structures_at_size" 10 /dev/null 0

@@ -238,6 +238,7 @@ def graph_part(size):
     left = list(graph.seen(nodes))
     tell("left", left)
     tell("by keys", list(graph.value.values()) + [value for _, _, value in graph.edges.values()])
+    tell("by steps", list(graph.value.values()) + [1] + [value for _, _, value in graph.edges.values()] + [1])
     tell("live", [int(node in graph.value) for node in nodes] + [int(edge in graph.edges) for edge in edges])
     for edge in list(graph.out[hub]):
         graph.remove_edge(edge)
@@ -360,6 +361,33 @@ def deep_part(size):
     tell("all of the copy", counts)
 
 
+def below_part(scene, random, nodes):
+    """All nodes are below the first one. A walk below a node ends with what is below it, and one from elsewhere with the tree."""
+    order = [nodes[0]] + scene.below(nodes[0])
+    tell("written", [scene.value[node] for node in order[1:]] + [MASK])
+    for node in order[1:]:
+        scene.value[node] += 1
+    place, count = {node: at for at, node in enumerate(order)}, dict.fromkeys(order, 1)
+    for node in reversed(order[1:]):
+        count[scene.parent[node]] += count[node]
+    behind = []
+    for _ in range(min(len(nodes), 1000)):
+        node, key = random.pick(nodes), random.pick(nodes)
+        first, next_place = place[node], place[key] + 1
+        inside = first < next_place <= first + count[node]
+        end = first + count[node] if inside else len(order)
+        behind.append(scene.value[order[next_place]] if next_place < end else MASK)
+    tell("behind", behind)
+    visits, ahead = [], [(True, nodes[0])]
+    while ahead:
+        enters, node = ahead.pop()
+        visits += [scene.value[node]] if enters else [MASK, scene.value[node]]
+        if enters:
+            ahead.append((False, node))
+            ahead += [(True, child) for child in reversed(scene.children[node])]
+    tell("visits", visits)
+
+
 def chance_part(size):
     random = Random(4)
     scene, nodes = Scene(), [0]
@@ -378,6 +406,7 @@ def chance_part(size):
             scene.move(node, parent)
     tell("moves", moves)
     tell("moved", scene.seen())
+    below_part(scene, random, nodes)
     for node in nodes:
         scene.value[node] += 1
     removed = []
@@ -392,6 +421,29 @@ def chance_part(size):
     tell("by keys", [*scene.value.values(), *above])
     tell("live", [int(node in scene.value) for node in nodes] + [len(scene.value)] * 3)
     tell("cleared", [])
+
+
+def distances(roads):
+    """The least cost of a path from the first node to each node, and the greatest number where there is none."""
+    found, waiting = {}, [(0, 0)]
+    while waiting:
+        distance, node = heapq.heappop(waiting)
+        if node not in found:
+            found[node] = distance
+            for to, cost in roads[node]:
+                heapq.heappush(waiting, (distance + cost, to))
+    return [found.get(node, MASK) for node in range(len(roads))]
+
+
+def routes_part(size):
+    print(" routes")
+    random = Random(7)
+    nodes, roads = range(size), [[] for _ in range(size)]
+    for _ in range(size * 2):
+        a, b = random.pick(nodes), random.pick(nodes)
+        roads[a].append((b, random.draw() % 1000))
+    tell("distances", distances(roads))
+    tell("by odd costs", distances([[(to, cost) for to, cost in ends if cost % 2] for ends in roads]))
 
 
 def scene_part(size):
@@ -582,5 +634,5 @@ def world_part(size):
 
 for word in sys.argv[1:]:
     print(f"{word} elements")
-    for part in list_part, graph_part, scene_part, scheduler_part, world_part:
+    for part in list_part, graph_part, routes_part, scene_part, scheduler_part, world_part:
         part(int(word))

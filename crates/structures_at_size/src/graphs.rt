@@ -1,5 +1,8 @@
 //! Graphs of numbers.
 
+mod steps;
+
+use crate::graphs::steps::sum_by_steps;
 use crate::items::{first_of, increment, keep, last_of};
 use crate::random::Random;
 use crate::sums::{Sum, tell};
@@ -7,11 +10,15 @@ use slotmap::{NodeKey, ReserveError};
 use slotmap_graph::{EdgeKey, EdgesAt, Graph};
 use std::alloc::{AllocError, Global};
 
-type Numbers = Graph<NodeKey, u64, u64>;
+pub(crate) type Numbers = Graph<NodeKey, u64, u64>;
 
-// The number of a node.
-fn number_of(graph: &Numbers, node: NodeKey) -> u64 {
-    graph.node(node).copied().unwrap_or(u64::MAX)
+// The number of a node. Where there is no such node, it is the greatest number.
+pub(crate) fn number_of(graph: &Numbers, node: NodeKey) -> u64 {
+    if graph.contains_node(node) {
+        graph[node]
+    } else {
+        u64::MAX
+    }
 }
 
 // Adds nodes of the numbers below `count`. Like all that add, it returns whether all calls succeeded.
@@ -99,24 +106,18 @@ fn sum_of_nodes(graph: &Numbers, nodes: &[NodeKey]) -> Sum {
 fn sum_beside(graph: &Numbers, node: NodeKey) -> Sum {
     let mut sum = Sum::new();
     for to in graph.neighbours_from(node) {
-        sum.add(number_of(graph, to));
+        sum.add(graph[to]);
     }
     for from in graph.neighbours_to(node) {
-        sum.add(number_of(graph, from));
+        sum.add(graph[from]);
     }
     sum
 }
 
 // An edge: the numbers of its ends, and its own, which is also found by its key.
-fn add_edge_of(
-    graph: &Numbers,
-    edge: EdgeKey,
-    ends: (NodeKey, NodeKey),
-    value: u64,
-    sum: &mut Sum,
-) {
-    sum.add(number_of(graph, ends.0));
-    sum.add(number_of(graph, ends.1));
+fn add_edge_of(graph: &Numbers, edge: EdgeKey, ends: (u64, u64), value: u64, sum: &mut Sum) {
+    sum.add(ends.0);
+    sum.add(ends.1);
     sum.add(value);
     sum.add_found(graph.edge(edge));
 }
@@ -125,7 +126,7 @@ fn add_edge_of(
 fn sum_of_edges(graph: &Numbers) -> Sum {
     let mut sum = Sum::new();
     for (edge, from, to, value) in graph.edge_references() {
-        add_edge_of(graph, edge, (from, to), *value, &mut sum);
+        add_edge_of(graph, edge, (graph[from], graph[to]), *value, &mut sum);
     }
     sum
 }
@@ -134,10 +135,10 @@ fn sum_of_edges(graph: &Numbers) -> Sum {
 fn sum_of_edges_at(graph: &Numbers, node: NodeKey) -> Sum {
     let mut sum = Sum::new();
     for (edge, from, to, value) in graph.edge_references_from(node) {
-        add_edge_of(graph, edge, (from, to), *value, &mut sum);
+        add_edge_of(graph, edge, (graph[from], graph[to]), *value, &mut sum);
     }
     for (edge, from, to, value) in graph.edge_references_to(node) {
-        add_edge_of(graph, edge, (from, to), *value, &mut sum);
+        add_edge_of(graph, edge, (graph[from], graph[to]), *value, &mut sum);
     }
     sum
 }
@@ -385,6 +386,7 @@ fn change(
         remove_nodes(graph, nodes, random, turns / 2),
     ) && tell(rt, "left", sum_of(graph, nodes))
         && tell(rt, "by keys", sum_by_keys(graph))
+        && tell(rt, "by steps", sum_by_steps(graph))
         && tell(rt, "live", sum_of_live(graph, nodes, edges))
 }
 

@@ -53,7 +53,9 @@ fn sum_by_steps(list: &Numbers) -> Sum {
 fn sum_by_cursors(list: &Numbers) -> Sum {
     let mut sum = Sum::new();
     for cursor in list.cursors() {
-        sum.add_found(list.get(cursor));
+        if list.contains(cursor) {
+            sum.add(list[cursor]);
+        }
         sum.add_found(list.get(list.prev(cursor).unwrap_or_default()));
     }
     sum

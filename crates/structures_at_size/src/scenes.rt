@@ -4,7 +4,7 @@ mod steps;
 
 use crate::items::{first_of, increment, keep, last_of};
 use crate::random::Random;
-use crate::scenes::steps::run_siblings;
+use crate::scenes::steps::{run_below, run_siblings};
 use crate::sums::{Sum, tell};
 use slotmap::{DefaultKey, ReserveError};
 use slotmap_scene::Scene;
@@ -98,7 +98,9 @@ fn tell_below(rt: &HostRuntime, what: &str, scene: &Numbers, node: DefaultKey) -
 fn sum_below(scene: &Numbers, node: DefaultKey) -> Sum {
     let mut sum = Sum::new();
     for below in scene.keys_below(node) {
-        sum.add_found(scene.get(below));
+        if scene.contains_key(below) {
+            sum.add(scene[below]);
+        }
     }
     sum
 }
@@ -307,6 +309,13 @@ fn run_chance(
             move_by_chance(scene, nodes.as_slice(), &mut random, size),
         )
         && tell(rt, "moved", sum_of_all(scene))
+        && run_below(
+            rt,
+            scene,
+            nodes.as_slice(),
+            &mut random,
+            first_of(nodes.as_slice()),
+        )
         && change(rt, scene, nodes.as_slice(), &mut random)
 }
 

@@ -79,7 +79,9 @@ fn sum_of_lists(jobs: &Numbers) -> Sum {
     for (handle, time, number) in jobs.iter() {
         sum.add(time);
         sum.add(*number);
-        sum.add_found(jobs.get(handle));
+        if jobs.contains(handle) {
+            sum.add(jobs[handle]);
+        }
     }
     sum
 }

@@ -1,10 +1,11 @@
-//! Siblings one by one: looked up by steps from both ends, and moved beside others.
+//! Siblings one by one: looked up by steps from both ends, and moved beside others. And what is below a node, by steps.
 
+use crate::items::increment;
 use crate::random::Random;
 use crate::scenes::Numbers;
 use crate::sums::{Sum, tell};
 use slotmap::DefaultKey;
-use slotmap_scene::{AddError, ChildKeys, MoveError};
+use slotmap_scene::{AddError, ChildKeys, MoveError, Visit};
 
 // The numbers of a node's children, from the first to the last and back, each by a step from the one beside it.
 fn sum_by_steps(scene: &Numbers, parent: DefaultKey) -> Sum {
@@ -83,4 +84,57 @@ pub(crate) fn run_siblings(
         && tell(rt, "moves beside", move_some(scene, nodes, random, turns))
         && tell(rt, "by steps", sum_by_steps(scene, root))
         && tell_children(rt, scene, root)
+}
+
+// Adds 1 to the number of each node below a node, by as many steps as there are nodes, and returns what the numbers were. Behind the
+// last one there is none.
+fn write_below(scene: &mut Numbers, node: DefaultKey) -> Sum {
+    let mut sum = Sum::new();
+    let mut at = node;
+    for _ in 0..scene.len() {
+        at = scene.next_below(node, at).unwrap_or_default();
+        sum.add_found(scene.get(at));
+        increment(scene.get_mut(at));
+    }
+    sum
+}
+
+// The numbers behind nodes by chance, on walks below others. Some of these nodes aren't below the other one.
+fn sum_behind(scene: &Numbers, nodes: &[DefaultKey], random: &mut Random, turns: u64) -> Sum {
+    let mut sum = Sum::new();
+    for _ in 0..turns {
+        let node = random.pick(nodes);
+        let next = scene.next_below(node, random.pick(nodes));
+        sum.add_found(scene.get(next.unwrap_or_default()));
+    }
+    sum
+}
+
+// The numbers of the nodes on a walk, where each is entered and left.
+fn sum_of_visits(scene: &Numbers, node: DefaultKey) -> Sum {
+    let mut sum = Sum::new();
+    for visit in scene.walk(node) {
+        match visit {
+            Visit::Enter(key) => sum.add_found(scene.get(key)),
+            Visit::Leave(key) => {
+                sum.add(u64::MAX);
+                sum.add_found(scene.get(key));
+            }
+        }
+    }
+    sum
+}
+
+/// Makes these calls: within a root, and those by chance anywhere.
+pub(crate) fn run_below(
+    rt: &HostRuntime,
+    scene: &mut Numbers,
+    nodes: &[DefaultKey],
+    random: &mut Random,
+    root: DefaultKey,
+) -> bool {
+    let turns = (nodes.len() as u64).min(1000);
+    tell(rt, "written", write_below(scene, root))
+        && tell(rt, "behind", sum_behind(scene, nodes, random, turns))
+        && tell(rt, "visits", sum_of_visits(scene, root))
 }

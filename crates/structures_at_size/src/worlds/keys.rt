@@ -13,7 +13,9 @@ fn sum_of_entities<T: Tables<DefaultKey>>(world: &Numbers<T>) -> Sum {
         sum.add_found(world.get(key));
     }
     for (key, number) in world.iter() {
-        sum.add_found(world.get(key));
+        if world.contains_key(key) {
+            sum.add(world[key]);
+        }
         sum.add(*number);
     }
     for (_, number) in world {

@@ -1,0 +1,36 @@
+//! Steps from node to node and from edge to edge of a graph.
+
+use crate::graphs::{Numbers, number_of};
+use crate::sums::Sum;
+
+// The numbers of all nodes by steps from node to node, and 1 if these end there.
+fn add_nodes_by_steps(graph: &Numbers, sum: &mut Sum) {
+    let mut last = None;
+    for _ in 0..graph.node_count() {
+        last = graph.next_node(last);
+        if let Some(node) = last {
+            sum.add(number_of(graph, node));
+        }
+    }
+    sum.add(u64::from(graph.next_node(last).is_none()));
+}
+
+// The same of all edges.
+fn add_edges_by_steps(graph: &Numbers, sum: &mut Sum) {
+    let mut last = None;
+    for _ in 0..graph.edge_count() {
+        last = graph.next_edge(last);
+        if let Some(edge) = last {
+            sum.add_found(graph.edge(edge));
+        }
+    }
+    sum.add(u64::from(graph.next_edge(last).is_none()));
+}
+
+/// The numbers of all nodes and edges by steps, and 1 where these end.
+pub(crate) fn sum_by_steps(graph: &Numbers) -> Sum {
+    let mut sum = Sum::new();
+    add_nodes_by_steps(graph, &mut sum);
+    add_edges_by_steps(graph, &mut sum);
+    sum
+}

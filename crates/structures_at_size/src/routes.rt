@@ -1,0 +1,128 @@
+//! Shortest paths in a graph of numbers.
+
+use crate::items::{first_of, keep};
+use crate::random::Random;
+use crate::sums::{Sum, tell};
+use slotmap::{NodeKey, SecondaryMap};
+use slotmap_graph::{EdgeKey, Graph};
+use slotmap_paths::{Costs, Paths, shortest_paths};
+
+type Roads = Graph<NodeKey, u64, u64>;
+
+// Adds nodes of the numbers below `count`. Like all that add, it returns whether all calls succeeded.
+fn add_nodes(roads: &mut Roads, nodes: &mut Vec<NodeKey>, count: u64) -> bool {
+    let mut done = true;
+    for number in 0..count {
+        done &= keep(nodes, roads.add_node(number));
+    }
+    done
+}
+
+// Adds an edge, and its cost to the table.
+fn add_road(roads: &mut Roads, costs: &mut Costs, from: NodeKey, to: NodeKey, cost: u64) -> bool {
+    match roads.add_edge(from, to, cost) {
+        Ok(edge) => costs.insert(edge, cost).is_ok(),
+        Err(_) => false,
+    }
+}
+
+// Adds edges between nodes by chance, with costs by chance.
+fn add_roads(
+    roads: &mut Roads,
+    costs: &mut Costs,
+    nodes: &[NodeKey],
+    random: &mut Random,
+    count: u64,
+) -> bool {
+    let mut done = true;
+    for _ in 0..count {
+        let from = random.pick(nodes);
+        let to = random.pick(nodes);
+        let cost = random.draw() % 1000;
+        done &= add_road(roads, costs, from, to, cost);
+    }
+    done
+}
+
+// Whether an edge has an even cost.
+fn is_even(costs: &Costs, edge: EdgeKey) -> bool {
+    match costs.get(edge) {
+        Some(cost) => *cost % 2 == 0,
+        None => false,
+    }
+}
+
+// Closes the edges with an even cost.
+fn close_even(roads: &Roads, costs: &mut Costs) {
+    for edge in roads.edges() {
+        if is_even(costs, edge) {
+            costs.remove(edge);
+        }
+    }
+}
+
+// The distance of a node. Where it wasn't found, it is the greatest number.
+fn distance_of(paths: &Paths<NodeKey>, node: NodeKey) -> u64 {
+    match paths.get(node) {
+        Some(reached) => reached.distance,
+        None => u64::MAX,
+    }
+}
+
+// The distance of each node.
+fn sum_of(paths: &Paths<NodeKey>, nodes: &[NodeKey]) -> Sum {
+    let mut sum = Sum::new();
+    for node in nodes {
+        sum.add(distance_of(paths, *node));
+    }
+    sum
+}
+
+// Finds the paths from the first node, and prints the distances.
+fn find(rt: &HostRuntime, roads: &Roads, costs: &Costs, nodes: &[NodeKey], what: &str) -> bool {
+    match shortest_paths(rt.alloc(), roads, first_of(nodes), costs) {
+        Ok(paths) => tell(rt, what, sum_of(&paths, nodes)),
+        Err(_) => false,
+    }
+}
+
+// The calls on an empty graph and an empty table.
+fn run_in(
+    rt: &HostRuntime,
+    roads: &mut Roads,
+    costs: &mut Costs,
+    nodes: &mut Vec<NodeKey>,
+    size: u64,
+) -> bool {
+    if !add_nodes(roads, nodes, size)
+        || !add_roads(
+            roads,
+            costs,
+            nodes.as_slice(),
+            &mut Random::new(7),
+            size.wrapping_mul(2),
+        )
+        || !find(rt, roads, costs, nodes.as_slice(), "distances")
+    {
+        return false;
+    }
+    close_even(roads, costs);
+    find(rt, roads, costs, nodes.as_slice(), "by odd costs")
+}
+
+// The same with a table that is made.
+fn make_costs(rt: &HostRuntime, roads: &mut Roads, size: u64) -> bool {
+    let Ok(mut costs) = SecondaryMap::new(rt.alloc()) else {
+        return false;
+    };
+    let mut nodes = Vec::new(rt.alloc());
+    run_in(rt, roads, &mut costs, &mut nodes, size)
+}
+
+/// Finds shortest paths, and returns whether all calls succeeded.
+pub fn run(rt: &HostRuntime, size: u64) -> bool {
+    let Ok(mut roads) = Graph::new(rt.alloc()) else {
+        return false;
+    };
+    println!(rt; " routes").is_ok() && make_costs(rt, &mut roads, size)
+}
