@@ -11,15 +11,20 @@ use std::alloc::Global;
 
 type Replies = Vec<Reply<DefaultKey, u64, u64, ()>>;
 
-fn look(value: &u64) -> u64 {
+/// Shows a value.
+pub fn look(value: &u64) -> u64
+    ensures { result ≡ value.now }
+{
     *value
 }
 
-fn keep(_key: DefaultKey, _value: &mut u64) -> bool {
+/// Keeps each value.
+pub fn keep(_key: DefaultKey, _value: &mut u64) -> bool {
     true
 }
 
-fn make(_key: DefaultKey) -> Result<u64, ()> {
+/// Makes no value.
+pub fn make(_key: DefaultKey) -> Result<u64, ()> {
     Err(())
 }
 

@@ -6,6 +6,7 @@ ghost use Rattle.std.specs.FinMap as map;
 ghost use Rattle.std.specs.List.{AllByRecursion};
 ghost use Rattle.slotmap.specs.Words.{HadMemory, JoinedOld, JoinedLooked, JoinedTaken, places};
 
+use crate::runs::look;
 use slotmap::{
     DefaultKey, Detaching, JoinedCommand, JoinedDetachCommand, JoinedReply, Primary, Secondary,
     SecondaryCommand, SecondaryReply, run_joined, run_joined_detaching, run_secondary,
@@ -47,12 +48,6 @@ pub fn run_on_both<S: Secondary<DefaultKey, u64>, T: Secondary<DefaultKey, u64>>
 }
 
 type JoinedReplies = Vec<JoinedReply<DefaultKey, u64, u64, u64>>;
-
-fn look(value: &u64) -> u64
-    ensures { result ≡ value.now }
-{
-    *value
-}
 
 /// Returns the value that a put replaced.
 fn replaced_at(replies: &JoinedReplies, at: usize) -> Option<Option<u64>>

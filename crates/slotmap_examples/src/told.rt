@@ -3,27 +3,13 @@
 ghost use Rattle.std.specs.Prelude.{◌≡◌, ◌<◌, ℕ, IfSome, Some, None, slice_get};
 ghost use Rattle.slotmap.specs.Words.{PlainCommand, GetCommand, RemoveCommand, LookedReply, TakenReply};
 
-use crate::runs::{has_key_at, looked_at, put_at, taken_at};
+use crate::runs::{has_key_at, keep, look, looked_at, make, put_at, taken_at};
 use slotmap::{Command, DefaultKey, DetachCommand, Detaching, Reply, run_detaching_new};
 use std::alloc::Global;
 
 type Commands = Vec<DetachCommand<DefaultKey, u64>>;
 
 type Replies = Vec<Reply<DefaultKey, u64, u64, ()>>;
-
-fn look(value: &u64) -> u64
-    ensures { result ≡ value.now }
-{
-    *value
-}
-
-fn keep(_key: DefaultKey, _value: &mut u64) -> bool {
-    true
-}
-
-fn make(_key: DefaultKey) -> Result<u64, ()> {
-    Err(())
-}
 
 // Returns the value that a look-up found.
 fn value_found_at(replies: &Replies, at: usize) -> u64

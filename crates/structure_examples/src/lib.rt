@@ -4,9 +4,11 @@
 pub mod arm;
 pub mod boats;
 pub mod bodies;
+pub mod colours;
 pub mod cursors;
 pub mod cuts;
 pub mod cycles;
+pub mod dirty;
 pub mod forward;
 pub mod fuses;
 pub mod groups;
