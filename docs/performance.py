@@ -223,14 +223,48 @@ def structures(figures):
         [f"{structure_of(kind)}: {it.title}", *[cell(*place) for place in places_of(kind, it.name)]]
         for kind in operations.STRUCTURES
         for it in operations.operations_of(MAPS[kind])
-        if figures.row("instructions", kind, it.name, 1_000)
+        if figures.row("instructions", kind, it.name, 1_000) and not operations.is_first(it)
     ]
     return table(["What", "instructions, 1,000 keys", "nanoseconds, 1,000 keys", "nanoseconds, 100,000 keys"], rows)
 
 
+def buildings(figures):
+    """Structures that are built in rounds, or as the first thing of a process, without and with room."""
+
+    def cell(measure, kind, op, slots):
+        row = figures.row(measure, kind, op.name, slots)
+        if measure == "time" and not operations.is_first(op):
+            return "above" if row else "?"
+        if not row:
+            return "?"
+        if measure == "faults":
+            return f"{row.port:,.0f} / {row.rust:,.0f}"
+        return f"{row.port:.1f} / {row.rust:.1f} = **{row.ratio:.2f}**"
+
+    sizes = (1_000, 100_000)
+    built = [(kind, it) for kind in operations.STRUCTURES for it in operations.operations_of(MAPS[kind]) if figures.row("faults", kind, it.name, sizes[0])]
+    told = [it for it in BUILD_MEASURES if any(figures.row(it, kind, op.name, sizes[0]) for kind, op in built if operations.is_first(op))]
+    rows = [
+        [f"{structure_of(kind)}: {op.title}", *[" · ".join(cell(measure, kind, op, size) for size in sizes) for measure in told]]
+        for kind, op in built
+    ]
+    return table(["What, at 1,000 · 100,000 keys", *[BUILD_MEASURES[it] for it in told]], rows)
+
+
+# What is told of a structure that is built.
+BUILD_MEASURES = {"instructions": "instructions", "faults": "page faults of a round", "time": "nanoseconds"}
+
+# The codes beside which a structure is measured once more.
+OTHERS = {
+    "ordered": ", the other with links both ways",
+    "petgraph": ", the other petgraph's `StableGraph`",
+    "stamped": ", the other with links as wide as indextree's",
+}
+
+
 def structure_of(kind):
-    """What a row calls a structure, and which of two other codes it is beside."""
-    return f"`{MAPS[kind].type}`" + ", the other with links both ways" * (kind == "ordered")
+    """What a row calls a structure, and which of several other codes it is beside."""
+    return f"`{MAPS[kind].type}`" + OTHERS.get(kind, "")
 
 
 def places_of(kind, operation):
@@ -294,7 +328,33 @@ def beside_rust(figures):
         f"since it keeps three vectors, and its look-ups of live keys {span(found)}. All calls but iterators and inserts take {span(others)} in the mean. "
         f"The other maps take {span(means['dense'] + means['hop'] + means['secondary'])} in all. Only the sparse one takes {span(means['sparse'])}, mostly by "
         f"its hasher: beside Rust's map with one like it, {span(means['folded'])}. A structure is built in {span(built)} times the instructions of code with "
-        f"plain indices, at 100,000 elements in {span(spent)} times its time."
+        f"plain indices, at 100,000 elements in {span(spent)} times its time. The first graph of a process is built in {beside_petgraph(figures, 0)} times the instructions of "
+        f"petgraph's `StableGraph`, with room in {beside_petgraph(figures, 1)}: reserve first."
+    )
+
+
+# Of each structure that has such rows, how one is built as the first thing of a process, without and with room.
+FIRST = {"list": ("push-first", "push-room"), "graph": ("build-first", "build-room"), "scene": ("build-first", "build-room")}
+
+
+def of_first(figures, kinds, place, slots):
+    """The ratios of instructions of structures that are built first in a process, without room (0) or with it (1)."""
+    places = [(it, FIRST[operations.AGAIN.get(it, it)][place], size) for it in kinds for size in slots]
+    rows = [figures.row("instructions", *it) for it in places]
+    return [it.ratio for it in rows if it]
+
+
+def beside_petgraph(figures, place):
+    return span(of_first(figures, ["petgraph"], place, (1_000, 100_000)))
+
+
+def reserve_first(figures):
+    """What docs/STRUCTURES.md says of building."""
+    plain, room = (span(of_first(figures, FIRST, it, (1_000, 100_000))) for it in (0, 1))
+    return (
+        f"**Reserve first.** The first list, graph or scene of a process is built in {plain} times the instructions of code with plain indices, with room in "
+        f"{room}. Beside petgraph's `StableGraph` that graph is built in {beside_petgraph(figures, 0)} times the instructions, with room in "
+        f"{beside_petgraph(figures, 1)} ([all rows](PERFORMANCE.md#building))."
     )
 
 
@@ -360,6 +420,8 @@ TABLES = {
     "values": values,
     "stepped": stepped,
     "structures": structures,
+    "buildings": buildings,
+    "cost-building": lambda it: paragraph(reserve_first(it)),
     "memory-structures": memory_structures,
     **{f"cost-{kind}": lambda it, kind=kind: cost_of(it, kind) for kind in BUILT},
 }

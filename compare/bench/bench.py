@@ -1,8 +1,9 @@
 #!/usr/bin/env python3
 """Measures the maps beside the Rust crate slotmap 1.1.1, and writes the table of all operations.
 
-SOURCE is the crate's folder (with src/lib.rs), and OUT a folder outside the repository, where everything is built. The rows
-of the file of results that are measured anew are replaced, and all others stay.
+SOURCE is the crate's folder (with src/lib.rs), and OUT a folder outside the repository, where everything is built. Where only
+structures are measured, nothing is read of SOURCE. The rows of the file of results that are measured anew are replaced, and all
+others stay.
 """
 
 import argparse
@@ -18,22 +19,23 @@ sys.dont_write_bytecode = True
 import build
 import results
 from measure import Bench
-from operations import FAMILIES, MAPS, STRUCTURES, operations_of
+from operations import FAMILIES, MAPS, STRUCTURES, is_build, operations_of
 
-SIZES = {"instructions": [1_000, 100_000], "time": [1_000, 100_000, 1_000_000], "memory": [1_000_000]}
+SIZES = {"instructions": [1_000, 100_000], "time": [1_000, 100_000, 1_000_000], "memory": [1_000_000], "faults": []}
 
 # The families with a few operations are measured at one size each.
-ONE_SIZE = {"instructions": [1_000], "time": [100_000], "memory": [1_000_000]}
+ONE_SIZE = {"instructions": [1_000], "time": [100_000], "memory": [1_000_000], "faults": []}
 
-# The structures are measured at two sizes.
-STRUCTURE_SIZES = {"instructions": [1_000], "time": [1_000, 100_000], "memory": [1_000_000]}
+# The structures are measured at two sizes, in instructions and page faults only where they are built.
+STRUCTURE_SIZES = {"instructions": [1_000], "time": [1_000, 100_000], "memory": [1_000_000], "faults": []}
+BUILD_SIZES = STRUCTURE_SIZES | {"instructions": [1_000, 100_000], "faults": [1_000, 100_000]}
 
 # The time of growth is measured at more keys, too.
 MANY = 10_000_000
 
 # Memory is measured where a map or a structure is filled, and where it is more than a few pages.
 FEW = 100_000
-FILLS = ("insert", "push", "build", "run")
+FILLS = ("push", "build", "run")
 
 
 def place_of(row):
@@ -47,9 +49,13 @@ def sizes_of(measure, kind, operation):
     if kind.family in ("Valued", "Stepped"):
         return ONE_SIZE[measure]
     if kind.name in STRUCTURES:
-        return STRUCTURE_SIZES[measure]
+        return (BUILD_SIZES if is_build(kind, operation) else STRUCTURE_SIZES)[measure]
     is_growth = measure == "time" and kind.family == "Primary" and operation.name == "insert"
     return SIZES[measure] + [MANY] * is_growth
+
+
+def is_fill(operation):
+    return operation.name.startswith("insert") or operation.name in FILLS
 
 
 def tasks(args):
@@ -60,7 +66,7 @@ def tasks(args):
             for operation in operations_of(kind):
                 is_wanted = not args.operations or operation.name in args.operations
                 for n in args.sizes or sizes_of(measure, kind, operation):
-                    if is_wanted and (measure != "memory" or operation.name.startswith(FILLS) and n >= FEW):
+                    if is_wanted and (measure != "memory" or is_fill(operation) and n >= FEW):
                         found.append((measure, kind, operation, n))
     return found
 
@@ -68,19 +74,25 @@ def tasks(args):
 class Table:
     """The file of results. Each row is written as soon as it is there, so that a run may be ended early."""
 
-    def __init__(self, path, commit):
-        self.path, self.commit = path, commit
+    def __init__(self, path, commit, spread):
+        self.path, self.commit, self.spread = path, commit, spread
         self.rows = results.read(path)
         self.lock = threading.Lock()
 
     def add(self, task, figures):
         measure, kind, operation, n = task
         port, rust, *ratios = figures
-        count = operation.count(n)
+        # Page faults are those of all calls of a round.
+        count = 1 if measure == "faults" else operation.count(n)
         place = measure, kind.name, operation.name, n
         row = results.Row(*place, port / count, rust / count, *ratios, self.commit, results.today())
         with self.lock:
-            print(results.line_of(row), flush=True)
+            is_wide = row.most - row.least > self.spread * row.ratio
+            print(results.line_of(row), *(["left out: the quartiles lie too far apart"] if is_wide else []), flush=True)
+            if is_wide:
+                self.rows.pop(place, None)
+                results.write(self.path, self.rows, place_of)
+                return row
             self.rows[place] = row
             results.write(self.path, self.rows, place_of)
         return row
@@ -103,7 +115,7 @@ def measured(bench, table, wanted, jobs):
 def print_means(rows):
     """The geometric mean of the ratios of each map, and how many of them are above 1.25."""
     groups = {}
-    for row in rows:
+    for row in (it for it in rows if it.measure != "faults"):
         groups.setdefault((row.measure, row.map, row.slots), []).append(row.ratio)
     for (measure, name, slots), ratios in groups.items():
         mean = math.exp(sum(math.log(it) for it in ratios) / len(ratios))
@@ -129,6 +141,8 @@ def options():
     parser.add_argument("--ms", type=int, default=40, help="milliseconds that a time takes at least")
     half = max(1, (os.cpu_count() or 1) // 2)
     parser.add_argument("--jobs", type=int, default=half, help=f"how many proofs, and runs of callgrind, go side by side; here {half}")
+    parser.add_argument("--spread", type=float, default=math.inf, help="times whose quartiles lie farther apart than this part of the ratio aren't kept; all are if left out")
+    parser.add_argument("--registry", metavar="FOLDER", default=build.REGISTRY, help=f"where petgraph's sources lie, and those of what it names; {build.REGISTRY} if left out")
     parser.add_argument("--crates", metavar="FOLDER", help="the crates of another copy of the repository")
     parser.add_argument("--built", action="store_true", help="measure what lies in OUT, and build nothing")
     return parser.parse_args()
@@ -142,10 +156,12 @@ def main():
     crates = args.crates or os.path.join(build.REPOSITORY, "crates")
     program = os.path.join(args.out, "bench")
     if not args.built:
-        program = build.build(os.path.abspath(args.out), args.source, crates, args.jobs)
+        program = build.build(os.path.abspath(args.out), args.source, crates, args.jobs, args.maps, args.registry)
+    if not build.has_petgraph(args.out):
+        args.maps = [it for it in args.maps if it != "petgraph"]
     path = args.results or os.path.join(args.out, "results.tsv")
     bench = Bench(os.path.abspath(program), args.runs, args.ms)
-    table = Table(path, results.commit_of(crates))
+    table = Table(path, results.commit_of(crates), args.spread)
     print_means(measured(bench, table, tasks(args), args.jobs))
     return 0
 

@@ -1,5 +1,6 @@
-"""Builds the driver: the Rust crate and the port's proved library in one program."""
+"""Builds the driver: the Rust crate and the port's proved library in one program, and petgraph if its sources are there."""
 
+import glob
 import os
 import re
 import shutil
@@ -13,7 +14,17 @@ REPOSITORY = os.path.dirname(os.path.dirname(HERE))
 LIBRARY = "bench_port"
 
 # Rattle builds for x86-64-v2 unless it is told otherwise, so both sides do.
-RUST_FLAGS = "--edition 2021 -C opt-level=3 -C codegen-units=1 -C panic=abort -C target-cpu=x86-64-v2 --cap-lints allow"
+RUST_FLAGS = "-C opt-level=3 -C codegen-units=1 -C panic=abort -C target-cpu=x86-64-v2 --cap-lints allow"
+
+# Where Debian's librust-petgraph-dev and the packages below it put their sources, and which of them are compiled: the name, the
+# version, what is switched on, and the crates that it names.
+REGISTRY = "/usr/share/cargo/registry"
+PETGRAPH = [
+    ("hashbrown", "0.12", 'feature="raw"', []),
+    ("indexmap", "1", "has_std", ["hashbrown"]),
+    ("fixedbitset", "0.4", 'feature="std"', []),
+    ("petgraph", "0.6", 'feature="stable_graph"', ["indexmap", "fixedbitset"]),
+]
 
 
 def run(command, folder=None):
@@ -85,10 +96,33 @@ def with_crates_below(names, lines):
     return sorted(found)
 
 
-def write_port(folder, crates):
+def parts_of(maps):
+    """The parts of the library that some maps need: `maps` for all that aren't structures, and each structure."""
+    measured = [operations.AGAIN.get(it, it) for it in maps]
+    return {it if it in operations.STRUCTURES else "maps" for it in measured}
+
+
+def kinds_of(parts):
+    own = [it for it in operations.MAPS if it.name not in operations.AGAIN]
+    return [it for it in own if (it.name if it.name in operations.STRUCTURES else "maps") in parts]
+
+
+def sources_of(parts):
+    """The files of the library, by their names."""
+    lacks = {"maps", *operations.STRUCTURES} - parts
+    found = {f"{it.name.replace('-', '_')}.rt": source_of_map(it) for it in kinds_of(parts)}
+    found["lib.rt"] = chosen(template("lib"), lacks)
+    found["operations.rt"] = operations.source_of_enums()
+    found["numbers.rt"] = template("numbers")
+    if "maps" in parts:
+        found["values.rt"] = template("values")
+    return found
+
+
+def write_port(folder, crates, parts):
     """A repository in `folder`: copies of the maps' crates and those below them, and the library over them."""
     lines = {it.split(":")[0]: it for it in read(os.path.join(crates, "../crates.txt")).split("\n") if it}
-    used = sorted({"slotmap", "slotmap_core"} | {it.crate for it in operations.MAPS})
+    used = sorted({"slotmap", "slotmap_core"} | {it.crate for it in kinds_of(parts)})
     copied = with_crates_below(used, lines)
     write(
         os.path.join(folder, "crates.txt"),
@@ -97,17 +131,16 @@ def write_port(folder, crates):
     for name in copied:
         mirror(os.path.join(crates, name), os.path.join(folder, "crates", name))
     source = os.path.join(folder, "crates", LIBRARY, "src")
-    for kind in operations.MAPS:
-        if kind.name not in operations.AGAIN:
-            write(os.path.join(source, f"{kind.name.replace('-', '_')}.rt"), source_of_map(kind))
-    write(os.path.join(source, "operations.rt"), operations.source_of_enums())
-    for name in ("lib", "numbers", "values"):
-        write(os.path.join(source, f"{name}.rt"), template(name))
+    files = sources_of(parts)
+    for name, text in files.items():
+        write(os.path.join(source, name), text)
+    for stale in set(os.listdir(source)) - set(files):
+        os.remove(os.path.join(source, stale))
 
 
-def build_port(folder, crates, jobs):
+def build_port(folder, crates, jobs, parts):
     """Proves and builds the library. Returns its path."""
-    write_port(folder, crates)
+    write_port(folder, crates, parts)
     if not os.path.isdir(os.path.join(folder, ".git")):
         run(["git", "init", "-q", folder])
     crate = os.path.join(folder, "crates", LIBRARY)
@@ -117,23 +150,56 @@ def build_port(folder, crates, jobs):
     return os.path.join(crate, "out", f"lib{LIBRARY}.a")
 
 
-def build_driver(folder, source, library):
-    """Compiles the Rust crate and the driver. Returns the program's path."""
+def compile_rust(folder, name, source, edition, flags, externs=(), kind="rlib"):
+    """Compiles a crate. `externs` are those that it names, which are compiled already. Returns the path of what was made."""
+    made = os.path.join(folder, name if kind == "bin" else f"lib{name}.rlib")
+    named = ["--crate-name", name, "--crate-type", kind, "--edition", edition, "-L", folder]
+    used = [word for it in externs for word in ("--extern", f"{it}={os.path.join(folder, f'lib{it}.rlib')}")]
+    run(["rustc", *RUST_FLAGS.split(), *named, *flags, *used, source, "-o", made])
+    return made
+
+
+def edition_of(crate):
+    found = re.search(r'^edition = "(\d+)"', read(os.path.join(crate, "Cargo.toml")), re.M)
+    return found.group(1) if found else "2015"
+
+
+def has_petgraph(out):
+    """Whether the program that lies in `out` was built with petgraph."""
+    return os.path.exists(os.path.join(out, "libpetgraph.rlib"))
+
+
+def build_petgraph(folder, registry):
+    """Compiles petgraph and what it names, if the sources are there."""
+    for name, _, _, _ in PETGRAPH:
+        made = os.path.join(folder, f"lib{name}.rlib")
+        if os.path.exists(made):
+            os.remove(made)
+    found = [sorted(glob.glob(os.path.join(registry, f"{name}-{version}.*"))) for name, version, _, _ in PETGRAPH]
+    if not all(found):
+        print(f"bench.py: no petgraph 0.6 in {registry}, as Debian's librust-petgraph-dev has it: its rows are left out")
+        return
+    for (name, _, switch, externs), [*_, crate] in zip(PETGRAPH, found):
+        compile_rust(folder, name, os.path.join(crate, "src/lib.rs"), edition_of(crate), ["--cfg", switch], externs)
+
+
+def build_driver(folder, source, library, parts):
+    """Compiles the Rust crate, if maps are measured, and the driver. Returns the program's path."""
     kit = os.path.dirname(run(["rt", "doc"]).strip())
-    crate = os.path.join(folder, "libslotmap.rlib")
-    flags = RUST_FLAGS.split()
-    named = ["--crate-name", "slotmap", "--crate-type", "rlib", "--cfg", 'feature="std"']
-    run(["rustc", *flags, *named, os.path.join(source, "src/lib.rs"), "-o", crate])
+    has = {"slotmap": "maps" in parts, "petgraph": has_petgraph(folder)}
+    if has["slotmap"]:
+        compile_rust(folder, "slotmap", os.path.join(source, "src/lib.rs"), "2021", ["--cfg", 'feature="std"'])
     shutil.copytree(os.path.join(HERE, "driver"), os.path.join(folder, "driver"), dirs_exist_ok=True)
     write(os.path.join(folder, "driver/operations.rs"), operations.source_of_enums())
-    program = os.path.join(folder, "bench")
-    linked = [f"-Clink-arg={library}", f"-Clink-arg={kit}/c/liblibc_c.a"]
-    named = ["--crate-name", "driver", "--extern", f"slotmap={crate}"]
-    run(["rustc", *flags, *named, *linked, os.path.join(folder, "driver/main.rs"), "-o", program])
-    return program
+    flags = [f"-Clink-arg={library}", f"-Clink-arg={kit}/c/liblibc_c.a"]
+    flags += [word for it, name in (("slotmap", "maps"), ("petgraph", "petgraph")) if has[it] for word in ("--cfg", name)]
+    externs = [it for it in has if has[it]]
+    return compile_rust(folder, "bench", os.path.join(folder, "driver/main.rs"), "2021", flags, externs, "bin")
 
 
-def build(out, source, crates, jobs):
+def build(out, source, crates, jobs, maps, registry):
     os.makedirs(out, exist_ok=True)
-    library = build_port(os.path.join(out, "port"), crates, jobs)
-    return build_driver(out, source, library)
+    parts = parts_of(maps)
+    library = build_port(os.path.join(out, "port"), crates, jobs, parts)
+    build_petgraph(out, registry)
+    return build_driver(out, source, library, parts)

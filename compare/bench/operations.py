@@ -119,6 +119,8 @@ STEPPED = [
 
 LIST = [
     Operation("push", "Push", "`push_back`, from an empty list", each),
+    Operation("push-first", "PushFirst", "`push_back`, the first list", each),
+    Operation("push-room", "PushRoom", "`push_back`, the first list, with room", each),
     Operation("walk", "Walk", "a step of `iter`, over elements in random order", each),
     Operation("touch", "Touch", "`move_to_front` of a random element", each),
     Operation("churn", "Churn", "a removal by cursor, and `push_back`", each),
@@ -126,6 +128,8 @@ LIST = [
 
 GRAPH = [
     Operation("build", "Build", "`add_edge`, and a fourth of `add_node`", fourfold),
+    Operation("build-first", "BuildFirst", "`add_edge`, and a fourth of `add_node`, the first graph", fourfold),
+    Operation("build-room", "BuildRoom", "`add_edge`, and a fourth of `add_node`, the first graph, with room", fourfold),
     Operation("ends", "Ends", "an edge of `edges_from`, and the value at its end", fourfold),
     Operation("search", "Search", "a node of `reachable`, and its value", each),
     Operation("churn", "Churn", "`remove_edge`, and `add_edge`", fourfold),
@@ -133,6 +137,8 @@ GRAPH = [
 
 SCENE = [
     Operation("build", "Build", "`add_child` below a random node", each),
+    Operation("build-first", "BuildFirst", "`add_child` below a random node, the first scene", each),
+    Operation("build-room", "BuildRoom", "`add_child` below a random node, the first scene, with room", each),
     Operation("move", "Move", "`reparent` to a random node", each),
     Operation("climb", "Climb", "`fold_up` from a node to its root", each),
     Operation("children", "Children", "a node of `children`, and its value", each),
@@ -163,16 +169,18 @@ FAMILIES = {
     "World": WORLD,
 }
 
-# The structures are compared with hand-written versions, written for the bench (driver/list.rs and its like).
-STRUCTURES = ["list", "graph", "ordered", "scene", "scheduler", "world"]
+# The structures are compared with hand-written versions, written for the bench (driver/list.rs and its like), and the graph with
+# petgraph's, too.
+STRUCTURES = ["list", "graph", "ordered", "petgraph", "scene", "stamped", "scheduler", "world"]
 
 # What the model of a SlotMap has (driver/columns.rs).
 MODELLED = ["insert", "insert-room", "get-live", "get-stale", "contains", "churn"]
 
 # The rows of these maps have the port's side of others: `folded` is the port's sparse map beside the Rust crate's with a hasher
-# like the port's, `columns` the port's SlotMap beside a model of its layout, three vectors in Rust, and `ordered` the port's Graph
-# beside one with links both ways.
-AGAIN = ["folded", "columns", "ordered"]
+# like the port's, `columns` the port's SlotMap beside a model of its layout, three vectors in Rust, `ordered` the port's Graph beside
+# one with links both ways, `petgraph` the same beside petgraph's StableGraph, and `stamped` the port's Scene beside a tree with wide
+# links.
+AGAIN = {"folded": "sparse", "columns": "basic", "ordered": "graph", "petgraph": "graph", "stamped": "scene"}
 
 # `stepped` is a SecondaryMap in step with a SlotMap.
 MAPS = [
@@ -191,9 +199,21 @@ MAPS = [
     Map("scene", 12, "Scene", "slotmap_scene", "Scene", []),
     Map("scheduler", 13, "Scheduler", "slotmap_scheduler", "Scheduler", []),
     Map("ordered", 16, "Graph", "slotmap_graph", "Graph", []),
+    Map("petgraph", 17, "Graph", "slotmap_graph", "Graph", []),
+    Map("stamped", 18, "Scene", "slotmap_scene", "Scene", ["move", "climb", "children"]),
     Map("world", 15, "World", "slotmap_entities", "World", []),
     Map("columns", 14, "SlotMap", "slotmap_basic", "Primary", [it.name for it in PRIMARY if it.name not in MODELLED]),
 ]
+
+
+def is_first(operation):
+    """Whether it is measured as the first thing that a process does, so that no memory was handed back before."""
+    return operation.name in ("push-first", "push-room", "build-first", "build-room")
+
+
+def is_build(kind, operation):
+    """Whether it builds a list, a graph or a scene."""
+    return kind.family in ("List", "Graph", "Scene") and operation.name.startswith(("push", "build"))
 
 
 def operations_of(kind):

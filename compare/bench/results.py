@@ -6,8 +6,8 @@ import platform
 import subprocess
 from collections import namedtuple
 
-# measure: `instructions` or `time` (nanoseconds) for one call, step or key, or `memory` (bytes for a key). Of times, `least` and
-# `most` are the quartiles of the ratios of neighbouring runs.
+# measure: `instructions` or `time` (nanoseconds) for one call, step or key, `memory` (bytes for a key), or `faults` (the page faults of
+# a whole round). Of times, `least` and `most` are the quartiles of the ratios of neighbouring runs.
 Row = namedtuple("Row", "measure map operation slots port rust ratio least most commit date")
 HEAD = "\t".join(Row._fields)
 
@@ -58,8 +58,8 @@ def processor():
 def machine():
     return [
         f"Written by compare/bench/bench.py, last on {today()}. Here and in the Rust crate slotmap 1.1.1, for one call, step or key.",
-        f"Machine: {processor()}; Linux {platform.release()}.",
-        f"Tools: {first_line(['rt', 'version'])}; {first_line(['rustc', '--version'])}; {first_line(['valgrind', '--version'])}.",
+        f"Machine of the last run: {processor()}; Linux {platform.release()}.",
+        f"Tools of the last run: {first_line(['rt', 'version'])}; {first_line(['rustc', '--version'])}; {first_line(['valgrind', '--version'])}.",
     ]
 
 

@@ -1,5 +1,6 @@
-//! A graph in two vectors, in which each edge names the next edge at both of its ends, as petgraph's stable graph has it. The
-//! operations are those of port/graph.template. `ordered.rs` has the same with links both ways.
+//! A graph in two vectors, in which each edge names the next edge at both of its ends. No link leads back, and a vacant place has no
+//! mark. The operations are those of port/graph.template. `ordered.rs` has the same with links both ways, and `stable.rs` petgraph's
+//! `StableGraph`.
 
 use crate::operations::Graph as Operation;
 use crate::shuffler::Shuffler;
@@ -11,17 +12,34 @@ pub const END: u32 = u32::MAX;
 /// A graph of nodes with values, whose edges have values too.
 pub trait Network {
     fn new() -> Self;
+    fn with_room(nodes: usize, edges: usize) -> Self;
     fn add_node(&mut self, value: u64);
     fn add_edge(&mut self, from: u32, to: u32, value: u64) -> u32;
     fn remove_edge(&mut self, edge: u32) -> u64;
     fn ends(&self, edge: u32) -> [u32; 2];
-    /// The first edge from a node, or `END`.
-    fn first(&self, node: u32) -> u32;
-    /// Where an edge leads, and the edge behind it, or `END`.
-    fn step(&self, edge: u32) -> Option<(u32, u32)>;
+    /// The nodes to which the edges from a node lead.
+    fn far_ends(&self, from: u32) -> impl Iterator<Item = u32>;
     fn value(&self, node: u32) -> u64;
     fn node_count(&self) -> usize;
     fn edge_count(&self) -> u64;
+
+    /// The sum of the values of all nodes to which a path leads.
+    fn search(&self, start: u32) -> u64
+    where
+        Self: Sized,
+    {
+        search(self, start)
+    }
+}
+
+/// The far ends of the edges from `first` on. `step` tells where an edge leads, and which one is behind it.
+pub fn along<F: Fn(u32) -> Option<(u32, u32)>>(first: u32, step: F) -> impl Iterator<Item = u32> {
+    let mut at = first;
+    std::iter::from_fn(move || {
+        let (to, next) = step(at)?;
+        at = next;
+        Some(to)
+    })
 }
 
 struct Node {
@@ -61,7 +79,11 @@ impl Net {
 
 impl Network for Net {
     fn new() -> Net {
-        Net { nodes: Vec::new(), edges: Vec::new(), vacant: END, edge_count: 0 }
+        Net::with_room(0, 0)
+    }
+
+    fn with_room(nodes: usize, edges: usize) -> Net {
+        Net { nodes: Vec::with_capacity(nodes), edges: Vec::with_capacity(edges), vacant: END, edge_count: 0 }
     }
 
     fn add_node(&mut self, value: u64) {
@@ -98,13 +120,11 @@ impl Network for Net {
         self.edges[edge as usize].ends
     }
 
-    fn first(&self, node: u32) -> u32 {
-        self.nodes[node as usize].edges[0]
-    }
-
-    fn step(&self, edge: u32) -> Option<(u32, u32)> {
-        let edge = self.edges.get(edge as usize)?;
-        Some((edge.ends[1], edge.next[0]))
+    fn far_ends(&self, from: u32) -> impl Iterator<Item = u32> {
+        along(self.nodes[from as usize].edges[0], |edge| {
+            let edge = self.edges.get(edge as usize)?;
+            Some((edge.ends[1], edge.next[0]))
+        })
     }
 
     fn value(&self, node: u32) -> u64 {
@@ -120,18 +140,10 @@ impl Network for Net {
     }
 }
 
-/// The nodes to which the edges from a node lead.
-fn far_ends<N: Network>(net: &N, from: u32) -> impl Iterator<Item = u32> + '_ {
-    let mut at = net.first(from);
-    std::iter::from_fn(move || {
-        let (to, next) = net.step(at)?;
-        at = next;
-        Some(to)
-    })
-}
-
-fn filled<N: Network>(n: u64) -> (N, Vec<u32>) {
-    let (mut net, mut edges, mut shuffler) = (N::new(), Vec::new(), Shuffler::new());
+fn filled<N: Network>(n: u64, has_room: bool) -> (N, Vec<u32>) {
+    let (nodes, room) = if has_room { (n as usize, 4 * n as usize) } else { (0, 0) };
+    let mut net = if has_room { N::with_room(nodes, room) } else { N::new() };
+    let (mut edges, mut shuffler) = (Vec::with_capacity(room), Shuffler::new());
     for value in 0..n {
         net.add_node(value);
     }
@@ -147,7 +159,7 @@ fn filled<N: Network>(n: u64) -> (N, Vec<u32>) {
 fn ends<N: Network>(net: &N) -> u64 {
     let mut sum = Sum::default();
     for from in 0..net.node_count() as u32 {
-        for to in far_ends(net, from) {
+        for to in net.far_ends(from) {
             sum.add(net.value(to));
         }
     }
@@ -161,7 +173,7 @@ fn search<N: Network>(net: &N, start: u32) -> u64 {
     seen[start as usize] = true;
     while let Some(node) = left.pop_front() {
         sum.add(net.value(node));
-        for to in far_ends(net, node) {
+        for to in net.far_ends(node) {
             if !std::mem::replace(&mut seen[to as usize], true) {
                 left.push_back(to);
             }
@@ -181,18 +193,31 @@ fn churn<N: Network>(net: &mut N, edges: &mut [u32]) -> u64 {
     sum.0
 }
 
-pub fn workload_of<N: Network>(operation: Operation, n: u64, rounds: u64) -> u64 {
-    let (mut net, mut edges) = filled::<N>(n);
+/// Graphs that are built in a process that has done nothing before.
+fn built_first<N: Network>(n: u64, rounds: u64, has_room: bool) -> u64 {
+    (0..rounds).map(|_| filled::<N>(n, has_room).0.edge_count()).sum()
+}
+
+fn steady<N: Network>(operation: Operation, n: u64, rounds: u64) -> u64 {
+    let (mut net, mut edges) = filled::<N>(n, false);
     let mut sum = Sum::default();
     for _ in 0..rounds {
         sum.add(match operation {
-            Operation::Build => filled::<N>(n).0.edge_count(),
             Operation::Ends => ends(&net),
-            Operation::Search => search(&net, 0),
+            Operation::Search => net.search(0),
             Operation::Churn => churn(&mut net, &mut edges),
+            _ => filled::<N>(n, false).0.edge_count(),
         });
     }
     sum.0
+}
+
+pub fn workload_of<N: Network>(operation: Operation, n: u64, rounds: u64) -> u64 {
+    match operation {
+        Operation::BuildFirst => built_first::<N>(n, rounds, false),
+        Operation::BuildRoom => built_first::<N>(n, rounds, true),
+        _ => steady::<N>(operation, n, rounds),
+    }
 }
 
 pub fn workload(operation: Operation, n: u64, rounds: u64) -> u64 {

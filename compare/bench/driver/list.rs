@@ -22,8 +22,8 @@ struct List {
 }
 
 impl List {
-    fn new() -> List {
-        List { nodes: Vec::new(), vacant: END, first: END, last: END, len: 0 }
+    fn with_room(n: usize) -> List {
+        List { nodes: Vec::with_capacity(n), vacant: END, first: END, last: END, len: 0 }
     }
 
     fn push_back(&mut self, value: u64) -> u32 {
@@ -88,8 +88,8 @@ impl List {
     }
 }
 
-fn push_all(n: u64) -> u64 {
-    let mut list = List::new();
+fn push_all(n: u64, has_room: bool) -> u64 {
+    let mut list = List::with_room(if has_room { n as usize } else { 0 });
     for i in 0..n {
         list.push_back(i);
     }
@@ -113,18 +113,31 @@ fn churn(list: &mut List, places: &mut [u32]) -> u64 {
     sum.0
 }
 
-pub fn workload(operation: Operation, n: u64, rounds: u64) -> u64 {
-    let mut list = List::new();
+/// Lists that are filled in a process that has done nothing before.
+fn pushed_first(n: u64, rounds: u64, has_room: bool) -> u64 {
+    (0..rounds).map(|_| push_all(n, has_room)).sum()
+}
+
+fn steady(operation: Operation, n: u64, rounds: u64) -> u64 {
+    let mut list = List::with_room(0);
     let mut places: Vec<u32> = (0..n).map(|i| list.push_back(i)).collect();
     Shuffler::new().shuffle(&mut places);
     let mut sum = Sum(touch(&mut list, &places));
     for _ in 0..rounds {
         sum.add(match operation {
-            Operation::Push => push_all(n),
             Operation::Walk => list.walk(),
             Operation::Touch => touch(&mut list, &places),
             Operation::Churn => churn(&mut list, &mut places),
+            _ => push_all(n, false),
         });
     }
     sum.0
+}
+
+pub fn workload(operation: Operation, n: u64, rounds: u64) -> u64 {
+    match operation {
+        Operation::PushFirst => pushed_first(n, rounds, false),
+        Operation::PushRoom => pushed_first(n, rounds, true),
+        _ => steady(operation, n, rounds),
+    }
 }

@@ -2,29 +2,42 @@
 //!
 //!     driver sum SIDE MAP OPERATION N ROUNDS     prints the checksum; callgrind counts this
 //!     driver time SIDE MAP OPERATION N MS        prints the nanoseconds of processor time of one round
+//!     driver once SIDE MAP OPERATION N 1         prints the nanoseconds of the first round of a process
+//!     driver faults SIDE MAP OPERATION N ROUNDS  prints the checksum and the page faults
 //!     driver peak SIDE MAP OPERATION N ROUNDS    prints the checksum and the greatest resident size in bytes
 //!
 //! SIDE is `rust` or `port`; MAP and OPERATION are the numbers of operations.py. A run sets up its operation at N keys once,
 //! and does ROUNDS rounds of it. So what one round costs is the difference of two runs, without set-up and start.
 
 mod clock;
+#[cfg(maps)]
 mod columns;
+#[cfg(maps)]
 mod folded;
 mod graph;
 mod list;
 mod operations;
 mod ordered;
+#[cfg(maps)]
 mod primary;
 mod scene;
 mod scheduler;
+#[cfg(maps)]
 mod secondary;
 mod shuffler;
+#[cfg(petgraph)]
+mod stable;
+mod stamped;
+#[cfg(maps)]
 mod stepped;
 mod value;
+#[cfg(maps)]
 mod valued;
 mod world;
 
-use operations::{Graph, List, Primary, Scene, Scheduler, Secondary, Stepped, World};
+use operations::{Graph, List, Scene, Scheduler, World};
+#[cfg(maps)]
+use operations::{Primary, Secondary, Stepped};
 use std::hint::black_box;
 use std::process::ExitCode;
 
@@ -36,7 +49,9 @@ unsafe extern "C" {
     fn port_bench(map: u32, operation: u32, n: u64, rounds: u64) -> u64;
 }
 
-fn rust_bench(map: u32, operation: u32, n: u64, rounds: u64) -> Option<u64> {
+/// The crate's maps, and the models beside which the port's maps are measured.
+#[cfg(maps)]
+fn of_maps(map: u32, operation: u32, n: u64, rounds: u64) -> Option<u64> {
     let primary = Primary::of_number(operation);
     let secondary = Secondary::of_number(operation);
     match map {
@@ -50,14 +65,29 @@ fn rust_bench(map: u32, operation: u32, n: u64, rounds: u64) -> Option<u64> {
         7 => valued::dense::workload(operation, n, rounds),
         8 => valued::hop::workload(operation, n, rounds),
         9 => Some(stepped::workload(Stepped::of_number(operation)?, n, rounds)),
+        14 => columns::workload(primary?, n, rounds),
+        _ => None,
+    }
+}
+
+/// A driver that is built for structures alone has no maps.
+#[cfg(not(maps))]
+fn of_maps(_map: u32, _operation: u32, _n: u64, _rounds: u64) -> Option<u64> {
+    None
+}
+
+fn rust_bench(map: u32, operation: u32, n: u64, rounds: u64) -> Option<u64> {
+    match map {
         10 => Some(list::workload(List::of_number(operation)?, n, rounds)),
         11 => Some(graph::workload(Graph::of_number(operation)?, n, rounds)),
         12 => Some(scene::workload(Scene::of_number(operation)?, n, rounds)),
         13 => Some(scheduler::workload(Scheduler::of_number(operation)?, n, rounds)),
-        14 => columns::workload(primary?, n, rounds),
         15 => world::workload(World::of_number(operation)?, n, rounds),
         16 => Some(ordered::workload(Graph::of_number(operation)?, n, rounds)),
-        _ => None,
+        #[cfg(petgraph)]
+        17 => Some(stable::workload(Graph::of_number(operation)?, n, rounds)),
+        18 => Some(stamped::workload(Scene::of_number(operation)?, n, rounds)),
+        _ => of_maps(map, operation, n, rounds),
     }
 }
 
@@ -86,10 +116,13 @@ impl Work {
         let (n, rounds) = (black_box(self.n), black_box(rounds));
         if self.is_port {
             // The port has one sparse map and one `SlotMap`. The sparse map is compared with two of the crate's, which differ in
-            // their hashers, and the `SlotMap` with the crate's and with a model of its layout.
+            // their hashers, and the `SlotMap` with the crate's and with a model of its layout. Its graph and its scene are
+            // compared with several others.
             let map = match map {
                 5 => 4,
                 14 => 0,
+                16 | 17 => 11,
+                18 => 12,
                 _ => map,
             };
             // SAFETY: the function takes any numbers.
@@ -132,6 +165,12 @@ fn run(words: &[String]) -> Option<String> {
     Some(match mode.as_str() {
         "sum" => work.sum(last.parse().ok()?).to_string(),
         "time" => format!("{:.1}", work.time_of_round(last.parse().ok()?)),
+        "once" => format!("{:.1}", work.least_time(1, 1)),
+        "faults" => {
+            let before = clock::page_faults()?;
+            let sum = work.sum(last.parse().ok()?);
+            format!("{sum} {}", clock::page_faults()? - before)
+        }
         "peak" => {
             clock::map_large_blocks();
             let sum = work.sum(last.parse().ok()?);
@@ -149,7 +188,7 @@ fn main() -> ExitCode {
             ExitCode::SUCCESS
         }
         None => {
-            eprintln!("usage: driver sum|time|peak SIDE MAP OPERATION N ROUNDS|MS");
+            eprintln!("usage: driver sum|time|once|faults|peak SIDE MAP OPERATION N ROUNDS|MS");
             ExitCode::from(2)
         }
     }

@@ -1,7 +1,7 @@
 //! A graph as in `graph.rs`, in which each edge names its two neighbours at both of its ends. A new edge is put behind the
 //! others, and is removed without a search, as in the port.
 
-use crate::graph::{END, Network, workload_of};
+use crate::graph::{END, Network, along, workload_of};
 use crate::operations::Graph as Operation;
 
 struct Node {
@@ -46,7 +46,11 @@ impl Net {
 
 impl Network for Net {
     fn new() -> Net {
-        Net { nodes: Vec::new(), edges: Vec::new(), vacant: END, edge_count: 0 }
+        Net::with_room(0, 0)
+    }
+
+    fn with_room(nodes: usize, edges: usize) -> Net {
+        Net { nodes: Vec::with_capacity(nodes), edges: Vec::with_capacity(edges), vacant: END, edge_count: 0 }
     }
 
     fn add_node(&mut self, value: u64) {
@@ -89,13 +93,11 @@ impl Network for Net {
         self.edges[edge as usize].ends
     }
 
-    fn first(&self, node: u32) -> u32 {
-        self.nodes[node as usize].edges[0][0]
-    }
-
-    fn step(&self, edge: u32) -> Option<(u32, u32)> {
-        let edge = self.edges.get(edge as usize)?;
-        Some((edge.ends[1], edge.next[0]))
+    fn far_ends(&self, from: u32) -> impl Iterator<Item = u32> {
+        along(self.nodes[from as usize].edges[0][0], |edge| {
+            let edge = self.edges.get(edge as usize)?;
+            Some((edge.ends[1], edge.next[0]))
+        })
     }
 
     fn value(&self, node: u32) -> u64 {

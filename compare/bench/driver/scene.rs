@@ -1,5 +1,5 @@
-//! A tree in one vector, whose siblings are linked, as indextree has it. A move looks first whether it would make a cycle. The
-//! operations are those of port/scene.template.
+//! A tree in one vector, whose siblings are linked both ways by numbers of 4 bytes. A move looks first whether it would make a cycle.
+//! The operations are those of port/scene.template. `stamped.rs` is built with links as wide as indextree's.
 
 use crate::operations::Scene as Operation;
 use crate::shuffler::Shuffler;
@@ -21,6 +21,10 @@ struct Tree {
 }
 
 impl Tree {
+    fn with_room(n: usize) -> Tree {
+        Tree { nodes: Vec::with_capacity(n) }
+    }
+
     fn add(&mut self, value: u64) -> u32 {
         self.nodes.push(Node { value, parent: END, prev: END, next: END, first: END, last: END });
         self.nodes.len() as u32 - 1
@@ -67,8 +71,8 @@ impl Tree {
     }
 }
 
-fn filled(n: u64) -> Tree {
-    let (mut tree, mut shuffler) = (Tree { nodes: Vec::new() }, Shuffler::new());
+fn filled<const HAS_ROOM: bool>(n: u64) -> Tree {
+    let (mut tree, mut shuffler) = (Tree::with_room(if HAS_ROOM { n as usize } else { 0 }), Shuffler::new());
     tree.add(0);
     for value in 1..n {
         let parent = shuffler.below(value as usize) as u32;
@@ -111,17 +115,30 @@ fn list_children(tree: &Tree) -> u64 {
     sum.0
 }
 
-pub fn workload(operation: Operation, n: u64, rounds: u64) -> u64 {
-    let mut tree = filled(n);
+/// Trees that are built in a process that has done nothing before.
+fn built_first<const HAS_ROOM: bool>(n: u64, rounds: u64) -> u64 {
+    (0..rounds).map(|_| filled::<HAS_ROOM>(n).nodes.len() as u64).sum()
+}
+
+fn steady(operation: Operation, n: u64, rounds: u64) -> u64 {
+    let mut tree = filled::<false>(n);
     let mut shuffler = Shuffler::new();
     let mut sum = Sum::default();
     for _ in 0..rounds {
         sum.add(match operation {
-            Operation::Build => filled(n).nodes.len() as u64,
             Operation::Move => move_all(&mut tree, &mut shuffler),
             Operation::Climb => climb(&tree),
             Operation::Children => list_children(&tree),
+            _ => filled::<false>(n).nodes.len() as u64,
         });
     }
     sum.0
+}
+
+pub fn workload(operation: Operation, n: u64, rounds: u64) -> u64 {
+    match operation {
+        Operation::BuildFirst => built_first::<false>(n, rounds),
+        Operation::BuildRoom => built_first::<true>(n, rounds),
+        _ => steady(operation, n, rounds),
+    }
 }

@@ -1,5 +1,6 @@
 //! The values of the crate's maps, and what both families of maps need.
 
+#[cfg(maps)]
 use slotmap::{DefaultKey, Key};
 
 /// A number of 64 bits. Each operation has a type of its own, `AT`, so the crate's code is compiled for it alone, and
@@ -14,6 +15,7 @@ impl<const AT: u32> Value<AT> {
     }
 }
 
+#[cfg(maps)]
 pub fn number(key: DefaultKey) -> u64 {
     key.data().as_ffi()
 }
