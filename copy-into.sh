@@ -49,7 +49,7 @@ for name in "${wanted[@]}"; do
     (cd "$here/crates/$name" && rt lib >&2)
 done
 
-# A repository of these crates alone. The tests of the facade are left out, so it is proved once more, in a minute.
+# A repository of these crates alone.
 room=$(mktemp -d)
 trap 'rm -rf "$room"' EXIT
 cp "$here/HANDLES" "$room/"
@@ -61,8 +61,6 @@ for name in "${crates[@]}"; do
     done
     cp -r "$here/crates/$name/out/rlib" "$room/crates/$name/out/"
 done
-rm -rf "$room"/crates/slotmap/{src,proofs}/tests "$room/crates/slotmap/src/tests.rt"
-sed -i '/^#\[cfg(test)\]$/{N;/\nmod tests;$/d}' "$room/crates/slotmap/src/lib.rt"
 git -C "$room" init --quiet
 for name in "${wanted[@]}"; do
     (cd "$room/crates/$name" && rt lib >&2)

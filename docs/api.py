@@ -74,6 +74,8 @@ SAME_CALLS = [
     "A clause of one meaning has one name in all of them.",
     "",
 ]
+# What stands on a structure: a library of functions, with a page of its own.
+PATHS = "slotmap_paths"
 # What the structures share, with a page of its own.
 SHARED = "slotmap_bounded"
 # A library that needs no map.
@@ -354,10 +356,10 @@ def new_page(name, title):
 
 def pages_of_structures():
     """A page for each structure."""
-    for crate in [*STRUCTURES, SHARED, ALONE]:
+    for crate in [*STRUCTURES, PATHS, SHARED, ALONE]:
         head, items = module_items(crate, "")
         page = new_page(crate, crate)
-        listed = crate if crate == ALONE else f"slotmap {crate}"
+        listed = crate if crate == ALONE else f"slotmap slotmap_graph {crate}" if crate == PATHS else f"slotmap {crate}"
         page.add(f"To use it, list `{listed}` in `crates.txt`.", "", *prose(head), "")
         for item in items:
             if not item.public or item.kind not in ("struct", "enum", "type", "fn", "trait"):
@@ -415,7 +417,7 @@ def first_page(all_items):
     page.add("| Type | What it is |", "|---|---|")
     for crate, (name, what) in STRUCTURES.items():
         page.add(f"| [`{crate}::{name}`](api/{crate}.md) | {what} |")
-    page.add("", "These are their calls:", "")
+    page.add("", f"On the graph stands [`{PATHS}`](api/{PATHS}.md): the shortest paths from a node, by costs in a table.", "", "These are the calls of the structures:", "")
     add_table_of_structures(page)
     page.heading(2, "Calls for C")
     page.add(f"The exports of the static library have [a page](api/{FOR_C}.md) with their contracts. [C.md](C.md) says how to use them.")

@@ -42,7 +42,7 @@ ORDER = [
             ("SecondaryMap", "secondary_map"), ("SparseSecondaryMap", "sparse_secondary_map"), ("Traits", "traits"),
             ("Keys", "keys"), ("Errors", "errors"), ("Lists of slots and JSON", "lists_and_json"), ("Runs", "runs"),
             ("StableList", "slotmap_list"), ("Graph", "slotmap_graph"), ("World", "slotmap_entities"),
-            ("Scene", "slotmap_scene"), ("Scheduler", "slotmap_scheduler"),
+            ("Scene", "slotmap_scene"), ("Scheduler", "slotmap_scheduler"), ("Shortest paths", "slotmap_paths"),
             ("A map with a bound", "slotmap_bounded"), ("Lists of numbers", "slotmap_links"), ("Calls for C", "slotmap_c"),
         )],
     ]),

@@ -42,7 +42,10 @@ STRUCTURES = (
     "slotmap_entities",
     "slotmap_scene",
     "slotmap_scheduler",
+    "slotmap_paths",
 )
+# The crates whose names the examples of a crate use too.
+ALSO = {"slotmap_paths": ("slotmap_graph",)}
 OTHER_HEAD = "let alloc = rt.alloc();"
 # The table of calls in CALLING.md, and the lines that come before each of its rows.
 TABLE, TABLE_HEADING = "crates/slotmap/CALLING.md", "## From Rust's slotmap"
@@ -271,7 +274,7 @@ def write_crate(folder, examples):
         names = [it for it in facade_names() + ["Key"] if it in words or it == "Key"]
         out, where = [f"use slotmap::{{{', '.join(sorted(set(names)))}}};"], {}
         if crate in STRUCTURES:
-            out += [f"use {it};" for it in names_of_structure(crate) if it.split("::")[-1] in words]
+            out += [f"use {it};" for one in (crate, *ALSO.get(crate, ())) for it in names_of_structure(one) if it.split("::")[-1] in words]
         if "Value" in words:
             out.append("use serde_json::Value;")
         if "Global" in words:

@@ -21,11 +21,13 @@ SOURCES = {
     'call maps keyed many sized held lists runs kinds walks steps replies stop script': 'that part of a program that reads rows or scripts, or of a run',
     'commands errors keys joined json clones scheduler packed': 'that subject: its definition, its tests, or an example of it',
     'blocks disjoint entries owned slices': 'the blocks of vacant slots, several keys at once, entries, owned iterators, or packed slices: the calls, or guards of their contracts',
+    'entities graph scene': 'that structure: its tests, or guards of its contracts',
     'debug shown': 'the text of a type in a debugger, or its tests',
     'handle': 'a handle for C: of a map, or of a side table',
     'messages': 'what the errors of a structure say, and the debug texts of its types',
     'links search rows': 'links of nodes or slots; a search along them; rows of a layout or of a file',
     'room': 'room for more keys: of a list, or in examples',
+    'next_after': 'that call: of a map, or of a bounded map',
 }
 
 LEMMAS = {

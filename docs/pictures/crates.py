@@ -10,9 +10,9 @@ from svg import BLUE, FOLDER, GREEN, INK, ORANGE, RED, SOFT, Picture, fitted
 
 # The five structures stand as one: each uses slotmap alone.
 STRUCTURES = "five structures"
-# So do the crates of their tests.
-TESTS = "their tests"
-MEMBERS = {"slotmap_list", "slotmap_links", "slotmap_bounded", "slotmap_graph", "slotmap_entities", "slotmap_scene", "slotmap_scheduler"}
+# So do two crates of tests.
+TESTS = "other tests"
+MEMBERS = {"slotmap_list", "slotmap_links", "slotmap_bounded", "slotmap_graph", "slotmap_entities", "slotmap_scene", "slotmap_scheduler", "slotmap_paths"}
 # Where each crate is: its column and row, and what it has.
 CRATES = {
     "slotmap_core": (3.0, 0, "keys, errors, traits, lists of slots, definitions"),
@@ -34,7 +34,7 @@ CRATES = {
     STRUCTURES: (5.5, 4, "list, graph, entities, scene, scheduler"),
     "slotmap_examples": (2.2, 5, "callers of the maps"),
     "structure_examples": (3.85, 5, "callers of the structures"),
-    TESTS: (0.55, 5, "of structures, also at size"),
+    TESTS: (0.55, 5, "of scripts and structures"),
     "slotdemo": (5.5, 5, "program: a demonstration"),
 }
 COLORS = {
@@ -48,9 +48,8 @@ HEIGHT = 56
 
 # The library of a program stands as the program, and the tests and guards of another library as that library.
 LIBRARIES = {
-    "slotmap_rows_primary": "primary_rows", "slotmap_rows_secondary": "secondary_rows",
-    "slotmap_script": "slotrun", "json_and_script_tests": "slotrun",
-    "structure_tests": TESTS, "structures_at_size": TESTS,
+    "slotmap_script": "slotrun",
+    "slotmap_tests": TESTS, "structures_at_size": TESTS, "structure_guards": STRUCTURES,
 } | {f"slotmap_guards_{of}": f"slotmap_{of}" for of in ("basic", "dense", "hop", "secondary", "sparse", "run")}
 
 
@@ -119,6 +118,8 @@ for name in uses:
             picture.arrow([(x, TOPS[CRATES[name][1]] + HEIGHT), (x, TOPS[1])], SOFT, 1.5)
         else:
             level, shift = LEVELS[name]
+            # Between the boxes of two crates.
+            shift = -49.4 if (name, to) == (TESTS, "slotrun") else shift
             drop(name, to, shift, TOPS[CRATES[name][1]] + HEIGHT + level, COLORS[name])
 
 for name, (_, row, what) in CRATES.items():
