@@ -22,6 +22,8 @@ SOURCES = {
     'commands errors keys joined json clones scheduler packed': 'that subject: its definition, its tests, or an example of it',
     'blocks disjoint entries owned slices': 'the blocks of vacant slots, several keys at once, entries, owned iterators, or packed slices: the calls, or guards of their contracts',
     'entities graph scene': 'that structure: its tests, or guards of its contracts',
+    'basic dense hop sparse': 'that map: its calls in rows, or guards of its contracts',
+    'run': 'runs: of scripts, or guards of their contracts',
     'debug shown': 'the text of a type in a debugger, or its tests',
     'handle': 'a handle for C: of a map, or of a side table',
     'messages': 'what the errors of a structure say, and the debug texts of its types',

@@ -46,11 +46,11 @@ PITCH, LEFT, TOPS = 152, 22, [698, 598, 460, 316, 186, 66]
 HEIGHT = 56
 
 
-# The library of a program stands as the program, and the tests and guards of another library as that library.
+# The library of a program stands as the program, guards of the maps as tests, and those of the structures as the structures.
 LIBRARIES = {
     "slotmap_script": "slotrun",
-    "slotmap_tests": TESTS, "structures_at_size": TESTS, "structure_guards": STRUCTURES,
-} | {f"slotmap_guards_{of}": f"slotmap_{of}" for of in ("basic", "dense", "hop", "secondary", "sparse", "run")}
+    "slotmap_tests": TESTS, "structures_at_size": TESTS, "map_guards": TESTS, "structure_guards": STRUCTURES,
+}
 
 
 def shown(name):

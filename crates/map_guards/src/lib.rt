@@ -1,0 +1,15 @@
+//! Guards of the maps and of their runs: what a user relies on, each proved from the contract of one call alone.
+//!
+//! A function makes one call. Its clauses are guards of that call: a clause has the name of its guard, and
+//! begins with the premise of that guard, if it has one. A function with a single guard has its name itself. The
+//! comment of a guard names the clause that it needs, and the wrong bodies that it stands for: files
+//! in `must-fail` or `more-wrong-bodies` of the map's crate. Once somebody weakens the clause, the guard is no
+//! longer proved. A guard that names no body stands for a clause that no body breaks alone.
+#![tactic(auto)]
+
+pub mod basic;
+pub mod dense;
+pub mod hop;
+pub mod run;
+pub mod secondary;
+pub mod sparse;

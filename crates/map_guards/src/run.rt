@@ -1,0 +1,7 @@
+//! Guards of the runs, whose wrong bodies are in `slotmap_run`.
+//!
+//! What follows from the laws of the replies is in `slotmap_run/proofs/WrongReplies.antt`.
+
+pub mod joined;
+pub mod primary;
+pub mod secondary;
