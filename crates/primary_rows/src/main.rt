@@ -34,9 +34,10 @@ mod script;
 mod sized;
 mod steps;
 
-use crate::map_calls::{hold_basic, hold_dense, hold_hop};
+use crate::held::Held;
+use crate::map_calls::hold_map;
 use crate::runs::{Detachable, Plain, Runner, Runs};
-use slotmap::{DefaultKey, DenseSlotMap, HopSlotMap, SlotMap};
+use slotmap::{DefaultKey, DenseSlotMap, Detaching, HopSlotMap, Primary, SlotMap};
 use slotmap_rows::{File, Kinds, Number, Stop, run_program};
 use std::io::Write;
 use std::process::ExitCode;
@@ -57,41 +58,41 @@ fn hold_runs<'a, M: Drop, C: Runner<'a, M>>(
     file.hold(kind, &mut runs, output)
 }
 
-// Holds a kind of map or of runs to the rows of a file.
-fn hold_kind(file: File<'_, '_>, kind: &str, output: &mut impl Write) -> Result<bool, Stop> {
-    match kind {
-        "basic" => hold_basic(file, output),
-        "dense" => hold_dense(file, output),
-        "hop" => hold_hop(file, output),
-        "run-basic" => hold_runs::<Basic<'_>, Plain<'_>>(file, kind, output),
-        "run-dense" => hold_runs::<Dense<'_>, Plain<'_>>(file, kind, output),
-        "run-hop" => hold_runs::<Hop<'_>, Plain<'_>>(file, kind, output),
-        "detaching-basic" => hold_runs::<Basic<'_>, Detachable<'_>>(file, kind, output),
-        _ => hold_runs::<Dense<'_>, Detachable<'_>>(file, kind, output),
-    }
+// Holds a map and the runs on it, which are kinds of their own, to the rows of a file.
+fn hold_plain<'a, M: Held<'a> + Primary<DefaultKey, Number<'a>> + Clone>(
+    file: File<'a, '_>,
+    calls: &str,
+    runs: &str,
+    output: &mut impl Write,
+) -> Result<bool, Stop> {
+    let of_calls = hold_map::<M>(file, calls, output)?;
+    let of_runs = hold_runs::<M, Plain<'a>>(file, runs, output)?;
+    Ok(of_calls && of_runs)
 }
 
-const KINDS: [&str; 8] = [
-    "basic",
-    "dense",
-    "hop",
-    "run-basic",
-    "run-dense",
-    "run-hop",
-    "detaching-basic",
-    "detaching-dense",
-];
+// The same of a map whose keys can be detached, and the runs in which they are.
+fn hold_detaching<'a, M: Held<'a> + Detaching<DefaultKey, Number<'a>> + Clone>(
+    file: File<'a, '_>,
+    kinds: [&str; 3],
+    output: &mut impl Write,
+) -> Result<bool, Stop> {
+    let [calls, runs, detaching] = kinds;
+    let of_plain = hold_plain::<M>(file, calls, runs, output)?;
+    let of_detaching = hold_runs::<M, Detachable<'a>>(file, detaching, output)?;
+    Ok(of_plain && of_detaching)
+}
 
 // All kinds.
 struct All;
 
 impl Kinds for All {
     fn hold_all(&self, file: File<'_, '_>, output: &mut impl Write) -> Result<bool, Stop> {
-        let mut is_well = true;
-        for kind in KINDS {
-            is_well = hold_kind(file, kind, output)? && is_well;
-        }
-        Ok(is_well)
+        let kinds = ["basic", "run-basic", "detaching-basic"];
+        let of_basic = hold_detaching::<Basic<'_>>(file, kinds, output)?;
+        let kinds = ["dense", "run-dense", "detaching-dense"];
+        let of_dense = hold_detaching::<Dense<'_>>(file, kinds, output)?;
+        let of_hop = hold_plain::<Hop<'_>>(file, "hop", "run-hop", output)?;
+        Ok(of_basic && of_dense && of_hop)
     }
 }
 

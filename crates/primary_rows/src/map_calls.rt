@@ -48,31 +48,16 @@
 
 use crate::held::Held;
 use crate::maps::Maps;
-use slotmap::{DefaultKey, DenseSlotMap, HopSlotMap, Primary, SlotMap};
+use slotmap::{DefaultKey, Primary};
 use slotmap_rows::{File, Number, Stop};
 use std::io::Write;
 
-// Holds a map, on which each call is made, to the rows of a file: whether no result differs.
-fn hold_map<'a, M: Held<'a> + Primary<DefaultKey, Number<'a>> + Clone>(
+/// Holds a map, on which each call is made, to the rows of a file that are for its kind, and returns whether no result differs.
+pub fn hold_map<'a, M: Held<'a> + Primary<DefaultKey, Number<'a>> + Clone>(
     file: File<'a, '_>,
     kind: &str,
     output: &mut impl Write,
 ) -> Result<bool, Stop> {
     let mut maps: Maps<'a, M> = Maps::new(file.supply)?;
     file.hold(kind, &mut maps, output)
-}
-
-/// Holds a `SlotMap` to the rows of a file that are for it, and returns whether no result differs.
-pub fn hold_basic(file: File<'_, '_>, output: &mut impl Write) -> Result<bool, Stop> {
-    hold_map::<SlotMap<DefaultKey, Number<'_>>>(file, "basic", output)
-}
-
-/// The same of a `DenseSlotMap`.
-pub fn hold_dense(file: File<'_, '_>, output: &mut impl Write) -> Result<bool, Stop> {
-    hold_map::<DenseSlotMap<DefaultKey, Number<'_>>>(file, "dense", output)
-}
-
-/// The same of a `HopSlotMap`.
-pub fn hold_hop(file: File<'_, '_>, output: &mut impl Write) -> Result<bool, Stop> {
-    hold_map::<HopSlotMap<DefaultKey, Number<'_>>>(file, "hop", output)
 }
