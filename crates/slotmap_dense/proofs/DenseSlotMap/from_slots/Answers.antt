@@ -111,3 +111,6 @@ push_reserved-requires g c = grind (arith, common_steps)
 
 pub loop-slot-smaller : goal.loop-slot-smaller
 loop-slot-smaller g c = grind (arith, common_steps)
+
+pub returns-in_err-check_slots-clause-err : goal.returns-in_err-check_slots-clause-err
+returns-in_err-check_slots-clause-err g c = grind (arith, common_steps)
