@@ -4,6 +4,6 @@ pub use Rattle.slotmap.proofs.Callers.{beside_bound, beside_taken, clone_live, g
 pub use Rattle.slotmap.proofs.Callers.{remove_spent-dense, removed_gone, retained_none, same_lent, spent_insert-dense, spent_leaves, spent_remove-dense}
 pub use Rattle.slotmap.specs.Words.{contains_key, get, Key, key_cmp, keyed, Pairs, with_value_of}
 pub use Rattle.slotmap_entities.proofs.LiveOnly.{own_beside, removed_live, table_live}
-pub use Rattle.slotmap_entities.proofs.Spawned.{inserted_live, kept_still, spawned_bare, spawned_index, spawned_spent, spawned_still, when_ok}
+pub use Rattle.slotmap_entities.proofs.Spawned.{inserted_live, kept_still, offered_index, spawned_bare, spawned_fresh, spawned_index, spawned_spent, spawned_still, spawned_unspent, when_ok}
 pub use Rattle.slotmap_entities.proofs.TableCount.{none_more, one_more}
 pub use Rattle.slotmap_entities.specs.World.{both_found_by, found_by, found_without, optional_found_by, three_found_by, World}

@@ -3,4 +3,5 @@ mod Common
 mod Fewer
 mod LiveOnly
 mod Spawned
+mod Spawning
 mod TableCount

@@ -1,7 +1,8 @@
 -- What stays live, what stays spent, and which index the key has, where an entity is spawned.
-use Rattle.std.proofs.Common.{◌≡◌, ◌+◌, ◌<◌, ◌≤◌, Result, Ok, Err, IsOk, IfOk, OnOk, OnErr, Bool, false, inl, inr, is_some, ap, arith}
-use Rattle.slotmap.specs.Words.{Key, Content, IsContent, Inserts, IsLive, Keeps, KeepsSpent, most, places, used}
-use Rattle.slotmap.proofs.Callers.{get-insert_here, inserted_fresh, live-insert_still, spent_inserts, spent_keeps}
+use Rattle.std.proofs.Common.{◌≡◌, ◌+◌, ◌<◌, ◌≤◌, Result, Ok, Err, IsOk, IfOk, OnOk, OnErr, Bool, false, None, inl, inr, is_some, refl, ap, arith}
+use Rattle.slotmap.specs.Words.{Key, Content, IsContent, Inserts, IsLive, IsSpent, Keeps, KeepsSpent, most, places, used}
+use Rattle.slotmap.proofs.Callers.{get-insert_here, inserted_fresh, inserted_not_spent, live-insert_still, none_of, spent_inserts, spent_keeps}
+use Rattle.std.specs.FinMap as map
 use Rattle.slotmap_entities.specs.World.{OnlyLive}
 use Rattle.slotmap_entities.proofs.LiveOnly.{stale_bare}
 
@@ -17,6 +18,10 @@ new_index old new entity k valid inserts =
     let is = ap (λ (q : Key). q.index) inserts.offered in
     let low = (offer_index old valid inserts.below_limit).0 in
     omega (arith, is, low)
+
+-- where there is room, the next key is within the limit
+pub offered_index : {E : Type 0} (c : Content E) → IsContent false c → 0 < c.room → c.offer.index ≤ places c + 1
+offered_index c valid room = (offer_index c valid (omega (arith, room, valid.room_fits))).0
 
 -- an entity that is spawned after a call that keeps all
 module _ {E : Type 0} (old mid new : Content E) (k : Key) (entity : E) where
@@ -51,3 +56,13 @@ module _ {E K R : Type 0} (old new : Content E) (data_of : K → Key) (entity : 
       → (has : Key → Bool) → OnlyLive old has → IfOk answer (λ key. has (data_of key) ≡ false)
   spawned_bare (Ok key) valid adds has only = stale_bare old has only (data_of key) (inserted_fresh false old (data_of key) entity new valid adds)
   spawned_bare (Err e) valid adds has only = tt
+
+  pub spawned_fresh : (answer : Result K R) → IsContent false old → IfOk answer (λ key. Inserts old (data_of key) entity new)
+      → IfOk answer (λ key. map.get old.live (data_of key) ≡ None)
+  spawned_fresh (Ok key) valid adds = none_of (map.get old.live (data_of key)) (inserted_fresh false old (data_of key) entity new valid adds)
+  spawned_fresh (Err e) valid adds = tt
+
+  pub spawned_unspent : (answer : Result K R) → IsContent false old → IfOk answer (λ key. Inserts old (data_of key) entity new)
+      → IfOk answer (λ key. IsSpent old (data_of key) → ⊥)
+  spawned_unspent (Ok key) valid adds = λ spent. inserted_not_spent old new false valid (data_of key) entity adds (data_of key) spent refl
+  spawned_unspent (Err e) valid adds = tt

@@ -3,6 +3,7 @@
 ghost use Rattle.std.specs.Prelude.{◌≡◌, ◌≢◌, ℕ, ◌+◌, ◌<◌, ◌≤◌, Some, None, false, IfOk, IsOk, OnOk, IfErr, OnErr};
 ghost use Rattle.std.specs.FinMap as map;
 ghost use Rattle.slotmap.specs.Words.{Key as KeyOf, Inserts, IsBeside, IsDense, IsSpent, Keeps, KeepsSpent, Appends, SameOrder, RefusesInsert, get, most, places, used};
+ghost use Rattle.slotmap_entities.specs.Spawning.{Gets, Spawns};
 ghost use Rattle.slotmap_entities.specs.World.{RefusesNext, RefusesSpawn, refusal};
 
 use crate::components::{ComponentOf, attach};
@@ -83,21 +84,10 @@ pub(crate) fn spawn_with<K: Key, E: Drop, M: Table<K>>(
     component: M::Component,
 ) -> Result<K, SpawnError<E, M::Component>>
     requires { IsBeside entities.old.content (M.pairs table.old) }
-    ensures adds { IfOk result (λ key. Inserts entities.old.content (K.data_of key) entity entities.new.content) }
-    ensures there { IfOk result (λ key. get (M.pairs table.new) (K.data_of key) ≡ Some component) }
-    ensures others { IfOk result (λ key. (q : KeyOf) → q ≢ K.data_of key → get (M.pairs table.new) q ≡ get (M.pairs table.old) q) }
-    ensures order { IfOk result (λ key. Appends entities.old (K.data_of key) entity entities.new) }
+    ensures entities { Spawns K.data_of entity component result entities.old entities.new }
+    ensures component { Gets M.pairs M.fits K.data_of component result table.old table.new }
     ensures room { 0 < entities.old.content.room → M.fits table.old entities.old.content.offer.index 1 → IsOk result }
-    ensures less_room { (i count : ℕ) → M.fits table.old i (count + 1) → M.fits table.new i count }
-    ensures refused_room { OnErr result ((i count : ℕ) → M.fits table.old i count → M.fits table.new i count) }
-    ensures err { IfErr result (RefusesSpawn entities.old.content entity component) }
-    ensures unchanged { OnErr result (Keeps entities.old.content entities.new.content) }
-    ensures same_order { OnErr result (SameOrder entities.old entities.new) }
-    ensures same_components { OnErr result (M.pairs table.new ≡ M.pairs table.old) }
-    ensures in_place { 0 < entities.old.content.room → entities.new.content.capacity ≡ entities.old.content.capacity }
-    ensures capacity { entities.old.content.capacity ≤ entities.new.content.capacity }
     ensures beside { IsBeside entities.new.content (M.pairs table.new) }
-    ensures valid { IsDense entities.old × IsDense entities.new }
 {
     match make_room(entities, table) {
         Ok(()) => {}

@@ -2,7 +2,8 @@
 
 ghost use Rattle.std.specs.Prelude.{◌≡◌, ◌≢◌, ℕ, ◌+◌, ◌<◌, ◌≤◌, Some, None, false, IfOk, IsOk, IfErr, OnErr};
 ghost use Rattle.std.specs.FinMap as map;
-ghost use Rattle.slotmap.specs.Words.{Key as KeyOf, Inserts, IsDense, IsSpent, Keeps, KeepsSpent, Appends, SameOrder, get, places};
+ghost use Rattle.slotmap.specs.Words.{Inserts, IsSpent, Keeps, KeepsSpent, Appends, SameOrder, places};
+ghost use Rattle.slotmap_entities.specs.Spawning.{Gets, Spawns};
 ghost use Rattle.slotmap_entities.specs.World.{Gains, OnlyLive, RefusesSpawn, with_second};
 
 use crate::both::BothOf;
@@ -30,26 +31,13 @@ pub(crate) fn spawn_with_both<K: Key, E: Drop, T: Tables<K>, A: Apart<K, T, B>, 
     second: ComponentOf<K, T, B>,
 ) -> Result<K, SpawnError<E, BothOf<K, T, A, B>>>
     requires { OnlyLive entities.old.content (T.has tables.old) }
-    ensures adds { IfOk result (λ key. Inserts entities.old.content (K.data_of key) entity entities.new.content) }
-    ensures first { IfOk result (λ key. Gains (A.Table.pairs (A.table tables.old)) (K.data_of key) first (A.Table.pairs (A.table tables.new))) }
-    ensures second { IfOk result (λ key. Gains (B.Table.pairs (B.table tables.old)) (K.data_of key) second (B.Table.pairs (B.table tables.new))) }
-    ensures order { IfOk result (λ key. Appends entities.old (K.data_of key) entity entities.new) }
+    ensures entities { Spawns K.data_of entity (first, second) result entities.old entities.new }
+    ensures first { Gets A.Table.pairs A.Table.fits K.data_of first result (A.table tables.old) (A.table tables.new) }
+    ensures second { Gets B.Table.pairs B.Table.fits K.data_of second result (B.table tables.old) (B.table tables.new) }
     ensures room { 0 < entities.old.content.room → A.Table.fits (A.table tables.old) entities.old.content.offer.index 1
         → B.Table.fits (B.table tables.old) entities.old.content.offer.index 1 → IsOk result }
-    ensures less_first_room { (i count : ℕ) → A.Table.fits (A.table tables.old) i (count + 1) → A.Table.fits (A.table tables.new) i count }
-    ensures less_second_room { (i count : ℕ) → B.Table.fits (B.table tables.old) i (count + 1) → B.Table.fits (B.table tables.new) i count }
-    ensures refused_first_room { OnErr result ((i count : ℕ) → A.Table.fits (A.table tables.old) i count → A.Table.fits (A.table tables.new) i count) }
-    ensures refused_second_room { OnErr result ((i count : ℕ) → B.Table.fits (B.table tables.old) i count → B.Table.fits (B.table tables.new) i count) }
-    ensures err { IfErr result (RefusesSpawn entities.old.content entity (first, second)) }
-    ensures unchanged { OnErr result (Keeps entities.old.content entities.new.content) }
-    ensures same_order { OnErr result (SameOrder entities.old entities.new) }
-    ensures same_first { OnErr result (A.Table.pairs (A.table tables.new) ≡ A.Table.pairs (A.table tables.old)) }
-    ensures same_second { OnErr result (B.Table.pairs (B.table tables.new) ≡ B.Table.pairs (B.table tables.old)) }
     ensures kinds { tables.new ≡ B.with_table (A.with_table tables.old (A.table tables.new)) (B.table tables.new) }
-    ensures in_place { 0 < entities.old.content.room → entities.new.content.capacity ≡ entities.old.content.capacity }
-    ensures capacity { entities.old.content.capacity ≤ entities.new.content.capacity }
     ensures only_live { OnlyLive entities.new.content (T.has tables.new) }
-    ensures valid { IsDense entities.old }
 {
     match make_room(entities, B::table_mut(tables)) {
         Ok(()) => {}

@@ -1,12 +1,43 @@
-use Rattle.slotmap_entities.proofs.Spawned.{spawned_bare, spawned_spent}
+use Rattle.slotmap_entities.proofs.Common.{offered_index, spawned_bare, spawned_fresh, spawned_index, spawned_spent, spawned_unspent}
 use Rattle.slotmap_entities.proofs.World.spawn_with_three.Goals as goal
 
-pub returns-clause-no_others : goal.returns-clause-no_others
-returns-clause-no_others g c = rw (← c.self.view_is)
-    (spawned_bare c.self.inside.entities.content c.spawn_with_three.new.entities.content g.K.Key.data_of c.args.entity c.spawn_with_three.result
-    c.spawn_with_three.ensures.valid.content c.spawn_with_three.ensures.adds (g.T.Tables.has c.self.inside.tables) c.self.invariant)
+pub invariant_of-self : goal.invariant_of-self
+invariant_of-self g c = c.spawn_with_three.ensures.only_live
 
-pub returns-clause-gone : goal.returns-clause-gone
-returns-clause-gone g c = rw (← c.self.view_is)
-    (spawned_spent c.self.inside.entities.content c.spawn_with_three.new.entities.content g.K.Key.data_of c.args.entity c.spawn_with_three.result c.spawn_with_three.ensures.valid.content
-    c.spawn_with_three.ensures.adds c.spawn_with_three.ensures.unchanged)
+-- what the tables and the entities are, as the call within leaves them
+pub returns : goal.returns
+returns g c =
+    let k = g.K.Key.data_of in
+    let old = c.self.inside.entities.content in
+    let new = c.spawn_with_three.new.entities.content in
+    let given = c.spawn_with_three.ensures in
+    let valid = given.entities.valid.content in
+    rw (← c.self.view_is) (record {
+      adds = given.entities.adds;
+      first = given.first.gains;
+      second = given.second.gains;
+      third = given.third.gains;
+      order = given.entities.order;
+      room = given.room;
+      less_first_room = given.first.less_room;
+      less_second_room = given.second.less_room;
+      less_third_room = given.third.less_room;
+      refused_first_room = given.first.refused_room;
+      refused_second_room = given.second.refused_room;
+      refused_third_room = given.third.refused_room;
+      in_place = given.entities.in_place;
+      capacity = given.entities.capacity;
+      err = given.entities.err;
+      unchanged = given.entities.unchanged;
+      same_order = given.entities.same_order;
+      same_first = given.first.same;
+      same_second = given.second.same;
+      same_third = given.third.same;
+      kinds = given.kinds;
+      no_others = spawned_bare old new k c.args.entity c.spawn_with_three.result valid given.entities.adds (g.T.Tables.has c.self.inside.tables) c.self.invariant;
+      fresh = spawned_fresh old new k c.args.entity c.spawn_with_three.result valid given.entities.adds;
+      unspent = spawned_unspent old new k c.args.entity c.spawn_with_three.result valid given.entities.adds;
+      index = spawned_index old new k c.args.entity c.spawn_with_three.result valid given.entities.adds;
+      offered = offered_index old valid;
+      gone = spawned_spent old new k c.args.entity c.spawn_with_three.result valid given.entities.adds given.entities.unchanged;
+    })
