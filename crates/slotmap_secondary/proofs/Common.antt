@@ -11,7 +11,7 @@ pub use Rattle.slotmap_secondary.proofs.FromListLemmas.{read, read-push, pairs-n
 pub use Rattle.slotmap_secondary.proofs.IterLemmas.{entries-slots, IsIter-start, values-slots, counted-values}
 pub use Rattle.slotmap_secondary.proofs.PairsAloneLemmas.{keeps_on, with_value_twice, IsWritten-own}
 pub use Rattle.slotmap_secondary.proofs.PutAfterLastLemmas.{IsSound-append, content-append, vacant-past, none-null}
-pub use Rattle.slotmap_secondary.proofs.ReadLemmas.{at-read, at-past, marked-read, place, entry-at, here, same_read, same_value, nothing-past, stands, key-here, there_read, entry-same}
+pub use Rattle.slotmap_secondary.proofs.ReadLemmas.{at-read, at-past, marked-read, place, entry-at, here, same_read, same_value, nothing-past, stands, key-here, there_read, entry-same, entry-newer}
 pub use Rattle.slotmap_secondary.proofs.SlotLemmas.{pairs-vacated, IsSound-vacated, IsSound-fill_new, IsSound-fill_again, content-write, IsSound-again, IsSound-push, IsSound-clear, content-clear}
 pub use Rattle.slotmap_secondary.proofs.SlotLemmas.{count, valid, pairs-push, some_left, IsSound-new, pairs-first}
 pub use Rattle.slotmap_secondary.proofs.WellFormed.{well_formed}
