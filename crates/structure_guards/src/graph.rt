@@ -5,7 +5,7 @@ ghost use Rattle.std.specs.List.{find};
 ghost use Rattle.std.specs.Option.{option_and_then};
 ghost use Rattle.std.specs.Prelude.{◌≡◌, ◌<◌, ◌≤◌, ◌⊎◌, ◌++◌, ◌∷◌, ◌↔◌, [], Some, None, Err, IfOk, IfSome, IfNone, IsTrue};
 ghost use Rattle.std.specs.Prelude.{cond, length, map as list_map};
-ghost use Rattle.slotmap.specs.Words.{Key as KeyOf, IsCloneOf, IsLive, used, most};
+ghost use Rattle.slotmap.specs.Words.{Key as KeyOf, IsCloneOf, IsLive, index_after, used, most};
 ghost use Rattle.slotmap_bounded.specs.KeyLists.{is_key, times, without};
 ghost use Rattle.slotmap_graph.specs.Parts.{clones_edge, edges_at, from, key_after, to};
 ghost use Rattle.slotmap_graph.specs.Search.{Leads, ends_along, entries_along, goes_to};
@@ -124,6 +124,39 @@ pub fn node_references_lists_each_node<K: Key, N: Drop, E: Drop>(
     ensures { result ≡ map.entries graph.now.nodes.live }
 {
     graph.node_references()
+}
+
+/// Guards of `next_node`.
+pub fn next_node<K: Key, N: Drop, E: Drop>(graph: &Graph<K, N, E>, node: Option<K>) -> Option<K>
+    // It is a node behind the given one, and none between them is passed over.
+    // Holds by `live`, `after` and `first` of `next_node`.
+    ensures next_node_is_a_node { IfSome result (λ found. IsLive graph.now.nodes (K.data_of found)) }
+    ensures next_node_is_behind { IfSome result (λ found. index_after K.data_of node ≤ (K.data_of found).index) }
+    ensures no_node_is_passed_over { IfSome result (λ found. (other : KeyOf) → IsLive graph.now.nodes other
+        → index_after K.data_of node ≤ other.index → (K.data_of found).index ≤ other.index) }
+    // Behind the last one there is none.
+    // Holds by `none` of `next_node`.
+    ensures no_node_is_behind_the_last { IfNone result ((other : KeyOf) → IsLive graph.now.nodes other → other.index < index_after K.data_of node) }
+{
+    graph.next_node(node)
+}
+
+/// Guards of `next_edge`.
+pub fn next_edge<K: Key, N: Drop, E: Drop>(
+    graph: &Graph<K, N, E>,
+    edge: Option<EdgeKey>,
+) -> Option<EdgeKey>
+    // It is an edge behind the given one, and none between them is passed over.
+    // Holds by `live`, `after` and `first` of `next_edge`.
+    ensures next_edge_is_an_edge { IfSome result (λ found. IsLive graph.now.edges found) }
+    ensures next_edge_is_behind { IfSome result (λ found. index_after (λ e. e) edge ≤ found.index) }
+    ensures no_edge_is_passed_over { IfSome result (λ found. (other : KeyOf) → IsLive graph.now.edges other
+        → index_after (λ e. e) edge ≤ other.index → found.index ≤ other.index) }
+    // Behind the last one there is none.
+    // Holds by `none` of `next_edge`.
+    ensures no_edge_is_behind_the_last { IfNone result ((other : KeyOf) → IsLive graph.now.edges other → other.index < index_after (λ e. e) edge) }
+{
+    graph.next_edge(edge)
 }
 
 /// The first edge that is left is yielded, and then the others are left.

@@ -10,5 +10,6 @@
 pub mod entities;
 pub mod graph;
 pub mod list;
+pub mod paths;
 pub mod scene;
 pub mod scheduler;

@@ -3,7 +3,7 @@
 ghost use Rattle.std.specs.FinMap as map;
 ghost use Rattle.std.specs.Int.{int_wrap, w32};
 ghost use Rattle.std.specs.Option.{option_copied_mut};
-ghost use Rattle.std.specs.Prelude.{◌≡◌, ◌<◌, ◌++◌, ◌∷◌, ◌↔◌, ◌+ℤ◌, [], Some, None, Err, IfOk, OnOk, IfSome, IfNone, IsTrue};
+ghost use Rattle.std.specs.Prelude.{◌≡◌, ◌≢◌, ◌<◌, ◌++◌, ◌∷◌, ◌↔◌, ◌+ℤ◌, [], Some, None, Err, IfOk, OnOk, IfSome, IfNone, IsTrue};
 ghost use Rattle.std.specs.Prelude.{option_map, map as list_map};
 ghost use Rattle.slotmap.specs.Words.{Key as KeyOf, IsCloneOf};
 ghost use Rattle.slotmap_bounded.specs.KeyLists.{times, without};
@@ -12,12 +12,14 @@ ghost use Rattle.slotmap_scene.specs.Below.{all_below};
 ghost use Rattle.slotmap_scene.specs.Climb.{ClimbsTo, IsWithin, has_node, lacks_node, parent_of};
 ghost use Rattle.slotmap_scene.specs.Family.{IsNodeClone, behind, child, children_of, placed, right_before, right_behind, siblings_of, value_of};
 ghost use Rattle.slotmap_scene.specs.Levels.{AreWorlds, GoesByLevel, keys_of_pairs};
+ghost use Rattle.slotmap_scene.specs.Visits.{entering, leaving, of_each, visit_of, visits_of};
 ghost use Rattle.slotmap_scene.specs.WorldValue.{CallableUp, FoldsUp, IsComposed};
 
 use slotmap::{InsertError, Key};
 use slotmap_scene::world::{HasTransform, Offset, Transform};
 use slotmap_scene::{
-    AddError, Ancestors, ChildKeys, Iter, KeysBelow, MoveError, ReparentError, Roots, Scene,
+    AddError, Ancestors, ChildKeys, Iter, KeysBelow, MoveError, ReparentError, Roots, Scene, Visit,
+    Walk,
 };
 use std::alloc::AllocError;
 
@@ -260,9 +262,7 @@ pub fn keys_below_begin_under_the_node<K: Key, T: Drop>(
 }
 
 /// The first key that is left is yielded, and then the others are left.
-/// Refuses `keys_below_climb_from_the_node`, `keys_below_leave_the_subtree`,
-/// `keys_below_list_siblings_first`, `keys_below_pass_the_first_child_over`,
-/// `keys_below_stop_at_the_first_leaf`: `next_gives` of `KeysBelow`.
+/// Refuses `keys_below_go_on_from_the_node`: `next_gives` of `KeysBelow`.
 pub fn keys_below_yield_their_first<'a, K: Key, T: Drop>(
     keys: &mut KeysBelow<'a, K, T>,
 ) -> Option<K>
@@ -270,6 +270,57 @@ pub fn keys_below_yield_their_first<'a, K: Key, T: Drop>(
     ensures none { IfNone result (keys.old ≡ []) }
 {
     keys.next()
+}
+
+/// Guards of `next_below`.
+pub fn next_below<K: Key, T: Drop>(scene: &Scene<K, T>, node: K, key: K) -> Option<K>
+    // From the node itself the walk comes to the first key below it.
+    // Refuses `next_below_passes_the_first_child_over`: `first` of `next_below`.
+    ensures walk_begins_with_the_first_key_below { K.data_of key ≡ K.data_of node → option_map K.data_of result ≡ first_or (all_below scene.now.live (K.data_of node)) None }
+    // From a key below the node it comes to the one behind it.
+    // Refuses `next_below_climbs_from_the_node`, `next_below_goes_to_siblings_first`, `next_below_skips_a_child`,
+    // `next_below_stops_at_the_first_leaf`: `along` of `next_below`.
+    ensures walk_goes_on_behind_the_key { 0 < times (K.data_of key) (all_below scene.now.live (K.data_of node))
+        → option_map K.data_of result ≡ behind (K.data_of key) (all_below scene.now.live (K.data_of node)) }
+    // It doesn't leave what is below the node.
+    // Refuses `next_below_goes_on_above_the_root`, `next_below_leaves_the_subtree`: `within` of `next_below`.
+    ensures walk_stays_below_the_node { IsWithin scene.now.live (K.data_of key) (K.data_of node)
+        → IfSome result (λ next. IsWithin scene.now.live (K.data_of next) (K.data_of node) × (K.data_of next ≢ K.data_of node)) }
+    // From a key elsewhere it goes on through that key's tree.
+    // Holds by `elsewhere` of `next_below`.
+    ensures walk_from_elsewhere_stays_in_its_tree { (root : KeyOf) → (IsWithin scene.now.live (K.data_of key) (K.data_of node) → ⊥)
+        → IsWithin scene.now.live (K.data_of key) root → parent_of scene.now.live root ≡ None
+        → option_map K.data_of result ≡ behind (K.data_of key) (root ∷ all_below scene.now.live root) }
+    // From a key that isn't there it ends, and else it comes to nodes alone.
+    // Holds by `stale` and `live` of `next_below`.
+    ensures walk_ends_at_a_gone_key { lacks_node scene.now.live (K.data_of key) → result ≡ None }
+    ensures walk_comes_to_nodes { IfSome result (λ next. has_node scene.now.live (K.data_of next)) }
+{
+    scene.next_below(node, key)
+}
+
+/// Guards of `walk`.
+pub fn walk<K: Key, T: Drop>(scene: &Scene<K, T>, node: K) -> Walk<'_, K, T>
+    // The node is entered, its children are visited in their order, and it is left.
+    // Holds by `visits` and `each` of `walk`.
+    ensures walk_enters_and_leaves_each_node { has_node scene.now.live (K.data_of node)
+        → result ≡ entering (K.data_of node) ∷ of_each (visits_of scene.now.live) (children_of scene.now.live (K.data_of node)) ++ leaving (K.data_of node) ∷ [] }
+    // A node that isn't there has no visits.
+    // Holds by `none` of `walk`.
+    ensures walk_of_a_gone_node_has_no_visits { lacks_node scene.now.live (K.data_of node) → result ≡ [] }
+{
+    scene.walk(node)
+}
+
+/// The first visit that is left is yielded, and then the others are left.
+/// Holds by `next_gives` of `Walk`.
+pub fn walk_yields_its_first_visit<'a, K: Key, T: Drop>(
+    visits: &mut Walk<'a, K, T>,
+) -> Option<Visit<K>>
+    ensures some { IfSome result (λ visit. visits.old ≡ visit_of K.data_of visit ∷ visits.new) }
+    ensures none { IfNone result (visits.old ≡ []) }
+{
+    visits.next()
 }
 
 /// The keys below the node are listed, in the order of the trees.
