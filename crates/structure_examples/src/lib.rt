@@ -18,6 +18,7 @@ pub mod outward;
 pub mod reaper;
 pub mod reorder;
 pub mod room;
+pub mod routes;
 pub mod searches;
 pub mod stores;
 pub mod timer;
