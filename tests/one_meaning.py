@@ -24,6 +24,7 @@ SOURCES = {
     'entities graph scene': 'that structure: its tests, or guards of its contracts',
     'basic dense hop sparse': 'that map: its calls in rows, or guards of its contracts',
     'run': 'runs: of scripts, or guards of their contracts',
+    'routes': 'shortest paths: at size, or as an example',
     'debug shown': 'the text of a type in a debugger, or its tests',
     'handle': 'a handle for C: of a map, or of a side table',
     'messages': 'what the errors of a structure say, and the debug texts of its types',
