@@ -1,7 +1,7 @@
 -- What callers cite: what is in each list once a member was put behind the others, or was taken out.
 use Rattle.std.proofs.Common.{◌≡◌, ℕ, ◌+◌, ◌-◌, ◌<◌, ◌≤◌, ◌⊎◌, List, [], ◌∷◌, ◌++◌, length, length-append, replicate, max, zero, suc, refl, sym, ap, subst}
 use Rattle.std.proofs.Common.{◌∙◌, arith, Result, Ok, Err, OnOk, OnErr}
-use Rattle.slotmap_links.specs.Lists.{Lists, times, list_of, with_list, with_owners, with_members, IsIn, AreDisjoint, CoversMore}
+use Rattle.slotmap_links.specs.Lists.{Lists, times, list_of, with_list, with_owners, with_members, with_capacity, cleared, IsIn, AreDisjoint, CoversMore}
 use Rattle.slotmap_links.proofs.Counts.{same, same_or_other, one_itself, one_other, times_first, times_joined}
 use Rattle.slotmap_links.proofs.Callers.{list_covered, list_now, list_other}
 
@@ -37,21 +37,24 @@ disjoint_still s t disjoint same more = record {
     was p k inside = omega (arith, ap (times k) (same p))
 
 -- all lists are empty
-pub list_cleared : (n members q : ℕ) → list_of (record { lists = replicate n []; members = members }) q ≡ []
-list_cleared zero members q = refl
-list_cleared (suc n) members zero = refl
-list_cleared (suc n) members (suc q) = list_cleared n members q
+list_empty : (n : ℕ) (s : Lists) (q : ℕ) → list_of (record s { lists = replicate n [] }) q ≡ []
+list_empty zero s q = refl
+list_empty (suc n) s zero = refl
+list_empty (suc n) s (suc q) = list_empty n s q
+
+pub list_cleared : (s : Lists) (q : ℕ) → list_of (cleared s) q ≡ []
+list_cleared s q = list_empty (length s.lists) s q
 
 -- owners and members came, or owners alone
-covers_by : (s : Lists) → AreDisjoint s → (n m : ℕ) (new : Lists) → s.members ≤ m → new ≡ record (with_owners s n) { members = m } → CoversMore s new
+covers_by : (s : Lists) → AreDisjoint s → (n m : ℕ) (new : Lists) → s.members ≤ m → new ≡ with_capacity (record (with_owners s n) { members = m }) new.capacity → CoversMore s new
 covers_by s disjoint n m new more is = subst (CoversMore s) (sym is) (record {
   lists = list_covered s n;
   owners = omega (arith, length-append s.lists (replicate {A = List ℕ} (n - length s.lists) []));
   members = more;
-  disjoint = disjoint_still s (record (with_owners s n) { members = m }) disjoint (list_covered s n) more;
+  disjoint = disjoint_still s (with_capacity (record (with_owners s n) { members = m }) new.capacity) disjoint (list_covered s n) more;
 })
 
-pub covered : (s : Lists) → AreDisjoint s → (n m : ℕ) (mid new : Lists) {A B : Type 0} (r : Result A B) → mid ≡ with_owners s n
-    → OnOk r (new ≡ with_members mid m) → OnErr r (new ≡ mid) → CoversMore s new
-covered s disjoint n m mid new (Ok a) is ok err = covers_by s disjoint n (max s.members m) new (omega arith) (ok ∙ ap (λ l. with_members l m) is)
-covered s disjoint n m mid new (Err b) is ok err = covers_by s disjoint n s.members new (omega arith) (err ∙ is)
+pub covered : (s : Lists) → AreDisjoint s → (n m : ℕ) (mid new : Lists) {A B : Type 0} (r : Result A B) → mid ≡ with_capacity (with_owners s n) mid.capacity
+    → OnOk r (new ≡ with_capacity (with_members mid m) new.capacity) → OnErr r (new ≡ mid) → CoversMore s new
+covered s disjoint n m mid new (Ok a) is ok err = covers_by s disjoint n (max s.members m) new (omega arith) (ok ∙ ap (λ l. with_capacity (with_members l m) new.capacity) is)
+covered s disjoint n m mid new (Err b) is ok err = covers_by s disjoint n s.members new (omega arith) (err ∙ is ∙ ap (with_capacity (with_owners s n)) (ap (λ (l : Lists). l.capacity) (sym err)))

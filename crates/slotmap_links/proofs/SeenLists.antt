@@ -2,7 +2,7 @@
 use Rattle.std.proofs.Common.{◌≡◌, ℕ, ◌<◌, false, Option, Some, None, nat_eq, List, [], ◌∷◌, ◌++◌, length, get_or, refl, sym, subst, ◌∙◌, arith, append_assoc, append-nil}
 use Rattle.std.proofs.Common.{ap}
 use Rattle.std.proofs.lemmas.List.{get_or_default, with_items_is}
-use Rattle.std.specs.Vec.{with_items}
+use Rattle.std.specs.Vec.{vec_capacity, with_items}
 use Rattle.std.specs.declared.vec.Vec.{Vec}
 use Rattle.slotmap_links.specs.Lists.{Lists, times, first_or, last_or, list_of, with_list, IsFree, IsIn, number_after, number_before, numbers_from, put_before, put_behind}
 use Rattle.slotmap_links.specs.Kept.{listed, lists_by, bounds, neighbours, unless_nobody, no_ends, no_link, AreKept, Relists, IsGap}
@@ -42,10 +42,10 @@ pub record Stands (s : Lists) (p k : ℕ) : Type 0 where
   pub is : list_of s p ≡ before ++ k ∷ after
   pub not_before : times k before ≡ 0
 
-module _ {ends : List Ends} {links : List Link} (kept : AreKept ends links) {s : Lists} (seen : lists_by ends links ≡ s) where
+module _ {ends : List Ends} {links : List Link} (kept : AreKept ends links) {capacity : ℕ × ℕ} {s : Lists} (seen : lists_by ends links capacity ≡ s) where
   -- the list by the links is the one that the user sees
   pub list_here : (p : ℕ) → listed ends links p ≡ list_of s p
-  list_here p = sym (seen_list ends links p) ∙ ap (λ s. list_of s p) seen
+  list_here p = sym (seen_list ends links capacity p) ∙ ap (λ s. list_of s p) seen
 
   pub owner_here : (p : ℕ) → p < length s.lists → p < length ends
   owner_here p there = omega (arith, ap (λ (s : Lists). length s.lists) seen, seen_owners ends links)
@@ -129,6 +129,10 @@ module _ {Z Z' : Type 0} (V : Vec Ends Z) (W : Vec Link Z') (p : ℕ) (ks : List
   pub kept_written : AreKept (with_items V ends).items (with_items W links).items
   kept_written = subst (λ (x : List Ends × List Link). AreKept x.0 x.1) (λ i. (sym ends_hold i, sym links_hold i)) relists.kept
 
-  pub seen_written : (s : Lists) → lists_by V.items W.items ≡ s → p < length s.lists → lists_by (with_items V ends).items (with_items W links).items ≡ with_list s p ks
-  seen_written s seen there = (λ i. lists_by (ends_hold i) (links_hold i))
-      ∙ seen_relisted V.items W.items p ks ends links (omega (arith, ap (λ (s : Lists). length s.lists) seen, seen_owners V.items W.items)) relists ∙ ap (λ s. with_list s p ks) seen
+  abbrev room : ℕ × ℕ
+  room = (vec_capacity V, vec_capacity W)
+
+  pub seen_written : (s : Lists) → lists_by V.items W.items room ≡ s → p < length s.lists → lists_by (with_items V ends).items (with_items W links).items room ≡ with_list s p ks
+  seen_written s seen there = (λ i. lists_by (ends_hold i) (links_hold i) room)
+      ∙ seen_relisted V.items W.items p ks ends links (omega (arith, ap (λ (s : Lists). length s.lists) seen, seen_owners V.items W.items room)) relists room
+      ∙ ap (λ s. with_list s p ks) seen

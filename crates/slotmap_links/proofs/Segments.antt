@@ -129,7 +129,7 @@ module _ {links : List Link} {first : ℕ} (t : IsTail links first) (k : ℕ) (s
   unfolding tail_rest
   tail_steps = tail_is t ∙ (tail_front t k some).1 ∙ ap (λ l. k ∷ l) (sym (tail_is (tail_rest t k some)))
 
-module _ {ends : List Ends} {links : List Link} (kept : AreKept ends links) {s : Lists} (seen : lists_by ends links ≡ s) (p : ℕ) where
+module _ {ends : List Ends} {links : List Link} (kept : AreKept ends links) {capacity : ℕ × ℕ} {s : Lists} (seen : lists_by ends links capacity ≡ s) (p : ℕ) where
   pub segment_begins : (x : Ends) → x ≡ get_or ends p x → p < length s.lists → IsSegment links x.len x.first x.last
   segment_begins x is there = let at = ends_here kept seen p x is there in record {
     before = [];

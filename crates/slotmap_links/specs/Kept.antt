@@ -38,8 +38,8 @@ abbrev pub listed : List Ends → List Link → ℕ → List ℕ
 listed ends links p = followed (link_at links) (bounds_at ends p)
 
 -- all lists, as the user sees them
-abbrev pub lists_by : List Ends → List Link → Lists
-lists_by ends links = record { lists = list_map (λ e. followed (link_at links) (bounds e)) ends; members = length links }
+abbrev pub lists_by : List Ends → List Link → ℕ × ℕ → Lists
+lists_by ends links capacity = record { lists = list_map (λ e. followed (link_at links) (bounds e)) ends; members = length links; capacity = capacity }
 
 -- what holds of the two vectors
 pub record AreKept (ends : List Ends) (links : List Link) : Type 0 where

@@ -9,10 +9,14 @@ pub record Lists : Type 0 where
   pub lists : List (List ℕ)
   -- the numbers below this one may be members of a list
   pub members : ℕ
+  -- there is memory for this many owners, and for this many members
+  pub capacity : ℕ × ℕ
 
 -- by which a proof tells two of them apart
 abbrev pub lists_code : Coded Lists
-lists_code = code_by (List (List ℕ) × ℕ) (coded× (coded_list (coded_list coded_ℕ)) coded_ℕ) (λ s. (s.lists, s.members)) (λ p. record { lists = p.0; members = p.1 }) (λ _. refl)
+lists_code =
+    code_by (List (List ℕ) × (ℕ × (ℕ × ℕ))) (coded× (coded_list (coded_list coded_ℕ)) (coded× coded_ℕ (coded× coded_ℕ coded_ℕ)))
+    (λ s. (s.lists, (s.members, s.capacity))) (λ p. record { lists = p.0; members = p.1.0; capacity = p.1.1 }) (λ _. refl)
 
 -- how often a number is in a list
 abbrev pub times : ℕ → List ℕ → ℕ
@@ -63,7 +67,7 @@ list_of s p = slice_index_or s.lists p []
 
 -- the same lists, but that of p
 abbrev pub with_list : Lists → ℕ → List ℕ → Lists
-with_list s p ks = record { lists = slice_set s.lists p ks; members = s.members }
+with_list s p ks = record s { lists = slice_set s.lists p ks }
 
 -- a number may be a member, and is in no list
 pub record IsFree (s : Lists) (k : ℕ) : Type 0 where
@@ -82,11 +86,19 @@ pub record AreDisjoint (s : Lists) : Type 0 where
 
 -- the same lists with empty ones behind them, so that there are at least n
 abbrev pub with_owners : Lists → ℕ → Lists
-with_owners s n = record { lists = s.lists ++ replicate (n - length s.lists) []; members = s.members }
+with_owners s n = record s { lists = s.lists ++ replicate (n - length s.lists) [] }
 
 -- the same lists, where the numbers below n may be members too
 abbrev pub with_members : Lists → ℕ → Lists
-with_members s n = record { lists = s.lists; members = max s.members n }
+with_members s n = record s { members = max s.members n }
+
+-- the same lists, with memory for so many owners and members
+abbrev pub with_capacity : Lists → ℕ × ℕ → Lists
+with_capacity s capacity = record s { capacity = capacity }
+
+-- the same owners with empty lists
+abbrev pub cleared : Lists → Lists
+cleared s = record s { lists = replicate (length s.lists) [] }
 
 -- the same lists, for no fewer owners and members
 pub record CoversMore (old new : Lists) : Type 0 where

@@ -16,7 +16,8 @@
 //! - [`Links::clear`] takes time linear in [`Links::owners`], and [`Links::clone`] in [`Links::owners`]
 //!   and [`Links::members`].
 //!
-//! Only the two covers and `clone` can fail. No clause says that the other calls ask for no memory.
+//! Only the two covers and `clone` ask for memory, and only they can fail. A clause sees for how many
+//! owners and members there is memory, and the other calls leave that as it is.
 //!
 //! ```
 //! let mut links = Links::new(alloc);
@@ -40,7 +41,7 @@ ghost use Rattle.std.specs.Prelude.{◌≡◌, ℕ, ◌+◌, ◌-◌, ◌<◌, �
 ghost use Rattle.std.specs.Prelude.{◌↔◌, None, length, replicate};
 ghost use Rattle.slotmap_links.specs.Kept.{IsGap, unless_nobody};
 ghost use Rattle.slotmap_links.specs.Lists.{AreDisjoint, IsFree, IsIn, first_or, last_or, list_of, number_after, number_before, numbers_from, put_before, put_behind};
-ghost use Rattle.slotmap_links.specs.Lists.{with_list, with_members, with_owners, without};
+ghost use Rattle.slotmap_links.specs.Lists.{cleared, with_capacity, with_list, with_members, with_owners, without};
 
 use std::alloc::{AllocError, Global};
 use std::marker::Model;
@@ -68,7 +69,8 @@ struct Link {
 
 /// Lists of numbers, one for each owner.
 ///
-/// A clause sees `lists`, the list of each owner, and `members`: the numbers below it may be in one.
+/// A clause sees `lists`, the list of each owner, `members`, below which a number may be in one, and
+/// `capacity`: there is memory for so many owners and members.
 pub struct Links {
     ends: Vec<Ends>,
     links: Vec<Link>,
@@ -92,7 +94,9 @@ impl Model for Links {
 
     ghost use Rattle.slotmap_links.specs.Kept.{lists_by, AreKept};
 
-    ghost view = { λ l. lists_by l.ends.items l.links.items };
+    ghost use Rattle.std.specs.Prelude.{vec_capacity};
+
+    ghost view = { λ l. lists_by l.ends.items l.links.items (vec_capacity l.ends, vec_capacity l.links) };
 
     ghost invariant = { λ l. AreKept l.ends.items l.links.items };
 }
@@ -105,7 +109,7 @@ impl Links {
     /// assert_eq!(rt; (links.owners(), links.members()), (0, 0));
     /// ```
     pub fn new(alloc: Global) -> Links
-        ensures { result ≡ record { lists = []; members = 0 } }
+        ensures { result ≡ record { lists = []; members = 0; capacity = (0, 0) } }
     {
         Links {
             ends: Vec::new(alloc),
@@ -125,13 +129,16 @@ impl Links {
     /// assert_eq!(rt; links.first(1), None);
     /// ```
     pub fn cover_owners(&mut self, owners: usize) -> Result<(), AllocError>
-        ensures ok { OnOk result (self.new ≡ with_owners self.old owners) }
+        ensures ok { OnOk result (self.new ≡ with_capacity (with_owners self.old owners) self.new.capacity) }
         ensures err { OnErr result (self.new ≡ self.old) }
         ensures had_room { owners ≤ length self.old.lists → IsOk result }
+        ensures unchanged { owners ≤ length self.old.lists → self.new ≡ self.old }
     {
-        if owners <= self.ends.len() {
+        let before = self.ends.len();
+        if owners <= before {
             return Ok(());
         }
+        self.ends.reserve(owners - before)?;
         self.ends.resize(owners, NO_ENDS)
     }
 
@@ -148,13 +155,16 @@ impl Links {
     /// ```
     pub fn cover_members(&mut self, members: usize) -> Result<(), AllocError>
         requires { members < 2 ^ 32 }
-        ensures ok { OnOk result (self.new ≡ with_members self.old members) }
+        ensures ok { OnOk result (self.new ≡ with_capacity (with_members self.old members) self.new.capacity) }
         ensures err { OnErr result (self.new ≡ self.old) }
         ensures had_room { members ≤ self.old.members → IsOk result }
+        ensures unchanged { members ≤ self.old.members → self.new ≡ self.old }
     {
-        if members <= self.links.len() {
+        let before = self.links.len();
+        if members <= before {
             return Ok(());
         }
+        self.links.reserve(members - before)?;
         self.links.resize(members, NO_LINK)
     }
 
@@ -170,7 +180,7 @@ impl Links {
     /// assert_eq!(rt; links.members(), 8);
     /// ```
     pub fn clear(&mut self)
-        ensures { self.new ≡ record { lists = replicate (length self.old.lists) []; members = self.old.members } }
+        ensures { self.new ≡ cleared self.old }
     {
         self.ends.fill(NO_ENDS);
     }
@@ -186,7 +196,7 @@ impl Links {
     /// assert_eq!(rt; copy.first(0), Some(5));
     /// ```
     pub fn clone(&self) -> Result<Links, AllocError>
-        ensures { IfOk result (λ copy. copy ≡ self.now) }
+        ensures { IfOk result (λ copy. copy ≡ with_capacity self.now copy.capacity) }
     {
         Ok(Links {
             ends: self.ends.clone()?,
