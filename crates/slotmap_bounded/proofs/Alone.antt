@@ -3,7 +3,7 @@ use Rattle.std.proofs.Common.{◌≡◌, ℕ, true, Option, Some, None, is_some,
 use Rattle.slotmap.specs.Words.{Key, key_cmp, Content, IsLive, IsNew, Inserts, Removes, Keeps, Leaves, MakesRoom, IsCopy, IsCloneBy, without_values, with_value, used}
 use Rattle.slotmap.specs.KeysAlone.{keys_of}
 use Rattle.slotmap.proofs.Callers.{clone_copies, contains-keys_of, len-keys_of}
-use Rattle.slotmap_bounded.specs.Mapped.{map_values}
+use Rattle.slotmap_bounded.specs.{Bounded.bound, Bounded.space, Mapped.map_values}
 use Rattle.slotmap_bounded.proofs.Mapped.{mapped-new, mapped-inserts, mapped-removes, mapped-keeps, mapped-leaves, mapped-room, mapped-clones, mapped-written, get-mapped, len-mapped, some-mapped}
 use Rattle.slotmap_bounded.proofs.Mapped.{is_mapped}
 use Rattle.std.specs.FinMap as map
@@ -31,6 +31,13 @@ module _ {V : Type 0} where
   -- as many slots are in use, and there is as much room
   pub used_alone : (c : Content V) → used (without_values c) ≡ used c
   used_alone c = omega (arith, len-keys_of c.live)
+
+  pub used-written : (c : Content V) (k : Key) (v : V) → IsLive c k → used (with_value c k v) ≡ used c
+  used-written c k v live = sym (used_alone (with_value c k v)) ∙ ap used (alone-written c k v live) ∙ used_alone c
+
+  -- the bound and the capacity stay
+  pub alone-space : (old new : Content V) → bound new ≡ bound old → new.capacity ≡ old.capacity → space (without_values new) ≡ space (without_values old)
+  alone-space old new same capacity = let alone : bound (without_values new) ≡ bound (without_values old) = omega (arith, used_alone new, used_alone old, same) in λ i. (alone i, capacity i)
 
   -- a content that holds nothing, an insert, a removal, and a call that only makes room
   pub alone-new : (c : Content V) → IsNew c → IsNew (without_values c)

@@ -1,16 +1,16 @@
 -- A content with another room: what each call of the map does to it.
-use Rattle.std.proofs.Common.{◌≡◌, ℕ, ◌+◌, ◌-◌, ◌<◌, ◌≤◌, ◌∙◌, true, List, Some, cond, if◌then◌else◌, is_some, inl, refl}
+use Rattle.std.proofs.Common.{◌≡◌, ℕ, ◌+◌, ◌-◌, ◌<◌, ◌≤◌, ◌∙◌, true, List, Some, cond, if◌then◌else◌, is_some, inl, refl, sym}
 use Rattle.std.proofs.Common.{ap, arith}
 use Rattle.std.specs.{Ordering.nat_cmp, Cmp.nat_cmp_total}
-use Rattle.slotmap.specs.Words.{Key, key_cmp, Content, IsContent, IsLive, IsNew, Inserts, Removes, MakesRoom, StaysValid, IsCloneBy, is_last, used, with_value}
+use Rattle.slotmap.specs.Words.{Key, key_cmp, Content, IsContent, IsLive, IsNew, Inserts, Keeps, Removes, MakesRoom, StaysValid, IsCloneBy, is_last, used, with_value}
 use Rattle.slotmap.proofs.Callers.{clone_len, inserted_len, get-insert_here, leaves_by_removal, len_removed, keys_total, exact_keys}
 use Rattle.slotmap_bounded.proofs.{Alone.alone-written, Alone.same_live, Shown.shown_content}
-use Rattle.slotmap_bounded.specs.Bounded.{IsBounded, bounded}
+use Rattle.slotmap_bounded.specs.Bounded.{IsBounded, bound, bounded}
 use Rattle.std.specs.FinMap as map
 use Rattle.std.specs.FinSet as set
 
 module _ {V : Type 0} {c : Content V} {room capacity : ℕ} (is : IsBounded c room capacity) where
-  pub bounded_valid : IsContent true (bounded c room capacity)
+  pub bounded_valid : IsContent true (bounded c room)
   bounded_valid = let well = is.valid in let lists = λ (stack : List ℕ) (at : c.stack ≡ Some stack). (well.stacked stack at).lists in
       let once = λ (stack : List ℕ) (at : c.stack ≡ Some stack). (well.stacked stack at).once in let top = λ (stack : List ℕ) (at : c.stack ≡ Some stack). (well.stacked stack at).top in
       grind (arith, lists, once, top)
@@ -35,12 +35,12 @@ module _ {V : Type 0} {c : Content V} {room capacity : ℕ} (is : IsBounded c ro
     pub inserted : 0 < room → IsContent true new → IsBounded new (room - 1) capacity
     inserted some valid = grind (arith, vacant_less some, used_more)
 
-    pub inserts_bounded : 0 < room → Inserts (bounded c room capacity) k v (bounded new (room - 1) capacity)
+    pub inserts_bounded : 0 < room → Inserts (bounded c room) k v (bounded new (room - 1))
     inserts_bounded some = grind arith
 
-    pub index_within : 0 < room → IsContent true new → k.index ≤ capacity
+    pub index_within : 0 < room → IsContent true new → k.index ≤ bound (bounded new (room - 1))
     index_within some valid = let there : IsLive new k = ap (λ m. map.contains_key m k) inserts.live ∙ ap is_some (get-insert_here c.live k v) in let now = inserted some valid in
-        omega (arith, (valid.within k (inl (inl there))).1, now.vacant, now.exact)
+        omega (arith, (valid.within k (inl (inl there))).1, now.vacant)
 
   -- a value goes
   module _ {k : Key} (live : IsLive c k) {new : Content V} (removes : Removes c k new) (valid : IsContent true new) where
@@ -54,14 +54,14 @@ module _ {V : Type 0} {c : Content V} {room capacity : ℕ} (is : IsBounded c ro
         let same = (leaves_by_removal true c is.valid k live new removes).same_places in
         grind (arith, removes.room)
 
-    pub removes_bounded : Removes (bounded c room capacity) k (bounded new (room + (if is_last k then 0 else 1)) capacity)
+    pub removes_bounded : Removes (bounded c room) k (bounded new (room + (if is_last k then 0 else 1)))
     removes_bounded = record { live = removes.live; detached = removes.detached; retired = removes.retired; next = removes.next; stack = removes.stack; room = omega arith }
 
   -- room is there, is made, or can't be made
-  pub had_room : (n : ℕ) (ok : Type 0) → ok → n ≤ room → MakesRoom true (bounded c room capacity) n ok (bounded c room capacity)
+  pub had_room : (n : ℕ) (ok : Type 0) → ok → n ≤ room → MakesRoom true (bounded c room) n ok (bounded c room)
   had_room n ok done more = let valid = bounded_valid is in grind arith
 
-  pub none_made : (n : ℕ) (ok : Type 0) → (ok → ⊥) → room < n → MakesRoom true (bounded c room capacity) n ok (bounded c room capacity)
+  pub none_made : (n : ℕ) (ok : Type 0) → (ok → ⊥) → room < n → MakesRoom true (bounded c room) n ok (bounded c room)
   none_made n ok failed less = let valid = bounded_valid is in grind arith
 
   module _ {n : ℕ} {ok : Type 0} {new : Content V} (makes : MakesRoom true c n ok new) {asked : ℕ} (enough : asked ≤ n) (less : room < asked) where
@@ -74,19 +74,26 @@ module _ {V : Type 0} {c : Content V} {room capacity : ℕ} (is : IsBounded c ro
     refused : IsBounded new room capacity
     refused = let next = ap map.len makes.keeps.next in let same = same_used in grind arith
 
-    pub refused_same : bounded new room capacity ≡ bounded c room capacity
+    pub refused_same : bounded new room ≡ record (bounded c room) { capacity = new.capacity }
     refused_same = let keeps = makes.keeps in cc
 
-    pub made_room : ok → (fine : Type 0) → fine → MakesRoom true (bounded c room capacity) asked fine (bounded new n (capacity - room + n))
+    pub made_room : ok → (fine : Type 0) → fine → MakesRoom true (bounded c room) asked fine (bounded new n)
     made_room done fine is_fine = let before = bounded_valid is in let after = bounded_valid (made done) in grind (arith, makes.fits)
 
-    pub refused_room : (fine : Type 0) → (fine → ⊥) → MakesRoom true (bounded c room capacity) asked fine (bounded new room capacity)
+    pub refused_room : (fine : Type 0) → (fine → ⊥) → MakesRoom true (bounded c room) asked fine (bounded new room)
     refused_room fine failed = let before = bounded_valid is in let after = bounded_valid refused in grind arith
 
--- the capacity stays
-pub stays : {V : Type 0} {c new : Content V} {room now capacity : ℕ} → IsBounded c room capacity → IsBounded new now capacity
-    → StaysValid true (bounded c room capacity) (bounded new now capacity)
-stays was is = record { before = bounded_valid was; after = bounded_valid is; capacity = refl }
+-- the bound stays, and the capacity where that of the map does
+module _ {V : Type 0} {c new : Content V} {room now capacity : ℕ} (was : IsBounded c room capacity) (is : IsBounded new now capacity) where
+  pub stays : new.capacity ≡ c.capacity → StaysValid true (bounded c room) (bounded new now)
+  stays same = record { before = bounded_valid was; after = bounded_valid is; capacity = same }
+
+  pub bound_stays : bound (bounded new now) ≡ bound (bounded c room)
+  bound_stays = is.exact ∙ sym was.exact
+
+-- as many slots are used, and there is no less room
+pub bound_grows : {V : Type 0} {c new : Content V} → Keeps c new → bound c ≤ bound new
+bound_grows keeps = omega (arith, ap map.len keeps.live, ap set.len keeps.detached, ap set.len keeps.retired, keeps.room)
 
 -- nothing was inserted yet
 pub starts : {V : Type 0} (c : Content V) (room : ℕ) → IsNew c → IsContent true c → room ≤ c.room → IsBounded c room room
@@ -109,5 +116,5 @@ module _ {V : Type 0} {c : Content V} {room capacity : ℕ} (is : IsBounded c ro
       let next = ap map.len (makes.keeps.next ∙ clones.next) in
       grind (arith, makes.room)
 
-  pub copied_clones : IsCloneBy is_clone (bounded c room capacity) (bounded new room capacity)
+  pub copied_clones : IsCloneBy is_clone (bounded c room) (bounded new room)
   copied_clones = grind (arith, clones.live)

@@ -5,6 +5,7 @@ use Rattle.std.specs.{Option.option_map, List.find, List.list_any, Ordering.eq_b
 use Rattle.std.proofs.lemmas.List.{map-append}
 use Rattle.slotmap.specs.Words.{Key, key_cmp, Content, Inserts, IsContent, IsLive, null_key}
 use Rattle.slotmap.proofs.Callers.{exact_keys, get-insert_other, itself, keys_total, same_or_other, tied}
+use Rattle.slotmap_bounded.specs.Bounded.{bound}
 use Rattle.slotmap_bounded.specs.KeyLists.{is_key, last_or, same, times, without}
 use Rattle.slotmap_bounded.proofs.Counts.{is_itself, is_other, one_other, times_first}
 use Rattle.slotmap_links.specs.Lists.{times as often, without as without_number, first_or, last_or as last_number}
@@ -49,20 +50,20 @@ some_is o is = grind arith
 pub by_live : {T : Type 0} (m : map.FinMap key_cmp T) (k : Key) (P : Type 0) → (map.contains_key m k ≡ true → P) → (map.contains_key m k ≡ false → P) → P
 by_live m k P here gone = elim (map.contains_key m k) as (λ b. map.contains_key m k ≡ b → P) [ true ↦ here | false ↦ gone ] refl
 
--- the same keys, and no less capacity
-pub indices_still : {V W : Type 0} {c : Content V} (indices : HaveIndices c) (d : Content W) → ((k : Key) → IsLive d k → IsLive c k) → c.capacity ≤ d.capacity → HaveIndices d
+-- the same keys, and no lesser bound
+pub indices_still : {V W : Type 0} {c : Content V} (indices : HaveIndices c) (d : Content W) → ((k : Key) → IsLive d k → IsLive c k) → bound c ≤ bound d → HaveIndices d
 indices_still indices d were more = record {
   within = λ k live. (let within = indices.within k (were k live) in (within.0, omega (arith, within.1)));
   apart = λ a b of_a of_b. indices.apart a b (were a of_a) (were b of_b);
 }
 
 -- a key comes
-pub indices_inserted : {V : Type 0} {c : Content V} (indices : HaveIndices c) (k : Key) (v : V) (d : Content V) → Inserts c k v d → IsContent true d → d.capacity ≡ c.capacity
-    → k.index ≤ d.capacity → HaveIndices d
-indices_inserted {c} indices k v d inserts valid capacity within = record {
+pub indices_inserted : {V : Type 0} {c : Content V} (indices : HaveIndices c) (k : Key) (v : V) (d : Content V) → Inserts c k v d → IsContent true d → bound d ≡ bound c
+    → k.index ≤ bound d → HaveIndices d
+indices_inserted {c} indices k v d inserts valid same within = record {
   within = λ q live. (elim (same_or_other q k) [
     | inl is ↦ ((valid.within q (inl (inl live))).0, omega (arith, ap (λ (q : Key). q.index) is))
-    | inr other ↦ (let was = indices.within q (sym (ap is_some (ap (λ m. map.get m q) inserts.live ∙ get-insert_other c.live k v q other)) ∙ live) in (was.0, omega (arith, was.1, capacity)))
+    | inr other ↦ (let was = indices.within q (sym (ap is_some (ap (λ m. map.get m q) inserts.live ∙ get-insert_other c.live k v q other)) ∙ live) in (was.0, omega (arith, was.1, same)))
   ]);
   apart = λ a b of_a of_b. valid.apart a b (inl (inl of_a)) (inl (inl of_b));
 }

@@ -8,17 +8,25 @@ abbrev pub grown : ℕ → ℕ → ℕ
 grown used n = max n (min (max used 4) (most - used))
 
 module _ {V : Type 0} where
-  -- the same content with another room and another capacity
-  abbrev pub bounded : Content V → ℕ → ℕ → Content V
-  bounded c room capacity = record c { room = room; capacity = capacity }
+  -- the greatest index that a key can have before more room is made: what is used, and the room
+  abbrev pub bound : Content V → ℕ
+  bound c = used c + c.room
 
-  -- there is so much room, also where a slot is vacant, and the capacity is what is used and the room
-  pub record IsBounded (c : Content V) (room capacity : ℕ) : Type 0 where
+  -- the bound, and for how many keys there is memory: where both stay, no memory was asked for
+  abbrev pub space : Content V → ℕ × ℕ
+  space c = (bound c, c.capacity)
+
+  -- the same content with another room
+  abbrev pub bounded : Content V → ℕ → Content V
+  bounded c room = record c { room = room }
+
+  -- there is so much room, also where a slot is vacant, and this is the bound
+  pub record IsBounded (c : Content V) (room most_keys : ℕ) : Type 0 where
     pub valid : IsContent true c
     pub vacant : map.len c.next ≤ room
     pub fits : room ≤ c.room
-    pub exact : used c + room ≡ capacity
+    pub exact : used c + room ≡ most_keys
 
-  -- the capacity once there is room for n more keys
-  abbrev pub capacity_with : Content V → ℕ → ℕ
-  capacity_with c n = cond (nat_lt c.room n) (used c + grown (used c) n) c.capacity
+  -- the bound once there is room for n more keys
+  abbrev pub bound_with : Content V → ℕ → ℕ
+  bound_with c n = cond (nat_lt c.room n) (used c + grown (used c) n) (bound c)

@@ -3,6 +3,7 @@ use Rattle.std.specs.Prelude.{◌≡◌, ℕ, ◌<◌, ◌≤◌, true, Option, 
 use Rattle.std.specs.List.{find}
 use Rattle.std.specs.FinMap as map
 use Rattle.slotmap.specs.Words.{Key, key_cmp, null_key, Content, IsLive}
+use Rattle.slotmap_bounded.specs.Bounded.{bound}
 use Rattle.slotmap_links.specs.Lists.{times}
 
 module _ {T : Type 0} where
@@ -28,7 +29,7 @@ module _ {T : Type 0} where
   abbrev pub AreApart : map.FinMap key_cmp T → Type 0
   AreApart m = (a b : Key) → map.contains_key m a ≡ true → map.contains_key m b ≡ true → a.index ≡ b.index → a ≡ b
 
-  -- the indices of the keys are within the capacity, and each key has its own
+  -- the indices of the keys are within the bound, and each key has its own
   pub record HaveIndices (c : Content T) : Type 0 where
-    pub within : (k : Key) → IsLive c k → (1 ≤ k.index) × (k.index ≤ c.capacity)
+    pub within : (k : Key) → IsLive c k → (1 ≤ k.index) × (k.index ≤ bound c)
     pub apart : AreApart c.live

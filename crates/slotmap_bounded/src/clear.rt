@@ -3,6 +3,7 @@
 ghost use Rattle.std.specs.Prelude.{◌≡◌, ◌≢◌, ◌<◌, true};
 ghost use Rattle.std.specs.FinMap as map;
 ghost use Rattle.slotmap.specs.Words.{Key as KeyOf, IsLive, Leaves, StaysValid};
+ghost use Rattle.slotmap_bounded.specs.Bounded.{bound};
 
 use crate::BoundedMap;
 use slotmap::Key;
@@ -22,6 +23,7 @@ impl<K: Key, V: Drop> BoundedMap<K, V> {
     pub fn clear(&mut self)
         ensures empty { self.new.live ≡ map.empty }
         ensures leaves { Leaves self.old self.new }
+        ensures bound { bound self.new ≡ bound self.old }
         ensures valid { StaysValid true self.old self.new }
     {
         let _ = self.len();
@@ -38,6 +40,7 @@ impl<K: Key, V: Drop> BoundedMap<K, V> {
         ensures gone { (k : KeyOf) → IsLive self.new k → k.index ≢ (K.data_of key).index }
         ensures fewer { map.len self.new.live < map.len self.old.live }
         ensures leaves { Leaves self.old self.new }
+        ensures bound { bound self.new ≡ bound self.old }
         ensures valid { StaysValid true self.old self.new }
     {
         self.remove(key);

@@ -24,7 +24,7 @@ ghost use Rattle.std.specs.FinMap as map;
 ghost use Rattle.std.specs.Borrow.{sem};
 ghost use Rattle.std.specs.Option.{option_copied_mut};
 ghost use Rattle.slotmap.specs.Words.{Key as KeyOf, IsContent, IsCloneBy, IsLive, IsNew, Inserts, MakesRoom, RefusesCapacity, Removes, StaysValid, is_last, most, places, used};
-ghost use Rattle.slotmap_bounded.specs.Bounded.{capacity_with, grown as grown_by};
+ghost use Rattle.slotmap_bounded.specs.Bounded.{bound, bound_with, grown as grown_by};
 
 mod clear;
 mod keys;
@@ -46,11 +46,12 @@ const FEW: usize = 4;
 /// A slot map that promises the room that it counted where it was reserved, and no more.
 ///
 /// A clause sees the content of the map, where `room` is what was promised. The live, detached and
-/// retired keys and the room together are the `capacity`.
+/// retired keys and the room together are the bound of the indices. The content's `capacity` is that of
+/// the `SlotMap`: where it stays, the map has asked for no memory.
 pub struct BoundedMap<K, V> {
     map: SlotMap<K, V>,
     room: usize,
-    capacity: usize,
+    bound: usize,
 }
 
 impl<K, V: Drop> Drop for BoundedMap<K, V> {
@@ -58,7 +59,7 @@ impl<K, V: Drop> Drop for BoundedMap<K, V> {
         let BoundedMap {
             map: _map,
             room: _room,
-            capacity: _capacity,
+            bound: _bound,
         } = self;
     }
 }
@@ -72,9 +73,9 @@ impl<K, V> Model for BoundedMap<K, V> {
 
     ghost use Rattle.slotmap_bounded.specs.Bounded.{IsBounded, bounded};
 
-    ghost view = { λ b. bounded b.map b.room b.capacity };
+    ghost view = { λ b. bounded b.map b.room };
 
-    ghost invariant = { λ b. IsBounded b.map b.room b.capacity };
+    ghost invariant = { λ b. IsBounded b.map b.room b.bound };
 }
 
 // For how many keys a removed one leaves room: one, unless it was the last of its slot.
@@ -112,7 +113,7 @@ impl<K: Key, V: Drop> BoundedMap<K, V> {
     pub fn with_capacity(alloc: Global, capacity: usize) -> Result<Self, ReserveError>
         ensures starts { IfOk result IsNew }
         ensures room { IfOk result (λ made. made.room ≡ capacity) }
-        ensures capacity { IfOk result (λ made. made.capacity ≡ capacity) }
+        ensures bound { IfOk result (λ made. bound made ≡ capacity) }
         ensures err { IfErr result (RefusesCapacity capacity) }
         ensures valid { IfOk result (IsContent true) }
     {
@@ -120,7 +121,7 @@ impl<K: Key, V: Drop> BoundedMap<K, V> {
         Ok(BoundedMap {
             map,
             room: capacity,
-            capacity,
+            bound: capacity,
         })
     }
 
@@ -146,14 +147,13 @@ impl<K: Key, V: Drop> BoundedMap<K, V> {
     /// assert_eq!(rt; (a.data().idx(), map.capacity()), (1, 1));
     /// ```
     pub fn capacity(&self) -> usize
-        ensures value { result ≡ self.now.capacity }
         ensures exact { result ≡ used self.now + self.now.room }
         ensures places { places self.now ≤ result }
         ensures limit { result ≤ most }
         ensures valid { IsContent true self.now }
     {
         let _ = self.map.len();
-        self.capacity
+        self.bound
     }
 
     /// Returns whether there is room for one more key, in constant time.
@@ -181,20 +181,20 @@ impl<K: Key, V: Drop> BoundedMap<K, V> {
     /// assert!(rt; matches!(map.capacity_for(4294967295), Err(ReserveError::TooGreat)));
     /// ```
     pub fn capacity_for(&self, additional: usize) -> Result<usize, ReserveError>
-        ensures had_room { additional ≤ self.now.room → result ≡ Ok self.now.capacity }
-        ensures value { IfOk result (λ capacity. capacity ≡ capacity_with self.now additional) }
+        ensures had_room { additional ≤ self.now.room → result ≡ Ok (bound self.now) }
+        ensures value { IfOk result (λ capacity. capacity ≡ bound_with self.now additional) }
         ensures limit { IfOk result (λ capacity. capacity ≤ most) }
         ensures err { IfErr result (λ error. (error ≡ ReserveError.TooGreat) × (most < used self.now + additional)) }
         ensures valid { IsContent true self.now }
     {
         let _ = self.capacity();
         if additional <= self.room {
-            return Ok(self.capacity);
+            return Ok(self.bound);
         }
-        if additional > MOST - (self.capacity - self.room) {
+        if additional > MOST - (self.bound - self.room) {
             return Err(ReserveError::TooGreat);
         }
-        let used = self.capacity - self.room;
+        let used = self.bound - self.room;
         Ok(used + grown(used, additional))
     }
 
@@ -204,7 +204,7 @@ impl<K: Key, V: Drop> BoundedMap<K, V> {
     /// least as many keys as there are, and for at least four, within the limit. So inserts that reserve
     /// room for one key each take constant time on average. It fails with `TooGreat` if more than
     /// 4294967294 keys would be there, counting those that are retired, and with `Memory` if memory runs
-    /// out. It has changed nothing then.
+    /// out. It has changed nothing then, but perhaps the capacity of the `SlotMap` below.
     ///
     /// ```
     /// let mut map: BoundedMap<DefaultKey, &str> = BoundedMap::with_capacity(alloc, 0)?;
@@ -214,22 +214,22 @@ impl<K: Key, V: Drop> BoundedMap<K, V> {
     pub fn reserve(&mut self, additional: usize) -> Result<(), ReserveError>
         ensures makes_room { MakesRoom true self.old additional (IsOk result) self.new }
         ensures err { IfErr result (RefusesCapacity (used self.old + additional)) }
-        ensures unchanged { OnErr result (self.new ≡ self.old) }
-        ensures grows { OnOk result (self.new.capacity ≡ capacity_with self.old additional) }
-        ensures capacity { self.new.capacity ≤ capacity_with self.old additional }
+        ensures unchanged { OnErr result (self.new ≡ record self.old { capacity = self.new.capacity }) }
+        ensures grows { OnOk result (bound self.new ≡ bound_with self.old additional) }
+        ensures within { bound self.new ≤ bound_with self.old additional }
     {
         let _ = self.map.len();
         if additional <= self.room {
             return Ok(());
         }
-        let used = self.capacity - self.room;
+        let used = self.bound - self.room;
         if additional > MOST - used {
             return Err(ReserveError::TooGreat);
         }
         let more = grown(used, additional);
         match self.map.reserve(more) {
             Ok(()) => {
-                self.capacity = used + more;
+                self.bound = used + more;
                 self.room = more;
                 Ok(())
             }
@@ -250,7 +250,8 @@ impl<K: Key, V: Drop> BoundedMap<K, V> {
         requires room { 0 < self.old.room }
         ensures inserts { Inserts self.old (K.data_of result) value self.new }
         ensures fresh { map.get self.old.live (K.data_of result) ≡ None }
-        ensures within { (K.data_of result).index ≤ self.new.capacity }
+        ensures within { (K.data_of result).index ≤ bound self.new }
+        ensures bound { bound self.new ≡ bound self.old }
         ensures valid { StaysValid true self.old self.new }
     {
         match self.map.insert(value) {
@@ -279,6 +280,7 @@ impl<K: Key, V: Drop> BoundedMap<K, V> {
         ensures removes { OnSome result (Removes self.old (K.data_of key) self.new) }
         ensures unchanged { IfNone result (self.new ≡ self.old) }
         ensures live { self.new.live ≡ map.remove self.old.live (K.data_of key) }
+        ensures bound { bound self.new ≡ bound self.old }
         ensures valid { StaysValid true self.old self.new }
     {
         let value = self.map.remove(key)?;
@@ -445,7 +447,7 @@ impl<K: Key, V: Clone> BoundedMap<K, V> {
     /// ```
     pub fn clone(&self) -> Result<Self, AllocError>
         ensures clones { IfOk result (IsCloneBy V.is_clone self.now) }
-        ensures capacity { IfOk result (λ copy. copy.capacity ≡ self.now.capacity) }
+        ensures bound { IfOk result (λ copy. bound copy ≡ bound self.now) }
         ensures room { IfOk result (λ copy. copy.room ≡ self.now.room) }
         ensures valid { IfOk result (IsContent true) }
     {
@@ -454,7 +456,7 @@ impl<K: Key, V: Clone> BoundedMap<K, V> {
             Ok(()) => Ok(BoundedMap {
                 map,
                 room: self.room,
-                capacity: self.capacity,
+                bound: self.bound,
             }),
             Err(_) => Err(AllocError),
         }

@@ -16,15 +16,17 @@ pub use Rattle.slotmap.specs.Words.{IsLive, Content, key_cmp, with_value, Insert
 pub use Rattle.slotmap.specs.Words.{Key, get}
 pub use Rattle.slotmap_bounded.proofs.Indices.{indices_inserted, indices_still, first_index, first_key, later_indices, key_at_live, keys_same, keys_without, times_key, before_back, behind_front}
 pub use Rattle.slotmap_bounded.proofs.Indices.{key_is, same_at, no_key, some_is, back_has, back_key, front_has, front_key}
+pub use Rattle.slotmap_bounded.proofs.Alone.{used-written}
+pub use Rattle.slotmap_bounded.specs.Bounded.{bound}
 pub use Rattle.slotmap_bounded.specs.Indices.{HaveIndices, AreIndices, key_at, keys_at}
 pub use Rattle.slotmap_bounded.proofs.Counts.{one_itself, times_first, without_none, times_joined, times_pushed, times_there, here_or_behind, none_behind, no_more_than, filter_less, behind_split}
 pub use Rattle.slotmap_bounded.proofs.Counts.{one_other, is_itself, is_other, filter_all, as_many}
 pub use Rattle.slotmap_bounded.proofs.Linking.{in_midst, split_at}
 pub use Rattle.slotmap_bounded.proofs.MapKeys.{key_live, keys_once, key_there, entries_there}
 pub use Rattle.slotmap_bounded.specs.KeyLists.{same, times, without, is_key}
-pub use Rattle.slotmap_links.proofs.Changes.{list_cleared, pushed_here, pushed_still, pushed_was, covered}
+pub use Rattle.slotmap_links.proofs.Changes.{disjoint_still, list_cleared, pushed_here, pushed_still, pushed_was, covered}
 pub use Rattle.slotmap_links.proofs.Linking.{after_inside, cut_at, cons_not_nil}
-pub use Rattle.slotmap_links.specs.Lists.{first_or, list_of, Lists, AreDisjoint, times as often, CoversMore, IsFree, with_list, number_after, without as without_number, IsIn}
+pub use Rattle.slotmap_links.specs.Lists.{first_or, list_of, Lists, with_capacity, AreDisjoint, times as often, CoversMore, IsFree, with_list, number_after, without as without_number, IsIn}
 pub use Rattle.slotmap_graph.specs.Parts.{SeenEdge, ends_at, ListsEdges, edges_at, IsJoined, key_after, with_edge, clones_edge, with_edge_in, PutsAlone, SameEdges, touches, PutsBehind, avoids, ByNode}
 pub use Rattle.slotmap_graph.specs.Parts.{Edges, from, Seen, to, value}
 pub use Rattle.slotmap_graph.specs.Search.{GoesOn, HasEdge, IsBreadthFirst, ends_along, entries_along, goes_to, marked, Finds, LeadsBy, Leads, AllLed, HasNext, AreSeen}

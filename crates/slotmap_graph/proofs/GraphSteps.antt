@@ -1,7 +1,7 @@
 -- What a call makes of a graph, as a whole.
 use Rattle.slotmap_graph.proofs.Common.{is_some, indices_inserted, indices_still, same_or_other, get-insert_here, get-insert_other, get-put_other, leaves_by_removal, inserted_fresh, live-insert_still}
 use Rattle.slotmap_graph.proofs.Common.{Option, MatchOption, option_map, with_value, ClonesEqual, get-put_live, leaves_none, clone_live, times_first, one_itself, AreDisjoint, clones_edge, HaveIndices}
-use Rattle.slotmap_graph.proofs.Common.{◌∙◌, ℕ, IsContent, IsBeside, IsCloneBy, IsCloneOf, is_itself, is_other, CoversMore, with_list, ListsEdges, PutsAlone, SameEdges, PutsBehind, IsThreaded}
+use Rattle.slotmap_graph.proofs.Common.{◌∙◌, ℕ, bound, disjoint_still, used-written, with_capacity, IsContent, IsBeside, IsCloneBy, IsCloneOf, is_itself, is_other, CoversMore, with_list, ListsEdges, PutsAlone, SameEdges, PutsBehind, IsThreaded}
 use Rattle.slotmap_graph.proofs.Common.{OnSome, IfSome, IfNone, length, key_cmp, Content, IsLive, Inserts, Removes, Leaves, list_of, IsFree, SeenEdge, IsJoined, edges_at, touches, IsGraph, by_node}
 use Rattle.slotmap_graph.proofs.Common.{Bool, true, false, Some, None, List, [], refl, sym, ap, subst, inl, inr, arith, Key, Pairs, keys, times, Lists, often, Edges, from, to, Seen}
 use Rattle.std.proofs.Common.{◌≡◌, ◌≢◌, ◌<◌, ◌≤◌, ◌⊎◌, ◌∷◌, ◌++◌}
@@ -56,17 +56,17 @@ module _ {E : Type 0} (edges : Edges E) (k : Key) (untouched : (x : Key) (e : Se
 
 -- every graph is joined
 pub graph_joined : {N E : Type 0} (nodes : Content N) (edges : Content (SeenEdge E)) (outs intos : Lists) → IsGraph nodes edges outs intos
-    → IsJoined (record { nodes = nodes; edges = edges; out = by_node nodes.live edges.live outs; into = by_node nodes.live edges.live intos })
+    → IsJoined (record { nodes = nodes; edges = edges; out = by_node nodes.live edges.live outs; into = by_node nodes.live edges.live intos; links = (outs.capacity, intos.capacity) })
 graph_joined nodes edges outs intos graph = record { ends = λ x e there. (graph.out.ends x e there, graph.into.ends x e there); out = lists graph.out; into = lists graph.into }
 
 module _ {N E : Type 0} {end : SeenEdge E → Key} {nodes : Content N} {edges : Content (SeenEdge E)} {links : Lists} (t : IsThreaded end nodes edges links) where
   -- as many owners and members as the capacities ask for, and the same nodes and edges
   module _ (nodes' : Content N) (edges' : Content (SeenEdge E)) (same_nodes : nodes'.live ≡ nodes.live) (same_edges : edges'.live ≡ edges.live)
-      (more_nodes : nodes.capacity ≤ nodes'.capacity) (more_edges : edges.capacity ≤ edges'.capacity) {links' : Lists} (grows : CoversMore links links') where
+      (more_nodes : bound nodes ≤ bound nodes') (more_edges : bound edges ≤ bound edges') {links' : Lists} (grows : CoversMore links links') where
     grown_edges : HaveIndices edges'
     grown_edges = indices_still t.edge_indices edges' (λ k live. sym (ap (λ m. map.contains_key m k) same_edges) ∙ live) more_edges
 
-    pub grown : nodes'.capacity < length links'.lists → edges'.capacity < links'.members → IsThreaded end nodes' edges' links'
+    pub grown : bound nodes' < length links'.lists → bound edges' < links'.members → IsThreaded end nodes' edges' links'
     grown owners members = threaded_along t end nodes' edges' links' (λ x. ap (λ m. option_map end (map.get m x)) same_edges) grows.lists
         (indices_still t.node_indices nodes' (λ k live. grind (arith, same_nodes)) more_nodes) grown_edges owners members grows.disjoint (λ x e there. grind (arith, same_nodes, t.ends x e there))
 
@@ -80,18 +80,18 @@ module _ {N E : Type 0} {end : SeenEdge E → Key} {nodes : Content N} {edges : 
   covered_seen grows = grown_seen nodes edges refl refl (omega arith) (omega arith) grows
 
   -- other nodes, with all ends of edges among them
-  threaded_beside : (new : Content N) → HaveIndices new → new.capacity ≡ nodes.capacity
+  threaded_beside : (new : Content N) → HaveIndices new → bound new ≡ bound nodes
       → ((x : Key) (e : SeenEdge E) → map.get edges.live x ≡ Some e → IsLive new (end e)) → IsThreaded end new edges links
-  threaded_beside new indices capacity ends = threaded_along t end new edges links (λ x. refl) (λ p. refl) indices t.edge_indices (omega (arith, t.owners)) t.members t.disjoint ends
+  threaded_beside new indices same_bound ends = threaded_along t end new edges links (λ x. refl) (λ p. refl) indices t.edge_indices (omega (arith, t.owners)) t.members t.disjoint ends
 
   -- a node comes
   module _ {k : Key} {v : N} {new : Content N} (inserts : Inserts nodes k v new) (was : IsContent true nodes) (valid : IsContent true new)
-      (capacity : new.capacity ≡ nodes.capacity) (within : k.index ≤ new.capacity) where
+      (same_bound : bound new ≡ bound nodes) (within : k.index ≤ bound new) where
     still_node : (q : Key) → IsLive nodes q → IsLive new q
     still_node q live = ap (λ m. map.contains_key m q) inserts.live ∙ live-insert_still nodes.live k v q live
 
     pub node_threaded : IsThreaded end new edges links
-    node_threaded = threaded_beside new (indices_inserted t.node_indices k v new inserts valid capacity within) capacity (λ x e there. still_node (end e) (t.ends x e there))
+    node_threaded = threaded_beside new (indices_inserted t.node_indices k v new inserts valid same_bound within) same_bound (λ x e there. still_node (end e) (t.ends x e there))
 
     pub node_seen : SameEdges (by_node nodes.live edges.live links) (by_node new.live edges.live links)
     node_seen =
@@ -103,23 +103,23 @@ module _ {N E : Type 0} {end : SeenEdge E → Key} {nodes : Content N} {edges : 
 
   -- an edge comes
   module _ {k : Key} {e : SeenEdge E} {new : Content (SeenEdge E)} (inserts : Inserts edges k e new) (fresh : map.get edges.live k ≡ None) (valid : IsContent true new)
-      (capacity : new.capacity ≡ edges.capacity) (within : k.index ≤ new.capacity)
+      (same_bound : bound new ≡ bound edges) (within : k.index ≤ bound new)
       (live : IsLive nodes (end e)) where
     new_indices : HaveIndices new
-    new_indices = indices_inserted t.edge_indices k e new inserts valid capacity within
+    new_indices = indices_inserted t.edge_indices k e new inserts valid same_bound within
 
     pub edge_free : IsFree links k.index
-    edge_free = put_free t k e fresh live new inserts.live new_indices capacity
+    edge_free = put_free t k e fresh live new inserts.live new_indices same_bound
 
     module _ {now : Lists} (now_is : now ≡ with_list links (end e).index (list_of links (end e).index ++ k.index ∷ [])) where
       pub edge_threaded : AreDisjoint now → IsThreaded end nodes new now
-      edge_threaded = put_threaded t k e fresh live new inserts.live new_indices capacity now now_is
+      edge_threaded = put_threaded t k e fresh live new inserts.live new_indices same_bound now now_is
 
       pub edge_seen : PutsBehind (by_node nodes.live edges.live links) (end e) k (by_node nodes.live new.live now)
-      edge_seen = put_seen t k e fresh live new inserts.live new_indices capacity now now_is
+      edge_seen = put_seen t k e fresh live new inserts.live new_indices same_bound now now_is
 
   -- a node goes at which no edge is
-  module _ (k : Key) (new : Content N) (is : new.live ≡ map.remove nodes.live k) (capacity : new.capacity ≡ nodes.capacity) (apart : (x : Key) (e : SeenEdge E)
+  module _ (k : Key) (new : Content N) (is : new.live ≡ map.remove nodes.live k) (same_bound : bound new ≡ bound nodes) (apart : (x : Key) (e : SeenEdge E)
       → map.get edges.live x ≡ Some e → end e ≢ k) where
     left_nodes : (q : Key) → q ≢ k → map.contains_key new.live q ≡ map.contains_key nodes.live q
     left_nodes q other = ap (λ m. map.contains_key m q) is ∙ grind (arith, keys)
@@ -128,7 +128,7 @@ module _ {N E : Type 0} {end : SeenEdge E → Key} {nodes : Content N} {edges : 
     was_node q live = grind (arith, keys, same_or_other q k, left_nodes q, is)
 
     pub gone_threaded : IsThreaded end new edges links
-    gone_threaded = threaded_beside new (indices_still t.node_indices new was_node (omega arith)) capacity (λ x e there. left_nodes (end e) (apart x e there) ∙ t.ends x e there)
+    gone_threaded = threaded_beside new (indices_still t.node_indices new was_node (omega arith)) same_bound (λ x e there. left_nodes (end e) (apart x e there) ∙ t.ends x e there)
 
     pub gone_seen : SameEdges (by_node nodes.live edges.live links) (by_node new.live edges.live links)
     gone_seen = other_nodes t new (λ q. elim (same_or_other q k) [
@@ -158,7 +158,7 @@ module _ {N E : Type 0} (end : SeenEdge E → Key) (nodes : Content N) (edges : 
   no_edge : (k : Key) → map.contains_key edges.live k ≡ false
   no_edge k = ap (λ m. map.contains_key m k) no_edges ∙ ap is_some (map.get-empty {X = SeenEdge E} key_cmp k)
 
-  pub bare_threaded : ((p : ℕ) → list_of links p ≡ []) → nodes.capacity < length links.lists → edges.capacity < links.members → IsThreaded end nodes edges links
+  pub bare_threaded : ((p : ℕ) → list_of links p ≡ []) → bound nodes < length links.lists → bound edges < links.members → IsThreaded end nodes edges links
   bare_threaded none owners members = record {
     node_indices = grind (arith, no_node);
     edge_indices = grind (arith, no_edge);
@@ -175,19 +175,19 @@ module _ {N E : Type 0} (end : SeenEdge E → Key) (nodes : Content N) (edges : 
 
 -- the copies of nodes and edges are listed alike
 module _ {N E : Type 0} {end : SeenEdge E → Key} {nodes : Content N} {edges : Content (SeenEdge E)} {links : Lists} (t : IsThreaded end nodes edges links)
-    {clones_node : N → N → Type 0} {new : Content N} (cloned : IsCloneBy clones_node nodes new) (same_nodes : new.capacity ≡ nodes.capacity)
-    (clones_value : E → E → Type 0) {copies : Content (SeenEdge E)} (clones : IsCloneBy (clones_edge clones_value) edges copies) (same_edges : copies.capacity ≡ edges.capacity)
+    {clones_node : N → N → Type 0} {new : Content N} (cloned : IsCloneBy clones_node nodes new) (same_nodes : bound new ≡ bound nodes)
+    (clones_value : E → E → Type 0) {copies : Content (SeenEdge E)} (clones : IsCloneBy (clones_edge clones_value) edges copies) (same_edges : bound copies ≡ bound edges)
     (same : (o p : Option (SeenEdge E)) → IsCloneOf (clones_edge clones_value) o p → option_map end p ≡ option_map end o) where
   edge_copies : HaveIndices copies
   edge_copies = indices_still t.edge_indices copies (λ k live. sym (clone_live (clones_edge clones_value) edges copies clones k) ∙ live) (omega arith)
 
-  pub copied : {now : Lists} → now ≡ links → IsThreaded end new copies now
-  copied is = subst (IsThreaded end new copies) (sym is) (threaded_along t end new copies links (λ x. same _ _ (clones.live x)) (λ p. refl)
+  pub copied : (now : Lists) → now ≡ with_capacity links now.capacity → IsThreaded end new copies now
+  copied now is = subst (IsThreaded end new copies) (sym is) (threaded_along t end new copies (with_capacity links now.capacity) (λ x. same _ _ (clones.live x)) (λ p. refl)
       (indices_still t.node_indices new (λ k live. sym (clone_live clones_node nodes new cloned k) ∙ live) (omega arith)) edge_copies
-      (omega (arith, t.owners)) (omega (arith, t.members)) t.disjoint (λ x e there. clone_live clones_node nodes new cloned (end e) ∙ t.ends x e there))
+      (omega (arith, t.owners)) (omega (arith, t.members)) (disjoint_still links _ t.disjoint (λ p. refl) (omega arith)) (λ x e there. clone_live clones_node nodes new cloned (end e) ∙ t.ends x e there))
 
-  pub copied_seen : {now : Lists} → now ≡ links → SameEdges (by_node nodes.live edges.live links) (by_node new.live copies.live now)
-  copied_seen is k = grind (arith, is, same_seen t end new copies links (λ x. same _ _ (clones.live x)) (λ p. refl) edge_copies (clone_live clones_node nodes new cloned))
+  pub copied_seen : (now : Lists) → now ≡ with_capacity links now.capacity → SameEdges (by_node nodes.live edges.live links) (by_node new.live copies.live now)
+  copied_seen now is k = grind (arith, is, same_seen t end new copies (with_capacity links now.capacity) (λ x. same _ _ (clones.live x)) (λ p. refl) edge_copies (clone_live clones_node nodes new cloned))
 
 pub copied_from : {E : Type 0} (clones_value : E → E → Type 0) (o p : Option (SeenEdge E)) → IsCloneOf (clones_edge clones_value) o p → option_map from p ≡ option_map from o
 copied_from clones_value o p is = grind arith
@@ -204,8 +204,11 @@ module _ {N E : Type 0} {end : SeenEdge E → Key} {nodes : Content N} {edges : 
     same_node : (q : Key) → map.contains_key (map.insert nodes.live k v) q ≡ map.contains_key nodes.live q
     same_node q = grind (arith, same_or_other q k, get-insert_here nodes.live k v, get-insert_other nodes.live k v q, there)
 
+    written_bound : bound (with_value nodes k v) ≡ bound nodes
+    written_bound = ap (λ n. n + nodes.room) (used-written nodes k v (ap is_some there))
+
     pub node_written : IsThreaded end (with_value nodes k v) edges links
-    node_written = threaded_beside t (with_value nodes k v) (indices_still t.node_indices (with_value nodes k v) (λ q live. grind (arith, same_node q)) (omega arith)) refl
+    node_written = threaded_beside t (with_value nodes k v) (indices_still t.node_indices (with_value nodes k v) (λ q live. grind (arith, same_node q)) (omega (arith, written_bound))) written_bound
         (λ x e found. grind (arith, same_node (end e), t.ends x e))
 
     pub node_written_seen : by_node (map.insert nodes.live k v) edges.live links ≡ by_node nodes.live edges.live links
@@ -215,12 +218,15 @@ module _ {N E : Type 0} {end : SeenEdge E → Key} {nodes : Content N} {edges : 
     same_ends : (x : Key) → option_map end (map.get (map.insert edges.live k e) x) ≡ option_map end (map.get edges.live x)
     same_ends x = grind (arith, same_or_other x k, get-insert_here edges.live k e, get-insert_other edges.live k e x, same_end, there)
 
+    same_bound : bound (with_value edges k e) ≡ bound edges
+    same_bound = ap (λ n. n + edges.room) (used-written edges k e (ap is_some there))
+
     written_indices : HaveIndices (with_value edges k e)
     written_indices =
-        indices_still t.edge_indices (with_value edges k e) (λ q live. grind (arith, same_or_other q k, get-insert_other edges.live k e q, there)) (omega arith)
+        indices_still t.edge_indices (with_value edges k e) (λ q live. grind (arith, same_or_other q k, get-insert_other edges.live k e q, there)) (omega (arith, same_bound))
 
     pub edge_written : IsThreaded end nodes (with_value edges k e) links
-    edge_written = threaded_along t end nodes (with_value edges k e) links same_ends (λ p. refl) t.node_indices written_indices t.owners t.members t.disjoint t.ends
+    edge_written = threaded_along t end nodes (with_value edges k e) links same_ends (λ p. refl) t.node_indices written_indices t.owners (omega (arith, t.members, same_bound)) t.disjoint t.ends
 
     pub edge_written_seen : by_node nodes.live (map.insert edges.live k e) links ≡ by_node nodes.live edges.live links
     edge_written_seen = same_seen t end nodes (with_value edges k e) links same_ends (λ p. refl) written_indices (λ q. refl)

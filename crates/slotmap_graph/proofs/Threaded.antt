@@ -122,7 +122,7 @@ module _ {N E : Type 0} {end : SeenEdge E → Key} {nodes : Content N} {edges : 
     same_keys_at : HaveIndices edges' → (p : ℕ) → keys_at edges'.live (list_of links' p) ≡ keys_at edges.live (list_of links p)
     same_keys_at indices p = ap (keys_at edges'.live) (same_lists p) ∙ keys_same t.edge_indices indices (list_of links p) (indices_at p) (λ k live _. still k live)
 
-    pub threaded_along : HaveIndices nodes' → HaveIndices edges' → nodes'.capacity < length links'.lists → edges'.capacity < links'.members → AreDisjoint links'
+    pub threaded_along : HaveIndices nodes' → HaveIndices edges' → bound nodes' < length links'.lists → bound edges' < links'.members → AreDisjoint links'
         → ((x : Key) (e : SeenEdge E) → map.get edges.live x ≡ Some e → IsLive nodes' (end e)) → IsThreaded other_end nodes' edges' links'
     threaded_along node_indices edge_indices owners members disjoint ends = record {
       node_indices = node_indices;
@@ -142,7 +142,7 @@ module _ {N E : Type 0} {end : SeenEdge E → Key} {nodes : Content N} {edges : 
 
   -- an edge comes
   module _ (k : Key) (e : SeenEdge E) (fresh : map.get edges.live k ≡ None) (live : IsLive nodes (end e)) (new : Content (SeenEdge E)) (is : new.live ≡ map.insert edges.live k e)
-      (indices : HaveIndices new) (capacity : new.capacity ≡ edges.capacity) where
+      (indices : HaveIndices new) (same_bound : bound new ≡ bound edges) where
     abbrev put : Lists
     put = with_list links (end e).index (list_of links (end e).index ++ k.index ∷ [])
 
@@ -208,7 +208,7 @@ module _ {N E : Type 0} {end : SeenEdge E → Key} {nodes : Content N} {edges : 
           grind (arith, same_or_other q (end e), put_at, put_beside q, is_itself (end e), is_other q (end e), live)
 
   -- an edge goes
-  module _ (k : Key) {e : SeenEdge E} (there : map.get edges.live k ≡ Some e) (new : Content (SeenEdge E)) (is : new.live ≡ map.remove edges.live k) (capacity : new.capacity ≡ edges.capacity)
+  module _ (k : Key) {e : SeenEdge E} (there : map.get edges.live k ≡ Some e) (new : Content (SeenEdge E)) (is : new.live ≡ map.remove edges.live k) (same_bound : bound new ≡ bound edges)
       {now : Lists} (now_is : now ≡ with_list links (end e).index (without_number k.index (list_of links (end e).index))) where
     left_others : (x : Key) → x ≢ k → map.get new.live x ≡ map.get edges.live x
     left_others x other = grind (arith, keys, is)

@@ -1,7 +1,7 @@
 -- A graph as its users see it.
 use Rattle.std.specs.Prelude.{◌≡◌, ℕ, ◌<◌, ◌≤◌, ◌⊎◌, Option, Some, None, Bool, not, ◌||◌, refl, List, [], ◌∷◌, unwrap_or, cond, ◌++◌}
 use Rattle.std.specs.FinMap as map
-use Rattle.std.specs.Coded.{Coded, code_by, coded×, coded_list}
+use Rattle.std.specs.Coded.{Coded, code_by, coded×, coded_list, coded_ℕ}
 use Rattle.slotmap.specs.Words.{Key, key_cmp, coded_key, Content, content_code, with_value, IsLive, LacksRoom, Pairs, get, put, used, most}
 use Rattle.slotmap.specs.declared.ReserveError.{ReserveError}
 use Rattle.slotmap.specs.declared.ReserveError.TheVariants as reserve
@@ -30,6 +30,8 @@ pub record Seen (N E : Type 0) : Type 0 where
   -- the outgoing edges of each node, and its incoming ones
   pub out : ByNode
   pub into : ByNode
+  -- there are links for lists of so many nodes and edges, in both directions
+  pub links : (ℕ × ℕ) × (ℕ × ℕ)
 
 abbrev pub edge_code : {E : Type 0} → Coded E → Coded (SeenEdge E)
 edge_code {E} e =
@@ -41,8 +43,9 @@ by_node_code = map.code coded_key (coded_list coded_key)
 -- by which a proof tells two graphs apart
 abbrev pub seen_code : {N E : Type 0} → Coded N → Coded E → Coded (Seen N E)
 seen_code {N} {E} n e =
-    code_by (Content N × (Content (SeenEdge E) × (ByNode × ByNode))) (coded× (content_code n) (coded× (content_code (edge_code e)) (coded× by_node_code by_node_code)))
-    (λ s. (s.nodes, (s.edges, (s.out, s.into)))) (λ p. record { nodes = p.0; edges = p.1.0; out = p.1.1.0; into = p.1.1.1 }) (λ _. refl)
+    code_by (Content N × (Content (SeenEdge E) × (ByNode × (ByNode × ((ℕ × ℕ) × (ℕ × ℕ))))))
+    (coded× (content_code n) (coded× (content_code (edge_code e)) (coded× by_node_code (coded× by_node_code (coded× (coded× coded_ℕ coded_ℕ) (coded× coded_ℕ coded_ℕ))))))
+    (λ s. (s.nodes, (s.edges, (s.out, (s.into, s.links))))) (λ p. record { nodes = p.0; edges = p.1.0; out = p.1.1.0; into = p.1.1.1.0; links = p.1.1.1.1 }) (λ _. refl)
 
 -- the edges of a node; one that doesn't exist has none
 abbrev pub edges_at : ByNode → Key → List Key

@@ -2,7 +2,7 @@
 use Rattle.std.specs.Prelude.{◌≡◌, ◌<◌, ℕ, length, map as list_map, Some}
 use Rattle.std.specs.FinMap as map
 use Rattle.slotmap.specs.Words.{Key, key_cmp, Content, IsLive}
-use Rattle.slotmap_bounded.specs.Indices.{HaveIndices, keys_at}
+use Rattle.slotmap_bounded.specs.{Bounded.bound, Indices.HaveIndices, Indices.keys_at}
 use Rattle.slotmap_links.specs.Lists.{Lists, list_of, IsIn, AreDisjoint}
 use Rattle.slotmap_graph.specs.declared.lists.Direction.{Direction}
 use Rattle.slotmap_graph.specs.declared.lists.Direction.TheVariants.{Out, Into}
@@ -17,8 +17,8 @@ module _ {N E : Type 0} where
   pub record IsThreaded (end : SeenEdge E → Key) (nodes : Content N) (edges : Content (SeenEdge E)) (links : Lists) : Type 0 where
     pub node_indices : HaveIndices nodes
     pub edge_indices : HaveIndices edges
-    pub owners : nodes.capacity < length links.lists
-    pub members : edges.capacity < links.members
+    pub owners : bound nodes < length links.lists
+    pub members : bound edges < links.members
     pub disjoint : AreDisjoint links
     pub ends : (x : Key) (e : SeenEdge E) → map.get edges.live x ≡ Some e → IsLive nodes (end e)
     pub listed : (x : Key) (e : SeenEdge E) → map.get edges.live x ≡ Some e → IsIn links (end e).index x.index

@@ -6,6 +6,7 @@ ghost use Rattle.std.specs.Option.{option_and_then};
 ghost use Rattle.std.specs.List.{filter};
 ghost use Rattle.std.specs.FinMap as map;
 ghost use Rattle.slotmap.specs.Words.{Key as KeyOf, HasVacant, Inserts, Removes, Keeps, Leaves, IsLive, IsSpent, IsContent, KeepsSpent, Refuses};
+ghost use Rattle.slotmap_bounded.specs.Bounded.{space};
 ghost use Rattle.slotmap_bounded.specs.KeyLists.{without};
 ghost use Rattle.slotmap_graph.specs.Parts.{SeenEdge, avoids, touches, from, to, value, edges_at, ListsEdges, PutsBehind, SameEdges, RefusesEdge};
 
@@ -36,7 +37,8 @@ impl<K: Key, N: Drop, E: Drop> Graph<K, N, E> {
     fn put_node(&mut self, node: N) -> K
         requires { 0 < self.old.nodes.room }
         ensures adds { Inserts self.old.nodes (K.data_of result) node self.new.nodes }
-        ensures capacity { self.new.nodes.capacity ≡ self.old.nodes.capacity }
+        ensures capacity { space self.new.nodes ≡ space self.old.nodes }
+        ensures links { self.new.links ≡ self.old.links }
         ensures valid { IsContent true self.old.nodes }
         ensures edges { self.new.edges ≡ self.old.edges }
         ensures out { SameEdges self.old.out self.new.out }
@@ -55,7 +57,8 @@ impl<K: Key, N: Drop, E: Drop> Graph<K, N, E> {
         requires from { IsLive self.old.nodes (K.data_of from) }
         requires to { IsLive self.old.nodes (K.data_of to) }
         ensures adds { Inserts self.old.edges result (record { from = K.data_of from; to = K.data_of to; value = edge }) self.new.edges }
-        ensures capacity { self.new.edges.capacity ≡ self.old.edges.capacity }
+        ensures capacity { space self.new.edges ≡ space self.old.edges }
+        ensures links { self.new.links ≡ self.old.links }
         ensures valid { IsContent true self.old.edges }
         ensures out { PutsBehind self.old.out (K.data_of from) result self.new.out }
         ensures into { PutsBehind self.old.into (K.data_of to) result self.new.into }
@@ -95,7 +98,8 @@ impl<K: Key, N: Drop, E: Drop> Graph<K, N, E> {
         ensures reuses { HasVacant self.old.nodes → IsOk result }
         ensures room { 0 < self.old.nodes.room → IsOk result }
         ensures capacity { self.old.nodes.capacity ≤ self.new.nodes.capacity }
-        ensures in_place { 0 < self.old.nodes.room → self.new.nodes.capacity ≡ self.old.nodes.capacity }
+        ensures in_place { 0 < self.old.nodes.room → space self.new.nodes ≡ space self.old.nodes }
+        ensures same_links { 0 < self.old.nodes.room → self.new.links ≡ self.old.links }
         ensures unchanged { OnErr result (Keeps self.old.nodes self.new.nodes) }
     {
         if !self.has_node_room() {
@@ -138,7 +142,8 @@ impl<K: Key, N: Drop, E: Drop> Graph<K, N, E> {
         ensures reuses { IsLive self.old.nodes (K.data_of from) → IsLive self.old.nodes (K.data_of to) → HasVacant self.old.edges → IsOk result }
         ensures room { IsLive self.old.nodes (K.data_of from) → IsLive self.old.nodes (K.data_of to) → 0 < self.old.edges.room → IsOk result }
         ensures capacity { self.old.edges.capacity ≤ self.new.edges.capacity }
-        ensures in_place { 0 < self.old.edges.room → self.new.edges.capacity ≡ self.old.edges.capacity }
+        ensures in_place { 0 < self.old.edges.room → space self.new.edges ≡ space self.old.edges }
+        ensures same_links { 0 < self.old.edges.room → self.new.links ≡ self.old.links }
         ensures unchanged { OnErr result (Keeps self.old.edges self.new.edges × SameEdges self.old.out self.new.out × SameEdges self.old.into self.new.into) }
 
         // All else is as before.
@@ -176,7 +181,8 @@ impl<K: Key, N: Drop, E: Drop> Graph<K, N, E> {
         ensures unchanged { IfNone result (self.new.edges ≡ self.old.edges) }
         ensures for_good { OnSome result (IsSpent self.new.edges edge) }
         ensures leaves { Leaves self.old.edges self.new.edges }
-        ensures capacity { self.new.edges.capacity ≡ self.old.edges.capacity }
+        ensures capacity { space self.new.edges ≡ space self.old.edges }
+        ensures links { self.new.links ≡ self.old.links }
         ensures out { (k : KeyOf) → edges_at self.new.out k ≡ without edge (edges_at self.old.out k) }
         ensures into { (k : KeyOf) → edges_at self.new.into k ≡ without edge (edges_at self.old.into k) }
         ensures nodes { self.new.nodes ≡ self.old.nodes }
@@ -219,7 +225,8 @@ impl<K: Key, N: Drop, E: Drop> Graph<K, N, E> {
             (λ e. cond (avoids (K.data_of node) e) (Some e) None) (map.get self.old.edges.live k) }
         ensures for_good { (k : KeyOf) (e : SeenEdge E) → map.get self.old.edges.live k ≡ Some e → touches (K.data_of node) e ≡ true → IsSpent self.new.edges k }
         ensures leaves { Leaves self.old.edges self.new.edges }
-        ensures capacity { self.new.edges.capacity ≡ self.old.edges.capacity }
+        ensures capacity { space self.new.edges ≡ space self.old.edges }
+        ensures links { self.new.links ≡ self.old.links }
         ensures out { (k : KeyOf) → edges_at self.new.out k ≡ filter (map.contains_key self.new.edges.live) (edges_at self.old.out k) }
         ensures into { (k : KeyOf) → edges_at self.new.into k ≡ filter (map.contains_key self.new.edges.live) (edges_at self.old.into k) }
         ensures none_out { edges_at self.new.out (K.data_of node) ≡ [] }
@@ -253,7 +260,7 @@ impl<K: Key, N: Drop, E: Drop> Graph<K, N, E> {
         ensures unchanged { IfNone result (self.new.nodes ≡ self.old.nodes) }
         ensures for_good { OnSome result (IsSpent self.new.nodes (K.data_of node)) }
         ensures leaves { Leaves self.old.nodes self.new.nodes }
-        ensures capacity { self.new.nodes.capacity ≡ self.old.nodes.capacity }
+        ensures capacity { space self.new.nodes ≡ space self.old.nodes }
         ensures gone { KeepsSpent self.old.nodes self.new.nodes }
 
         // Its edges are gone, and no others.
@@ -261,7 +268,8 @@ impl<K: Key, N: Drop, E: Drop> Graph<K, N, E> {
             (λ e. cond (avoids (K.data_of node) e) (Some e) None) (map.get self.old.edges.live k) }
         ensures edges_for_good { (k : KeyOf) (e : SeenEdge E) → map.get self.old.edges.live k ≡ Some e → touches (K.data_of node) e ≡ true → IsSpent self.new.edges k }
         ensures edges_leave { Leaves self.old.edges self.new.edges }
-        ensures edges_capacity { self.new.edges.capacity ≡ self.old.edges.capacity }
+        ensures edges_capacity { space self.new.edges ≡ space self.old.edges }
+        ensures links { self.new.links ≡ self.old.links }
         ensures edges_gone { KeepsSpent self.old.edges self.new.edges }
         ensures out { (k : KeyOf) → edges_at self.new.out k ≡ filter (map.contains_key self.new.edges.live) (edges_at self.old.out k) }
         ensures into { (k : KeyOf) → edges_at self.new.into k ≡ filter (map.contains_key self.new.edges.live) (edges_at self.old.into k) }
@@ -295,8 +303,9 @@ impl<K: Key, N: Drop, E: Drop> Graph<K, N, E> {
         ensures edges { self.new.edges.live ≡ map.empty }
         ensures nodes_leave { Leaves self.old.nodes self.new.nodes }
         ensures edges_leave { Leaves self.old.edges self.new.edges }
-        ensures nodes_capacity { self.new.nodes.capacity ≡ self.old.nodes.capacity }
-        ensures edges_capacity { self.new.edges.capacity ≡ self.old.edges.capacity }
+        ensures nodes_capacity { space self.new.nodes ≡ space self.old.nodes }
+        ensures edges_capacity { space self.new.edges ≡ space self.old.edges }
+        ensures links { self.new.links ≡ self.old.links }
         ensures for_good { (k : KeyOf) → IsLive self.old.nodes k → IsSpent self.new.nodes k }
         ensures edges_for_good { (k : KeyOf) → IsLive self.old.edges k → IsSpent self.new.edges k }
         ensures gone { KeepsSpent self.old.nodes self.new.nodes }

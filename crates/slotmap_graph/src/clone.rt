@@ -2,6 +2,7 @@
 
 ghost use Rattle.std.specs.Prelude.{◌≡◌, IfOk};
 ghost use Rattle.slotmap.specs.Words.{ClonesEqual, IsCloneBy, IsCopy};
+ghost use Rattle.slotmap_bounded.specs.Bounded.{bound};
 ghost use Rattle.slotmap_graph.specs.Parts.{SameEdges, clones_edge};
 
 use crate::{Edge, Graph};
@@ -38,9 +39,9 @@ impl<K: Key, N: Clone, E: Clone> Graph<K, N, E> {
         ensures edges { IfOk result (λ copy. IsCloneBy (clones_edge E.is_clone) self.now.edges copy.edges) }
         ensures out { IfOk result (λ copy. SameEdges self.now.out copy.out) }
         ensures into { IfOk result (λ copy. SameEdges self.now.into copy.into) }
-        ensures nodes_capacity { IfOk result (λ copy. copy.nodes.capacity ≡ self.now.nodes.capacity) }
+        ensures nodes_capacity { IfOk result (λ copy. bound copy.nodes ≡ bound self.now.nodes) }
         ensures nodes_room { IfOk result (λ copy. copy.nodes.room ≡ self.now.nodes.room) }
-        ensures edges_capacity { IfOk result (λ copy. copy.edges.capacity ≡ self.now.edges.capacity) }
+        ensures edges_capacity { IfOk result (λ copy. bound copy.edges ≡ bound self.now.edges) }
         ensures edges_room { IfOk result (λ copy. copy.edges.room ≡ self.now.edges.room) }
 
         // Where clones equal their values, so do the nodes and the edges.

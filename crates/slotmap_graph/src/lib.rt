@@ -49,6 +49,7 @@
 ghost use Rattle.std.specs.Prelude.{◌≡◌, ◌+◌, ◌≤◌, IfOk, IfErr, IsOk, IsTrue, ◌↔◌, true};
 ghost use Rattle.std.specs.FinMap as map;
 ghost use Rattle.slotmap.specs.Words.{IsContent, IsNew, MakesRoom, RefusesCapacity, used};
+ghost use Rattle.slotmap_bounded.specs.Bounded.{bound};
 ghost use Rattle.slotmap_graph.specs.Parts.{IsJoined, RefusesEither, SameEdges};
 
 mod change;
@@ -88,7 +89,8 @@ const MOST: usize = 4_294_967_294;
 ///
 /// A clause sees `nodes` and `edges`. Their `live` is the finite map from the keys to the values, or
 /// to the edges, and `IsSpent` says which keys are never used again. It sees `out` and `into` as well,
-/// by which `edges_at` has the edges of a node in their order. By the clause `joined` of
+/// by which `edges_at` has the edges of a node in their order. A call that keeps the `space` of nodes and
+/// edges, and `links`, asks for no memory. By the clause `joined` of
 /// [`Graph::node_count`] each edge joins two nodes that exist, and is once in the list of each.
 pub struct Graph<K, N, E> {
     nodes: BoundedMap<K, N>,
@@ -121,6 +123,7 @@ impl<K, N, E> Model for Graph<K, N, E> {
       edges = g.edges;
       out = by_node g.nodes.live g.edges.live g.out;
       into = by_node g.nodes.live g.edges.live g.into;
+      links = (g.out.capacity, g.into.capacity);
     } };
 
     ghost invariant = { λ g. IsGraph g.nodes g.edges g.out g.into };
@@ -248,6 +251,7 @@ impl<K: Key, N: Drop, E: Drop> Graph<K, N, E> {
         ensures makes_room { MakesRoom true self.old.nodes additional (IsOk result) self.new.nodes }
         ensures err { IfErr result (RefusesCapacity (used self.old.nodes + additional)) }
         ensures reuses { additional ≤ map.len self.old.nodes.next → IsOk result }
+        ensures in_place { additional ≤ self.old.nodes.room → self.new ≡ self.old }
         ensures edges { self.new.edges ≡ self.old.edges }
         ensures out { SameEdges self.old.out self.new.out }
         ensures into { SameEdges self.old.into self.new.into }
@@ -275,6 +279,7 @@ impl<K: Key, N: Drop, E: Drop> Graph<K, N, E> {
         ensures makes_room { MakesRoom true self.old.edges additional (IsOk result) self.new.edges }
         ensures err { IfErr result (RefusesCapacity (used self.old.edges + additional)) }
         ensures reuses { additional ≤ map.len self.old.edges.next → IsOk result }
+        ensures in_place { additional ≤ self.old.edges.room → self.new ≡ self.old }
         ensures nodes { self.new.nodes ≡ self.old.nodes }
         ensures out { SameEdges self.old.out self.new.out }
         ensures into { SameEdges self.old.into self.new.into }
@@ -292,7 +297,7 @@ impl<K: Key, N: Drop, E: Drop> Graph<K, N, E> {
     /// assert!(rt; graph.node_capacity() >= 2);
     /// ```
     pub fn node_capacity(&self) -> usize
-        ensures value { result ≡ self.now.nodes.capacity }
+        ensures value { result ≡ bound self.now.nodes }
         ensures exact { result ≡ used self.now.nodes + self.now.nodes.room }
         ensures valid { IsContent true self.now.nodes }
     {
@@ -307,7 +312,7 @@ impl<K: Key, N: Drop, E: Drop> Graph<K, N, E> {
     /// assert!(rt; graph.edge_capacity() >= 4);
     /// ```
     pub fn edge_capacity(&self) -> usize
-        ensures value { result ≡ self.now.edges.capacity }
+        ensures value { result ≡ bound self.now.edges }
         ensures exact { result ≡ used self.now.edges + self.now.edges.room }
         ensures valid { IsContent true self.now.edges }
     {

@@ -96,7 +96,7 @@ fn cover(links: &mut Links, node: usize, edge: usize) -> Result<(), AllocError>
     ensures grows { CoversMore links.old links.new }
     ensures owners { OnOk result (node < length links.new.lists) }
     ensures members { OnOk result (edge < links.new.members) }
-    ensures had_room { node < length links.old.lists → edge < links.old.members → IsOk result }
+    ensures had_room { node < length links.old.lists → edge < links.old.members → IsOk result × (links.new ≡ links.old) }
 {
     let _ = links.members();
     links.cover_owners(node + 1)?;
@@ -116,7 +116,8 @@ pub(crate) fn cover_both(
     ensures into { CoversMore into.old into.new }
     ensures out_covers { OnOk result ((node < length out.new.lists) × (edge < out.new.members)) }
     ensures into_covers { OnOk result ((node < length into.new.lists) × (edge < into.new.members)) }
-    ensures had_room { node < length out.old.lists → edge < out.old.members → node < length into.old.lists → edge < into.old.members → IsOk result }
+    ensures had_room { node < length out.old.lists → edge < out.old.members → node < length into.old.lists → edge < into.old.members
+        → IsOk result × (out.new ≡ out.old) × (into.new ≡ into.old) }
 {
     let _ = into.members();
     cover(out, node, edge)?;

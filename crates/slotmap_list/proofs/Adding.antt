@@ -2,7 +2,7 @@
 use Rattle.std.specs.FinMap as map
 use Rattle.std.specs.FinSet as set
 use Rattle.slotmap_list.proofs.Common.{IsErr, append_assoc, append-nil, length-append, KeepsSpent, keys_total, exact_keys, leaves_in_turn, leaves_none, key_before, put_before, TakesFront, FullAtLimit}
-use Rattle.slotmap_list.proofs.Common.{[], length, list_map, IsSome, is_some, Result, ◌∙◌, key_cmp, Content, IsSpent, Inserts, Leaves, Sequence, value_of, last_or, key_after, put_after, refused}
+use Rattle.slotmap_list.proofs.Common.{[], length, list_map, IsSome, is_some, Result, ◌∙◌, key_cmp, Content, IsSpent, Inserts, Leaves, Sequence, memory, value_of, last_or, key_after, put_after, refused}
 use Rattle.slotmap_list.proofs.Common.{ℕ, zero, suc, List, Some, None, Ok, Err, IsOk, IfOk, OnOk, inl, inr, refl, sym, ap, subst, arith, Key, IsNew, Keeps, used, tied, Adds}
 use Rattle.std.proofs.Common.{◌<◌, ◌≡◌, ◌≤◌, ◌⊎◌, ◌∷◌, ◌++◌, ◌+◌}
 use Rattle.std.proofs.lemmas.List.{map-append}
@@ -84,14 +84,14 @@ module _ {T : Type 0} where
     pub capacity : old.cursors.capacity ≤ now.cursors.capacity
     pub gone : KeepsSpent old.cursors now.cursors
     pub gone_other : KeepsSpent old_other.cursors other.cursors
-    pub in_place : length old_other.elements ≤ old.cursors.room → now.cursors.capacity ≡ old.cursors.capacity
+    pub in_place : length old_other.elements ≤ old.cursors.room → memory now ≡ memory old
     pub leaves_other : Leaves old_other.cursors other.cursors
-    pub capacity_other : other.cursors.capacity ≡ old_other.cursors.capacity
+    pub capacity_other : memory other ≡ memory old_other
     pub taken : (k : Key) → IsSome (value_of k old_other.elements) → IsSome (value_of k other.elements) ⊎ IsSpent other.cursors k
 
   pub moving_start : (old now other : Sequence T) → now.elements ≡ old.elements → length other.elements ≤ now.cursors.room → Keeps old.cursors now.cursors
       → old.cursors.capacity ≤ now.cursors.capacity → KeepsSpent old.cursors now.cursors
-      → (length other.elements ≤ old.cursors.room → now.cursors.capacity ≡ old.cursors.capacity) → Moving old other now other
+      → (length other.elements ≤ old.cursors.room → memory now ≡ memory old) → Moving old other now other
   moving_start old now other same room keeps capacity gone in_place = record {
     moved = [];
     adds = subst (Adds old.elements []) (sym same) (Adds-start old.elements);
@@ -121,7 +121,7 @@ module _ {T : Type 0} where
 
   pub moving_step : (old old_other now other next next_other : Sequence T) (k q : Key) (v : T) → Moving old old_other now other
       → TakesFront other.elements (Some (k, v)) next_other.elements → IsSpent next_other.cursors k → KeepsSpent other.cursors next_other.cursors
-      → Leaves other.cursors next_other.cursors → next_other.cursors.capacity ≡ other.cursors.capacity → next.cursors.capacity ≡ now.cursors.capacity
+      → Leaves other.cursors next_other.cursors → memory next_other ≡ memory other → memory next ≡ memory now
       → next.elements ≡ now.elements ++ (q, v) ∷ [] → Inserts now.cursors q tt next.cursors → used next.cursors ≡ used now.cursors + 1 → KeepsSpent now.cursors next.cursors
       → Moving old old_other next next_other
   moving_step old old_other now other next next_other k q v m takes spent keeps_other leaves_other capacity_other in_place adds inserts more keeps = record {
@@ -131,7 +131,7 @@ module _ {T : Type 0} where
     room = omega (arith, ap length takes, inserts.room, m.room);
     used = omega (arith, length-append m.moved (v ∷ []), more, m.used);
     room_left = omega (arith, length-append m.moved (v ∷ []), inserts.room, m.room_left);
-    capacity = omega (arith, in_place, m.capacity);
+    capacity = omega (arith, ap (λ (x : (ℕ × ℕ) × (ℕ × ℕ)). x.0.1) in_place, m.capacity);
     gone = λ u s. keeps u (m.gone u s);
     gone_other = λ u s. keeps_other u (m.gone_other u s);
     in_place = λ fits. in_place ∙ m.in_place fits;

@@ -8,8 +8,9 @@ pub use Rattle.slotmap.proofs.Callers.{keys_total, exact_keys, itself, untied, c
 pub use Rattle.slotmap.specs.Words.{key_cmp, Content, IsSpent, KeepsSpent, Inserts, IsContent, IsCloneBy, IsCloneOf, AreClones, ClonesEqual, without_values, with_value, MakesRoom, RefusesCapacity}
 pub use Rattle.slotmap.specs.Words.{Key, IsNew, Keeps, Leaves, used, IsLive, Removes}
 pub use Rattle.slotmap_bounded.proofs.Indices.{some_is, found_only, found_there}
+pub use Rattle.slotmap_bounded.specs.Bounded.{bound}
 pub use Rattle.slotmap_bounded.specs.Indices.{AreApart, found_at}
-pub use Rattle.slotmap_bounded.proofs.Alone.{alone-written, same_live, len_alike, used_alone, alone-copy, alone-inserts, alone-leaves, alone-removes, alone-room, alone-new}
+pub use Rattle.slotmap_bounded.proofs.Alone.{alone-written, same_live, len_alike, used_alone, alone-copy, alone-inserts, alone-leaves, alone-removes, alone-room, alone-new, alone-space}
 pub use Rattle.slotmap_bounded.proofs.Counts.{is_itself, is_other}
 pub use Rattle.slotmap_links.proofs.Callers.{list_now, owners_stay}
 pub use Rattle.slotmap_links.proofs.Counts.{same, same_or_other as same_or_not, one_itself, one_other, times_first, times_joined, times_gone}
@@ -18,7 +19,7 @@ pub use Rattle.slotmap_list.specs.Additions.{Adds, FullAtLimit, refused, FullAft
 pub use Rattle.slotmap_list.specs.Drain.{EmptiesList, SameLoan, KeepsLent, YieldsInOrder}
 pub use Rattle.slotmap_list.specs.Kept.{at_index, elements_at, AreLiveIndices, IsKept, key_there, IsRest, all_of}
 pub use Rattle.slotmap_list.specs.ListPlaces.{is_place, put_by_place, put_number, has_place, is_move, moved_to, insert_beside, before_or_back}
-pub use Rattle.slotmap_list.specs.Sequence.{Sequence, value_of, key_after, key_before, put_after, put_before, TakesFront, first_or, from_key, with_value_at, with_last, moved_to_back, put_again, Swaps}
+pub use Rattle.slotmap_list.specs.Sequence.{Sequence, memory, value_of, key_after, key_before, put_after, put_before, TakesFront, first_or, from_key, with_value_at, with_last, moved_to_back, put_again, Swaps}
 pub use Rattle.slotmap_list.specs.Sequence.{last_or, without, IsOnce, are_two}
 pub use Rattle.slotmap_list.specs.declared.place.Place.{Place}
 pub use Rattle.slotmap_list.specs.declared.place.Place.TheVariants.{Front, Back, Beside}

@@ -1,5 +1,5 @@
 -- What the steps of a drain keep, and what they yield.
-use Rattle.slotmap_list.proofs.Common.{[], Option, IsSome, ◌∙◌, IsSpent, KeepsSpent, leaves_in_turn, leaves_none, Sequence, value_of, TakesFront, EmptiesList, SameLoan, KeepsLent, YieldsInOrder}
+use Rattle.slotmap_list.proofs.Common.{[], Option, IsSome, ◌∙◌, IsSpent, KeepsSpent, leaves_in_turn, leaves_none, Sequence, memory, value_of, TakesFront, EmptiesList, SameLoan, KeepsLent, YieldsInOrder}
 use Rattle.slotmap_list.proofs.Common.{Some, None, IfSome, inl, inr, refl, ap, subst, Key, Leaves}
 use Rattle.std.proofs.Common.{◌≡◌, ◌∷◌, ◌⊎◌}
 use Rattle.std.specs.Prelude.{option_map}
@@ -21,7 +21,7 @@ module _ {T : Type 0} where
 
   -- a list of which a part was taken out, and then the others
   emptied_then : (old mid : Sequence T) → ((u : Key) → IsSome (value_of u old.elements) → IsSome (value_of u mid.elements) ⊎ IsSpent mid.cursors u) → KeepsSpent old.cursors mid.cursors
-      → Leaves old.cursors mid.cursors → mid.cursors.capacity ≡ old.cursors.capacity → (end : Sequence T) → EmptiesList mid end → EmptiesList old end
+      → Leaves old.cursors mid.cursors → memory mid ≡ memory old → (end : Sequence T) → EmptiesList mid end → EmptiesList old end
   emptied_then old mid left keeps leaves capacity end empties = record {
     empty = empties.empty;
     none_live = empties.none_live;
@@ -43,6 +43,6 @@ module _ {K T : Type 0} (data_of : K → Key) where
   -- a list whose first element was taken out, if it had one, and then the others
   pub emptied_after : (old mid : Sequence T) (r : Option (K × T)) → TakesFront old.elements (option_map (λ e. (data_of e.0, e.1)) r) mid.elements
       → IfSome r (λ e. IsSpent mid.cursors (data_of e.0)) → KeepsSpent old.cursors mid.cursors → Leaves old.cursors mid.cursors
-      → mid.cursors.capacity ≡ old.cursors.capacity → (end : Sequence T) → EmptiesList mid end → EmptiesList old end
+      → memory mid ≡ memory old → (end : Sequence T) → EmptiesList mid end → EmptiesList old end
   emptied_after old mid None takes spent = emptied_then old mid (λ u there. absurd (let some = subst (λ l. IsSome (value_of u l)) takes.0 there in cc))
   emptied_after old mid (Some e) takes spent = emptied_then old mid (left_or_spent old mid (data_of e.0) e.1 takes spent)

@@ -3,7 +3,7 @@ use Rattle.slotmap_list.proofs.Common.{without_values, get-insert_here, get-inse
 use Rattle.slotmap_list.proofs.Common.{◌∙◌, ClonesEqual, with_value, keys_total, exact_keys, clone_live, owners_stay, same_or_not, one_itself, times_first, times_gone, elements_at, put_number}
 use Rattle.slotmap_list.proofs.Common.{length, is_some, key_cmp, Content, IsContent, IsCloneBy, IsCloneOf, AreClones, same_live, with_list, list_now, one_other, Sequence, at_index, AreApart, is_place}
 use Rattle.slotmap_list.proofs.Common.{zero, true, List, Option, Some, None, refl, subst, arith, IsLive, Inserts, Removes, IsNew, tied, itself, Lists, list_of, times, IsFree, without, IsKept, Place}
-use Rattle.slotmap_list.proofs.Common.{ℕ, suc, [], inl, inr, sym, ap, Key, same}
+use Rattle.slotmap_list.proofs.Common.{ℕ, suc, [], inl, inr, sym, ap, bound, Key, same, used, used_alone}
 use Rattle.std.proofs.Common.{◌≡◌, ◌≢◌, ◌+◌, ◌<◌, ◌≤◌, ◌∷◌, ◌++◌}
 use Rattle.std.proofs.Math.{ListN.get_or-eq_default, Nat.eq-zero-or-pos}
 use Rattle.slotmap_list.proofs.Parts.{content_apart, element_of, elements_first, rest_indices as indices_behind, put_between, number_without, element_without, at_is, at_live, in_first, IsPlace}
@@ -41,8 +41,8 @@ module _ {T : Type 0} {c : Content T} {s : Lists} (kept : IsKept c s) where
 
   -- this is the list now, with the indices of these keys
   now_kept : (new : Content T) (js : List ℕ) → AreLiveIndices new.live js → ((k : Key) → IsLive new k → times k.index js ≡ 1)
-      → ((i : ℕ) → 0 < times i js → i < s.members) → new.capacity ≡ c.capacity → IsKept new (with_list s 0 js)
-  now_kept new js indices once within capacity = record {
+      → ((i : ℕ) → 0 < times i js → i < s.members) → bound new ≡ bound c → IsKept new (with_list s 0 js)
+  now_kept new js indices once within same = record {
     owner = owners_stay s 0 js ∙ kept.owner;
     indices = subst (AreLiveIndices new.live) (sym (list_now s 0 js there)) indices;
     once = λ k live. ap (times k.index) (list_now s 0 js there) ∙ once k live;
@@ -52,9 +52,9 @@ module _ {T : Type 0} {c : Content T} {s : Lists} (kept : IsKept c s) where
 
   -- the same keys are live, and there may be more room
   pub kept_alike : (new : Content T) → ((q : Key) → map.contains_key new.live q ≡ map.contains_key c.live q) → (s' : Lists) → s'.lists ≡ s.lists → s.members ≤ s'.members
-      → new.capacity < s'.members → IsKept new s'
+      → bound new < s'.members → IsKept new s'
   kept_alike new same s' lists more covered =
-      let list : list_of s' 0 ≡ is = ap (λ (l : List (List ℕ)). list_of (record { lists = l; members = 0 }) 0) lists in
+      let list : list_of s' 0 ≡ is = ap (λ (l : List (List ℕ)). list_of (record s { lists = l }) 0) lists in
       record {
         owner = ap length lists ∙ kept.owner;
         indices = record {
@@ -74,8 +74,11 @@ module _ {T : Type 0} {c : Content T} {s : Lists} (kept : IsKept c s) where
     same_keys : (q : Key) → map.contains_key written.live q ≡ map.contains_key c.live q
     same_keys = same_live c written (alone-written c k w live)
 
+    same_bound : bound written ≡ bound c
+    same_bound = omega (arith, used_alone written, used_alone c, ap used (alone-written c k w live))
+
     pub kept_written : IsKept written s
-    kept_written = kept_alike written same_keys s refl (omega arith) kept.covered
+    kept_written = kept_alike written same_keys s refl (omega arith) (omega (arith, kept.covered, same_bound))
 
     elements_written : elements_at written.live is ≡ with_value_at k w (elements_at c.live is)
     elements_written =
@@ -87,9 +90,9 @@ module _ {T : Type 0} {c : Content T} {s : Lists} (kept : IsKept c s) where
         ∙ sym (ap (with_value_at k w) at.elements ∙ (splits k v.0 (elements_at c.live at.after) (elements_at c.live at.before) at.no_element).write_is w)
 
     -- what the model of the list is then
-    pub seen_written : ◌≡◌ {A = Sequence T} (record { elements = elements_at written.live is; cursors = without_values written })
-        (record { elements = with_value_at k w (elements_at c.live is); cursors = without_values c })
-    seen_written = let same_cursors = alone-written c k w live in λ i. record { elements = elements_written i; cursors = same_cursors i }
+    pub seen_written : ◌≡◌ {A = Sequence T} (record { elements = elements_at written.live is; cursors = without_values written; links = s.capacity })
+        (record { elements = with_value_at k w (elements_at c.live is); cursors = without_values c; links = s.capacity })
+    seen_written = let same_cursors = alone-written c k w live in λ i. record { elements = elements_written i; cursors = same_cursors i; links = s.capacity }
 
   -- a key is taken out, and it is in no place for now
   module _ (k : Key) (v : T) (found : map.get c.live k ≡ Some v) where
@@ -120,7 +123,7 @@ module _ {T : Type 0} {c : Content T} {s : Lists} (kept : IsKept c s) where
       apart_left : AreApart new.live
       apart_left a b of_a of_b = kept.indices.apart a b (was a of_a) (was b of_b)
 
-      pub kept_taken : new.capacity ≡ c.capacity → IsKept new (with_list s 0 rest)
+      pub kept_taken : bound new ≡ bound c → IsKept new (with_list s 0 rest)
       kept_taken = now_kept new rest (record {
         apart = apart_left;
         live = λ i more. (let own = kept.indices.live i (omega (arith, taken i)) in (
@@ -196,7 +199,7 @@ module _ {T : Type 0} {c : Content T} {s : Lists} (kept : IsKept c s) where
     many_new : (i : ℕ) → times i more_is ≡ same k.index i + times i is
     many_new i = let at = spot_new in ap (times i) (at.number k.index) ∙ one_more i at.before k.index at.after ∙ ap (λ l. same k.index i + times i l) (sym at.list)
 
-    pub kept_put : k.index < s.members → new.capacity ≡ c.capacity → IsKept new (with_list s 0 more_is)
+    pub kept_put : k.index < s.members → bound new ≡ bound c → IsKept new (with_list s 0 more_is)
     kept_put below = now_kept new more_is (record {
       apart = content_apart new well;
       live = λ i more. (elim (same_or_not k.index i) [
@@ -225,8 +228,8 @@ module _ {T : Type 0} {c : Content T} {s : Lists} (kept : IsKept c s) where
 
 -- a copy of a list has the same keys
 module _ {T : Type 0} (is_clone : T → T → Type 0) {c copy : Content T} {s : Lists} (kept : IsKept c s) (clones : IsCloneBy is_clone c copy) where
-  pub kept_cloned : copy.capacity ≡ c.capacity → IsKept copy s
-  kept_cloned capacity = kept_alike kept copy (clone_live is_clone c copy clones) s refl (omega arith) (omega (arith, kept.covered))
+  pub kept_cloned : bound copy ≡ bound c → (s' : Lists) → s'.lists ≡ s.lists → s'.members ≡ s.members → IsKept copy s'
+  kept_cloned same s' lists members = kept_alike kept copy (clone_live is_clone c copy clones) s' lists (omega arith) (omega (arith, kept.covered))
 
   clones_by : AreApart copy.live → (is : List ℕ) → AreLiveIndices c.live is → AreClones is_clone (elements_at c.live is) (elements_at copy.live is)
   clones_by apart [] all = tt
@@ -253,13 +256,15 @@ clones_are_same is_clone same (x ∷ xs) [] are = absurd are
 clones_are_same is_clone same (x ∷ xs) (y ∷ ys) are = λ i. (are.0.0 i, same x.1 y.1 are.0.1 i) ∷ clones_are_same is_clone same xs ys are.1 i
 
 -- a new list has no indices
-pub kept_new : {T : Type 0} (c : Content T) (n : ℕ) → IsNew c → c.capacity < n → IsKept c (record { lists = [] ∷ []; members = n })
-kept_new {T} c n new covered =
+pub kept_new : {T : Type 0} (c : Content T) (s : Lists) → s.lists ≡ [] ∷ [] → IsNew c → bound c < s.members → IsKept c s
+kept_new {T} c s lists new covered =
     let none : (k : Key) → map.contains_key c.live k ≡ true → ⊥ = λ k live. (let h = ap (λ m. map.contains_key m k) new.live in let e = ap is_some (map.get-empty {X = T} key_cmp k) in cc) in
+    let list : list_of s 0 ≡ [] = ap (λ (l : List (List ℕ)). list_of (record s { lists = l }) 0) lists in
+    let nowhere : (i : ℕ) → times i (list_of s 0) ≡ 0 = λ i. ap (times i) list in
     record {
-      owner = refl;
-      indices = record { apart = λ a b of_a of_b at. absurd (none a of_a); live = λ i inside. absurd (let h : 0 < 0 = inside in omega arith) };
+      owner = ap length lists;
+      indices = record { apart = λ a b of_a of_b at. absurd (none a of_a); live = λ i inside. absurd (omega (arith, nowhere i)) };
       once = λ k live. absurd (none k live);
-      within = λ i inside. absurd (let h : 0 < 0 = inside in omega arith);
+      within = λ i inside. absurd (omega (arith, nowhere i));
       covered = covered;
     }

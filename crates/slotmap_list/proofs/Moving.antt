@@ -8,9 +8,9 @@ use Rattle.slotmap_list.proofs.Callers.{put_after_here, put_after_next, put_afte
 
 module _ {T : Type 0} where
   -- what the model of a list is, by its parts
-  pub seen_as : (s : Sequence T) (a ys : List (Key × T)) (b : Content (Unit {0})) → a ≡ ys → b ≡ s.cursors
-      → ◌≡◌ {A = Sequence T} (record { elements = a; cursors = b }) (record { elements = ys; cursors = s.cursors })
-  seen_as s a ys b elements cursors = λ i. record { elements = elements i; cursors = cursors i }
+  pub seen_as : (s : Sequence T) (a ys : List (Key × T)) (b : Content (Unit {0})) (n : ℕ × ℕ) → a ≡ ys → b ≡ s.cursors → n ≡ s.links
+      → ◌≡◌ {A = Sequence T} (record { elements = a; cursors = b; links = n }) (record s { elements = ys })
+  seen_as s a ys b n elements cursors links = λ i. record { elements = elements i; cursors = cursors i; links = links i }
 
   -- what doesn't stand doesn't move
   stays : (put : Key × T → List (Key × T) → List (Key × T)) (k : Key) (o : Option T) (xs : List (Key × T)) → is_some o ≡ false → xs ≡ put_again put k o xs

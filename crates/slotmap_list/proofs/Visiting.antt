@@ -1,5 +1,5 @@
 -- A loop that visits the elements from front to back, and keeps or removes each.
-use Rattle.slotmap_list.proofs.Common.{◌∙◌, append_assoc, append-nil, KeepsSpent, leaves_in_turn, leaves_none, same_or_other, Sequence, value_of, first_or, key_after, from_key, with_value_at}
+use Rattle.slotmap_list.proofs.Common.{◌∙◌, append_assoc, append-nil, KeepsSpent, leaves_in_turn, leaves_none, same_or_other, Sequence, memory, value_of, first_or, key_after, from_key, with_value_at}
 use Rattle.slotmap_list.proofs.Common.{ℕ, length, arith, Bool, true, false, cond, List, [], Option, Some, None, IsSome, is_some, inl, inr, refl, sym, subst, Key, IsSpent, Leaves, without, IsOnce}
 use Rattle.slotmap_list.proofs.Common.{ap}
 use Rattle.std.proofs.Common.{◌≡◌, ◌<◌, ◌+◌, ◌∷◌, ◌++◌}
@@ -39,7 +39,7 @@ module _ {F K T : Type 0} (g : Mut F (K × (MutBor T × Unit {0})) (Bool × (Mut
     pub for_good : (k : Key) → IsSome (value_of k old.elements) → value_of k now.elements ≡ None → IsSpent now.cursors k
     pub gone : KeepsSpent old.cursors now.cursors
     pub leaves : Leaves old.cursors now.cursors
-    pub capacity : now.cursors.capacity ≡ old.cursors.capacity
+    pub capacity : memory now ≡ memory old
 
   pub retaining_start : (old : Sequence T) (f : F) (at : Option Key) → at ≡ first_or old.elements None → Retaining old f old at f
   retaining_start old f at is = record {
@@ -126,7 +126,7 @@ module _ {F K T : Type 0} {g : Mut F (K × (MutBor T × Unit {0})) (Bool × (Mut
 
       -- one more element was visited: k is left, or it is gone for good
       step : {new : Sequence T} (more : List (Key × T)) → RetainsOne g data_of f' (k, here.0) more f'' → new.elements ≡ (r.left ++ more) ++ here.1
-          → (value_of k new.elements ≡ None → IsSpent new.cursors k) → KeepsSpent now.cursors new.cursors → Leaves now.cursors new.cursors → new.cursors.capacity ≡ now.cursors.capacity
+          → (value_of k new.elements ≡ None → IsSpent new.cursors k) → KeepsSpent now.cursors new.cursors → Leaves now.cursors new.cursors → memory new ≡ memory now
           → Retaining g data_of old f new next f''
       step {new} more visit new_is for_good keeps leaves capacity = record {
         done = r.done ++ (k, here.0) ∷ [];
@@ -157,7 +157,7 @@ module _ {F K T : Type 0} {g : Mut F (K × (MutBor T × Unit {0})) (Bool × (Mut
 
       pub retaining_dropped : {new : Sequence T} → stays ≡ false → new.elements ≡ without k (with_value_at k after.now now.elements) → IsSpent new.cursors k
           → KeepsSpent now.cursors new.cursors
-          → Leaves now.cursors new.cursors → new.cursors.capacity ≡ now.cursors.capacity → Retaining g data_of old f new next f''
+          → Leaves now.cursors new.cursors → memory new ≡ memory now → Retaining g data_of old f new next f''
       retaining_dropped drop removed spent keeps leaves capacity = step [] (subst (λ b. RetainsOne g data_of f' (k, here.0) (cond b ((k, after.now) ∷ []) []) f'') drop one)
           (dropped_is removed ∙ ap (λ l. l ++ here.1) (sym (append-nil r.left))) (λ _. spent) keeps leaves capacity
 

@@ -3,7 +3,7 @@ use Rattle.std.specs.Prelude.{◌≡◌, ◌++◌, List, [], Option, IsSome, len
 use Rattle.std.specs.Borrow.{MutBor}
 use Rattle.std.specs.Iterator.{Count, at_most, Yields}
 use Rattle.slotmap.specs.Words.{Key, IsSpent, KeepsSpent, Leaves}
-use Rattle.slotmap_list.specs.Sequence.{Sequence, value_of, TakesFront}
+use Rattle.slotmap_list.specs.Sequence.{Sequence, memory, value_of, TakesFront}
 use Rattle.slotmap_list.specs.declared.drain.Drain.{Drain}
 use Rattle.std.specs.FinMap as map
 
@@ -14,7 +14,7 @@ pub record EmptiesList {T : Type 0} (old new : Sequence T) : Type 0 where
   pub for_good : (k : Key) → IsSome (value_of k old.elements) → IsSpent new.cursors k
   pub gone : KeepsSpent old.cursors new.cursors
   pub leaves : Leaves old.cursors new.cursors
-  pub capacity : new.cursors.capacity ≡ old.cursors.capacity
+  pub capacity : memory new ≡ memory old
 
 module _ {K T : Type 0} where
   -- the loan of the list

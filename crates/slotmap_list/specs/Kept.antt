@@ -2,7 +2,7 @@
 use Rattle.std.specs.Prelude.{◌≡◌, ℕ, ◌<◌, ◌≤◌, true, List, [], length, Option, Some, None, option_map}
 use Rattle.std.specs.List.{filter_map}
 use Rattle.slotmap.specs.Words.{Key, key_cmp, Content, IsLive}
-use Rattle.slotmap_bounded.specs.Indices.{AreApart, found_at}
+use Rattle.slotmap_bounded.specs.{Bounded.bound, Indices.AreApart, Indices.found_at}
 use Rattle.slotmap_links.specs.Lists.{Lists, list_of, times}
 use Rattle.std.specs.FinMap as map
 
@@ -37,7 +37,7 @@ module _ {T : Type 0} where
     pub once : (k : Key) → IsLive values k → times k.index (list_of links 0) ≡ 1
     pub within : (i : ℕ) → 0 < times i (list_of links 0) → i < links.members
     -- there is a link for each index that a key can have
-    pub covered : values.capacity < links.members
+    pub covered : bound values < links.members
 
   -- an iterator from a cursor on has these indices left, which are so many at most
   pub record IsRest (m : map.FinMap key_cmp T) (is : List ℕ) (most : ℕ) : Type 0 where

@@ -1,24 +1,30 @@
 -- A list as its user sees it: keys with their values, from front to back.
-use Rattle.std.specs.Prelude.{◌≡◌, refl, List, [], ◌∷◌, ◌++◌, Option, Some, None, Bool, cond, not, ◌⊎◌, ◌&&◌, is_some}
-use Rattle.std.specs.Coded.{Coded, code_by, coded×, coded_list}
+use Rattle.std.specs.Prelude.{◌≡◌, ℕ, refl, List, [], ◌∷◌, ◌++◌, Option, Some, None, Bool, cond, not, ◌⊎◌, ◌&&◌, is_some}
+use Rattle.std.specs.Coded.{Coded, code_by, coded×, coded_list, coded_ℕ}
 use Rattle.std.specs.Ordering.{eq_by_cmp}
 use Rattle.std.specs.FinMap.Entries.{find}
 use Rattle.slotmap.specs.Words.{Key, key_cmp, coded_key, Content, keys_code}
-use Rattle.slotmap_bounded.specs.KeyLists.{is_key}
+use Rattle.slotmap_bounded.specs.{Bounded.space, KeyLists.is_key}
 
 pub record Sequence (T : Type 0) : Type 0 where
   -- the elements from front to back: each cursor with its value
   pub elements : List (Key × T)
   -- the cursors without their values; `IsSpent` says which are never used again
   pub cursors : Content (Unit {0})
+  -- there are links for one list, and for so many slots
+  pub links : ℕ × ℕ
 
 -- by which a proof tells two lists apart
 abbrev pub sequence_code : {T : Type 0} → Coded T → Coded (Sequence T)
 sequence_code {T} code =
-    code_by (List (Key × T) × Content (Unit {0})) (coded× (coded_list (coded× coded_key code)) keys_code) (λ s. (s.elements, s.cursors))
-    (λ p. record { elements = p.0; cursors = p.1 }) (λ _. refl)
+    code_by (List (Key × T) × (Content (Unit {0}) × (ℕ × ℕ))) (coded× (coded_list (coded× coded_key code)) (coded× keys_code (coded× coded_ℕ coded_ℕ)))
+    (λ s. (s.elements, (s.cursors, s.links))) (λ p. record { elements = p.0; cursors = p.1.0; links = p.1.1 }) (λ _. refl)
 
 module _ {T : Type 0} where
+  -- what a list has memory for, and the bound of its indices: where these stay, no memory was asked for
+  abbrev pub memory : Sequence T → (ℕ × ℕ) × (ℕ × ℕ)
+  memory s = (space s.cursors, s.links)
+
   -- the value of a key
   abbrev pub value_of : Key → List (Key × T) → Option T
   value_of k es = find key_cmp k es

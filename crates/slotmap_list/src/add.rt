@@ -2,7 +2,7 @@
 
 ghost use Rattle.std.specs.Prelude.{◌≡◌, ◌+◌, ◌<◌, ◌≤◌, ◌++◌, ◌∷◌, [], IsOk, IfOk, OnOk, IfErr, OnErr, IsSome, IsTrue, ◌↔◌, None, true};
 ghost use Rattle.slotmap.specs.Words.{HasVacant, Inserts, IsSpent, Keeps, KeepsSpent, used};
-ghost use Rattle.slotmap_list.specs.Sequence.{value_of, first_or, last_or, key_after, key_before, put_after, put_before};
+ghost use Rattle.slotmap_list.specs.Sequence.{memory, value_of, first_or, last_or, key_after, key_before, put_after, put_before};
 ghost use Rattle.slotmap_list.specs.ListPlaces.{insert_beside, is_place, put_by_place};
 ghost use Rattle.slotmap_list.specs.Refused.{RefusesPlace, RefusesPush};
 
@@ -24,7 +24,7 @@ impl<K: Key, T: Drop> StableList<K, T> {
         ensures reuses { HasVacant self.old.cursors → IsOk result }
         ensures room { 0 < self.old.cursors.room → IsOk result }
         ensures capacity { self.old.cursors.capacity ≤ self.new.cursors.capacity }
-        ensures in_place { 0 < self.old.cursors.room → self.new.cursors.capacity ≡ self.old.cursors.capacity }
+        ensures in_place { 0 < self.old.cursors.room → memory self.new ≡ memory self.old }
         ensures unchanged { OnErr result (self.new.elements ≡ self.old.elements) }
         ensures keeps { OnErr result (Keeps self.old.cursors self.new.cursors) }
         ensures gone { KeepsSpent self.old.cursors self.new.cursors }
@@ -57,7 +57,7 @@ impl<K: Key, T: Drop> StableList<K, T> {
         ensures unspent { IsSpent self.old.cursors (K.data_of result) → ⊥ }
         ensures cursors { Inserts self.old.cursors (K.data_of result) tt self.new.cursors }
         ensures used { used self.new.cursors ≡ used self.old.cursors + 1 }
-        ensures capacity { self.new.cursors.capacity ≡ self.old.cursors.capacity }
+        ensures capacity { memory self.new ≡ memory self.old }
         ensures gone { KeepsSpent self.old.cursors self.new.cursors }
     {
         let key = self.values.insert_reserved(value);
@@ -88,7 +88,7 @@ impl<K: Key, T: Drop> StableList<K, T> {
         ensures reuses { HasVacant self.old.cursors → IsOk result }
         ensures room { 0 < self.old.cursors.room → IsOk result }
         ensures capacity { self.old.cursors.capacity ≤ self.new.cursors.capacity }
-        ensures in_place { 0 < self.old.cursors.room → self.new.cursors.capacity ≡ self.old.cursors.capacity }
+        ensures in_place { 0 < self.old.cursors.room → memory self.new ≡ memory self.old }
         ensures unchanged { OnErr result (self.new.elements ≡ self.old.elements) }
         ensures keeps { OnErr result (Keeps self.old.cursors self.new.cursors) }
         ensures gone { KeepsSpent self.old.cursors self.new.cursors }
@@ -119,7 +119,7 @@ impl<K: Key, T: Drop> StableList<K, T> {
         ensures reuses { HasVacant self.old.cursors → IsOk result }
         ensures room { 0 < self.old.cursors.room → IsOk result }
         ensures capacity { self.old.cursors.capacity ≤ self.new.cursors.capacity }
-        ensures in_place { 0 < self.old.cursors.room → self.new.cursors.capacity ≡ self.old.cursors.capacity }
+        ensures in_place { 0 < self.old.cursors.room → memory self.new ≡ memory self.old }
         ensures unchanged { OnErr result (self.new.elements ≡ self.old.elements) }
         ensures keeps { OnErr result (Keeps self.old.cursors self.new.cursors) }
         ensures gone { KeepsSpent self.old.cursors self.new.cursors }
@@ -140,7 +140,7 @@ impl<K: Key, T: Drop> StableList<K, T> {
         ensures reuses { IsSome (value_of (K.data_of cursor) self.old.elements) → HasVacant self.old.cursors → IsOk result }
         ensures room { IsSome (value_of (K.data_of cursor) self.old.elements) → 0 < self.old.cursors.room → IsOk result }
         ensures capacity { self.old.cursors.capacity ≤ self.new.cursors.capacity }
-        ensures in_place { 0 < self.old.cursors.room → self.new.cursors.capacity ≡ self.old.cursors.capacity }
+        ensures in_place { 0 < self.old.cursors.room → memory self.new ≡ memory self.old }
         ensures unchanged { OnErr result (self.new.elements ≡ self.old.elements) }
         ensures keeps { OnErr result (Keeps self.old.cursors self.new.cursors) }
         ensures gone { KeepsSpent self.old.cursors self.new.cursors }
@@ -182,7 +182,7 @@ impl<K: Key, T: Drop> StableList<K, T> {
         ensures reuses { IsSome (value_of (K.data_of cursor) self.old.elements) → HasVacant self.old.cursors → IsOk result }
         ensures room { IsSome (value_of (K.data_of cursor) self.old.elements) → 0 < self.old.cursors.room → IsOk result }
         ensures capacity { self.old.cursors.capacity ≤ self.new.cursors.capacity }
-        ensures in_place { 0 < self.old.cursors.room → self.new.cursors.capacity ≡ self.old.cursors.capacity }
+        ensures in_place { 0 < self.old.cursors.room → memory self.new ≡ memory self.old }
         ensures unchanged { OnErr result (self.new.elements ≡ self.old.elements) }
         ensures keeps { OnErr result (Keeps self.old.cursors self.new.cursors) }
         ensures gone { KeepsSpent self.old.cursors self.new.cursors }
@@ -217,7 +217,7 @@ impl<K: Key, T: Drop> StableList<K, T> {
         ensures reuses { IsSome (value_of (K.data_of cursor) self.old.elements) → HasVacant self.old.cursors → IsOk result }
         ensures room { IsSome (value_of (K.data_of cursor) self.old.elements) → 0 < self.old.cursors.room → IsOk result }
         ensures capacity { self.old.cursors.capacity ≤ self.new.cursors.capacity }
-        ensures in_place { 0 < self.old.cursors.room → self.new.cursors.capacity ≡ self.old.cursors.capacity }
+        ensures in_place { 0 < self.old.cursors.room → memory self.new ≡ memory self.old }
         ensures unchanged { OnErr result (self.new.elements ≡ self.old.elements) }
         ensures keeps { OnErr result (Keeps self.old.cursors self.new.cursors) }
         ensures gone { KeepsSpent self.old.cursors self.new.cursors }

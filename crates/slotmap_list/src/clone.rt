@@ -2,6 +2,7 @@
 
 ghost use Rattle.std.specs.Prelude.{◌≡◌, IfOk};
 ghost use Rattle.slotmap.specs.Words.{AreClones, ClonesEqual, IsCopy};
+ghost use Rattle.slotmap_bounded.specs.Bounded.{bound};
 
 use crate::StableList;
 use slotmap::Key;
@@ -25,7 +26,7 @@ impl<K: Key, T: Clone> StableList<K, T> {
         ensures clones { IfOk result (λ copy. AreClones T.is_clone self.now.elements copy.elements) }
         ensures same_if_clones_equal { IfOk result (λ copy. ClonesEqual T.is_clone → copy.elements ≡ self.now.elements) }
         ensures cursors { IfOk result (λ copy. IsCopy self.now.cursors copy.cursors) }
-        ensures capacity { IfOk result (λ copy. copy.cursors.capacity ≡ self.now.cursors.capacity) }
+        ensures capacity { IfOk result (λ copy. bound copy.cursors ≡ bound self.now.cursors) }
         ensures room { IfOk result (λ copy. copy.cursors.room ≡ self.now.cursors.room) }
     {
         Ok(StableList {

@@ -4,7 +4,7 @@ ghost use Rattle.std.specs.Prelude.{◌≡◌, ◌+◌, ◌≤◌, [], List, IsO
 ghost use Rattle.std.specs.Iterator.{IsFinite, Drains, YieldsThen};
 ghost use Rattle.slotmap.specs.Words.{Key as KeyOf, IsSpent, Keeps, KeepsSpent, Leaves, RefusesCapacity, used};
 ghost use Rattle.std.specs.FinMap as map;
-ghost use Rattle.slotmap_list.specs.Sequence.{value_of};
+ghost use Rattle.slotmap_list.specs.Sequence.{memory, value_of};
 ghost use Rattle.slotmap_list.specs.Additions.{Adds, AddsAll, FullAfter, FullAtLimit, refused};
 
 use crate::{PushError, StableList};
@@ -38,7 +38,7 @@ impl<K: Key, T: Drop> StableList<K, T> {
         ensures room { OnErr result (self.old.cursors.room + length self.old.elements ≤ length self.new.elements) }
         ensures reuses { OnErr result (map.len self.old.cursors.next + length self.old.elements ≤ length self.new.elements) }
         ensures in_place { OnOk result (length self.new.elements ≤ self.old.cursors.room + length self.old.elements
-            → self.new.cursors.capacity ≡ self.old.cursors.capacity) }
+            → memory self.new ≡ memory self.old) }
 
         // Each value takes room for one key at most, and the capacity doesn't shrink.
         ensures room_left { self.old.cursors.room + length self.old.elements ≤ self.new.cursors.room + length self.new.elements }
@@ -133,9 +133,9 @@ impl<K: Key, T: Drop> StableList<K, T> {
         ensures capacity { self.old.cursors.capacity ≤ self.new.cursors.capacity }
 
         // What stays: the capacity, if there is room, and that of the other list, which loses no room.
-        ensures in_place { length other.old.elements ≤ self.old.cursors.room → self.new.cursors.capacity ≡ self.old.cursors.capacity }
+        ensures in_place { length other.old.elements ≤ self.old.cursors.room → memory self.new ≡ memory self.old }
         ensures leaves_other { Leaves other.old.cursors other.new.cursors }
-        ensures capacity_other { other.new.cursors.capacity ≡ other.old.cursors.capacity }
+        ensures capacity_other { memory other.new ≡ memory other.old }
 
         // What never comes again.
         ensures gone { KeepsSpent self.old.cursors self.new.cursors }

@@ -79,7 +79,8 @@ pub use values::{Cursors, Values};
 /// A list whose elements have cursors of the key type `K`.
 ///
 /// A clause sees `elements`, the list of the cursors with their values, from front to back, and
-/// `cursors`, by which it says that a cursor is never used again.
+/// `cursors`, by which it says that a cursor is never used again. `memory` is what the list has memory
+/// for: a call that keeps it asks for none.
 pub struct StableList<K, T> {
     // The values, each under the cursor of its element.
     values: BoundedMap<K, T>,
@@ -107,7 +108,7 @@ impl<K, T> Model for StableList<K, T> {
     ghost use Rattle.slotmap.specs.Words.{without_values};
     ghost use Rattle.slotmap_list.specs.Kept.{elements_at, IsKept};
 
-    ghost view = { λ l. record { elements = elements_at l.values.live (list_of l.links 0); cursors = without_values l.values } };
+    ghost view = { λ l. record { elements = elements_at l.values.live (list_of l.links 0); cursors = without_values l.values; links = l.links.capacity } };
 
     ghost invariant = { λ l. IsKept l.values l.links };
 }
@@ -140,7 +141,8 @@ pub enum PlaceError<T> {
 // Makes links for the numbers below `members`, with one list, which is empty.
 fn one_list(alloc: Global, members: usize) -> Result<Links, AllocError>
     requires { members < 2 ^ 32 }
-    ensures { IfOk result (λ links. links ≡ record { lists = [] ∷ []; members = members }) }
+    ensures lists { IfOk result (λ links. links.lists ≡ [] ∷ []) }
+    ensures members { IfOk result (λ links. links.members ≡ members) }
 {
     let mut links = Links::new(alloc);
     links.cover_owners(1)?;

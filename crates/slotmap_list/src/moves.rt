@@ -204,6 +204,7 @@ impl<K: Key, T: Drop> StableList<K, T> {
         ensures swaps { IsTrue result → Swaps self.old.elements (K.data_of cursor) (K.data_of other) self.new.elements }
         ensures values { (q : KeyOf) → value_of q self.new.elements ≡ value_of q self.old.elements }
         ensures cursors { self.new.cursors ≡ self.old.cursors }
+        ensures links { self.new.links ≡ self.old.links }
         ensures unchanged { result ≡ false → self.new ≡ self.old }
     {
         if !self.has_two(cursor, other) {
@@ -220,6 +221,7 @@ impl<K: Key, T: Drop> StableList<K, T> {
         ensures swaps { Swaps self.old.elements (K.data_of cursor) (K.data_of other) self.new.elements }
         ensures values { (q : KeyOf) → value_of q self.new.elements ≡ value_of q self.old.elements }
         ensures cursors { self.new.cursors ≡ self.old.cursors }
+        ensures links { self.new.links ≡ self.old.links }
     {
         let next = self.after(cursor);
         self.move_to(cursor, Place::Beside(Side::After, other.data()));

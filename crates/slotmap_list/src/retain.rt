@@ -3,7 +3,7 @@
 ghost use Rattle.std.specs.Prelude.{◌≡◌, IsSome, None, Some};
 ghost use Rattle.std.specs.Borrow.{sem};
 ghost use Rattle.slotmap.specs.Words.{Key as KeyOf, IsSpent, KeepsSpent, Leaves};
-ghost use Rattle.slotmap_list.specs.Sequence.{value_of, without};
+ghost use Rattle.slotmap_list.specs.Sequence.{memory, value_of, without};
 ghost use Rattle.slotmap_list.specs.Retain.{RetainsEach, CallableInOrder};
 
 use crate::StableList;
@@ -31,7 +31,7 @@ impl<K: Key, T: Drop> StableList<K, T> {
         ensures for_good { IsSpent self.new.cursors (K.data_of cursor) }
         ensures gone { KeepsSpent self.old.cursors self.new.cursors }
         ensures leaves { Leaves self.old.cursors self.new.cursors }
-        ensures capacity { self.new.cursors.capacity ≡ self.old.cursors.capacity }
+        ensures capacity { memory self.new ≡ memory self.old }
     {
         self.remove(cursor);
     }
@@ -59,7 +59,7 @@ impl<K: Key, T: Drop> StableList<K, T> {
         ensures for_good { (k : KeyOf) → IsSome (value_of k self.old.elements) → value_of k self.new.elements ≡ None → IsSpent self.new.cursors k }
         ensures gone { KeepsSpent self.old.cursors self.new.cursors }
         ensures leaves { Leaves self.old.cursors self.new.cursors }
-        ensures capacity { self.new.cursors.capacity ≡ self.old.cursors.capacity }
+        ensures capacity { memory self.new ≡ memory self.old }
     {
         let mut at = self.first();
         while let Some(cursor) = at {

@@ -3,6 +3,7 @@
 ghost use Rattle.std.specs.Prelude.{◌≡◌, ◌+◌, ◌<◌, ◌≤◌, ◌^◌, true, IsOk, OnErr, OnOk, IfErr};
 ghost use Rattle.std.specs.FinMap as map;
 ghost use Rattle.slotmap.specs.Words.{IsContent, Keeps, KeepsSpent, MakesRoom, RefusesCapacity, used};
+ghost use Rattle.slotmap_bounded.specs.Bounded.{bound};
 
 use crate::StableList;
 use slotmap::{Key, ReserveError};
@@ -20,6 +21,7 @@ fn cover(links: &mut Links, needed: usize) -> Result<(), AllocError>
     ensures lists { links.new.lists ≡ links.old.lists }
     ensures more { links.old.members ≤ links.new.members }
     ensures had_room { needed ≤ links.old.members → IsOk result }
+    ensures in_place { needed ≤ links.old.members → links.new ≡ links.old }
 {
     let members = links.members();
     if needed <= members {
@@ -54,7 +56,8 @@ impl<K: Key, T: Drop> StableList<K, T> {
         ensures had_room { additional ≤ self.old.cursors.room → IsOk result }
         ensures reuses { additional ≤ map.len self.old.cursors.next → IsOk result }
         ensures err { IfErr result (RefusesCapacity (used self.old.cursors + additional)) }
-        ensures unchanged { OnErr result (self.new ≡ self.old) }
+        ensures in_place { additional ≤ self.old.cursors.room → self.new ≡ self.old }
+        ensures unchanged { OnErr result (self.new.cursors ≡ record self.old.cursors { capacity = self.new.cursors.capacity }) }
         ensures elements { self.new.elements ≡ self.old.elements }
         ensures keeps { Keeps self.old.cursors self.new.cursors }
         ensures gone { KeepsSpent self.old.cursors self.new.cursors }
@@ -77,7 +80,7 @@ impl<K: Key, T: Drop> StableList<K, T> {
     /// assert_eq!(rt; list.capacity(), capacity);
     /// ```
     pub fn capacity(&self) -> usize
-        ensures value { result ≡ self.now.cursors.capacity }
+        ensures value { result ≡ bound self.now.cursors }
         ensures exact { result ≡ used self.now.cursors + self.now.cursors.room }
         ensures valid { IsContent true self.now.cursors }
     {

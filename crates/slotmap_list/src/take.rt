@@ -3,7 +3,7 @@
 ghost use Rattle.std.specs.Prelude.{◌≡◌, [], IfNone, IfSome, OnSome, IsSome, None, option_map};
 ghost use Rattle.std.specs.FinMap as map;
 ghost use Rattle.slotmap.specs.Words.{Key as KeyOf, IsSpent, KeepsSpent, Leaves, Removes};
-ghost use Rattle.slotmap_list.specs.Sequence.{value_of, without, TakesFront, TakesBack};
+ghost use Rattle.slotmap_list.specs.Sequence.{memory, value_of, without, TakesFront, TakesBack};
 
 use crate::{StableList, key_at};
 use slotmap::Key;
@@ -27,7 +27,7 @@ impl<K: Key, T: Drop> StableList<K, T> {
         ensures for_good { OnSome result (IsSpent self.new.cursors (K.data_of cursor)) }
         ensures gone { KeepsSpent self.old.cursors self.new.cursors }
         ensures leaves { Leaves self.old.cursors self.new.cursors }
-        ensures capacity { self.new.cursors.capacity ≡ self.old.cursors.capacity }
+        ensures capacity { memory self.new ≡ memory self.old }
         ensures stale { IfNone result (self.new ≡ self.old) }
     {
         let value = self.values.remove(cursor)?;
@@ -52,7 +52,7 @@ impl<K: Key, T: Drop> StableList<K, T> {
         ensures absent { IfSome result (λ element. value_of (K.data_of element.0) self.new.elements ≡ None) }
         ensures gone { KeepsSpent self.old.cursors self.new.cursors }
         ensures leaves { Leaves self.old.cursors self.new.cursors }
-        ensures capacity { self.new.cursors.capacity ≡ self.old.cursors.capacity }
+        ensures capacity { memory self.new ≡ memory self.old }
         ensures empty { IfNone result (self.new ≡ self.old) }
     {
         let cursor = self.first()?;
@@ -77,7 +77,7 @@ impl<K: Key, T: Drop> StableList<K, T> {
         ensures absent { IfSome result (λ element. value_of (K.data_of element.0) self.new.elements ≡ None) }
         ensures gone { KeepsSpent self.old.cursors self.new.cursors }
         ensures leaves { Leaves self.old.cursors self.new.cursors }
-        ensures capacity { self.new.cursors.capacity ≡ self.old.cursors.capacity }
+        ensures capacity { memory self.new ≡ memory self.old }
         ensures empty { IfNone result (self.new ≡ self.old) }
     {
         let cursor = key_at(&self.values, self.links.last(0))?;
@@ -101,7 +101,7 @@ impl<K: Key, T: Drop> StableList<K, T> {
         ensures for_good { (k : KeyOf) → IsSome (value_of k self.old.elements) → IsSpent self.new.cursors k }
         ensures gone { KeepsSpent self.old.cursors self.new.cursors }
         ensures leaves { Leaves self.old.cursors self.new.cursors }
-        ensures capacity { self.new.cursors.capacity ≡ self.old.cursors.capacity }
+        ensures capacity { memory self.new ≡ memory self.old }
     {
         while self.pop_front().is_some() {}
         // By what `len` ensures, no cursor is live.

@@ -21,7 +21,8 @@ pub use Rattle.slotmap.proofs.Callers.{leaves_none, left_spent, len_removed, liv
 pub use Rattle.slotmap.specs.Words.{ClonesEqual, Content, Inserts, IsCloneBy, IsCloneOf, IsContent, IsLive, Keeps, KeepsSpent, Key, Leaves, MakesRoom, key_cmp, most, same_keys, used}
 pub use Rattle.slotmap_bounded.proofs.Indices.{back_has, back_key, by_live, first_index, first_key, found_has, found_live, found_same, found_zero, front_has, front_key, indices_inserted}
 pub use Rattle.slotmap_bounded.proofs.Indices.{indices_still, key_at_live, key_is, keys_same, keys_without, last_key, later_indices, no_key, same_at, some_is, times_key}
-pub use Rattle.slotmap_bounded.specs.Bounded.{capacity_with}
+pub use Rattle.slotmap_bounded.proofs.{Alone.used-written, Bounds.bound_grows}
+pub use Rattle.slotmap_bounded.specs.Bounded.{bound, bound_with, space}
 pub use Rattle.slotmap_bounded.specs.Indices.{AreIndices, HasKey, HaveIndices, found_at, key_at, keys_at}
 pub use Rattle.slotmap_bounded.proofs.Alone.{len_alike}
 pub use Rattle.slotmap_bounded.proofs.Changed.{changed_gives, changed_here, changed_keeps, changed_other}
@@ -33,11 +34,11 @@ pub use Rattle.slotmap_bounded.proofs.Shown.{shown_content, shown_inserts, shown
 pub use Rattle.slotmap_bounded.specs.Changed.{changed, changed_in}
 pub use Rattle.slotmap_bounded.specs.KeyLists.{is_key, last_or, same, times, without}
 pub use Rattle.slotmap_links.proofs.Callers.{list_now, list_other, owners_stay}
-pub use Rattle.slotmap_links.proofs.Changes.{covered, list_cleared}
+pub use Rattle.slotmap_links.proofs.Changes.{covered, disjoint_still, list_cleared}
 pub use Rattle.slotmap_links.proofs.Counts.{one_itself as number_itself, one_other as number_other, same as same_number, same_or_other as same_or_other_number, times_first as often_first}
 pub use Rattle.slotmap_links.proofs.Counts.{times_gone as often_gone, times_joined as often_joined, times_without as often_without}
 pub use Rattle.slotmap_links.proofs.Linking.{after_inside, before_inside, first_in, last_in}
-pub use Rattle.slotmap_links.specs.Lists.{AreDisjoint, CoversMore, IsFree, IsIn, Lists, first_or, last_or as last_number, list_of, number_after, number_before, times as often, with_list}
+pub use Rattle.slotmap_links.specs.Lists.{AreDisjoint, with_capacity, CoversMore, IsFree, IsIn, Lists, first_or, last_or as last_number, list_of, number_after, number_before, times as often, with_list}
 pub use Rattle.slotmap_links.specs.Lists.{without as without_number}
 pub use Rattle.slotmap_scene.specs.Above.{GoesUp, HasRoot, keys_up, roots_in}
 pub use Rattle.slotmap_scene.specs.Below.{GoesDown, IsTop, WalksBelow, all_below, keys_down, keys_from}

@@ -1,7 +1,7 @@
 -- What is seen of the values, the parents and the children of a scene together, and what a change of one of them shows.
 use Rattle.std.proofs.Common.{◌<◌, ◌∷◌, ◌≡◌, ◌≢◌, ◌≤◌, ◌⊎◌}
 use Rattle.slotmap_scene.specs.Kept.{nodes_by}
-use Rattle.slotmap_scene.proofs.Common.{AreCovered, AreDisjoint, AreIndices, Bool, Content, HasKey, HaveIndices, HoldsNodes, IfSome, IsFree, IsIn, IsLive, Key, List, Lists, Node, Nodes, None, Option}
+use Rattle.slotmap_scene.proofs.Common.{AreCovered, AreDisjoint, AreIndices, Bool, bound, Content, HasKey, HaveIndices, HoldsNodes, IfSome, IsFree, IsIn, IsLive, Key, List, Lists, Node, Nodes, None, Option}
 use Rattle.slotmap_scene.proofs.Common.{Some, [], ap, arith, by_live, changed, changed_here, changed_other, children_in, children_of, common_steps, cond, entries-made, eq-zero-or-pos, exact_keys}
 use Rattle.slotmap_scene.proofs.Common.{false, filter, first_key, first_or, found_at, found_has, found_live, found_same, found_zero, get-made, get_or-set_other, get_or-set_same, indices_still, inl}
 use Rattle.slotmap_scene.proofs.Common.{inr, is_some, key_and_value, key_at, key_cmp, key_live, keys_at, keys_same, keys_total, last_key, last_number, last_or, length, length-map, length-set}
@@ -102,7 +102,7 @@ module _ {V : Type 0} {c : Content V} {parents : List ℕ} {children : Lists} (k
   indices_at p = record { have = λ i inside. (kept.listed p i inside).1 }
 
   pub has_place : (k : Key) → IsLive c k → AreCovered k.index parents children
-  has_place k live = covers_less c.capacity k.index parents children kept.covered (kept.indices.within k live).1
+  has_place k live = covers_less (bound c) k.index parents children kept.covered (kept.indices.within k live).1
 
   -- a list is empty where no key has the index
   pub list_none : (p : ℕ) → ((k : Key) → IsLive c k → k.index ≢ p) → list_of children p ≡ []
@@ -221,7 +221,7 @@ module _ {V : Type 0} {c : Content V} {parents : List ℕ} {children : Lists} (k
       pub above_still : (i j : ℕ) → j ≡ i → (i ≡ 0) ⊎ HasKey c i → (j ≡ 0) ⊎ HasKey d j
       above_still i j same was = subst (λ n. (n ≡ 0) ⊎ HasKey d n) (sym same) (elim was [ inl none ↦ inl none | inr has ↦ inr (has_still i has) ])
 
-      pub kept_still : AreCovered d.capacity parents' children' → AreDisjoint children'
+      pub kept_still : AreCovered (bound d) parents' children' → AreDisjoint children'
           → ((q : Key) → IsLive d q → (parent_at parents' q.index ≡ 0) ⊎ HasKey d (parent_at parents' q.index)) → HoldsNodes d parents' children'
       kept_still covered disjoint parents_are = record {
         indices = also;
@@ -232,7 +232,7 @@ module _ {V : Type 0} {c : Content V} {parents : List ℕ} {children : Lists} (k
       }
 
   -- the same keys, parents and children in another content, with other values
-  module _ (d : Content V) (same_keys : (q : Key) → map.contains_key d.live q ≡ map.contains_key c.live q) (more : c.capacity ≤ d.capacity)
+  module _ (d : Content V) (same_keys : (q : Key) → map.contains_key d.live q ≡ map.contains_key c.live q) (more : bound c ≤ bound d)
       (parents' : List ℕ) (children' : Lists) (same_parents : (i : ℕ) → parent_at parents' i ≡ parent_at parents i)
       (same_lists : (p : ℕ) → list_of children' p ≡ list_of children p) where
     along_still : (q : Key) → IsLive c q → IsLive d q
@@ -241,7 +241,7 @@ module _ {V : Type 0} {c : Content V} {parents : List ℕ} {children : Lists} (k
     along_indices : HaveIndices d
     along_indices = indices_still kept.indices d (λ q live. sym (same_keys q) ∙ live) more
 
-    pub kept_along : AreCovered d.capacity parents' children' → AreDisjoint children' → HoldsNodes d parents' children'
+    pub kept_along : AreCovered (bound d) parents' children' → AreDisjoint children' → HoldsNodes d parents' children'
     kept_along covered disjoint = kept_still d along_indices parents' children' along_still same_lists covered disjoint
         (λ q live. above_still d along_indices parents' children' along_still same_lists (parent_at parents q.index) (parent_at parents' q.index) (same_parents q.index)
         (kept.has_parent q (sym (same_keys q) ∙ live)))

@@ -1,7 +1,7 @@
 -- What a call makes of the nodes of a scene, as a whole: nodes come or go, more places are made, a value is written, or all is copied.
 use Rattle.std.proofs.Common.{◌+◌, ◌∷◌, ◌≡◌, ◌≢◌, ◌≤◌, ◌⊎◌}
 use Rattle.slotmap_scene.proofs.Common.{AreCovered, Content, CoversMore, Err, HasKey, HaveIndices, HoldsMore, HoldsNodes, IfSome, IfSome_then, Inserts, IsCloneBy, IsCloneOf, IsContent, IsErr, IsIn}
-use Rattle.slotmap_scene.proofs.Common.{IsLive, IsNodeClone, IsOk, Key, Leaves, List, Lists, MakesRoom, Node, Nodes, None, Ok, Option, Result, Some, [], ap, arith, capacity_with, child, children_of}
+use Rattle.slotmap_scene.proofs.Common.{IsLive, IsNodeClone, IsOk, Key, Leaves, List, Lists, MakesRoom, Node, Nodes, None, Ok, Option, Result, Some, [], ap, arith, bound, bound_with, disjoint_still, space, used-written, with_capacity, child, children_of}
 use Rattle.slotmap_scene.proofs.Common.{clone_live, exact_keys, family, found_at, found_live, get-insert_here, get-insert_other, get_or-set_other, get_or-set_same, indices_inserted, indices_still}
 use Rattle.slotmap_scene.proofs.Common.{inl, inr, inserted_fresh, is_some, key_cmp, keys, keys_at, keys_total, length-set, list_of, live-insert_still, most, node_at, nodes_by, often}
 use Rattle.slotmap_scene.proofs.Common.{option_map, parent_at, parent_index, parent_of, refl, same_or_other, set, shown_content, shown_inserts, shown_leaves, shown_makes_room, subst, sym, times, true}
@@ -27,6 +27,12 @@ module _ {V : Type 0} (c : Content V) (parents : List ℕ) (children : Lists) wh
     abbrev seen_now : Nodes V
     seen_now = nodes_by d.live parents' children'
 
+    pub family_bound : bound d ≡ bound c → bound (family d parents' children') ≡ bound (family c parents children)
+    family_bound same = omega (arith, seen_len c.live parents children, seen_len d.live parents' children', same)
+
+    pub family_space : bound d ≡ bound c → d.capacity ≡ c.capacity → space (family d parents' children') ≡ space (family c parents children)
+    family_space same capacity = λ i. (family_bound same i, capacity i)
+
     pub family_leaves : Leaves c d → Leaves (family c parents children) (family d parents' children')
     family_leaves = shown_leaves c d seen_was seen_now (seen_has c.live parents children) (seen_len c.live parents children)
         (seen_has d.live parents' children') (seen_len d.live parents' children')
@@ -50,15 +56,15 @@ module _ {V : Type 0} (c : Content V) (valid : IsContent true c) (n : ℕ) where
   no_room : (ok : Type 0) → (ok → ⊥) → (n ≤ c.room → ⊥) → MakesRoom true c n ok c
   no_room ok fails full = grind arith
 
-  pub fits_most : (capacity : ℕ) → capacity ≡ capacity_with c n → capacity ≤ most → used c + n ≤ most
-  fits_most capacity is few = grind arith
+  pub fits_most : (most_keys : ℕ) → most_keys ≡ bound_with c n → most_keys ≤ most → used c + n ≤ most
+  fits_most most_keys is few = grind arith
 
 -- no node at all
 module _ {V : Type 0} (c : Content V) (none : c.live ≡ map.empty) (parents : List ℕ) (children : Lists) where
   no_live : (k : Key) → map.get c.live k ≡ None
   no_live k = ap (λ m. map.get m k) none ∙ map.get-empty {X = V} key_cmp k
 
-  pub bare_kept : ((p : ℕ) → list_of children p ≡ []) → AreCovered c.capacity parents children → HoldsNodes c parents children
+  pub bare_kept : ((p : ℕ) → list_of children p ≡ []) → AreCovered (bound c) parents children → HoldsNodes c parents children
   bare_kept empty covered = grind (arith, no_live, often)
 
   pub bare_seen : nodes_by c.live parents children ≡ map.empty
@@ -71,12 +77,12 @@ module _ {V : Type 0} {c : Content V} {parents : List ℕ} {children : Lists} (k
   nodes = nodes_by c.live parents children
 
   -- the same values, in more places
-  module _ (d : Content V) (same : d.live ≡ c.live) (more : c.capacity ≤ d.capacity) (parents' : List ℕ) (children' : Lists)
+  module _ (d : Content V) (same : d.live ≡ c.live) (more : bound c ≤ bound d) (parents' : List ℕ) (children' : Lists)
       (holds : HoldsMore parents parents') (grows : CoversMore children children') where
     same_live : (q : Key) → map.contains_key d.live q ≡ map.contains_key c.live q
     same_live q = ap (λ m. map.contains_key m q) same
 
-    pub grown_kept : AreCovered d.capacity parents' children' → HoldsNodes d parents' children'
+    pub grown_kept : AreCovered (bound d) parents' children' → HoldsNodes d parents' children'
     grown_kept covered = kept_along kept d same_live more parents' children' holds.same grows.lists covered grows.disjoint
 
     pub grown_seen : nodes_by d.live parents' children' ≡ nodes
@@ -85,7 +91,7 @@ module _ {V : Type 0} {c : Content V} {parents : List ℕ} {children : Lists} (k
   -- places are made, and no room
   module _ (parents' : List ℕ) (children' : Lists) (holds : HoldsMore parents parents') (covers : CoversMore children children') where
     pub covered_kept : HoldsNodes c parents' children'
-    covered_kept = grown_kept c refl (omega arith) parents' children' holds covers (covers_still c.capacity parents parents' children children' kept.covered holds covers)
+    covered_kept = grown_kept c refl (omega arith) parents' children' holds covers (covers_still (bound c) parents parents' children children' kept.covered holds covers)
 
     pub covered_seen : IsContent true c → (n : ℕ) (ok : Type 0) → (ok → ⊥) → (n ≤ c.room → ⊥)
         → MakesRoom true (family c parents children) n ok (family c parents' children')
@@ -98,7 +104,7 @@ module _ {V : Type 0} {c : Content V} {parents : List ℕ} {children : Lists} (k
 
   -- a node comes
   module _ (k : Key) (v : V) (d : Content V) (inserts : Inserts c k v d) (valid : IsContent true c) (after : IsContent true d)
-      (capacity : d.capacity ≡ c.capacity) (within : k.index ≤ d.capacity)
+      (same_bound : bound d ≡ bound c) (within : k.index ≤ bound d)
       (o : Option Key) (is_parent : IfSome o (IsLive c)) (new : List ℕ) (new_is : new ≡ set parents k.index (parent_index o)) where
     stays : (q : Key) → IsLive c q → IsLive d q
     stays q live = ap (λ m. map.contains_key m q) inserts.live ∙ live-insert_still c.live k v q live
@@ -115,7 +121,7 @@ module _ {V : Type 0} {c : Content V} {parents : List ℕ} {children : Lists} (k
         cc
 
     came_indices : HaveIndices d
-    came_indices = indices_inserted kept.indices k v d inserts after capacity within
+    came_indices = indices_inserted kept.indices k v d inserts after same_bound within
 
     came_above : parent_at new k.index ≡ parent_index o
     came_above = ap (λ l. parent_at l k.index) new_is ∙ get_or-set_same parents k.index (parent_index o) 0 (omega (arith, kept.covered.parents))
@@ -125,7 +131,7 @@ module _ {V : Type 0} {c : Content V} {parents : List ℕ} {children : Lists} (k
 
     pub came_kept : HoldsNodes d new children
     came_kept = kept_still kept d came_indices new children stays (λ p. refl)
-        (grind (arith, kept.covered, capacity, new_is, length-set parents k.index (parent_index o))) kept.disjoint
+        (grind (arith, kept.covered, same_bound, new_is, length-set parents k.index (parent_index o))) kept.disjoint
         (λ q live. elim (same_or_other q k) [
           | inl at ↦ subst (λ i. (i ≡ 0) ⊎ HasKey d i) (sym (ap (λ (q : Key). parent_at new q.index) at ∙ came_above))
               (written_has d o (IfSome_then o is_parent stays))
@@ -156,7 +162,7 @@ module _ {V : Type 0} {c : Content V} {parents : List ℕ} {children : Lists} (k
   -- a node goes that has no children, is no child and is no parent
   module _ (k : Key) (live : IsLive c k) (leaf : children_of nodes k ≡ []) (alone : (p : Key) → times k (children_of nodes p) ≡ 0)
       (childless : (q : Key) → parent_of nodes q ≢ Some k)
-      (d : Content V) (is : d.live ≡ map.remove c.live k) (capacity : d.capacity ≡ c.capacity) where
+      (d : Content V) (is : d.live ≡ map.remove c.live k) (same_bound : bound d ≡ bound c) where
     left_get : (q : Key) → q ≢ k → map.get d.live q ≡ map.get c.live q
     left_get q other = ap (λ m. map.get m q) is ∙ get_removed c.live k q other
 
@@ -192,7 +198,7 @@ module _ {V : Type 0} {c : Content V} {parents : List ℕ} {children : Lists} (k
     pub gone_kept : HoldsNodes d parents children
     gone_kept = record {
       indices = left_indices;
-      covered = covers_less c.capacity d.capacity parents children kept.covered (omega arith);
+      covered = covers_less (bound c) (bound d) parents children kept.covered (omega arith);
       disjoint = kept.disjoint;
       listed = λ p i inside. (let was = kept.listed p i inside in (
         has_left p was.0 (λ at. (let none = ap (λ p. often i (list_of children p)) at ∙ ap (often i) ownerless in omega arith)),
@@ -226,27 +232,31 @@ module _ {V : Type 0} {c : Content V} {parents : List ℕ} {children : Lists} (k
       | inr other ↦ ap is_some (get-insert_other c.live k v q other)
     ]
 
+    written_bound : bound written ≡ bound c
+    written_bound = ap (λ n. n + c.room) (used-written c k v (ap is_some there))
+
     pub written_kept : HoldsNodes written parents children
-    written_kept = kept_along kept written written_keys (omega arith) parents children (λ i. refl) (λ p. refl) kept.covered kept.disjoint
+    written_kept = kept_along kept written written_keys (omega (arith, written_bound)) parents children (λ i. refl) (λ p. refl)
+        (covers_less (bound c) (bound written) parents children kept.covered (omega (arith, written_bound))) kept.disjoint
 
     pub written_seen : nodes_by written.live parents children ≡ with_value nodes k v
     written_seen = changed_is nodes (nodes_by written.live parents children) k (λ n. record n { value = v })
-        (λ q other. same_along kept written written_keys (omega arith) parents children (λ i. refl) (λ p. refl) q (get-insert_other c.live k v q other))
-        (get_along kept written written_keys (omega arith) parents children (λ i. refl) (λ p. refl) k (ap is_some there)
+        (λ q other. same_along kept written written_keys (omega (arith, written_bound)) parents children (λ i. refl) (λ p. refl) q (get-insert_other c.live k v q other))
+        (get_along kept written written_keys (omega (arith, written_bound)) parents children (λ i. refl) (λ p. refl) k (ap is_some there)
         ∙ ap (option_map (node_at c.live parents children k)) (get-insert_here c.live k v)
         ∙ sym (ap (option_map (λ (n : Node V). record n { value = v })) (seen_get c.live parents children k ∙ ap (option_map (node_at c.live parents children k)) there)))
 
   -- a copy has the same parents and children
-  module _ (is_clone : V → V → Type 0) (copy : Content V) (clones : IsCloneBy is_clone c copy) (capacity : copy.capacity ≡ c.capacity) where
+  module _ (is_clone : V → V → Type 0) (copy : Content V) (clones : IsCloneBy is_clone c copy) (same_bound : bound copy ≡ bound c) where
     copied_keys : (q : Key) → map.contains_key copy.live q ≡ map.contains_key c.live q
     copied_keys = clone_live is_clone c copy clones
 
-    pub copied_kept : HoldsNodes copy parents children
-    copied_kept = kept_along kept copy copied_keys (omega arith) parents children (λ i. refl) (λ p. refl)
-        (covers_less c.capacity copy.capacity parents children kept.covered (omega arith)) kept.disjoint
+    pub copied_kept : (now : Lists) → now ≡ with_capacity children now.capacity → HoldsNodes copy parents now
+    copied_kept now is = subst (HoldsNodes copy parents) (sym is) (kept_along kept copy copied_keys (omega arith) parents (with_capacity children now.capacity) (λ i. refl) (λ p. refl)
+        (grind (arith, kept.covered)) (disjoint_still children _ kept.disjoint (λ p. refl) (omega arith)))
 
-    pub copied_seen : IsCloneBy (IsNodeClone is_clone) (family c parents children) (family copy parents children)
-    copied_seen = record {
+    copied_along : IsCloneBy (IsNodeClone is_clone) (family c parents children) (family copy parents children)
+    copied_along = record {
       live = λ q. rw (seen_get c.live parents children q, seen_get copy.live parents children q) (by q (map.get c.live q) (map.get copy.live q) refl (clones.live q));
       detached = clones.detached;
       retired = clones.retired;
@@ -262,3 +272,6 @@ module _ {V : Type 0} {c : Content V} {parents : List ℕ} {children : Lists} (k
         by q (Some v) (Some w) there is =
             let same = node_along kept copy copied_keys (omega arith) parents children (λ i. refl) (λ p. refl) q (ap is_some there) w in
             (is, ap (λ (n : Node V). n.parent) same, ap (λ (n : Node V). n.children) same)
+
+    pub copied_seen : (now : Lists) → now ≡ with_capacity children now.capacity → IsCloneBy (IsNodeClone is_clone) (family c parents children) (family copy parents now)
+    copied_seen now is = subst (λ s. IsCloneBy (IsNodeClone is_clone) (family c parents children) (family copy parents s)) (sym is) copied_along

@@ -4,6 +4,7 @@ use Rattle.std.specs.Prelude.{slice_index_or, cond}
 use Rattle.std.specs.List.{filter}
 use Rattle.std.specs.FinMap as map
 use Rattle.slotmap.specs.Words.{Key, key_cmp, Content, IsLive}
+use Rattle.slotmap_bounded.specs.Bounded.{bound}
 use Rattle.slotmap_bounded.specs.Indices.{HasKey, HaveIndices, found_at, keys_at}
 use Rattle.slotmap_bounded.specs.Mapped.{with_live}
 use Rattle.slotmap_links.specs.Lists.{Lists, list_of, IsIn, AreDisjoint, put_before, put_behind}
@@ -61,7 +62,7 @@ module _ {T : Type 0} where
   -- parents and children are nodes
   pub record HoldsNodes (c : Content T) (parents : List ℕ) (children : Lists) : Type 0 where
     pub indices : HaveIndices c
-    pub covered : AreCovered c.capacity parents children
+    pub covered : AreCovered (bound c) parents children
     pub disjoint : AreDisjoint children
     pub listed : (p i : ℕ) → IsIn children p i → HasKey c p × HasKey c i
     pub has_parent : (k : Key) → IsLive c k → (parent_at parents k.index ≡ 0) ⊎ HasKey c (parent_at parents k.index)

@@ -2,6 +2,7 @@
 
 ghost use Rattle.std.specs.Prelude.{◌≡◌, IfOk};
 ghost use Rattle.slotmap.specs.Words.{ClonesEqual, IsCloneBy, IsCopy};
+ghost use Rattle.slotmap_bounded.specs.Bounded.{bound};
 ghost use Rattle.slotmap_scene.specs.Family.{IsNodeClone};
 
 use crate::Scene;
@@ -11,7 +12,7 @@ use std::alloc::AllocError;
 use std::marker::PhantomData;
 
 impl<T: Clone> Clone for Nodes<T> {
-    ghost is_clone = { λ nodes copy. IsCloneBy (IsNodeClone T.is_clone) nodes copy × (copy.capacity ≡ nodes.capacity) × (copy.room ≡ nodes.room) };
+    ghost is_clone = { λ nodes copy. IsCloneBy (IsNodeClone T.is_clone) nodes copy × (bound copy ≡ bound nodes) × (copy.room ≡ nodes.room) };
 
     fn clone(&self) -> Result<Self, AllocError> {
         Ok(Nodes {
@@ -39,7 +40,7 @@ impl<K: Key, T: Clone> Scene<K, T> {
     pub fn clone(&self) -> Result<Self, AllocError>
         ensures clones { IfOk result (IsCloneBy (IsNodeClone T.is_clone) self.now) }
         ensures copies_if_clones_equal { IfOk result (λ copy. ClonesEqual T.is_clone → IsCopy self.now copy) }
-        ensures capacity { IfOk result (λ copy. copy.capacity ≡ self.now.capacity) }
+        ensures capacity { IfOk result (λ copy. bound copy ≡ bound self.now) }
         ensures room { IfOk result (λ copy. copy.room ≡ self.now.room) }
     {
         Ok(Scene {

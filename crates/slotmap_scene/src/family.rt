@@ -5,6 +5,7 @@ ghost use Rattle.std.specs.FinMap as map;
 ghost use Rattle.std.specs.Borrow.{sem};
 ghost use Rattle.std.specs.Option.{option_copied_mut};
 ghost use Rattle.slotmap.specs.Words.{Key as KeyOf, HasVacant, IsContent, IsNew, IsSpent, KeepsSpent, Inserts, Keeps, Leaves, MakesRoom, RefusesCapacity, used};
+ghost use Rattle.slotmap_bounded.specs.Bounded.{bound, space};
 ghost use Rattle.slotmap_bounded.specs.KeyLists.{last_or, times};
 ghost use Rattle.slotmap_links.specs.Lists.{first_or};
 ghost use Rattle.slotmap_scene.specs.Above.{roots_in};
@@ -98,7 +99,7 @@ impl<T: Drop> Nodes<T> {
 
     // How many nodes there can be before more room is made.
     pub fn capacity(&self) -> usize
-        ensures value { result ≡ self.now.capacity }
+        ensures value { result ≡ bound self.now }
         ensures exact { result ≡ used self.now + self.now.room }
         ensures valid { IsContent true self.now }
     {
@@ -244,7 +245,7 @@ impl<T: Drop> Nodes<T> {
         ensures reuses { HasVacant self.old → IsOk result }
         ensures room { 0 < self.old.room → IsOk result }
         ensures capacity { self.old.capacity ≤ self.new.capacity }
-        ensures in_place { 0 < self.old.room → self.new.capacity ≡ self.old.capacity }
+        ensures in_place { 0 < self.old.room → space self.new ≡ space self.old }
         ensures unchanged { OnErr result (Keeps self.old self.new) }
     {
         if self.values.has_room() {
@@ -263,7 +264,7 @@ impl<T: Drop> Nodes<T> {
         requires room { 0 < self.old.room }
         requires parent { IsParent self.old.live parent }
         ensures adds { Inserts self.old result (child parent value) self.new }
-        ensures capacity { self.new.capacity ≡ self.old.capacity }
+        ensures capacity { space self.new ≡ space self.old }
         ensures valid { IsContent true self.old }
     {
         let _ = self.values.capacity();
@@ -279,7 +280,7 @@ impl<T: Drop> Nodes<T> {
         requires room { 0 < self.old.room }
         requires parent { IsParent self.old.live parent }
         ensures adds { Inserts self.old result (child parent value) self.new }
-        ensures capacity { self.new.capacity ≡ self.old.capacity }
+        ensures capacity { space self.new ≡ space self.old }
         ensures valid { IsContent true self.old }
     {
         self.put(value, parent)
@@ -303,7 +304,7 @@ impl<T: Drop> Nodes<T> {
         ensures value { value_of self.old.live node ≡ Some result }
         ensures live { self.new.live ≡ map.remove self.old.live node }
         ensures leaves { Leaves self.old self.new }
-        ensures capacity { self.new.capacity ≡ self.old.capacity }
+        ensures capacity { space self.new ≡ space self.old }
     {
         let Some(value) = self.values.remove(node) else {
             unreachable!()
@@ -315,7 +316,7 @@ impl<T: Drop> Nodes<T> {
     pub fn clear(&mut self)
         ensures empty { self.new.live ≡ map.empty }
         ensures leaves { Leaves self.old self.new }
-        ensures capacity { self.new.capacity ≡ self.old.capacity }
+        ensures capacity { space self.new ≡ space self.old }
         ensures valid { IsContent true self.old }
     {
         self.values.clear();

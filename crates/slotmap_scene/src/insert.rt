@@ -2,6 +2,7 @@
 
 ghost use Rattle.std.specs.Prelude.{◌≡◌, ◌<◌, ◌≤◌, Some, IfOk, IfErr, IsOk, OnOk, OnErr, IsSome};
 ghost use Rattle.slotmap.specs.Words.{Key as KeyOf, HasVacant, Inserts, IsSpent, Keeps, KeepsSpent};
+ghost use Rattle.slotmap_bounded.specs.Bounded.{space};
 ghost use Rattle.slotmap_scene.specs.Climb.{lacks_node, parent_of};
 ghost use Rattle.slotmap_scene.specs.Family.{IsNewChild, child, children_of, placed, right_before, right_behind, with_sibling};
 ghost use Rattle.slotmap_scene.specs.Refusals.{RefusesSibling};
@@ -31,7 +32,7 @@ impl<K: Key, T: Drop> Scene<K, T> {
         ensures reuses { IsSome (parent_of self.old.live sibling) → HasVacant self.old → IsOk result }
         ensures room { IsSome (parent_of self.old.live sibling) → 0 < self.old.room → IsOk result }
         ensures capacity { self.old.capacity ≤ self.new.capacity }
-        ensures in_place { 0 < self.old.room → self.new.capacity ≡ self.old.capacity }
+        ensures in_place { 0 < self.old.room → space self.new ≡ space self.old }
         ensures unchanged { OnErr result (Keeps self.old self.new) }
     {
         let Some(parent) = self.parent_key(sibling) else {
@@ -72,7 +73,7 @@ impl<K: Key, T: Drop> Scene<K, T> {
         ensures reuses { IsSome (parent_of self.old.live (K.data_of sibling)) → HasVacant self.old → IsOk result }
         ensures room { IsSome (parent_of self.old.live (K.data_of sibling)) → 0 < self.old.room → IsOk result }
         ensures capacity { self.old.capacity ≤ self.new.capacity }
-        ensures in_place { 0 < self.old.room → self.new.capacity ≡ self.old.capacity }
+        ensures in_place { 0 < self.old.room → space self.new ≡ space self.old }
         ensures unchanged { OnErr result (Keeps self.old self.new) }
     {
         Ok(outer(self.insert(Side::Before, inner(sibling), value)?))
@@ -110,7 +111,7 @@ impl<K: Key, T: Drop> Scene<K, T> {
         ensures reuses { IsSome (parent_of self.old.live (K.data_of sibling)) → HasVacant self.old → IsOk result }
         ensures room { IsSome (parent_of self.old.live (K.data_of sibling)) → 0 < self.old.room → IsOk result }
         ensures capacity { self.old.capacity ≤ self.new.capacity }
-        ensures in_place { 0 < self.old.room → self.new.capacity ≡ self.old.capacity }
+        ensures in_place { 0 < self.old.room → space self.new ≡ space self.old }
         ensures unchanged { OnErr result (Keeps self.old self.new) }
     {
         Ok(outer(self.insert(Side::After, inner(sibling), value)?))

@@ -62,6 +62,7 @@ ghost use Rattle.std.specs.FinMap as map;
 ghost use Rattle.std.specs.Borrow.{sem};
 ghost use Rattle.std.specs.Option.{option_copied_mut};
 ghost use Rattle.slotmap.specs.Words.{Key as KeyOf, IsContent, IsNew, MakesRoom, RefusesCapacity, used};
+ghost use Rattle.slotmap_bounded.specs.Bounded.{bound};
 ghost use Rattle.slotmap_bounded.specs.KeyLists.{times};
 ghost use Rattle.slotmap_scene.specs.Climb.{has_node, parent_of};
 ghost use Rattle.slotmap_scene.specs.Family.{IsScene, children_of, is_parent, value_of};
@@ -315,7 +316,7 @@ impl<K: Key, T: Drop> Scene<K, T> {
     /// assert!(rt; scene.capacity() >= 2);
     /// ```
     pub fn capacity(&self) -> usize
-        ensures value { result ≡ self.now.capacity }
+        ensures value { result ≡ bound self.now }
         ensures exact { result ≡ used self.now + self.now.room }
         ensures valid { IsContent true self.now }
     {

@@ -3,6 +3,7 @@
 ghost use Rattle.std.specs.Prelude.{◌≡◌, ◌↔◌, ◌<◌, ◌≤◌, ◌++◌, ◌∷◌, [], Some, None, IfOk, IfErr, IsOk, OnOk, OnErr, IfSome, IfNone, OnSome, IsTrue, true, option_map};
 ghost use Rattle.std.specs.FinMap as map;
 ghost use Rattle.slotmap.specs.Words.{Key as KeyOf, HasVacant, IsSpent, KeepsSpent, Inserts, Keeps, Leaves};
+ghost use Rattle.slotmap_bounded.specs.Bounded.{space};
 ghost use Rattle.slotmap_scene.specs.Climb.{IsWithin, has_node, lacks_node};
 ghost use Rattle.slotmap_scene.specs.Family.{IsMoved, IsNewChild, IsScene, as_last_child, as_root, child, children_of, forgets, value_of, with_child};
 ghost use Rattle.slotmap_scene.specs.Refusals.{RefusesNode, RefusesChild, RefusesParent};
@@ -34,7 +35,7 @@ impl<K: Key, T: Drop> Scene<K, T> {
         ensures reuses { HasVacant self.old → IsOk result }
         ensures room { 0 < self.old.room → IsOk result }
         ensures capacity { self.old.capacity ≤ self.new.capacity }
-        ensures in_place { 0 < self.old.room → self.new.capacity ≡ self.old.capacity }
+        ensures in_place { 0 < self.old.room → space self.new ≡ space self.old }
         ensures unchanged { OnErr result (Keeps self.old self.new) }
     {
         Ok(outer(self.nodes.insert(value, None)?))
@@ -70,7 +71,7 @@ impl<K: Key, T: Drop> Scene<K, T> {
         ensures reuses { has_node self.old.live (K.data_of parent) → HasVacant self.old → IsOk result }
         ensures room { has_node self.old.live (K.data_of parent) → 0 < self.old.room → IsOk result }
         ensures capacity { self.old.capacity ≤ self.new.capacity }
-        ensures in_place { 0 < self.old.room → self.new.capacity ≡ self.old.capacity }
+        ensures in_place { 0 < self.old.room → space self.new ≡ space self.old }
         ensures unchanged { OnErr result (Keeps self.old self.new) }
     {
         let parent = inner(parent);
@@ -166,7 +167,7 @@ impl<K: Key, T: Drop> Scene<K, T> {
         ensures removed { (k : KeyOf) → IsWithin self.old.live k (K.data_of node) → lacks_node self.new.live k }
         ensures others { (k : KeyOf) → (IsWithin self.old.live k (K.data_of node) → ⊥) → map.get self.new.live k ≡ option_map (forgets (K.data_of node)) (map.get self.old.live k) }
         ensures leaves { Leaves self.old self.new }
-        ensures capacity { self.new.capacity ≡ self.old.capacity }
+        ensures capacity { space self.new ≡ space self.old }
         ensures for_good { (k : KeyOf) → has_node self.old.live k → IsWithin self.old.live k (K.data_of node) → IsSpent self.new k }
         ensures stale { KeepsSpent self.old self.new }
         ensures unchanged { IfNone result (self.new ≡ self.old) }
@@ -193,7 +194,7 @@ impl<K: Key, T: Drop> Scene<K, T> {
     pub fn clear(&mut self)
         ensures empty { self.new.live ≡ map.empty }
         ensures leaves { Leaves self.old self.new }
-        ensures capacity { self.new.capacity ≡ self.old.capacity }
+        ensures capacity { space self.new ≡ space self.old }
         ensures for_good { (k : KeyOf) → has_node self.old.live k → IsSpent self.new k }
         ensures stale { KeepsSpent self.old self.new }
     {

@@ -3,6 +3,7 @@
 ghost use Rattle.std.specs.Prelude.{◌≡◌, ◌<◌, ◌≤◌, ◌≢◌, [], List, Some, None, IfErr, IfOk, IfSome, IsOk, OnErr, option_map};
 ghost use Rattle.std.specs.FinMap as map;
 ghost use Rattle.slotmap.specs.Words.{Key as KeyOf, HasVacant, Inserts, IsSpent, Keeps, KeepsSpent, Leaves};
+ghost use Rattle.slotmap_bounded.specs.Bounded.{space};
 ghost use Rattle.slotmap_bounded.specs.KeyLists.{times};
 ghost use Rattle.slotmap_scene.specs.Climb.{IsWithin, has_node, lacks_node, parent_of};
 ghost use Rattle.slotmap_scene.specs.Family.{IsMoved, IsNewChild, IsScene, as_child, as_root, child, children_of, forgets, put_in_place, value_of, with_children_of, without_child};
@@ -61,7 +62,7 @@ impl<T: Drop> Nodes<T> {
         ensures reuses { HasVacant self.old → IsOk result }
         ensures room { 0 < self.old.room → IsOk result }
         ensures capacity { self.old.capacity ≤ self.new.capacity }
-        ensures in_place { 0 < self.old.room → self.new.capacity ≡ self.old.capacity }
+        ensures in_place { 0 < self.old.room → space self.new ≡ space self.old }
         ensures unchanged { OnErr result (Keeps self.old self.new) }
     {
         let key = self.insert(value, Some(parent))?;
@@ -127,7 +128,7 @@ impl<T: Drop> Nodes<T> {
         ensures value { value_of self.old.live node ≡ Some result }
         ensures live { self.new.live ≡ map.remove (without_child self.old.live (parent_of self.old.live node) node) node }
         ensures leaves { Leaves self.old self.new }
-        ensures capacity { self.new.capacity ≡ self.old.capacity }
+        ensures capacity { space self.new ≡ space self.old }
     {
         self.leave(node);
         self.remove(node)
@@ -145,7 +146,7 @@ impl<T: Drop> Nodes<T> {
         ensures others { (k : KeyOf) → (IsWithin self.old.live k root → ⊥) → map.get self.new.live k ≡ option_map (forgets root) (map.get self.old.live k) }
         ensures scene { IsScene self.new.live }
         ensures leaves { Leaves self.old self.new }
-        ensures capacity { self.new.capacity ≡ self.old.capacity }
+        ensures capacity { space self.new ≡ space self.old }
     {
         let mut at = root;
         loop {

@@ -2,6 +2,6 @@
 use Rattle.std.specs.Prelude.{ℕ, List, [], ◌∷◌}
 use Rattle.slotmap_links.specs.Lists.{Lists}
 
--- this list, and numbers below 8
-abbrev pub with_one : List ℕ → Lists
-with_one ks = record { lists = ks ∷ []; members = 8 }
+-- this list, numbers below 8, and so much memory
+abbrev pub with_one : List ℕ → ℕ × ℕ → Lists
+with_one ks capacity = record { lists = ks ∷ []; members = 8; capacity = capacity }

@@ -2,6 +2,8 @@
 
 ghost use Rattle.std.specs.Prelude.{◌≡◌, ◌<◌, ◌≤◌, ◌+◌, ◌∷◌, [], IfOk, false, length, map as list_map};
 ghost use Rattle.slotmap.specs.Words.{Key as KeyOf, IsLive, is_last};
+ghost use Rattle.slotmap_bounded.specs.Bounded.{space};
+ghost use Rattle.slotmap_list.specs.Sequence.{memory};
 
 use slotmap::{DefaultKey, NodeKey, ReserveError};
 use slotmap_graph::Graph;
@@ -27,13 +29,13 @@ pub fn refilled_list(alloc: Global, value: u64) -> Result<StableList<Cursor, u64
     Ok(list)
 }
 
-/// Removes all elements, and adds as many new ones. It can't fail, and the capacity stays.
+/// Removes all elements, and adds as many new ones. It can't fail, and asks for no memory.
 ///
 /// No slot may be retired by it, so no cursor has the last version of its slot.
 pub fn fill_list_again(list: &mut StableList<Cursor, u64>, value: u64)
     requires not_last { (k : KeyOf) → IsLive list.old.cursors k → is_last k ≡ false }
     ensures filled { length list.new.elements ≡ length list.old.elements }
-    ensures capacity { list.new.cursors.capacity ≡ list.old.cursors.capacity }
+    ensures memory { memory list.new ≡ memory list.old }
 {
     let count = list.len();
     list.clear();
@@ -48,8 +50,8 @@ fn add_loop(graph: &mut Graph<NodeKey, u64, u64>)
     requires edges { 0 < graph.old.edges.room }
     ensures node_room { graph.old.nodes.room ≤ graph.new.nodes.room + 1 }
     ensures edge_room { graph.old.edges.room ≤ graph.new.edges.room + 1 }
-    ensures node_capacity { graph.new.nodes.capacity ≡ graph.old.nodes.capacity }
-    ensures edge_capacity { graph.new.edges.capacity ≡ graph.old.edges.capacity }
+    ensures node_space { space graph.new.nodes ≡ space graph.old.nodes }
+    ensures edge_space { space graph.new.edges ≡ space graph.old.edges }
 {
     let Ok(node) = graph.add_node(1) else {
         unreachable!()

@@ -7,7 +7,7 @@ ghost use Rattle.std.specs.Prelude.{length, is_some, option_copied, option_map, 
 ghost use Rattle.slotmap.specs.Words.{AreClones, used, most};
 ghost use Rattle.slotmap_list.specs.Additions.{Adds};
 ghost use Rattle.slotmap_list.specs.Retain.{CallableInOrder, RetainsEach};
-ghost use Rattle.slotmap_list.specs.Sequence.{Swaps, are_two, first_or, from_key, key_after, key_before, value_of, without};
+ghost use Rattle.slotmap_list.specs.Sequence.{Swaps, are_two, first_or, from_key, key_after, key_before, memory, value_of, without};
 
 use slotmap::{Key, ReserveError};
 use slotmap_list::{IntoIter, Iter, IterFrom, PlaceError, PushError, StableList};
@@ -155,6 +155,17 @@ pub fn copy_has_the_same_order<K: Key, T: Clone>(
     list.clone()
 }
 
+/// An element is added without memory where there is room.
+/// Holds by `in_place` of `push_back`.
+pub fn pushed_element_needs_no_memory<K: Key, T: Drop>(
+    list: &mut StableList<K, T>,
+    value: T,
+) -> Result<K, PushError<T>>
+    ensures { 0 < list.old.cursors.room → memory list.new ≡ memory list.old }
+{
+    list.push_back(value)
+}
+
 /// Guards of `remove`.
 pub fn remove<K: Key, T: Drop>(list: &mut StableList<K, T>, cursor: K) -> Option<T>
     // The element of the cursor is gone, and all others stay in their order.
@@ -162,7 +173,7 @@ pub fn remove<K: Key, T: Drop>(list: &mut StableList<K, T>, cursor: K) -> Option
     ensures remove_takes_out_its_element { list.new.elements ≡ without (K.data_of cursor) list.old.elements }
     // No memory is allocated or freed.
     // Refuses `remove_reserves_more`: `capacity` of `remove`.
-    ensures remove_keeps_the_capacity { list.new.cursors.capacity ≡ list.old.cursors.capacity }
+    ensures remove_keeps_the_capacity { memory list.new ≡ memory list.old }
 {
     list.remove(cursor)
 }
@@ -174,7 +185,7 @@ pub fn pop_front<K: Key, T: Drop>(list: &mut StableList<K, T>) -> Option<(K, T)>
     ensures pop_front_takes_the_first_element { IfSome result (λ element. list.old.elements ≡ (K.data_of element.0, element.1) ∷ list.new.elements) }
     // No memory is allocated or freed.
     // Refuses `pop_front_reserves_more`: `capacity` of `pop_front`.
-    ensures pop_front_keeps_the_capacity { list.new.cursors.capacity ≡ list.old.cursors.capacity }
+    ensures pop_front_keeps_the_capacity { memory list.new ≡ memory list.old }
 {
     list.pop_front()
 }
@@ -197,7 +208,7 @@ pub fn clear<K: Key, T: Drop>(list: &mut StableList<K, T>)
     ensures clear_leaves_no_element { list.new.elements ≡ [] }
     // No memory is allocated or freed.
     // Refuses `clear_reserves_more`: `capacity` of `clear`.
-    ensures clear_keeps_the_capacity { list.new.cursors.capacity ≡ list.old.cursors.capacity }
+    ensures clear_keeps_the_capacity { memory list.new ≡ memory list.old }
 {
     list.clear();
 }
@@ -209,7 +220,7 @@ pub fn dropped_drain<K: Key, T: Drop>(list: &mut StableList<K, T>)
     ensures dropped_drain_leaves_no_element { list.new.elements ≡ [] }
     // No memory is allocated or freed.
     // Refuses `drain_reserves_more`: `list` of `drain`, and `ends` of its drop.
-    ensures dropped_drain_keeps_the_capacity { list.new.cursors.capacity ≡ list.old.cursors.capacity }
+    ensures dropped_drain_keeps_the_capacity { memory list.new ≡ memory list.old }
 {
     list.drain();
 }
@@ -222,6 +233,9 @@ pub fn move_to_front<K: Key, T: Drop>(list: &mut StableList<K, T>, cursor: K) ->
     // The element is in front of all others.
     // Refuses `move_to_front_moves_to_the_back`: `first` of `move_to_front`.
     ensures moved_element_is_first { IsTrue result → first_or list.new.elements None ≡ Some (K.data_of cursor) }
+    // No memory is allocated or freed.
+    // Refuses `move_to_asks_for_links`: `moved` of `move_to_front`.
+    ensures move_to_front_keeps_the_memory { memory list.new ≡ memory list.old }
 {
     list.move_to_front(cursor)
 }
@@ -247,8 +261,8 @@ pub fn reserve<K: Key, T: Drop>(
     // Holds by `room` of `reserve`.
     ensures reserve_makes_room { OnOk result (additional ≤ list.new.cursors.room) }
     // Where there is room already, nothing changes.
-    // Refuses `reserve_takes_more`: `makes_room` and `elements` of `reserve`.
-    ensures reserve_with_room_changes_nothing { additional ≤ list.old.cursors.room → list.new.cursors ≡ list.old.cursors }
+    // Refuses `reserve_takes_more`: `in_place` of `reserve`.
+    ensures reserve_with_room_changes_nothing { additional ≤ list.old.cursors.room → list.new ≡ list.old }
 {
     list.reserve(additional)
 }
@@ -265,7 +279,7 @@ pub fn retain<K: Key, T: Drop, F: FnMut(K, &mut T) -> bool + Drop>(
     ensures retain_calls_once_for_each_element { (last : F) × RetainsEach F.FnMut K.data_of f list.old.elements list.new.elements last }
     // No memory is allocated or freed.
     // Refuses `retain_reserves_more`: `capacity` of `retain`.
-    ensures retain_keeps_the_capacity { list.new.cursors.capacity ≡ list.old.cursors.capacity }
+    ensures retain_keeps_the_capacity { memory list.new ≡ memory list.old }
 {
     list.retain(f);
 }

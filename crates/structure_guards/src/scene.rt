@@ -6,6 +6,7 @@ ghost use Rattle.std.specs.Option.{option_copied_mut};
 ghost use Rattle.std.specs.Prelude.{◌≡◌, ◌≢◌, ◌<◌, ◌++◌, ◌∷◌, ◌↔◌, ◌+ℤ◌, [], Some, None, Err, IfOk, OnOk, IfSome, IfNone, IsTrue};
 ghost use Rattle.std.specs.Prelude.{option_map, map as list_map};
 ghost use Rattle.slotmap.specs.Words.{Key as KeyOf, IsCloneOf};
+ghost use Rattle.slotmap_bounded.specs.Bounded.{space};
 ghost use Rattle.slotmap_bounded.specs.KeyLists.{times, without};
 ghost use Rattle.slotmap_links.specs.Lists.{first_or};
 ghost use Rattle.slotmap_scene.specs.Below.{all_below};
@@ -77,7 +78,7 @@ pub fn added_root_needs_no_memory<K: Key, T: Drop>(
     scene: &mut Scene<K, T>,
     value: T,
 ) -> Result<K, InsertError<T>>
-    ensures { 0 < scene.old.room → scene.new.capacity ≡ scene.old.capacity }
+    ensures { 0 < scene.old.room → space scene.new ≡ space scene.old }
 {
     scene.add_root(value)
 }
@@ -185,7 +186,7 @@ pub fn remove<K: Key, T: Drop>(scene: &mut Scene<K, T>, node: K) -> Option<T>
     ensures removed_nodes_are_gone { (k : KeyOf) → IsWithin scene.old.live k (K.data_of node) → lacks_node scene.new.live k }
     // No memory is allocated or freed.
     // Refuses `remove_reserves_more`: `capacity` of `remove`.
-    ensures remove_keeps_the_capacity { scene.new.capacity ≡ scene.old.capacity }
+    ensures remove_keeps_the_capacity { space scene.new ≡ space scene.old }
 {
     scene.remove(node)
 }
@@ -197,7 +198,7 @@ pub fn clear<K: Key, T: Drop>(scene: &mut Scene<K, T>)
     ensures clear_leaves_no_node { scene.new.live ≡ map.empty }
     // No memory is allocated or freed.
     // Refuses `clear_reserves_more`: `capacity` of `clear`.
-    ensures clear_keeps_the_capacity { scene.new.capacity ≡ scene.old.capacity }
+    ensures clear_keeps_the_capacity { space scene.new ≡ space scene.old }
 {
     scene.clear();
 }

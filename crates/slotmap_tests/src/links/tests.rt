@@ -9,7 +9,7 @@ use std::test::Fail;
 
 // Lists with one owner, and eight numbers that may be members.
 fn one_owner(alloc: Global) -> Result<Links, Fail>
-    ensures { IfOk result (λ links. links ≡ with_one []) }
+    ensures { IfOk result (λ links. links ≡ with_one [] links.capacity) }
 {
     let mut links = Links::new(alloc);
     links.cover_owners(1)?;
@@ -19,8 +19,8 @@ fn one_owner(alloc: Global) -> Result<Links, Fail>
 
 // Makes the list 2, 7, 3, 5.
 fn put_four(links: &mut Links)
-    requires { links.old ≡ with_one [] }
-    ensures { links.new ≡ with_one (2 ∷ 7 ∷ 3 ∷ 5 ∷ []) }
+    requires { links.old ≡ with_one [] links.old.capacity }
+    ensures { links.new ≡ with_one (2 ∷ 7 ∷ 3 ∷ 5 ∷ []) links.new.capacity }
 {
     links.put_last(0, 5);
     links.put_first(0, 2);
@@ -29,7 +29,7 @@ fn put_four(links: &mut Links)
 }
 
 fn looks_well(links: &Links) -> bool
-    requires { links.now ≡ with_one (2 ∷ 7 ∷ 3 ∷ 5 ∷ []) }
+    requires { links.now ≡ with_one (2 ∷ 7 ∷ 3 ∷ 5 ∷ []) links.now.capacity }
 {
     (links.len(0), links.first(0), links.last(0)) == (4, Some(2), Some(5))
         && (links.next(7), links.prev(7), links.next(5)) == (Some(3), Some(2), None)
@@ -37,7 +37,7 @@ fn looks_well(links: &Links) -> bool
 }
 
 fn walks_well(links: &Links) -> bool
-    requires { links.now ≡ with_one (2 ∷ 7 ∷ 3 ∷ 5 ∷ []) }
+    requires { links.now ≡ with_one (2 ∷ 7 ∷ 3 ∷ 5 ∷ []) links.now.capacity }
 {
     let mut members = links.iter(0);
     let mut rest = links.iter_from(3);
@@ -46,7 +46,7 @@ fn walks_well(links: &Links) -> bool
 }
 
 fn takes_well(links: &mut Links) -> bool
-    requires { links.old ≡ with_one (2 ∷ 7 ∷ 3 ∷ 5 ∷ []) }
+    requires { links.old ≡ with_one (2 ∷ 7 ∷ 3 ∷ 5 ∷ []) links.old.capacity }
 {
     links.take_out(0, 7);
     let after = links.next(2);

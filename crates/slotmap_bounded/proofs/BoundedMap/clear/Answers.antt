@@ -7,6 +7,7 @@ loop-key-preserved g c = let so_far = c.loop-key.invariant in let removed = c.re
   above = λ k live. let was = removed.leaves.no_more k live in omega (arith, c.in-Some.ensures.first k was (so_far.above k was), removed.gone k live);
   leaves = leaves_in_turn c.args.self.now c.loop-key.self c.remove_live.new.self so_far.leaves removed.leaves;
   stays = record { before = so_far.stays.before; after = removed.valid.after; capacity = removed.valid.capacity ∙ so_far.stays.capacity };
+  bound_is = removed.bound ∙ so_far.bound_is;
 }
 
 pub returns-clause-empty : goal.returns-clause-empty

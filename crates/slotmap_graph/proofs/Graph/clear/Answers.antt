@@ -6,13 +6,13 @@ use Rattle.slotmap_graph.proofs.Graph.clear.Goals as goal
 pub invariant_of-self : goal.invariant_of-self
 invariant_of-self g c = record {
   out = bare_threaded from c.clear.new.self c.clear-2.new.self c.clear-3.new.self c.clear.ensures.empty c.clear-2.ensures.empty
-      (λ p. ap (λ l. list_of l p) c.clear-3.ensures ∙ list_cleared (length c.self.inside.out.lists) c.self.inside.out.members p)
-      (omega (arith, c.clear.ensures.valid.capacity, ap (λ (l : Lists). length l.lists) c.clear-3.ensures ∙ length-replicate (length c.self.inside.out.lists) [], c.self.invariant.out.owners))
-      (omega (arith, c.clear-2.ensures.valid.capacity, ap (λ (l : Lists). l.members) c.clear-3.ensures, c.self.invariant.out.members));
+      (λ p. ap (λ l. list_of l p) c.clear-3.ensures ∙ list_cleared c.self.inside.out p)
+      (omega (arith, c.clear.ensures.bound, ap (λ (l : Lists). length l.lists) c.clear-3.ensures ∙ length-replicate (length c.self.inside.out.lists) [], c.self.invariant.out.owners))
+      (omega (arith, c.clear-2.ensures.bound, ap (λ (l : Lists). l.members) c.clear-3.ensures, c.self.invariant.out.members));
   into = bare_threaded to c.clear.new.self c.clear-2.new.self c.clear-4.new.self c.clear.ensures.empty c.clear-2.ensures.empty
-      (λ p. ap (λ l. list_of l p) c.clear-4.ensures ∙ list_cleared (length c.self.inside.into.lists) c.self.inside.into.members p)
-      (omega (arith, c.clear.ensures.valid.capacity, ap (λ (l : Lists). length l.lists) c.clear-4.ensures ∙ length-replicate (length c.self.inside.into.lists) [], c.self.invariant.into.owners))
-      (omega (arith, c.clear-2.ensures.valid.capacity, ap (λ (l : Lists). l.members) c.clear-4.ensures, c.self.invariant.into.members));
+      (λ p. ap (λ l. list_of l p) c.clear-4.ensures ∙ list_cleared c.self.inside.into p)
+      (omega (arith, c.clear.ensures.bound, ap (λ (l : Lists). length l.lists) c.clear-4.ensures ∙ length-replicate (length c.self.inside.into.lists) [], c.self.invariant.into.owners))
+      (omega (arith, c.clear-2.ensures.bound, ap (λ (l : Lists). l.members) c.clear-4.ensures, c.self.invariant.into.members));
 }
 
 pub returns-clause-for_good : goal.returns-clause-for_good

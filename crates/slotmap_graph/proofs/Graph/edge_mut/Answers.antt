@@ -18,6 +18,7 @@ returns-in-Some g c =
         edges = ap (with_edge_in edges k w) c.in-Some.ensures.value i;
         out = edge_written_seen c.self.invariant.out k e (record e { value = w }) (sym c.in-Some.ensures.value) refl i;
         into = edge_written_seen c.self.invariant.into k e (record e { value = w }) (sym c.in-Some.ensures.value) refl i;
+        links = (c.self.inside.out.capacity, c.self.inside.into.capacity);
       }) ∙ ap (λ (s : Seen g.row.N.Denot g.row.E.Denot). record s { edges = with_edge s.edges k w }) c.self.view_is),
       record { writes_back = tt; value = rw (← c.self.view_is) (rw c.value_mut.ensures.value (ap (option_map value) c.in-Some.ensures.value)) },
     )

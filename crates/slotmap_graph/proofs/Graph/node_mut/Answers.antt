@@ -16,6 +16,7 @@ returns-in-Some g c =
         edges = c.self.inside.edges;
         out = node_written_seen c.self.invariant.out k _ w (sym c.in-Some.ensures.value) i;
         into = node_written_seen c.self.invariant.into k _ w (sym c.in-Some.ensures.value) i;
+        links = (c.self.inside.out.capacity, c.self.inside.into.capacity);
       }) ∙ ap (λ (s : Seen g.row.N.Denot g.row.E.Denot). record s { nodes = with_value s.nodes k w }) c.self.view_is),
       record { writes_back = tt; value = rw (← c.self.view_is) c.in-Some.ensures.value },
     )

@@ -10,24 +10,24 @@ inserts g c = rw (c.new-edge.ensures, c.inner.ensures, c.inner-2.ensures) at c.i
 
 pub put_last-requires-clause-free : goal.put_last-requires-clause-free
 put_last-requires-clause-free g c = let m = c.insert_reserved-key.ensures in let is = inserts g (goal.at.put_last-requires-clause-free g c).After-insert_reserved-key in
-    edge_free c.self.invariant.out is m.fresh m.valid.after m.valid.capacity m.within (rw (← c.self.view_is) at c.requires.from)
+    edge_free c.self.invariant.out is m.fresh m.valid.after m.bound m.within (rw (← c.self.view_is) at c.requires.from)
 
 pub put_last-requires-2-clause-free : goal.put_last-requires-2-clause-free
 put_last-requires-2-clause-free g c = let m = c.insert_reserved-key.ensures in let is = inserts g (goal.at.put_last-requires-2-clause-free g c).After-insert_reserved-key in
-    edge_free c.self.invariant.into is m.fresh m.valid.after m.valid.capacity m.within (rw (← c.self.view_is) at c.requires.to)
+    edge_free c.self.invariant.into is m.fresh m.valid.after m.bound m.within (rw (← c.self.view_is) at c.requires.to)
 
 pub invariant_of-self : goal.invariant_of-self
 invariant_of-self g c = let m = c.insert_reserved-key.ensures in let is = inserts g (goal.at.invariant_of-self g c).After-insert_reserved-key in record {
-  out = edge_threaded c.self.invariant.out is m.fresh m.valid.after m.valid.capacity m.within (rw (← c.self.view_is) at c.requires.from)
+  out = edge_threaded c.self.invariant.out is m.fresh m.valid.after m.bound m.within (rw (← c.self.view_is) at c.requires.from)
       c.put_last.ensures.list c.put_last.ensures.disjoint;
-  into = edge_threaded c.self.invariant.into is m.fresh m.valid.after m.valid.capacity m.within (rw (← c.self.view_is) at c.requires.to)
+  into = edge_threaded c.self.invariant.into is m.fresh m.valid.after m.bound m.within (rw (← c.self.view_is) at c.requires.to)
       c.put_last-2.ensures.list c.put_last-2.ensures.disjoint;
 }
 
 pub returns-clause-out : goal.returns-clause-out
 returns-clause-out g c = let m = c.insert_reserved-key.ensures in let is = inserts g (goal.at.returns-clause-out g c).After-insert_reserved-key in rw (← c.self.view_is)
-    (edge_seen c.self.invariant.out is m.fresh m.valid.after m.valid.capacity m.within (rw (← c.self.view_is) at c.requires.from) c.put_last.ensures.list)
+    (edge_seen c.self.invariant.out is m.fresh m.valid.after m.bound m.within (rw (← c.self.view_is) at c.requires.from) c.put_last.ensures.list)
 
 pub returns-clause-into : goal.returns-clause-into
 returns-clause-into g c = let m = c.insert_reserved-key.ensures in let is = inserts g (goal.at.returns-clause-into g c).After-insert_reserved-key in rw (← c.self.view_is)
-    (edge_seen c.self.invariant.into is m.fresh m.valid.after m.valid.capacity m.within (rw (← c.self.view_is) at c.requires.to) c.put_last-2.ensures.list)
+    (edge_seen c.self.invariant.into is m.fresh m.valid.after m.bound m.within (rw (← c.self.view_is) at c.requires.to) c.put_last-2.ensures.list)

@@ -19,9 +19,9 @@ take_out-requires-2-clause-node g c = rw c.ends-from.ensures (owner_within c.sel
 
 pub invariant_of-self-2 : goal.invariant_of-self-2
 invariant_of-self-2 g c = record {
-  out = left_threaded c.self.invariant.out c.args.edge (sym c.in_ok-removed.ensures.value) c.remove.new.self c.remove.ensures.live c.remove.ensures.valid.capacity
+  out = left_threaded c.self.invariant.out c.args.edge (sym c.in_ok-removed.ensures.value) c.remove.new.self c.remove.ensures.live c.remove.ensures.bound
       (rw c.ends-from.ensures at c.take_out.ensures.list) c.take_out.ensures.disjoint;
-  into = left_threaded c.self.invariant.into c.args.edge (sym c.in_ok-removed.ensures.value) c.remove.new.self c.remove.ensures.live c.remove.ensures.valid.capacity
+  into = left_threaded c.self.invariant.into c.args.edge (sym c.in_ok-removed.ensures.value) c.remove.new.self c.remove.ensures.live c.remove.ensures.bound
       (rw c.ends-from.ensures at c.take_out-2.ensures.list) c.take_out-2.ensures.disjoint;
 }
 
@@ -37,10 +37,10 @@ returns-clause-gone g c = rw (← c.self.view_is) (spent_removes _ _ true c.remo
 
 pub returns-clause-out : goal.returns-clause-out
 returns-clause-out g c = rw (← c.self.view_is)
-    (left_seen c.self.invariant.out c.args.edge (sym c.in_ok-removed.ensures.value) c.remove.new.self c.remove.ensures.live c.remove.ensures.valid.capacity
+    (left_seen c.self.invariant.out c.args.edge (sym c.in_ok-removed.ensures.value) c.remove.new.self c.remove.ensures.live c.remove.ensures.bound
     (rw c.ends-from.ensures at c.take_out.ensures.list))
 
 pub returns-clause-into : goal.returns-clause-into
 returns-clause-into g c = rw (← c.self.view_is)
-    (left_seen c.self.invariant.into c.args.edge (sym c.in_ok-removed.ensures.value) c.remove.new.self c.remove.ensures.live c.remove.ensures.valid.capacity
+    (left_seen c.self.invariant.into c.args.edge (sym c.in_ok-removed.ensures.value) c.remove.new.self c.remove.ensures.live c.remove.ensures.bound
     (rw c.ends-from.ensures at c.take_out-2.ensures.list))

@@ -1,5 +1,6 @@
 use Rattle.slotmap_graph.proofs.Common.{filter, Key, Leaves, edges_at}
 use Rattle.std.proofs.Common.{◌≡◌}
+use Rattle.slotmap_bounded.specs.Bounded.{space}
 use Rattle.slotmap_graph.proofs.Thinned.{Thinned}
 use Rattle.std.specs.FinMap as map
 use Rattle.slotmap_graph.proofs.Graph.remove_edges_of.Given as goal
@@ -8,7 +9,8 @@ abbrev pub invariant-loop-edge : goal.invariant-loop-edge
 invariant-loop-edge g l = record {
   thinned : Thinned (g.K.Key.data_of l.node) l.fn.self.edges l.self.edges;
   leaves : Leaves l.fn.self.edges l.self.edges;
-  capacity : l.self.edges.capacity ≡ l.fn.self.edges.capacity;
+  capacity : space l.self.edges ≡ space l.fn.self.edges;
+  links : l.self.links ≡ l.fn.self.links;
   nodes : l.self.nodes ≡ l.fn.self.nodes;
   out : (k : Key) → filter (map.contains_key l.self.edges.live) (edges_at l.fn.self.out k) ≡ filter (map.contains_key l.self.edges.live) (edges_at l.self.out k);
   into : (k : Key) → filter (map.contains_key l.self.edges.live) (edges_at l.fn.self.into k) ≡ filter (map.contains_key l.self.edges.live) (edges_at l.self.into k);

@@ -2,6 +2,7 @@ use Rattle.slotmap_graph.proofs.Common.{◌∙◌, true, sym, ap, arith, is_some
 use Rattle.slotmap_graph.proofs.GraphSteps.{ends_apart, gone_seen, gone_threaded, gone_untouched, node_leaves}
 use Rattle.slotmap_graph.proofs.Thinned.{none_left, thin_end, thinned_end, thinned_spent, thinned_start}
 use Rattle.std.specs.FinMap as map
+use Rattle.slotmap_bounded.specs.Bounded.{space}
 use Rattle.slotmap_graph.proofs.Graph.remove_node.Goals as goal
 
 -- the node isn't there
@@ -36,8 +37,8 @@ invariant_of-self g c =
     let node = g.K.Key.data_of c.args.node in
     let untouched = none_left node c.args.self.now.edges.live c.self.inside.edges.live (λ k. ap (λ s. map.get s.edges.live k) c.self.view_is ∙ c.remove_edges_of.ensures.edges k) in
     record {
-      out = gone_threaded c.self.invariant.out node c.remove.new.self c.remove.ensures.live c.remove.ensures.valid.capacity (λ x e there. (ends_apart node e (untouched x e there)).0);
-      into = gone_threaded c.self.invariant.into node c.remove.new.self c.remove.ensures.live c.remove.ensures.valid.capacity (λ x e there. (ends_apart node e (untouched x e there)).1);
+      out = gone_threaded c.self.invariant.out node c.remove.new.self c.remove.ensures.live c.remove.ensures.bound (λ x e there. (ends_apart node e (untouched x e there)).0);
+      into = gone_threaded c.self.invariant.into node c.remove.new.self c.remove.ensures.live c.remove.ensures.bound (λ x e there. (ends_apart node e (untouched x e there)).1);
     }
 
 pub returns : goal.returns
@@ -57,16 +58,17 @@ returns g c =
       unchanged = rw (← same) gone.unchanged;
       for_good = remove_spent _ _ true gone.valid _ _ gone.value gone.removes;
       leaves = rw (← same) (node_leaves _ _ true gone.valid.before _ _ gone.value gone.removes gone.unchanged);
-      capacity = gone.valid.capacity ∙ ap (λ n. n.capacity) same;
+      capacity = (λ i. (gone.bound i, gone.valid.capacity i)) ∙ ap space same;
       gone = rw (← same) (spent_remove _ _ true gone.valid _ _ gone.value gone.removes gone.unchanged);
       edges = edges;
       edges_for_good = rw same_edges left.for_good;
       edges_leave = rw same_edges left.leaves;
-      edges_capacity = ap (λ s. s.edges.capacity) c.self.view_is ∙ left.capacity;
+      edges_capacity = ap (λ s. space s.edges) c.self.view_is ∙ left.capacity;
+      links = ap (λ s. s.links) c.self.view_is ∙ left.links;
       edges_gone = rw same_edges left.gone;
-      out = λ k. gone_seen c.self.invariant.out node c.remove.new.self gone.live gone.valid.capacity (λ x e there. (ends_apart node e (untouched x e there)).0) k
+      out = λ k. gone_seen c.self.invariant.out node c.remove.new.self gone.live gone.bound (λ x e there. (ends_apart node e (untouched x e there)).0) k
           ∙ ap (λ s. edges_at s.out k) c.self.view_is ∙ left.out k ∙ ap (λ s. filter (map.contains_key s.edges.live) (edges_at c.args.self.now.out k)) (sym c.self.view_is);
-      into = λ k. gone_seen c.self.invariant.into node c.remove.new.self gone.live gone.valid.capacity (λ x e there. (ends_apart node e (untouched x e there)).1) k
+      into = λ k. gone_seen c.self.invariant.into node c.remove.new.self gone.live gone.bound (λ x e there. (ends_apart node e (untouched x e there)).1) k
           ∙ ap (λ s. edges_at s.into k) c.self.view_is ∙ left.into k ∙ ap (λ s. filter (map.contains_key s.edges.live) (edges_at c.args.self.now.into k)) (sym c.self.view_is);
       stale = (let there = ap is_some found ∙ sym c.contains_node.ensures ∙ c.if-not-contains_node.false in grind (arith, there));
     }

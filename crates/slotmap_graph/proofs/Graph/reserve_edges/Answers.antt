@@ -1,4 +1,5 @@
 use Rattle.slotmap_graph.proofs.Common.{refl, arith}
+use Rattle.slotmap_bounded.proofs.Bounds.{bound_grows}
 use Rattle.slotmap_graph.proofs.GraphSteps.{covered_seen, grown, grown_seen}
 use Rattle.slotmap_graph.proofs.Graph.reserve_edges.Goals as goal
 
@@ -11,15 +12,15 @@ returns-in_err-cover_both-clause-into g c = rw (← c.self.view_is) (covered_see
 pub invariant_of-self-2 : goal.invariant_of-self-2
 invariant_of-self-2 g c = let m = c.reserve.ensures.makes_room in let was = c.in_ok-edge.ensures.value in record {
   out = (let cover = c.in_ok-cover_both.ensures.out_covers in
-      grown c.self.invariant.out c.self.inside.nodes c.reserve.new.self refl m.keeps.live (omega arith) m.capacity c.cover_both.ensures.out (omega (arith, cover.0)) (omega (arith, cover.1)));
+      grown c.self.invariant.out c.self.inside.nodes c.reserve.new.self refl m.keeps.live (omega arith) (bound_grows m.keeps) c.cover_both.ensures.out (omega (arith, cover.0)) (omega (arith, cover.1)));
   into = (let cover = c.in_ok-cover_both.ensures.into_covers in
-      grown c.self.invariant.into c.self.inside.nodes c.reserve.new.self refl m.keeps.live (omega arith) m.capacity c.cover_both.ensures.into (omega (arith, cover.0)) (omega (arith, cover.1)));
+      grown c.self.invariant.into c.self.inside.nodes c.reserve.new.self refl m.keeps.live (omega arith) (bound_grows m.keeps) c.cover_both.ensures.into (omega (arith, cover.0)) (omega (arith, cover.1)));
 }
 
 pub returns-clause-out : goal.returns-clause-out
 returns-clause-out g c = let m = c.reserve.ensures.makes_room in
-    rw (← c.self.view_is) (grown_seen c.self.invariant.out c.self.inside.nodes c.reserve.new.self refl m.keeps.live (omega arith) m.capacity c.cover_both.ensures.out)
+    rw (← c.self.view_is) (grown_seen c.self.invariant.out c.self.inside.nodes c.reserve.new.self refl m.keeps.live (omega arith) (bound_grows m.keeps) c.cover_both.ensures.out)
 
 pub returns-clause-into : goal.returns-clause-into
 returns-clause-into g c = let m = c.reserve.ensures.makes_room in
-    rw (← c.self.view_is) (grown_seen c.self.invariant.into c.self.inside.nodes c.reserve.new.self refl m.keeps.live (omega arith) m.capacity c.cover_both.ensures.into)
+    rw (← c.self.view_is) (grown_seen c.self.invariant.into c.self.inside.nodes c.reserve.new.self refl m.keeps.live (omega arith) (bound_grows m.keeps) c.cover_both.ensures.into)

@@ -1,4 +1,4 @@
-use Rattle.slotmap_list.proofs.Common.{[], length, ap, ◌∙◌, arith, rules, leaves_in_turn, Content, Inserts}
+use Rattle.slotmap_list.proofs.Common.{[], length, ap, ◌∙◌, arith, rules, leaves_in_turn, memory, Inserts}
 use Rattle.std.proofs.Common.{◌≡◌, ◌<◌, ◌++◌, ◌∷◌}
 use Rattle.slotmap_list.proofs.Adding.{ok_so, moving_start, moving_step}
 use Rattle.slotmap_list.proofs.Results.{on_ok}
@@ -8,7 +8,7 @@ use Rattle.slotmap_list.proofs.StableList.append.Goals as goal
 pub loop-value-init : goal.loop-value-init
 loop-value-init g c = let made = c.in_ok-reserve.ensures in let room = made.room in let long = c.len.ensures.value in
     moving_start _ _ _ made.elements (omega arith) made.keeps c.reserve.ensures.makes_room.capacity made.gone
-    (λ fits. ap (λ (n : Content (Unit {0})). n.capacity) (c.reserve.ensures.makes_room.had_room (omega arith)))
+    (λ fits. ap memory (c.reserve.ensures.in_place (omega arith)))
 
 pub loop-value-preserved : goal.loop-value-preserved
 loop-value-preserved g c =

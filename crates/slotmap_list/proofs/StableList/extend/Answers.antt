@@ -1,4 +1,4 @@
-use Rattle.slotmap_list.proofs.Common.{is_err, [], length, length-append, ap, sym, subst, ◌∙◌, arith, rules, KeepsSpent, used, vacant_less, Adds, refused}
+use Rattle.slotmap_list.proofs.Common.{is_err, [], length, length-append, ap, sym, subst, ◌∙◌, arith, rules, KeepsSpent, memory, used, vacant_less, Adds, refused}
 use Rattle.std.proofs.Common.{◌≡◌, ◌≤◌, ◌+◌, ◌∷◌}
 use Rattle.slotmap_list.proofs.Adding.{Adds-push, no_room, refused_is, full_after, used_kept}
 use Rattle.std.specs.FinMap as map
@@ -17,7 +17,7 @@ loop-value-preserved g c =
     let vacant : map.len c.args.self.now.cursors.next + length c.args.self.now.elements ≤ map.len c.push_back.new.self.cursors.next + length c.push_back.new.self.elements =
     omega (arith, long, at.invariant.2.vacant, vacant_less at.self.cursors c.push_back.new.self.cursors (g.K.Key.data_of c.in_default.field-0) tt c.in_default.ensures.cursors) in
     let in_place : length c.push_back.new.self.elements ≤ c.args.self.now.cursors.room + length c.args.self.now.elements
-    → c.push_back.new.self.cursors.capacity ≡ c.args.self.now.cursors.capacity = λ fits.
+    → memory c.push_back.new.self ≡ memory c.args.self.now = λ fits.
     c.push_back.ensures.in_place (omega (arith, long, at.invariant.2.room)) ∙ at.invariant.2.in_place (omega (arith, long)) in
     let capacity : c.args.self.now.cursors.capacity ≤ c.push_back.new.self.cursors.capacity = omega (arith, c.push_back.ensures.capacity, at.invariant.2.capacity) in
     let gone : KeepsSpent c.args.self.now.cursors c.push_back.new.self.cursors = λ k spent. c.push_back.ensures.gone k (at.invariant.2.gone k spent) in

@@ -1,4 +1,4 @@
-use Rattle.slotmap_list.proofs.Common.{length, KeepsSpent, used, Adds}
+use Rattle.slotmap_list.proofs.Common.{length, KeepsSpent, memory, used, Adds}
 use Rattle.std.proofs.Common.{◌≡◌, ◌≤◌, ◌+◌}
 use Rattle.std.specs.FinMap as map
 use Rattle.slotmap_list.proofs.StableList.extend.Given as goal
@@ -9,7 +9,7 @@ invariant-loop-value g l = (goal.iterator-loop-value g).can_next l.value-iterato
   used : used l.self.cursors + length l.fn.self.elements ≡ used l.fn.self.cursors + length l.self.elements;
   room : l.fn.self.cursors.room + length l.fn.self.elements ≤ l.self.cursors.room + length l.self.elements;
   vacant : map.len l.fn.self.cursors.next + length l.fn.self.elements ≤ map.len l.self.cursors.next + length l.self.elements;
-  in_place : length l.self.elements ≤ l.fn.self.cursors.room + length l.fn.self.elements → l.self.cursors.capacity ≡ l.fn.self.cursors.capacity;
+  in_place : length l.self.elements ≤ l.fn.self.cursors.room + length l.fn.self.elements → memory l.self ≡ memory l.fn.self;
   capacity : l.fn.self.cursors.capacity ≤ l.self.cursors.capacity;
   gone : KeepsSpent l.fn.self.cursors l.self.cursors;
 }

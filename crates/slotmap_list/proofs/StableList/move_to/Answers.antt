@@ -15,8 +15,8 @@ made g c = moves c.self.invariant (g.K.Key.data_of c.args.cursor) c.args.place (
 
 pub returns-then-not-can_move-clause-moved : goal.returns-then-not-can_move-clause-moved
 returns-then-not-can_move-clause-moved g c =
-    seen_as c.args.self.now c.args.self.now.elements _ c.args.self.now.cursors
-    (move_stays c.args.place (g.K.Key.data_of c.args.cursor) c.args.self.now.elements (sym c.can_move.ensures ∙ c.if-not-can_move.true)) refl
+    seen_as c.args.self.now c.args.self.now.elements _ c.args.self.now.cursors c.args.self.now.links
+    (move_stays c.args.place (g.K.Key.data_of c.args.cursor) c.args.self.now.elements (sym c.can_move.ensures ∙ c.if-not-can_move.true)) refl refl
 
 pub take_out-requires-clause-member : goal.take_out-requires-clause-member
 take_out-requires-clause-member g c = let at = (goal.at.take_out-requires-clause-member g c).After-idx-index in rw (index g at) (made g at).member
@@ -34,8 +34,8 @@ pub returns-clause-moved : goal.returns-clause-moved
 returns-clause-moved g c =
     let at = (goal.at.returns-clause-moved g c).After-idx-index in
     rw (c.put_index.ensures, c.take_out.ensures, index g at)
-    (seen_as c.args.self.now _ _ _ ((made g at).elements ∙ ap (λ (s : Sequence g.row.T.Denot). moved_to c.args.place (g.K.Key.data_of c.args.cursor) s.elements) c.self.view_is)
-    (ap (λ (s : Sequence g.row.T.Denot). s.cursors) c.self.view_is))
+    (seen_as c.args.self.now _ _ _ _ ((made g at).elements ∙ ap (λ (s : Sequence g.row.T.Denot). moved_to c.args.place (g.K.Key.data_of c.args.cursor) s.elements) c.self.view_is)
+    (ap (λ (s : Sequence g.row.T.Denot). s.cursors) c.self.view_is) (ap (λ (s : Sequence g.row.T.Denot). s.links) c.self.view_is))
 
 pub returns-clause-values : goal.returns-clause-values
 returns-clause-values g c q = let at = (goal.at.returns-clause-values g c).After-idx-index in

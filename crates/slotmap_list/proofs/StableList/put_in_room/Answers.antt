@@ -1,4 +1,4 @@
-use Rattle.slotmap_list.proofs.Common.{◌∙◌, alone_spent, inserted_len, inserted_not_spent, keeps_spent_alone, spent_inserts, alone-inserts, used_alone, list_of, elements_at, Sequence, is_place}
+use Rattle.slotmap_list.proofs.Common.{◌∙◌, alone_spent, inserted_len, inserted_not_spent, keeps_spent_alone, spent_inserts, alone-inserts, alone-space, Lists, used_alone, list_of, elements_at, Sequence, is_place}
 use Rattle.slotmap_list.proofs.Common.{true, refl, ap, arith, rules, Key}
 use Rattle.std.proofs.Common.{◌≡◌}
 use Rattle.slotmap_list.proofs.Keeps.{free_one, kept_put, none_yet, elements_put}
@@ -15,7 +15,7 @@ index g c = c.idx.ensures.value ∙ ap (λ (k : Key). k.index) c.data.ensures.va
 
 pub put_index-requires-clause-free : goal.put_index-requires-clause-free
 put_index-requires-clause-free g c = let made = c.insert_reserved-key.ensures in let covered = c.self.invariant.covered in
-    rw (index g c) (free_one c.self.inside.links _ c.self.invariant.owner (omega (arith, made.within, made.valid.capacity))
+    rw (index g c) (free_one c.self.inside.links _ c.self.invariant.owner (omega (arith, made.within, made.bound))
     (none_yet c.self.invariant c.insert_reserved-key.new.self _ c.args.value made.inserts made.fresh made.valid.after c.args.place (can g c)))
 
 pub put_index-requires-clause-place : goal.put_index-requires-clause-place
@@ -24,7 +24,7 @@ put_index-requires-clause-place g c = place_there c.self.inside.values.live c.ar
 pub invariant_of-self : goal.invariant_of-self
 invariant_of-self g c = let at = (goal.at.invariant_of-self g c).After-idx in let made = c.insert_reserved-key.ensures in let covered = c.self.invariant.covered in
     rw (c.put_index.ensures, index g at) (kept_put c.self.invariant c.insert_reserved-key.new.self _ c.args.value made.inserts made.fresh made.valid.after c.args.place (can g at)
-    (omega (arith, made.within, made.valid.capacity)) made.valid.capacity)
+    (omega (arith, made.within, made.bound)) made.bound)
 
 pub returns : goal.returns
 returns g c = record {
@@ -36,6 +36,7 @@ returns g c = record {
   cursors = rw (← c.self.view_is) (alone-inserts _ _ _ _ c.insert_reserved-key.ensures.inserts);
   used = (let made = c.insert_reserved-key.ensures in rw (← c.self.view_is, used_alone c.self.inside.values, used_alone c.insert_reserved-key.new.self)
       (omega (arith, inserted_len true _ _ c.args.value _ made.valid.before made.inserts, ap set.len made.inserts.detached, ap set.len made.inserts.retired)));
-  capacity = search rules;
+  capacity = rw (← c.self.view_is)
+      (λ i. (alone-space _ _ c.insert_reserved-key.ensures.bound c.insert_reserved-key.ensures.valid.capacity i, ap (λ (s : Lists). s.capacity) c.put_index.ensures i));
   gone = rw (← c.self.view_is) (keeps_spent_alone _ _ (spent_inserts _ _ true c.insert_reserved-key.ensures.valid.before _ _ c.insert_reserved-key.ensures.inserts));
 }

@@ -1,4 +1,4 @@
-use Rattle.slotmap_list.proofs.Common.{true, Some, is_some, ◌∙◌, rules, keeps_spent_alone, leaves_by_removal, leaves_none, removed_spent, spent_alone, spent_removes, alone-leaves, alone-removes}
+use Rattle.slotmap_list.proofs.Common.{true, Some, is_some, ◌∙◌, rules, keeps_spent_alone, leaves_by_removal, leaves_none, removed_spent, spent_alone, spent_removes, alone-leaves, alone-removes, alone-space, Lists}
 use Rattle.slotmap_list.proofs.Common.{sym, ap}
 use Rattle.std.proofs.Common.{◌≡◌}
 use Rattle.slotmap_list.proofs.Keeps.{elements_taken, get-remove_here, kept_taken}
@@ -32,7 +32,7 @@ take_out-requires-clause-member g c =
 pub invariant_of-self-2 : goal.invariant_of-self-2
 invariant_of-self-2 g c =
     rw (c.take_out.ensures, c.idx.ensures.value, c.data.ensures.value) (kept_taken c.self.invariant (g.K.Key.data_of c.args.cursor) c.in_ok-value.value
-    (found g (goal.at.invariant_of-self-2 g c).After-idx) c.remove.new.self c.in_ok-value.ensures.removes c.remove.ensures.valid.capacity)
+    (found g (goal.at.invariant_of-self-2 g c).After-idx) c.remove.new.self c.in_ok-value.ensures.removes c.remove.ensures.bound)
 
 pub returns : goal.returns
 returns g c =
@@ -49,7 +49,7 @@ returns g c =
       for_good = spent_alone _ k (removed_spent _ _ true before _ live removes);
       gone = rw (← c.self.view_is) (keeps_spent_alone _ _ (spent_removes _ _ true before _ live removes));
       leaves = rw (← c.self.view_is) (alone-leaves _ _ (leaves_by_removal true _ before _ live _ removes));
-      capacity = search rules;
+      capacity = rw (← c.self.view_is) (λ i. (alone-space _ _ c.remove.ensures.bound c.remove.ensures.valid.capacity i, ap (λ (s : Lists). s.capacity) c.take_out.ensures i));
       stale = search rules;
     }
 

@@ -1,5 +1,6 @@
 use Rattle.slotmap_list.proofs.Common.{false, true, refl, sym, ap, subst, ◌∙◌, arith, rules, MakesRoom, RefusesCapacity, used, alone-room, used_alone, Sequence}
 use Rattle.std.proofs.Common.{◌≡◌, ◌+◌}
+use Rattle.slotmap_bounded.specs.Bounded.{bound}
 use Rattle.slotmap_list.proofs.Keeps.{kept_alike}
 use Rattle.slotmap_list.proofs.Results.{no_room_made, not_both, on_ok}
 use Rattle.slotmap_list.proofs.StableList.reserve.Goals.{Then-is_err}
@@ -11,7 +12,7 @@ stuck : (g : _) (c : Then-is_err g) → MakesRoom true c.self.inside.values c.ar
 stuck g c =
     let covered = c.self.invariant.covered in
     no_room_made c.self.inside.values c.args.additional (false ≡ true) c.capacity_for.ensures.valid (λ ok. (cc)) (λ fits. absurd (
-    let same : c.in_ok-capacity.capacity ≡ c.self.inside.values.capacity = (let is = sym c.in_ok-capacity.was ∙ c.capacity_for.ensures.had_room fits in cc) in
+    let same : c.in_ok-capacity.capacity ≡ bound c.self.inside.values = (let is = sym c.in_ok-capacity.was ∙ c.capacity_for.ensures.had_room fits in cc) in
     not_both c.cover.result (c.cover.ensures.had_room (omega arith)) (search rules)))
 
 pub returns-in_err-capacity-clause-makes_room : goal.returns-in_err-capacity-clause-makes_room
@@ -36,7 +37,7 @@ returns-then-is_err-clause-err g c = let many = used_alone c.self.inside.values 
     let value = c.in_ok-capacity.ensures.value in let limit = c.in_ok-capacity.ensures.limit in let fits = c.capacity_for.ensures.valid.room_fits in grind arith
 
 pub invariant_of-self-2 : goal.invariant_of-self-2
-invariant_of-self-2 g c = let long = on_ok c.cover.result c.cover.ensures.covers c.if-is_err.ensures.negation in let value = c.in_ok-capacity.ensures.value in let made = c.reserve.ensures.capacity in
+invariant_of-self-2 g c = let long = on_ok c.cover.result c.cover.ensures.covers c.if-is_err.ensures.negation in let value = c.in_ok-capacity.ensures.value in let made = c.reserve.ensures.within in
     kept_alike c.self.invariant c.reserve.new.self (λ q. ap (λ m. map.contains_key m q) c.reserve.ensures.makes_room.keeps.live) c.cover.new.links
     c.cover.ensures.lists c.cover.ensures.more (omega arith)
 

@@ -10,7 +10,7 @@ loop-init c =
     record {
       elements = rw c.clear.ensures.empty refl;
       room = omega arith;
-      capacity = c.clear.ensures.capacity;
+      memory_is = c.clear.ensures.capacity;
       within = omega arith;
       count = c.len-count.ensures.value;
     }
@@ -24,7 +24,7 @@ loop-preserved c =
     record {
       elements = omega (arith, pushed.0, i.elements);
       room = omega (arith, pushed.1, i.room);
-      capacity = c.push_back.ensures.in_place room ∙ i.capacity;
+      memory_is = c.push_back.ensures.in_place room ∙ i.memory_is;
       within = omega arith;
       count = i.count;
     }

@@ -1,13 +1,13 @@
 use Rattle.slotmap_scene.proofs.Common.{List, [], ap, arith, length, length-replicate, list_cleared, list_of, ℕ, ◌∙◌}
-use Rattle.slotmap_scene.proofs.SceneSteps.{bare_kept, bare_seen, family_leaves, family_valid}
+use Rattle.slotmap_scene.proofs.SceneSteps.{bare_kept, bare_seen, family_leaves, family_space, family_valid}
 use Rattle.slotmap_scene.proofs.family.Nodes.clear.Goals as goal
 
 pub invariant_of-self : goal.invariant_of-self
 invariant_of-self g c =
     let lists = c.self.inside.children.lists in
     bare_kept c.clear.new.self c.clear.ensures.empty c.self.inside.parents.items c.clear-2.new.self
-    (λ p. ap (λ l. list_of l p) c.clear-2.ensures ∙ list_cleared (length lists) c.self.inside.children.members p)
-    (grind (arith, c.self.invariant.covered, c.clear.ensures.valid.capacity, c.clear-2.ensures, length-replicate {A = List ℕ} (length lists) []))
+    (λ p. ap (λ l. list_of l p) c.clear-2.ensures ∙ list_cleared c.self.inside.children p)
+    (grind (arith, c.self.invariant.covered, c.clear.ensures.bound, c.clear-2.ensures, length-replicate {A = List ℕ} (length lists) []))
 
 pub returns : goal.returns
 returns g c =
@@ -16,5 +16,5 @@ returns g c =
       empty = bare_seen c.clear.new.self c.clear.ensures.empty at.parents.items c.clear-2.new.self;
       leaves = family_leaves at.values at.parents.items at.children c.clear.new.self at.parents.items c.clear-2.new.self c.clear.ensures.leaves;
       valid = family_valid at.values at.parents.items at.children c.clear.ensures.valid.before;
-      capacity = c.clear.ensures.valid.capacity;
+      capacity = family_space at.values at.parents.items at.children c.clear.new.self at.parents.items c.clear-2.new.self c.clear.ensures.bound c.clear.ensures.valid.capacity;
     })

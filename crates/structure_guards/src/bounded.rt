@@ -1,0 +1,32 @@
+//! Bounded maps: which calls ask for no memory.
+
+ghost use Rattle.std.specs.Prelude.{◌≡◌, ◌<◌};
+ghost use Rattle.slotmap_bounded.specs.Bounded.{space};
+
+use slotmap::Key;
+use slotmap_bounded::BoundedMap;
+
+/// A value is inserted without memory, and the bound stays.
+/// Refuses `insert_asks_for_memory`: `bound` and `valid` of `insert_reserved`.
+pub fn insert_reserved_needs_no_memory<K: Key, V: Drop>(map: &mut BoundedMap<K, V>, value: V) -> K
+    requires { 0 < map.old.room }
+    ensures { space map.new ≡ space map.old }
+{
+    map.insert_reserved(value)
+}
+
+/// A key is removed without memory, and the bound stays.
+/// Refuses `remove_asks_for_memory`: `bound` and `valid` of `remove`.
+pub fn remove_needs_no_memory<K: Key, V: Drop>(map: &mut BoundedMap<K, V>, key: K) -> Option<V>
+    ensures { space map.new ≡ space map.old }
+{
+    map.remove(key)
+}
+
+/// All keys are removed without memory, and the bound stays.
+/// Holds by `bound` and `valid` of `clear`.
+pub fn clear_needs_no_memory<K: Key, V: Drop>(map: &mut BoundedMap<K, V>)
+    ensures { space map.new ≡ space map.old }
+{
+    map.clear();
+}
