@@ -446,6 +446,66 @@ def routes_part(size):
     tell("by odd costs", distances([[(to, cost) for to, cost in ends if cost % 2] for ends in roads]))
 
 
+def left_below(ends, start, found):
+    """The nodes below one that weren't found yet, each behind those that it leads to."""
+    found.add(start)
+    opened, left = [(start, iter(ends[start]))], []
+    while opened:
+        node, rest = opened[-1]
+        to = next((to for to in rest if to not in found), None)
+        if to is None:
+            left.append(opened.pop()[0])
+        else:
+            found.add(to)
+            opened.append((to, iter(ends[to])))
+    return left
+
+
+def leasts_of_circles(ends):
+    """For each node the least one that leads to it and that it leads to, by Tarjan's way."""
+    index, low, least, waiting = {}, {}, {}, []
+    for start in range(len(ends)):
+        if start in index:
+            continue
+        index[start] = low[start] = len(index)
+        waiting.append(start)
+        opened = [(start, iter(ends[start]))]
+        while opened:
+            node, rest = opened[-1]
+            for to in rest:
+                if to not in index:
+                    index[to] = low[to] = len(index)
+                    waiting.append(to)
+                    opened.append((to, iter(ends[to])))
+                    break
+                if to not in least:
+                    low[node] = min(low[node], index[to])
+            else:
+                opened.pop()
+                if opened:
+                    low[opened[-1][0]] = min(low[opened[-1][0]], low[node])
+                if low[node] == index[node]:
+                    circle = waiting[waiting.index(node) :]
+                    del waiting[-len(circle) :]
+                    least.update(dict.fromkeys(circle, min(circle)))
+    return least
+
+
+def searches_part(size):
+    print(" searches")
+    random = Random(8)
+    nodes, ends = range(size), [[] for _ in range(size)]
+    for _ in range(size * 3 // 2):
+        a, b = random.pick(nodes), random.pick(nodes)
+        ends[a].append(b)
+    found = set()
+    tell("left", [node for start in nodes if start not in found for node in left_below(ends, start, found)])
+    tell("left from the first", left_below(ends, 0, set()))
+    least = leasts_of_circles(ends)
+    tell("components", [least[node] for node in nodes])
+    tell("number", [len(set(least.values()))])
+
+
 def scene_part(size):
     print(" scene")
     wide_part(size)
@@ -634,5 +694,5 @@ def world_part(size):
 
 for word in sys.argv[1:]:
     print(f"{word} elements")
-    for part in list_part, graph_part, routes_part, scene_part, scheduler_part, world_part:
+    for part in list_part, graph_part, routes_part, searches_part, scene_part, scheduler_part, world_part:
         part(int(word))

@@ -30,8 +30,7 @@
 //!   the two capacities. So does printing a graph with `{:?}`.
 //!
 //! The calls that make a graph, reserve room, add or copy may fail for memory, and so may those that
-//! take an `alloc`. No clause says that the others ask for none: a capacity is a number that a graph
-//! counts.
+//! take an `alloc`. Those that add need none where there is room, and those that remove need none.
 //!
 //! ```
 //! let mut graph: Graph<NodeKey, &str, u64> = Graph::new(alloc)?;

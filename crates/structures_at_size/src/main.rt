@@ -1,4 +1,4 @@
-//! Runs each of the five structures and the search for shortest paths at the sizes that its arguments name. It prints counts and sums of
+//! Runs each of the five structures and the searches of a graph at the sizes that its arguments name. It prints counts and sums of
 //! what they return.
 //!
 //! What it has to print is in the file `stdout`, which `expected.py` writes from a model of its own in plain Python. So a call that
@@ -16,6 +16,7 @@ mod rooms;
 mod routes;
 mod scenes;
 mod schedulers;
+mod searches;
 mod sums;
 mod worlds;
 
@@ -28,6 +29,7 @@ fn run_size(rt: &HostRuntime, size: u64) -> bool {
         && lists::run(rt, size)
         && graphs::run(rt, size)
         && routes::run(rt, size)
+        && searches::run(rt, size)
         && scenes::run(rt, size)
         && schedulers::run(rt, size)
         && worlds::run(rt, size)

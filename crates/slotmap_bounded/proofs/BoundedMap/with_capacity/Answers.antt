@@ -6,3 +6,6 @@ invariant_of-result g c = starts c.in_ok-map.map c.args.capacity c.in_ok-map.ens
 
 pub returns-clause-valid : goal.returns-clause-valid
 returns-clause-valid g c = bounded_valid (starts c.in_ok-map.map c.args.capacity c.in_ok-map.ensures.starts c.in_ok-map.ensures.valid c.in_ok-map.ensures.room)
+
+pub returns-clause-bound : goal.returns-clause-bound
+returns-clause-bound g c = (starts c.in_ok-map.map c.args.capacity c.in_ok-map.ensures.starts c.in_ok-map.ensures.valid c.in_ok-map.ensures.room).exact
