@@ -485,8 +485,9 @@ def leasts_of_circles(ends):
                 if opened:
                     low[opened[-1][0]] = min(low[opened[-1][0]], low[node])
                 if low[node] == index[node]:
-                    circle = waiting[waiting.index(node) :]
-                    del waiting[-len(circle) :]
+                    circle = [waiting.pop()]
+                    while circle[-1] != node:
+                        circle.append(waiting.pop())
                     least.update(dict.fromkeys(circle, min(circle)))
     return least
 
@@ -500,7 +501,7 @@ def searches_part(size):
         ends[a].append(b)
     found = set()
     tell("left", [node for start in nodes if start not in found for node in left_below(ends, start, found)])
-    tell("left from the first", left_below(ends, 0, set()))
+    tell("left from the last", left_below(ends, size - 1, set()))
     least = leasts_of_circles(ends)
     tell("components", [least[node] for node in nodes])
     tell("number", [len(set(least.values()))])

@@ -1,5 +1,5 @@
 -- An element that moves: which elements can, what the list is then, which value each cursor has, and which are at the ends.
-use Rattle.slotmap_list.proofs.Common.{◌∙◌, keys_total, exact_keys, same_or_other, is_itself, Sequence, value_of, key_after, key_before, moved_to_back, put_again, insert_beside, put_by_place}
+use Rattle.slotmap_list.proofs.Common.{◌∙◌, ℕ, keys_total, exact_keys, same_or_other, is_itself, Sequence, value_of, key_after, key_before, moved_to_back, put_again, insert_beside, put_by_place}
 use Rattle.slotmap_list.proofs.Common.{false, [], Option, is_some, arith, Content, itself, some_is, last_or, without, are_two, IsOnce, is_place, is_move, moved_to, Before, After, Place, Front, Beside}
 use Rattle.slotmap_list.proofs.Common.{Bool, true, cond, List, Some, None, inl, inr, refl, sym, ap, Key, tied, Back}
 use Rattle.std.proofs.Common.{◌≡◌, ◌≢◌, ◌∷◌, ◌++◌, if◌then◌else◌}

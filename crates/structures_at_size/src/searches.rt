@@ -1,6 +1,6 @@
 //! Depth first search, and components, of a graph of numbers.
 
-use crate::items::{first_of, keep};
+use crate::items::{keep, last_of};
 use crate::random::Random;
 use crate::sums::{Sum, tell};
 use slotmap::{NodeKey, SecondaryMap};
@@ -117,8 +117,8 @@ fn run_in(rt: &HostRuntime, graph: &mut Numbers, nodes: &mut Vec<NodeKey>, size:
         && tell_order(
             rt,
             graph,
-            post_order_from(rt.alloc(), graph, first_of(nodes.as_slice())),
-            "left from the first",
+            post_order_from(rt.alloc(), graph, last_of(nodes.as_slice())),
+            "left from the last",
         )
         && tell_components(rt, graph, nodes.as_slice())
 }

@@ -8,5 +8,8 @@ pub returns-clause-valid : goal.returns-clause-valid
 unfolding keys_of map_values
 returns-clause-valid g c = rw (← c.self.view_is) (content-mapped (λ _. tt) c.self.inside.values true c.capacity.ensures.valid)
 
+pub returns-clause-value : goal.returns-clause-value
+returns-clause-value g c = rw (← c.self.view_is) (c.capacity.ensures.exact ∙ sym (ap (λ n. n + c.self.inside.values.room) (used_alone c.self.inside.values)))
+
 pub returns-clause-exact : goal.returns-clause-exact
-returns-clause-exact g c = rw (← c.self.view_is) (c.capacity.ensures.exact ∙ sym (ap (λ n. n + c.self.inside.values.room) (used_alone c.self.inside.values)))
+returns-clause-exact g c = returns-clause-value g c

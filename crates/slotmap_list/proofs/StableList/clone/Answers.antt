@@ -5,7 +5,7 @@ use Rattle.slotmap_list.proofs.Keeps.{kept_cloned, elements_cloned, clones_are_s
 use Rattle.slotmap_list.proofs.StableList.clone.Goals as goal
 
 pub invariant_of-result : goal.invariant_of-result
-invariant_of-result g c = kept_cloned g.T.Clone.is_clone c.self.invariant c.in_ok-clone.ensures.clones c.in_ok-clone.ensures.bound c.in_ok-clone-2.links
+invariant_of-result g c = kept_cloned g.T.Clone.is_clone c.self.invariant c.in_ok-clone.ensures.clones c.in_ok-clone.ensures.bound c.in_ok-clone-2.field-0
     (ap (λ (s : Lists). s.lists) c.in_ok-clone-2.ensures) (ap (λ (s : Lists). s.members) c.in_ok-clone-2.ensures)
 
 pub returns-clause-clones : goal.returns-clause-clones
@@ -18,7 +18,7 @@ pub returns-clause-cursors : goal.returns-clause-cursors
 returns-clause-cursors g c = rw (← c.self.view_is) (alone-copy _ _ _ c.in_ok-clone.ensures.clones)
 
 pub returns-clause-capacity : goal.returns-clause-capacity
-returns-clause-capacity g c = rw (← c.self.view_is, used_alone c.self.inside.values, used_alone c.in_ok-clone.values) c.in_ok-clone.ensures.bound
+returns-clause-capacity g c = rw (← c.self.view_is, used_alone c.self.inside.values, used_alone c.in_ok-clone.field-0) c.in_ok-clone.ensures.bound
 
 pub returns-clause-room : goal.returns-clause-room
 returns-clause-room g c = rw (← c.self.view_is) c.in_ok-clone.ensures.room
