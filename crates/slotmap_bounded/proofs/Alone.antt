@@ -1,5 +1,5 @@
 -- A content without its values, which is one with the same value for each: what each change of a map does to it.
-use Rattle.std.proofs.Common.{◌≡◌, ℕ, true, Option, Some, None, is_some, refl, sym, ap, ◌∙◌, arith}
+use Rattle.std.proofs.Common.{◌≡◌, ◌≤◌, ℕ, true, Option, Some, None, is_some, refl, sym, ap, ◌∙◌, arith}
 use Rattle.slotmap.specs.Words.{Key, key_cmp, Content, IsLive, IsNew, Inserts, Removes, Keeps, Leaves, MakesRoom, IsCopy, IsCloneBy, without_values, with_value, used}
 use Rattle.slotmap.specs.KeysAlone.{keys_of}
 use Rattle.slotmap.proofs.Callers.{clone_copies, contains-keys_of, len-keys_of}
@@ -7,6 +7,11 @@ use Rattle.slotmap_bounded.specs.{Bounded.bound, Bounded.space, Mapped.map_value
 use Rattle.slotmap_bounded.proofs.Mapped.{mapped-new, mapped-inserts, mapped-removes, mapped-keeps, mapped-leaves, mapped-room, mapped-clones, mapped-written, get-mapped, len-mapped, some-mapped}
 use Rattle.slotmap_bounded.proofs.Mapped.{is_mapped}
 use Rattle.std.specs.FinMap as map
+use Rattle.std.specs.FinSet as set
+
+-- as many slots are used, and there is no less room
+pub bound_grows : {V : Type 0} {c new : Content V} → Keeps c new → bound c ≤ bound new
+bound_grows keeps = omega (arith, ap map.len keeps.live, ap set.len keeps.detached, ap set.len keeps.retired, keeps.room)
 
 same_units : (a b : Option (Unit {0})) → is_some a ≡ is_some b → a ≡ b
 same_units a b is = grind arith

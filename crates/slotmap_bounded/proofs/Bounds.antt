@@ -2,7 +2,7 @@
 use Rattle.std.proofs.Common.{◌≡◌, ℕ, ◌+◌, ◌-◌, ◌<◌, ◌≤◌, ◌∙◌, true, List, Some, cond, if◌then◌else◌, is_some, inl, refl, sym}
 use Rattle.std.proofs.Common.{ap, arith}
 use Rattle.std.specs.{Ordering.nat_cmp, Cmp.nat_cmp_total}
-use Rattle.slotmap.specs.Words.{Key, key_cmp, Content, IsContent, IsLive, IsNew, Inserts, Keeps, Removes, MakesRoom, StaysValid, IsCloneBy, is_last, used, with_value}
+use Rattle.slotmap.specs.Words.{Key, key_cmp, Content, IsContent, IsLive, IsNew, Inserts, Removes, MakesRoom, StaysValid, IsCloneBy, is_last, used, with_value}
 use Rattle.slotmap.proofs.Callers.{clone_len, inserted_len, get-insert_here, leaves_by_removal, len_removed, keys_total, exact_keys}
 use Rattle.slotmap_bounded.proofs.{Alone.alone-written, Alone.same_live, Shown.shown_content}
 use Rattle.slotmap_bounded.specs.Bounded.{IsBounded, bound, bounded}
@@ -90,10 +90,6 @@ module _ {V : Type 0} {c new : Content V} {room now capacity : ℕ} (was : IsBou
 
   pub bound_stays : bound (bounded new now) ≡ bound (bounded c room)
   bound_stays = is.exact ∙ sym was.exact
-
--- as many slots are used, and there is no less room
-pub bound_grows : {V : Type 0} {c new : Content V} → Keeps c new → bound c ≤ bound new
-bound_grows keeps = omega (arith, ap map.len keeps.live, ap set.len keeps.detached, ap set.len keeps.retired, keeps.room)
 
 -- nothing was inserted yet
 pub starts : {V : Type 0} (c : Content V) (room : ℕ) → IsNew c → IsContent true c → room ≤ c.room → IsBounded c room room

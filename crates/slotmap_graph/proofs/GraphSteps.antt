@@ -4,7 +4,7 @@ use Rattle.slotmap_graph.proofs.Common.{Option, MatchOption, option_map, with_va
 use Rattle.slotmap_graph.proofs.Common.{◌∙◌, ℕ, bound, disjoint_still, used-written, with_capacity, IsContent, IsBeside, IsCloneBy, IsCloneOf, is_itself, is_other, CoversMore, with_list, ListsEdges, PutsAlone, SameEdges, PutsBehind, IsThreaded}
 use Rattle.slotmap_graph.proofs.Common.{OnSome, IfSome, IfNone, length, key_cmp, Content, IsLive, Inserts, Removes, Leaves, list_of, IsFree, SeenEdge, IsJoined, edges_at, touches, IsGraph, by_node}
 use Rattle.slotmap_graph.proofs.Common.{Bool, true, false, Some, None, List, [], refl, sym, ap, subst, inl, inr, arith, Key, Pairs, keys, times, Lists, often, Edges, from, to, Seen}
-use Rattle.std.proofs.Common.{◌≡◌, ◌≢◌, ◌<◌, ◌≤◌, ◌⊎◌, ◌∷◌, ◌++◌}
+use Rattle.std.proofs.Common.{◌≡◌, ◌≢◌, ◌+◌, ◌<◌, ◌≤◌, ◌⊎◌, ◌∷◌, ◌++◌}
 use Rattle.slotmap_graph.proofs.Adjacent.{gone_apart, listed_edge, none_listed, nothing_listed}
 use Rattle.slotmap_graph.proofs.Threaded.{at_none, empty_at, lists, other_nodes, put_free, put_seen, put_threaded, same_seen, threaded_along}
 use Rattle.std.specs.FinMap as map

@@ -2,7 +2,7 @@
 use Rattle.slotmap_graph.proofs.Common.{after_inside, indices_still, keys_without, same_or_other, get-insert_here, get-insert_other, live-insert_still, without_number, option_and_then, eq-zero-or-pos}
 use Rattle.slotmap_graph.proofs.Common.{is_some, option_map, IsThreaded, key_at_live, keys_total, exact_keys, one_itself, map-append, AreDisjoint, number_after, pushed_here, pushed_still, HaveIndices}
 use Rattle.slotmap_graph.proofs.Common.{◌∙◌, ℕ, list_map, keys_same, times_key, list_any, is_itself, one_other, with_list, pushed_was, ListsEdges, key_after, PutsBehind, SameEdges, AreIndices}
-use Rattle.slotmap_graph.proofs.Common.{true, false, Option, length, subst, no_key, some_is, key_cmp, Content, IsLive, without, is_other, list_of, IsFree, SeenEdge, edges_at, ends_at, key_at, keys_at}
+use Rattle.slotmap_graph.proofs.Common.{true, false, bound, Option, length, subst, no_key, some_is, key_cmp, Content, IsLive, without, is_other, list_of, IsFree, SeenEdge, edges_at, ends_at, key_at, keys_at}
 use Rattle.slotmap_graph.proofs.Common.{cond, Some, None, List, [], refl, sym, ap, inl, inr, arith, Key, keys, tied, times, often, Lists, IsIn, Edges}
 use Rattle.std.proofs.Common.{◌≡◌, ◌≢◌, ◌⊎◌, ◌<◌, ◌∷◌, ◌++◌}
 use Rattle.std.specs.Ordering.{eq_by_cmp}

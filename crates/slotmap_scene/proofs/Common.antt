@@ -21,7 +21,7 @@ pub use Rattle.slotmap.proofs.Callers.{leaves_none, left_spent, len_removed, liv
 pub use Rattle.slotmap.specs.Words.{ClonesEqual, Content, Inserts, IsCloneBy, IsCloneOf, IsContent, IsLive, Keeps, KeepsSpent, Key, Leaves, MakesRoom, key_cmp, most, same_keys, used}
 pub use Rattle.slotmap_bounded.proofs.Indices.{back_has, back_key, by_live, first_index, first_key, found_has, found_live, found_same, found_zero, front_has, front_key, indices_inserted}
 pub use Rattle.slotmap_bounded.proofs.Indices.{indices_still, key_at_live, key_is, keys_same, keys_without, last_key, later_indices, no_key, same_at, some_is, times_key}
-pub use Rattle.slotmap_bounded.proofs.{Alone.used-written, Bounds.bound_grows}
+pub use Rattle.slotmap_bounded.proofs.Alone.{bound_grows, used-written}
 pub use Rattle.slotmap_bounded.specs.Bounded.{bound, bound_with, space}
 pub use Rattle.slotmap_bounded.specs.Indices.{AreIndices, HasKey, HaveIndices, found_at, key_at, keys_at}
 pub use Rattle.slotmap_bounded.proofs.Alone.{len_alike}

@@ -1,5 +1,5 @@
 use Rattle.slotmap_graph.proofs.Common.{refl, arith}
-use Rattle.slotmap_bounded.proofs.Bounds.{bound_grows}
+use Rattle.slotmap_bounded.proofs.Alone.{bound_grows}
 use Rattle.slotmap_graph.proofs.GraphSteps.{covered_seen, covered_threaded, grown, grown_seen}
 use Rattle.slotmap_graph.proofs.Graph.reserve_nodes.Goals as goal
 
