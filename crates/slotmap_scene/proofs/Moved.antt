@@ -93,6 +93,10 @@ leaves_filled {T} c (Some p) f = by (map.get c.live p) refl
     by None is = leaves_none c
     by (Some n) is = leaves_by_write c p (record n { children = f n.children }) (ap is_some is)
 
+-- and they take as much space
+pub filled_space : {T : Type 0} (c : Content (Node T)) (o : Option Key) (f : List Key → List Key) → space (record c { live = with_children_of c.live o f }) ≡ space c
+filled_space c o f = let same : bound (record c { live = with_children_of c.live o f }) ≡ bound c = omega (arith, (leaves_filled c o f).same_places) in λ i. (same i, c.capacity)
+
 -- the same keys are there, with other values
 pub spent_alike : {V : Type 0} (c : Content V) (m : map.FinMap key_cmp V) → ((q : Key) → map.contains_key m q ≡ map.contains_key c.live q) → KeepsSpent c (record c { live = m })
 spent_alike c m same = shown_spent c m same (len_alike m c.live same)

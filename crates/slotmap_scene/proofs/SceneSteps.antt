@@ -274,4 +274,5 @@ module _ {V : Type 0} {c : Content V} {parents : List ℕ} {children : Lists} (k
             (is, ap (λ (n : Node V). n.parent) same, ap (λ (n : Node V). n.children) same)
 
     pub copied_seen : (now : Lists) → now ≡ with_capacity children now.capacity → IsCloneBy (IsNodeClone is_clone) (family c parents children) (family copy parents now)
+    unfolding nodes_by
     copied_seen now is = subst (λ s. IsCloneBy (IsNodeClone is_clone) (family c parents children) (family copy parents s)) (sym is) copied_along

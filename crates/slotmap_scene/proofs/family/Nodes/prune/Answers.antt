@@ -1,5 +1,5 @@
 use Rattle.slotmap_scene.proofs.Common.{ap, children_in, children_of, is_some, leaves_in_turn, option_map, parent_in, parent_of, refl, rules, sym, times, times_gone, without, ◌∙◌}
-use Rattle.slotmap_scene.proofs.{Moved.leaves_filled, Moved.left_of, Removals.childless}
+use Rattle.slotmap_scene.proofs.{Moved.filled_space, Moved.leaves_filled, Moved.left_of, Removals.childless}
 use Rattle.slotmap_scene.proofs.family.Nodes.prune.Goals as goal
 
 pub remove-requires : goal.remove-requires
@@ -17,5 +17,5 @@ returns g c = record {
   value = sym (left_of c.requires.scene c.args.node (option_map (λ n. n.value)) (λ o. o) refl (λ n. refl) c.args.node) ∙ (rw c.leave.ensures at c.remove.ensures.value);
   leaves = leaves_in_turn _ _ _ (rw c.leave.ensures (leaves_filled c.args.self.now (parent_of c.args.self.now.live c.args.node) (without c.args.node))) c.remove.ensures.leaves;
   live = search rules;
-  capacity = search rules;
+  capacity = c.remove.ensures.capacity ∙ rw c.leave.ensures (filled_space c.args.self.now (parent_of c.args.self.now.live c.args.node) (without c.args.node));
 }

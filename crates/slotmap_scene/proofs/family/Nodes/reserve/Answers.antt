@@ -1,5 +1,5 @@
 use Rattle.std.proofs.Common.{◌≡◌}
-use Rattle.slotmap_scene.proofs.Common.{IsOk, arith, rules}
+use Rattle.slotmap_scene.proofs.Common.{IsOk, arith, bound, bound_grows, rules}
 use Rattle.slotmap_scene.proofs.Families.{covers_less, seen_len}
 use Rattle.slotmap_scene.proofs.SceneSteps.{covered_kept, covered_seen, err_fails, family_room, fits_most, grown_kept, grown_seen, unroomed}
 use Rattle.slotmap_scene.proofs.family.Nodes.reserve.Goals as goal
