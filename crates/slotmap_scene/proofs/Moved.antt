@@ -5,7 +5,7 @@ use Rattle.slotmap_scene.proofs.Common.{KeepsSpent, Key, Leaves, List, Node, Nod
 use Rattle.slotmap_scene.proofs.Common.{changed_here, changed_in, changed_keeps, changed_other, child, children_in, children_of, clone_live, cond, exact_keys, false, forgets, get-insert_here}
 use Rattle.slotmap_scene.proofs.Common.{get-insert_other, has_node, inl, inr, is_key, is_parent, is_some, key_cmp, keys_total, lacks_node, leaves_by_write, leaves_none, len_alike, none_of, one_itself}
 use Rattle.slotmap_scene.proofs.Common.{one_other, option_map, parent_in, parent_of, placed, put_in_place, refl, same, same_or_other, shown_spent, subst, sym, times, times_first, times_gone}
-use Rattle.slotmap_scene.proofs.Common.{times_pushed, times_without, true, value_of, with_children_of, with_parent, with_value, without, without_child, without_none, ◌∙◌}
+use Rattle.slotmap_scene.proofs.Common.{bound, space, times_pushed, times_without, true, value_of, with_children_of, with_parent, with_value, without, without_child, without_none, ◌∙◌}
 use Rattle.slotmap_scene.proofs.Climbs.{alone_within, parent_there, tree_moved, tree_same}
 use Rattle.std.specs.FinMap as map
 
