@@ -1,5 +1,5 @@
 -- A content with another room: what each call of the map does to it.
-use Rattle.std.proofs.Common.{◌≡◌, ℕ, ◌+◌, ◌-◌, ◌<◌, ◌≤◌, ◌∙◌, true, List, Some, cond, if◌then◌else◌, is_some, inl, refl, sym}
+use Rattle.std.proofs.Common.{◌≡◌, ℕ, ◌+◌, ◌-◌, ◌<◌, ◌≤◌, ◌∙◌, true, List, Some, cond, if◌then◌else◌, is_some, inl, sym}
 use Rattle.std.proofs.Common.{ap, arith}
 use Rattle.std.specs.{Ordering.nat_cmp, Cmp.nat_cmp_total}
 use Rattle.slotmap.specs.Words.{Key, key_cmp, Content, IsContent, IsLive, IsNew, Inserts, Removes, MakesRoom, StaysValid, IsCloneBy, is_last, used, with_value}

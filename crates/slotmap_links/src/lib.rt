@@ -93,7 +93,6 @@ impl Model for Links {
     ghost coded = { lists_code };
 
     ghost use Rattle.slotmap_links.specs.Kept.{lists_by, AreKept};
-
     ghost use Rattle.std.specs.Prelude.{vec_capacity};
 
     ghost view = { λ l. lists_by l.ends.items l.links.items (vec_capacity l.ends, vec_capacity l.links) };

@@ -3,7 +3,7 @@ use Rattle.std.proofs.Common.{◌++◌, ◌+◌, ◌<◌, ◌∷◌, ◌≡◌, 
 use Rattle.slotmap_scene.proofs.Common.{All, All-cons, All-nil, GoesDown, IsScene, IsWithin, Key, List, Nodes, Some, StepsTo, [], all_below, ap, append-nil, append_assoc, arith, children_of}
 use Rattle.slotmap_scene.proofs.Common.{eq-zero-or-pos, has_node, inl, inr, keys_down, length, length-append, list_map, no_more_than, one_itself, one_other, parent_of, refl, same, same_or_other}
 use Rattle.slotmap_scene.proofs.Common.{subst, suc, sym, times, times_first, times_joined, times_pushed, zero, ℕ, ◌∙◌}
-use Rattle.slotmap_scene.proofs.Climbs.{Climbing, climbing_start, climbing_step, has_parent, no_cycle}
+use Rattle.slotmap_scene.proofs.Climbs.{has_parent, no_cycle}
 use Rattle.slotmap_scene.proofs.Moved.{listed_few, listed_once, listed_parent}
 use Rattle.std.specs.FinMap as map
 

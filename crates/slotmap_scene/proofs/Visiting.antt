@@ -6,7 +6,7 @@ use Rattle.slotmap_scene.proofs.ChildLists.{behind_listed}
 use Rattle.slotmap_scene.proofs.Climbs.{has_parent, no_cycle, parent_there, short, steps_sum}
 use Rattle.slotmap_scene.proofs.Moved.{listed_few, listed_once, listed_parent}
 use Rattle.slotmap_scene.proofs.Walking.{behind_split, none_first}
-use Rattle.slotmap_scene.specs.Visits.{IsWalk, ahead_within, of_each, later, left_then, visited, visits_from, visits_of, visits_within}
+use Rattle.slotmap_scene.specs.Visits.{IsWalk, ahead_within, of_each, later, left_then, visits_from, visits_of, visits_within}
 use Rattle.slotmap_scene.specs.declared.walk.Visit.{Visit}
 use Rattle.slotmap_scene.specs.declared.walk.Visit.TheVariants.{Enter, Leave}
 use Rattle.std.specs.FinMap as map

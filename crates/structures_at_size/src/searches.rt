@@ -101,8 +101,7 @@ fn tell_components(rt: &HostRuntime, graph: &Numbers, nodes: &[NodeKey]) -> bool
     };
     match sum_of_leasts(rt, graph, nodes, components.as_slice()) {
         Some(sum) => {
-            tell(rt, "components", sum)
-                && tell(rt, "number", Sum::of(&[components.len() as u64]))
+            tell(rt, "components", sum) && tell(rt, "number", Sum::of(&[components.len() as u64]))
         }
         None => false,
     }
@@ -112,7 +111,12 @@ fn tell_components(rt: &HostRuntime, graph: &Numbers, nodes: &[NodeKey]) -> bool
 fn run_in(rt: &HostRuntime, graph: &mut Numbers, nodes: &mut Vec<NodeKey>, size: u64) -> bool {
     let mut random = Random::new(8);
     add_nodes(graph, nodes, size)
-        && add_edges(graph, nodes.as_slice(), &mut random, size.wrapping_mul(3) / 2)
+        && add_edges(
+            graph,
+            nodes.as_slice(),
+            &mut random,
+            size.wrapping_mul(3) / 2,
+        )
         && tell_order(rt, graph, post_order(rt.alloc(), graph), "left")
         && tell_order(
             rt,

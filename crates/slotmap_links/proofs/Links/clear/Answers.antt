@@ -1,4 +1,3 @@
-use Rattle.slotmap_links.proofs.Common.{ap, ◌∙◌}
 use Rattle.slotmap_links.proofs.KeptLists.{kept_cleared, seen_cleared}
 use Rattle.slotmap_links.proofs.Links.clear.Goals as goal
 

@@ -1,4 +1,4 @@
-use Rattle.std.proofs.Common.{◌+◌, arith}
+use Rattle.std.proofs.Common.{arith}
 use Rattle.slotmap_bounded.proofs.Alone.{alone-new}
 use Rattle.slotmap_list.proofs.Keeps.{kept_new}
 use Rattle.slotmap_list.proofs.StableList.with_capacity_and_key.Goals as goal
