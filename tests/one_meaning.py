@@ -25,6 +25,7 @@ SOURCES = {
     'basic dense hop sparse': 'that map: its calls in rows, or guards of its contracts',
     'run': 'runs: of scripts, or guards of their contracts',
     'routes': 'shortest paths: at size, or as an example',
+    'bounded': 'maps with a bound: their tests, or their guards',
     'debug shown': 'the text of a type in a debugger, or its tests',
     'handle': 'a handle for C: of a map, or of a side table',
     'messages': 'what the errors of a structure say, and the debug texts of its types',

@@ -8,6 +8,7 @@
 //! A word such as `list:20` names a structure and a number of turns. They make calls within the room that was made, and print nothing.
 #![tactic(auto)]
 
+mod depth_first;
 mod graphs;
 mod items;
 mod lists;
@@ -16,7 +17,6 @@ mod rooms;
 mod routes;
 mod scenes;
 mod schedulers;
-mod searches;
 mod sums;
 mod worlds;
 
@@ -29,7 +29,7 @@ fn run_size(rt: &HostRuntime, size: u64) -> bool {
         && lists::run(rt, size)
         && graphs::run(rt, size)
         && routes::run(rt, size)
-        && searches::run(rt, size)
+        && depth_first::run(rt, size)
         && scenes::run(rt, size)
         && schedulers::run(rt, size)
         && worlds::run(rt, size)
