@@ -125,6 +125,67 @@ def list_part(size):
         tell("drained", with_ones(range(size)))
 
 
+class Segments:
+    """Three lists. Each element is known by its number, and `home` tells its list."""
+
+    def __init__(self, size):
+        self.lists, self.home = [OrderedDict() for _ in range(3)], {}
+        for number in range(size):
+            self.put(number, number % 3, number % 2 == 0)
+
+    def put(self, number, home, last):
+        self.home[number] = home
+        self.lists[home][number] = None
+        self.lists[home].move_to_end(number, last=last)
+
+    def take(self, number):
+        del self.lists[self.home.pop(number)][number]
+
+    def put_beside(self, number, other, behind):
+        self.take(number)
+        home = self.home[other]
+        order = list(self.lists[home])
+        order.insert(order.index(other) + behind, number)
+        self.home[number], self.lists[home] = home, OrderedDict.fromkeys(order)
+
+    def shown(self, value):
+        for numbers in self.lists:
+            yield len(numbers)
+            yield from (value[number] for number in numbers)
+            yield value[next(reversed(numbers))] if numbers else MASK
+
+
+def segments_part(size):
+    print(" lists")
+    random = Random(9)
+    numbers, value, segments = range(size), list(range(size)), Segments(size)
+    tell("pushed", segments.shown(value))
+    moves = []
+    for turn in range(size):
+        number, home = random.pick(numbers), random.draw() % 4
+        moves.append(int(home < 3))
+        if home < 3:
+            segments.take(number)
+            segments.put(number, home, turn % 2 == 1)
+    beside = []
+    for turn in range(min(size, 1000)):
+        number, other = random.pick(numbers), random.pick(numbers)
+        beside.append(int(number != other))
+        if number != other:
+            segments.put_beside(number, other, turn % 2)
+    tell("moves", moves)
+    tell("moves beside", beside)
+    tell("moved", segments.shown(value))
+    value = [number + 1 for number in numbers]
+    for number in numbers[::3]:
+        segments.take(number)
+    tell("removed", [value[number] for number in numbers[::3]])
+    tell("left", segments.shown(value))
+    tell("homes", [segments.home.get(number, 3) for number in numbers])
+    tell("popped", both_ends([value[number] for number in segments.lists[1]]))
+    tell("left", [len(segments.lists[0]) + len(segments.lists[2]), 0])
+
+
 class Graph:
     def __init__(self):
         self.value, self.edges, self.out, self.into = {}, {}, {}, {}
@@ -695,5 +756,5 @@ def world_part(size):
 
 for word in sys.argv[1:]:
     print(f"{word} elements")
-    for part in list_part, graph_part, routes_part, searches_part, scene_part, scheduler_part, world_part:
+    for part in list_part, segments_part, graph_part, routes_part, searches_part, scene_part, scheduler_part, world_part:
         part(int(word))

@@ -17,6 +17,7 @@ mod rooms;
 mod routes;
 mod scenes;
 mod schedulers;
+mod segments;
 mod sums;
 mod worlds;
 
@@ -27,6 +28,7 @@ use std::process::ExitCode;
 fn run_size(rt: &HostRuntime, size: u64) -> bool {
     println!(rt; "{size} elements").is_ok()
         && lists::run(rt, size)
+        && segments::run(rt, size)
         && graphs::run(rt, size)
         && routes::run(rt, size)
         && depth_first::run(rt, size)
