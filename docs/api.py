@@ -63,6 +63,7 @@ PAGE_OF = {title: name for name, title in PAGES.items()}
 # The crates of the structures on the maps: the main type of each, and what it is.
 STRUCTURES = {
     "slotmap_list": ("StableList", "a doubly linked list with cursors"),
+    "slotmap_lists": ("StableLists", "several such lists, between which elements move"),
     "slotmap_graph": ("Graph", "a directed graph, with values on nodes and edges"),
     "slotmap_entities": ("World", "an entity store with any number of kinds of components"),
     "slotmap_scene": ("Scene", "trees of nodes, with children in order"),

@@ -17,7 +17,7 @@ from sources import CONTRACTS, TOP, facade, items_of, module_items
 
 # The crates whose words stand on the pages in docs/api, at the end of each.
 OWN_PAGES = (
-    "slotmap_list", "slotmap_graph", "slotmap_entities", "slotmap_scene", "slotmap_scheduler", "slotmap_paths", "slotmap_bounded",
+    "slotmap_list", "slotmap_lists", "slotmap_graph", "slotmap_entities", "slotmap_scene", "slotmap_scheduler", "slotmap_paths", "slotmap_bounded",
     "slotmap_links", "slotmap_c",
 )
 # Words that the comment of another one explains too.

@@ -36,6 +36,7 @@ HEADS = {
 # The crates of the structures on the maps, and of what they share.
 STRUCTURES = (
     "slotmap_list",
+    "slotmap_lists",
     "slotmap_links",
     "slotmap_bounded",
     "slotmap_graph",

@@ -12,7 +12,7 @@ from svg import BLUE, FOLDER, GREEN, INK, ORANGE, RED, SOFT, Picture, fitted
 STRUCTURES = "five structures"
 # So do two crates of tests.
 TESTS = "other tests"
-MEMBERS = {"slotmap_list", "slotmap_links", "slotmap_bounded", "slotmap_graph", "slotmap_entities", "slotmap_scene", "slotmap_scheduler", "slotmap_paths"}
+MEMBERS = {"slotmap_list", "slotmap_lists", "slotmap_links", "slotmap_bounded", "slotmap_graph", "slotmap_entities", "slotmap_scene", "slotmap_scheduler", "slotmap_paths"}
 # Where each crate is: its column and row, and what it has.
 CRATES = {
     "slotmap_core": (3.0, 0, "keys, errors, traits, lists of slots, definitions"),
