@@ -2,13 +2,13 @@ mod Adding
 pub mod Callers
 mod Common
 mod Draining
-mod Elements
+pub mod Elements
 mod Ends
 mod Keeps
 pub mod Looks
 mod Moved
 mod Moving
-mod Parts
+pub mod Parts
 mod Results
 mod Seen
 mod Swapping
