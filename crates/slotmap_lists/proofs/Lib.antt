@@ -1,0 +1,12 @@
+mod Beside
+mod Changes
+mod Common
+mod Ends
+mod Listed
+mod Moved
+mod Opening
+mod Relinks
+mod Results
+mod Spots
+mod Which
+mod Written

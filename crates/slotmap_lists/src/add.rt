@@ -1,0 +1,179 @@
+//! The calls that add an element.
+
+ghost use Rattle.std.specs.Prelude.{◌≡◌, ◌+◌, ◌<◌, ◌≤◌, ◌++◌, ◌∷◌, [], IsOk, IfOk, OnOk, IfErr, OnErr, IsTrue, ◌↔◌, None, Some, true, length};
+ghost use Rattle.slotmap.specs.Words.{HasVacant, Inserts, IsSpent, Keeps, KeepsSpent, used};
+ghost use Rattle.slotmap_bounded.specs.Bounded.{space};
+ghost use Rattle.slotmap_list.specs.Refused.{RefusesPush};
+ghost use Rattle.slotmap_lists.specs.Sequences.{elements_of, number_with, value_in, with_elements};
+ghost use Rattle.slotmap_lists.specs.Places.{element_put, is_spot};
+ghost use Rattle.slotmap_lists.specs.Refused.{RefusesAdd};
+
+use crate::place::{Place, put_index};
+use crate::{AddError, StableLists};
+use slotmap::{Key, ReserveError};
+use slotmap_list::PushError;
+
+impl<K: Key, T: Drop> StableLists<K, T> {
+    // Puts an element into a place of a list.
+    #[inline(always)]
+    fn put(&mut self, list: u32, place: Place, value: T) -> Result<K, PushError<T>>
+        requires list { list < length self.old.lists }
+        requires place { is_spot place (elements_of list self.old.lists) ≡ true }
+        ensures ok { IfOk result (λ key. self.new.lists
+            ≡ with_elements list (element_put place (K.data_of key, value) (elements_of list self.old.lists)) self.old.lists) }
+        ensures in_list { IfOk result (λ key. number_with (K.data_of key) self.new.lists ≡ Some list) }
+        ensures fresh { IfOk result (λ key. value_in (K.data_of key) self.old.lists ≡ None) }
+        ensures unspent { IfOk result (λ key. IsSpent self.old.cursors (K.data_of key) → ⊥) }
+        ensures cursors { IfOk result (λ key. Inserts self.old.cursors (K.data_of key) tt self.new.cursors) }
+        ensures used { OnOk result (used self.new.cursors ≡ used self.old.cursors + 1) }
+        ensures err { IfErr result (RefusesPush self.old.cursors value) }
+        ensures reuses { HasVacant self.old.cursors → IsOk result }
+        ensures room { 0 < self.old.cursors.room → IsOk result }
+        ensures capacity { self.old.cursors.capacity ≤ self.new.cursors.capacity }
+        ensures in_place { 0 < self.old.cursors.room → space self.new.cursors ≡ space self.old.cursors }
+        ensures unchanged { OnErr result (self.new.lists ≡ self.old.lists) }
+        ensures keeps { OnErr result (Keeps self.old.cursors self.new.cursors) }
+        ensures gone { KeepsSpent self.old.cursors self.new.cursors }
+    {
+        if !self.has_room() {
+            match self.reserve(1) {
+                Ok(()) => {}
+                Err(ReserveError::TooGreat) => return Err(PushError::Full(value)),
+                Err(ReserveError::Memory) => return Err(PushError::Memory(value)),
+            }
+        }
+        Ok(self.put_in_room(list, place, value))
+    }
+
+    // Whether an element can be put in before more room is made.
+    #[inline(always)]
+    fn has_room(&self) -> bool
+        ensures { IsTrue result ↔ 0 < self.now.cursors.room }
+    {
+        self.values.has_room()
+    }
+
+    // Puts an element into a place of a list, where there is room for it.
+    #[inline(always)]
+    fn put_in_room(&mut self, list: u32, place: Place, value: T) -> K
+        requires list { list < length self.old.lists }
+        requires place { is_spot place (elements_of list self.old.lists) ≡ true }
+        requires room { 0 < self.old.cursors.room }
+        ensures lists { self.new.lists
+            ≡ with_elements list (element_put place (K.data_of result, value) (elements_of list self.old.lists)) self.old.lists }
+        ensures in_list { number_with (K.data_of result) self.new.lists ≡ Some list }
+        ensures fresh { value_in (K.data_of result) self.old.lists ≡ None }
+        ensures unspent { IsSpent self.old.cursors (K.data_of result) → ⊥ }
+        ensures cursors { Inserts self.old.cursors (K.data_of result) tt self.new.cursors }
+        ensures used { used self.new.cursors ≡ used self.old.cursors + 1 }
+        ensures capacity { space self.new.cursors ≡ space self.old.cursors }
+        ensures gone { KeepsSpent self.old.cursors self.new.cursors }
+    {
+        let key = self.values.insert_reserved(value);
+        let index = key.data().idx();
+        put_index(&mut self.links, list, place, index);
+        self.homes[index as usize] = list;
+        key
+    }
+
+    // Adds an element at an end of a list, if it is there.
+    fn add(&mut self, list: usize, place: Place, value: T) -> Result<K, AddError<T>>
+        requires { is_spot place (elements_of list self.old.lists) ≡ true }
+        ensures ok { IfOk result (λ key. self.new.lists
+            ≡ with_elements list (element_put place (K.data_of key, value) (elements_of list self.old.lists)) self.old.lists) }
+        ensures in_list { IfOk result (λ key. number_with (K.data_of key) self.new.lists ≡ Some list) }
+        ensures fresh { IfOk result (λ key. value_in (K.data_of key) self.old.lists ≡ None) }
+        ensures unspent { IfOk result (λ key. IsSpent self.old.cursors (K.data_of key) → ⊥) }
+        ensures cursors { IfOk result (λ key. Inserts self.old.cursors (K.data_of key) tt self.new.cursors) }
+        ensures used { OnOk result (used self.new.cursors ≡ used self.old.cursors + 1) }
+        ensures there { OnOk result (list < length self.old.lists) }
+        ensures err { IfErr result (RefusesAdd self.old list value) }
+        ensures no_list { length self.old.lists ≤ list → self.new ≡ self.old }
+        ensures reuses { list < length self.old.lists → HasVacant self.old.cursors → IsOk result }
+        ensures room { list < length self.old.lists → 0 < self.old.cursors.room → IsOk result }
+        ensures capacity { self.old.cursors.capacity ≤ self.new.cursors.capacity }
+        ensures in_place { 0 < self.old.cursors.room → space self.new.cursors ≡ space self.old.cursors }
+        ensures unchanged { OnErr result (self.new.lists ≡ self.old.lists) }
+        ensures keeps { OnErr result (Keeps self.old.cursors self.new.cursors) }
+        ensures gone { KeepsSpent self.old.cursors self.new.cursors }
+    {
+        if list >= self.lists() {
+            return Err(AddError::NoList(value));
+        }
+        match self.put(list as u32, place, value) {
+            Ok(key) => Ok(key),
+            Err(PushError::Full(value)) => Err(AddError::Full(value)),
+            Err(PushError::Memory(value)) => Err(AddError::Memory(value)),
+        }
+    }
+
+    /// Adds an element at the front of a list, and returns its cursor.
+    ///
+    /// It fails with `NoList` exactly if there is no list with this number, and has changed nothing
+    /// then. If a slot is vacant or room was reserved, it fails for no other reason, and the capacity
+    /// stays. If the call fails, the error holds the value, and the lists have the same elements.
+    /// Constant time on average.
+    ///
+    /// ```
+    /// let mut lists = StableLists::new(alloc, 2)?;
+    /// let one = lists.push_front(1, 1)?;
+    /// let two = lists.push_front(1, 2)?;
+    /// assert_eq!(rt; (lists.first(1), lists.last(1)), (Some(two), Some(one)));
+    /// assert!(rt; matches!(lists.push_front(2, 3), Err(AddError::NoList(3))));
+    /// ```
+    pub fn push_front(&mut self, list: usize, value: T) -> Result<K, AddError<T>>
+        ensures ok { IfOk result (λ key. self.new.lists ≡ with_elements list ((K.data_of key, value) ∷ elements_of list self.old.lists) self.old.lists) }
+        ensures in_list { IfOk result (λ key. number_with (K.data_of key) self.new.lists ≡ Some list) }
+        ensures fresh { IfOk result (λ key. value_in (K.data_of key) self.old.lists ≡ None) }
+        ensures unspent { IfOk result (λ key. IsSpent self.old.cursors (K.data_of key) → ⊥) }
+        ensures cursors { IfOk result (λ key. Inserts self.old.cursors (K.data_of key) tt self.new.cursors) }
+        ensures used { OnOk result (used self.new.cursors ≡ used self.old.cursors + 1) }
+        ensures there { OnOk result (list < length self.old.lists) }
+        ensures err { IfErr result (RefusesAdd self.old list value) }
+        ensures no_list { length self.old.lists ≤ list → self.new ≡ self.old }
+        ensures reuses { list < length self.old.lists → HasVacant self.old.cursors → IsOk result }
+        ensures room { list < length self.old.lists → 0 < self.old.cursors.room → IsOk result }
+        ensures capacity { self.old.cursors.capacity ≤ self.new.cursors.capacity }
+        ensures in_place { 0 < self.old.cursors.room → space self.new.cursors ≡ space self.old.cursors }
+        ensures unchanged { OnErr result (self.new.lists ≡ self.old.lists) }
+        ensures keeps { OnErr result (Keeps self.old.cursors self.new.cursors) }
+        ensures gone { KeepsSpent self.old.cursors self.new.cursors }
+    {
+        self.add(list, Place::Front, value)
+    }
+
+    /// Adds an element at the back of a list, and returns its cursor.
+    ///
+    /// It fails with `NoList` exactly if there is no list with this number, and has changed nothing
+    /// then. If a slot is vacant or room was reserved, it fails for no other reason, and the capacity
+    /// stays. If the call fails, the error holds the value, and the lists have the same elements.
+    /// Constant time on average.
+    ///
+    /// ```
+    /// let mut lists = StableLists::new(alloc, 2)?;
+    /// let one = lists.push_back(1, 1)?;
+    /// let two = lists.push_back(1, 2)?;
+    /// assert_eq!(rt; (lists.first(1), lists.last(1)), (Some(one), Some(two)));
+    /// assert!(rt; matches!(lists.push_back(2, 3), Err(AddError::NoList(3))));
+    /// ```
+    pub fn push_back(&mut self, list: usize, value: T) -> Result<K, AddError<T>>
+        ensures ok { IfOk result (λ key. self.new.lists ≡ with_elements list (elements_of list self.old.lists ++ (K.data_of key, value) ∷ []) self.old.lists) }
+        ensures in_list { IfOk result (λ key. number_with (K.data_of key) self.new.lists ≡ Some list) }
+        ensures fresh { IfOk result (λ key. value_in (K.data_of key) self.old.lists ≡ None) }
+        ensures unspent { IfOk result (λ key. IsSpent self.old.cursors (K.data_of key) → ⊥) }
+        ensures cursors { IfOk result (λ key. Inserts self.old.cursors (K.data_of key) tt self.new.cursors) }
+        ensures used { OnOk result (used self.new.cursors ≡ used self.old.cursors + 1) }
+        ensures there { OnOk result (list < length self.old.lists) }
+        ensures err { IfErr result (RefusesAdd self.old list value) }
+        ensures no_list { length self.old.lists ≤ list → self.new ≡ self.old }
+        ensures reuses { list < length self.old.lists → HasVacant self.old.cursors → IsOk result }
+        ensures room { list < length self.old.lists → 0 < self.old.cursors.room → IsOk result }
+        ensures capacity { self.old.cursors.capacity ≤ self.new.cursors.capacity }
+        ensures in_place { 0 < self.old.cursors.room → space self.new.cursors ≡ space self.old.cursors }
+        ensures unchanged { OnErr result (self.new.lists ≡ self.old.lists) }
+        ensures keeps { OnErr result (Keeps self.old.cursors self.new.cursors) }
+        ensures gone { KeepsSpent self.old.cursors self.new.cursors }
+    {
+        self.add(list, Place::Back, value)
+    }
+}

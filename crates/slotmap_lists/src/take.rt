@@ -1,0 +1,99 @@
+//! The calls that remove elements.
+
+ghost use Rattle.std.specs.Prelude.{◌≡◌, IfNone, IfSome, OnSome, None, option_map};
+ghost use Rattle.slotmap.specs.Words.{IsSpent, KeepsSpent, Leaves, Removes};
+ghost use Rattle.slotmap_bounded.specs.Bounded.{space};
+ghost use Rattle.slotmap_list.specs.Sequence.{TakesFront, TakesBack};
+ghost use Rattle.slotmap_lists.specs.Sequences.{elements_of, value_in, without_key};
+
+use crate::StableLists;
+use crate::place::home_at;
+use slotmap::Key;
+
+impl<K: Key, T: Drop> StableLists<K, T> {
+    /// Removes the element of a cursor, whichever list it is in, and returns its value. The cursor is
+    /// never used again. If the cursor is in no list, the call returns `None` and changes nothing. No
+    /// room is lost, and the capacity stays. Constant time.
+    ///
+    /// ```
+    /// let mut lists = StableLists::new(alloc, 2)?;
+    /// let one = lists.push_back(1, 1)?;
+    /// assert_eq!(rt; lists.remove(one), Some(1));
+    /// assert_eq!(rt; lists.remove(one), None);
+    /// ```
+    pub fn remove(&mut self, cursor: K) -> Option<T>
+        ensures value { result ≡ value_in (K.data_of cursor) self.old.lists }
+        ensures removed { self.new.lists ≡ without_key (K.data_of cursor) self.old.lists }
+        ensures absent { value_in (K.data_of cursor) self.new.lists ≡ None }
+        ensures cursors { OnSome result (Removes self.old.cursors (K.data_of cursor) self.new.cursors) }
+        ensures for_good { OnSome result (IsSpent self.new.cursors (K.data_of cursor)) }
+        ensures gone { KeepsSpent self.old.cursors self.new.cursors }
+        ensures leaves { Leaves self.old.cursors self.new.cursors }
+        ensures capacity { space self.new.cursors ≡ space self.old.cursors }
+        ensures stale { IfNone result (self.new ≡ self.old) }
+    {
+        let value = self.values.remove(cursor)?;
+        let index = cursor.data().idx();
+        let home = home_at(&self.homes, index);
+        self.links.take_out(home, index);
+        Some(value)
+    }
+
+    /// Removes the element at the front of a list, and returns its cursor and its value, or `None` if
+    /// the list is empty or isn't there. The cursor is never used again. No room is lost, and the
+    /// capacity stays. Constant time.
+    ///
+    /// ```
+    /// let mut lists = StableLists::new(alloc, 2)?;
+    /// let one = lists.push_back(1, 1)?;
+    /// lists.push_back(1, 2)?;
+    /// assert_eq!(rt; lists.pop_front(0), None);
+    /// assert_eq!(rt; lists.pop_front(1), Some((one, 1)));
+    /// ```
+    pub fn pop_front(&mut self, list: usize) -> Option<(K, T)>
+        ensures front { TakesFront (elements_of list self.old.lists) (option_map (λ e. (K.data_of e.0, e.1)) result) (elements_of list self.new.lists) }
+        ensures removed { IfSome result (λ element. self.new.lists ≡ without_key (K.data_of element.0) self.old.lists) }
+        ensures cursors { IfSome result (λ element. Removes self.old.cursors (K.data_of element.0) self.new.cursors) }
+        ensures for_good { IfSome result (λ element. IsSpent self.new.cursors (K.data_of element.0)) }
+        ensures absent { IfSome result (λ element. value_in (K.data_of element.0) self.new.lists ≡ None) }
+        ensures gone { KeepsSpent self.old.cursors self.new.cursors }
+        ensures leaves { Leaves self.old.cursors self.new.cursors }
+        ensures capacity { space self.new.cursors ≡ space self.old.cursors }
+        ensures empty { IfNone result (self.new ≡ self.old) }
+    {
+        // By what `len` ensures, no cursor stands twice.
+        let _ = self.len();
+        let cursor = self.first(list)?;
+        let value = self.remove(cursor)?;
+        Some((cursor, value))
+    }
+
+    /// Removes the element at the back of a list, and returns its cursor and its value, or `None` if
+    /// the list is empty or isn't there. The cursor is never used again. No room is lost, and the
+    /// capacity stays. Constant time.
+    ///
+    /// ```
+    /// let mut lists = StableLists::new(alloc, 2)?;
+    /// lists.push_back(1, 1)?;
+    /// let two = lists.push_back(1, 2)?;
+    /// assert_eq!(rt; lists.pop_back(0), None);
+    /// assert_eq!(rt; lists.pop_back(1), Some((two, 2)));
+    /// ```
+    pub fn pop_back(&mut self, list: usize) -> Option<(K, T)>
+        ensures back { TakesBack (elements_of list self.old.lists) (option_map (λ e. (K.data_of e.0, e.1)) result) (elements_of list self.new.lists) }
+        ensures removed { IfSome result (λ element. self.new.lists ≡ without_key (K.data_of element.0) self.old.lists) }
+        ensures cursors { IfSome result (λ element. Removes self.old.cursors (K.data_of element.0) self.new.cursors) }
+        ensures for_good { IfSome result (λ element. IsSpent self.new.cursors (K.data_of element.0)) }
+        ensures absent { IfSome result (λ element. value_in (K.data_of element.0) self.new.lists ≡ None) }
+        ensures gone { KeepsSpent self.old.cursors self.new.cursors }
+        ensures leaves { Leaves self.old.cursors self.new.cursors }
+        ensures capacity { space self.new.cursors ≡ space self.old.cursors }
+        ensures empty { IfNone result (self.new ≡ self.old) }
+    {
+        // By what `len` ensures, no cursor stands twice.
+        let _ = self.len();
+        let cursor = self.last(list)?;
+        let value = self.remove(cursor)?;
+        Some((cursor, value))
+    }
+}
