@@ -1,9 +1,10 @@
 -- The steps of a depth first search: a node is opened, an edge is followed, a node is left.
-use Rattle.std.proofs.Common.{◌≡◌, ◌≢◌, ℕ, zero, suc, ◌+◌, ◌<◌, ◌≤◌, ◌⊎◌, Bool, true, false, if◌then◌else◌, is_some, option_map, append-nil, Option, Some, None, List, [], ◌∷◌, ◌++◌, length, map as list_map}
+use Rattle.std.proofs.Common.{◌≡◌, ◌≢◌, ℕ, zero, suc, ◌+◌, ◌<◌, ◌≤◌, ◌⊎◌, Bool, true, false, if◌then◌else◌, is_some, option_map, append-nil, Option, Some, None, List, [], ◌∷◌, ◌++◌, length, map as list_map, reverse}
 use Rattle.std.proofs.Common.{refl, sym, ap, ◌∙◌, inl, inr, arith}
 use Rattle.std.specs.List.{All}
 use Rattle.std.specs.FinMap as map
 use Rattle.std.proofs.lemmas.List.Elements.{All-cons, All-head, All-nil, All-tail, All-weaker}
+use Rattle.std.proofs.lemmas.List.{map-append, reverse-append}
 use Rattle.std.proofs.lemmas.Option.{same_Some}
 use Rattle.slotmap.specs.Words.{IsBeside, IsContent, IsLive, Key, contains_key, get, put}
 use Rattle.slotmap.proofs.Callers.{get-put_live, get-put_other, same_or_other, secondary}
@@ -15,7 +16,8 @@ use Rattle.slotmap_graph.specs.Parts.{IsJoined, ListsEdges, Seen, SeenEdge, edge
 use Rattle.slotmap_graph.specs.Search.{HasEdge, HasNext, Leads}
 use Rattle.slotmap_graph.proofs.Callers.{edge_listed, listed_edge}
 use Rattle.slotmap_paths.specs.Depth.{IsPostOrder, behind}
-use Rattle.slotmap_paths.specs.Deepening.{Deepening, Enters, Found, IsOpen, OpenNode, OrdersSoFar, Visiting, ahead, edges_left, keys_from, open_nodes, open_work, work_left}
+use Rattle.slotmap_paths.specs.Deepening.{Deepening, Enters, Found, IsOpen, OpenNode, OrdersSoFar, Visiting, ahead, edges_left, keys_from, open_node, open_nodes, open_work, opened_by, work_left}
+use Rattle.slotmap_paths.specs.declared.depth.Open.{Open}
 use Rattle.slotmap_paths.proofs.Candidates.{owed_one}
 use Rattle.slotmap_paths.proofs.Orders.{leaves_by_open, order_left, order_none, order_opened}
 use Rattle.slotmap_paths.proofs.Ways.{ahead_all, behind_some, leads_further, next_inside, step_ahead}
@@ -330,3 +332,8 @@ module _ {N E : Type 0} (s : Seen N E) (start : Key) (found : Found) (left : Lis
     | inl here ↦ here
     | inr by ↦ absurd (omega (arith, by.1))
   ]
+
+-- the open nodes in their vector
+module _ {K : Type 0} (data_of : K → Key) where
+  pub opened_pushed : (items : List (Open K)) (o : Open K) → opened_by data_of (items ++ o ∷ []) ≡ open_node data_of o ∷ opened_by data_of items
+  opened_pushed items o = ap reverse (map-append (open_node data_of) items (o ∷ [])) ∙ reverse-append (list_map (open_node data_of) items) (open_node data_of o ∷ [])
