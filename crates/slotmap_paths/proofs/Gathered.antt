@@ -312,3 +312,17 @@ module _ {N E : Type 0} (s : Seen N E) where
 
         behind_it : b ≢ x → 0 < times x (behind b order)
         behind_it other = omega (arith, ap (λ l. times x (behind b l)) split, behind_more x rest b x before (in_before other), one_itself x)
+
+-- all nodes are marked
+module _ {N E : Type 0} (s : Seen N E) (marks : Found) (components : List (List Key)) (so_far : Collecting s marks components)
+    (all : (x : Key) → IsLive s.nodes x → contains_key marks x ≡ true) where
+  pub collected_all : (x : Key) → times_in x components ≡ (if map.contains_key s.nodes.live x then 1 else 0)
+  collected_all x = by (map.contains_key s.nodes.live x) refl
+    where
+      none : map.contains_key s.nodes.live x ≡ false → (b : Bool) → contains_key marks x ≡ b → times_in x components ≡ 0
+      none gone true had = absurd (let both = sym (so_far.live x had) ∙ gone in cc)
+      none gone false had = so_far.once x ∙ ap (λ b. if b then 1 else 0) had
+
+      by : (b : Bool) → map.contains_key s.nodes.live x ≡ b → times_in x components ≡ (if b then 1 else 0)
+      by true is = so_far.once x ∙ ap (λ b. if b then 1 else 0) (all x is)
+      by false is = none is (contains_key marks x) refl

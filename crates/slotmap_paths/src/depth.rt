@@ -6,7 +6,8 @@ ghost use Rattle.slotmap.specs.Words.{Key as KeyOf, IsContent, IsLive, contains_
 ghost use Rattle.slotmap_bounded.specs.KeyLists.{times};
 ghost use Rattle.slotmap_graph.specs.Parts.{IsJoined};
 ghost use Rattle.slotmap_graph.specs.Search.{Leads};
-ghost use Rattle.slotmap_paths.specs.Depth.{IsPostOrder};
+ghost use Rattle.slotmap_graph.specs.TopologicalOrder.{HasCycle};
+ghost use Rattle.slotmap_paths.specs.Depth.{GoesBackward, IsPostOrder};
 ghost use Rattle.slotmap_paths.specs.Deepening.{Deepening, Enters, Found, Visiting, open_node, opened_by, work_left};
 
 use slotmap::{Key, SecondaryMap};
@@ -168,6 +169,7 @@ fn visit_all<K: Key, N: Drop, E: Drop>(
     requires order { search.old.order.items ≡ [] }
     ensures deepening { OnOk result (Deepening graph.now search.new.found.pairs [] (list_map K.data_of search.new.order.items)) }
     ensures all { OnOk result ((x : KeyOf) → IsLive graph.now.nodes x → contains_key search.new.found.pairs x ≡ true) }
+    ensures joined { IsJoined graph.now }
 {
     // by the contracts of these calls, the graph is well formed
     let _ = graph.node_count();
@@ -225,6 +227,7 @@ pub fn post_order<K: Key, N: Drop, E: Drop>(
     ensures once { IfOk result (λ order. (x : KeyOf) → times x (list_map K.data_of order.items) ≡ (if map.contains_key graph.now.nodes.live x then 1 else 0)) }
     ensures count { IfOk result (λ order. length order.items ≡ map.len graph.now.nodes.live) }
     ensures in_order { IfOk result (λ order. IsPostOrder graph.now.edges.live (list_map K.data_of order.items)) }
+    ensures backward { IfOk result (λ order. (HasCycle graph.now.edges.live → ⊥) → GoesBackward graph.now.edges.live (list_map K.data_of order.items)) }
 {
     let mut search = new_depth(alloc)?;
     visit_all(graph, &mut search)?;
