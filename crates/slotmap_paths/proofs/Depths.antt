@@ -1,6 +1,6 @@
 -- The steps of a depth first search: a node is opened, an edge is followed, a node is left.
 use Rattle.std.proofs.Common.{◌≡◌, ◌≢◌, ℕ, zero, suc, ◌+◌, ◌<◌, ◌≤◌, ◌⊎◌, Bool, true, false, if◌then◌else◌, is_some, option_map, append-nil, Option, Some, None, List, [], ◌∷◌, ◌++◌, length, map as list_map, reverse}
-use Rattle.std.proofs.Common.{refl, sym, ap, ◌∙◌, inl, inr, arith}
+use Rattle.std.proofs.Common.{Err, Ok, OnOk, Result, refl, sym, ap, ◌∙◌, inl, inr, arith}
 use Rattle.std.specs.List.{All}
 use Rattle.std.specs.FinMap as map
 use Rattle.std.proofs.lemmas.List.Elements.{All-cons, All-head, All-nil, All-tail, All-weaker}
@@ -337,3 +337,80 @@ module _ {N E : Type 0} (s : Seen N E) (start : Key) (found : Found) (left : Lis
 module _ {K : Type 0} (data_of : K → Key) where
   pub opened_pushed : (items : List (Open K)) (o : Open K) → opened_by data_of (items ++ o ∷ []) ≡ open_node data_of o ∷ opened_by data_of items
   opened_pushed items o = ap reverse (map-append (open_node data_of) items (o ∷ [])) ∙ reverse-append (list_map (open_node data_of) items) (open_node data_of o ∷ [])
+
+  pub opened_popped : (items rest : List (Open K)) (o : Open K) → items ≡ rest ++ o ∷ [] → opened_by data_of items ≡ open_node data_of o ∷ opened_by data_of rest
+  opened_popped items rest o is = ap (opened_by data_of) is ∙ opened_pushed rest o
+
+  -- by what the calls of a step leave
+  module _ {N E : Type 0} (s : Seen N E) (joined : IsJoined s) (well : IsContent true s.nodes) (found : Found) (opened : List (Open K)) (left : List K) (at : Open K) where
+    abbrev IsVisiting : Found → Key → Type 0
+    IsVisiting before start = Visiting s before start found (open_node data_of at ∷ opened_by data_of opened) (list_map data_of left)
+
+    module _ (none : at.next ≡ None) where
+      pub leaves_node : (now : List K) → now ≡ left ++ at.node ∷ [] → (before : Found) (start : Key) → IsVisiting before start → Visiting s before start found (opened_by data_of opened) (list_map data_of now)
+      leaves_node now is before start v = rw (ap (list_map data_of) is ∙ map-append data_of left (at.node ∷ []))
+          (visiting_left s joined well before start found (data_of at.node) (opened_by data_of opened) (list_map data_of left) (rw none at v))
+
+      pub leaves_less : work_left s found (opened_by data_of opened) < work_left s found (open_node data_of at ∷ opened_by data_of opened)
+      leaves_less = omega arith
+
+    module _ (k : Key) (some : at.next ≡ Some k) (after : Option Key) (along : (node : Key) → 0 < times k (edges_at s.out node) → after ≡ key_after k (edges_at s.out node)) (mid : List (Open K))
+        (stays : mid ≡ opened ++ record { node = at.node; next = after } ∷ []) (before : Found) (start : Key) (v : IsVisiting before start) where
+      this : Visiting s before start found ((data_of at.node, Some k) ∷ opened_by data_of opened) (list_map data_of left)
+      this = rw some at v
+
+      pub edge_here : (e : SeenEdge E) × (map.get s.edges.live k ≡ Some e) × (e.from ≡ data_of at.node)
+      edge_here = next_edge s joined well before start found (data_of at.node) k (opened_by data_of opened) (list_map data_of left) this
+
+      mid_is : opened_by data_of mid ≡ (data_of at.node, key_after k (edges_at s.out (data_of at.node))) ∷ opened_by data_of opened
+      mid_is = ap (opened_by data_of) stays ∙ opened_pushed opened (record { node = at.node; next = after })
+          ∙ ap (λ o. (data_of at.node, o) ∷ opened_by data_of opened) (along (data_of at.node) (next_listed s joined well before start found (data_of at.node) k (opened_by data_of opened) (list_map data_of left) this))
+
+      module _ (a to : Key) (ends_there : Some (a, to) ≡ option_map ends (map.get s.edges.live k)) (new : Found) (opened' : List OpenNode) (enters : Enters s found (opened_by data_of mid) to new opened') where
+        pub follows_edge : Visiting s before start new opened' (list_map data_of left)
+        follows_edge = visiting_followed s joined well before start found (data_of at.node) k (opened_by data_of opened) (list_map data_of left) this new opened' to a ends_there (rw mid_is at enters)
+
+        pub follows_less : work_left s new opened' < work_left s found (open_node data_of at ∷ opened_by data_of opened)
+        follows_less = rw some (work_followed s joined well before start found (data_of at.node) k (opened_by data_of opened) (list_map data_of left) this new opened' to a ends_there (rw mid_is at enters))
+
+-- by a clause of a call on its success
+pub on_ok : {T X : Type 0} (P Q : Type 0) → (P → Q) → (r : Result T X) → OnOk r P → OnOk r Q
+on_ok P Q so (Ok v) is = so is
+on_ok P Q so (Err e) is = tt
+
+-- one more node was visited
+pub visited_more : {N E : Type 0} (s : Seen N E) (before found : Found) (y : Key) (left : List Key) → Visiting s before y found [] left → (done : List Key)
+    → ((x : Key) → 0 < times x done → contains_key before x ≡ true) → (x : Key) → 0 < times x (done ++ y ∷ []) → contains_key found x ≡ true
+visited_more s before found y left v done so_far x more = elim (same_or_other x y) [
+  | inl is ↦ rw is v.begun
+  | inr other ↦ v.kept x (so_far x (omega (arith, more, times_pushed x done y, one_other y x (λ is. other (sym is)))))
+]
+
+-- a search from a node that may not be there
+module _ {N E : Type 0} (s : Seen N E) (start : Key) (found : Found) (left : List Key) (none : map.contains_key s.nodes.live start ≡ false → left ≡ [])
+    (visited : IsLive s.nodes start → Visiting s map.empty start found [] left) where
+  start_live : (x : Key) → 0 < times x left → IsLive s.nodes start
+  start_live x more = by (map.contains_key s.nodes.live start) refl
+    where
+      by : (b : Bool) → map.contains_key s.nodes.live start ≡ b → IsLive s.nodes start
+      by true is = is
+      by false is = absurd (omega (arith, more, ap (times x) (none is)))
+
+  pub from_once : (x : Key) → times x left ≤ 1
+  from_once x = by (times x left) refl
+    where
+      by : (n : ℕ) → times x left ≡ n → times x left ≤ 1
+      by zero is = omega (arith, is)
+      by (suc n) is = left_once s found left (visited (start_live x (omega (arith, is)))).deepening x
+
+  pub from_led : (x : Key) → 0 < times x left → Leads s.edges.live start x
+  from_led x more = visited_led s start found left (visited (start_live x more)) x more
+
+  pub from_all : (x : Key) → IsLive s.nodes start → Leads s.edges.live start x → 0 < times x left
+  from_all x live way = visited_all s start found left (visited live) x way
+
+  pub from_live : (x : Key) → 0 < times x left → IsLive s.nodes start × IsLive s.nodes x
+  from_live x more = let live = start_live x more in let v = visited live in (live, v.deepening.live x (left_there s found left v.deepening x more))
+
+  pub from_order : IsPostOrder s.edges.live left
+  from_order a b after way = ended_order s found left (visited (start_live a (behind_some a b left after))).deepening a b after way

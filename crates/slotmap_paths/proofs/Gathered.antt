@@ -118,6 +118,13 @@ module _ {N E : Type 0} (s : Seen N E) (well : IsContent true s.nodes) (before :
         | inr other ↦ inl (omega (arith, more, ap (times x) adds.2, times_pushed x found y, one_other y x (λ is. other (sym is))))
       ]
 
+      pub adds_marked : Adds marks found y new now → (done : List Key) → ((x : Key) → 0 < times x done → contains_key marks x ≡ true) → (x : Key) → 0 < times x (done ++ y ∷ [])
+          → contains_key new x ≡ true
+      adds_marked adds done so_far x more = elim (same_or_other x y) [
+        | inl is ↦ rw is (adds_there adds)
+        | inr other ↦ adds_kept adds x (so_far x (omega (arith, more, times_pushed x done y, one_other y x (λ is. other (sym is)))))
+      ]
+
   pub extends_start : (b : Key) (marks : Found) (found : List Key) → AreAdded before marks found → IsBeside s.nodes marks → Extends s before marks found b marks found
   extends_start b marks found added live = record { added = added; live = live; behind = ([], sym (append-nil found)); kept = λ x had. had; joined = λ x more. inl more }
 

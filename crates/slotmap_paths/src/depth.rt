@@ -1,6 +1,6 @@
 //! Depth first search, which lists nodes in the order in which it leaves them.
 
-ghost use Rattle.std.specs.Prelude.{◌≡◌, ◌<◌, ◌≤◌, [], ◌∷◌, IfOk, OnOk, true, if◌then◌else◌, length, map as list_map};
+ghost use Rattle.std.specs.Prelude.{◌≡◌, ◌<◌, ◌≤◌, [], ◌∷◌, IfOk, OnOk, true, false, if◌then◌else◌, length, map as list_map};
 ghost use Rattle.std.specs.FinMap as map;
 ghost use Rattle.slotmap.specs.Words.{Key as KeyOf, IsContent, IsLive, contains_key, put};
 ghost use Rattle.slotmap_bounded.specs.KeyLists.{times};
@@ -189,7 +189,7 @@ fn visit_from<K: Key, N: Drop, E: Drop>(
     requires found { search.old.found.pairs ≡ map.empty }
     requires closed { search.old.opened.items ≡ [] }
     requires order { search.old.order.items ≡ [] }
-    ensures none { OnOk result (map.contains_key graph.now.nodes.live (K.data_of start) ≡ false → search.new.order.items ≡ []) }
+    ensures none { OnOk result (map.contains_key graph.now.nodes.live (K.data_of start) ≡ false → list_map K.data_of search.new.order.items ≡ []) }
     ensures visited { OnOk result (IsLive graph.now.nodes (K.data_of start)
         → Visiting graph.now map.empty (K.data_of start) search.new.found.pairs [] (list_map K.data_of search.new.order.items)) }
 {
