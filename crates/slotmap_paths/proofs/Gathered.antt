@@ -1,14 +1,14 @@
 -- The nodes of a component are found, and components are put behind each other.
-use Rattle.std.proofs.Common.{◌≡◌, ◌≢◌, ℕ, zero, suc, ◌+◌, ◌<◌, ◌≤◌, ◌⊎◌, Bool, true, false, if◌then◌else◌, is_some, option_map, Option, Some, None, List, [], ◌∷◌, ◌++◌, length, get_or, drop}
+use Rattle.std.proofs.Common.{◌≡◌, ◌≢◌, ℕ, zero, suc, ◌+◌, ◌-◌, ◌<◌, ◌≤◌, ◌⊎◌, Bool, true, false, if◌then◌else◌, is_some, option_map, Option, Some, None, List, [], ◌∷◌, ◌++◌, length, get_or, take, drop, map as list_map}
 use Rattle.std.proofs.Common.{append-nil, append_assoc, length-append, refl, sym, ap, ◌∙◌, inl, inr, arith}
-use Rattle.std.proofs.lemmas.List.{drop-append-le}
+use Rattle.std.proofs.lemmas.List.{drop-append-le, get_or-map, length-map, take-append-drop}
 use Rattle.std.proofs.lemmas.List.Elements.{All-append, All-cons, All-nil}
 use Rattle.std.specs.List.{All, cons_option}
 use Rattle.std.specs.FinMap as map
 use Rattle.slotmap.specs.Words.{Content, IsBeside, IsContent, IsLive, Key, contains_key, get, put}
 use Rattle.slotmap.proofs.Callers.{get-put_live, get-put_other, same_or_other, secondary}
 use Rattle.slotmap_bounded.specs.KeyLists.{same, times}
-use Rattle.slotmap_bounded.proofs.Counts.{here_or_behind, no_more_than, none_behind, one_itself, one_other, times_first, times_joined, times_pushed}
+use Rattle.slotmap_bounded.proofs.Counts.{behind_split, here_or_behind, no_more_than, none_behind, one_itself, one_other, times_first, times_joined, times_pushed}
 use Rattle.slotmap_graph.specs.Parts.{Edges, IsJoined, ListsEdges, Seen, SeenEdge, edges_at, from, to}
 use Rattle.slotmap_graph.specs.Search.{GoesOn, HasEdge, Leads, LeadsBy, ends_along}
 use Rattle.slotmap_graph.proofs.Callers.{edge_listed, listed_edge}
@@ -333,3 +333,25 @@ module _ {N E : Type 0} (s : Seen N E) (marks : Found) (components : List (List 
       by : (b : Bool) → map.contains_key s.nodes.live x ≡ b → times_in x components ≡ (if b then 1 else 0)
       by true is = so_far.once x ∙ ap (λ b. if b then 1 else 0) (all x is)
       by false is = none is (contains_key marks x) refl
+
+-- the last node of an order before this place
+module _ {K : Type 0} (data_of : K → Key) (order : List K) (left : ℕ) (node : K) (some : 0 < left) (within : left ≤ length order) (is : node ≡ get_or order (left - 1) node) where
+  below : left - 1 < length (list_map data_of order)
+  below = omega (arith, some, within, length-map order data_of)
+
+  key_is : data_of node ≡ get_or (list_map data_of order) (left - 1) (data_of node)
+  key_is = ap data_of is ∙ sym (get_or-map data_of order (left - 1) node (data_of node) (omega (arith, some, within)))
+
+  next_place : left - 1 + 1 ≡ left
+  next_place = omega (arith, some)
+
+  pub last_split : list_map data_of order ≡ take (left - 1) (list_map data_of order) ++ data_of node ∷ drop left (list_map data_of order)
+  last_split = sym (take-append-drop (left - 1) (list_map data_of order))
+      ∙ ap (λ l. take (left - 1) (list_map data_of order) ++ l) (behind_split (list_map data_of order) (left - 1) (data_of node) below key_is
+      ∙ ap (λ n. data_of node ∷ drop n (list_map data_of order)) next_place)
+
+  pub last_or_behind : (x : Key) → 0 < times x (drop (left - 1) (list_map data_of order)) → (x ≡ data_of node) ⊎ (0 < times x (drop left (list_map data_of order)))
+  last_or_behind x more = elim (here_or_behind (list_map data_of order) (left - 1) (data_of node) x below key_is more) [
+    | inl here ↦ inl here
+    | inr later ↦ inr (omega (arith, later, ap (λ n. times x (drop n (list_map data_of order))) next_place))
+  ]

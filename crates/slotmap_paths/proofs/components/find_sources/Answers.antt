@@ -1,4 +1,5 @@
-use Rattle.std.proofs.Common.{◌<◌, ◌∙◌, ap, arith, map as list_map, map-append}
+use Rattle.std.proofs.Common.{◌<◌, ◌∙◌, ap, arith, map as list_map}
+use Rattle.std.proofs.lemmas.List.{map-append}
 use Rattle.slotmap.specs.Words.{IsLive}
 use Rattle.slotmap_bounded.specs.KeyLists.{times}
 use Rattle.slotmap_bounded.proofs.Counts.{times_joined}

@@ -1,4 +1,5 @@
-use Rattle.std.proofs.Common.{◌∙◌, ap, arith, map as list_map, map-append}
+use Rattle.std.proofs.Common.{◌∙◌, ap, arith, map as list_map}
+use Rattle.std.proofs.lemmas.List.{map-append}
 use Rattle.slotmap_bounded.specs.KeyLists.{times}
 use Rattle.slotmap_bounded.proofs.{Counts.times_joined, MapKeys.key_live, MapKeys.key_there}
 use Rattle.slotmap_paths.proofs.{Depths.deepening_start, Depths.visited_more, EdgeSteps.next_listed, EdgeSteps.walked_on}
