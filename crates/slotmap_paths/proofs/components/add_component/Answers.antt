@@ -16,7 +16,7 @@ returns-clause-collecting g c =
 
 pub returns-clause-there : goal.returns-clause-there
 returns-clause-there g c = let gathers = c.in_ok-found.ensures in
-    marked_found c.args.marks.now.pairs c.component.new.marks.pairs _ gathers.added (g.K.Key.data_of c.args.node) gathers.begun
+    marked_found c.args.marks.now.pairs c.component.new.marks.pairs (list_map g.K.Key.data_of c.in_ok-found.found.items) gathers.added (g.K.Key.data_of c.args.node) gathers.begun
 
 pub returns-clause-kept : goal.returns-clause-kept
-returns-clause-kept g c = λ x had. marked_before c.args.marks.now.pairs c.component.new.marks.pairs _ (c.in_ok-found.ensures.added) x had
+returns-clause-kept g c = λ x had. marked_before c.args.marks.now.pairs c.component.new.marks.pairs (list_map g.K.Key.data_of c.in_ok-found.found.items) c.in_ok-found.ensures.added x had
