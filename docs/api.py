@@ -418,7 +418,7 @@ def first_page(all_items):
     page.add("| Type | What it is |", "|---|---|")
     for crate, (name, what) in STRUCTURES.items():
         page.add(f"| [`{crate}::{name}`](api/{crate}.md) | {what} |")
-    page.add("", f"On the graph stands [`{PATHS}`](api/{PATHS}.md): the shortest paths from a node, by costs in a table.", "", "These are the calls of the structures:", "")
+    page.add("", f"On the graph stands [`{PATHS}`](api/{PATHS}.md): the shortest paths from a node, by costs in a table, a depth first order, and the strongly connected components.", "", "These are the calls of the structures:", "")
     add_table_of_structures(page)
     page.heading(2, "Calls for C")
     page.add(f"The exports of the static library have [a page](api/{FOR_C}.md) with their contracts. [C.md](C.md) says how to use them.")

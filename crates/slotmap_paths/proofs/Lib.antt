@@ -1,3 +1,8 @@
-mod Settled
-mod EdgeSteps
+mod Acyclic
 mod Candidates
+mod Depths
+mod EdgeSteps
+mod Gathered
+mod Orders
+mod Settled
+mod Ways

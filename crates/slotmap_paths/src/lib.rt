@@ -1,13 +1,23 @@
-//! Shortest paths in a graph whose edges have costs.
+//! Shortest paths, a depth first order and the strongly connected components of a graph.
 //!
-//! The graph is a [`Graph`] of `slotmap_graph`. The costs are in a table beside it, a `SecondaryMap`, so
-//! one graph can have several: one for time, one for money. An edge without a cost is closed. What is
-//! proved of [`shortest_paths`], from the contracts of the graph, of the table and of a `Scheduler` alone:
+//! The graph is a [`Graph`] of `slotmap_graph`. For [`shortest_paths`] its edges have costs. These are in
+//! a table beside it, a `SecondaryMap`, so one graph can have several: one for time, one for money. An
+//! edge without a cost is closed. What is proved, from the contracts of the graph, of the table and of a
+//! `Scheduler` alone:
 //!
 //! - Each node that it finds is reached by a path whose edges cost its distance in all.
 //! - No path costs less, and a node to which a path leads is found.
 //! - The last edge of a node begins at a node that was found. The distance of that node and the cost of
 //!   the edge add up to the node's distance.
+//!
+//! [`post_order`] and [`kosaraju_scc`] ask for no costs. What is proved of them, from the contract of the
+//! graph alone:
+//!
+//! - The order has each node once. Where a path leads from a node to one behind it, a path leads back,
+//!   or one leads to a node that is behind both. Without a cycle, each edge begins behind the node where
+//!   it ends.
+//! - Each node is in one component, once. Two nodes are in the same one if and only if a path leads from
+//!   each of them to the other. No path leads from a component to one before it.
 //!
 //! ```
 //! let mut graph: Graph<NodeKey, &str, u64> = Graph::new(alloc)?;
@@ -29,9 +39,13 @@ ghost use Rattle.slotmap_graph.specs.Search.{Leads};
 ghost use Rattle.slotmap_paths.specs.Costs.{ComesBy, HaveCosts, IsSum, RefusesPaths};
 ghost use Rattle.slotmap_paths.specs.declared.Reached.{Reached as ReachedOf};
 
+mod components;
+mod depth;
 mod search;
 
 use crate::search::{new_search, search_from};
+pub use components::kosaraju_scc;
+pub use depth::{post_order, post_order_from};
 use slotmap::{Key, SecondaryMap};
 use slotmap_graph::{EdgeKey, Graph};
 use std::alloc::Global;

@@ -1,0 +1,21 @@
+-- The order in which a depth first search leaves the nodes.
+use Rattle.std.specs.Prelude.{◌≡◌, ℕ, ◌<◌, ◌⊎◌, Some, cond, List, [], ◌∷◌}
+use Rattle.std.specs.FinMap as map
+use Rattle.slotmap.specs.Words.{Key}
+use Rattle.slotmap_bounded.specs.KeyLists.{is_key, times}
+use Rattle.slotmap_graph.specs.Parts.{Edges, SeenEdge}
+use Rattle.slotmap_graph.specs.Search.{Leads}
+
+-- what is behind a key in a list; where the key isn't in it, nothing
+abbrev pub behind : Key → List Key → List Key
+behind k [] = []
+behind k (q ∷ ks) = cond (is_key q k) ks (behind k ks)
+
+-- where a path leads from a node to one behind it, a path leads back, or one leads to a node that is behind both
+abbrev pub IsPostOrder : {E : Type 0} → Edges E → List Key → Type 0
+IsPostOrder edges ks = (a b : Key) → 0 < times b (behind a ks) → Leads edges a b
+    → Leads edges b a ⊎ ((c : Key) × (0 < times c (behind b ks)) × Leads edges a c)
+
+-- each edge begins behind the node where it ends
+abbrev pub GoesBackward : {E : Type 0} → Edges E → List Key → Type 0
+GoesBackward {E} edges ks = (k : Key) (e : SeenEdge E) → map.get edges k ≡ Some e → 0 < times e.from (behind e.to ks)
