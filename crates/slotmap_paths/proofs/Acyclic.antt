@@ -1,15 +1,15 @@
 -- Without a cycle, the order of a depth first search is one in which each edge goes backward.
-use Rattle.std.proofs.Common.{◌≡◌, ◌≢◌, ℕ, zero, suc, ◌+◌, ◌<◌, ◌≤◌, ◌⊎◌, true, Some, if◌then◌else◌, List, [], ◌∷◌, length, refl, sym, ap, ◌∙◌, inl, inr, arith}
+use Rattle.std.proofs.Common.{◌≡◌, ◌≢◌, ℕ, zero, suc, ◌<◌, ◌≤◌, ◌⊎◌, if◌then◌else◌, List, [], ◌∷◌, length, refl, sym, ap, inl, inr, arith}
 use Rattle.std.specs.FinMap as map
 use Rattle.slotmap.specs.Words.{IsLive, Key}
 use Rattle.slotmap.proofs.Callers.{same_or_other}
-use Rattle.slotmap_bounded.specs.KeyLists.{same, times}
+use Rattle.slotmap_bounded.specs.KeyLists.{times}
 use Rattle.slotmap_bounded.proofs.Counts.{is_itself, is_other, one_itself, one_other, times_first}
-use Rattle.slotmap_graph.specs.Parts.{IsJoined, Edges, Seen, SeenEdge}
+use Rattle.slotmap_graph.specs.Parts.{IsJoined, Edges, Seen}
 use Rattle.slotmap_graph.specs.Search.{Leads, LeadsBy}
 use Rattle.slotmap_graph.specs.TopologicalOrder.{HasCycle}
 use Rattle.slotmap_paths.specs.Depth.{GoesBackward, IsPostOrder, behind}
-use Rattle.slotmap_paths.proofs.Ways.{behind_some, leads_on}
+use Rattle.slotmap_paths.proofs.Ways.{leads_on}
 
 -- what is behind a key is in the list
 inside : (b c : Key) (ks : List Key) → times c (behind b ks) ≤ times c ks

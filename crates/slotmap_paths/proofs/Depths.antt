@@ -1,6 +1,6 @@
 -- The steps of a depth first search: a node is opened, an edge is followed, a node is left.
-use Rattle.std.proofs.Common.{◌≡◌, ◌≢◌, ℕ, zero, suc, ◌+◌, ◌<◌, ◌≤◌, ◌⊎◌, Bool, true, false, if◌then◌else◌, is_some, option_map, append-nil, Option, Some, None, List, [], ◌∷◌, ◌++◌, length, map as list_map, reverse}
-use Rattle.std.proofs.Common.{Err, Ok, OnOk, Result, refl, sym, ap, ◌∙◌, inl, inr, arith}
+use Rattle.std.proofs.Common.{◌≡◌, ◌≢◌, ℕ, zero, suc, ◌+◌, ◌<◌, ◌≤◌, Bool, true, false, if◌then◌else◌, is_some, option_map, append-nil, Option, Some, None, List, [], ◌∷◌, ◌++◌, length, map as list_map, reverse}
+use Rattle.std.proofs.Common.{refl, sym, ap, ◌∙◌, inl, inr, arith}
 use Rattle.std.specs.List.{All}
 use Rattle.std.specs.FinMap as map
 use Rattle.std.proofs.lemmas.List.Elements.{All-cons, All-head, All-nil, All-tail, All-weaker}
@@ -8,15 +8,15 @@ use Rattle.std.proofs.lemmas.List.{map-append, reverse-append}
 use Rattle.std.proofs.lemmas.Option.{same_Some}
 use Rattle.slotmap.specs.Words.{IsBeside, IsContent, IsLive, Key, contains_key, get, put}
 use Rattle.slotmap.proofs.Callers.{get-put_live, get-put_other, same_or_other, secondary}
-use Rattle.slotmap_bounded.specs.KeyLists.{same, times}
+use Rattle.slotmap_bounded.specs.KeyLists.{times}
 use Rattle.slotmap_bounded.proofs.Counts.{as_many, one_itself, one_other, times_first, times_pushed}
 use Rattle.slotmap_bounded.proofs.MapKeys.{key_there}
 use Rattle.slotmap_links.specs.Lists.{first_or}
-use Rattle.slotmap_graph.specs.Parts.{IsJoined, ListsEdges, Seen, SeenEdge, edges_at, ends, from, key_after}
+use Rattle.slotmap_graph.specs.Parts.{IsJoined, Seen, SeenEdge, edges_at, ends, from, key_after}
 use Rattle.slotmap_graph.specs.Search.{HasEdge, HasNext, Leads}
 use Rattle.slotmap_graph.proofs.Callers.{edge_listed, listed_edge}
 use Rattle.slotmap_paths.specs.Depth.{IsPostOrder, behind}
-use Rattle.slotmap_paths.specs.Deepening.{Deepening, Enters, Found, IsOpen, OpenNode, OrdersSoFar, Visiting, ahead, edges_left, keys_from, open_node, open_nodes, open_work, opened_by, work_left}
+use Rattle.slotmap_paths.specs.Deepening.{Deepening, Enters, Found, IsOpen, OpenNode, Visiting, ahead, edges_left, keys_from, open_node, open_nodes, opened_by, work_left}
 use Rattle.slotmap_paths.specs.declared.depth.Open.{Open}
 use Rattle.slotmap_paths.proofs.Candidates.{owed_one}
 use Rattle.slotmap_paths.proofs.Orders.{leaves_by_open, order_left, order_none, order_opened}
@@ -372,11 +372,6 @@ module _ {K : Type 0} (data_of : K → Key) where
 
         pub follows_less : work_left s new opened' < work_left s found (open_node data_of at ∷ opened_by data_of opened)
         follows_less = rw some (work_followed s joined well before start found (data_of at.node) k (opened_by data_of opened) (list_map data_of left) this new opened' to a ends_there (rw mid_is at enters))
-
--- by a clause of a call on its success
-pub on_ok : {T X : Type 0} (P Q : Type 0) → (P → Q) → (r : Result T X) → OnOk r P → OnOk r Q
-on_ok P Q so (Ok v) is = so is
-on_ok P Q so (Err e) is = tt
 
 -- one more node was visited
 pub visited_more : {N E : Type 0} (s : Seen N E) (before found : Found) (y : Key) (left : List Key) → Visiting s before y found [] left → (done : List Key)

@@ -1,15 +1,15 @@
 -- The nodes of a component are found, and components are put behind each other.
 use Rattle.std.proofs.Common.{◌≡◌, ◌≢◌, ℕ, zero, suc, ◌+◌, ◌-◌, ◌<◌, ◌≤◌, ◌⊎◌, Bool, true, false, if◌then◌else◌, is_some, option_map, Option, Some, None, List, [], ◌∷◌, ◌++◌, length, get_or, take, drop, map as list_map}
-use Rattle.std.proofs.Common.{append-nil, append_assoc, length-append, refl, sym, ap, ◌∙◌, inl, inr, arith}
+use Rattle.std.proofs.Common.{append-nil, append_assoc, refl, sym, ap, ◌∙◌, inl, inr, arith}
 use Rattle.std.proofs.lemmas.List.{drop-append-le, get_or-map, length-map, take-append-drop}
 use Rattle.std.proofs.lemmas.List.Elements.{All-append, All-cons, All-nil}
-use Rattle.std.specs.List.{All, cons_option}
+use Rattle.std.specs.List.{cons_option}
 use Rattle.std.specs.FinMap as map
-use Rattle.slotmap.specs.Words.{Content, IsBeside, IsContent, IsLive, Key, contains_key, get, put}
+use Rattle.slotmap.specs.Words.{IsBeside, IsContent, IsLive, Key, contains_key, put}
 use Rattle.slotmap.proofs.Callers.{get-put_live, get-put_other, same_or_other, secondary}
 use Rattle.slotmap_bounded.specs.KeyLists.{same, times}
 use Rattle.slotmap_bounded.proofs.Counts.{behind_split, here_or_behind, no_more_than, none_behind, one_itself, one_other, times_first, times_joined, times_pushed}
-use Rattle.slotmap_graph.specs.Parts.{Edges, IsJoined, ListsEdges, Seen, SeenEdge, edges_at, from, to}
+use Rattle.slotmap_graph.specs.Parts.{Edges, IsJoined, ListsEdges, Seen, SeenEdge, from, to}
 use Rattle.slotmap_graph.specs.Search.{GoesOn, HasEdge, Leads, LeadsBy, ends_along}
 use Rattle.slotmap_graph.proofs.Callers.{edge_listed, listed_edge}
 use Rattle.slotmap_paths.specs.Components.{IsComponent, LeadOnward, times_in}

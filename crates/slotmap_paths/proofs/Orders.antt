@@ -1,14 +1,13 @@
 -- The order of a depth first search, as nodes are opened and left.
-use Rattle.std.proofs.Common.{◌≡◌, ◌≢◌, ℕ, zero, suc, ◌+◌, ◌<◌, ◌≤◌, ◌⊎◌, true, false, if◌then◌else◌, List, [], ◌∷◌, ◌++◌, append_assoc, refl, sym, ap, ◌∙◌, inl, inr, arith}
+use Rattle.std.proofs.Common.{◌≡◌, ℕ, zero, suc, ◌+◌, ◌<◌, ◌⊎◌, true, if◌then◌else◌, List, [], ◌∷◌, ◌++◌, append_assoc, refl, sym, ap, inl, inr, arith}
 use Rattle.slotmap.specs.Words.{Key, contains_key}
 use Rattle.slotmap.proofs.Callers.{same_or_other}
-use Rattle.slotmap_bounded.specs.KeyLists.{same, times}
-use Rattle.slotmap_bounded.proofs.Counts.{one_itself, one_other, times_first, times_joined, times_pushed}
+use Rattle.slotmap_bounded.specs.KeyLists.{times}
+use Rattle.slotmap_bounded.proofs.Counts.{one_other, times_pushed}
 use Rattle.slotmap_graph.specs.Parts.{Edges}
 use Rattle.slotmap_graph.specs.Search.{HasNext, Leads, LeadsBy}
-use Rattle.slotmap_paths.specs.Depth.{IsPostOrder, behind}
 use Rattle.slotmap_paths.specs.Deepening.{Found, OrdersSoFar}
-use Rattle.slotmap_paths.proofs.Ways.{behind_gone, behind_kept, behind_more, leads_further}
+use Rattle.slotmap_paths.proofs.Ways.{behind_gone, behind_kept, behind_more}
 
 module _ {E : Type 0} (edges : Edges E) (left opened : List Key) where
   -- a path from a node that was left stays among these, or comes to an open one

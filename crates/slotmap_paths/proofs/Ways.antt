@@ -1,8 +1,8 @@
 -- Paths one behind the other, and lists of keys cut at one of them.
-use Rattle.std.proofs.Common.{◌≡◌, ◌≢◌, ℕ, zero, suc, ◌+◌, ◌<◌, ◌≤◌, Option, Some, None, List, [], ◌∷◌, ◌++◌, refl, sym, ap, ◌∙◌, inl, inr, arith}
+use Rattle.std.proofs.Common.{◌≡◌, ◌≢◌, ℕ, zero, suc, ◌+◌, ◌<◌, ◌≤◌, Some, None, List, [], ◌∷◌, ◌++◌, refl, sym, ap, ◌∙◌, inl, inr, arith}
 use Rattle.slotmap.specs.Words.{Key}
 use Rattle.slotmap.proofs.Callers.{same_or_other}
-use Rattle.slotmap_bounded.specs.KeyLists.{is_key, same, times}
+use Rattle.slotmap_bounded.specs.KeyLists.{same, times}
 use Rattle.slotmap_bounded.proofs.Counts.{is_itself, is_other, one_itself, one_other, times_first, times_joined}
 use Rattle.slotmap_links.specs.Lists.{first_or}
 use Rattle.slotmap_graph.specs.Parts.{Edges, key_after}
@@ -85,8 +85,7 @@ step_ahead k (q ∷ ks) once more =
         (let after : key_after k (q ∷ ks) ≡ first_or ks None = grind (arith, at, is_itself k) in ap (λ o. ahead o (q ∷ ks)) after ∙ ahead_behind q ks none ks (ahead_all ks)),
       )
       | inr other ↦ (let later = step_ahead k ks (λ x. omega (arith, once x, times_first x q ks)) (omega (arith, more, times_first k q ks, one_other q k other)) in
-          let after : key_after k (q ∷ ks) ≡ first_or later.0 None = grind (arith, is_other q k other, later.2) in
-          (
+          let after : key_after k (q ∷ ks) ≡ first_or later.0 None = grind (arith, is_other q k other, later.2) in (
             later.0,
             grind (arith, is_other q k other, later.1),
             after,

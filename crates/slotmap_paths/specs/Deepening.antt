@@ -1,11 +1,11 @@
 -- A depth first search: the nodes that were found, those of them that are open, and those that were left.
-use Rattle.std.specs.Prelude.{◌≡◌, ℕ, zero, ◌+◌, ◌<◌, ◌⊎◌, true, false, cond, if◌then◌else◌, Option, Some, None, List, [], ◌∷◌, ◌++◌, length, map as list_map, reverse}
+use Rattle.std.specs.Prelude.{◌≡◌, ℕ, ◌+◌, ◌<◌, ◌⊎◌, true, false, cond, if◌then◌else◌, Option, Some, None, List, [], ◌∷◌, ◌++◌, length, map as list_map, reverse}
 use Rattle.std.specs.List.{All}
 use Rattle.std.specs.FinMap as map
-use Rattle.slotmap.specs.Words.{Content, IsBeside, IsContent, Key, Pairs, contains_key, put}
+use Rattle.slotmap.specs.Words.{IsBeside, Key, Pairs, contains_key, put}
 use Rattle.slotmap_bounded.specs.KeyLists.{is_key, times}
 use Rattle.slotmap_links.specs.Lists.{first_or}
-use Rattle.slotmap_graph.specs.Parts.{ByNode, Edges, IsJoined, Seen, SeenEdge, edges_at}
+use Rattle.slotmap_graph.specs.Parts.{ByNode, Edges, Seen, SeenEdge, edges_at}
 use Rattle.slotmap_graph.specs.Search.{HasNext, Leads}
 use Rattle.slotmap_paths.specs.Depth.{behind}
 use Rattle.slotmap_paths.specs.Searching.{owed}

@@ -1,4 +1,4 @@
-use Rattle.std.proofs.Common.{◌≡◌, ◌<◌, ◌≤◌, length, inl, inr, arith, map as list_map}
+use Rattle.std.proofs.Common.{◌≡◌, length, inl, inr, arith, map as list_map}
 use Rattle.std.proofs.lemmas.List.{length-map}
 use Rattle.slotmap_bounded.proofs.Counts.{none_behind}
 use Rattle.slotmap_paths.proofs.Gathered.{collecting_start, is_last, last_or_behind, last_split, live_there}

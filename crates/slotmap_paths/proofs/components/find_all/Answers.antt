@@ -1,4 +1,4 @@
-use Rattle.std.proofs.Common.{◌≡◌, ◌<◌, ◌≤◌, ◌∙◌, length, get_or, sym, ap, arith, map as list_map}
+use Rattle.std.proofs.Common.{◌≡◌, ◌<◌, ◌∙◌, length, get_or, sym, ap, arith, map as list_map}
 use Rattle.std.proofs.lemmas.List.{get_or-map, length-map}
 use Rattle.slotmap_bounded.proofs.Counts.{times_there}
 use Rattle.slotmap_paths.proofs.Gathered.{gathering_end, gathering_fits, gathering_start, gathering_step}

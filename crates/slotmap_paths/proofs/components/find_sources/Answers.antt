@@ -1,10 +1,9 @@
-use Rattle.std.proofs.Common.{◌<◌, ◌∙◌, ap, arith, map as list_map}
+use Rattle.std.proofs.Common.{◌∙◌, ap, arith, map as list_map}
 use Rattle.std.proofs.lemmas.List.{map-append}
 use Rattle.slotmap.specs.Words.{IsLive}
 use Rattle.slotmap_bounded.specs.KeyLists.{times}
 use Rattle.slotmap_bounded.proofs.Counts.{times_joined}
-use Rattle.slotmap_graph.specs.Parts.{edges_at, from}
-use Rattle.slotmap_graph.specs.Search.{ends_along}
+use Rattle.slotmap_graph.specs.Parts.{edges_at}
 use Rattle.slotmap_paths.proofs.EdgeSteps.{next_listed, walked_on}
 use Rattle.slotmap_paths.proofs.Gathered.{adds_marked, extends_start, extends_step, join_source, source_joins}
 use Rattle.slotmap_paths.proofs.components.find_sources.Goals as goal

@@ -1,5 +1,5 @@
 use Rattle.std.proofs.Common.{◌≡◌, ◌<◌, ◌++◌, true, map as list_map}
-use Rattle.slotmap.specs.Words.{IsBeside, Key, contains_key}
+use Rattle.slotmap.specs.Words.{Key, contains_key}
 use Rattle.slotmap_bounded.specs.KeyLists.{times}
 use Rattle.slotmap_graph.specs.Parts.{edges_at, from}
 use Rattle.slotmap_graph.specs.Search.{ends_along}

@@ -1,6 +1,6 @@
-use Rattle.std.proofs.Common.{Some, None, arith}
-use Rattle.slotmap_paths.specs.Deepening.{opened_by}
-use Rattle.slotmap_paths.proofs.Depths.{edge_here, follows_edge, follows_less, leaves_node, on_ok}
+use Rattle.std.proofs.Common.{arith}
+use Rattle.slotmap_paths.proofs.Depths.{edge_here, follows_edge, follows_less, leaves_node}
+use Rattle.slotmap_paths.proofs.EdgeSteps.{on_ok}
 use Rattle.slotmap_paths.proofs.depth.follow.Goals as goal
 
 pub returns-in_default-clause-visiting : goal.returns-in_default-clause-visiting

@@ -1,4 +1,4 @@
-use Rattle.std.proofs.Common.{◌∙◌, sym, map as list_map}
+use Rattle.std.proofs.Common.{◌∙◌, sym}
 use Rattle.std.proofs.lemmas.List.{length-map}
 use Rattle.slotmap_paths.proofs.{Acyclic.goes_backward, Depths.ended_all, Depths.ended_count, Depths.ended_order}
 use Rattle.slotmap_paths.proofs.depth.post_order.Goals as goal

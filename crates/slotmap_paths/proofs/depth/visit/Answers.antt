@@ -1,5 +1,4 @@
-use Rattle.std.proofs.Common.{arith, ap, map as list_map}
-use Rattle.slotmap_paths.specs.Deepening.{opened_by, work_left}
+use Rattle.std.proofs.Common.{map as list_map}
 use Rattle.slotmap_paths.proofs.Depths.{opened_popped, visiting_start}
 use Rattle.slotmap_paths.proofs.depth.visit.Goals as goal
 
