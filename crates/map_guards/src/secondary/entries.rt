@@ -1,68 +1,52 @@
 //! Entries of a key.
 
 ghost use Rattle.std.specs.Prelude.{◌≡◌, ◌≢◌, ◌≤◌, ◌↔◌, Some, OnSome, IfSome, IsSome, IsTrue, true, false};
-ghost use Rattle.slotmap_core.specs.Words.{get, contains_key, entry, bind, remove, is_null, vacant, no_entry, occupied};
+ghost use Rattle.slotmap_core.specs.Words.{MutBor, get, contains_key, entry, bind, remove, is_null, vacant, no_entry, occupied};
 ghost use Rattle.slotmap_secondary.specs.Entry.{IsSideInPlace, IsWritten, entry_without, side_entry_key, side_entry_value};
 
 use slotmap_core::keys::Key;
 use slotmap_core::secondary::NoEntry;
 use slotmap_secondary::{Entry, OccupiedEntry, SecondaryMap, VacantEntry};
 
-/// The null key has no entry, nor has a key that is older than the one at its index: the call
-/// returns `None`, and only then.
-/// Refuses `entry_of_the_null_key_is_vacant`, `entry_refuses_newer_keys`,
-/// `entry_answers_none_for_want_of_memory`: `which` and `err` of `entry`.
-pub fn older_and_null_keys_have_no_entry<K: Key, V: Drop>(
-    table: &mut SecondaryMap<K, V>,
-    key: K,
-) -> bool
-    ensures { IsTrue result ↔ (entry table.old.pairs (K.data_of key) ≡ no_entry) }
+/// Guards of `entry`: whether it returns `None`, and whether it succeeds.
+pub fn entry_outcomes<K: Key, V: Drop>(table: &mut SecondaryMap<K, V>, key: K) -> (bool, bool)
+    // The null key has no entry, nor has a key that is older than the one at its index: the call
+    // returns `None`, and only then.
+    // Refuses `entry_of_the_null_key_is_vacant`, `entry_refuses_newer_keys`,
+    // `entry_answers_none_for_want_of_memory`: `which` and `err` of `entry`.
+    ensures older_and_null_keys_have_no_entry { IsTrue result.0 ↔ (entry table.old.pairs (K.data_of key) ≡ no_entry) }
+    // Where there is memory for the index, memory can't run out.
+    // Holds by `room` of `entry`.
+    ensures entry_with_room_needs_no_memory { (K.data_of key).index ≤ table.old.capacity → result.1 ≡ true }
 {
-    matches!(table.entry(key), Ok(None))
+    match table.entry(key) {
+        Ok(None) => (true, true),
+        Ok(Some(_)) => (false, true),
+        Err(_) => (false, false),
+    }
 }
 
-/// The call fails with `Older` of these keys, and only of these.
-/// Refuses `try_entry_says_memory_for_an_older_key`: `which` and `err` of `try_entry`.
-pub fn try_entry_refuses_older_and_null_keys<K: Key, V: Drop>(
+/// Guards of `try_entry`: whether it says `Older`, whether the entry is occupied, and whether it says `Memory`.
+pub fn try_entry_outcomes<K: Key, V: Drop>(
     table: &mut SecondaryMap<K, V>,
     key: K,
-) -> bool
-    ensures { IsTrue result ↔ (entry table.old.pairs (K.data_of key) ≡ no_entry) }
+) -> (bool, bool, bool)
+    // The call fails with `Older` of these keys, and only of these.
+    // Refuses `try_entry_says_memory_for_an_older_key`: `which` and `err` of `try_entry`.
+    ensures try_entry_refuses_older_and_null_keys { IsTrue result.0 ↔ (entry table.old.pairs (K.data_of key) ≡ no_entry) }
+    // A key that has a value has an occupied entry, and no other key has one.
+    // Holds by `which` of `try_entry`.
+    ensures key_with_a_value_has_an_occupied_entry { IsTrue result.1 ↔ ((value : V) × (entry table.old.pairs (K.data_of key) ≡ occupied value)) }
+    // Where there is memory for the index, memory can't run out.
+    // Holds by `room` of `try_entry`.
+    ensures try_entry_with_room_needs_no_memory { (K.data_of key).index ≤ table.old.capacity → result.2 ≡ false }
 {
-    matches!(table.try_entry(key), Err(NoEntry::Older))
-}
-
-/// A key that has a value has an occupied entry, and no other key has one.
-/// Holds by `which` of `try_entry`.
-pub fn key_with_a_value_has_an_occupied_entry<K: Key, V: Drop>(
-    table: &mut SecondaryMap<K, V>,
-    key: K,
-) -> bool
-    ensures { IsTrue result ↔ ((value : V) × (entry table.old.pairs (K.data_of key) ≡ occupied value)) }
-{
-    matches!(table.try_entry(key), Ok(Entry::Occupied(_)))
-}
-
-/// Where there is memory for the index, memory can't run out.
-/// Holds by `room` of `try_entry`.
-pub fn try_entry_with_room_needs_no_memory<K: Key, V: Drop>(
-    table: &mut SecondaryMap<K, V>,
-    key: K,
-) -> bool
-    ensures { (K.data_of key).index ≤ table.old.capacity → result ≡ false }
-{
-    matches!(table.try_entry(key), Err(NoEntry::Memory))
-}
-
-/// So it is of `entry`.
-/// Holds by `room` of `entry`.
-pub fn entry_with_room_needs_no_memory<K: Key, V: Drop>(
-    table: &mut SecondaryMap<K, V>,
-    key: K,
-) -> bool
-    ensures { (K.data_of key).index ≤ table.old.capacity → result ≡ true }
-{
-    table.entry(key).is_ok()
+    match table.try_entry(key) {
+        Ok(Entry::Occupied(_)) => (false, true, false),
+        Ok(Entry::Vacant(_)) => (false, false, false),
+        Err(NoEntry::Older) => (true, false, false),
+        Err(NoEntry::Memory) => (false, false, true),
+    }
 }
 
 /// An occupied entry keeps its value, and a vacant one gets the new one: what is written then is
@@ -96,15 +80,16 @@ pub fn or_insert_keeps_the_value_of_the_key<'a, K: Key, V: Drop>(
 }
 
 /// An occupied entry keeps its value.
-/// Holds by `value` of `or_insert_with`.
-pub fn or_insert_with_keeps_the_value_of_the_key<'a, K: Key, V: Drop>(
+/// Holds by `callable` and `value` of `or_insert_with`.
+pub fn or_insert_with_keeps_the_value_of_the_key<'a, K: Key, V: Drop, F: FnOnce() -> V + Drop>(
     found: Entry<'a, K, V>,
-    value: V,
+    f: F,
 ) -> &'a mut V
-    requires { IsSideInPlace K.data_of found }
+    requires in_place { IsSideInPlace K.data_of found }
+    requires callable { side_entry_value K.data_of found ≡ None → F.pre f }
     ensures { (standing : V) → side_entry_value K.data_of found.entry ≡ Some standing → result.now ≡ standing }
 {
-    found.or_insert_with(|| value)
+    found.or_insert_with(f)
 }
 
 /// An occupied entry keeps its value.
@@ -183,16 +168,18 @@ pub fn occupied_entry_hands_its_value_on<K: Key, V: Drop>(
 /// The closure of `and_modify` changes the value of the entry's key, and no other.
 /// Refuses `and_modify_changes_another_key`: `ok` of `try_entry`, and `value`, `same_map`, `in_place` and
 /// `same_writes` of `and_modify`.
-pub fn modified_value_is_that_of_the_key<K: Key, V: Drop>(
+pub fn modified_value_is_that_of_the_key<K: Key, V: Drop, F: FnOnce(&mut V) + Drop>(
     table: &mut SecondaryMap<K, V>,
     key: K,
+    f: F,
     value: V,
     last: V,
 )
+    requires { (shown : MutBor V) → F.pre f shown }
     ensures written { entry table.old.pairs (K.data_of key) ≢ no_entry → (K.data_of key).index ≤ table.old.capacity → table.new.pairs ≡ bind table.old.pairs (K.data_of key) last }
 {
     if let Ok(found) = table.try_entry(key) {
-        *found.and_modify(|_| ()).or_insert(value) = last;
+        *found.and_modify(f).or_insert(value) = last;
     }
 }
 
@@ -275,29 +262,32 @@ pub fn occupied_entry_lends_its_value<'a, K: Key, V: Drop>(
 }
 
 /// The entry is that of the same key, and its removal leaves the same.
-/// Holds by `key` and `same_removal` of `and_modify`.
-pub fn modified_entry_is_that_of_the_key<'a, K: Key, V: Drop>(
+/// Holds by `callable`, `key` and `same_removal` of `and_modify`.
+pub fn modified_entry_is_that_of_the_key<'a, K: Key, V: Drop, F: FnOnce(&mut V) + Drop>(
     found: Entry<'a, K, V>,
+    f: F,
 ) -> Entry<'a, K, V>
-    requires { IsSideInPlace K.data_of found }
+    requires in_place { IsSideInPlace K.data_of found }
+    requires callable { (shown : MutBor V) → side_entry_value K.data_of found ≡ Some shown.now → F.pre f shown }
     ensures key { side_entry_key result ≡ side_entry_key found.entry }
     ensures removal { entry_without K.data_of result ≡ entry_without K.data_of found.entry }
 {
-    found.and_modify(|_| ())
+    found.and_modify(f)
 }
 
 /// So it is by `entry`, where a closure makes the value.
 /// Holds by `ok` of `entry`, and `writes_back` of `or_insert_with`.
-pub fn or_insert_with_puts_under_the_key<K: Key, V: Drop>(
+pub fn or_insert_with_puts_under_the_key<K: Key, V: Drop, F: FnOnce() -> V + Drop>(
     table: &mut SecondaryMap<K, V>,
     key: K,
-    value: V,
+    f: F,
     last: V,
 )
+    requires { F.pre f }
     ensures { entry table.old.pairs (K.data_of key) ≢ no_entry → (K.data_of key).index ≤ table.old.capacity → table.new.pairs ≡ bind table.old.pairs (K.data_of key) last }
 {
     if let Ok(Some(found)) = table.entry(key) {
-        *found.or_insert_with(|| value) = last;
+        *found.or_insert_with(f) = last;
     }
 }
 

@@ -2,7 +2,7 @@
 
 ghost use Rattle.std.specs.FinMap as map;
 ghost use Rattle.std.specs.Prelude.{◌≡◌, ◌<◌, ◌≤◌, ◌↔◌, Some, None, IfOk, IfErr, OnSome, IfSome, IsOk, IsSome, IsTrue, true, false};
-ghost use Rattle.slotmap_core.specs.Words.{get, contains_key, entry, bind, remove, is_null, no_entry, occupied};
+ghost use Rattle.slotmap_core.specs.Words.{MutBor, get, contains_key, entry, bind, remove, is_null, no_entry, occupied};
 ghost use Rattle.slotmap_sparse.specs.Content.{room};
 ghost use Rattle.slotmap_sparse.specs.Entry.{IsSparseInPlace, IsWritten, entry_without, sparse_entry_key, sparse_entry_value};
 
@@ -11,46 +11,41 @@ use slotmap_core::keys::Key;
 use slotmap_core::secondary::NoEntry;
 use slotmap_sparse::{Entry, OccupiedEntry, SparseSecondaryMap, VacantEntry};
 
-/// The null key has no entry, nor has a key that is older than the one at its index: the call
-/// returns `None`, and only then.
-/// Refuses `entry_of_the_null_key_is_vacant`: `which` and `err` of `entry`.
-pub fn older_and_null_keys_have_no_entry<K: Key, V: Drop>(
-    table: &mut SparseSecondaryMap<K, V>,
-    key: K,
-) -> bool
-    ensures { IsTrue result ↔ (entry table.old.pairs (K.data_of key) ≡ no_entry) }
+/// Guards of `entry`: whether it returns `None`, and whether it succeeds.
+pub fn entry_outcomes<K: Key, V: Drop>(table: &mut SparseSecondaryMap<K, V>, key: K) -> (bool, bool)
+    // The null key has no entry, nor has a key that is older than the one at its index: the call
+    // returns `None`, and only then.
+    // Refuses `entry_of_the_null_key_is_vacant`: `which` and `err` of `entry`.
+    ensures older_and_null_keys_have_no_entry { IsTrue result.0 ↔ (entry table.old.pairs (K.data_of key) ≡ no_entry) }
+    // It asks for no memory.
+    // Refuses `try_entry_asks_for_memory_at_a_pair`: `never_refused` of `entry`.
+    ensures entry_never_fails { result.1 ≡ true }
 {
-    matches!(table.entry(key), Ok(None))
+    match table.entry(key) {
+        Ok(None) => (true, true),
+        Ok(Some(_)) => (false, true),
+        Err(_) => (false, false),
+    }
 }
 
-/// The call fails with `Older` of these keys, and only of these.
-/// Refuses `try_entry_says_memory_for_an_older_key`: `which` and `err` of `try_entry`.
-pub fn try_entry_refuses_older_and_null_keys<K: Key, V: Drop>(
+/// Guards of `try_entry`: whether it says `Older`, and whether the entry is occupied.
+pub fn try_entry_outcomes<K: Key, V: Drop>(
     table: &mut SparseSecondaryMap<K, V>,
     key: K,
-) -> bool
-    ensures { IsTrue result ↔ (entry table.old.pairs (K.data_of key) ≡ no_entry) }
+) -> (bool, bool)
+    // The call fails with `Older` of these keys, and only of these.
+    // Refuses `try_entry_says_memory_for_an_older_key`: `which` and `err` of `try_entry`.
+    ensures try_entry_refuses_older_and_null_keys { IsTrue result.0 ↔ (entry table.old.pairs (K.data_of key) ≡ no_entry) }
+    // A key that has a value has an occupied entry, and no other key has one.
+    // Holds by `which` of `try_entry`.
+    ensures key_with_a_value_has_an_occupied_entry { IsTrue result.1 ↔ ((value : V) × (entry table.old.pairs (K.data_of key) ≡ occupied value)) }
 {
-    matches!(table.try_entry(key), Err(NoEntry::Older))
-}
-
-/// A key that has a value has an occupied entry, and no other key has one.
-/// Holds by `which` of `try_entry`.
-pub fn key_with_a_value_has_an_occupied_entry<K: Key, V: Drop>(
-    table: &mut SparseSecondaryMap<K, V>,
-    key: K,
-) -> bool
-    ensures { IsTrue result ↔ ((value : V) × (entry table.old.pairs (K.data_of key) ≡ occupied value)) }
-{
-    matches!(table.try_entry(key), Ok(Entry::Occupied(_)))
-}
-
-/// It asks for no memory.
-/// Refuses `try_entry_asks_for_memory_at_a_pair`: `never_refused` of `entry`.
-pub fn entry_never_fails<K: Key, V: Drop>(table: &mut SparseSecondaryMap<K, V>, key: K) -> bool
-    ensures { result ≡ true }
-{
-    table.entry(key).is_ok()
+    match table.try_entry(key) {
+        Ok(Entry::Occupied(_)) => (false, true),
+        Ok(Entry::Vacant(_)) => (false, false),
+        Err(NoEntry::Older) => (true, false),
+        Err(NoEntry::Memory) => (false, false),
+    }
 }
 
 /// An occupied entry's key and value are returned, and the key is found no longer. Nothing else
@@ -156,35 +151,37 @@ pub fn or_insert_keeps_the_value_of_the_key<'a, K: Key, V: Drop>(
 /// found under it, and nothing else changes.
 /// Refuses `or_insert_with_puts_under_another_key`: `ok` of `try_entry`, and `writes_back` and
 /// `room` of `or_insert_with`.
-pub fn or_insert_with_puts_under_the_key<K: Key, V: Drop>(
+pub fn or_insert_with_puts_under_the_key<K: Key, V: Drop, F: FnOnce() -> V + Drop>(
     table: &mut SparseSecondaryMap<K, V>,
     key: K,
-    value: V,
+    f: F,
     last: V,
 )
     requires absent { map.get table.old.pairs (K.data_of key).index ≡ None }
     requires not_null { is_null (K.data_of key) ≡ false }
     requires room { map.len table.old.pairs < table.old.capacity }
+    requires callable { F.pre f }
     ensures { table.new.pairs ≡ bind table.old.pairs (K.data_of key) last }
 {
     if let Ok(found) = table.try_entry(key) {
-        if let Ok(place) = found.or_insert_with(|| value) {
+        if let Ok(place) = found.or_insert_with(f) {
             *place = last;
         }
     }
 }
 
 /// An occupied entry keeps its value, and asks for no memory.
-/// Holds by `value` and `err` of `or_insert_with`.
-pub fn or_insert_with_keeps_the_value_of_the_key<'a, K: Key, V: Drop>(
+/// Holds by `callable`, `value` and `err` of `or_insert_with`.
+pub fn or_insert_with_keeps_the_value_of_the_key<'a, K: Key, V: Drop, F: FnOnce() -> V + Drop>(
     found: Entry<'a, K, V>,
-    value: V,
+    f: F,
 ) -> Result<&'a mut V, OutOfMemory>
-    requires { IsSparseInPlace K.data_of found }
+    requires in_place { IsSparseInPlace K.data_of found }
+    requires callable { sparse_entry_value K.data_of found ≡ None → F.pre f }
     ensures keeps { (standing : V) → sparse_entry_value K.data_of found.entry ≡ Some standing → IfOk result (λ place. place.now ≡ standing) }
     ensures succeeds { (standing : V) → sparse_entry_value K.data_of found.entry ≡ Some standing → IsOk result }
 {
-    found.or_insert_with(|| value)
+    found.or_insert_with(f)
 }
 
 /// A key at whose index nothing stands gets the value, where there is room: what is written then is
@@ -284,15 +281,17 @@ pub fn occupied_entry_lends_its_value<'a, K: Key, V: Drop>(
 }
 
 /// The entry is that of the same key, and its removal leaves the same.
-/// Holds by `key` and `same_removal` of `and_modify`.
-pub fn modified_entry_is_that_of_the_key<'a, K: Key, V: Drop>(
+/// Holds by `callable`, `key` and `same_removal` of `and_modify`.
+pub fn modified_entry_is_that_of_the_key<'a, K: Key, V: Drop, F: FnOnce(&mut V) + Drop>(
     found: Entry<'a, K, V>,
+    f: F,
 ) -> Entry<'a, K, V>
-    requires { IsSparseInPlace K.data_of found }
+    requires in_place { IsSparseInPlace K.data_of found }
+    requires callable { (shown : MutBor V) → sparse_entry_value K.data_of found ≡ Some shown.now → F.pre f shown }
     ensures key { sparse_entry_key result ≡ sparse_entry_key found.entry }
     ensures removal { entry_without K.data_of result ≡ entry_without K.data_of found.entry }
 {
-    found.and_modify(|_| ())
+    found.and_modify(f)
 }
 
 /// A key with no entry changes nothing.
@@ -325,19 +324,21 @@ pub fn entry_is_that_of_the_key<K: Key, V: Drop>(
 
 /// The closure of `and_modify` changes the value of the entry's key, and no other.
 /// Holds by `ok` of `try_entry`, and `value`, `same_map`, `in_place` and `same_writes` of `and_modify`.
-pub fn modified_value_is_that_of_the_key<K: Key, V: Drop>(
+pub fn modified_value_is_that_of_the_key<K: Key, V: Drop, F: FnOnce(&mut V) + Drop>(
     table: &mut SparseSecondaryMap<K, V>,
     key: K,
+    f: F,
     value: V,
     last: V,
 )
     requires absent { map.get table.old.pairs (K.data_of key).index ≡ None }
     requires not_null { is_null (K.data_of key) ≡ false }
     requires room { map.len table.old.pairs < table.old.capacity }
+    requires callable { (shown : MutBor V) → F.pre f shown }
     ensures { table.new.pairs ≡ bind table.old.pairs (K.data_of key) last }
 {
     if let Ok(found) = table.try_entry(key) {
-        if let Ok(place) = found.and_modify(|_| ()).or_insert(value) {
+        if let Ok(place) = found.and_modify(f).or_insert(value) {
             *place = last;
         }
     }
