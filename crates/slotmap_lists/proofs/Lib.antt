@@ -1,4 +1,4 @@
-mod Beside
+mod Arriving
 mod Changes
 mod Common
 mod Ends

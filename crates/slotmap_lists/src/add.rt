@@ -16,7 +16,7 @@ use slotmap_list::PushError;
 impl<K: Key, T: Drop> StableLists<K, T> {
     // Puts an element into a place of a list.
     #[inline(always)]
-    fn put(&mut self, list: u32, place: Place, value: T) -> Result<K, PushError<T>>
+    pub(crate) fn put(&mut self, list: u32, place: Place, value: T) -> Result<K, PushError<T>>
         requires list { list < length self.old.lists }
         requires place { is_spot place (elements_of list self.old.lists) ≡ true }
         ensures ok { IfOk result (λ key. self.new.lists

@@ -55,13 +55,16 @@ use std::marker::Model;
 use thiserror::Error;
 
 mod add;
+mod beside;
+mod iter;
 mod moves;
 mod place;
 mod room;
 mod take;
 
+pub use iter::Iter;
 use place::home_at;
-pub use slotmap_list::Cursor;
+pub use slotmap_list::{Cursor, PlaceError};
 
 // How many lists there are at most.
 const MOST: usize = 4294967294;

@@ -1,5 +1,5 @@
 use Rattle.slotmap_lists.proofs.Common.{ap, sym, ◌∙◌, List, Key, Sequences}
-use Rattle.slotmap_lists.proofs.Beside.{both, other_stands, behind_is}
+use Rattle.slotmap_lists.proofs.Arriving.{both, other_stands, behind_is}
 use Rattle.slotmap_lists.proofs.StableLists.move_after.Goals as goal
 
 pub home-list-requires : goal.home-list-requires

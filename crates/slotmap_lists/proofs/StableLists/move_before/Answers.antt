@@ -1,5 +1,5 @@
 use Rattle.slotmap_lists.proofs.Common.{ap, sym, ◌∙◌, List, Key, Sequences}
-use Rattle.slotmap_lists.proofs.Beside.{both, other_stands, ahead_is}
+use Rattle.slotmap_lists.proofs.Arriving.{both, other_stands, ahead_is}
 use Rattle.slotmap_lists.proofs.StableLists.move_before.Goals as goal
 
 pub home-list-requires : goal.home-list-requires

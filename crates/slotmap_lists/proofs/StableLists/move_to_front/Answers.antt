@@ -1,5 +1,5 @@
 use Rattle.slotmap_lists.proofs.Common.{None, arith, ap, sym, ◌∙◌, Sequences, first_or, elements_of}
-use Rattle.slotmap_lists.proofs.Beside.{can_both, moved_first}
+use Rattle.slotmap_lists.proofs.Arriving.{can_both, moved_first}
 use Rattle.slotmap_lists.proofs.StableLists.move_to_front.Goals as goal
 
 pub move_to-requires-clause-there : goal.move_to-requires-clause-there

@@ -1,5 +1,5 @@
 -- An element that moves to an end of a list, or beside another element.
-use Rattle.slotmap_lists.proofs.Common.{length, is_some, ◌∙◌, ℕ, List, [], Option, Some, None, refl, sym, ap, arith, true, Key, some_is, get_or-set_same, length-map, read_map, value_of, first_or, last_or}
+use Rattle.slotmap_lists.proofs.Common.{length, list_map, is_some, ◌∙◌, ℕ, List, [], Some, None, refl, sym, ap, arith, true, Key, some_is, get_or-set_same, length-map, read_map, value_of, first_or, last_or}
 use Rattle.slotmap_lists.proofs.Common.{put_after, put_before, without, key_times, times_none, elements_of, value_in, with_elements, without_key, put_into, put_beside}
 use Rattle.std.proofs.Common.{◌≡◌, ◌≢◌, ◌<◌, ◌∷◌, ◌++◌}
 use Rattle.std.proofs.lemmas.Bool.Decides.{nat_tests}
@@ -65,3 +65,11 @@ module _ {T : Type 0} where
 
         pub behind_is : put_into (put_after other) p k (value_in k lists) lists ≡ moved_behind k other lists
         behind_is = beside_is (put_after other) (put_after_absent other)
+
+  -- an element that is put beside another one, in the only list which that is in
+  module _ (other : Key) (x : Key × T) (lists : List (List (Key × T))) (p : ℕ) (there : p < length lists) (alone : (q : ℕ) → q ≢ p → value_of other (elements_of q lists) ≡ None) where
+    pub put_ahead : with_elements p (put_before other x (elements_of p lists)) lists ≡ list_map (put_before other x) lists
+    put_ahead = map_one (put_before other x) lists p there (λ q apart. put_before_absent other x (elements_of q lists) (times_none other (elements_of q lists) (alone q apart)))
+
+    pub put_behind : with_elements p (put_after other x (elements_of p lists)) lists ≡ list_map (put_after other x) lists
+    put_behind = map_one (put_after other x) lists p there (λ q apart. put_after_absent other x (elements_of q lists) (times_none other (elements_of q lists) (alone q apart)))
