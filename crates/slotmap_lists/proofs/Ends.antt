@@ -1,8 +1,8 @@
 -- An element at an end of one of the lists, which is taken out of all.
 use Rattle.slotmap_lists.proofs.Common.{zero, suc, length, is_some, ◌∙◌, append-nil, ℕ, List, [], Some, None, refl, sym, ap, subst, arith, Key, value_of, first_or, last_or, without, IsOnce, read_map}
 use Rattle.slotmap_lists.proofs.Common.{keys_total, exact_keys, itself, cond, key_times, times_some, times_none, times-append, none_there, once_if, splits, elements_of, joined, value_in, without_key}
-use Rattle.std.proofs.Common.{◌≡◌, ◌≤◌, ◌<◌, ◌∷◌, ◌++◌}
-use Rattle.slotmap_list.proofs.Elements.{at_most_once, absent_before, back_of, front_of}
+use Rattle.std.proofs.Common.{◌≡◌, ◌≢◌, ◌+◌, ◌≤◌, ◌<◌, ◌∷◌, ◌++◌}
+use Rattle.slotmap_list.proofs.Elements.{absent, at_most_once, absent_before, back_of, front_of, last_in}
 use Rattle.slotmap_lists.proofs.Which.{value_first, value_later}
 
 module _ {T : Type 0} where
@@ -11,6 +11,14 @@ module _ {T : Type 0} where
   few_of q [] p = omega arith
   few_of q (es ∷ lists) zero = omega (arith, times-append q es (joined lists))
   few_of q (es ∷ lists) (suc p) = omega (arith, times-append q es (joined lists), few_of q lists p)
+
+  -- and at least as often as in two of them
+  few_two : (k : Key) (lists : List (List (Key × T))) (p q : ℕ) → p ≢ q → key_times k (elements_of p lists) + key_times k (elements_of q lists) ≤ key_times k (joined lists)
+  few_two k [] p q apart = omega arith
+  few_two k (es ∷ lists) zero zero apart = absurd (apart refl)
+  few_two k (es ∷ lists) zero (suc q) apart = omega (arith, times-append k es (joined lists), few_of k lists q)
+  few_two k (es ∷ lists) (suc p) zero apart = omega (arith, times-append k es (joined lists), few_of k lists p)
+  few_two k (es ∷ lists) (suc p) (suc q) apart = omega (arith, times-append k es (joined lists), few_two k lists p q (λ e. apart (ap suc e)))
 
   -- where no key is in all lists twice, its value is the one in its list
   value_here : (k : Key) (v : T) (lists : List (List (Key × T))) (p : ℕ) → key_times k (joined lists) ≤ 1 → value_of k (elements_of p lists) ≡ Some v → value_in k lists ≡ Some v
@@ -54,3 +62,15 @@ module _ {T : Type 0} where
     last_there last none = let b = back_of (elements_of p lists) k last in
         let split = splits k b.1 [] b.0 (absent_before b.0 k b.1 [] (subst IsOnce b.2 once_of)).0 in
         let e = sym (value_here k b.1 lists p (at_most_once (joined lists) once k) (ap (value_of k) b.2 ∙ split.value_is)) ∙ none in cc
+
+    -- the other lists stay
+    others_stay : 0 < key_times k (elements_of p lists) → (q : ℕ) → q ≢ p → elements_of q (without_key k lists) ≡ elements_of q lists
+    others_stay here q apart = read_map (without k) lists q []
+        ∙ (absent k (elements_of q lists) (omega (arith, here, few_two k lists p q (λ e. apart (sym e)), at_most_once (joined lists) once k))).without_is
+
+    pub others_front : first_or (elements_of p lists) None ≡ Some k → (q : ℕ) → q ≢ p → elements_of q (without_key k lists) ≡ elements_of q lists
+    others_front first = let f = front_of (elements_of p lists) k first in
+        others_stay (times_some k (elements_of p lists) (ap is_some (ap (value_of k) f.2 ∙ ap (λ b. cond b (Some f.0) (value_of k f.1)) (itself keys_total exact_keys k))))
+
+    pub others_back : last_or (elements_of p lists) None ≡ Some k → (q : ℕ) → q ≢ p → elements_of q (without_key k lists) ≡ elements_of q lists
+    others_back last = others_stay (last_in (elements_of p lists) k last)

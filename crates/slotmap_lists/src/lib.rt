@@ -52,6 +52,7 @@ use slotmap_bounded::BoundedMap;
 use slotmap_links::Links;
 use std::alloc::{AllocError, Global};
 use std::marker::Model;
+use std::ops::Index;
 use thiserror::Error;
 
 mod add;
@@ -437,5 +438,21 @@ impl<K: Key, T: Drop> StableLists<K, T> {
             return None;
         }
         key_at(&self.values, self.links.prev(cursor.data().idx()))
+    }
+}
+
+/// `lists[cursor]` is the value of a cursor. The caller proves that it is in a list.
+impl<K: Key, T: Drop> Index<K> for StableLists<K, T> {
+    type Output = T;
+
+    ghost can_index = { λ lists cursor. is_some (value_in (K.data_of cursor) lists.lists) ≡ true };
+
+    ghost index_gives = { λ lists cursor value. value_in (K.data_of cursor) lists.lists ≡ Some value };
+
+    fn index(&self, cursor: K) -> &T {
+        let Some(value) = self.get(cursor) else {
+            unreachable!()
+        };
+        value
     }
 }

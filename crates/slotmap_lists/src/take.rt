@@ -1,6 +1,6 @@
 //! The calls that remove elements.
 
-ghost use Rattle.std.specs.Prelude.{◌≡◌, IfNone, IfSome, OnSome, None, option_map};
+ghost use Rattle.std.specs.Prelude.{◌≡◌, ◌≢◌, ℕ, IfNone, IfSome, OnSome, None, option_map};
 ghost use Rattle.slotmap.specs.Words.{IsSpent, KeepsSpent, Leaves, Removes};
 ghost use Rattle.slotmap_bounded.specs.Bounded.{space};
 ghost use Rattle.slotmap_list.specs.Sequence.{TakesFront, TakesBack};
@@ -53,6 +53,7 @@ impl<K: Key, T: Drop> StableLists<K, T> {
     pub fn pop_front(&mut self, list: usize) -> Option<(K, T)>
         ensures front { TakesFront (elements_of list self.old.lists) (option_map (λ e. (K.data_of e.0, e.1)) result) (elements_of list self.new.lists) }
         ensures removed { IfSome result (λ element. self.new.lists ≡ without_key (K.data_of element.0) self.old.lists) }
+        ensures others { (q : ℕ) → q ≢ list → elements_of q self.new.lists ≡ elements_of q self.old.lists }
         ensures cursors { IfSome result (λ element. Removes self.old.cursors (K.data_of element.0) self.new.cursors) }
         ensures for_good { IfSome result (λ element. IsSpent self.new.cursors (K.data_of element.0)) }
         ensures absent { IfSome result (λ element. value_in (K.data_of element.0) self.new.lists ≡ None) }
@@ -82,6 +83,7 @@ impl<K: Key, T: Drop> StableLists<K, T> {
     pub fn pop_back(&mut self, list: usize) -> Option<(K, T)>
         ensures back { TakesBack (elements_of list self.old.lists) (option_map (λ e. (K.data_of e.0, e.1)) result) (elements_of list self.new.lists) }
         ensures removed { IfSome result (λ element. self.new.lists ≡ without_key (K.data_of element.0) self.old.lists) }
+        ensures others { (q : ℕ) → q ≢ list → elements_of q self.new.lists ≡ elements_of q self.old.lists }
         ensures cursors { IfSome result (λ element. Removes self.old.cursors (K.data_of element.0) self.new.cursors) }
         ensures for_good { IfSome result (λ element. IsSpent self.new.cursors (K.data_of element.0)) }
         ensures absent { IfSome result (λ element. value_in (K.data_of element.0) self.new.lists ≡ None) }

@@ -85,7 +85,12 @@ fn move_beside(lists: &mut Numbers, turn: u64, cursor: Cursor, other: Cursor) ->
 }
 
 // Moves elements beside others.
-fn move_all_beside(lists: &mut Numbers, cursors: &[Cursor], random: &mut Random, turns: u64) -> Sum {
+fn move_all_beside(
+    lists: &mut Numbers,
+    cursors: &[Cursor],
+    random: &mut Random,
+    turns: u64,
+) -> Sum {
     let mut sum = Sum::new();
     for turn in 0..turns {
         let cursor = random.pick(cursors);
@@ -142,7 +147,11 @@ fn run_in(rt: &HostRuntime, lists: &mut Numbers, cursors: &mut Vec<Cursor>, size
         && tell(rt, "pushed", sum_of(lists))
         && change(rt, lists, cursors.as_slice(), size)
         && tell(rt, "popped", pop_all(lists, 1))
-        && tell(rt, "left", Sum::of(&[lists.len() as u64, lists.list_len(1) as u64]))
+        && tell(
+            rt,
+            "left",
+            Sum::of(&[lists.len() as u64, lists.list_len(1) as u64]),
+        )
 }
 
 /// Makes the calls of several lists, and returns whether all that may fail succeeded.
