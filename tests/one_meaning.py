@@ -32,6 +32,7 @@ SOURCES = {
     'links search rows': 'links of nodes or slots; a search along them; rows of a layout or of a file',
     'room': 'room for more keys: of a list, or in examples',
     'next_after': 'that call: of a map, or of a bounded map',
+    'add beside moves place take': 'that subject: of a list, or of several lists in one map',
 }
 
 LEMMAS = {
@@ -53,6 +54,8 @@ LEMMAS = {
     'SlotLemmas': 'the slots of a map in memory',
     'WellFormed': 'a map stays well formed',
     'WrittenLemmas': 'the list of slots that a map is written as',
+    'Changes Ends Written': 'what a change, an end or a write is: of links of numbers, of a list, or of several lists',
+    'Orders': 'the order in which keys are reused, or in which nodes are left',
 }
 
 SPECS = {
@@ -67,6 +70,8 @@ SPECS = {
     'Linked Segment Splice': 'lists that are kept as links, of keys and of numbers',
     'Lends': 'what a map ends as once a reference into it ends',
     'Pass': 'passes of a closure',
+    'Places': 'places and what they hold: of a map, or of several lists',
+    'Refused': 'why a call of a list, or of several lists, is refused',
     'Retain': '`retain`',
     'Slots': 'the slots of a map in memory',
     'Words': 'words of several files, passed on by one: of the core for the crates above, of all crates for callers',
@@ -84,6 +89,8 @@ WORDS = {
     'entry_map_ref entry_map entry_lender entry_key entry_value entry_with entry_without occupied_with IsWritten Enters IsEntryOf IfEntry': 'the same of the entries of each secondary map',
     'CanReplace AreValuesOf with_values dropped CallsAt': 'several keys or calls of a closure, of each kind of map',
     'Given Step DetachStep StepInsert StepRemove StepDetach StepReattach after_insert after_remove after_detach after_reattach': 'the same of each machine',
+    'keys_from': 'the part of a list from a key on',
+    'AreListed RefusesBeside': 'each key is once in one list, and in no other; why a call beside another key is refused',
     'key_after': 'the key after another one, in a list of keys or of elements',
     'IsOnce without is_key same times': 'lists of indices or keys: none twice; all but one; how often a key is in one',
     'AreApart AreLinked IsListed IsSegment followed link_between listed no_ends no_link own put_before': 'the same of lists of keys or edges, and of numbers',
@@ -93,6 +100,7 @@ WORDS = {
 # Lemmas that other files cite, of one name in one crate
 LEMMA_NAMES = {
     'detached full inserts no_memory reattach_served removed': 'that command of a run, and of a joined run',
+    'leads_on next_listed': 'a way goes on, and the next edge or key is listed: of two searches',
     'listed_once not_found taken goes_up put_len stands': 'the same of two models of a structure or a map',
     'closed_spec end_spec into_unboxed_spec inside_spec is_closed_spec of_unboxed_spec send': 'that function of each handle for C, by the name that the checker wants',
 }
@@ -102,6 +110,7 @@ PROVED_TWICE = {
     'dropped_push slots_equal': 'of words that each map has for itself',
     'keeps_lent yields_in_order': 'the same of the drain of each structure',
     'first second some_is own': 'a line of logic that a structure proves for itself',
+    'not_both on_ok no_room_made nothing_copied below_or_past get-remove_here get-remove_other': 'a line of logic that the crates of lists prove each for itself',
     'below-changed sorted-changed': 'of entries whose values are changed by the value, or by the key',
     'closed_spec end_spec into_unboxed_spec inside_spec is_closed_spec of_unboxed_spec': 'that function of each handle for C, by the name that the checker wants',
 }

@@ -3,7 +3,7 @@ use Rattle.slotmap_lists.proofs.Common.{bound, length, list_map, set, is_some, �
 use Rattle.slotmap_lists.proofs.Common.{eq-zero-or-pos, get-insert_here, get-insert_other, live-insert_still, same_or_other, tied, keys_total, exact_keys, itself, Key, key_cmp, Content, IsLive, IsContent}
 use Rattle.slotmap_lists.proofs.Common.{Inserts, Removes, IsNew, some_is, AreApart, same_or_not, one_itself, one_other, Lists, list_of, with_list, times, IsFree, IsIn, elements_at, AreLiveIndices}
 use Rattle.slotmap_lists.proofs.Common.{is_spot, element_put, index_put, spot_in, value_of, without, Place, Absent, absent, times_none, IsAt, element_without, part_left}
-use Rattle.slotmap_lists.proofs.Common.{put_between, content_apart, home_of, one_if, lists_at, AreListed, elements_of, value_in, with_elements, without_key, put_into}
+use Rattle.slotmap_lists.proofs.Common.{put_between, content_apart, home_of, one_if, lists_at, AreListed, elements_of, value_under, with_elements, without_key, put_into}
 use Rattle.std.proofs.Common.{◌≡◌, ◌≢◌, ◌+◌, ◌<◌, ◌≤◌, ◌∷◌, ◌++◌}
 use Rattle.slotmap_lists.proofs.Listed.{seen_list, as_many_lists, once, in_home, inside_home, apart_home, home_below, stands, stands_in, value_at}
 use Rattle.slotmap_lists.proofs.Spots.{IsSpot, spot_at, spot_there}
@@ -151,7 +151,7 @@ module _ {T : Type 0} {c : Content T} {homes : List ℕ} {s : Lists} (kept : Are
           (λ at p. ap (λ h. one_if h p) (sym (get_or-set_same homes k.index q 0 (omega (arith, below, kept.homes_long))))) (λ p more. (live, below)) refl
           (length-set homes k.index q)
 
-      pub lists_moved : lists_at c.live again ≡ put_into (element_put place) q k (value_in k lists) lists
+      pub lists_moved : lists_at c.live again ≡ put_into (element_put place) q k (value_under k lists) lists
       lists_moved =
           lists_set c.live rest q (index_put place k.index (list_of rest q))
           ∙ ap (λ l. with_elements q l (lists_at c.live rest)) (ap (elements_at c.live) (spot.number k.index)

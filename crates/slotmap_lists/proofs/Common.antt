@@ -24,4 +24,4 @@ pub use Rattle.slotmap_list.proofs.Elements.{times as key_times}
 pub use Rattle.slotmap_list.proofs.Parts.{IsAt, stands_at, value_there, value_none, next_there, prev_there, first_at, last_at, as_often, element_without, part_left}
 pub use Rattle.slotmap_list.proofs.Parts.{elements_first, elements-append, put_between, placed, content_apart, key_found, elements_long}
 pub use Rattle.slotmap_lists.specs.Kept.{home_of, one_if, lists_at, AreListed}
-pub use Rattle.slotmap_lists.specs.Sequences.{Sequences, elements_of, joined, value_in, list_with, number_with, with_elements, without_key, with_value_in, put_into, put_beside}
+pub use Rattle.slotmap_lists.specs.Sequences.{Sequences, elements_of, all_elements, value_under, list_with, number_with, with_elements, without_key, with_value_in, put_into, placed_beside}

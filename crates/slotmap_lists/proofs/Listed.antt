@@ -2,7 +2,7 @@
 use Rattle.slotmap_lists.proofs.Common.{length, is_some, ◌∙◌, option_map, ℕ, List, [], Option, Some, None, inl, inr, refl, sym, ap, arith, true, false, get_or-eq_default, read_map, eq-zero-or-pos}
 use Rattle.slotmap_lists.proofs.Common.{Key, key_cmp, Content, IsLive, len_alike, keys_total, some_is, same_or_not, one_itself, one_other, Lists, list_of, times, IsIn, elements_at, key_there, AreLiveIndices}
 use Rattle.slotmap_lists.proofs.Common.{value_of, first_or, last_or, key_after, key_before, IsOnce, none_there, once_if, once_long, times_none, key_times, IsAt, stands_at, value_there, value_none}
-use Rattle.slotmap_lists.proofs.Common.{next_there, prev_there, first_at, last_at, as_often, home_of, one_if, lists_at, AreListed, elements_of, joined, value_in, list_with, number_with, length-map}
+use Rattle.slotmap_lists.proofs.Common.{next_there, prev_there, first_at, last_at, as_often, home_of, one_if, lists_at, AreListed, elements_of, all_elements, value_under, list_with, number_with, length-map}
 use Rattle.slotmap_lists.proofs.Common.{option_copied}
 use Rattle.std.proofs.Common.{◌≡◌, ◌≢◌, ◌+◌, ◌<◌, ◌≤◌, ◌⊎◌, ◌∷◌, ◌++◌, Bor}
 use Rattle.slotmap_lists.proofs.Relinks.{one_most}
@@ -74,23 +74,23 @@ module _ {T : Type 0} {c : Content T} {homes : List ℕ} {s : Lists} (kept : Are
   nowhere k gone q = ap (value_of k) (seen_list c.live s q) ∙ value_none c.live k (list_of s q) gone
 
   -- a key has the value that the map has under it
-  pub value_at : (k : Key) → value_in k lists ≡ map.get c.live k
+  pub value_at : (k : Key) → value_under k lists ≡ map.get c.live k
   value_at k = by (map.get c.live k) refl
     where
-      by : (o : Option T) → map.get c.live k ≡ o → value_in k lists ≡ o
+      by : (o : Option T) → map.get c.live k ≡ o → value_under k lists ≡ o
       by None gone = none_joined k lists (nowhere k gone)
       by (Some v) found = stands_joined k v lists (home k) (stands_in k v found)
 
-  pub stands_if : (k : Key) → map.contains_key c.live k ≡ is_some (value_in k lists)
+  pub stands_if : (k : Key) → map.contains_key c.live k ≡ is_some (value_under k lists)
   stands_if k = sym (ap is_some (value_at k))
 
-  pub live_if : (k : Key) → is_some (value_in k lists) ≡ true → IsLive c k
+  pub live_if : (k : Key) → is_some (value_under k lists) ≡ true → IsLive c k
   live_if k some = stands_if k ∙ some
 
-  few_in : (q : Key) → key_times q (joined lists) ≤ 1
+  few_in : (q : Key) → key_times q (all_elements lists) ≤ 1
   few_in q = by (map.get c.live q) refl
     where
-      by : (o : Option T) → map.get c.live q ≡ o → key_times q (joined lists) ≤ 1
+      by : (o : Option T) → map.get c.live q ≡ o → key_times q (all_elements lists) ≤ 1
       by None gone = omega (
         arith,
         times_in q lists 0 (λ p other. times_none q (elements_of p lists) (nowhere q gone p)),
@@ -105,11 +105,11 @@ module _ {T : Type 0} {c : Content T} {homes : List ℕ} {s : Lists} (kept : Are
       )
 
   -- no key stands twice, and there is a live key for each element
-  pub no_key_twice : IsOnce (joined lists)
-  no_key_twice = once_if (joined lists) few_in
+  pub no_key_twice : IsOnce (all_elements lists)
+  no_key_twice = once_if (all_elements lists) few_in
 
-  pub live_long : map.len c.live ≡ length (joined lists)
-  live_long = sym (len_alike (map.from_entries (joined lists)) c.live (λ q. ap is_some (map.get-from_entries keys_total (joined lists) q ∙ value_at q))) ∙ once_long (joined lists) no_key_twice
+  pub live_long : map.len c.live ≡ length (all_elements lists)
+  live_long = sym (len_alike (map.from_entries (all_elements lists)) c.live (λ q. ap is_some (map.get-from_entries keys_total (all_elements lists) q ∙ value_at q))) ∙ once_long (all_elements lists) no_key_twice
 
   -- which list a key is in
   pub list_is : (k : Key) → IsLive c k → list_with k lists ≡ elements_of (home k) lists

@@ -1,6 +1,6 @@
 -- An element that is taken out of its list and put into a place of another one, or of the same.
 use Rattle.slotmap_lists.proofs.Common.{length, set, is_some, ◌∙◌, ℕ, List, Some, refl, sym, ap, arith, true, get_or-set_same, Key, Content, some_is, Lists, list_of, with_list, IsFree, IsIn, Place}
-use Rattle.slotmap_lists.proofs.Common.{is_spot, element_put, index_put, spot_in, owners_stay, home_of, lists_at, AreListed, elements_of, value_in, number_with, without_key, put_into, Sequences}
+use Rattle.slotmap_lists.proofs.Common.{is_spot, element_put, index_put, spot_in, owners_stay, home_of, lists_at, AreListed, elements_of, value_under, number_with, without_key, put_into, Sequences}
 use Rattle.std.proofs.Common.{◌≡◌, ◌<◌}
 use Rattle.slotmap_lists.proofs.Changes.{listed_moved, lists_moved, rest_has, taken_free}
 use Rattle.slotmap_lists.proofs.Listed.{as_many_lists, home_below, inside_home, live_if, homed_below, number_is, value_at}
@@ -12,7 +12,7 @@ pub seen_as : {T : Type 0} (s : Sequences T) (a lists : List (List (Key × T))) 
     → ◌≡◌ {A = Sequences T} (record { lists = a; cursors = b }) (record { lists = lists; cursors = s.cursors })
 seen_as s a all b lists cursors = λ i. record { lists = lists i; cursors = cursors i }
 
-module _ {T : Type 0} {c : Content T} {homes : List ℕ} {s : Lists} (kept : AreListed c homes s) (k : Key) (some : is_some (value_in k (lists_at c.live s)) ≡ true) where
+module _ {T : Type 0} {c : Content T} {homes : List ℕ} {s : Lists} (kept : AreListed c homes s) (k : Key) (some : is_some (value_under k (lists_at c.live s)) ≡ true) where
   alive : map.contains_key c.live k ≡ true
   alive = live_if kept k some
 
@@ -42,9 +42,9 @@ module _ {T : Type 0} {c : Content T} {homes : List ℕ} {s : Lists} (kept : Are
       pub list : q < length without_it.lists
       pub has : spot_in place (list_of without_it q)
       pub stays : AreListed c (set homes k.index q) again
-      pub lists : lists_at c.live again ≡ put_into (element_put place) q k (value_in k (lists_at c.live s)) (lists_at c.live s)
+      pub lists : lists_at c.live again ≡ put_into (element_put place) q k (value_under k (lists_at c.live s)) (lists_at c.live s)
       pub number : number_with k (lists_at c.live again) ≡ Some q
-      pub values : (p : Key) → value_in p (lists_at c.live again) ≡ value_in p (lists_at c.live s)
+      pub values : (p : Key) → value_under p (lists_at c.live again) ≡ value_under p (lists_at c.live s)
 
     pub moves : Moves
     moves =

@@ -1,6 +1,6 @@
 -- Several lists: which of them a key is in, what all of them have, and a change of one list or of each.
 use Rattle.slotmap_lists.proofs.Common.{zero, suc, length, list_map, is_some, ◌∙◌, option_map, ℕ, List, [], Option, Some, None, refl, sym, ap, arith, cond, false, Key, value_of}
-use Rattle.slotmap_lists.proofs.Common.{absent, none_there, without, times_none, times-append, key_times, elements_of, joined, list_with, number_with, with_elements}
+use Rattle.slotmap_lists.proofs.Common.{absent, none_there, without, times_none, times-append, key_times, elements_of, all_elements, list_with, number_with, with_elements}
 use Rattle.std.proofs.Common.{◌≡◌, ◌≢◌, ◌+◌, ◌<◌, ◌∷◌, ◌++◌, get_or}
 
 -- the same of each element
@@ -20,9 +20,9 @@ module _ {T : Type 0} where
 
   module _ (k : Key) where
     -- a key that is in no list
-    pub none_joined : (lists : List (List (Key × T))) → ((q : ℕ) → value_of k (elements_of q lists) ≡ None) → value_of k (joined lists) ≡ None
+    pub none_joined : (lists : List (List (Key × T))) → ((q : ℕ) → value_of k (elements_of q lists) ≡ None) → value_of k (all_elements lists) ≡ None
     none_joined [] none = refl
-    none_joined (es ∷ lists) none = value_later k es (joined lists) (none 0) ∙ none_joined lists (λ q. none (suc q))
+    none_joined (es ∷ lists) none = value_later k es (all_elements lists) (none 0) ∙ none_joined lists (λ q. none (suc q))
 
     pub none_list : (lists : List (List (Key × T))) → ((q : ℕ) → value_of k (elements_of q lists) ≡ None) → list_with k lists ≡ []
     none_list [] none = refl
@@ -34,26 +34,26 @@ module _ {T : Type 0} where
         ap (λ o. cond (is_some o) (Some 0) (option_map (λ n. n + 1) (number_with k lists))) (none 0) ∙ ap (option_map (λ n. n + 1)) (none_number lists (λ q. none (suc q)))
 
     -- a key that has no value is in no list
-    pub no_number_with : (lists : List (List (Key × T))) → is_some (value_of k (joined lists)) ≡ false → number_with k lists ≡ None
+    pub no_number_with : (lists : List (List (Key × T))) → is_some (value_of k (all_elements lists)) ≡ false → number_with k lists ≡ None
     no_number_with [] none = refl
     no_number_with (es ∷ lists) none = by (value_of k es) refl (λ more. no_number_with lists more)
       where
-        by : (o : Option T) → value_of k es ≡ o → (is_some (value_of k (joined lists)) ≡ false → number_with k lists ≡ None) → number_with k (es ∷ lists) ≡ None
+        by : (o : Option T) → value_of k es ≡ o → (is_some (value_of k (all_elements lists)) ≡ false → number_with k lists ≡ None) → number_with k (es ∷ lists) ≡ None
         by None is rest = ap (λ o. cond (is_some o) (Some 0) (option_map (λ n. n + 1) (number_with k lists))) is
-            ∙ ap (option_map (λ n. n + 1)) (rest (sym (ap is_some (value_later k es (joined lists) is)) ∙ none))
-        by (Some v) is rest = absurd (let h = sym (ap is_some (value_first k v es (joined lists) is)) ∙ none in cc)
+            ∙ ap (option_map (λ n. n + 1)) (rest (sym (ap is_some (value_later k es (all_elements lists) is)) ∙ none))
+        by (Some v) is rest = absurd (let h = sym (ap is_some (value_first k v es (all_elements lists) is)) ∙ none in cc)
 
     -- how often a key is in all lists
-    times_nowhere : (lists : List (List (Key × T))) → ((q : ℕ) → key_times k (elements_of q lists) ≡ 0) → key_times k (joined lists) ≡ 0
+    times_nowhere : (lists : List (List (Key × T))) → ((q : ℕ) → key_times k (elements_of q lists) ≡ 0) → key_times k (all_elements lists) ≡ 0
     times_nowhere [] none = refl
-    times_nowhere (es ∷ lists) none = omega (arith, times-append k es (joined lists), none 0, times_nowhere lists (λ q. none (suc q)))
+    times_nowhere (es ∷ lists) none = omega (arith, times-append k es (all_elements lists), none 0, times_nowhere lists (λ q. none (suc q)))
 
     pub times_in : (lists : List (List (Key × T))) (p : ℕ) → ((q : ℕ) → q ≢ p → key_times k (elements_of q lists) ≡ 0)
-        → key_times k (joined lists) ≡ key_times k (elements_of p lists)
+        → key_times k (all_elements lists) ≡ key_times k (elements_of p lists)
     times_in [] p none = refl
-    times_in (es ∷ lists) zero none = omega (arith, times-append k es (joined lists), times_nowhere lists (λ q. none (suc q) (λ e. omega arith)))
+    times_in (es ∷ lists) zero none = omega (arith, times-append k es (all_elements lists), times_nowhere lists (λ q. none (suc q) (λ e. omega arith)))
     times_in (es ∷ lists) (suc p) none =
-        omega (arith, times-append k es (joined lists), none 0 (λ e. omega arith), times_in lists p (λ q other. none (suc q) (λ e. other (omega arith))))
+        omega (arith, times-append k es (all_elements lists), none 0 (λ e. omega arith), times_in lists p (λ q other. none (suc q) (λ e. other (omega arith))))
 
     -- a key is in the list p, with this value, and in no other
     pub record StandsIn (v : T) (p : ℕ) (lists : List (List (Key × T))) : Type 0 where
@@ -64,10 +64,10 @@ module _ {T : Type 0} where
       later : (es : List (Key × T)) (lists : List (List (Key × T))) (p : ℕ) → StandsIn v (suc p) (es ∷ lists) → StandsIn v p lists
       later es lists p s = record { here = s.here; only = λ q other. s.only (suc q) (λ e. other (omega arith)) }
 
-      pub stands_joined : (lists : List (List (Key × T))) (p : ℕ) → StandsIn v p lists → value_of k (joined lists) ≡ Some v
+      pub stands_joined : (lists : List (List (Key × T))) (p : ℕ) → StandsIn v p lists → value_of k (all_elements lists) ≡ Some v
       stands_joined [] p s = absurd (let h = s.here in cc)
-      stands_joined (es ∷ lists) zero s = value_first k v es (joined lists) s.here
-      stands_joined (es ∷ lists) (suc p) s = value_later k es (joined lists) (s.only 0 (λ e. omega arith)) ∙ stands_joined lists p (later es lists p s)
+      stands_joined (es ∷ lists) zero s = value_first k v es (all_elements lists) s.here
+      stands_joined (es ∷ lists) (suc p) s = value_later k es (all_elements lists) (s.only 0 (λ e. omega arith)) ∙ stands_joined lists p (later es lists p s)
 
       pub stands_list : (lists : List (List (Key × T))) (p : ℕ) → StandsIn v p lists → list_with k lists ≡ elements_of p lists
       stands_list [] p s = absurd (let h = s.here in cc)
@@ -95,10 +95,10 @@ module _ {T : Type 0} where
       let rest = map_one f lists p (omega arith) (λ q other. same (suc q) (λ e. other (omega arith))) in let first = sym (same 0 (λ e. omega arith)) in λ i. first i ∷ rest i
 
   -- a key that has no value is in none of the lists, which are the same without it
-  pub no_key_without : (k : Key) (lists : List (List (Key × T))) → value_of k (joined lists) ≡ None → list_map (without k) lists ≡ lists
+  pub no_key_without : (k : Key) (lists : List (List (Key × T))) → value_of k (all_elements lists) ≡ None → list_map (without k) lists ≡ lists
   no_key_without k [] none = refl
   no_key_without k (es ∷ lists) none =
-      let many = times_none k (es ++ joined lists) none in
-      let sum = times-append k es (joined lists) in
+      let many = times_none k (es ++ all_elements lists) none in
+      let sum = times-append k es (all_elements lists) in
       let first = (absent k es (omega arith)).without_is in
-      let rest = no_key_without k lists (none_there k (joined lists) (omega arith)) in λ i. first i ∷ rest i
+      let rest = no_key_without k lists (none_there k (all_elements lists) (omega arith)) in λ i. first i ∷ rest i

@@ -5,7 +5,7 @@ use Rattle.slotmap_lists.specs.declared.AddError.{AddError}
 use Rattle.slotmap_lists.specs.declared.AddError.TheVariants.{NoList, Full, Memory}
 use Rattle.slotmap_list.specs.declared.PlaceError.{PlaceError}
 use Rattle.slotmap_list.specs.declared.PlaceError.TheVariants as place
-use Rattle.slotmap_lists.specs.Sequences.{Sequences, value_in}
+use Rattle.slotmap_lists.specs.Sequences.{Sequences, value_under}
 
 module _ {T : Type 0} where
   -- `NoList` if and only if there is no list p, else `Full` if and only if a map can hold no more keys, else `Memory`, where no room
@@ -17,6 +17,6 @@ module _ {T : Type 0} where
 
   -- `Gone` if and only if the cursor is in no list, and then the same; the value is returned
   abbrev pub RefusesBeside : Sequences T → Key → T → PlaceError T → Type 0
-  RefusesBeside s k v (place.Gone back) = (value_in k s.lists ≡ None) × (back ≡ v)
-  RefusesBeside s k v (place.Full back) = IsSome (value_in k s.lists) × ((used s.cursors ≡ most) × (back ≡ v))
-  RefusesBeside s k v (place.Memory back) = IsSome (value_in k s.lists) × (LacksRoom s.cursors × (back ≡ v))
+  RefusesBeside s k v (place.Gone back) = (value_under k s.lists ≡ None) × (back ≡ v)
+  RefusesBeside s k v (place.Full back) = IsSome (value_under k s.lists) × ((used s.cursors ≡ most) × (back ≡ v))
+  RefusesBeside s k v (place.Memory back) = IsSome (value_under k s.lists) × (LacksRoom s.cursors × (back ≡ v))

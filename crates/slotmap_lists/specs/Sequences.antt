@@ -23,13 +23,13 @@ module _ {T : Type 0} where
   elements_of p lists = slice_index_or lists p []
 
   -- the elements of all lists, one list after the other
-  abbrev pub joined : List (List (Key × T)) → List (Key × T)
-  joined [] = []
-  joined (es ∷ lists) = es ++ joined lists
+  abbrev pub all_elements : List (List (Key × T)) → List (Key × T)
+  all_elements [] = []
+  all_elements (es ∷ lists) = es ++ all_elements lists
 
   -- the value of a key, whichever list it is in
-  abbrev pub value_in : Key → List (List (Key × T)) → Option T
-  value_in k lists = value_of k (joined lists)
+  abbrev pub value_under : Key → List (List (Key × T)) → Option T
+  value_under k lists = value_of k (all_elements lists)
 
   -- the list that k is in; where k is in none, an empty one
   abbrev pub list_with : Key → List (List (Key × T)) → List (Key × T)
@@ -60,27 +60,27 @@ module _ {T : Type 0} where
 
   -- the lists with the element of k at the front of that of p, or at its back
   abbrev pub moved_to_front_of : Key → ℕ → List (List (Key × T)) → List (List (Key × T))
-  moved_to_front_of k p lists = put_into (λ x es. x ∷ es) p k (value_in k lists) lists
+  moved_to_front_of k p lists = put_into (λ x es. x ∷ es) p k (value_under k lists) lists
 
   abbrev pub moved_to_back_of : Key → ℕ → List (List (Key × T)) → List (List (Key × T))
-  moved_to_back_of k p lists = put_into (λ x es. es ++ x ∷ []) p k (value_in k lists) lists
+  moved_to_back_of k p lists = put_into (λ x es. es ++ x ∷ []) p k (value_under k lists) lists
 
   -- the lists once the element of k, which has this value, was taken out and put beside another one, in whichever list that is
-  abbrev pub put_beside : (Key × T → List (Key × T) → List (Key × T)) → Key → Option T → List (List (Key × T)) → List (List (Key × T))
-  put_beside put k None lists = lists
-  put_beside put k (Some v) lists = list_map (put (k, v)) (without_key k lists)
+  abbrev pub placed_beside : (Key × T → List (Key × T) → List (Key × T)) → Key → Option T → List (List (Key × T)) → List (List (Key × T))
+  placed_beside put k None lists = lists
+  placed_beside put k (Some v) lists = list_map (put (k, v)) (without_key k lists)
 
   -- the lists with the element of k after another one, or before it
   abbrev pub moved_behind : Key → Key → List (List (Key × T)) → List (List (Key × T))
-  moved_behind k other lists = put_beside (put_after other) k (value_in k lists) lists
+  moved_behind k other lists = placed_beside (put_after other) k (value_under k lists) lists
 
   abbrev pub moved_ahead : Key → Key → List (List (Key × T)) → List (List (Key × T))
-  moved_ahead k other lists = put_beside (put_before other) k (value_in k lists) lists
+  moved_ahead k other lists = placed_beside (put_before other) k (value_under k lists) lists
 
   -- k is in a list, and there is a list p
   abbrev pub can_move_to : Key → ℕ → List (List (Key × T)) → Bool
-  can_move_to k p lists = is_some (value_in k lists) && nat_lt p (length lists)
+  can_move_to k p lists = is_some (value_under k lists) && nat_lt p (length lists)
 
   -- both keys are in lists, of which there may be one, and they are two
   abbrev pub are_two_in : Key → Key → List (List (Key × T)) → Bool
-  are_two_in k other lists = not (is_key k other) && (is_some (value_in k lists) && is_some (value_in other lists))
+  are_two_in k other lists = not (is_key k other) && (is_some (value_under k lists) && is_some (value_under other lists))

@@ -4,7 +4,7 @@ ghost use Rattle.std.specs.Prelude.{◌≡◌, ◌+◌, ◌<◌, ◌≤◌, ◌+
 ghost use Rattle.slotmap.specs.Words.{HasVacant, Inserts, IsSpent, Keeps, KeepsSpent, used};
 ghost use Rattle.slotmap_bounded.specs.Bounded.{space};
 ghost use Rattle.slotmap_list.specs.Refused.{RefusesPush};
-ghost use Rattle.slotmap_lists.specs.Sequences.{elements_of, number_with, value_in, with_elements};
+ghost use Rattle.slotmap_lists.specs.Sequences.{elements_of, number_with, value_under, with_elements};
 ghost use Rattle.slotmap_lists.specs.Places.{element_put, is_spot};
 ghost use Rattle.slotmap_lists.specs.Refused.{RefusesAdd};
 
@@ -22,7 +22,7 @@ impl<K: Key, T: Drop> StableLists<K, T> {
         ensures ok { IfOk result (λ key. self.new.lists
             ≡ with_elements list (element_put place (K.data_of key, value) (elements_of list self.old.lists)) self.old.lists) }
         ensures in_list { IfOk result (λ key. number_with (K.data_of key) self.new.lists ≡ Some list) }
-        ensures fresh { IfOk result (λ key. value_in (K.data_of key) self.old.lists ≡ None) }
+        ensures fresh { IfOk result (λ key. value_under (K.data_of key) self.old.lists ≡ None) }
         ensures unspent { IfOk result (λ key. IsSpent self.old.cursors (K.data_of key) → ⊥) }
         ensures cursors { IfOk result (λ key. Inserts self.old.cursors (K.data_of key) tt self.new.cursors) }
         ensures used { OnOk result (used self.new.cursors ≡ used self.old.cursors + 1) }
@@ -62,7 +62,7 @@ impl<K: Key, T: Drop> StableLists<K, T> {
         ensures lists { self.new.lists
             ≡ with_elements list (element_put place (K.data_of result, value) (elements_of list self.old.lists)) self.old.lists }
         ensures in_list { number_with (K.data_of result) self.new.lists ≡ Some list }
-        ensures fresh { value_in (K.data_of result) self.old.lists ≡ None }
+        ensures fresh { value_under (K.data_of result) self.old.lists ≡ None }
         ensures unspent { IsSpent self.old.cursors (K.data_of result) → ⊥ }
         ensures cursors { Inserts self.old.cursors (K.data_of result) tt self.new.cursors }
         ensures used { used self.new.cursors ≡ used self.old.cursors + 1 }
@@ -82,7 +82,7 @@ impl<K: Key, T: Drop> StableLists<K, T> {
         ensures ok { IfOk result (λ key. self.new.lists
             ≡ with_elements list (element_put place (K.data_of key, value) (elements_of list self.old.lists)) self.old.lists) }
         ensures in_list { IfOk result (λ key. number_with (K.data_of key) self.new.lists ≡ Some list) }
-        ensures fresh { IfOk result (λ key. value_in (K.data_of key) self.old.lists ≡ None) }
+        ensures fresh { IfOk result (λ key. value_under (K.data_of key) self.old.lists ≡ None) }
         ensures unspent { IfOk result (λ key. IsSpent self.old.cursors (K.data_of key) → ⊥) }
         ensures cursors { IfOk result (λ key. Inserts self.old.cursors (K.data_of key) tt self.new.cursors) }
         ensures used { OnOk result (used self.new.cursors ≡ used self.old.cursors + 1) }
@@ -124,7 +124,7 @@ impl<K: Key, T: Drop> StableLists<K, T> {
     pub fn push_front(&mut self, list: usize, value: T) -> Result<K, AddError<T>>
         ensures ok { IfOk result (λ key. self.new.lists ≡ with_elements list ((K.data_of key, value) ∷ elements_of list self.old.lists) self.old.lists) }
         ensures in_list { IfOk result (λ key. number_with (K.data_of key) self.new.lists ≡ Some list) }
-        ensures fresh { IfOk result (λ key. value_in (K.data_of key) self.old.lists ≡ None) }
+        ensures fresh { IfOk result (λ key. value_under (K.data_of key) self.old.lists ≡ None) }
         ensures unspent { IfOk result (λ key. IsSpent self.old.cursors (K.data_of key) → ⊥) }
         ensures cursors { IfOk result (λ key. Inserts self.old.cursors (K.data_of key) tt self.new.cursors) }
         ensures used { OnOk result (used self.new.cursors ≡ used self.old.cursors + 1) }
@@ -159,7 +159,7 @@ impl<K: Key, T: Drop> StableLists<K, T> {
     pub fn push_back(&mut self, list: usize, value: T) -> Result<K, AddError<T>>
         ensures ok { IfOk result (λ key. self.new.lists ≡ with_elements list (elements_of list self.old.lists ++ (K.data_of key, value) ∷ []) self.old.lists) }
         ensures in_list { IfOk result (λ key. number_with (K.data_of key) self.new.lists ≡ Some list) }
-        ensures fresh { IfOk result (λ key. value_in (K.data_of key) self.old.lists ≡ None) }
+        ensures fresh { IfOk result (λ key. value_under (K.data_of key) self.old.lists ≡ None) }
         ensures unspent { IfOk result (λ key. IsSpent self.old.cursors (K.data_of key) → ⊥) }
         ensures cursors { IfOk result (λ key. Inserts self.old.cursors (K.data_of key) tt self.new.cursors) }
         ensures used { OnOk result (used self.new.cursors ≡ used self.old.cursors + 1) }

@@ -4,7 +4,7 @@ ghost use Rattle.std.specs.Prelude.{◌≡◌, ◌+◌, ◌<◌, ◌≤◌, IsOk
 ghost use Rattle.slotmap.specs.Words.{HasVacant, Inserts, IsSpent, Keeps, KeepsSpent, used};
 ghost use Rattle.slotmap_bounded.specs.Bounded.{space};
 ghost use Rattle.slotmap_list.specs.Sequence.{put_after, put_before};
-ghost use Rattle.slotmap_lists.specs.Sequences.{number_with, value_in};
+ghost use Rattle.slotmap_lists.specs.Sequences.{number_with, value_under};
 ghost use Rattle.slotmap_lists.specs.Refused.{RefusesBeside};
 
 use crate::StableLists;
@@ -30,15 +30,15 @@ impl<K: Key, T: Drop> StableLists<K, T> {
     pub fn insert_before(&mut self, cursor: K, value: T) -> Result<K, PlaceError<T>>
         ensures ok { IfOk result (λ key. self.new.lists ≡ list_map (put_before (K.data_of cursor) (K.data_of key, value)) self.old.lists) }
         ensures in_list { IfOk result (λ key. number_with (K.data_of key) self.new.lists ≡ number_with (K.data_of cursor) self.old.lists) }
-        ensures fresh { IfOk result (λ key. value_in (K.data_of key) self.old.lists ≡ None) }
+        ensures fresh { IfOk result (λ key. value_under (K.data_of key) self.old.lists ≡ None) }
         ensures unspent { IfOk result (λ key. IsSpent self.old.cursors (K.data_of key) → ⊥) }
         ensures cursors { IfOk result (λ key. Inserts self.old.cursors (K.data_of key) tt self.new.cursors) }
         ensures used { OnOk result (used self.new.cursors ≡ used self.old.cursors + 1) }
-        ensures stands { OnOk result (IsSome (value_in (K.data_of cursor) self.old.lists)) }
+        ensures stands { OnOk result (IsSome (value_under (K.data_of cursor) self.old.lists)) }
         ensures err { IfErr result (RefusesBeside self.old (K.data_of cursor) value) }
-        ensures stale { value_in (K.data_of cursor) self.old.lists ≡ None → self.new ≡ self.old }
-        ensures reuses { IsSome (value_in (K.data_of cursor) self.old.lists) → HasVacant self.old.cursors → IsOk result }
-        ensures room { IsSome (value_in (K.data_of cursor) self.old.lists) → 0 < self.old.cursors.room → IsOk result }
+        ensures stale { value_under (K.data_of cursor) self.old.lists ≡ None → self.new ≡ self.old }
+        ensures reuses { IsSome (value_under (K.data_of cursor) self.old.lists) → HasVacant self.old.cursors → IsOk result }
+        ensures room { IsSome (value_under (K.data_of cursor) self.old.lists) → 0 < self.old.cursors.room → IsOk result }
         ensures capacity { self.old.cursors.capacity ≤ self.new.cursors.capacity }
         ensures in_place { 0 < self.old.cursors.room → space self.new.cursors ≡ space self.old.cursors }
         ensures unchanged { OnErr result (self.new.lists ≡ self.old.lists) }
@@ -73,15 +73,15 @@ impl<K: Key, T: Drop> StableLists<K, T> {
     pub fn insert_after(&mut self, cursor: K, value: T) -> Result<K, PlaceError<T>>
         ensures ok { IfOk result (λ key. self.new.lists ≡ list_map (put_after (K.data_of cursor) (K.data_of key, value)) self.old.lists) }
         ensures in_list { IfOk result (λ key. number_with (K.data_of key) self.new.lists ≡ number_with (K.data_of cursor) self.old.lists) }
-        ensures fresh { IfOk result (λ key. value_in (K.data_of key) self.old.lists ≡ None) }
+        ensures fresh { IfOk result (λ key. value_under (K.data_of key) self.old.lists ≡ None) }
         ensures unspent { IfOk result (λ key. IsSpent self.old.cursors (K.data_of key) → ⊥) }
         ensures cursors { IfOk result (λ key. Inserts self.old.cursors (K.data_of key) tt self.new.cursors) }
         ensures used { OnOk result (used self.new.cursors ≡ used self.old.cursors + 1) }
-        ensures stands { OnOk result (IsSome (value_in (K.data_of cursor) self.old.lists)) }
+        ensures stands { OnOk result (IsSome (value_under (K.data_of cursor) self.old.lists)) }
         ensures err { IfErr result (RefusesBeside self.old (K.data_of cursor) value) }
-        ensures stale { value_in (K.data_of cursor) self.old.lists ≡ None → self.new ≡ self.old }
-        ensures reuses { IsSome (value_in (K.data_of cursor) self.old.lists) → HasVacant self.old.cursors → IsOk result }
-        ensures room { IsSome (value_in (K.data_of cursor) self.old.lists) → 0 < self.old.cursors.room → IsOk result }
+        ensures stale { value_under (K.data_of cursor) self.old.lists ≡ None → self.new ≡ self.old }
+        ensures reuses { IsSome (value_under (K.data_of cursor) self.old.lists) → HasVacant self.old.cursors → IsOk result }
+        ensures room { IsSome (value_under (K.data_of cursor) self.old.lists) → 0 < self.old.cursors.room → IsOk result }
         ensures capacity { self.old.cursors.capacity ≤ self.new.cursors.capacity }
         ensures in_place { 0 < self.old.cursors.room → space self.new.cursors ≡ space self.old.cursors }
         ensures unchanged { OnErr result (self.new.lists ≡ self.old.lists) }

@@ -45,7 +45,7 @@ ghost use Rattle.slotmap.specs.Words.{Key as KeyOf, IsLive, IsNew, IsSpent, Refu
 ghost use Rattle.slotmap_links.specs.Lists.{with_capacity, with_members, with_owners};
 ghost use Rattle.slotmap_list.specs.Kept.{key_there};
 ghost use Rattle.slotmap_list.specs.Sequence.{value_of, first_or, last_or, key_after, key_before, IsOnce};
-ghost use Rattle.slotmap_lists.specs.Sequences.{elements_of, joined, value_in, list_with, number_with};
+ghost use Rattle.slotmap_lists.specs.Sequences.{elements_of, all_elements, value_under, list_with, number_with};
 
 use slotmap::{Key, ReserveError};
 use slotmap_bounded::BoundedMap;
@@ -268,10 +268,10 @@ impl<K: Key, T: Drop> StableLists<K, T> {
     /// assert_eq!(rt; lists.len(), 2);
     /// ```
     pub fn len(&self) -> usize
-        ensures value { result ≡ length (joined self.now.lists) }
-        ensures once { IsOnce (joined self.now.lists) }
+        ensures value { result ≡ length (all_elements self.now.lists) }
+        ensures once { IsOnce (all_elements self.now.lists) }
         ensures live { result ≡ map.len self.now.cursors.live }
-        ensures same_keys { (k : KeyOf) → map.contains_key self.now.cursors.live k ≡ is_some (value_in k self.now.lists) }
+        ensures same_keys { (k : KeyOf) → map.contains_key self.now.cursors.live k ≡ is_some (value_under k self.now.lists) }
     {
         self.values.len()
     }
@@ -285,7 +285,7 @@ impl<K: Key, T: Drop> StableLists<K, T> {
     /// assert!(rt; !lists.is_empty());
     /// ```
     pub fn is_empty(&self) -> bool
-        ensures { IsTrue result ↔ (length (joined self.now.lists) ≡ 0) }
+        ensures { IsTrue result ↔ (length (all_elements self.now.lists) ≡ 0) }
     {
         self.len() == 0
     }
@@ -316,7 +316,7 @@ impl<K: Key, T: Drop> StableLists<K, T> {
     /// assert!(rt; !lists.contains(one));
     /// ```
     pub fn contains(&self, cursor: K) -> bool
-        ensures value { result ≡ is_some (value_in (K.data_of cursor) self.now.lists) }
+        ensures value { result ≡ is_some (value_under (K.data_of cursor) self.now.lists) }
         ensures live { result ≡ map.contains_key self.now.cursors.live (K.data_of cursor) }
     {
         self.values.contains_key(cursor)
@@ -344,7 +344,7 @@ impl<K: Key, T: Drop> StableLists<K, T> {
     // The number of the list that a live cursor is in.
     #[inline(always)]
     fn home(&self, cursor: K) -> u32
-        requires { is_some (value_in (K.data_of cursor) self.now.lists) ≡ true }
+        requires { is_some (value_under (K.data_of cursor) self.now.lists) ≡ true }
         ensures value { number_with (K.data_of cursor) self.now.lists ≡ Some result }
         ensures below { result < length self.now.lists }
         ensures here { is_some (value_of (K.data_of cursor) (elements_of result self.now.lists)) ≡ true }
@@ -363,7 +363,7 @@ impl<K: Key, T: Drop> StableLists<K, T> {
     /// assert_eq!(rt; lists.get(one), None);
     /// ```
     pub fn get(&self, cursor: K) -> Option<&T>
-        ensures value { option_copied result ≡ value_in (K.data_of cursor) self.now.lists }
+        ensures value { option_copied result ≡ value_under (K.data_of cursor) self.now.lists }
         ensures gone { IsSpent self.now.cursors (K.data_of cursor) → result ≡ None }
     {
         self.values.get(cursor)
@@ -445,9 +445,9 @@ impl<K: Key, T: Drop> StableLists<K, T> {
 impl<K: Key, T: Drop> Index<K> for StableLists<K, T> {
     type Output = T;
 
-    ghost can_index = { λ lists cursor. is_some (value_in (K.data_of cursor) lists.lists) ≡ true };
+    ghost can_index = { λ lists cursor. is_some (value_under (K.data_of cursor) lists.lists) ≡ true };
 
-    ghost index_gives = { λ lists cursor value. value_in (K.data_of cursor) lists.lists ≡ Some value };
+    ghost index_gives = { λ lists cursor value. value_under (K.data_of cursor) lists.lists ≡ Some value };
 
     fn index(&self, cursor: K) -> &T {
         let Some(value) = self.get(cursor) else {

@@ -5,7 +5,7 @@ ghost use Rattle.std.specs.Option.{option_copied_mut};
 ghost use Rattle.std.specs.Borrow.{sem};
 ghost use Rattle.slotmap.specs.Words.{Key as KeyOf};
 ghost use Rattle.slotmap_list.specs.Sequence.{first_or, last_or, key_after, key_before};
-ghost use Rattle.slotmap_lists.specs.Sequences.{elements_of, list_with, number_with, value_in, without_key, put_into, are_two_in, can_move_to};
+ghost use Rattle.slotmap_lists.specs.Sequences.{elements_of, list_with, number_with, value_under, without_key, put_into, are_two_in, can_move_to};
 ghost use Rattle.slotmap_lists.specs.Sequences.{moved_to_front_of, moved_to_back_of, moved_behind, moved_ahead};
 ghost use Rattle.slotmap_lists.specs.Places.{element_put, is_spot};
 
@@ -29,7 +29,7 @@ impl<K: Key, T: Drop> StableLists<K, T> {
     /// ```
     pub fn get_mut(&mut self, cursor: K) -> Option<&mut T>
         ensures* writes_back { sem 𝓛 (lends_in K.row T.row self.entry (K.data_of cursor) result) }
-        ensures value { option_copied_mut result ≡ value_in (K.data_of cursor) self.old.lists }
+        ensures value { option_copied_mut result ≡ value_under (K.data_of cursor) self.old.lists }
     {
         match self.values.get_mut(cursor) {
             Some(value) => Some(value),
@@ -57,7 +57,7 @@ impl<K: Key, T: Drop> StableLists<K, T> {
             { lists = if result then moved_to_front_of (K.data_of cursor) list self.old.lists else self.old.lists } }
         ensures in_list { IsTrue result → number_with (K.data_of cursor) self.new.lists ≡ Some list }
         ensures first { IsTrue result → first_or (elements_of list self.new.lists) None ≡ Some (K.data_of cursor) }
-        ensures values { (q : KeyOf) → value_in q self.new.lists ≡ value_in q self.old.lists }
+        ensures values { (q : KeyOf) → value_under q self.new.lists ≡ value_under q self.old.lists }
     {
         if !self.can_move_to(cursor, list) {
             return false;
@@ -86,7 +86,7 @@ impl<K: Key, T: Drop> StableLists<K, T> {
             { lists = if result then moved_to_back_of (K.data_of cursor) list self.old.lists else self.old.lists } }
         ensures in_list { IsTrue result → number_with (K.data_of cursor) self.new.lists ≡ Some list }
         ensures last { IsTrue result → last_or (elements_of list self.new.lists) None ≡ Some (K.data_of cursor) }
-        ensures values { (q : KeyOf) → value_in q self.new.lists ≡ value_in q self.old.lists }
+        ensures values { (q : KeyOf) → value_under q self.new.lists ≡ value_under q self.old.lists }
     {
         if !self.can_move_to(cursor, list) {
             return false;
@@ -113,7 +113,7 @@ impl<K: Key, T: Drop> StableLists<K, T> {
         ensures moved { self.new ≡ record self.old
             { lists = if result then moved_ahead (K.data_of cursor) (K.data_of other) self.old.lists else self.old.lists } }
         ensures in_list { IsTrue result → number_with (K.data_of cursor) self.new.lists ≡ number_with (K.data_of other) self.old.lists }
-        ensures values { (q : KeyOf) → value_in q self.new.lists ≡ value_in q self.old.lists }
+        ensures values { (q : KeyOf) → value_under q self.new.lists ≡ value_under q self.old.lists }
     {
         if !self.has_two(cursor, other) {
             return false;
@@ -141,7 +141,7 @@ impl<K: Key, T: Drop> StableLists<K, T> {
         ensures moved { self.new ≡ record self.old
             { lists = if result then moved_behind (K.data_of cursor) (K.data_of other) self.old.lists else self.old.lists } }
         ensures in_list { IsTrue result → number_with (K.data_of cursor) self.new.lists ≡ number_with (K.data_of other) self.old.lists }
-        ensures values { (q : KeyOf) → value_in q self.new.lists ≡ value_in q self.old.lists }
+        ensures values { (q : KeyOf) → value_under q self.new.lists ≡ value_under q self.old.lists }
     {
         if !self.has_two(cursor, other) {
             return false;
@@ -153,15 +153,15 @@ impl<K: Key, T: Drop> StableLists<K, T> {
 
     // Moves the element of a cursor to a place in a list.
     fn move_to(&mut self, cursor: K, list: u32, place: Place)
-        requires there { is_some (value_in (K.data_of cursor) self.old.lists) ≡ true }
+        requires there { is_some (value_under (K.data_of cursor) self.old.lists) ≡ true }
         requires list { list < length self.old.lists }
         requires place { is_spot place (elements_of list (without_key (K.data_of cursor) self.old.lists)) ≡ true }
         ensures moved { self.new ≡ record self.old {
           lists = put_into (element_put place) list (K.data_of cursor)
-              (value_in (K.data_of cursor) self.old.lists) self.old.lists;
+              (value_under (K.data_of cursor) self.old.lists) self.old.lists;
         } }
         ensures in_list { number_with (K.data_of cursor) self.new.lists ≡ Some list }
-        ensures values { (q : KeyOf) → value_in q self.new.lists ≡ value_in q self.old.lists }
+        ensures values { (q : KeyOf) → value_under q self.new.lists ≡ value_under q self.old.lists }
     {
         let index = cursor.data().idx();
         let home = home_at(&self.homes, index);

@@ -4,7 +4,7 @@ ghost use Rattle.std.specs.Prelude.{◌≡◌, ◌≢◌, ℕ, IfNone, IfSome, O
 ghost use Rattle.slotmap.specs.Words.{IsSpent, KeepsSpent, Leaves, Removes};
 ghost use Rattle.slotmap_bounded.specs.Bounded.{space};
 ghost use Rattle.slotmap_list.specs.Sequence.{TakesFront, TakesBack};
-ghost use Rattle.slotmap_lists.specs.Sequences.{elements_of, value_in, without_key};
+ghost use Rattle.slotmap_lists.specs.Sequences.{elements_of, value_under, without_key};
 
 use crate::StableLists;
 use crate::place::home_at;
@@ -22,9 +22,9 @@ impl<K: Key, T: Drop> StableLists<K, T> {
     /// assert_eq!(rt; lists.remove(one), None);
     /// ```
     pub fn remove(&mut self, cursor: K) -> Option<T>
-        ensures value { result ≡ value_in (K.data_of cursor) self.old.lists }
+        ensures value { result ≡ value_under (K.data_of cursor) self.old.lists }
         ensures removed { self.new.lists ≡ without_key (K.data_of cursor) self.old.lists }
-        ensures absent { value_in (K.data_of cursor) self.new.lists ≡ None }
+        ensures absent { value_under (K.data_of cursor) self.new.lists ≡ None }
         ensures cursors { OnSome result (Removes self.old.cursors (K.data_of cursor) self.new.cursors) }
         ensures for_good { OnSome result (IsSpent self.new.cursors (K.data_of cursor)) }
         ensures gone { KeepsSpent self.old.cursors self.new.cursors }
@@ -56,7 +56,7 @@ impl<K: Key, T: Drop> StableLists<K, T> {
         ensures others { (q : ℕ) → q ≢ list → elements_of q self.new.lists ≡ elements_of q self.old.lists }
         ensures cursors { IfSome result (λ element. Removes self.old.cursors (K.data_of element.0) self.new.cursors) }
         ensures for_good { IfSome result (λ element. IsSpent self.new.cursors (K.data_of element.0)) }
-        ensures absent { IfSome result (λ element. value_in (K.data_of element.0) self.new.lists ≡ None) }
+        ensures absent { IfSome result (λ element. value_under (K.data_of element.0) self.new.lists ≡ None) }
         ensures gone { KeepsSpent self.old.cursors self.new.cursors }
         ensures leaves { Leaves self.old.cursors self.new.cursors }
         ensures capacity { space self.new.cursors ≡ space self.old.cursors }
@@ -86,7 +86,7 @@ impl<K: Key, T: Drop> StableLists<K, T> {
         ensures others { (q : ℕ) → q ≢ list → elements_of q self.new.lists ≡ elements_of q self.old.lists }
         ensures cursors { IfSome result (λ element. Removes self.old.cursors (K.data_of element.0) self.new.cursors) }
         ensures for_good { IfSome result (λ element. IsSpent self.new.cursors (K.data_of element.0)) }
-        ensures absent { IfSome result (λ element. value_in (K.data_of element.0) self.new.lists ≡ None) }
+        ensures absent { IfSome result (λ element. value_under (K.data_of element.0) self.new.lists ≡ None) }
         ensures gone { KeepsSpent self.old.cursors self.new.cursors }
         ensures leaves { Leaves self.old.cursors self.new.cursors }
         ensures capacity { space self.new.cursors ≡ space self.old.cursors }

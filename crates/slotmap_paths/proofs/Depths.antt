@@ -15,8 +15,8 @@ use Rattle.slotmap_links.specs.Lists.{first_or}
 use Rattle.slotmap_graph.specs.Parts.{IsJoined, Seen, SeenEdge, edges_at, ends, from, key_after}
 use Rattle.slotmap_graph.specs.Search.{HasEdge, HasNext, Leads}
 use Rattle.slotmap_graph.proofs.Callers.{edge_listed, listed_edge}
-use Rattle.slotmap_paths.specs.Depth.{IsPostOrder, behind}
-use Rattle.slotmap_paths.specs.Deepening.{Deepening, Enters, Found, IsOpen, OpenNode, Visiting, ahead, edges_left, keys_from, open_node, open_nodes, opened_by, work_left}
+use Rattle.slotmap_paths.specs.Depth.{IsPostOrder, keys_behind}
+use Rattle.slotmap_paths.specs.Deepening.{Deepening, Enters, Found, IsOpen, OpenNode, SearchesFrom, ahead, edges_left, keys_from, open_node, open_nodes, opened_by, work_left}
 use Rattle.slotmap_paths.specs.declared.depth.Open.{Open}
 use Rattle.slotmap_paths.proofs.Candidates.{owed_one}
 use Rattle.slotmap_paths.proofs.Orders.{leaves_by_open, order_left, order_none, order_opened}
@@ -156,7 +156,7 @@ module _ {N E : Type 0} (s : Seen N E) (joined : IsJoined s) (well : IsContent t
     others_as_before q other = rw puts (get-put_other true s.nodes well found beside y live tt q other)
 
   pub visiting_start : (left : List Key) → Deepening s before [] left → IsLive s.nodes start → (new : Found) (opened : List OpenNode) → Enters s before [] start new opened
-      → Visiting s before start new opened left
+      → SearchesFrom s before start new opened left
   visiting_start left deep live new opened (inl was) = rw (was.1, was.2) (record {
     deepening = deep;
     kept = λ x had. had;
@@ -182,11 +182,11 @@ module _ {N E : Type 0} (s : Seen N E) (joined : IsJoined s) (well : IsContent t
       })
 
   -- a node is entered from the open ones, of which all lead to it
-  module _ (found : Found) (opened : List OpenNode) (left : List Key) (v : Visiting s before start found opened left) (y : Key) (live : IsLive s.nodes y)
+  module _ (found : Found) (opened : List OpenNode) (left : List Key) (v : SearchesFrom s before start found opened left) (y : Key) (live : IsLive s.nodes y)
       (leads : (a : Key) → 0 < times a (open_nodes opened) → Leads s.edges.live a y) (begun : Leads s.edges.live start y) (after : List OpenNode)
       (same_nodes : open_nodes after ≡ open_nodes opened)
       (all : (new : Found) → ((q : Key) → contains_key found q ≡ true → contains_key new q ≡ true) → contains_key new y ≡ true → All (IsOpen s new) after) where
-    pub visiting_entered : (new : Found) (opened' : List OpenNode) → Enters s found after y new opened' → Visiting s before start new opened' left
+    pub visiting_entered : (new : Found) (opened' : List OpenNode) → Enters s found after y new opened' → SearchesFrom s before start new opened' left
     visiting_entered new opened' (inl was) = rw (was.1, was.2) (record {
       deepening = deepening_passed s joined found opened left v.deepening after same_nodes (all found (λ q had. had) was.0);
       kept = v.kept;
@@ -213,7 +213,7 @@ module _ {N E : Type 0} (s : Seen N E) (joined : IsJoined s) (well : IsContent t
         })
 
   -- an edge of the node in front is followed
-  module _ (found : Found) (x k : Key) (opened : List OpenNode) (left : List Key) (v : Visiting s before start found ((x, Some k) ∷ opened) left) where
+  module _ (found : Found) (x k : Key) (opened : List OpenNode) (left : List Key) (v : SearchesFrom s before start found ((x, Some k) ∷ opened) left) where
     front_open : IsOpen s found (x, Some k)
     front_open = All-head (IsOpen s found) (x, Some k) opened v.deepening.followed
 
@@ -241,7 +241,7 @@ module _ {N E : Type 0} (s : Seen N E) (joined : IsJoined s) (well : IsContent t
       to_live : IsLive s.nodes to
       to_live = rw (← to_is) ((joined.ends k next_edge.0 next_edge.1).1)
 
-      pub visiting_followed : Visiting s before start new opened' left
+      pub visiting_followed : SearchesFrom s before start new opened' left
       visiting_followed =
           visiting_entered found ((x, Some k) ∷ opened) left v to to_live (λ b more. rw (← to_is) (leads_there b more))
           (rw (← to_is) (leads_further s.edges.live start x (next_edge.0.to) (v.opened_led x (omega (arith, times_first x x (open_nodes opened), one_itself x))) edge_there))
@@ -271,8 +271,8 @@ module _ {N E : Type 0} (s : Seen N E) (joined : IsJoined s) (well : IsContent t
               ))
 
   -- the node in front is left
-  module _ (found : Found) (x : Key) (opened : List OpenNode) (left : List Key) (v : Visiting s before start found ((x, None) ∷ opened) left) where
-    pub visiting_left : Visiting s before start found opened (left ++ x ∷ [])
+  module _ (found : Found) (x : Key) (opened : List OpenNode) (left : List Key) (v : SearchesFrom s before start found ((x, None) ∷ opened) left) where
+    pub visiting_left : SearchesFrom s before start found opened (left ++ x ∷ [])
     visiting_left = record {
       deepening = deepening_left s joined found x opened left v.deepening;
       kept = v.kept;
@@ -301,7 +301,7 @@ module _ {N E : Type 0} (s : Seen N E) (found : Found) (left : List Key) (deep :
   pub ended_order : IsPostOrder s.edges.live left
   ended_order a b after way =
       let all : left ++ [] ≡ left = append-nil left in
-      rw all at (deep.order a b (behind_some a b left after) (omega (arith, after, ap (λ l. times b (behind a l)) all)) way)
+      rw all at (deep.order a b (behind_some a b left after) (omega (arith, after, ap (λ l. times b (keys_behind a l)) all)) way)
 
   -- all nodes were found
   module _ (all : (x : Key) → IsLive s.nodes x → contains_key found x ≡ true) where
@@ -320,7 +320,7 @@ module _ {N E : Type 0} (s : Seen N E) (found : Found) (left : List Key) (deep :
     ended_count = as_many left s.nodes.live left_once (λ k more. deep.live k (left_there k more)) (λ k live. found_left k (all k live))
 
 -- a search from a node ended, where none was found before
-module _ {N E : Type 0} (s : Seen N E) (start : Key) (found : Found) (left : List Key) (v : Visiting s map.empty start found [] left) where
+module _ {N E : Type 0} (s : Seen N E) (start : Key) (found : Found) (left : List Key) (v : SearchesFrom s map.empty start found [] left) where
   pub visited_led : (x : Key) → 0 < times x left → Leads s.edges.live start x
   visited_led x more = elim (v.led x (left_there s found left v.deepening x more)) [
     | inl had ↦ absurd (grind (arith, secondary, had))
@@ -344,10 +344,10 @@ module _ {K : Type 0} (data_of : K → Key) where
   -- by what the calls of a step leave
   module _ {N E : Type 0} (s : Seen N E) (joined : IsJoined s) (well : IsContent true s.nodes) (found : Found) (opened : List (Open K)) (left : List K) (at : Open K) where
     abbrev IsVisiting : Found → Key → Type 0
-    IsVisiting before start = Visiting s before start found (open_node data_of at ∷ opened_by data_of opened) (list_map data_of left)
+    IsVisiting before start = SearchesFrom s before start found (open_node data_of at ∷ opened_by data_of opened) (list_map data_of left)
 
     module _ (none : at.next ≡ None) where
-      pub leaves_node : (now : List K) → now ≡ left ++ at.node ∷ [] → (before : Found) (start : Key) → IsVisiting before start → Visiting s before start found (opened_by data_of opened) (list_map data_of now)
+      pub leaves_node : (now : List K) → now ≡ left ++ at.node ∷ [] → (before : Found) (start : Key) → IsVisiting before start → SearchesFrom s before start found (opened_by data_of opened) (list_map data_of now)
       leaves_node now is before start v = rw (ap (list_map data_of) is ∙ map-append data_of left (at.node ∷ []))
           (visiting_left s joined well before start found (data_of at.node) (opened_by data_of opened) (list_map data_of left) (rw none at v))
 
@@ -356,7 +356,7 @@ module _ {K : Type 0} (data_of : K → Key) where
 
     module _ (k : Key) (some : at.next ≡ Some k) (after : Option Key) (along : (node : Key) → 0 < times k (edges_at s.out node) → after ≡ key_after k (edges_at s.out node)) (mid : List (Open K))
         (stays : mid ≡ opened ++ record { node = at.node; next = after } ∷ []) (before : Found) (start : Key) (v : IsVisiting before start) where
-      this : Visiting s before start found ((data_of at.node, Some k) ∷ opened_by data_of opened) (list_map data_of left)
+      this : SearchesFrom s before start found ((data_of at.node, Some k) ∷ opened_by data_of opened) (list_map data_of left)
       this = rw some at v
 
       pub edge_here : (e : SeenEdge E) × (map.get s.edges.live k ≡ Some e) × (e.from ≡ data_of at.node)
@@ -367,14 +367,14 @@ module _ {K : Type 0} (data_of : K → Key) where
           ∙ ap (λ o. (data_of at.node, o) ∷ opened_by data_of opened) (along (data_of at.node) (next_listed s joined well before start found (data_of at.node) k (opened_by data_of opened) (list_map data_of left) this))
 
       module _ (a to : Key) (ends_there : Some (a, to) ≡ option_map ends (map.get s.edges.live k)) (new : Found) (opened' : List OpenNode) (enters : Enters s found (opened_by data_of mid) to new opened') where
-        pub follows_edge : Visiting s before start new opened' (list_map data_of left)
+        pub follows_edge : SearchesFrom s before start new opened' (list_map data_of left)
         follows_edge = visiting_followed s joined well before start found (data_of at.node) k (opened_by data_of opened) (list_map data_of left) this new opened' to a ends_there (rw mid_is at enters)
 
         pub follows_less : work_left s new opened' < work_left s found (open_node data_of at ∷ opened_by data_of opened)
         follows_less = rw some (work_followed s joined well before start found (data_of at.node) k (opened_by data_of opened) (list_map data_of left) this new opened' to a ends_there (rw mid_is at enters))
 
 -- one more node was visited
-pub visited_more : {N E : Type 0} (s : Seen N E) (before found : Found) (y : Key) (left : List Key) → Visiting s before y found [] left → (done : List Key)
+pub visited_more : {N E : Type 0} (s : Seen N E) (before found : Found) (y : Key) (left : List Key) → SearchesFrom s before y found [] left → (done : List Key)
     → ((x : Key) → 0 < times x done → contains_key before x ≡ true) → (x : Key) → 0 < times x (done ++ y ∷ []) → contains_key found x ≡ true
 visited_more s before found y left v done so_far x more = elim (same_or_other x y) [
   | inl is ↦ rw is v.begun
@@ -383,7 +383,7 @@ visited_more s before found y left v done so_far x more = elim (same_or_other x 
 
 -- a search from a node that may not be there
 module _ {N E : Type 0} (s : Seen N E) (start : Key) (found : Found) (left : List Key) (none : map.contains_key s.nodes.live start ≡ false → left ≡ [])
-    (visited : IsLive s.nodes start → Visiting s map.empty start found [] left) where
+    (visited : IsLive s.nodes start → SearchesFrom s map.empty start found [] left) where
   start_live : (x : Key) → 0 < times x left → IsLive s.nodes start
   start_live x more = by (map.contains_key s.nodes.live start) refl
     where

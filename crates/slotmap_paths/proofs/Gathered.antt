@@ -14,8 +14,8 @@ use Rattle.slotmap_graph.specs.Search.{GoesOn, HasEdge, Leads, LeadsBy, ends_alo
 use Rattle.slotmap_graph.proofs.Callers.{edge_listed, listed_edge}
 use Rattle.slotmap_paths.specs.Components.{IsComponent, LeadOnward, times_in}
 use Rattle.slotmap_paths.specs.Deepening.{Found}
-use Rattle.slotmap_paths.specs.Gathering.{Adds, AreAdded, Collecting, Extends, Gathering, Gathers, HasPrevious, IsClosed, IsLast, StayMarked}
-use Rattle.slotmap_paths.specs.Depth.{IsPostOrder, behind}
+use Rattle.slotmap_paths.specs.Gathering.{MarksOne, AreAdded, Collecting, FindsMore, Gathering, Gathers, HasPrevious, IsClosed, IsLast, StayMarked}
+use Rattle.slotmap_paths.specs.Depth.{IsPostOrder, keys_behind}
 use Rattle.slotmap_paths.proofs.Ways.{behind_gone, behind_more, leads_on}
 
 -- the nodes where the edges of a list begin
@@ -82,59 +82,59 @@ module _ {N E : Type 0} (s : Seen N E) (well : IsContent true s.nodes) (before :
     as_before puts q other = rw puts (ap is_some (get-put_other true s.nodes well marks beside y live tt q other))
 
     module _ (now : List Key) where
-      pub adds_added : Adds marks found y new now → AreAdded before new now
+      pub adds_added : MarksOne marks found y new now → AreAdded before new now
       adds_added (inl was) x = rw (was.1, was.2) (added x)
       adds_added (inr adds) x = elim (same_or_other x y) [
         | inl is ↦ rw is (grind (arith, added y, adds.0, adds.2, now_marked adds.1, times_pushed y found y, one_itself y))
         | inr other ↦ grind (arith, added x, adds.2, as_before adds.1 x other, times_pushed x found y, one_other y x (λ is. other (sym is)))
       ]
 
-      pub adds_live : Adds marks found y new now → IsBeside s.nodes new
+      pub adds_live : MarksOne marks found y new now → IsBeside s.nodes new
       adds_live (inl was) x had = beside x (rw was.1 at had)
       adds_live (inr adds) x had = elim (same_or_other x y) [
         | inl is ↦ rw is live
         | inr other ↦ beside x (sym (as_before adds.1 x other) ∙ had)
       ]
 
-      pub adds_kept : Adds marks found y new now → StayMarked marks new
+      pub adds_kept : MarksOne marks found y new now → StayMarked marks new
       adds_kept (inl was) x had = rw was.1 had
       adds_kept (inr adds) x had = elim (same_or_other x y) [
         | inl is ↦ rw is (now_marked adds.1)
         | inr other ↦ as_before adds.1 x other ∙ had
       ]
 
-      pub adds_there : Adds marks found y new now → contains_key new y ≡ true
+      pub adds_there : MarksOne marks found y new now → contains_key new y ≡ true
       adds_there (inl was) = rw was.1 was.0
       adds_there (inr adds) = now_marked adds.1
 
-      adds_behind : Adds marks found y new now → GoesOn found now
+      adds_behind : MarksOne marks found y new now → GoesOn found now
       adds_behind (inl was) = ([], was.2 ∙ sym (append-nil found))
       adds_behind (inr adds) = (y ∷ [], adds.2)
 
-      adds_only : Adds marks found y new now → (x : Key) → 0 < times x now → (0 < times x found) ⊎ (x ≡ y)
+      adds_only : MarksOne marks found y new now → (x : Key) → 0 < times x now → (0 < times x found) ⊎ (x ≡ y)
       adds_only (inl was) x more = inl (rw was.2 at more)
       adds_only (inr adds) x more = elim (same_or_other x y) [
         | inl is ↦ inr is
         | inr other ↦ inl (omega (arith, more, ap (times x) adds.2, times_pushed x found y, one_other y x (λ is. other (sym is))))
       ]
 
-      pub adds_marked : Adds marks found y new now → (done : List Key) → ((x : Key) → 0 < times x done → contains_key marks x ≡ true) → (x : Key) → 0 < times x (done ++ y ∷ [])
+      pub adds_marked : MarksOne marks found y new now → (done : List Key) → ((x : Key) → 0 < times x done → contains_key marks x ≡ true) → (x : Key) → 0 < times x (done ++ y ∷ [])
           → contains_key new x ≡ true
       adds_marked adds done so_far x more = elim (same_or_other x y) [
         | inl is ↦ rw is (adds_there adds)
         | inr other ↦ adds_kept adds x (so_far x (omega (arith, more, times_pushed x done y, one_other y x (λ is. other (sym is)))))
       ]
 
-  pub extends_start : (b : Key) (marks : Found) (found : List Key) → AreAdded before marks found → IsBeside s.nodes marks → Extends s before marks found b marks found
-  extends_start b marks found added live = record { added = added; live = live; behind = ([], sym (append-nil found)); kept = λ x had. had; joined = λ x more. inl more }
+  pub extends_start : (b : Key) (marks : Found) (found : List Key) → AreAdded before marks found → IsBeside s.nodes marks → FindsMore s before marks found b marks found
+  extends_start b marks found added live = record { added = added; live = live; keys_behind = ([], sym (append-nil found)); kept = λ x had. had; joined = λ x more. inl more }
 
-  pub extends_step : (b : Key) (marks : Found) (found : List Key) (mid : Found) (half : List Key) → Extends s before marks found b mid half → (y : Key) → IsLive s.nodes y → HasEdge s.edges.live y b
-      → (new : Found) (now : List Key) → Adds mid half y new now → Extends s before marks found b new now
+  pub extends_step : (b : Key) (marks : Found) (found : List Key) (mid : Found) (half : List Key) → FindsMore s before marks found b mid half → (y : Key) → IsLive s.nodes y → HasEdge s.edges.live y b
+      → (new : Found) (now : List Key) → MarksOne mid half y new now → FindsMore s before marks found b new now
   extends_step b marks found mid half so_far y live join new now adds = record {
     added = adds_added mid half so_far.added so_far.live y live new now adds;
     live = adds_live mid half so_far.added so_far.live y live new now adds;
-    behind = (let more = adds_behind mid half so_far.added so_far.live y live new now adds in
-        (so_far.behind.0 ++ more.0, more.1 ∙ ap (λ q. q ++ more.0) so_far.behind.1 ∙ append_assoc found so_far.behind.0 more.0));
+    keys_behind = (let more = adds_behind mid half so_far.added so_far.live y live new now adds in
+        (so_far.keys_behind.0 ++ more.0, more.1 ∙ ap (λ q. q ++ more.0) so_far.keys_behind.1 ∙ append_assoc found so_far.keys_behind.0 more.0));
     kept = λ x had. adds_kept mid half so_far.added so_far.live y live new now adds x (so_far.kept x had);
     joined = λ x more. elim (adds_only mid half so_far.added so_far.live y live new now adds x more) [
       | inl old ↦ so_far.joined x old
@@ -143,7 +143,7 @@ module _ {N E : Type 0} (s : Seen N E) (well : IsContent true s.nodes) (before :
   }
 
   -- the root is marked
-  pub gathering_start : (root : Key) → IsBeside s.nodes before → contains_key before root ≡ false → IsLive s.nodes root → (marks : Found) (found : List Key) → Adds before [] root marks found
+  pub gathering_start : (root : Key) → IsBeside s.nodes before → contains_key before root ≡ false → IsLive s.nodes root → (marks : Found) (found : List Key) → MarksOne before [] root marks found
       → Gathering s before root marks found 0
   gathering_start root beside unmarked live marks found (inl was) = absurd (let both = sym was.0 ∙ unmarked in cc)
   gathering_start root beside unmarked live marks found (inr adds) =
@@ -161,12 +161,12 @@ module _ {N E : Type 0} (s : Seen N E) (well : IsContent true s.nodes) (before :
       }
 
   module _ (root : Key) (marks : Found) (found : List Key) (at : ℕ) (so_far : Gathering s before root marks found at) where
-    pub gathering_step : (a : Key) → at < length found → a ≡ get_or found at a → (new : Found) (now : List Key) → Extends s before marks found a new now → HasPrevious s.edges.live a new
+    pub gathering_step : (a : Key) → at < length found → a ≡ get_or found at a → (new : Found) (now : List Key) → FindsMore s before marks found a new now → HasPrevious s.edges.live a new
         → 0 < times a found → Gathering s before root new now (at + 1)
     gathering_step a below is new now more previous there = record {
       added = more.added;
       live = more.live;
-      begun = omega (arith, so_far.begun, ap (times root) more.behind.1, times_joined root found more.behind.0);
+      begun = omega (arith, so_far.begun, ap (times root) more.keys_behind.1, times_joined root found more.keys_behind.0);
       led = λ x now_there. elim (more.joined x now_there) [
         | inl old ↦ so_far.led x old
         | inr join ↦ leads_on s.edges.live x a root (suc zero, (x, refl, join)) (so_far.led a there)
@@ -174,15 +174,15 @@ module _ {N E : Type 0} (s : Seen N E) (well : IsContent true s.nodes) (before :
       passed = λ x now_there. by x now_there (times x found) refl;
     }
       where
-        longer : drop (at + 1) now ≡ drop (at + 1) found ++ more.behind.0
-        longer = ap (drop (at + 1)) more.behind.1 ∙ drop-append-le (at + 1) found more.behind.0 (omega (arith, below))
+        longer : drop (at + 1) now ≡ drop (at + 1) found ++ more.keys_behind.0
+        longer = ap (drop (at + 1)) more.keys_behind.1 ∙ drop-append-le (at + 1) found more.keys_behind.0 (omega (arith, below))
 
         by : (x : Key) → 0 < times x now → (n : ℕ) → times x found ≡ n → (0 < times x (drop (at + 1) now)) ⊎ HasPrevious s.edges.live x new
-        by x now_there zero none = inl (omega (arith, now_there, none, ap (times x) more.behind.1, times_joined x found more.behind.0, ap (times x) longer, times_joined x (drop (at + 1) found) more.behind.0))
+        by x now_there zero none = inl (omega (arith, now_there, none, ap (times x) more.keys_behind.1, times_joined x found more.keys_behind.0, ap (times x) longer, times_joined x (drop (at + 1) found) more.keys_behind.0))
         by x now_there (suc n) some = elim (so_far.passed x (omega (arith, some))) [
           | inl ahead ↦ elim (here_or_behind found at a x below is ahead) [
             | inl one ↦ inr (rw one previous)
-            | inr later ↦ inl (omega (arith, later, ap (times x) longer, times_joined x (drop (at + 1) found) more.behind.0))
+            | inr later ↦ inl (omega (arith, later, ap (times x) longer, times_joined x (drop (at + 1) found) more.keys_behind.0))
           ]
           | inr passed ↦ inr (λ p join. more.kept p (passed p join))
         ]
@@ -317,8 +317,8 @@ module _ {N E : Type 0} (s : Seen N E) where
         in_before : b ≢ x → 0 < times b before
         in_before other = grind (arith, once b, live_b, times_split b, not_done, one_other x b (λ is. other (sym is)))
 
-        behind_it : b ≢ x → 0 < times x (behind b order)
-        behind_it other = omega (arith, ap (λ l. times x (behind b l)) split, behind_more x rest b x before (in_before other), one_itself x)
+        behind_it : b ≢ x → 0 < times x (keys_behind b order)
+        behind_it other = omega (arith, ap (λ l. times x (keys_behind b l)) split, behind_more x rest b x before (in_before other), one_itself x)
 
 -- all nodes are marked
 module _ {N E : Type 0} (s : Seen N E) (marks : Found) (components : List (List Key)) (so_far : Collecting s marks components)

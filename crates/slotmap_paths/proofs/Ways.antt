@@ -7,7 +7,7 @@ use Rattle.slotmap_bounded.proofs.Counts.{is_itself, is_other, one_itself, one_o
 use Rattle.slotmap_links.specs.Lists.{first_or}
 use Rattle.slotmap_graph.specs.Parts.{Edges, key_after}
 use Rattle.slotmap_graph.specs.Search.{HasEdge, Leads, LeadsBy}
-use Rattle.slotmap_paths.specs.Depth.{behind}
+use Rattle.slotmap_paths.specs.Depth.{keys_behind}
 use Rattle.slotmap_paths.specs.Deepening.{ahead, keys_from}
 
 module _ {E : Type 0} (edges : Edges E) where
@@ -23,20 +23,20 @@ module _ {E : Type 0} (edges : Edges E) where
 
 -- what is behind a key in two lists
 module _ (k : Key) (rest : List Key) where
-  pub behind_gone : (ks : List Key) → times k ks ≡ 0 → behind k (ks ++ k ∷ rest) ≡ rest
+  pub behind_gone : (ks : List Key) → times k ks ≡ 0 → keys_behind k (ks ++ k ∷ rest) ≡ rest
   behind_gone [] none = grind (arith, is_itself k)
   behind_gone (q ∷ ks) none = grind (arith, times_first k q ks, one_itself k, is_other q k, same_or_other q k, behind_gone ks)
 
 -- one more between them
 module _ (x : Key) (rest : List Key) where
-  pub behind_more : (a b : Key) (ks : List Key) → 0 < times a ks → times b (behind a (ks ++ x ∷ rest)) ≡ same x b + times b (behind a (ks ++ rest))
+  pub behind_more : (a b : Key) (ks : List Key) → 0 < times a ks → times b (keys_behind a (ks ++ x ∷ rest)) ≡ same x b + times b (keys_behind a (ks ++ rest))
   behind_more a b [] more = absurd (omega arith)
   behind_more a b (q ∷ ks) more = elim (same_or_other q a) [
     | inl is ↦ grind (arith, is, is_itself a, times_joined b ks (x ∷ rest), times_joined b ks rest, times_first b x rest)
     | inr other ↦ grind (arith, is_other q a other, one_other q a other, times_first a q ks, behind_more a b ks)
   ]
 
-  pub behind_kept : (b c : Key) → x ≢ b → (ks : List Key) → times c (behind b (ks ++ rest)) ≤ times c (behind b (ks ++ x ∷ rest))
+  pub behind_kept : (b c : Key) → x ≢ b → (ks : List Key) → times c (keys_behind b (ks ++ rest)) ≤ times c (keys_behind b (ks ++ x ∷ rest))
   behind_kept b c apart [] = grind (arith, is_other x b apart)
   behind_kept b c apart (q ∷ ks) = elim (same_or_other q b) [
     | inl is ↦ grind (arith, is, is_itself b, times_joined c ks (x ∷ rest), times_joined c ks rest, times_first c x rest)
@@ -97,7 +97,7 @@ pub next_inside : (k : Key) (ks : List Key) → Some k ≡ first_or (keys_from k
 next_inside = next_there
 
 -- what has something behind it is in the list
-pub behind_some : (a b : Key) (ks : List Key) → 0 < times b (behind a ks) → 0 < times a ks
+pub behind_some : (a b : Key) (ks : List Key) → 0 < times b (keys_behind a ks) → 0 < times a ks
 behind_some a b [] more = absurd (omega (arith, more))
 behind_some a b (q ∷ ks) more = elim (same_or_other q a) [
   | inl is ↦ omega (arith, times_first a q ks, ap (λ x. same x a) is, one_itself a)

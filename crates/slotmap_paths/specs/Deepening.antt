@@ -7,7 +7,7 @@ use Rattle.slotmap_bounded.specs.KeyLists.{is_key, times}
 use Rattle.slotmap_links.specs.Lists.{first_or}
 use Rattle.slotmap_graph.specs.Parts.{ByNode, Edges, Seen, SeenEdge, edges_at}
 use Rattle.slotmap_graph.specs.Search.{HasNext, Leads}
-use Rattle.slotmap_paths.specs.Depth.{behind}
+use Rattle.slotmap_paths.specs.Depth.{keys_behind}
 use Rattle.slotmap_paths.specs.Searching.{owed}
 use Rattle.slotmap_paths.specs.declared.depth.Open.{Open}
 
@@ -53,8 +53,8 @@ module _ {E : Type 0} (edges : Edges E) where
 
   -- an order of the nodes that were left, in which the open ones will be behind them
   abbrev pub OrdersSoFar : List Key → List Key → Type 0
-  OrdersSoFar left opened = (a b : Key) → 0 < times a left → 0 < times b (behind a (left ++ opened)) → Leads edges a b
-      → Leads edges b a ⊎ ((c : Key) × (0 < times c (behind b (left ++ opened))) × Leads edges a c)
+  OrdersSoFar left opened = (a b : Key) → 0 < times a left → 0 < times b (keys_behind a (left ++ opened)) → Leads edges a b
+      → Leads edges b a ⊎ ((c : Key) × (0 < times c (keys_behind b (left ++ opened))) × Leads edges a c)
 
 module _ {N E : Type 0} (s : Seen N E) where
   -- each edge of an open node that was followed goes to a node that was found
@@ -72,7 +72,7 @@ module _ {N E : Type 0} (s : Seen N E) where
     pub order : OrdersSoFar s.edges.live left (open_nodes opened)
 
   -- a search from a node, where these nodes were found before
-  pub record Visiting (before : Found) (start : Key) (found : Found) (opened : List OpenNode) (left : List Key) : Type 0 where
+  pub record SearchesFrom (before : Found) (start : Key) (found : Found) (opened : List OpenNode) (left : List Key) : Type 0 where
     pub deepening : Deepening found opened left
     pub kept : (x : Key) → contains_key before x ≡ true → contains_key found x ≡ true
     pub begun : contains_key found start ≡ true

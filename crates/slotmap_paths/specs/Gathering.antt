@@ -13,8 +13,8 @@ abbrev pub AreAdded : Found → Found → List Key → Type 0
 AreAdded before marks found = (x : Key) → times x found + (if contains_key before x then 1 else 0) ≡ (if contains_key marks x then 1 else 0)
 
 -- nothing changes where the node was marked before, or else it is marked and put behind the others
-abbrev pub Adds : Found → List Key → Key → Found → List Key → Type 0
-Adds marks found k marks' found' = ((contains_key marks k ≡ true) × (marks' ≡ marks) × (found' ≡ found))
+abbrev pub MarksOne : Found → List Key → Key → Found → List Key → Type 0
+MarksOne marks found k marks' found' = ((contains_key marks k ≡ true) × (marks' ≡ marks) × (found' ≡ found))
     ⊎ ((contains_key marks k ≡ false) × (marks' ≡ put marks k tt) × (found' ≡ found ++ k ∷ []))
 
 -- each node that is marked here stays marked
@@ -36,10 +36,10 @@ module _ {E : Type 0} (edges : Edges E) where
 
 module _ {N E : Type 0} (s : Seen N E) (before : Found) where
   -- more nodes were found, by incoming edges of b
-  pub record Extends (marks : Found) (found : List Key) (b : Key) (marks' : Found) (found' : List Key) : Type 0 where
+  pub record FindsMore (marks : Found) (found : List Key) (b : Key) (marks' : Found) (found' : List Key) : Type 0 where
     pub added : AreAdded before marks' found'
     pub live : IsBeside s.nodes marks'
-    pub behind : GoesOn found found'
+    pub keys_behind : GoesOn found found'
     pub kept : StayMarked marks marks'
     pub joined : (x : Key) → 0 < times x found' → (0 < times x found) ⊎ HasEdge s.edges.live x b
 

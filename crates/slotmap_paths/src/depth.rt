@@ -8,7 +8,7 @@ ghost use Rattle.slotmap_graph.specs.Parts.{IsJoined};
 ghost use Rattle.slotmap_graph.specs.Search.{Leads};
 ghost use Rattle.slotmap_graph.specs.TopologicalOrder.{HasCycle};
 ghost use Rattle.slotmap_paths.specs.Depth.{GoesBackward, IsPostOrder};
-ghost use Rattle.slotmap_paths.specs.Deepening.{Deepening, Enters, Found, Visiting, open_node, opened_by, work_left};
+ghost use Rattle.slotmap_paths.specs.Deepening.{Deepening, Enters, Found, SearchesFrom, open_node, opened_by, work_left};
 
 use slotmap::{Key, SecondaryMap};
 use slotmap_graph::{EdgeKey, Graph};
@@ -118,10 +118,10 @@ fn follow<K: Key, N: Drop, E: Drop>(
     requires joined { IsJoined graph.now }
     requires valid { IsContent true graph.now.nodes }
     ensures visiting { (before : Found) (start : KeyOf)
-        → Visiting graph.now before start search.old.found.pairs (open_node K.data_of at ∷ opened_by K.data_of search.old.opened.items) (list_map K.data_of search.old.order.items)
-        → OnOk result (Visiting graph.now before start search.new.found.pairs (opened_by K.data_of search.new.opened.items) (list_map K.data_of search.new.order.items)) }
+        → SearchesFrom graph.now before start search.old.found.pairs (open_node K.data_of at ∷ opened_by K.data_of search.old.opened.items) (list_map K.data_of search.old.order.items)
+        → OnOk result (SearchesFrom graph.now before start search.new.found.pairs (opened_by K.data_of search.new.opened.items) (list_map K.data_of search.new.order.items)) }
     ensures less { (before : Found) (start : KeyOf)
-        → Visiting graph.now before start search.old.found.pairs (open_node K.data_of at ∷ opened_by K.data_of search.old.opened.items) (list_map K.data_of search.old.order.items)
+        → SearchesFrom graph.now before start search.old.found.pairs (open_node K.data_of at ∷ opened_by K.data_of search.old.opened.items) (list_map K.data_of search.old.order.items)
         → OnOk result (work_left graph.now search.new.found.pairs (opened_by K.data_of search.new.opened.items)
         < work_left graph.now search.old.found.pairs (open_node K.data_of at ∷ opened_by K.data_of search.old.opened.items)) }
 {
@@ -150,7 +150,7 @@ fn visit<K: Key, N: Drop, E: Drop>(
     requires closed { search.old.opened.items ≡ [] }
     requires deepening { Deepening graph.now search.old.found.pairs [] (list_map K.data_of search.old.order.items) }
     ensures closed { OnOk result (search.new.opened.items ≡ []) }
-    ensures visited { OnOk result (Visiting graph.now search.old.found.pairs (K.data_of start) search.new.found.pairs [] (list_map K.data_of search.new.order.items)) }
+    ensures visited { OnOk result (SearchesFrom graph.now search.old.found.pairs (K.data_of start) search.new.found.pairs [] (list_map K.data_of search.new.order.items)) }
 {
     enter(graph, search, start)?;
     while let Some(at) = search.opened.pop() {
@@ -191,7 +191,7 @@ fn visit_from<K: Key, N: Drop, E: Drop>(
     requires order { search.old.order.items ≡ [] }
     ensures none { OnOk result (map.contains_key graph.now.nodes.live (K.data_of start) ≡ false → list_map K.data_of search.new.order.items ≡ []) }
     ensures visited { OnOk result (IsLive graph.now.nodes (K.data_of start)
-        → Visiting graph.now map.empty (K.data_of start) search.new.found.pairs [] (list_map K.data_of search.new.order.items)) }
+        → SearchesFrom graph.now map.empty (K.data_of start) search.new.found.pairs [] (list_map K.data_of search.new.order.items)) }
 {
     if !graph.contains_node(start) {
         return Ok(());

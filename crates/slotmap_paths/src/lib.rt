@@ -39,13 +39,13 @@ ghost use Rattle.slotmap_graph.specs.Search.{Leads};
 ghost use Rattle.slotmap_paths.specs.Costs.{ComesBy, HaveCosts, IsSum, RefusesPaths};
 ghost use Rattle.slotmap_paths.specs.declared.Reached.{Reached as ReachedOf};
 
-mod components;
 mod depth;
+mod kosaraju;
 mod search;
 
 use crate::search::{new_search, search_from};
-pub use components::kosaraju_scc;
 pub use depth::{post_order, post_order_from};
+pub use kosaraju::kosaraju_scc;
 use slotmap::{Key, SecondaryMap};
 use slotmap_graph::{EdgeKey, Graph};
 use std::alloc::Global;

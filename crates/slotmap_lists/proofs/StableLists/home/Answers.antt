@@ -1,4 +1,4 @@
-use Rattle.slotmap_lists.proofs.Common.{Some, is_some, length, sym, ap, ◌∙◌, arith, Key, Sequences, IsLive, value_in, home_of, some_is}
+use Rattle.slotmap_lists.proofs.Common.{Some, is_some, length, sym, ap, ◌∙◌, arith, Key, Sequences, IsLive, value_under, home_of, some_is}
 use Rattle.std.proofs.Common.{◌≡◌}
 use Rattle.slotmap_lists.proofs.Listed.{as_many_lists, home_below, homed_below, live_if, number_is, stands_in}
 use Rattle.slotmap_lists.proofs.StableLists.home.Goals.{After-idx}
@@ -6,7 +6,7 @@ use Rattle.std.specs.FinMap as map
 use Rattle.slotmap_lists.proofs.StableLists.home.Goals as goal
 
 alive : (g : _) (c : After-idx g) → IsLive c.self.inside.values (g.K.Key.data_of c.args.cursor)
-alive g c = live_if c.self.invariant (g.K.Key.data_of c.args.cursor) (ap (λ (s : Sequences g.row.T.Denot). is_some (value_in (g.K.Key.data_of c.args.cursor) s.lists)) c.self.view_is ∙ c.requires)
+alive g c = live_if c.self.invariant (g.K.Key.data_of c.args.cursor) (ap (λ (s : Sequences g.row.T.Denot). is_some (value_under (g.K.Key.data_of c.args.cursor) s.lists)) c.self.view_is ∙ c.requires)
 
 index : (g : _) (c : After-idx g) → c.idx.result ≡ (g.K.Key.data_of c.args.cursor).index
 index g c = c.idx.ensures.value ∙ ap (λ (k : Key). k.index) c.data.ensures.value

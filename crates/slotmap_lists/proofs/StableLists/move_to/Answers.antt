@@ -1,12 +1,12 @@
-use Rattle.slotmap_lists.proofs.Common.{true, length, is_some, refl, sym, ap, ◌∙◌, arith, Key, Sequences, value_in, elements_of, without_key, put_into, element_put, is_spot, lists_at, home_of}
+use Rattle.slotmap_lists.proofs.Common.{true, length, is_some, refl, sym, ap, ◌∙◌, arith, Key, Sequences, value_under, elements_of, without_key, put_into, element_put, is_spot, lists_at, home_of}
 use Rattle.std.proofs.Common.{◌≡◌, ◌<◌}
 use Rattle.slotmap_lists.proofs.Listed.{homed_below, live_if}
 use Rattle.slotmap_lists.proofs.Moved.{Moves, moves, seen_as}
 use Rattle.slotmap_lists.proofs.StableLists.move_to.Goals.{After-home_at-home}
 use Rattle.slotmap_lists.proofs.StableLists.move_to.Goals as goal
 
-some : (g : _) (c : After-home_at-home g) → is_some (value_in (g.K.Key.data_of c.args.cursor) (lists_at c.self.inside.values.live c.self.inside.links)) ≡ true
-some g c = ap (λ (s : Sequences g.row.T.Denot). is_some (value_in (g.K.Key.data_of c.args.cursor) s.lists)) c.self.view_is ∙ c.requires.there
+some : (g : _) (c : After-home_at-home g) → is_some (value_under (g.K.Key.data_of c.args.cursor) (lists_at c.self.inside.values.live c.self.inside.links)) ≡ true
+some g c = ap (λ (s : Sequences g.row.T.Denot). is_some (value_under (g.K.Key.data_of c.args.cursor) s.lists)) c.self.view_is ∙ c.requires.there
 
 there : (g : _) (c : After-home_at-home g) → c.args.list < length (lists_at c.self.inside.values.live c.self.inside.links)
 there g c = omega (arith, c.requires.list, ap (λ (s : Sequences g.row.T.Denot). length s.lists) c.self.view_is)
@@ -27,7 +27,7 @@ pub home_at-home-requires : goal.home_at-home-requires
 home_at-home-requires g c =
     let k = g.K.Key.data_of c.args.cursor in
     rw c.deref.ensures.value (homed_below c.self.invariant k
-    (live_if c.self.invariant k (ap (λ (s : Sequences g.row.T.Denot). is_some (value_in k s.lists)) c.self.view_is ∙ c.requires.there)) c.idx-index.result
+    (live_if c.self.invariant k (ap (λ (s : Sequences g.row.T.Denot). is_some (value_under k s.lists)) c.self.view_is ∙ c.requires.there)) c.idx-index.result
     (c.idx-index.ensures.value ∙ ap (λ (k : Key). k.index) c.data.ensures.value))
 
 pub take_out-requires-clause-owner : goal.take_out-requires-clause-owner
@@ -62,7 +62,7 @@ returns-clause-moved g c =
     let k = g.K.Key.data_of c.args.cursor in
     rw (c.put_index.ensures, c.take_out.ensures, home g at.After-home_at-home, index g at.After-home_at-home)
     (seen_as c.args.self.now _ _ _ ((made g at.After-home_at-home).lists
-    ∙ ap (λ (s : Sequences g.row.T.Denot). put_into (element_put c.args.place) c.args.list k (value_in k s.lists) s.lists) c.self.view_is)
+    ∙ ap (λ (s : Sequences g.row.T.Denot). put_into (element_put c.args.place) c.args.list k (value_under k s.lists) s.lists) c.self.view_is)
     (ap (λ (s : Sequences g.row.T.Denot). s.cursors) c.self.view_is))
 
 pub returns-clause-in_list : goal.returns-clause-in_list

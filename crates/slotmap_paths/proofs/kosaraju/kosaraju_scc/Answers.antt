@@ -1,5 +1,5 @@
 use Rattle.slotmap_paths.proofs.Gathered.{collected_all}
-use Rattle.slotmap_paths.proofs.components.kosaraju_scc.Goals as goal
+use Rattle.slotmap_paths.proofs.kosaraju.kosaraju_scc.Goals as goal
 
 pub add_components-requires-clause-in_order : goal.add_components-requires-clause-in_order
 add_components-requires-clause-in_order g c = rw c.deref.ensures.value c.in_ok-order.ensures.in_order

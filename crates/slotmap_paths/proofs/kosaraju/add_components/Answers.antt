@@ -2,7 +2,7 @@ use Rattle.std.proofs.Common.{◌≡◌, length, inl, inr, arith, map as list_ma
 use Rattle.std.proofs.lemmas.List.{length-map}
 use Rattle.slotmap_bounded.proofs.Counts.{none_behind}
 use Rattle.slotmap_paths.proofs.Gathered.{collecting_start, is_last, last_or_behind, last_split, live_there}
-use Rattle.slotmap_paths.proofs.components.add_components.Goals as goal
+use Rattle.slotmap_paths.proofs.kosaraju.add_components.Goals as goal
 
 pub loop-left-init : goal.loop-left-init
 loop-left-init g c = record {

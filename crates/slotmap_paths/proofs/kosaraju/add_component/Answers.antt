@@ -1,7 +1,7 @@
 use Rattle.std.proofs.Common.{◌∙◌, ap, sym, map as list_map}
 use Rattle.std.proofs.lemmas.List.{map-append}
 use Rattle.slotmap_paths.proofs.Gathered.{collecting_pushed, marked_before, marked_found}
-use Rattle.slotmap_paths.proofs.components.add_component.Goals as goal
+use Rattle.slotmap_paths.proofs.kosaraju.add_component.Goals as goal
 
 pub component-requires-clause-beside : goal.component-requires-clause-beside
 component-requires-clause-beside g c = c.requires.collecting.live

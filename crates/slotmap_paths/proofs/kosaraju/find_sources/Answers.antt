@@ -6,7 +6,7 @@ use Rattle.slotmap_bounded.proofs.Counts.{times_joined}
 use Rattle.slotmap_graph.specs.Parts.{edges_at}
 use Rattle.slotmap_paths.proofs.EdgeSteps.{next_listed, walked_on}
 use Rattle.slotmap_paths.proofs.Gathered.{adds_marked, extends_start, extends_step, join_source, source_joins}
-use Rattle.slotmap_paths.proofs.components.find_sources.Goals as goal
+use Rattle.slotmap_paths.proofs.kosaraju.find_sources.Goals as goal
 
 pub loop-source-init : goal.loop-source-init
 loop-source-init g c = record {

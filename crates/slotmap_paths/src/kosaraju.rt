@@ -9,7 +9,7 @@ ghost use Rattle.slotmap_graph.specs.Parts.{IsJoined};
 ghost use Rattle.slotmap_paths.specs.Components.{IsComponent, LeadOnward, times_in};
 ghost use Rattle.slotmap_paths.specs.Deepening.{Found};
 ghost use Rattle.slotmap_paths.specs.Depth.{IsPostOrder};
-ghost use Rattle.slotmap_paths.specs.Gathering.{Adds, AreAdded, Collecting, Extends, Gathers, HasPrevious, IsLast, StayMarked};
+ghost use Rattle.slotmap_paths.specs.Gathering.{MarksOne, AreAdded, Collecting, FindsMore, Gathers, HasPrevious, IsLast, StayMarked};
 
 use crate::depth::{Marks, mark, no_marks, post_order};
 use slotmap::Key;
@@ -18,7 +18,7 @@ use std::alloc::{AllocError, Global};
 
 // Marks a node and adds it to those that were found, unless it is marked.
 fn find<K: Key>(found: &mut Vec<K>, marks: &mut Marks<K>, node: K) -> Result<(), AllocError>
-    ensures { OnOk result (Adds marks.old.pairs (list_map K.data_of found.old.items) (K.data_of node) marks.new.pairs (list_map K.data_of found.new.items)) }
+    ensures { OnOk result (MarksOne marks.old.pairs (list_map K.data_of found.old.items) (K.data_of node) marks.new.pairs (list_map K.data_of found.new.items)) }
 {
     if marks.contains_key(node) {
         return Ok(());
@@ -39,7 +39,7 @@ fn find_sources<K: Key, N: Drop, E: Drop>(
     requires valid { IsContent true graph.now.nodes }
     requires live { IsBeside graph.now.nodes marks.old.pairs }
     ensures extends { (before : Found) → AreAdded before marks.old.pairs (list_map K.data_of found.old.items)
-        → OnOk result (Extends graph.now before marks.old.pairs (list_map K.data_of found.old.items) (K.data_of node) marks.new.pairs (list_map K.data_of found.new.items)) }
+        → OnOk result (FindsMore graph.now before marks.old.pairs (list_map K.data_of found.old.items) (K.data_of node) marks.new.pairs (list_map K.data_of found.new.items)) }
     ensures previous { (before : Found) → AreAdded before marks.old.pairs (list_map K.data_of found.old.items)
         → OnOk result (HasPrevious graph.now.edges.live (K.data_of node) marks.new.pairs) }
 {

@@ -2,7 +2,7 @@ use Rattle.std.proofs.Common.{◌≡◌, ◌<◌, ◌∙◌, length, get_or, sym
 use Rattle.std.proofs.lemmas.List.{get_or-map, length-map}
 use Rattle.slotmap_bounded.proofs.Counts.{times_there}
 use Rattle.slotmap_paths.proofs.Gathered.{gathering_end, gathering_fits, gathering_start, gathering_step}
-use Rattle.slotmap_paths.proofs.components.find_all.Goals as goal
+use Rattle.slotmap_paths.proofs.kosaraju.find_all.Goals as goal
 
 pub loop-at-init : goal.loop-at-init
 loop-at-init g c = gathering_start c.args.graph.now c.requires.valid c.args.marks.now.pairs (g.K.Key.data_of c.args.root) c.requires.beside c.requires.unmarked c.requires.live c.find.new.marks.pairs _

@@ -2,7 +2,7 @@ use Rattle.std.proofs.Common.{◌≡◌, ◌<◌, ◌≤◌, true, drop, length,
 use Rattle.slotmap.specs.Words.{Key, contains_key}
 use Rattle.slotmap_bounded.specs.KeyLists.{times}
 use Rattle.slotmap_paths.specs.Gathering.{Collecting}
-use Rattle.slotmap_paths.proofs.components.add_components.Given as goal
+use Rattle.slotmap_paths.proofs.kosaraju.add_components.Given as goal
 
 abbrev pub invariant-loop-left : goal.invariant-loop-left
 invariant-loop-left g l = record {
