@@ -27,7 +27,7 @@ PAGES = {
     "docs/FIRST_PROOF.md": "slotmap_examples",
 }
 BLOCK = re.compile(r"(<!-- from (?P<file>\S+?)(?:: (?P<items>[^;]*?))?(?P<bare>; no head)? -->\n)\n?```\w+\n.*?\n```\n", re.S)
-ITEM = re.compile(r"(?:pub(?:\(\w+\))? )?(?:fn|struct|enum|trait|type) (\w+)|impl\b[^{]*? for (\w+)|impl(?:<[^>]*>)? (\w+)")
+ITEM = re.compile(r"(?:pub(?:\(\w+\))? )?(?:fn|struct|enum|trait|type|const) (\w+)|impl\b[^{]*? for (\w+)|impl(?:<[^>]*>)? (\w+)")
 
 
 def read(path):

@@ -1,8 +1,7 @@
 -- Calls that can't fail, since there is room.
-use Rattle.std.proofs.Common.{◌≡◌, ◌+◌, ◌≤◌, ℕ, true, [], ◌∷◌, ◌++◌, length, length-append, Result, Ok, Err, IsOk, IfOk, ap, arith}
+use Rattle.std.proofs.Common.{◌≡◌, ◌+◌, ◌≤◌, ℕ, true, List, [], ◌∷◌, ◌++◌, length, length-append, Result, Ok, Err, IsOk, IfOk, ap, arith}
 use Rattle.std.specs.FinMap as map
 use Rattle.slotmap.specs.Words.{Key, Content, IsContent, Inserts}
-use Rattle.slotmap_list.specs.Sequence.{Sequence}
 use Rattle.slotmap.proofs.Callers.{vacant_less, AllFirst, inserted_first}
 
 -- a schedule that succeeds takes one vacant slot at most
@@ -17,7 +16,7 @@ filled_after old new (Ok k) fits inserts valid filled = (inserted_first old new 
 filled_after old new (Err e) fits inserts valid filled = absurd (cc)
 
 -- a push that succeeds adds one element, and takes room for one key at most
-pub pushed_after : {E : Type 0} (old new : Sequence ℕ) (v : ℕ) (result : Result Key E) → IsOk result → IfOk result (λ k. new.elements ≡ old.elements ++ (k, v) ∷ [])
-    → IfOk result (λ k. Inserts old.cursors k tt new.cursors) → (length new.elements ≡ length old.elements + 1) × (old.cursors.room ≤ new.cursors.room + 1)
-pushed_after old new v (Ok k) fits is inserts = (omega (arith, ap length is, length-append old.elements ((k, v) ∷ [])), inserts.room)
-pushed_after old new v (Err e) fits is inserts = absurd (cc)
+pub pushed_after : {E : Type 0} (olds news : List (Key × ℕ)) (old new : Content (Unit {0})) (v : ℕ) (result : Result Key E) → IsOk result
+    → IfOk result (λ k. news ≡ olds ++ (k, v) ∷ []) → IfOk result (λ k. Inserts old k tt new) → (length news ≡ length olds + 1) × (old.room ≤ new.room + 1)
+pushed_after olds news old new v (Ok k) fits is inserts = (omega (arith, ap length is, length-append olds ((k, v) ∷ [])), inserts.room)
+pushed_after olds news old new v (Err e) fits is inserts = absurd (cc)

@@ -4,7 +4,9 @@
 pub mod arm;
 pub mod boats;
 pub mod bodies;
+pub mod cache;
 pub mod colours;
+pub mod connected;
 pub mod cursors;
 pub mod cuts;
 pub mod cycles;
@@ -24,3 +26,4 @@ pub mod stores;
 pub mod timer;
 pub mod triplets;
 pub mod twins;
+pub mod wheel;

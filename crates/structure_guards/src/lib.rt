@@ -12,6 +12,7 @@ pub mod entities;
 pub mod graph;
 pub mod links;
 pub mod list;
+pub mod lists;
 pub mod paths;
 pub mod scene;
 pub mod scheduler;

@@ -1,16 +1,21 @@
-//! Shortest paths.
+//! Shortest paths, depth first orders and strongly connected components.
 
-ghost use Rattle.std.specs.Prelude.{◌≡◌, ℕ, ◌≤◌, ◌^◌, Some, None, IfOk, IfErr, true};
+ghost use Rattle.std.specs.FinMap as map;
+ghost use Rattle.std.specs.List.{All};
+ghost use Rattle.std.specs.Prelude.{◌≡◌, ℕ, ◌≤◌, ◌^◌, Some, None, IfOk, IfErr, true, if◌then◌else◌, map as list_map};
 ghost use Rattle.slotmap.specs.Words.{Key as KeyOf, IsLive, contains_key, get};
+ghost use Rattle.slotmap_bounded.specs.KeyLists.{times};
 ghost use Rattle.slotmap_graph.specs.Search.{Leads};
+ghost use Rattle.slotmap_paths.specs.Components.{IsComponent, LeadOnward, times_in};
 ghost use Rattle.slotmap_paths.specs.Costs.{HaveCosts, IsSum};
+ghost use Rattle.slotmap_paths.specs.Depth.{IsPostOrder};
 ghost use Rattle.slotmap_paths.specs.declared.PathError.TheVariants.{TooLong};
 ghost use Rattle.slotmap_paths.specs.declared.Reached.{Reached as ReachedOf};
 
 use slotmap::Key;
 use slotmap_graph::Graph;
 use slotmap_paths::{Costs, PathError, Paths};
-use std::alloc::Global;
+use std::alloc::{AllocError, Global};
 
 /// Guards of `shortest_paths`.
 pub fn shortest_paths<K: Key, N: Drop, E: Drop>(
@@ -49,4 +54,38 @@ pub fn shortest_paths<K: Key, N: Drop, E: Drop>(
         → (x : KeyOf) × (sum : ℕ) × IsSum graph.now.edges.live costs.now.pairs (K.data_of from) x sum × (2 ^ 64 ≤ sum)) }
 {
     slotmap_paths::shortest_paths(alloc, graph, from, costs)
+}
+
+/// Guards of `post_order`.
+pub fn post_order<K: Key, N: Drop, E: Drop>(
+    alloc: Global,
+    graph: &Graph<K, N, E>,
+) -> Result<Vec<K>, AllocError>
+    // Each node is there once.
+    // Holds by `once` of `post_order`.
+    ensures each_node_is_left_once { IfOk result (λ order. (x : KeyOf) → times x (list_map K.data_of order.items) ≡ (if map.contains_key graph.now.nodes.live x then 1 else 0)) }
+    // A path to a node behind leads back, or there is a later node to which both lead.
+    // Holds by `in_order` of `post_order`.
+    ensures nodes_are_left_after_those_that_they_lead_to { IfOk result (λ order. IsPostOrder graph.now.edges.live (list_map K.data_of order.items)) }
+{
+    slotmap_paths::post_order(alloc, graph)
+}
+
+/// Guards of `kosaraju_scc`.
+pub fn kosaraju_scc<K: Key, N: Drop, E: Drop>(
+    alloc: Global,
+    graph: &Graph<K, N, E>,
+) -> Result<Vec<Vec<K>>, AllocError>
+    // Each node is in one component.
+    // Holds by `once` of `kosaraju_scc`.
+    ensures each_node_is_in_one_component { IfOk result (λ components. (x : KeyOf) → times_in x (list_map (λ c. list_map K.data_of c.items) components.items)
+        ≡ (if map.contains_key graph.now.nodes.live x then 1 else 0)) }
+    // Its nodes lead to each other, and no other one leads there and back.
+    // Holds by `each` of `kosaraju_scc`.
+    ensures nodes_of_a_component_lead_to_each_other { IfOk result (λ components. All (IsComponent graph.now.edges.live) (list_map (λ c. list_map K.data_of c.items) components.items)) }
+    // No path leads to an earlier component.
+    // Holds by `onward` of `kosaraju_scc`.
+    ensures components_lead_onward { IfOk result (λ components. LeadOnward graph.now.edges.live (list_map (λ c. list_map K.data_of c.items) components.items)) }
+{
+    slotmap_paths::kosaraju_scc(alloc, graph)
 }

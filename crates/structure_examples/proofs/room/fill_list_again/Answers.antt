@@ -20,7 +20,7 @@ loop-preserved c =
     let i = c.loop.invariant in
     let more = c.loop-test.true in
     let room : 0 < c.loop.list.cursors.room = omega (arith, i.room) in
-    let pushed = pushed_after _ _ c.args.value c.push_back.result (c.push_back.ensures.room room) c.push_back.ensures.ok c.push_back.ensures.cursors in
+    let pushed = pushed_after _ _ _ _ c.args.value c.push_back.result (c.push_back.ensures.room room) c.push_back.ensures.ok c.push_back.ensures.cursors in
     record {
       elements = omega (arith, pushed.0, i.elements);
       room = omega (arith, pushed.1, i.room);
