@@ -110,7 +110,6 @@ PROVED_TWICE = {
     'dropped_push slots_equal': 'of words that each map has for itself',
     'keeps_lent yields_in_order': 'the same of the drain of each structure',
     'first second some_is own': 'a line of logic that a structure proves for itself',
-    'not_both on_ok no_room_made nothing_copied below_or_past get-remove_here get-remove_other': 'a line of logic that the crates of lists prove each for itself',
     'below-changed sorted-changed': 'of entries whose values are changed by the value, or by the key',
     'closed_spec end_spec into_unboxed_spec inside_spec is_closed_spec of_unboxed_spec': 'that function of each handle for C, by the name that the checker wants',
 }

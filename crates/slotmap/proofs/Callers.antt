@@ -4,6 +4,7 @@ use Rattle.slotmap_core.proofs.ForCallers.SecondaryCallers as side
 use Rattle.slotmap.proofs.MapContents.{contents_of_maps}
 pub use Rattle.slotmap_core.proofs.Contents.UndoLemmas.{offer_unused, live_removed_again, live_bound_again, detached_bound_again}
 pub use Rattle.slotmap_core.proofs.ForCallers.Callers.{get-insert_here, get-insert_other, inserted_fresh, inserted_len, removed_len, live-insert_still, live-remove_other, insert_still}
+pub use Rattle.slotmap_core.proofs.ForCallers.Callers.{get-remove_here as removed_here, get-remove_other as removed_other}
 pub use Rattle.slotmap_core.proofs.SecondaryMaps.KeyedLemmas.{get-keyed}
 pub use Rattle.slotmap_core.proofs.General.KeyLemmas.{keys_total, exact_keys, tied, untied, itself, alike_or_apart, same_or_other}
 pub use Rattle.slotmap_core.proofs.General.Maps.{item_inserted, get_after_insert, get_after_remove, still_in, left_in, len_removed, some_entry, none_of, false_of}

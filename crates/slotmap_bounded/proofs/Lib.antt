@@ -6,4 +6,5 @@ pub mod Indices
 pub mod Linking
 pub mod MapKeys
 pub mod Mapped
+pub mod Results
 pub mod Shown

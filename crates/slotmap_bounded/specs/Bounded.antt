@@ -12,7 +12,7 @@ module _ {V : Type 0} where
   abbrev pub bound : Content V → ℕ
   bound c = used c + c.room
 
-  -- the bound, and for how many keys there is memory: where both stay, no memory was asked for
+  -- the bound, and for how many keys there is memory: where both stay, no vector has grown
   abbrev pub space : Content V → ℕ × ℕ
   space c = (bound c, c.capacity)
 

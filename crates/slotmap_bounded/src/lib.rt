@@ -47,7 +47,7 @@ const FEW: usize = 4;
 ///
 /// A clause sees the content of the map, where `room` is what was promised. The live, detached and
 /// retired keys and the room together are the bound of the indices. The content's `capacity` is that of
-/// the `SlotMap`: where it stays, the map has asked for no memory.
+/// the `SlotMap`: where it stays, no vector has grown.
 pub struct BoundedMap<K, V> {
     map: SlotMap<K, V>,
     room: usize,

@@ -88,8 +88,8 @@ const MOST: usize = 4_294_967_294;
 ///
 /// A clause sees `nodes` and `edges`. Their `live` is the finite map from the keys to the values, or
 /// to the edges, and `IsSpent` says which keys are never used again. It sees `out` and `into` as well,
-/// by which `edges_at` has the edges of a node in their order. A call that keeps the `space` of nodes and
-/// edges, and `links`, asks for no memory. By the clause `joined` of
+/// by which `edges_at` has the edges of a node in their order. Where a call keeps the `space` of nodes and
+/// edges, and `links`, no vector grows. By the clause `joined` of
 /// [`Graph::node_count`] each edge joins two nodes that exist, and is once in the list of each.
 pub struct Graph<K, N, E> {
     nodes: BoundedMap<K, N>,

@@ -1,6 +1,7 @@
 -- Lists of numbers in two vectors: how the user sees them, and what a change of links, ends, owners or members makes of them.
-use Rattle.std.proofs.Common.{◌≡◌, ◌<◌, ◌≤◌, ◌∷◌, ◌++◌, length, get_or, ◌∙◌, ◌-◌, ◌⊎◌, Result, if◌then◌else◌, map as list_map, replicate, length-append}
+use Rattle.std.proofs.Common.{◌≡◌, ◌<◌, ◌≤◌, ◌∷◌, ◌++◌, length, get_or, ◌∙◌, ◌-◌, Result, if◌then◌else◌, map as list_map, replicate, length-append}
 use Rattle.std.proofs.Common.{ℕ, List, [], set, sym, ap, arith, Ok, Err, OnOk, is_ok, max, take, zero, suc, refl, subst, inl, inr}
+use Rattle.std.proofs.lemmas.Bool.{cases_lt}
 use Rattle.std.proofs.lemmas.List.{length-map, length-set, get_or-set_same, get_or-set_other, ext_get_or, map-append, length-replicate, take_all, get_or-replicate}
 use Rattle.std.proofs.Math.ListN.{get_or-map as read_map, get_or-eq_default, get_or-append}
 use Rattle.std.proofs.Math.Seq.{get_or-append_right}
@@ -82,18 +83,15 @@ module _ (ends : List Ends) (links : List Link) (p : ℕ) (ks : List ℕ) (ends'
   pub seen_relisted : lists_by ends' links' capacity ≡ with_list (lists_by ends links capacity) p ks
   seen_relisted = λ i. record { lists = lists_are i; members = relists.members i; capacity = capacity }
 
-pub below_or_past : (a b : ℕ) → (a < b) ⊎ (b ≤ a)
-below_or_past a b = search arith
-
 -- a list of defaults has the default everywhere, and changes no read of a list before it
 read_default : {X : Type 0} (n q : ℕ) (d : X) → get_or (replicate n d) q d ≡ d
-read_default n q d = elim (below_or_past q n) [
+read_default n q d = elim (cases_lt q n) [
   | inl below ↦ get_or-replicate n q d d below
   | inr past ↦ get_or-eq_default (replicate n d) d {n = q} (omega (arith, length-replicate n d))
 ]
 
 pub read_padded : {X : Type 0} (xs : List X) (n q : ℕ) (d : X) → get_or (xs ++ replicate n d) q d ≡ get_or xs q d
-read_padded xs n q d = elim (below_or_past q (length xs)) [
+read_padded xs n q d = elim (cases_lt q (length xs)) [
   | inl below ↦ get_or-append xs (replicate n d) d q below
   | inr past ↦ get_or-append_right xs (replicate n d) q d past ∙ read_default n (q - length xs) d ∙ sym (get_or-eq_default xs d {n = q} past)
 ]

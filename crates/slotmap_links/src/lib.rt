@@ -17,7 +17,7 @@
 //!   and [`Links::members`].
 //!
 //! Only the two covers and `clone` ask for memory, and only they can fail. A clause sees for how many
-//! owners and members there is memory, and the other calls leave that as it is.
+//! owners and members there is memory, and the other calls leave that as it is: no vector grows.
 //!
 //! ```
 //! let mut links = Links::new(alloc);

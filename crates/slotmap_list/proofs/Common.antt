@@ -2,7 +2,7 @@
 pub use Rattle.std.proofs.Common.{zero, length, map as list_map, IsSome, is_some, Result, ◌∙◌, append_assoc, append-nil, length-append, Option, IfSome, IfNone, option_map, option_copied, is_err}
 pub use Rattle.std.proofs.Common.{ℕ, suc, IsErr, List, [], Some, None, Ok, Err, IsOk, IfOk, OnOk, inl, inr, refl, sym, ap, subst, arith, Bool, false, cond, true, Bor, rules, not}
 pub use Rattle.std.specs.List.{slice_get, cons_option}
-pub use Rattle.slotmap.proofs.Callers.{get-insert_here, get-insert_other, live-insert_still, same_lent, contains-keys_of, spent_finds_nothing, inserted_not_spent, keeps_spent_alone, leaves_by_removal}
+pub use Rattle.slotmap.proofs.Callers.{get-insert_here, get-insert_other, removed_here, removed_other, live-insert_still, same_lent, contains-keys_of, spent_finds_nothing, inserted_not_spent, keeps_spent_alone, leaves_by_removal}
 pub use Rattle.slotmap.proofs.Callers.{leaves_in_turn, leaves_none, tied, same_or_other, same_unlent, vacant_less, alone_spent, len-keys_of, inserted_len, spent_inserts, removed_spent, spent_removes}
 pub use Rattle.slotmap.proofs.Callers.{keys_total, exact_keys, itself, untied, clone_live, spent_alone}
 pub use Rattle.slotmap.specs.Words.{key_cmp, Content, IsSpent, KeepsSpent, Inserts, IsContent, IsCloneBy, IsCloneOf, AreClones, ClonesEqual, without_values, with_value, MakesRoom, RefusesCapacity}

@@ -1,8 +1,8 @@
 -- What each change of the map and of the links leaves of a list.
-use Rattle.slotmap_list.proofs.Common.{without_values, get-insert_here, get-insert_other, live-insert_still, same_or_other, alone-written, times_joined, with_value_at, AreLiveIndices, put_by_place}
-use Rattle.slotmap_list.proofs.Common.{◌∙◌, ClonesEqual, with_value, keys_total, exact_keys, clone_live, owners_stay, same_or_not, one_itself, times_first, times_gone, elements_at, put_number}
+use Rattle.slotmap_list.proofs.Common.{without_values, get-insert_here, get-insert_other, live-insert_still, same_or_other, alone-written, times_joined, with_value_at, AreLiveIndices, put_by_place, removed_here, removed_other}
+use Rattle.slotmap_list.proofs.Common.{◌∙◌, ClonesEqual, with_value, clone_live, owners_stay, same_or_not, one_itself, times_first, times_gone, elements_at, put_number}
 use Rattle.slotmap_list.proofs.Common.{length, is_some, key_cmp, Content, IsContent, IsCloneBy, IsCloneOf, AreClones, same_live, with_list, list_now, one_other, Sequence, at_index, AreApart, is_place}
-use Rattle.slotmap_list.proofs.Common.{zero, true, List, Option, Some, None, refl, subst, arith, IsLive, Inserts, Removes, IsNew, tied, itself, Lists, list_of, times, IsFree, without, IsKept, Place}
+use Rattle.slotmap_list.proofs.Common.{zero, true, List, Option, Some, None, refl, subst, arith, IsLive, Inserts, Removes, IsNew, Lists, list_of, times, IsFree, without, IsKept, Place}
 use Rattle.slotmap_list.proofs.Common.{ℕ, suc, [], inl, inr, sym, ap, bound, Key, same, used, used_alone}
 use Rattle.std.proofs.Common.{◌≡◌, ◌≢◌, ◌+◌, ◌<◌, ◌≤◌, ◌∷◌, ◌++◌}
 use Rattle.std.proofs.Math.{ListN.get_or-eq_default, Nat.eq-zero-or-pos}
@@ -24,13 +24,6 @@ free_one s k owner below none = record { within = below; nowhere = nowhere }
     nowhere : (p : ℕ) → times k (list_of s p) ≡ 0
     nowhere zero = none
     nowhere (suc p) = ap (times k) (get_or-eq_default s.lists [] {n = suc p} (omega arith))
-
-module _ {T : Type 0} where
-  pub get-remove_here : (m : map.FinMap key_cmp T) (k : Key) → map.get (map.remove m k) k ≡ None
-  get-remove_here m k = grind (arith, map.get-remove keys_total m k k, itself keys_total exact_keys k)
-
-  get-remove_other : (m : map.FinMap key_cmp T) (k q : Key) → q ≢ k → map.get (map.remove m k) q ≡ map.get m q
-  get-remove_other m k q other = grind (arith, map.get-remove keys_total m k q, tied keys_total exact_keys q k)
 
 module _ {T : Type 0} {c : Content T} {s : Lists} (kept : IsKept c s) where
   abbrev is : List ℕ
@@ -112,10 +105,10 @@ module _ {T : Type 0} {c : Content T} {s : Lists} (kept : IsKept c s) where
     -- it left the map
     module _ (new : Content T) (removes : Removes c k new) where
       others : (q : Key) → q ≢ k → map.get new.live q ≡ map.get c.live q
-      others q other = ap (λ m. map.get m q) removes.live ∙ get-remove_other c.live k q other
+      others q other = ap (λ m. map.get m q) removes.live ∙ removed_other c.live k q other
 
       left : (q : Key) → map.contains_key new.live q ≡ true → q ≢ k
-      left q of_q at = let none = ap is_some (ap (map.get new.live) at ∙ ap (λ m. map.get m k) removes.live ∙ get-remove_here c.live k) in cc
+      left q of_q at = let none = ap is_some (ap (map.get new.live) at ∙ ap (λ m. map.get m k) removes.live ∙ removed_here c.live k) in cc
 
       was : (q : Key) → map.contains_key new.live q ≡ true → map.contains_key c.live q ≡ true
       was q of_q = ap is_some (sym (others q (left q of_q))) ∙ of_q

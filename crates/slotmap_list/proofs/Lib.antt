@@ -9,7 +9,6 @@ pub mod Looks
 mod Moved
 mod Moving
 pub mod Parts
-mod Results
 mod Seen
 mod Swapping
 pub mod Visiting

@@ -1,6 +1,6 @@
 -- What the parts of a list say of its elements.
-use Rattle.slotmap_list.proofs.Common.{is_some, option_map, option_copied, ◌∙◌, value_of, first_or, key_after, key_before, from_key, times_first, elements_at, key_there, keys_total, len_alike}
-use Rattle.slotmap_list.proofs.Common.{ℕ, true, false, List, length, Option, Some, None, Bor, refl, sym, subst, arith, Content, Lists, list_of, times, IsIn, last_or, IsOnce, IsKept, IsRest, some_is}
+use Rattle.slotmap_list.proofs.Common.{is_some, option_map, ◌∙◌, value_of, first_or, key_after, key_before, from_key, times_first, elements_at, key_there, keys_total, len_alike}
+use Rattle.slotmap_list.proofs.Common.{ℕ, true, false, List, length, Option, Some, None, refl, sym, subst, arith, Content, Lists, list_of, times, IsIn, last_or, IsOnce, IsKept, IsRest, some_is}
 use Rattle.slotmap_list.proofs.Common.{[], ap, inl, inr, Key}
 use Rattle.std.proofs.Common.{◌≡◌, ◌<◌, ◌≤◌, ◌∷◌}
 use Rattle.std.proofs.Math.Nat.{eq-zero-or-pos}
@@ -8,11 +8,6 @@ use Rattle.slotmap_list.proofs.Elements.{Absent, absent, once_long, times_none}
 use Rattle.slotmap_list.proofs.Parts.{elements_long, first_at, last_at, IsAt, stands_at, value_none, value_there, next_there, prev_there, from_at, elements_once}
 use Rattle.std.specs.FinMap as map
 use Rattle.slotmap_links.specs.Lists as numbers
-
--- a look-up that copies nothing found nothing
-pub nothing_copied : {A : Type 0} (r : Option (Bor A)) → option_copied r ≡ None → r ≡ None
-nothing_copied None is = refl
-nothing_copied (Some x) is = absurd (cc)
 
 -- what is left of a list of indices from one on is part of it
 few_from : (k i : ℕ) (ks : List ℕ) → (times i (numbers.numbers_from k ks) ≤ times i ks) × (length (numbers.numbers_from k ks) ≤ length ks)

@@ -21,7 +21,7 @@ sequence_code {T} code =
     (λ s. (s.elements, (s.cursors, s.links))) (λ p. record { elements = p.0; cursors = p.1.0; links = p.1.1 }) (λ _. refl)
 
 module _ {T : Type 0} where
-  -- what a list has memory for, and the bound of its indices: where these stay, no memory was asked for
+  -- what a list has memory for, and the bound of its indices: where these stay, no vector has grown
   abbrev pub memory : Sequence T → (ℕ × ℕ) × (ℕ × ℕ)
   memory s = (space s.cursors, s.links)
 

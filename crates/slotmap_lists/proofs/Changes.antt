@@ -1,8 +1,8 @@
 -- What each change of the map, of the links and of the homes leaves of the lists.
-use Rattle.slotmap_lists.proofs.Common.{bound, length, list_map, set, is_some, ◌∙◌, ℕ, List, [], Option, Some, None, inl, inr, refl, sym, ap, subst, arith, true, get_or-set_same, get_or-set_other, length-set, map-set}
-use Rattle.slotmap_lists.proofs.Common.{eq-zero-or-pos, get-insert_here, get-insert_other, live-insert_still, same_or_other, tied, keys_total, exact_keys, itself, Key, key_cmp, Content, IsLive, IsContent}
-use Rattle.slotmap_lists.proofs.Common.{Inserts, Removes, IsNew, some_is, AreApart, same_or_not, one_itself, one_other, Lists, list_of, with_list, times, IsFree, IsIn, elements_at, AreLiveIndices}
-use Rattle.slotmap_lists.proofs.Common.{is_spot, element_put, index_put, spot_in, value_of, without, Place, Absent, absent, times_none, IsAt, element_without, part_left}
+use Rattle.slotmap_lists.proofs.Common.{bound, length, set, is_some, ◌∙◌, ℕ, List, [], Some, None, inl, inr, refl, sym, ap, subst, arith, true, get_or-set_same, get_or-set_other, length-set, map-set, removed_here, removed_other}
+use Rattle.slotmap_lists.proofs.Common.{eq-zero-or-pos, get-insert_here, get-insert_other, live-insert_still, same_or_other, Key, key_cmp, Content, IsLive, IsContent}
+use Rattle.slotmap_lists.proofs.Common.{Inserts, Removes, AreApart, same_or_not, Lists, list_of, with_list, times, IsFree, elements_at, AreLiveIndices}
+use Rattle.slotmap_lists.proofs.Common.{is_spot, element_put, index_put, spot_in, without, Place, absent, times_none, element_without, part_left}
 use Rattle.slotmap_lists.proofs.Common.{put_between, content_apart, home_of, one_if, lists_at, AreListed, elements_of, value_under, with_elements, without_key, put_into}
 use Rattle.std.proofs.Common.{◌≡◌, ◌≢◌, ◌+◌, ◌<◌, ◌≤◌, ◌∷◌, ◌++◌}
 use Rattle.slotmap_lists.proofs.Listed.{seen_list, as_many_lists, once, in_home, inside_home, apart_home, home_below, stands, stands_in, value_at}
@@ -13,12 +13,6 @@ use Rattle.std.specs.FinMap as map
 use Rattle.slotmap_links.specs.Lists as numbers
 
 module _ {T : Type 0} where
-  pub get-remove_here : (m : map.FinMap key_cmp T) (k : Key) → map.get (map.remove m k) k ≡ None
-  get-remove_here m k = grind (arith, map.get-remove keys_total m k k, itself keys_total exact_keys k)
-
-  get-remove_other : (m : map.FinMap key_cmp T) (k q : Key) → q ≢ k → map.get (map.remove m k) q ≡ map.get m q
-  get-remove_other m k q other = grind (arith, map.get-remove keys_total m k q, tied keys_total exact_keys q k)
-
   -- the lists of another map, which are the same, and where one list of numbers is another
   lists_same : (m n : map.FinMap key_cmp T) (s : Lists) → ((p : ℕ) → elements_at n (list_of s p) ≡ elements_at m (list_of s p)) → lists_at n s ≡ lists_at m s
   lists_same m n s same = map_alike (elements_at n) (elements_at m) s.lists [] same
@@ -100,10 +94,10 @@ module _ {T : Type 0} {c : Content T} {homes : List ℕ} {s : Lists} (kept : Are
     -- it left the map
     module _ (new : Content T) (removes : Removes c k new) where
       other_same : (q : Key) → q ≢ k → map.get new.live q ≡ map.get c.live q
-      other_same q other = ap (λ m. map.get m q) removes.live ∙ get-remove_other c.live k q other
+      other_same q other = ap (λ m. map.get m q) removes.live ∙ removed_other c.live k q other
 
       gone : IsLive new k → ⊥
-      gone at = let none = ap is_some (ap (λ m. map.get m k) removes.live ∙ get-remove_here c.live k) in cc
+      gone at = let none = ap is_some (ap (λ m. map.get m k) removes.live ∙ removed_here c.live k) in cc
 
       was : (q : Key) → IsLive new q → IsLive c q × (q ≢ k)
       was q of_q = let other : q ≢ k = λ e. gone (subst (IsLive new) e of_q) in (ap is_some (sym (other_same q other)) ∙ of_q, other)

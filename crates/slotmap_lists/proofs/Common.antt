@@ -5,7 +5,7 @@ pub use Rattle.std.proofs.lemmas.List.{get_or-set_same, get_or-set_other, length
 pub use Rattle.std.proofs.Math.{ListN.get_or-eq_default, ListN.get_or-map as read_map, Nat.eq-zero-or-pos}
 pub use Rattle.slotmap.proofs.Callers.{contains-keys_of, len-keys_of, alone_spent, spent_finds_nothing, same_lent, same_unlent, keeps_spent_alone, leaves_by_removal, leaves_none}
 pub use Rattle.slotmap.proofs.Callers.{removed_spent, spent_alone, spent_removes, inserted_len, inserted_not_spent, spent_inserts}
-pub use Rattle.slotmap.proofs.Callers.{get-insert_here, get-insert_other, live-insert_still, same_or_other, tied, keys_total, exact_keys, itself}
+pub use Rattle.slotmap.proofs.Callers.{get-insert_here, get-insert_other, removed_here, removed_other, live-insert_still, same_or_other, tied, keys_total, exact_keys, itself}
 pub use Rattle.slotmap.specs.Words.{Key, key_cmp, Content, IsLive, IsContent, Inserts, Removes, IsNew, with_value, without_values}
 pub use Rattle.slotmap_bounded.specs.Bounded.{bound, space}
 pub use Rattle.slotmap_bounded.proofs.Alone.{alone-space, used-written, alone-inserts, alone-leaves, alone-removes, alone-room, alone-new, used_alone}

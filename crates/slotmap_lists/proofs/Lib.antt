@@ -6,7 +6,6 @@ mod Listed
 mod Moved
 mod Opening
 mod Relinks
-mod Results
 mod Spots
 mod Which
 mod Written

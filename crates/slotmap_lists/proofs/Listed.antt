@@ -1,22 +1,14 @@
 -- What the map, the links and the homes say of the lists.
 use Rattle.slotmap_lists.proofs.Common.{length, is_some, ◌∙◌, option_map, ℕ, List, [], Option, Some, None, inl, inr, refl, sym, ap, arith, true, false, get_or-eq_default, read_map, eq-zero-or-pos}
-use Rattle.slotmap_lists.proofs.Common.{Key, key_cmp, Content, IsLive, len_alike, keys_total, some_is, same_or_not, one_itself, one_other, Lists, list_of, times, IsIn, elements_at, key_there, AreLiveIndices}
+use Rattle.slotmap_lists.proofs.Common.{Key, key_cmp, Content, IsLive, len_alike, keys_total, some_is, one_itself, one_other, Lists, list_of, times, IsIn, elements_at, key_there}
 use Rattle.slotmap_lists.proofs.Common.{value_of, first_or, last_or, key_after, key_before, IsOnce, none_there, once_if, once_long, times_none, key_times, IsAt, stands_at, value_there, value_none}
-use Rattle.slotmap_lists.proofs.Common.{next_there, prev_there, first_at, last_at, as_often, home_of, one_if, lists_at, AreListed, elements_of, all_elements, value_under, list_with, number_with, length-map}
-use Rattle.slotmap_lists.proofs.Common.{option_copied}
-use Rattle.std.proofs.Common.{◌≡◌, ◌≢◌, ◌+◌, ◌<◌, ◌≤◌, ◌⊎◌, ◌∷◌, ◌++◌, Bor}
+use Rattle.slotmap_lists.proofs.Common.{next_there, prev_there, first_at, last_at, as_often, home_of, lists_at, AreListed, elements_of, all_elements, value_under, list_with, number_with, length-map}
+use Rattle.std.proofs.Common.{◌≡◌, ◌≢◌, ◌+◌, ◌<◌, ◌≤◌, ◌∷◌, ◌++◌}
+use Rattle.std.proofs.lemmas.Bool.{cases_lt}
 use Rattle.slotmap_lists.proofs.Relinks.{one_most}
 use Rattle.slotmap_lists.proofs.Which.{StandsIn, none_joined, none_list, none_number, stands_joined, stands_list, stands_number, times_in}
 use Rattle.std.specs.FinMap as map
 use Rattle.slotmap_links.specs.Lists as numbers
-
--- a look-up that copies nothing found nothing
-pub nothing_copied : {A : Type 0} (r : Option (Bor A)) → option_copied r ≡ None → r ≡ None
-nothing_copied None is = refl
-nothing_copied (Some x) is = absurd (cc)
-
-below_or_past : (a b : ℕ) → (a < b) ⊎ (b ≤ a)
-below_or_past a b = search arith
 
 module _ {T : Type 0} (m : map.FinMap key_cmp T) (s : Lists) where
   -- each list of elements, and how many there are
@@ -53,7 +45,7 @@ module _ {T : Type 0} {c : Content T} {homes : List ℕ} {s : Lists} (kept : Are
   apart_home k live p other = kept.at_home k live p ∙ one_other (home k) p (λ e. other (sym e))
 
   pub home_below : (k : Key) → IsLive c k → home k < length s.lists
-  home_below k live = elim (below_or_past (home k) (length s.lists)) [
+  home_below k live = elim (cases_lt (home k) (length s.lists)) [
     | inl below ↦ below
     | inr past ↦ absurd (omega (arith, in_home k live, ap (times k.index) (no_list s (home k) past)))
   ]

@@ -1,7 +1,7 @@
 use Rattle.slotmap_list.proofs.Common.{[], length, ap, ◌∙◌, arith, rules, leaves_in_turn, memory, Inserts}
 use Rattle.std.proofs.Common.{◌≡◌, ◌<◌, ◌++◌, ◌∷◌}
 use Rattle.slotmap_list.proofs.Adding.{ok_so, moving_start, moving_step}
-use Rattle.slotmap_list.proofs.Results.{on_ok}
+use Rattle.slotmap_bounded.proofs.Results.{on_ok}
 use Rattle.std.specs.FinMap as map
 use Rattle.slotmap_list.proofs.StableList.append.Goals as goal
 

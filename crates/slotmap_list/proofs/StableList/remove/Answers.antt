@@ -1,7 +1,7 @@
-use Rattle.slotmap_list.proofs.Common.{true, Some, is_some, ◌∙◌, rules, keeps_spent_alone, leaves_by_removal, leaves_none, removed_spent, spent_alone, spent_removes, alone-leaves, alone-removes, alone-space, Lists}
+use Rattle.slotmap_list.proofs.Common.{true, Some, is_some, ◌∙◌, rules, keeps_spent_alone, leaves_by_removal, leaves_none, removed_spent, spent_alone, spent_removes, alone-leaves, alone-removes, alone-space, Lists, removed_here}
 use Rattle.slotmap_list.proofs.Common.{sym, ap}
 use Rattle.std.proofs.Common.{◌≡◌}
-use Rattle.slotmap_list.proofs.Keeps.{elements_taken, get-remove_here, kept_taken}
+use Rattle.slotmap_list.proofs.Keeps.{elements_taken, kept_taken}
 use Rattle.slotmap_list.proofs.Parts.{value_none}
 use Rattle.slotmap_list.proofs.Seen.{inside_if, value_at, gone_from}
 use Rattle.slotmap_list.proofs.StableList.remove.Goals.{After-idx}
@@ -44,7 +44,7 @@ returns g c =
     record {
       value = rw (← c.self.view_is) (sym there ∙ sym (value_at c.self.invariant k));
       removed = rw (c.take_out.ensures, c.idx.ensures.value, c.data.ensures.value, ← c.self.view_is) (elements_taken c.self.invariant k c.in_ok-value.value there c.remove.new.self removes);
-      absent = value_none c.remove.new.self.live k _ (ap (λ m. map.get m k) removes.live ∙ get-remove_here c.self.inside.values.live k);
+      absent = value_none c.remove.new.self.live k _ (ap (λ m. map.get m k) removes.live ∙ removed_here c.self.inside.values.live k);
       cursors = rw (← c.self.view_is) (alone-removes _ _ k removes);
       for_good = spent_alone _ k (removed_spent _ _ true before _ live removes);
       gone = rw (← c.self.view_is) (keeps_spent_alone _ _ (spent_removes _ _ true before _ live removes));

@@ -2,7 +2,7 @@ use Rattle.slotmap_list.proofs.Common.{false, true, refl, sym, ap, subst, ◌∙
 use Rattle.std.proofs.Common.{◌≡◌, ◌+◌}
 use Rattle.slotmap_bounded.specs.Bounded.{bound}
 use Rattle.slotmap_list.proofs.Keeps.{kept_alike}
-use Rattle.slotmap_list.proofs.Results.{no_room_made, not_both, on_ok}
+use Rattle.slotmap_bounded.proofs.Results.{no_room_made, not_both, on_ok}
 use Rattle.slotmap_list.proofs.StableList.reserve.Goals.{Then-is_err}
 use Rattle.std.specs.FinMap as map
 use Rattle.slotmap_list.proofs.StableList.reserve.Goals as goal

@@ -1,5 +1,6 @@
 use Rattle.slotmap_lists.proofs.Common.{sym, ◌∙◌, alone_spent, spent_finds_nothing}
-use Rattle.slotmap_lists.proofs.Listed.{nothing_copied, value_at}
+use Rattle.slotmap_bounded.proofs.Results.{nothing_copied}
+use Rattle.slotmap_lists.proofs.Listed.{value_at}
 use Rattle.slotmap_lists.proofs.StableLists.get.Goals as goal
 
 pub returns-clause-value : goal.returns-clause-value

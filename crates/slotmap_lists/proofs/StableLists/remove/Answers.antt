@@ -1,7 +1,7 @@
-use Rattle.slotmap_lists.proofs.Common.{true, Some, None, is_some, ◌∙◌, rules, sym, ap, arith, keeps_spent_alone, leaves_by_removal, leaves_none, removed_spent, spent_alone, spent_removes}
-use Rattle.slotmap_lists.proofs.Common.{alone-leaves, alone-removes, alone-space, Key, home_of, Sequences}
+use Rattle.slotmap_lists.proofs.Common.{true, Some, is_some, ◌∙◌, rules, sym, ap, keeps_spent_alone, leaves_by_removal, leaves_none, removed_spent, spent_alone, spent_removes, removed_here}
+use Rattle.slotmap_lists.proofs.Common.{alone-leaves, alone-removes, alone-space, Key, home_of}
 use Rattle.std.proofs.Common.{◌≡◌}
-use Rattle.slotmap_lists.proofs.Changes.{get-remove_here, listed_removed, lists_removed}
+use Rattle.slotmap_lists.proofs.Changes.{listed_removed, lists_removed}
 use Rattle.slotmap_lists.proofs.Listed.{home_below, homed_below, inside_home, value_at}
 use Rattle.slotmap_lists.proofs.Which.{no_key_without}
 use Rattle.slotmap_lists.proofs.StableLists.remove.Goals.{After-idx-index, After-home_at-home}
@@ -66,7 +66,7 @@ returns g c =
       removed = rw (c.take_out.ensures, home g at.After-home_at-home, index g at.After-idx-index, ← c.self.view_is)
           (lists_removed c.self.invariant k c.in_ok-value.value there c.remove.new.self removes);
       absent = rw (c.take_out.ensures, home g at.After-home_at-home, index g at.After-idx-index)
-          (value_at stays k ∙ ap (λ m. map.get m k) removes.live ∙ get-remove_here c.self.inside.values.live k);
+          (value_at stays k ∙ ap (λ m. map.get m k) removes.live ∙ removed_here c.self.inside.values.live k);
       cursors = rw (← c.self.view_is) (alone-removes _ _ k removes);
       for_good = spent_alone _ k (removed_spent _ _ true before _ live removes);
       gone = rw (← c.self.view_is) (keeps_spent_alone _ _ (spent_removes _ _ true before _ live removes));

@@ -2,7 +2,7 @@ use Rattle.slotmap_lists.proofs.Common.{bound, false, true, refl, sym, ap, subst
 use Rattle.slotmap.specs.Words.{MakesRoom, RefusesCapacity, used}
 use Rattle.std.proofs.Common.{◌≡◌, ◌+◌}
 use Rattle.slotmap_lists.proofs.Opening.{listed_alike}
-use Rattle.slotmap_lists.proofs.Results.{no_room_made, not_both, on_ok}
+use Rattle.slotmap_bounded.proofs.Results.{no_room_made, not_both, on_ok}
 use Rattle.slotmap_lists.proofs.StableLists.reserve.Goals.{Then-is_err}
 use Rattle.std.specs.FinMap as map
 use Rattle.slotmap_lists.proofs.StableLists.reserve.Goals as goal
