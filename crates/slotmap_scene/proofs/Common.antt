@@ -45,9 +45,9 @@ pub use Rattle.slotmap_scene.specs.Below.{GoesDown, IsTop, WalksBelow, all_below
 pub use Rattle.slotmap_scene.specs.Climb.{ClimbsTo, IsTree, IsWithin, StepsTo, has_node, lacks_node, parent_in, parent_of, with_parent}
 pub use Rattle.slotmap_scene.specs.Family.{AreListed, IsMoved, IsNewChild, IsNodeClone, IsScene, SiblingSide, as_placed, behind, beside_first, child, children_in, children_of, children_under, forgets}
 pub use Rattle.slotmap_scene.specs.Family.{in_front, is_parent, placed, put_in_place, siblings_of, value_of, with_children_of, with_value, without_child}
-pub use Rattle.slotmap_scene.specs.Kept.{AreCovered, HoldsMore, HoldsNodes, IsParent, family, node_at, nodes_by, number_in_place, owner_of, parent_at, parent_index, put_on, roots_of}
+pub use Rattle.slotmap_scene.specs.Kept.{AreCovered, HoldsMore, HoldsNodes, IsParent, family, forest, node_at, nodes_by, number_in_place, owner_of, parent_at, parent_index, put_on, roots_of}
 pub use Rattle.slotmap_scene.specs.Levels.{AreWorlds, GoesByLevel, children_of_each, keys_of_pairs}
-pub use Rattle.slotmap_scene.specs.Node.{Node, Nodes, key_and_value}
+pub use Rattle.slotmap_scene.specs.Node.{Forest, Node, Nodes, key_and_value, memory, with_trees}
 pub use Rattle.slotmap_scene.specs.Offset.{shifted}
 pub use Rattle.slotmap_scene.specs.WorldValue.{CallableUp, CallsAt, FoldsUp, IsComposed, IsPathFrom, IsPathUp, IsWorld, IsWorldOf, Joins, world_along}
 pub use Rattle.slotmap_scene.specs.declared.tree.Side.{Side}

@@ -5,7 +5,7 @@ use Rattle.slotmap_scene.proofs.Common.{KeepsSpent, Key, Leaves, List, Node, Nod
 use Rattle.slotmap_scene.proofs.Common.{changed_here, changed_in, changed_keeps, changed_other, child, children_in, children_of, clone_live, cond, exact_keys, false, forgets, get-insert_here}
 use Rattle.slotmap_scene.proofs.Common.{get-insert_other, has_node, inl, inr, is_key, is_parent, is_some, key_cmp, keys_total, lacks_node, leaves_by_write, leaves_none, len_alike, none_of, one_itself}
 use Rattle.slotmap_scene.proofs.Common.{one_other, option_map, parent_in, parent_of, placed, put_in_place, refl, same, same_or_other, shown_spent, subst, sym, times, times_first, times_gone}
-use Rattle.slotmap_scene.proofs.Common.{bound, space, times_pushed, times_without, true, value_of, with_children_of, with_parent, with_value, without, without_child, without_none, ◌∙◌}
+use Rattle.slotmap_scene.proofs.Common.{Forest, bound, memory, space, times_pushed, times_without, true, value_of, with_children_of, with_parent, with_trees, with_value, without, without_child, without_none, ◌∙◌}
 use Rattle.slotmap_scene.proofs.Climbs.{alone_within, parent_there, tree_moved, tree_same}
 use Rattle.std.specs.FinMap as map
 
@@ -93,13 +93,27 @@ leaves_filled {T} c (Some p) f = by (map.get c.live p) refl
     by None is = leaves_none c
     by (Some n) is = leaves_by_write c p (record n { children = f n.children }) (ap is_some is)
 
+-- a scene with the same vectors, and its nodes
+pub nodes_alike : {T : Type 0} {s t : Forest T} → s ≡ t → s.nodes ≡ t.nodes
+nodes_alike is = ap (λ s. s.nodes) is
+
 -- and they take as much space
-pub filled_space : {T : Type 0} (c : Content (Node T)) (o : Option Key) (f : List Key → List Key) → space (record c { live = with_children_of c.live o f }) ≡ space c
+filled_space : {T : Type 0} (c : Content (Node T)) (o : Option Key) (f : List Key → List Key) → space (record c { live = with_children_of c.live o f }) ≡ space c
 filled_space c o f = let same : bound (record c { live = with_children_of c.live o f }) ≡ bound c = omega (arith, (leaves_filled c o f).same_places) in λ i. (same i, c.capacity)
+
+pub filled_memory : {T : Type 0} (s : Forest T) (o : Option Key) (f : List Key → List Key) → memory (with_trees s (with_children_of s.nodes.live o f)) ≡ memory s
+filled_memory s o f = λ i. (filled_space s.nodes o f i, s.links)
 
 -- the same keys are there, with other values
 pub spent_alike : {V : Type 0} (c : Content V) (m : map.FinMap key_cmp V) → ((q : Key) → map.contains_key m q ≡ map.contains_key c.live q) → KeepsSpent c (record c { live = m })
 spent_alike c m same = shown_spent c m same (len_alike m c.live same)
+
+pub placed_memory : {T : Type 0} (s : Forest T) (m : Nodes T) → ((q : Key) → map.contains_key m q ≡ map.contains_key s.nodes.live q)
+    → memory (with_trees s m) ≡ memory s
+placed_memory s m same =
+    let alike = len_alike m s.nodes.live same in
+    let as_much : bound (record s.nodes { live = m }) ≡ bound s.nodes = omega arith in
+    λ i. ((as_much i, s.nodes.capacity), s.links)
 
 module _ {T : Type 0} where
   -- the children of a node, if there is one, are written

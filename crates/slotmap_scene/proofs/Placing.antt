@@ -1,11 +1,11 @@
 -- A node is put among the children of another one or taken out of them, or gets another parent: what is kept then, and what it shows.
 use Rattle.std.proofs.Common.{◌++◌, ◌+◌, ◌<◌, ◌∷◌, ◌≡◌, ◌≢◌, ◌≤◌}
 use Rattle.slotmap_scene.proofs.Common.{After, AreDisjoint, AreIndices, Before, Bool, Content, HasKey, HaveIndices, HoldsNodes, IfSome, IfSome_then, IsFree, IsIn, IsLive, IsParent, IsScene, IsSome}
-use Rattle.slotmap_scene.proofs.Common.{Key, List, Lists, Node, None, Option, Side, Some, [], ap, arith, behind, beside_first, children_of, children_under, cond, false, family, first_index, first_key}
+use Rattle.slotmap_scene.proofs.Common.{Key, List, Lists, Nodes, None, Option, Side, Some, [], ap, arith, behind, beside_first, children_of, children_under, cond, false, family, Forest, forest, first_index, first_key}
 use Rattle.slotmap_scene.proofs.Common.{first_or, has_node, in_front, inl, inr, is_key, key_at, key_at_live, keys_at, keys_without, later_indices, length, list_of, map-append, nat_eq, number_after}
 use Rattle.slotmap_scene.proofs.Common.{number_before, number_in_place, number_other, often, often_first, often_gone, often_joined, often_without, option_map, parent_at, parent_index, parent_of}
 use Rattle.slotmap_scene.proofs.Common.{placed, put_in_place, put_on, refl, same_at, same_number, same_or_other_number, set, siblings_of, some_is, subst, sym, times, true, with_children_of, with_list}
-use Rattle.slotmap_scene.proofs.Common.{with_parent, without, without_child, without_number, ℕ, ◌∙◌}
+use Rattle.slotmap_scene.proofs.Common.{with_parent, with_trees, without, without_child, without_number, ℕ, ◌∙◌}
 use Rattle.slotmap_scene.proofs.Families.{above_has, above_none, child_in, children_live, has_if, has_place, hung, hung_seen, indices_at, is_free, relisted, relisted_seen, seen_has}
 use Rattle.slotmap_scene.proofs.Climbs.{parent_there}
 use Rattle.slotmap_scene.proofs.Moved.{listed_once}
@@ -88,29 +88,34 @@ module _ (k i : ℕ) where
   few_more After None ks = omega (arith, often_first i k ks)
 
 module _ {V : Type 0} {c : Content V} {parents : List ℕ} {children : Lists} (kept : HoldsNodes c parents children)
-    {self : Content (Node V)} (view : family c parents children ≡ self) where
-  pub is_live : (k : Key) → has_node self.live k → IsLive c k
-  is_live k there = sym (seen_has c.live parents children k) ∙ ap (λ (s : Content (Node V)). map.contains_key s.live k) view ∙ there
+    {capacity : ℕ} {self : Forest V} (view : forest c parents children capacity ≡ self) where
+  -- other trees in vectors that hold as many
+  lifted : (parents' : List ℕ) (children' : Lists) {trees : Nodes V} → family c parents' children' ≡ record self.nodes { live = trees }
+      → children'.capacity ≡ children.capacity → forest c parents' children' capacity ≡ with_trees self trees
+  lifted parents' children' nodes same = λ i. record { nodes = nodes i; links = (ap (λ l. (capacity, l)) same ∙ ap (λ (s : Forest V). s.links) view) i }
 
-  pub owner_there : (p : Key) → has_node self.live p → p.index < length children.lists
+  pub is_live : (k : Key) → has_node self.nodes.live k → IsLive c k
+  is_live k there = sym (seen_has c.live parents children k) ∙ ap (λ (s : Forest V). map.contains_key s.nodes.live k) view ∙ there
+
+  pub owner_there : (p : Key) → has_node self.nodes.live p → p.index < length children.lists
   owner_there p there = (has_place kept p (is_live p there)).owners
 
-  pub place_there : (k : Key) → has_node self.live k → k.index < length parents
+  pub place_there : (k : Key) → has_node self.nodes.live k → k.index < length parents
   place_there k there = (has_place kept k (is_live k there)).parents
 
-  pub free_there : (k : Key) → has_node self.live k → ((p : Key) → times k (children_of self.live p) ≡ 0) → IsFree children k.index
-  free_there k there alone = is_free kept k (is_live k there) (λ p. ap (λ (s : Content (Node V)). times k (children_of s.live p)) view ∙ alone p)
+  pub free_there : (k : Key) → has_node self.nodes.live k → ((p : Key) → times k (children_of self.nodes.live p) ≡ 0) → IsFree children k.index
+  free_there k there alone = is_free kept k (is_live k there) (λ p. ap (λ (s : Forest V). times k (children_of s.nodes.live p)) view ∙ alone p)
 
-  child_there : (p k : Key) → times k (children_of self.live p) ≡ 1 → IsLive c k × IsIn children p.index k.index
-  child_there p k once = let is = child_in kept p k (let same = ap (λ (s : Content (Node V)). times k (children_of s.live p)) view in omega arith) in (is.1, is.2)
+  child_there : (p k : Key) → times k (children_of self.nodes.live p) ≡ 1 → IsLive c k × IsIn children p.index k.index
+  child_there p k once = let is = child_in kept p k (let same = ap (λ (s : Forest V). times k (children_of s.nodes.live p)) view in omega arith) in (is.1, is.2)
 
   -- what is found beside a child by its index
-  module _ (k : Key) (scene : IsScene self.live) (child : IsSome (parent_of self.live k)) where
-    own : (p : Key) × (parent_of self.live k ≡ Some p)
-    own = some_is (parent_of self.live k) child
+  module _ (k : Key) (scene : IsScene self.nodes.live) (child : IsSome (parent_of self.nodes.live k)) where
+    own : (p : Key) × (parent_of self.nodes.live k ≡ Some p)
+    own = some_is (parent_of self.nodes.live k) child
 
     there : IsLive c k × IsIn children own.0.index k.index
-    there = child_there own.0 k (listed_once self.live scene.listed own.0 k own.1)
+    there = child_there own.0 k (listed_once self.nodes.live scene.listed own.0 k own.1)
 
     pub member_there : k.index < children.members
     member_there = (has_place kept k there.0).members
@@ -119,32 +124,34 @@ module _ {V : Type 0} {c : Content V} {parents : List ℕ} {children : Lists} (k
         → (IsLive c k → (is : List ℕ) → AreIndices c is → g k (keys_at c.live is) ≡ option_map (key_at c.live) (f k.index is))
         → ((i : ℕ) (is : List ℕ) → f k.index is ≡ Some i → 0 < often i is) → (number : Option ℕ)
         → ((p : ℕ) → IsIn children p k.index → number ≡ f k.index (list_of children p))
-        → IfSome number (HasKey c) × (option_map (key_at c.live) number ≡ g k (siblings_of self.live k))
+        → IfSome number (HasKey c) × (option_map (key_at c.live) number ≡ g k (siblings_of self.nodes.live k))
     beside f g alike inside number found =
         let is = list_of children own.0.index in
         let at = found own.0.index there.1 in
-        let parent = is_live own.0 (parent_there self.live scene.tree k own.0 own.1) in (
+        let parent = is_live own.0 (parent_there self.nodes.live scene.tree k own.0 own.1) in (
           has_if kept (indices_at kept own.0.index) number (λ i at_i. inside i is (sym at ∙ at_i)),
           ap (option_map (key_at c.live)) at ∙ sym (alike there.0 is (indices_at kept own.0.index))
-              ∙ ap (g k) (sym (children_live c.live parents children own.0 parent) ∙ ap (λ (s : Content (Node V)). children_of s.live own.0) view)
-              ∙ ap (λ o. g k (children_under self.live o)) (sym own.1),
+              ∙ ap (g k) (sym (children_live c.live parents children own.0 parent) ∙ ap (λ (s : Forest V). children_of s.nodes.live own.0) view)
+              ∙ ap (λ o. g k (children_under self.nodes.live o)) (sym own.1),
         )
 
-  pub sibling_there : (p : Key) (sibling : Option Key) → IfSome sibling (λ s. times s (children_of self.live p) ≡ 1)
+  pub sibling_there : (p : Key) (sibling : Option Key) → IfSome sibling (λ s. times s (children_of self.nodes.live p) ≡ 1)
       → IfSome sibling (λ s. IsLive c s × IsIn children p.index s.index)
   sibling_there p sibling once = IfSome_then sibling once (child_there p)
 
   -- the children of p are others
   abbrev Relists : Key → Lists → (List Key → List Key) → Type 0
-  Relists p new f = HoldsNodes c parents new × (family c parents new ≡ record self { live = with_children_of self.live (Some p) f })
+  Relists p new f = HoldsNodes c parents new × (forest c parents new capacity ≡ with_trees self (with_children_of self.nodes.live (Some p) f))
 
   relists : (p : Key) → IsLive c p → (is : List ℕ) → ((i : ℕ) → 0 < often i is → HasKey c i) → (f : List Key → List Key)
       → keys_at c.live is ≡ f (keys_at c.live (list_of children p.index))
       → (new : Lists) → new ≡ with_list children p.index is → AreDisjoint new → Relists p new f
   relists p live is have f made new new_is disjoint =
-      grind (arith, relisted kept p live is (record { have = have }) f made new new_is disjoint, relisted_seen kept p live is (record { have = have }) f made new new_is)
+      let now = ap (λ n. record (family c parents children) { live = n }) (relisted_seen kept p live is (record { have = have }) f made new new_is)
+      ∙ ap (λ (s : Forest V). record s.nodes { live = with_children_of s.nodes.live (Some p) f }) view in
+      (relisted kept p live is (record { have = have }) f made new new_is disjoint, lifted parents new now (ap (λ (l : Lists). l.capacity) new_is))
 
-  module _ (p k : Key) (there : has_node self.live p) (node : has_node self.live k) (new : Lists) where
+  module _ (p k : Key) (there : has_node self.nodes.live p) (node : has_node self.nodes.live k) (new : Lists) where
     abbrev was_list : List ℕ
     was_list = list_of children p.index
 
@@ -157,40 +164,40 @@ module _ {V : Type 0} {c : Content V} {parents : List ℕ} {children : Lists} (k
       | inr apart ↦ had.have i (let none = number_other k.index i apart in omega arith)
     ]
 
-    pub puts : (side : Side) (sibling : Option Key) → IfSome sibling (λ s. times s (children_of self.live p) ≡ 1)
+    pub puts : (side : Side) (sibling : Option Key) → IfSome sibling (λ s. times s (children_of self.nodes.live p) ≡ 1)
         → new ≡ with_list children p.index (number_in_place side sibling k.index was_list) → AreDisjoint new → Relists p new (put_in_place side sibling k)
     puts side sibling once = relists p (is_live p there) (number_in_place side sibling k.index was_list)
         (λ i more. came i (omega (arith, few_more k.index i side sibling was_list)))
         (put_in_place side sibling k) (key_put kept.indices side sibling k (is_live k node) was_list had (sibling_there p sibling once)) new
 
   -- k leaves the children of its parent, whose index was read, if it has one
-  module _ (k : Key) (node : has_node self.live k) (parent : ℕ) (read : parent ≡ parent_at parents k.index) where
-    pub up_none : parent ≡ 0 → parent_of self.live k ≡ None
-    up_none none = ap (λ (s : Content (Node V)). parent_of s.live k) (sym view) ∙ above_none kept k (is_live k node) (sym read ∙ none)
+  module _ (k : Key) (node : has_node self.nodes.live k) (parent : ℕ) (read : parent ≡ parent_at parents k.index) where
+    pub up_none : parent ≡ 0 → parent_of self.nodes.live k ≡ None
+    up_none none = ap (λ (s : Forest V). parent_of s.nodes.live k) (sym view) ∙ above_none kept k (is_live k node) (sym read ∙ none)
 
-    pub left_none : parent ≡ 0 → self ≡ record self { live = without_child self.live (parent_of self.live k) k }
-    left_none none = ap (λ o. record self { live = without_child self.live o k }) (sym (up_none none))
+    pub left_none : parent ≡ 0 → self ≡ with_trees self (without_child self.nodes.live (parent_of self.nodes.live k) k)
+    left_none none = ap (λ o. with_trees self (without_child self.nodes.live o k)) (sym (up_none none))
 
     module _ (some : parent ≢ 0) where
-      up : (p : Key) × IsLive c p × (p.index ≡ parent) × (parent_of self.live k ≡ Some p)
+      up : (p : Key) × IsLive c p × (p.index ≡ parent) × (parent_of self.nodes.live k ≡ Some p)
       up =
           let above_k = above_has kept k (is_live k node) (λ none. some (read ∙ none)) in
-          (above_k.0, above_k.1, above_k.2 ∙ sym read, ap (λ (s : Content (Node V)). parent_of s.live k) (sym view) ∙ above_k.3)
+          (above_k.0, above_k.1, above_k.2 ∙ sym read, ap (λ (s : Forest V). parent_of s.nodes.live k) (sym view) ∙ above_k.3)
 
       pub up_has : HasKey c parent
       up_has = (up.0, up.1, up.2)
 
-      pub up_is : (p : Key) → IsLive c p → p.index ≡ parent → parent_of self.live k ≡ Some p
+      pub up_is : (p : Key) → IsLive c p → p.index ≡ parent → parent_of self.nodes.live k ≡ Some p
       up_is p live at = up.3 ∙ ap Some (kept.indices.apart up.0 p up.1 live (up.2 ∙ sym at))
 
       pub left_below : parent < length children.lists
       left_below = subst (λ p. p < length children.lists) up.2 (has_place kept up.0 up.1).owners
 
-      pub left_listed : ((p : Key) → parent_of self.live k ≡ Some p → times k (children_of self.live p) ≡ 1) → IsIn children parent k.index
+      pub left_listed : ((p : Key) → parent_of self.nodes.live k ≡ Some p → times k (children_of self.nodes.live p) ≡ 1) → IsIn children parent k.index
       left_listed once = subst (λ p. IsIn children p k.index) up.2 (child_there up.0 k (once up.0 up.3)).1
 
       pub left : (new : Lists) → new ≡ with_list children parent (without_number k.index (list_of children parent)) → AreDisjoint new
-          → HoldsNodes c parents new × (family c parents new ≡ record self { live = without_child self.live (parent_of self.live k) k })
+          → HoldsNodes c parents new × (forest c parents new capacity ≡ with_trees self (without_child self.nodes.live (parent_of self.nodes.live k) k))
       left new new_is disjoint =
           let p = up.0 in
           let left_p = relists p up.1 (without_number k.index (list_of children p.index))
@@ -201,17 +208,17 @@ module _ {V : Type 0} {c : Content V} {parents : List ℕ} {children : Lists} (k
           ])
           (without k) (keys_without kept.indices kept.indices k (is_live k node) (λ q live _. live) (list_of children p.index) (indices_at kept p.index))
           new (subst (λ p. new ≡ with_list children p (without_number k.index (list_of children p))) (sym up.2) new_is) disjoint in
-          (left_p.0, left_p.1 ∙ ap (λ o. record self { live = without_child self.live o k }) (sym up.3))
+          (left_p.0, left_p.1 ∙ ap (λ o. with_trees self (without_child self.nodes.live o k)) (sym up.3))
 
   -- k gets this parent
-  pub parent_alive : (o : Option Key) → IsParent self.live o → IfSome o (IsLive c)
+  pub parent_alive : (o : Option Key) → IsParent self.nodes.live o → IfSome o (IsLive c)
   parent_alive o is = IfSome_then o is is_live
 
-  pub hangs : (k : Key) → has_node self.live k → (o : Option Key) → IsParent self.live o → (new : List ℕ)
+  pub hangs : (k : Key) → has_node self.nodes.live k → (o : Option Key) → IsParent self.nodes.live o → (new : List ℕ)
       → new ≡ set parents k.index (parent_index o)
-      → HoldsNodes c new children × (family c new children ≡ record self { live = with_parent self.live k o })
+      → HoldsNodes c new children × (forest c new children capacity ≡ with_trees self (with_parent self.nodes.live k o))
   hangs k node o is_parent new new_is = (
     hung kept k o (parent_alive o is_parent) (is_live k node) new new_is,
-    ap (λ n. record (family c parents children) { live = n }) (hung_seen kept k o (parent_alive o is_parent) (is_live k node) new new_is)
-        ∙ ap (λ (s : Content (Node V)). record s { live = with_parent s.live k o }) view,
+    lifted new children (ap (λ n. record (family c parents children) { live = n }) (hung_seen kept k o (parent_alive o is_parent) (is_live k node) new new_is)
+        ∙ ap (λ (s : Forest V). record s.nodes { live = with_parent s.nodes.live k o }) view) refl,
   )

@@ -2,8 +2,8 @@
 use Rattle.std.proofs.Common.{◌+◌, ◌∷◌, ◌≡◌, ◌≢◌, ◌≤◌, ◌⊎◌}
 use Rattle.slotmap_scene.proofs.Common.{AreCovered, Content, CoversMore, Err, HasKey, HaveIndices, HoldsMore, HoldsNodes, IfSome, IfSome_then, Inserts, IsCloneBy, IsCloneOf, IsContent, IsErr, IsIn}
 use Rattle.slotmap_scene.proofs.Common.{IsLive, IsNodeClone, IsOk, Key, Leaves, List, Lists, MakesRoom, Node, Nodes, None, Ok, Option, Result, Some, [], ap, arith, bound, bound_with, disjoint_still, space, used-written, with_capacity, child, children_of}
-use Rattle.slotmap_scene.proofs.Common.{clone_live, exact_keys, family, found_at, found_live, get-insert_here, get-insert_other, get_or-set_other, get_or-set_same, indices_inserted, indices_still}
-use Rattle.slotmap_scene.proofs.Common.{inl, inr, inserted_fresh, is_some, key_cmp, keys, keys_at, keys_total, length-set, list_of, live-insert_still, most, node_at, often}
+use Rattle.slotmap_scene.proofs.Common.{clone_live, exact_keys, family, forest, found_at, found_live, get-insert_here, get-insert_other, get_or-set_other, get_or-set_same, indices_inserted, indices_still}
+use Rattle.slotmap_scene.proofs.Common.{inl, inr, inserted_fresh, is_some, key_cmp, keys, keys_at, keys_total, length-set, list_of, live-insert_still, memory, most, node_at, often}
 use Rattle.slotmap_scene.proofs.Common.{option_map, parent_at, parent_index, parent_of, refl, same_or_other, set, shown_content, shown_inserts, shown_leaves, shown_makes_room, subst, sym, times, true}
 use Rattle.slotmap_scene.proofs.Common.{used, with_value, ℕ, ◌∙◌}
 use Rattle.slotmap_scene.proofs.Families.{above_still, changed_is, children_live, covers_less, get_alike, get_along, kept_along, kept_still, list_none, node_along, node_still, nowhere, parent_live}
@@ -31,8 +31,12 @@ module _ {V : Type 0} (c : Content V) (parents : List ℕ) (children : Lists) wh
     pub family_bound : bound d ≡ bound c → bound (family d parents' children') ≡ bound (family c parents children)
     family_bound same = omega (arith, seen_len c.live parents children, seen_len d.live parents' children', same)
 
-    pub family_space : bound d ≡ bound c → d.capacity ≡ c.capacity → space (family d parents' children') ≡ space (family c parents children)
+    family_space : bound d ≡ bound c → d.capacity ≡ c.capacity → space (family d parents' children') ≡ space (family c parents children)
     family_space same capacity = λ i. (family_bound same i, capacity i)
+
+    pub forest_memory : bound d ≡ bound c → d.capacity ≡ c.capacity → children'.capacity ≡ children.capacity
+        → (capacity : ℕ) → memory (forest d parents' children' capacity) ≡ memory (forest c parents children capacity)
+    forest_memory same map links capacity = λ i. (family_space same map i, (capacity, links i))
 
     pub family_leaves : Leaves c d → Leaves (family c parents children) (family d parents' children')
     family_leaves = shown_leaves c d seen_was seen_now (seen_has c.live parents children) (seen_len c.live parents children)

@@ -8,7 +8,7 @@ use Rattle.slotmap_bounded.specs.Bounded.{bound}
 use Rattle.slotmap_bounded.specs.Indices.{HasKey, HaveIndices, found_at, keys_at}
 use Rattle.slotmap_bounded.specs.Mapped.{with_live}
 use Rattle.slotmap_links.specs.Lists.{Lists, list_of, IsIn, AreDisjoint, put_before, put_behind}
-use Rattle.slotmap_scene.specs.Node.{Node, Nodes}
+use Rattle.slotmap_scene.specs.Node.{Forest, Node, Nodes}
 use Rattle.slotmap_scene.specs.Climb.{has_node}
 use Rattle.slotmap_scene.specs.declared.tree.Side.{Side}
 use Rattle.slotmap_scene.specs.declared.tree.Side.TheVariants.{Before, After}
@@ -58,6 +58,10 @@ module _ {T : Type 0} where
 
   abbrev pub family : Content T → List ℕ → Lists → Content (Node T)
   family c parents children = with_live c (nodes_by c.live parents children)
+
+  -- the same, and for how many parents there is memory
+  abbrev pub forest : Content T → List ℕ → Lists → ℕ → Forest T
+  forest c parents children capacity = record { nodes = family c parents children; links = (capacity, children.capacity) }
 
   -- parents and children are nodes
   pub record HoldsNodes (c : Content T) (parents : List ℕ) (children : Lists) : Type 0 where

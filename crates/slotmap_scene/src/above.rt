@@ -35,9 +35,9 @@ impl<'a, K, T> Model for Ancestors<'a, K, T> {
 
     ghost Value = { List Key };
 
-    ghost view = { λ it. keys_up it.nodes.now.live (map.len it.nodes.now.live) it.at };
+    ghost view = { λ it. keys_up it.nodes.now.nodes.live (map.len it.nodes.now.nodes.live) it.at };
 
-    ghost invariant = { λ it. HasRoot it.nodes.now.live it.at };
+    ghost invariant = { λ it. HasRoot it.nodes.now.nodes.live it.at };
 }
 
 impl<'a, K: Key, T: Drop> Iterator for Ancestors<'a, K, T> {
@@ -108,8 +108,8 @@ impl<'a, K: Key, T: Drop> FusedIterator for Roots<'a, K, T> {}
 impl<K: Key, T: Drop> Scene<K, T> {
     // The key of the parent of a node.
     pub(crate) fn parent_key(&self, node: DefaultKey) -> Option<DefaultKey>
-        ensures value { result ≡ parent_of self.now.live node }
-        ensures rooted { HasRoot self.now.live result }
+        ensures value { result ≡ parent_of self.now.nodes.live node }
+        ensures rooted { HasRoot self.now.nodes.live result }
     {
         self.nodes.parent(node)
     }
@@ -129,8 +129,8 @@ impl<K: Key, T: Drop> Scene<K, T> {
     /// assert_eq!(rt; above.next(), None);
     /// ```
     pub fn ancestors(&self, node: K) -> Ancestors<'_, K, T>
-        ensures order { GoesUp self.now.live (parent_of self.now.live (K.data_of node)) result }
-        ensures only { (k : KeyOf) → 0 < times k result → has_node self.now.live k }
+        ensures order { GoesUp self.now.nodes.live (parent_of self.now.nodes.live (K.data_of node)) result }
+        ensures only { (k : KeyOf) → 0 < times k result → has_node self.now.nodes.live k }
     {
         Ancestors {
             nodes: &self.nodes,
@@ -152,7 +152,7 @@ impl<K: Key, T: Drop> Scene<K, T> {
     /// assert_eq!(rt; roots.next(), None);
     /// ```
     pub fn roots(&self) -> Roots<'_, K, T>
-        ensures { result ≡ roots_in self.now.live }
+        ensures { result ≡ roots_in self.now.nodes.live }
     {
         Roots {
             nodes: self.nodes.keys(),

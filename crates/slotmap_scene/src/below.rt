@@ -36,9 +36,9 @@ impl<'a, K: Key, T> Model for KeysBelow<'a, K, T> {
 
     ghost Value = { List Key };
 
-    ghost view = { λ it. keys_from (option_map K.data_of it.at) (all_below it.scene.now.live (K.data_of it.node)) };
+    ghost view = { λ it. keys_from (option_map K.data_of it.at) (all_below it.scene.now.nodes.live (K.data_of it.node)) };
 
-    ghost invariant = { λ it. WalksBelow it.scene.now.live (K.data_of it.node) (option_map K.data_of it.at) };
+    ghost invariant = { λ it. WalksBelow it.scene.now.nodes.live (K.data_of it.node) (option_map K.data_of it.at) };
 }
 
 impl<'a, K: Key, T: Drop> Iterator for KeysBelow<'a, K, T> {
@@ -61,10 +61,10 @@ impl<K: Key, T: Drop> Scene<K, T> {
     // The key after this one on a walk that is to stay below a node. This one has no children, so it is the
     // next sibling of the first node on the way up that has one.
     fn next_above(&self, node: K, key: K) -> Option<K>
-        requires { children_of self.now.live (K.data_of key) ≡ [] }
-        ensures comes { (top : KeyOf) → IsTop self.now.live (K.data_of node) (K.data_of key) top
-            → option_map K.data_of result ≡ behind (K.data_of key) (top ∷ all_below self.now.live top) }
-        ensures live { IfSome result (λ next. has_node self.now.live (K.data_of next)) }
+        requires { children_of self.now.nodes.live (K.data_of key) ≡ [] }
+        ensures comes { (top : KeyOf) → IsTop self.now.nodes.live (K.data_of node) (K.data_of key) top
+            → option_map K.data_of result ≡ behind (K.data_of key) (top ∷ all_below self.now.nodes.live top) }
+        ensures live { IfSome result (λ next. has_node self.now.nodes.live (K.data_of next)) }
     {
         let end = inner(node);
         let mut at = key;
@@ -111,18 +111,18 @@ impl<K: Key, T: Drop> Scene<K, T> {
     /// assert_eq!(rt; scene.next_below(door, handle), None);
     /// ```
     pub fn next_below(&self, node: K, key: K) -> Option<K>
-        ensures first { K.data_of key ≡ K.data_of node → option_map K.data_of result ≡ first_or (all_below self.now.live (K.data_of node)) None }
-        ensures along { 0 < times (K.data_of key) (all_below self.now.live (K.data_of node))
-            → option_map K.data_of result ≡ behind (K.data_of key) (all_below self.now.live (K.data_of node)) }
+        ensures first { K.data_of key ≡ K.data_of node → option_map K.data_of result ≡ first_or (all_below self.now.nodes.live (K.data_of node)) None }
+        ensures along { 0 < times (K.data_of key) (all_below self.now.nodes.live (K.data_of node))
+            → option_map K.data_of result ≡ behind (K.data_of key) (all_below self.now.nodes.live (K.data_of node)) }
 
         // It stays below the node, or else in the tree that the key is in.
-        ensures within { IsWithin self.now.live (K.data_of key) (K.data_of node)
-            → IfSome result (λ next. IsWithin self.now.live (K.data_of next) (K.data_of node) × (K.data_of next ≢ K.data_of node)) }
-        ensures elsewhere { (root : KeyOf) → (IsWithin self.now.live (K.data_of key) (K.data_of node) → ⊥)
-            → IsWithin self.now.live (K.data_of key) root → parent_of self.now.live root ≡ None
-            → option_map K.data_of result ≡ behind (K.data_of key) (root ∷ all_below self.now.live root) }
-        ensures stale { lacks_node self.now.live (K.data_of key) → result ≡ None }
-        ensures live { IfSome result (λ next. has_node self.now.live (K.data_of next)) }
+        ensures within { IsWithin self.now.nodes.live (K.data_of key) (K.data_of node)
+            → IfSome result (λ next. IsWithin self.now.nodes.live (K.data_of next) (K.data_of node) × (K.data_of next ≢ K.data_of node)) }
+        ensures elsewhere { (root : KeyOf) → (IsWithin self.now.nodes.live (K.data_of key) (K.data_of node) → ⊥)
+            → IsWithin self.now.nodes.live (K.data_of key) root → parent_of self.now.nodes.live root ≡ None
+            → option_map K.data_of result ≡ behind (K.data_of key) (root ∷ all_below self.now.nodes.live root) }
+        ensures stale { lacks_node self.now.nodes.live (K.data_of key) → result ≡ None }
+        ensures live { IfSome result (λ next. has_node self.now.nodes.live (K.data_of next)) }
     {
         let _ = &self.alloc;
         if let Some(child) = self.first_child(key) {
@@ -133,10 +133,10 @@ impl<K: Key, T: Drop> Scene<K, T> {
 
     // The key behind the one at which a walk is.
     fn key_behind(&self, node: K, key: K) -> Option<K>
-        requires { WalksBelow self.now.live (K.data_of node) (Some (K.data_of key)) }
-        ensures walks { WalksBelow self.now.live (K.data_of node) (option_map K.data_of result) }
-        ensures rest { keys_from (Some (K.data_of key)) (all_below self.now.live (K.data_of node))
-            ≡ K.data_of key ∷ keys_from (option_map K.data_of result) (all_below self.now.live (K.data_of node)) }
+        requires { WalksBelow self.now.nodes.live (K.data_of node) (Some (K.data_of key)) }
+        ensures walks { WalksBelow self.now.nodes.live (K.data_of node) (option_map K.data_of result) }
+        ensures rest { keys_from (Some (K.data_of key)) (all_below self.now.nodes.live (K.data_of node))
+            ≡ K.data_of key ∷ keys_from (option_map K.data_of result) (all_below self.now.nodes.live (K.data_of node)) }
     {
         self.next_below(node, key)
     }
@@ -162,12 +162,12 @@ impl<K: Key, T: Drop> Scene<K, T> {
     /// assert_eq!(rt; below.next(), None);
     /// ```
     pub fn keys_below(&self, node: K) -> KeysBelow<'_, K, T>
-        ensures list { result ≡ all_below self.now.live (K.data_of node) }
-        ensures order { GoesDown self.now.live (children_of self.now.live (K.data_of node)) result }
+        ensures list { result ≡ all_below self.now.nodes.live (K.data_of node) }
+        ensures order { GoesDown self.now.nodes.live (children_of self.now.nodes.live (K.data_of node)) result }
 
         // Each node below it, and no other, is there once.
-        ensures all { (k : KeyOf) → IsWithin self.now.live k (K.data_of node) → k ≢ K.data_of node → 0 < times k result }
-        ensures only { (k : KeyOf) → 0 < times k result → has_node self.now.live k × IsWithin self.now.live k (K.data_of node) × (k ≢ K.data_of node) }
+        ensures all { (k : KeyOf) → IsWithin self.now.nodes.live k (K.data_of node) → k ≢ K.data_of node → 0 < times k result }
+        ensures only { (k : KeyOf) → 0 < times k result → has_node self.now.nodes.live k × IsWithin self.now.nodes.live k (K.data_of node) × (k ≢ K.data_of node) }
         ensures once { (k : KeyOf) → times k result ≤ 1 }
     {
         let _ = &self.alloc;
@@ -194,14 +194,14 @@ impl<K: Key, T: Drop> Scene<K, T> {
     /// assert_eq!(rt; scene.descendants(car)?.as_slice(), [door, handle, wheel].as_slice());
     /// ```
     pub fn descendants(&self, node: K) -> Result<Vec<K>, AllocError>
-        ensures list { IfOk result (λ keys. list_map K.data_of keys.items ≡ all_below self.now.live (K.data_of node)) }
-        ensures count { IfOk result (λ keys. length keys.items ≡ length (all_below self.now.live (K.data_of node))) }
-        ensures order { IfOk result (λ keys. GoesDown self.now.live (children_of self.now.live (K.data_of node)) (list_map K.data_of keys.items)) }
+        ensures list { IfOk result (λ keys. list_map K.data_of keys.items ≡ all_below self.now.nodes.live (K.data_of node)) }
+        ensures count { IfOk result (λ keys. length keys.items ≡ length (all_below self.now.nodes.live (K.data_of node))) }
+        ensures order { IfOk result (λ keys. GoesDown self.now.nodes.live (children_of self.now.nodes.live (K.data_of node)) (list_map K.data_of keys.items)) }
 
         // Each node below it, and no other, is there once.
-        ensures all { IfOk result (λ keys. (k : KeyOf) → IsWithin self.now.live k (K.data_of node) → k ≢ K.data_of node → 0 < times k (list_map K.data_of keys.items)) }
-        ensures only { IfOk result (λ keys. All (λ key. has_node self.now.live (K.data_of key)
-            × IsWithin self.now.live (K.data_of key) (K.data_of node) × (K.data_of key ≢ K.data_of node)) keys.items) }
+        ensures all { IfOk result (λ keys. (k : KeyOf) → IsWithin self.now.nodes.live k (K.data_of node) → k ≢ K.data_of node → 0 < times k (list_map K.data_of keys.items)) }
+        ensures only { IfOk result (λ keys. All (λ key. has_node self.now.nodes.live (K.data_of key)
+            × IsWithin self.now.nodes.live (K.data_of key) (K.data_of node) × (K.data_of key ≢ K.data_of node)) keys.items) }
         ensures once { IfOk result (λ keys. (k : KeyOf) → times k (list_map K.data_of keys.items) ≤ 1) }
     {
         let mut below = Vec::new(self.alloc);

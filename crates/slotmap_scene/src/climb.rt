@@ -20,8 +20,8 @@ impl<K: Key, T: Drop> Scene<K, T> {
     /// assert_eq!(rt; scene.depth(wheel), None);
     /// ```
     pub fn depth(&self, node: K) -> Option<usize>
-        ensures some { IfSome result (λ steps. ClimbsTo self.now.live steps (K.data_of node)) }
-        ensures none { IfNone result (lacks_node self.now.live (K.data_of node)) }
+        ensures some { IfSome result (λ steps. ClimbsTo self.now.nodes.live steps (K.data_of node)) }
+        ensures none { IfNone result (lacks_node self.now.nodes.live (K.data_of node)) }
     {
         let mut at = inner(node);
         if !self.nodes.contains_key(at) {
@@ -46,7 +46,7 @@ impl<K: Key, T: Drop> Scene<K, T> {
     /// assert!(rt; !scene.is_within(car, wheel));
     /// ```
     pub fn is_within(&self, node: K, other: K) -> bool
-        ensures { IsTrue result ↔ (has_node self.now.live (K.data_of node) × IsWithin self.now.live (K.data_of node) (K.data_of other)) }
+        ensures { IsTrue result ↔ (has_node self.now.nodes.live (K.data_of node) × IsWithin self.now.nodes.live (K.data_of node) (K.data_of other)) }
     {
         let mut at = inner(node);
         if !self.nodes.contains_key(at) {

@@ -12,7 +12,7 @@ use std::alloc::AllocError;
 use std::marker::PhantomData;
 
 impl<T: Clone> Clone for Nodes<T> {
-    ghost is_clone = { λ nodes copy. IsCloneBy (IsNodeClone T.is_clone) nodes copy × (bound copy ≡ bound nodes) × (copy.room ≡ nodes.room) };
+    ghost is_clone = { λ nodes copy. IsCloneBy (IsNodeClone T.is_clone) nodes.nodes copy.nodes × (bound copy.nodes ≡ bound nodes.nodes) × (copy.nodes.room ≡ nodes.nodes.room) };
 
     fn clone(&self) -> Result<Self, AllocError> {
         Ok(Nodes {
@@ -38,10 +38,10 @@ impl<K: Key, T: Clone> Scene<K, T> {
     /// assert_eq!(rt; copy.get(car), Some(&1));
     /// ```
     pub fn clone(&self) -> Result<Self, AllocError>
-        ensures clones { IfOk result (IsCloneBy (IsNodeClone T.is_clone) self.now) }
-        ensures copies_if_clones_equal { IfOk result (λ copy. ClonesEqual T.is_clone → IsCopy self.now copy) }
-        ensures capacity { IfOk result (λ copy. bound copy ≡ bound self.now) }
-        ensures room { IfOk result (λ copy. copy.room ≡ self.now.room) }
+        ensures clones { IfOk result (λ copy. IsCloneBy (IsNodeClone T.is_clone) self.now.nodes copy.nodes) }
+        ensures copies_if_clones_equal { IfOk result (λ copy. ClonesEqual T.is_clone → IsCopy self.now.nodes copy.nodes) }
+        ensures capacity { IfOk result (λ copy. bound copy.nodes ≡ bound self.now.nodes) }
+        ensures room { IfOk result (λ copy. copy.nodes.room ≡ self.now.nodes.room) }
     {
         Ok(Scene {
             alloc: self.alloc,
@@ -52,7 +52,7 @@ impl<K: Key, T: Clone> Scene<K, T> {
 }
 
 impl<K: Key, T: Clone> Clone for Scene<K, T> {
-    ghost is_clone = { IsCloneBy (IsNodeClone T.is_clone) };
+    ghost is_clone = { λ scene copy. IsCloneBy (IsNodeClone T.is_clone) scene.nodes copy.nodes };
 
     fn clone(&self) -> Result<Self, AllocError> {
         Scene::clone(self)

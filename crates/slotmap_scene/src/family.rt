@@ -5,14 +5,14 @@ ghost use Rattle.std.specs.FinMap as map;
 ghost use Rattle.std.specs.Borrow.{sem};
 ghost use Rattle.std.specs.Option.{option_copied_mut};
 ghost use Rattle.slotmap.specs.Words.{Key as KeyOf, HasVacant, IsContent, IsNew, IsSpent, KeepsSpent, Inserts, Keeps, Leaves, MakesRoom, RefusesCapacity, used};
-ghost use Rattle.slotmap_bounded.specs.Bounded.{bound, space};
+ghost use Rattle.slotmap_bounded.specs.Bounded.{bound};
 ghost use Rattle.slotmap_bounded.specs.KeyLists.{last_or, times};
 ghost use Rattle.slotmap_links.specs.Lists.{first_or};
 ghost use Rattle.slotmap_scene.specs.Above.{roots_in};
 ghost use Rattle.slotmap_scene.specs.Climb.{has_node, lacks_node, parent_of, with_parent};
 ghost use Rattle.slotmap_scene.specs.Family.{IsScene, behind, child, children_of, in_front, siblings_of, value_of};
 ghost use Rattle.slotmap_scene.specs.Kept.{IsParent, owner_of, roots_of};
-ghost use Rattle.slotmap_scene.specs.Node.{key_and_value};
+ghost use Rattle.slotmap_scene.specs.Node.{key_and_value, memory, with_trees};
 ghost use Rattle.slotmap_scene.specs.Refusals.{RefusesNode};
 
 use crate::children::ChildKeys;
@@ -44,16 +44,16 @@ impl<T: Drop> Drop for Nodes<T> {
 }
 
 impl<T> Model for Nodes<T> {
-    ghost use Rattle.slotmap.specs.Words.{Content, content_code};
-    ghost use Rattle.slotmap_scene.specs.Node.{Node, node_code};
+    ghost use Rattle.slotmap_scene.specs.Node.{Forest, forest_code};
 
-    ghost Value = { Content (Node T) };
+    ghost Value = { Forest T };
 
-    ghost coded = { content_code (node_code T.code) };
+    ghost coded = { forest_code T.code };
 
-    ghost use Rattle.slotmap_scene.specs.Kept.{HoldsNodes, family};
+    ghost use Rattle.std.specs.Prelude.{vec_capacity};
+    ghost use Rattle.slotmap_scene.specs.Kept.{HoldsNodes, forest};
 
-    ghost view = { λ nodes. family nodes.values nodes.parents.items nodes.children };
+    ghost view = { λ nodes. forest nodes.values nodes.parents.items nodes.children (vec_capacity nodes.parents) };
 
     ghost invariant = { λ nodes. HoldsNodes nodes.values nodes.parents.items nodes.children };
 }
@@ -63,8 +63,8 @@ impl<T: Drop> Nodes<T> {
 
     // No node, with room for so many.
     pub fn with_capacity(alloc: Global, capacity: usize) -> Result<Self, ReserveError>
-        ensures empty { IfOk result IsNew }
-        ensures room { IfOk result (λ nodes. capacity ≤ nodes.room) }
+        ensures empty { IfOk result (λ nodes. IsNew nodes.nodes) }
+        ensures room { IfOk result (λ nodes. capacity ≤ nodes.nodes.room) }
         ensures err { IfErr result (RefusesCapacity capacity) }
     {
         let values = BoundedMap::with_capacity(alloc, capacity)?;
@@ -81,9 +81,10 @@ impl<T: Drop> Nodes<T> {
     // Reserves room for more nodes.
     #[inline(never)]
     pub fn reserve(&mut self, additional: usize) -> Result<(), ReserveError>
-        ensures makes_room { MakesRoom true self.old additional (IsOk result) self.new }
-        ensures err { IfErr result (RefusesCapacity (used self.old + additional)) }
-        ensures reuses { additional ≤ map.len self.old.next → IsOk result }
+        ensures makes_room { MakesRoom true self.old.nodes additional (IsOk result) self.new.nodes }
+        ensures err { IfErr result (RefusesCapacity (used self.old.nodes + additional)) }
+        ensures reuses { additional ≤ map.len self.old.nodes.next → IsOk result }
+        ensures in_place { additional ≤ self.old.nodes.room → self.new ≡ self.old }
     {
         let capacity = self.values.capacity_for(additional)?;
         cover(&mut self.parents, &mut self.children, capacity)?;
@@ -92,31 +93,31 @@ impl<T: Drop> Nodes<T> {
 
     // How many nodes there are.
     pub fn len(&self) -> usize
-        ensures { result ≡ map.len self.now.live }
+        ensures { result ≡ map.len self.now.nodes.live }
     {
         self.values.len()
     }
 
     // How many nodes there can be before more room is made.
     pub fn capacity(&self) -> usize
-        ensures value { result ≡ bound self.now }
-        ensures exact { result ≡ used self.now + self.now.room }
-        ensures valid { IsContent true self.now }
+        ensures value { result ≡ bound self.now.nodes }
+        ensures exact { result ≡ used self.now.nodes + self.now.nodes.room }
+        ensures valid { IsContent true self.now.nodes }
     {
         self.values.capacity()
     }
 
     // Whether there is such a node.
     pub fn contains_key(&self, node: DefaultKey) -> bool
-        ensures value { result ≡ map.contains_key self.now.live node }
-        ensures valid { IsContent true self.now }
+        ensures value { result ≡ map.contains_key self.now.nodes.live node }
+        ensures valid { IsContent true self.now.nodes }
     {
         self.values.contains_key(node)
     }
 
     // The value of a node, if there is one.
     pub fn get(&self, node: DefaultKey) -> Option<&T>
-        ensures { option_copied result ≡ value_of self.now.live node }
+        ensures { option_copied result ≡ value_of self.now.nodes.live node }
     {
         self.values.get(node)
     }
@@ -124,7 +125,7 @@ impl<T: Drop> Nodes<T> {
     // The value of a node, if there is one.
     pub fn value_mut(&mut self, node: DefaultKey) -> Option<&mut T>
         ensures* writes_back { sem 𝓛 (lends_node_value T.row self.entry node result) }
-        ensures value { option_copied_mut result ≡ value_of self.old.live node }
+        ensures value { option_copied_mut result ≡ value_of self.old.nodes.live node }
     {
         match self.values.get_mut(node) {
             Some(value) => Some(value),
@@ -134,7 +135,7 @@ impl<T: Drop> Nodes<T> {
 
     // The parent of a node, if it has one.
     pub fn parent(&self, node: DefaultKey) -> Option<DefaultKey>
-        ensures { result ≡ parent_of self.now.live node }
+        ensures { result ≡ parent_of self.now.nodes.live node }
     {
         if !self.values.contains_key(node) {
             return None;
@@ -145,8 +146,8 @@ impl<T: Drop> Nodes<T> {
     // The same of a node that is there. Nothing is tested but whether it is a root.
     #[inline(always)]
     pub fn up(&self, node: DefaultKey) -> Option<DefaultKey>
-        requires { has_node self.now.live node }
-        ensures { result ≡ parent_of self.now.live node }
+        requires { has_node self.now.nodes.live node }
+        ensures { result ≡ parent_of self.now.nodes.live node }
     {
         let parent = parent_number(&self.parents, node);
         if parent == NOBODY {
@@ -157,28 +158,28 @@ impl<T: Drop> Nodes<T> {
 
     // The nodes, by ascending index of their keys.
     pub fn iter(&self) -> basic::Iter<'_, DefaultKey, T>
-        ensures { result ≡ list_map key_and_value (map.entries self.now.live) }
+        ensures { result ≡ list_map key_and_value (map.entries self.now.nodes.live) }
     {
         self.values.iter()
     }
 
     // Their keys.
     pub fn keys(&self) -> basic::Keys<'_, DefaultKey, T>
-        ensures value { result ≡ map.keys self.now.live }
+        ensures value { result ≡ map.keys self.now.nodes.live }
     {
         self.values.keys()
     }
 
     // The indices of the parents, by which the roots are found.
     pub fn parents(&self) -> &[u32]
-        ensures { roots_of result.now (map.keys self.now.live) ≡ roots_in self.now.live }
+        ensures { roots_of result.now (map.keys self.now.nodes.live) ≡ roots_in self.now.nodes.live }
     {
         &self.parents
     }
 
     // The index of a node, or that of none.
     fn owner(&self, node: DefaultKey) -> u32
-        ensures { result ≡ owner_of self.now.live node }
+        ensures { result ≡ owner_of self.now.nodes.live node }
     {
         if self.values.contains_key(node) {
             return index_of(node);
@@ -188,7 +189,7 @@ impl<T: Drop> Nodes<T> {
 
     // The keys of the children of a node.
     pub fn children<K: Key>(&self, node: DefaultKey) -> ChildKeys<'_, K, T>
-        ensures { result ≡ children_of self.now.live node }
+        ensures { result ≡ children_of self.now.nodes.live node }
     {
         ChildKeys {
             nodes: &self.values,
@@ -199,32 +200,32 @@ impl<T: Drop> Nodes<T> {
 
     // The first child of a node.
     pub fn first(&self, node: DefaultKey) -> Option<DefaultKey>
-        ensures { result ≡ first_or (children_of self.now.live node) None }
+        ensures { result ≡ first_or (children_of self.now.nodes.live node) None }
     {
         key_of(&self.values, self.children.first(self.owner(node)))
     }
 
     // The last child of a node.
     pub fn last(&self, node: DefaultKey) -> Option<DefaultKey>
-        ensures { result ≡ last_or (children_of self.now.live node) None }
+        ensures { result ≡ last_or (children_of self.now.nodes.live node) None }
     {
         key_of(&self.values, self.children.last(self.owner(node)))
     }
 
     // The sibling behind a child.
     pub fn next(&self, node: DefaultKey) -> Option<DefaultKey>
-        requires scene { IsScene self.now.live }
-        requires child { IsSome (parent_of self.now.live node) }
-        ensures { result ≡ behind node (siblings_of self.now.live node) }
+        requires scene { IsScene self.now.nodes.live }
+        requires child { IsSome (parent_of self.now.nodes.live node) }
+        ensures { result ≡ behind node (siblings_of self.now.nodes.live node) }
     {
         key_of(&self.values, self.children.next(index_of(node)))
     }
 
     // The sibling in front of a child.
     pub fn prev(&self, node: DefaultKey) -> Option<DefaultKey>
-        requires scene { IsScene self.now.live }
-        requires child { IsSome (parent_of self.now.live node) }
-        ensures { result ≡ in_front None node (siblings_of self.now.live node) }
+        requires scene { IsScene self.now.nodes.live }
+        requires child { IsSome (parent_of self.now.nodes.live node) }
+        ensures { result ≡ in_front None node (siblings_of self.now.nodes.live node) }
     {
         key_of(&self.values, self.children.prev(index_of(node)))
     }
@@ -236,17 +237,17 @@ impl<T: Drop> Nodes<T> {
         value: T,
         parent: Option<DefaultKey>,
     ) -> Result<DefaultKey, InsertError<T>>
-        requires { IsParent self.old.live parent }
-        ensures adds { IfOk result (λ key. Inserts self.old key (child parent value) self.new) }
-        ensures fresh { IfOk result (λ key. lacks_node self.old.live key) }
-        ensures unspent { IfOk result (λ key. IsSpent self.old key → ⊥) }
-        ensures stale { KeepsSpent self.old self.new }
-        ensures err { IfErr result (RefusesNode self.old value) }
-        ensures reuses { HasVacant self.old → IsOk result }
-        ensures room { 0 < self.old.room → IsOk result }
-        ensures capacity { self.old.capacity ≤ self.new.capacity }
-        ensures in_place { 0 < self.old.room → space self.new ≡ space self.old }
-        ensures unchanged { OnErr result (Keeps self.old self.new) }
+        requires { IsParent self.old.nodes.live parent }
+        ensures adds { IfOk result (λ key. Inserts self.old.nodes key (child parent value) self.new.nodes) }
+        ensures fresh { IfOk result (λ key. lacks_node self.old.nodes.live key) }
+        ensures unspent { IfOk result (λ key. IsSpent self.old.nodes key → ⊥) }
+        ensures stale { KeepsSpent self.old.nodes self.new.nodes }
+        ensures err { IfErr result (RefusesNode self.old.nodes value) }
+        ensures reuses { HasVacant self.old.nodes → IsOk result }
+        ensures room { 0 < self.old.nodes.room → IsOk result }
+        ensures capacity { self.old.nodes.capacity ≤ self.new.nodes.capacity }
+        ensures in_place { 0 < self.old.nodes.room → memory self.new ≡ memory self.old }
+        ensures unchanged { OnErr result (Keeps self.old.nodes self.new.nodes) }
     {
         if self.values.has_room() {
             return Ok(self.put(value, parent));
@@ -261,11 +262,11 @@ impl<T: Drop> Nodes<T> {
     // The same, where there is room.
     #[inline(always)]
     fn put(&mut self, value: T, parent: Option<DefaultKey>) -> DefaultKey
-        requires room { 0 < self.old.room }
-        requires parent { IsParent self.old.live parent }
-        ensures adds { Inserts self.old result (child parent value) self.new }
-        ensures capacity { space self.new ≡ space self.old }
-        ensures valid { IsContent true self.old }
+        requires room { 0 < self.old.nodes.room }
+        requires parent { IsParent self.old.nodes.live parent }
+        ensures adds { Inserts self.old.nodes result (child parent value) self.new.nodes }
+        ensures capacity { memory self.new ≡ memory self.old }
+        ensures valid { IsContent true self.old.nodes }
     {
         let _ = self.values.capacity();
         let key = self.values.insert_reserved(value);
@@ -277,34 +278,34 @@ impl<T: Drop> Nodes<T> {
     #[cold]
     #[inline(never)]
     fn put_apart(&mut self, value: T, parent: Option<DefaultKey>) -> DefaultKey
-        requires room { 0 < self.old.room }
-        requires parent { IsParent self.old.live parent }
-        ensures adds { Inserts self.old result (child parent value) self.new }
-        ensures capacity { space self.new ≡ space self.old }
-        ensures valid { IsContent true self.old }
+        requires room { 0 < self.old.nodes.room }
+        requires parent { IsParent self.old.nodes.live parent }
+        ensures adds { Inserts self.old.nodes result (child parent value) self.new.nodes }
+        ensures capacity { memory self.new ≡ memory self.old }
+        ensures valid { IsContent true self.old.nodes }
     {
         self.put(value, parent)
     }
 
     // Lets a node have this parent, or none. The lists of children are the same.
     pub fn set_parent(&mut self, node: DefaultKey, parent: Option<DefaultKey>)
-        requires node { has_node self.old.live node }
-        requires parent { IsParent self.old.live parent }
-        ensures { self.new ≡ record self.old { live = with_parent self.old.live node parent } }
+        requires node { has_node self.old.nodes.live node }
+        requires parent { IsParent self.old.nodes.live parent }
+        ensures { self.new ≡ with_trees self.old (with_parent self.old.nodes.live node parent) }
     {
         self.parents[index_of(node) as usize] = parent_index(parent);
     }
 
     // Removes a node that has no children, is in no list and is no parent, and returns its value.
     pub fn remove(&mut self, node: DefaultKey) -> T
-        requires there { has_node self.old.live node }
-        requires leaf { children_of self.old.live node ≡ [] }
-        requires alone { (p : KeyOf) → times node (children_of self.old.live p) ≡ 0 }
-        requires childless { (k : KeyOf) → parent_of self.old.live k ≢ Some node }
-        ensures value { value_of self.old.live node ≡ Some result }
-        ensures live { self.new.live ≡ map.remove self.old.live node }
-        ensures leaves { Leaves self.old self.new }
-        ensures capacity { space self.new ≡ space self.old }
+        requires there { has_node self.old.nodes.live node }
+        requires leaf { children_of self.old.nodes.live node ≡ [] }
+        requires alone { (p : KeyOf) → times node (children_of self.old.nodes.live p) ≡ 0 }
+        requires childless { (k : KeyOf) → parent_of self.old.nodes.live k ≢ Some node }
+        ensures value { value_of self.old.nodes.live node ≡ Some result }
+        ensures live { self.new.nodes.live ≡ map.remove self.old.nodes.live node }
+        ensures leaves { Leaves self.old.nodes self.new.nodes }
+        ensures capacity { memory self.new ≡ memory self.old }
     {
         let Some(value) = self.values.remove(node) else {
             unreachable!()
@@ -314,10 +315,10 @@ impl<T: Drop> Nodes<T> {
 
     // Removes all nodes.
     pub fn clear(&mut self)
-        ensures empty { self.new.live ≡ map.empty }
-        ensures leaves { Leaves self.old self.new }
-        ensures capacity { space self.new ≡ space self.old }
-        ensures valid { IsContent true self.old }
+        ensures empty { self.new.nodes.live ≡ map.empty }
+        ensures leaves { Leaves self.old.nodes self.new.nodes }
+        ensures capacity { memory self.new ≡ memory self.old }
+        ensures valid { IsContent true self.old.nodes }
     {
         self.values.clear();
         self.children.clear();
@@ -327,9 +328,9 @@ impl<T: Drop> Nodes<T> {
 impl<T: Drop> Index<DefaultKey> for Nodes<T> {
     type Output = T;
 
-    ghost can_index = { λ nodes node. has_node nodes.live node };
+    ghost can_index = { λ nodes node. has_node nodes.nodes.live node };
 
-    ghost index_gives = { λ nodes key value. value_of nodes.live key ≡ Some value };
+    ghost index_gives = { λ nodes key value. value_of nodes.nodes.live key ≡ Some value };
 
     fn index(&self, node: DefaultKey) -> &T {
         self.values.value(node)

@@ -2,9 +2,9 @@
 
 ghost use Rattle.std.specs.Prelude.{◌≡◌, ◌<◌, ◌≤◌, Some, IfOk, IfErr, IsOk, OnOk, OnErr, IsSome};
 ghost use Rattle.slotmap.specs.Words.{Key as KeyOf, HasVacant, Inserts, IsSpent, Keeps, KeepsSpent};
-ghost use Rattle.slotmap_bounded.specs.Bounded.{space};
 ghost use Rattle.slotmap_scene.specs.Climb.{lacks_node, parent_of};
 ghost use Rattle.slotmap_scene.specs.Family.{IsNewChild, child, children_of, placed, right_before, right_behind, with_sibling};
+ghost use Rattle.slotmap_scene.specs.Node.{memory};
 ghost use Rattle.slotmap_scene.specs.Refusals.{RefusesSibling};
 
 use crate::tree::Side;
@@ -20,20 +20,20 @@ impl<K: Key, T: Drop> Scene<K, T> {
         sibling: DefaultKey,
         value: T,
     ) -> Result<DefaultKey, AddError<T>>
-        ensures adds { IfOk result (λ key. Inserts (record self.old { live = with_sibling side self.old.live sibling key })
-            key (child (parent_of self.old.live sibling) value) self.new) }
-        ensures gains { IfOk result (λ key. (p : KeyOf) → parent_of self.old.live sibling ≡ Some p
-            → IsNewChild self.old.live self.new.live key p value (placed side sibling key (children_of self.old.live p))) }
-        ensures fresh { IfOk result (λ key. lacks_node self.old.live key) }
-        ensures unspent { IfOk result (λ key. IsSpent self.old key → ⊥) }
-        ensures stale { KeepsSpent self.old self.new }
-        ensures parent { OnOk result (IsSome (parent_of self.old.live sibling)) }
-        ensures err { IfErr result (RefusesSibling self.old sibling value) }
-        ensures reuses { IsSome (parent_of self.old.live sibling) → HasVacant self.old → IsOk result }
-        ensures room { IsSome (parent_of self.old.live sibling) → 0 < self.old.room → IsOk result }
-        ensures capacity { self.old.capacity ≤ self.new.capacity }
-        ensures in_place { 0 < self.old.room → space self.new ≡ space self.old }
-        ensures unchanged { OnErr result (Keeps self.old self.new) }
+        ensures adds { IfOk result (λ key. Inserts (record self.old.nodes { live = with_sibling side self.old.nodes.live sibling key })
+            key (child (parent_of self.old.nodes.live sibling) value) self.new.nodes) }
+        ensures gains { IfOk result (λ key. (p : KeyOf) → parent_of self.old.nodes.live sibling ≡ Some p
+            → IsNewChild self.old.nodes.live self.new.nodes.live key p value (placed side sibling key (children_of self.old.nodes.live p))) }
+        ensures fresh { IfOk result (λ key. lacks_node self.old.nodes.live key) }
+        ensures unspent { IfOk result (λ key. IsSpent self.old.nodes key → ⊥) }
+        ensures stale { KeepsSpent self.old.nodes self.new.nodes }
+        ensures parent { OnOk result (IsSome (parent_of self.old.nodes.live sibling)) }
+        ensures err { IfErr result (RefusesSibling self.old.nodes sibling value) }
+        ensures reuses { IsSome (parent_of self.old.nodes.live sibling) → HasVacant self.old.nodes → IsOk result }
+        ensures room { IsSome (parent_of self.old.nodes.live sibling) → 0 < self.old.nodes.room → IsOk result }
+        ensures capacity { self.old.nodes.capacity ≤ self.new.nodes.capacity }
+        ensures in_place { 0 < self.old.nodes.room → memory self.new ≡ memory self.old }
+        ensures unchanged { OnErr result (Keeps self.old.nodes self.new.nodes) }
     {
         let Some(parent) = self.parent_key(sibling) else {
             return Err(AddError::GoneSibling(value));
@@ -59,22 +59,22 @@ impl<K: Key, T: Drop> Scene<K, T> {
     /// ```
     pub fn insert_before(&mut self, sibling: K, value: T) -> Result<K, AddError<T>>
         // The parent of the sibling has one more child, under a new key.
-        ensures adds { IfOk result (λ key. Inserts (record self.old { live = with_sibling right_before self.old.live (K.data_of sibling) (K.data_of key) })
-            (K.data_of key) (child (parent_of self.old.live (K.data_of sibling)) value) self.new) }
-        ensures gains { IfOk result (λ key. (p : KeyOf) → parent_of self.old.live (K.data_of sibling) ≡ Some p
-            → IsNewChild self.old.live self.new.live (K.data_of key) p value (placed right_before (K.data_of sibling) (K.data_of key) (children_of self.old.live p))) }
-        ensures fresh { IfOk result (λ key. lacks_node self.old.live (K.data_of key)) }
-        ensures unspent { IfOk result (λ key. IsSpent self.old (K.data_of key) → ⊥) }
-        ensures stale { KeepsSpent self.old self.new }
-        ensures parent { OnOk result (IsSome (parent_of self.old.live (K.data_of sibling))) }
+        ensures adds { IfOk result (λ key. Inserts (record self.old.nodes { live = with_sibling right_before self.old.nodes.live (K.data_of sibling) (K.data_of key) })
+            (K.data_of key) (child (parent_of self.old.nodes.live (K.data_of sibling)) value) self.new.nodes) }
+        ensures gains { IfOk result (λ key. (p : KeyOf) → parent_of self.old.nodes.live (K.data_of sibling) ≡ Some p
+            → IsNewChild self.old.nodes.live self.new.nodes.live (K.data_of key) p value (placed right_before (K.data_of sibling) (K.data_of key) (children_of self.old.nodes.live p))) }
+        ensures fresh { IfOk result (λ key. lacks_node self.old.nodes.live (K.data_of key)) }
+        ensures unspent { IfOk result (λ key. IsSpent self.old.nodes (K.data_of key) → ⊥) }
+        ensures stale { KeepsSpent self.old.nodes self.new.nodes }
+        ensures parent { OnOk result (IsSome (parent_of self.old.nodes.live (K.data_of sibling))) }
 
         // Why the call failed, and what that leaves.
-        ensures err { IfErr result (RefusesSibling self.old (K.data_of sibling) value) }
-        ensures reuses { IsSome (parent_of self.old.live (K.data_of sibling)) → HasVacant self.old → IsOk result }
-        ensures room { IsSome (parent_of self.old.live (K.data_of sibling)) → 0 < self.old.room → IsOk result }
-        ensures capacity { self.old.capacity ≤ self.new.capacity }
-        ensures in_place { 0 < self.old.room → space self.new ≡ space self.old }
-        ensures unchanged { OnErr result (Keeps self.old self.new) }
+        ensures err { IfErr result (RefusesSibling self.old.nodes (K.data_of sibling) value) }
+        ensures reuses { IsSome (parent_of self.old.nodes.live (K.data_of sibling)) → HasVacant self.old.nodes → IsOk result }
+        ensures room { IsSome (parent_of self.old.nodes.live (K.data_of sibling)) → 0 < self.old.nodes.room → IsOk result }
+        ensures capacity { self.old.nodes.capacity ≤ self.new.nodes.capacity }
+        ensures in_place { 0 < self.old.nodes.room → memory self.new ≡ memory self.old }
+        ensures unchanged { OnErr result (Keeps self.old.nodes self.new.nodes) }
     {
         Ok(outer(self.insert(Side::Before, inner(sibling), value)?))
     }
@@ -97,22 +97,22 @@ impl<K: Key, T: Drop> Scene<K, T> {
     /// ```
     pub fn insert_after(&mut self, sibling: K, value: T) -> Result<K, AddError<T>>
         // The parent of the sibling has one more child, under a new key.
-        ensures adds { IfOk result (λ key. Inserts (record self.old { live = with_sibling right_behind self.old.live (K.data_of sibling) (K.data_of key) })
-            (K.data_of key) (child (parent_of self.old.live (K.data_of sibling)) value) self.new) }
-        ensures gains { IfOk result (λ key. (p : KeyOf) → parent_of self.old.live (K.data_of sibling) ≡ Some p
-            → IsNewChild self.old.live self.new.live (K.data_of key) p value (placed right_behind (K.data_of sibling) (K.data_of key) (children_of self.old.live p))) }
-        ensures fresh { IfOk result (λ key. lacks_node self.old.live (K.data_of key)) }
-        ensures unspent { IfOk result (λ key. IsSpent self.old (K.data_of key) → ⊥) }
-        ensures stale { KeepsSpent self.old self.new }
-        ensures parent { OnOk result (IsSome (parent_of self.old.live (K.data_of sibling))) }
+        ensures adds { IfOk result (λ key. Inserts (record self.old.nodes { live = with_sibling right_behind self.old.nodes.live (K.data_of sibling) (K.data_of key) })
+            (K.data_of key) (child (parent_of self.old.nodes.live (K.data_of sibling)) value) self.new.nodes) }
+        ensures gains { IfOk result (λ key. (p : KeyOf) → parent_of self.old.nodes.live (K.data_of sibling) ≡ Some p
+            → IsNewChild self.old.nodes.live self.new.nodes.live (K.data_of key) p value (placed right_behind (K.data_of sibling) (K.data_of key) (children_of self.old.nodes.live p))) }
+        ensures fresh { IfOk result (λ key. lacks_node self.old.nodes.live (K.data_of key)) }
+        ensures unspent { IfOk result (λ key. IsSpent self.old.nodes (K.data_of key) → ⊥) }
+        ensures stale { KeepsSpent self.old.nodes self.new.nodes }
+        ensures parent { OnOk result (IsSome (parent_of self.old.nodes.live (K.data_of sibling))) }
 
         // Why the call failed, and what that leaves.
-        ensures err { IfErr result (RefusesSibling self.old (K.data_of sibling) value) }
-        ensures reuses { IsSome (parent_of self.old.live (K.data_of sibling)) → HasVacant self.old → IsOk result }
-        ensures room { IsSome (parent_of self.old.live (K.data_of sibling)) → 0 < self.old.room → IsOk result }
-        ensures capacity { self.old.capacity ≤ self.new.capacity }
-        ensures in_place { 0 < self.old.room → space self.new ≡ space self.old }
-        ensures unchanged { OnErr result (Keeps self.old self.new) }
+        ensures err { IfErr result (RefusesSibling self.old.nodes (K.data_of sibling) value) }
+        ensures reuses { IsSome (parent_of self.old.nodes.live (K.data_of sibling)) → HasVacant self.old.nodes → IsOk result }
+        ensures room { IsSome (parent_of self.old.nodes.live (K.data_of sibling)) → 0 < self.old.nodes.room → IsOk result }
+        ensures capacity { self.old.nodes.capacity ≤ self.new.nodes.capacity }
+        ensures in_place { 0 < self.old.nodes.room → memory self.new ≡ memory self.old }
+        ensures unchanged { OnErr result (Keeps self.old.nodes self.new.nodes) }
     {
         Ok(outer(self.insert(Side::After, inner(sibling), value)?))
     }

@@ -81,7 +81,7 @@ impl<'a, K: Key, T: Drop> IntoIterator for &'a Scene<K, T> {
 
     type IntoIter = Iter<'a, K, T>;
 
-    ghost into_iter_gives = { λ scene it. it ≡ list_map key_and_value (map.entries scene.now.live) };
+    ghost into_iter_gives = { λ scene it. it ≡ list_map key_and_value (map.entries scene.now.nodes.live) };
 
     fn into_iter(self) -> Iter<'a, K, T> {
         self.iter()
@@ -201,7 +201,7 @@ impl<K: Key, T: Drop> Scene<K, T> {
     /// assert!(rt; nodes.next().is_none());
     /// ```
     pub fn iter(&self) -> Iter<'_, K, T>
-        ensures { result ≡ list_map key_and_value (map.entries self.now.live) }
+        ensures { result ≡ list_map key_and_value (map.entries self.now.nodes.live) }
     {
         Iter {
             nodes: self.nodes.iter(),
@@ -222,7 +222,7 @@ impl<K: Key, T: Drop> Scene<K, T> {
     /// assert_eq!(rt; keys.next(), Some(wheel));
     /// ```
     pub fn keys(&self) -> Keys<'_, K, T>
-        ensures { result ≡ map.keys self.now.live }
+        ensures { result ≡ map.keys self.now.nodes.live }
     {
         Keys { nodes: self.iter() }
     }
@@ -241,7 +241,7 @@ impl<K: Key, T: Drop> Scene<K, T> {
     /// assert_eq!(rt; values.next(), Some(&"wheel"));
     /// ```
     pub fn values(&self) -> Values<'_, K, T>
-        ensures { result ≡ list_map (λ e. e.1.value) (map.entries self.now.live) }
+        ensures { result ≡ list_map (λ e. e.1.value) (map.entries self.now.nodes.live) }
     {
         Values { nodes: self.iter() }
     }

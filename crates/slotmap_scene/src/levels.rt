@@ -20,8 +20,8 @@ impl<K: Key, T: HasTransform + Drop> Scene<K, T> {
     // Lists each root, with its own transform.
     fn push_roots(&self, all: &mut Vec<(K, T::Transform)>) -> Result<(), AllocError>
         requires { all.old.items ≡ [] }
-        ensures keys { OnOk result (keys_of_pairs K.data_of all.new.items ≡ roots_in self.now.live) }
-        ensures each { OnOk result (AreWorlds K.data_of T.Transform.under T.transform_of self.now.live all.new.items) }
+        ensures keys { OnOk result (keys_of_pairs K.data_of all.new.items ≡ roots_in self.now.nodes.live) }
+        ensures each { OnOk result (AreWorlds K.data_of T.Transform.under T.transform_of self.now.nodes.live all.new.items) }
     {
         for root in self.roots() {
             let own = self[root].transform();
@@ -37,11 +37,11 @@ impl<K: Key, T: HasTransform + Drop> Scene<K, T> {
         node: K,
         world: T::Transform,
     ) -> Result<(), AllocError>
-        requires world { IsWorldOf T.Transform.under T.transform_of self.now.live (K.data_of node) world }
-        requires each { AreWorlds K.data_of T.Transform.under T.transform_of self.now.live all.old.items }
+        requires world { IsWorldOf T.Transform.under T.transform_of self.now.nodes.live (K.data_of node) world }
+        requires each { AreWorlds K.data_of T.Transform.under T.transform_of self.now.nodes.live all.old.items }
         ensures keys { OnOk result (keys_of_pairs K.data_of all.new.items
-            ≡ keys_of_pairs K.data_of all.old.items ++ children_of self.now.live (K.data_of node)) }
-        ensures each { OnOk result (AreWorlds K.data_of T.Transform.under T.transform_of self.now.live all.new.items) }
+            ≡ keys_of_pairs K.data_of all.old.items ++ children_of self.now.nodes.live (K.data_of node)) }
+        ensures each { OnOk result (AreWorlds K.data_of T.Transform.under T.transform_of self.now.nodes.live all.new.items) }
     {
         for child in self.children(node) {
             let own = self[child].transform();
@@ -68,16 +68,16 @@ impl<K: Key, T: HasTransform + Drop> Scene<K, T> {
     /// assert_eq!(rt; all[1], (hand, Offset { x: 8, y: -4 }));
     /// ```
     pub fn world_transforms(&self) -> Result<Vec<(K, T::Transform)>, AllocError>
-        ensures each { IfOk result (λ all. AreWorlds K.data_of T.Transform.under T.transform_of self.now.live all.items) }
+        ensures each { IfOk result (λ all. AreWorlds K.data_of T.Transform.under T.transform_of self.now.nodes.live all.items) }
         ensures composed { Joins T.Transform.under
-            → IfOk result (λ all. All (λ e. IsComposed T.Transform.under T.transform_of self.now.live (K.data_of e.0) e.1) all.items) }
+            → IfOk result (λ all. All (λ e. IsComposed T.Transform.under T.transform_of self.now.nodes.live (K.data_of e.0) e.1) all.items) }
 
         // The order; and each node is there once, and no other key.
-        ensures order { IfOk result (λ all. GoesByLevel self.now.live (keys_of_pairs K.data_of all.items)) }
-        ensures all { IfOk result (λ all. (k : KeyOf) → has_node self.now.live k → 0 < times k (keys_of_pairs K.data_of all.items)) }
-        ensures only { IfOk result (λ all. (k : KeyOf) → 0 < times k (keys_of_pairs K.data_of all.items) → has_node self.now.live k) }
+        ensures order { IfOk result (λ all. GoesByLevel self.now.nodes.live (keys_of_pairs K.data_of all.items)) }
+        ensures all { IfOk result (λ all. (k : KeyOf) → has_node self.now.nodes.live k → 0 < times k (keys_of_pairs K.data_of all.items)) }
+        ensures only { IfOk result (λ all. (k : KeyOf) → 0 < times k (keys_of_pairs K.data_of all.items) → has_node self.now.nodes.live k) }
         ensures once { IfOk result (λ all. (k : KeyOf) → times k (keys_of_pairs K.data_of all.items) ≤ 1) }
-        ensures count { IfOk result (λ all. length all.items ≡ map.len self.now.live) }
+        ensures count { IfOk result (λ all. length all.items ≡ map.len self.now.nodes.live) }
     {
         let mut all = Vec::with_capacity(self.alloc, self.len())?;
         self.push_roots(&mut all)?;

@@ -19,8 +19,8 @@
 //!
 //! The children of a node are kept as links between siblings, beside the map of the values, by the
 //! indices of their keys. Of the calls that add, move or remove nodes, only those that add one may need
-//! memory. They need none if a slot is vacant or room was reserved, and the capacity stays then. No
-//! move and no removal changes the capacity, and no removal loses room.
+//! memory. They need none if a slot is vacant or room was reserved. Where there is room, no vector
+//! grows, nor in a move or a removal, and no removal loses room.
 //!
 //! A call takes constant time, unless the scene grows, with these exceptions:
 //!
@@ -99,9 +99,9 @@ pub mod world;
 
 /// Nodes in trees, under keys of type `K`.
 ///
-/// A clause sees a content, as of a map of nodes. Its `live` is the finite map from the keys to the
-/// nodes, each with its value, its parent and its children, and `IsSpent` says which keys are never used
-/// again.
+/// A clause sees `nodes`, a content as of a map of nodes. Its `live` is the finite map from the keys to
+/// the nodes, each with its value, its parent and its children, and `IsSpent` says which keys are never
+/// used again. Where a call keeps the `memory` of a scene, no vector grows.
 pub struct Scene<K, T> {
     alloc: Global,
     nodes: Nodes<T>,
@@ -119,17 +119,16 @@ impl<K, T: Drop> Drop for Scene<K, T> {
 }
 
 impl<K, T> Model for Scene<K, T> {
-    ghost use Rattle.slotmap.specs.Words.{Content, content_code};
-    ghost use Rattle.slotmap_scene.specs.Node.{Node, node_code};
+    ghost use Rattle.slotmap_scene.specs.Node.{Forest, forest_code};
     ghost use Rattle.slotmap_scene.specs.Family.{IsScene};
 
-    ghost Value = { Content (Node T) };
+    ghost Value = { Forest T };
 
-    ghost coded = { content_code (node_code T.code) };
+    ghost coded = { forest_code T.code };
 
     ghost view = { λ scene. scene.nodes };
 
-    ghost invariant = { λ scene. IsScene scene.nodes.live };
+    ghost invariant = { λ scene. IsScene scene.nodes.nodes.live };
 }
 
 /// A node was not added. The error holds its value.
@@ -203,7 +202,7 @@ impl<T: Drop> Scene<DefaultKey, T> {
     /// assert!(rt; scene.is_empty());
     /// ```
     pub fn new(alloc: Global) -> Result<Self, ReserveError>
-        ensures empty { IfOk result IsNew }
+        ensures empty { IfOk result (λ scene. IsNew scene.nodes) }
         ensures err { IfErr result (λ error. error ≡ ReserveError.Memory) }
     {
         Scene::with_key(alloc)
@@ -219,8 +218,8 @@ impl<T: Drop> Scene<DefaultKey, T> {
     /// assert!(rt; scene.capacity() >= 2);
     /// ```
     pub fn with_capacity(alloc: Global, capacity: usize) -> Result<Self, ReserveError>
-        ensures empty { IfOk result IsNew }
-        ensures room { IfOk result (λ scene. capacity ≤ scene.room) }
+        ensures empty { IfOk result (λ scene. IsNew scene.nodes) }
+        ensures room { IfOk result (λ scene. capacity ≤ scene.nodes.room) }
         ensures err { IfErr result (RefusesCapacity capacity) }
     {
         Scene::with_capacity_and_key(alloc, capacity)
@@ -239,7 +238,7 @@ impl<K: Key, T: Drop> Scene<K, T> {
     /// assert!(rt; scene.is_empty());
     /// ```
     pub fn with_key(alloc: Global) -> Result<Self, ReserveError>
-        ensures empty { IfOk result IsNew }
+        ensures empty { IfOk result (λ scene. IsNew scene.nodes) }
         ensures err { IfErr result (λ error. error ≡ ReserveError.Memory) }
     {
         Scene::with_capacity_and_key(alloc, 0)
@@ -255,8 +254,8 @@ impl<K: Key, T: Drop> Scene<K, T> {
     /// assert!(rt; scene.capacity() >= 2);
     /// ```
     pub fn with_capacity_and_key(alloc: Global, capacity: usize) -> Result<Self, ReserveError>
-        ensures empty { IfOk result IsNew }
-        ensures room { IfOk result (λ scene. capacity ≤ scene.room) }
+        ensures empty { IfOk result (λ scene. IsNew scene.nodes) }
+        ensures room { IfOk result (λ scene. capacity ≤ scene.nodes.room) }
         ensures err { IfErr result (RefusesCapacity capacity) }
     {
         let nodes = Nodes::with_capacity(alloc, capacity)?;
@@ -280,9 +279,10 @@ impl<K: Key, T: Drop> Scene<K, T> {
     /// assert!(rt; scene.add_root("car").is_ok());
     /// ```
     pub fn reserve(&mut self, additional: usize) -> Result<(), ReserveError>
-        ensures makes_room { MakesRoom true self.old additional (IsOk result) self.new }
-        ensures err { IfErr result (RefusesCapacity (used self.old + additional)) }
-        ensures reuses { additional ≤ map.len self.old.next → IsOk result }
+        ensures makes_room { MakesRoom true self.old.nodes additional (IsOk result) self.new.nodes }
+        ensures err { IfErr result (RefusesCapacity (used self.old.nodes + additional)) }
+        ensures reuses { additional ≤ map.len self.old.nodes.next → IsOk result }
+        ensures in_place { additional ≤ self.old.nodes.room → self.new ≡ self.old }
     {
         self.nodes.reserve(additional)
     }
@@ -300,8 +300,8 @@ impl<K: Key, T: Drop> Scene<K, T> {
     /// assert_eq!(rt; scene.len(), 0);
     /// ```
     pub fn len(&self) -> usize
-        ensures value { result ≡ map.len self.now.live }
-        ensures scene { IsScene self.now.live }
+        ensures value { result ≡ map.len self.now.nodes.live }
+        ensures scene { IsScene self.now.nodes.live }
     {
         self.nodes.len()
     }
@@ -316,9 +316,9 @@ impl<K: Key, T: Drop> Scene<K, T> {
     /// assert!(rt; scene.capacity() >= 2);
     /// ```
     pub fn capacity(&self) -> usize
-        ensures value { result ≡ bound self.now }
-        ensures exact { result ≡ used self.now + self.now.room }
-        ensures valid { IsContent true self.now }
+        ensures value { result ≡ bound self.now.nodes }
+        ensures exact { result ≡ used self.now.nodes + self.now.nodes.room }
+        ensures valid { IsContent true self.now.nodes }
     {
         self.nodes.capacity()
     }
@@ -332,7 +332,7 @@ impl<K: Key, T: Drop> Scene<K, T> {
     /// assert!(rt; !scene.is_empty());
     /// ```
     pub fn is_empty(&self) -> bool
-        ensures { IsTrue result ↔ (map.len self.now.live ≡ 0) }
+        ensures { IsTrue result ↔ (map.len self.now.nodes.live ≡ 0) }
     {
         self.len() == 0
     }
@@ -348,7 +348,7 @@ impl<K: Key, T: Drop> Scene<K, T> {
     /// assert!(rt; !scene.contains_key(wheel));
     /// ```
     pub fn contains_key(&self, node: K) -> bool
-        ensures { result ≡ map.contains_key self.now.live (K.data_of node) }
+        ensures { result ≡ map.contains_key self.now.nodes.live (K.data_of node) }
     {
         self.nodes.contains_key(inner(node))
     }
@@ -363,7 +363,7 @@ impl<K: Key, T: Drop> Scene<K, T> {
     /// assert_eq!(rt; scene.get(car), None);
     /// ```
     pub fn get(&self, node: K) -> Option<&T>
-        ensures { option_copied result ≡ value_of self.now.live (K.data_of node) }
+        ensures { option_copied result ≡ value_of self.now.nodes.live (K.data_of node) }
     {
         self.nodes.get(inner(node))
     }
@@ -381,7 +381,7 @@ impl<K: Key, T: Drop> Scene<K, T> {
     /// ```
     pub fn get_mut(&mut self, node: K) -> Option<&mut T>
         ensures* writes_back { sem 𝓛 (lends_value_of K.row T.row self.entry (K.data_of node) result) }
-        ensures value { option_copied_mut result ≡ value_of self.old.live (K.data_of node) }
+        ensures value { option_copied_mut result ≡ value_of self.old.nodes.live (K.data_of node) }
     {
         self.nodes.value_mut(inner(node))
     }
@@ -402,8 +402,8 @@ impl<K: Key, T: Drop> Scene<K, T> {
     /// assert_eq!(rt; children.next(), None);
     /// ```
     pub fn children(&self, node: K) -> ChildKeys<'_, K, T>
-        ensures value { result ≡ children_of self.now.live (K.data_of node) }
-        ensures listed { (k : KeyOf) → times k result ≡ is_parent (parent_of self.now.live k) (K.data_of node) }
+        ensures value { result ≡ children_of self.now.nodes.live (K.data_of node) }
+        ensures listed { (k : KeyOf) → times k result ≡ is_parent (parent_of self.now.nodes.live k) (K.data_of node) }
     {
         self.nodes.children(inner(node))
     }
@@ -419,8 +419,8 @@ impl<K: Key, T: Drop> Scene<K, T> {
     /// assert_eq!(rt; scene.parent(car), None);
     /// ```
     pub fn parent(&self, node: K) -> Option<K>
-        ensures value { option_map K.data_of result ≡ parent_of self.now.live (K.data_of node) }
-        ensures live { IfSome result (λ parent. has_node self.now.live (K.data_of parent)) }
+        ensures value { option_map K.data_of result ≡ parent_of self.now.nodes.live (K.data_of node) }
+        ensures live { IfSome result (λ parent. has_node self.now.nodes.live (K.data_of parent)) }
     {
         Some(outer(self.parent_key(inner(node))?))
     }
@@ -430,9 +430,9 @@ impl<K: Key, T: Drop> Scene<K, T> {
 impl<K: Key, T: Drop> Index<K> for Scene<K, T> {
     type Output = T;
 
-    ghost can_index = { λ scene node. has_node scene.live (K.data_of node) };
+    ghost can_index = { λ scene node. has_node scene.nodes.live (K.data_of node) };
 
-    ghost index_gives = { λ scene node value. value_of scene.live (K.data_of node) ≡ Some value };
+    ghost index_gives = { λ scene node value. value_of scene.nodes.live (K.data_of node) ≡ Some value };
 
     fn index(&self, node: K) -> &T {
         &self.nodes[inner(node)]

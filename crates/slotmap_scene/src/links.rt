@@ -64,6 +64,7 @@ fn cover_children(children: &mut Links, index: usize) -> Result<(), AllocError>
     ensures owners { OnOk result (index < length children.new.lists) }
     ensures members { OnOk result (index < children.new.members) }
     ensures had_room { index < length children.old.lists → index < children.old.members → IsOk result }
+    ensures in_place { index < length children.old.lists → index < children.old.members → children.new ≡ children.old }
 {
     let _ = children.members();
     children.cover_owners(index + 1)?;
@@ -76,6 +77,7 @@ fn cover_parents(parents: &mut Vec<u32>, index: usize) -> Result<(), AllocError>
     ensures grows { HoldsMore parents.old.items parents.new.items }
     ensures covers { OnOk result (index < length parents.new.items) }
     ensures had_room { index < length parents.old.items → IsOk result }
+    ensures in_place { index < length parents.old.items → parents.new ≡ parents.old }
 {
     if index < parents.len() {
         return Ok(());
@@ -94,6 +96,7 @@ pub(crate) fn cover(
     ensures children { CoversMore children.old children.new }
     ensures covers { OnOk result (AreCovered index parents.new.items children.new) }
     ensures had_room { AreCovered index parents.old.items children.old → IsOk result }
+    ensures in_place { AreCovered index parents.old.items children.old → (parents.new ≡ parents.old) × (children.new ≡ children.old) }
 {
     let _ = children.members();
     cover_parents(parents, index)?;

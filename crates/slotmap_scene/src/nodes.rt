@@ -3,9 +3,9 @@
 ghost use Rattle.std.specs.Prelude.{◌≡◌, ◌↔◌, ◌<◌, ◌≤◌, ◌++◌, ◌∷◌, [], Some, None, IfOk, IfErr, IsOk, OnOk, OnErr, IfSome, IfNone, OnSome, IsTrue, true, option_map};
 ghost use Rattle.std.specs.FinMap as map;
 ghost use Rattle.slotmap.specs.Words.{Key as KeyOf, HasVacant, IsSpent, KeepsSpent, Inserts, Keeps, Leaves};
-ghost use Rattle.slotmap_bounded.specs.Bounded.{space};
 ghost use Rattle.slotmap_scene.specs.Climb.{IsWithin, has_node, lacks_node};
 ghost use Rattle.slotmap_scene.specs.Family.{IsMoved, IsNewChild, IsScene, as_last_child, as_root, child, children_of, forgets, value_of, with_child};
+ghost use Rattle.slotmap_scene.specs.Node.{memory, with_trees};
 ghost use Rattle.slotmap_scene.specs.Refusals.{RefusesNode, RefusesChild, RefusesParent};
 
 use crate::tree::Side;
@@ -26,17 +26,17 @@ impl<K: Key, T: Drop> Scene<K, T> {
     /// assert_eq!(rt; scene.children(car).len(), 0);
     /// ```
     pub fn add_root(&mut self, value: T) -> Result<K, InsertError<T>>
-        ensures adds { IfOk result (λ key. Inserts self.old (K.data_of key) (child None value) self.new) }
-        ensures fresh { IfOk result (λ key. lacks_node self.old.live (K.data_of key)) }
-        ensures children { IfOk result (λ key. children_of self.new.live (K.data_of key) ≡ []) }
-        ensures unspent { IfOk result (λ key. IsSpent self.old (K.data_of key) → ⊥) }
-        ensures stale { KeepsSpent self.old self.new }
-        ensures err { IfErr result (RefusesNode self.old value) }
-        ensures reuses { HasVacant self.old → IsOk result }
-        ensures room { 0 < self.old.room → IsOk result }
-        ensures capacity { self.old.capacity ≤ self.new.capacity }
-        ensures in_place { 0 < self.old.room → space self.new ≡ space self.old }
-        ensures unchanged { OnErr result (Keeps self.old self.new) }
+        ensures adds { IfOk result (λ key. Inserts self.old.nodes (K.data_of key) (child None value) self.new.nodes) }
+        ensures fresh { IfOk result (λ key. lacks_node self.old.nodes.live (K.data_of key)) }
+        ensures children { IfOk result (λ key. children_of self.new.nodes.live (K.data_of key) ≡ []) }
+        ensures unspent { IfOk result (λ key. IsSpent self.old.nodes (K.data_of key) → ⊥) }
+        ensures stale { KeepsSpent self.old.nodes self.new.nodes }
+        ensures err { IfErr result (RefusesNode self.old.nodes value) }
+        ensures reuses { HasVacant self.old.nodes → IsOk result }
+        ensures room { 0 < self.old.nodes.room → IsOk result }
+        ensures capacity { self.old.nodes.capacity ≤ self.new.nodes.capacity }
+        ensures in_place { 0 < self.old.nodes.room → memory self.new ≡ memory self.old }
+        ensures unchanged { OnErr result (Keeps self.old.nodes self.new.nodes) }
     {
         Ok(outer(self.nodes.insert(value, None)?))
     }
@@ -57,22 +57,22 @@ impl<K: Key, T: Drop> Scene<K, T> {
     /// ```
     pub fn add_child(&mut self, parent: K, value: T) -> Result<K, AddError<T>>
         // The parent has one more child, under a new key.
-        ensures adds { IfOk result (λ key. Inserts (record self.old { live = with_child self.old.live (K.data_of parent) (K.data_of key) })
-            (K.data_of key) (child (Some (K.data_of parent)) value) self.new) }
-        ensures gains { IfOk result (λ key. IsNewChild self.old.live self.new.live (K.data_of key) (K.data_of parent) value
-            (children_of self.old.live (K.data_of parent) ++ K.data_of key ∷ [])) }
-        ensures fresh { IfOk result (λ key. lacks_node self.old.live (K.data_of key)) }
-        ensures unspent { IfOk result (λ key. IsSpent self.old (K.data_of key) → ⊥) }
-        ensures stale { KeepsSpent self.old self.new }
-        ensures live { OnOk result (has_node self.old.live (K.data_of parent)) }
+        ensures adds { IfOk result (λ key. Inserts (record self.old.nodes { live = with_child self.old.nodes.live (K.data_of parent) (K.data_of key) })
+            (K.data_of key) (child (Some (K.data_of parent)) value) self.new.nodes) }
+        ensures gains { IfOk result (λ key. IsNewChild self.old.nodes.live self.new.nodes.live (K.data_of key) (K.data_of parent) value
+            (children_of self.old.nodes.live (K.data_of parent) ++ K.data_of key ∷ [])) }
+        ensures fresh { IfOk result (λ key. lacks_node self.old.nodes.live (K.data_of key)) }
+        ensures unspent { IfOk result (λ key. IsSpent self.old.nodes (K.data_of key) → ⊥) }
+        ensures stale { KeepsSpent self.old.nodes self.new.nodes }
+        ensures live { OnOk result (has_node self.old.nodes.live (K.data_of parent)) }
 
         // Why the call failed, and what that leaves.
-        ensures err { IfErr result (RefusesChild self.old (K.data_of parent) value) }
-        ensures reuses { has_node self.old.live (K.data_of parent) → HasVacant self.old → IsOk result }
-        ensures room { has_node self.old.live (K.data_of parent) → 0 < self.old.room → IsOk result }
-        ensures capacity { self.old.capacity ≤ self.new.capacity }
-        ensures in_place { 0 < self.old.room → space self.new ≡ space self.old }
-        ensures unchanged { OnErr result (Keeps self.old self.new) }
+        ensures err { IfErr result (RefusesChild self.old.nodes (K.data_of parent) value) }
+        ensures reuses { has_node self.old.nodes.live (K.data_of parent) → HasVacant self.old.nodes → IsOk result }
+        ensures room { has_node self.old.nodes.live (K.data_of parent) → 0 < self.old.nodes.room → IsOk result }
+        ensures capacity { self.old.nodes.capacity ≤ self.new.nodes.capacity }
+        ensures in_place { 0 < self.old.nodes.room → memory self.new ≡ memory self.old }
+        ensures unchanged { OnErr result (Keeps self.old.nodes self.new.nodes) }
     {
         let parent = inner(parent);
         if !self.nodes.contains_key(parent) {
@@ -97,14 +97,15 @@ impl<K: Key, T: Drop> Scene<K, T> {
     /// assert_eq!(rt; scene.reparent(car, wheel), Err(ReparentError::Cycle));
     /// ```
     pub fn reparent(&mut self, node: K, parent: K) -> Result<(), ReparentError>
-        ensures moved { OnOk result (self.new ≡ record self.old { live = as_last_child self.old.live (K.data_of node) (K.data_of parent) }) }
-        ensures trees { OnOk result (IsMoved self.old.live self.new.live (K.data_of node) (Some (K.data_of parent)) (λ ks. ks ++ K.data_of node ∷ [])) }
-        ensures values { (k : KeyOf) → value_of self.new.live k ≡ value_of self.old.live k }
-        ensures nodes { OnOk result (has_node self.old.live (K.data_of node) × has_node self.old.live (K.data_of parent)) }
-        ensures no_cycle { OnOk result (IsWithin self.old.live (K.data_of parent) (K.data_of node) → ⊥) }
-        ensures stale { KeepsSpent self.old self.new }
-        ensures scene { IsScene self.old.live }
-        ensures err { IfErr result (RefusesParent self.old.live (K.data_of node) (K.data_of parent)) }
+        ensures moved { OnOk result (self.new ≡ with_trees self.old (as_last_child self.old.nodes.live (K.data_of node) (K.data_of parent))) }
+        ensures trees { OnOk result (IsMoved self.old.nodes.live self.new.nodes.live (K.data_of node) (Some (K.data_of parent)) (λ ks. ks ++ K.data_of node ∷ [])) }
+        ensures values { (k : KeyOf) → value_of self.new.nodes.live k ≡ value_of self.old.nodes.live k }
+        ensures capacity { memory self.new ≡ memory self.old }
+        ensures nodes { OnOk result (has_node self.old.nodes.live (K.data_of node) × has_node self.old.nodes.live (K.data_of parent)) }
+        ensures no_cycle { OnOk result (IsWithin self.old.nodes.live (K.data_of parent) (K.data_of node) → ⊥) }
+        ensures stale { KeepsSpent self.old.nodes self.new.nodes }
+        ensures scene { IsScene self.old.nodes.live }
+        ensures err { IfErr result (RefusesParent self.old.nodes.live (K.data_of node) (K.data_of parent)) }
         ensures unchanged { OnErr result (self.new ≡ self.old) }
     {
         if !self.contains_key(node) {
@@ -135,11 +136,12 @@ impl<K: Key, T: Drop> Scene<K, T> {
     /// assert_eq!(rt; scene.children(car).len(), 0);
     /// ```
     pub fn make_root(&mut self, node: K) -> bool
-        ensures which { IsTrue result ↔ has_node self.old.live (K.data_of node) }
-        ensures new { self.new ≡ record self.old { live = as_root self.old.live (K.data_of node) } }
-        ensures trees { IsMoved self.old.live self.new.live (K.data_of node) None (λ ks. ks) }
-        ensures values { (k : KeyOf) → value_of self.new.live k ≡ value_of self.old.live k }
-        ensures stale { KeepsSpent self.old self.new }
+        ensures which { IsTrue result ↔ has_node self.old.nodes.live (K.data_of node) }
+        ensures new { self.new ≡ with_trees self.old (as_root self.old.nodes.live (K.data_of node)) }
+        ensures trees { IsMoved self.old.nodes.live self.new.nodes.live (K.data_of node) None (λ ks. ks) }
+        ensures values { (k : KeyOf) → value_of self.new.nodes.live k ≡ value_of self.old.nodes.live k }
+        ensures capacity { memory self.new ≡ memory self.old }
+        ensures stale { KeepsSpent self.old.nodes self.new.nodes }
     {
         let node = inner(node);
         if !self.nodes.contains_key(node) {
@@ -163,13 +165,13 @@ impl<K: Key, T: Drop> Scene<K, T> {
     /// assert_eq!(rt; scene.remove(car), None);
     /// ```
     pub fn remove(&mut self, node: K) -> Option<T>
-        ensures value { result ≡ value_of self.old.live (K.data_of node) }
-        ensures removed { (k : KeyOf) → IsWithin self.old.live k (K.data_of node) → lacks_node self.new.live k }
-        ensures others { (k : KeyOf) → (IsWithin self.old.live k (K.data_of node) → ⊥) → map.get self.new.live k ≡ option_map (forgets (K.data_of node)) (map.get self.old.live k) }
-        ensures leaves { Leaves self.old self.new }
-        ensures capacity { space self.new ≡ space self.old }
-        ensures for_good { (k : KeyOf) → has_node self.old.live k → IsWithin self.old.live k (K.data_of node) → IsSpent self.new k }
-        ensures stale { KeepsSpent self.old self.new }
+        ensures value { result ≡ value_of self.old.nodes.live (K.data_of node) }
+        ensures removed { (k : KeyOf) → IsWithin self.old.nodes.live k (K.data_of node) → lacks_node self.new.nodes.live k }
+        ensures others { (k : KeyOf) → (IsWithin self.old.nodes.live k (K.data_of node) → ⊥) → map.get self.new.nodes.live k ≡ option_map (forgets (K.data_of node)) (map.get self.old.nodes.live k) }
+        ensures leaves { Leaves self.old.nodes self.new.nodes }
+        ensures capacity { memory self.new ≡ memory self.old }
+        ensures for_good { (k : KeyOf) → has_node self.old.nodes.live k → IsWithin self.old.nodes.live k (K.data_of node) → IsSpent self.new.nodes k }
+        ensures stale { KeepsSpent self.old.nodes self.new.nodes }
         ensures unchanged { IfNone result (self.new ≡ self.old) }
     {
         let node = inner(node);
@@ -192,11 +194,11 @@ impl<K: Key, T: Drop> Scene<K, T> {
     /// assert!(rt; !scene.contains_key(car));
     /// ```
     pub fn clear(&mut self)
-        ensures empty { self.new.live ≡ map.empty }
-        ensures leaves { Leaves self.old self.new }
-        ensures capacity { space self.new ≡ space self.old }
-        ensures for_good { (k : KeyOf) → has_node self.old.live k → IsSpent self.new k }
-        ensures stale { KeepsSpent self.old self.new }
+        ensures empty { self.new.nodes.live ≡ map.empty }
+        ensures leaves { Leaves self.old.nodes self.new.nodes }
+        ensures capacity { memory self.new ≡ memory self.old }
+        ensures for_good { (k : KeyOf) → has_node self.old.nodes.live k → IsSpent self.new.nodes k }
+        ensures stale { KeepsSpent self.old.nodes self.new.nodes }
     {
         self.nodes.clear();
     }

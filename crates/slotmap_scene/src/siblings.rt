@@ -6,6 +6,7 @@ ghost use Rattle.slotmap_bounded.specs.KeyLists.{last_or};
 ghost use Rattle.slotmap_links.specs.Lists.{first_or};
 ghost use Rattle.slotmap_scene.specs.Climb.{IsWithin, has_node, parent_of};
 ghost use Rattle.slotmap_scene.specs.Family.{IsMoved, as_child, as_last_child, behind, children_of, in_front, placed, right_before, right_behind, siblings_of, value_of};
+ghost use Rattle.slotmap_scene.specs.Node.{memory, with_trees};
 ghost use Rattle.slotmap_scene.specs.Refusals.{RefusesBeside};
 
 use crate::tree::Side;
@@ -26,9 +27,9 @@ impl<K: Key, T: Drop> Scene<K, T> {
     /// assert_eq!(rt; scene.first_child(wheel), None);
     /// ```
     pub fn first_child(&self, node: K) -> Option<K>
-        ensures value { option_map K.data_of result ≡ first_or (children_of self.now.live (K.data_of node)) None }
-        ensures live { IfSome result (λ child. has_node self.now.live (K.data_of child)) }
-        ensures child { IfSome result (λ child. parent_of self.now.live (K.data_of child) ≡ Some (K.data_of node)) }
+        ensures value { option_map K.data_of result ≡ first_or (children_of self.now.nodes.live (K.data_of node)) None }
+        ensures live { IfSome result (λ child. has_node self.now.nodes.live (K.data_of child)) }
+        ensures child { IfSome result (λ child. parent_of self.now.nodes.live (K.data_of child) ≡ Some (K.data_of node)) }
     {
         Some(outer(self.nodes.first(inner(node))?))
     }
@@ -44,9 +45,9 @@ impl<K: Key, T: Drop> Scene<K, T> {
     /// assert_eq!(rt; scene.last_child(car), Some(door));
     /// ```
     pub fn last_child(&self, node: K) -> Option<K>
-        ensures value { option_map K.data_of result ≡ last_or (children_of self.now.live (K.data_of node)) None }
-        ensures live { IfSome result (λ child. has_node self.now.live (K.data_of child)) }
-        ensures child { IfSome result (λ child. parent_of self.now.live (K.data_of child) ≡ Some (K.data_of node)) }
+        ensures value { option_map K.data_of result ≡ last_or (children_of self.now.nodes.live (K.data_of node)) None }
+        ensures live { IfSome result (λ child. has_node self.now.nodes.live (K.data_of child)) }
+        ensures child { IfSome result (λ child. parent_of self.now.nodes.live (K.data_of child) ≡ Some (K.data_of node)) }
     {
         Some(outer(self.nodes.last(inner(node))?))
     }
@@ -63,9 +64,9 @@ impl<K: Key, T: Drop> Scene<K, T> {
     /// assert_eq!(rt; scene.next_sibling(door), None);
     /// ```
     pub fn next_sibling(&self, node: K) -> Option<K>
-        ensures value { option_map K.data_of result ≡ behind (K.data_of node) (siblings_of self.now.live (K.data_of node)) }
-        ensures live { IfSome result (λ sibling. has_node self.now.live (K.data_of sibling)) }
-        ensures same_parent { IfSome result (λ sibling. parent_of self.now.live (K.data_of sibling) ≡ parent_of self.now.live (K.data_of node)) }
+        ensures value { option_map K.data_of result ≡ behind (K.data_of node) (siblings_of self.now.nodes.live (K.data_of node)) }
+        ensures live { IfSome result (λ sibling. has_node self.now.nodes.live (K.data_of sibling)) }
+        ensures same_parent { IfSome result (λ sibling. parent_of self.now.nodes.live (K.data_of sibling) ≡ parent_of self.now.nodes.live (K.data_of node)) }
     {
         let node = inner(node);
         self.parent_key(node)?;
@@ -84,9 +85,9 @@ impl<K: Key, T: Drop> Scene<K, T> {
     /// assert_eq!(rt; scene.prev_sibling(wheel), None);
     /// ```
     pub fn prev_sibling(&self, node: K) -> Option<K>
-        ensures value { option_map K.data_of result ≡ in_front None (K.data_of node) (siblings_of self.now.live (K.data_of node)) }
-        ensures live { IfSome result (λ sibling. has_node self.now.live (K.data_of sibling)) }
-        ensures same_parent { IfSome result (λ sibling. parent_of self.now.live (K.data_of sibling) ≡ parent_of self.now.live (K.data_of node)) }
+        ensures value { option_map K.data_of result ≡ in_front None (K.data_of node) (siblings_of self.now.nodes.live (K.data_of node)) }
+        ensures live { IfSome result (λ sibling. has_node self.now.nodes.live (K.data_of sibling)) }
+        ensures same_parent { IfSome result (λ sibling. parent_of self.now.nodes.live (K.data_of sibling) ≡ parent_of self.now.nodes.live (K.data_of node)) }
     {
         let node = inner(node);
         self.parent_key(node)?;
@@ -96,9 +97,9 @@ impl<K: Key, T: Drop> Scene<K, T> {
     // Whether a sibling, which has this parent, is below another node. It takes constant time if that one
     // has the same parent: none is below the other then.
     fn is_below(&self, sibling: DefaultKey, parent: DefaultKey, node: DefaultKey) -> bool
-        requires parent { parent_of self.now.live sibling ≡ Some parent }
+        requires parent { parent_of self.now.nodes.live sibling ≡ Some parent }
         requires apart { node ≢ sibling }
-        ensures { IsTrue result ↔ IsWithin self.now.live sibling node }
+        ensures { IsTrue result ↔ IsWithin self.now.nodes.live sibling node }
     {
         if let Some(own) = self.parent_key(node) {
             if own == parent {
@@ -115,15 +116,16 @@ impl<K: Key, T: Drop> Scene<K, T> {
         side: Side,
         sibling: DefaultKey,
     ) -> Result<(), MoveError>
-        ensures moved { OnOk result ((p : KeyOf) → parent_of self.old.live sibling ≡ Some p
-            → self.new ≡ record self.old { live = as_child self.old.live node p (placed side sibling node) }) }
-        ensures trees { OnOk result ((p : KeyOf) → parent_of self.old.live sibling ≡ Some p
-            → IsMoved self.old.live self.new.live node (Some p) (placed side sibling node)) }
-        ensures values { (k : KeyOf) → value_of self.new.live k ≡ value_of self.old.live k }
-        ensures nodes { OnOk result (has_node self.old.live node × IsSome (parent_of self.old.live sibling)) }
-        ensures no_cycle { OnOk result (IsWithin self.old.live sibling node → ⊥) }
-        ensures stale { KeepsSpent self.old self.new }
-        ensures err { IfErr result (RefusesBeside self.old.live node sibling) }
+        ensures moved { OnOk result ((p : KeyOf) → parent_of self.old.nodes.live sibling ≡ Some p
+            → self.new ≡ with_trees self.old (as_child self.old.nodes.live node p (placed side sibling node))) }
+        ensures trees { OnOk result ((p : KeyOf) → parent_of self.old.nodes.live sibling ≡ Some p
+            → IsMoved self.old.nodes.live self.new.nodes.live node (Some p) (placed side sibling node)) }
+        ensures values { (k : KeyOf) → value_of self.new.nodes.live k ≡ value_of self.old.nodes.live k }
+        ensures capacity { memory self.new ≡ memory self.old }
+        ensures nodes { OnOk result (has_node self.old.nodes.live node × IsSome (parent_of self.old.nodes.live sibling)) }
+        ensures no_cycle { OnOk result (IsWithin self.old.nodes.live sibling node → ⊥) }
+        ensures stale { KeepsSpent self.old.nodes self.new.nodes }
+        ensures err { IfErr result (RefusesBeside self.old.nodes.live node sibling) }
         ensures unchanged { OnErr result (self.new ≡ self.old) }
     {
         if !self.nodes.contains_key(node) {
@@ -159,15 +161,16 @@ impl<K: Key, T: Drop> Scene<K, T> {
     /// assert_eq!(rt; scene.move_before(car, wheel), Err(MoveError::Cycle));
     /// ```
     pub fn move_before(&mut self, node: K, sibling: K) -> Result<(), MoveError>
-        ensures moved { OnOk result ((p : KeyOf) → parent_of self.old.live (K.data_of sibling) ≡ Some p
-            → self.new ≡ record self.old { live = as_child self.old.live (K.data_of node) p (placed right_before (K.data_of sibling) (K.data_of node)) }) }
-        ensures trees { OnOk result ((p : KeyOf) → parent_of self.old.live (K.data_of sibling) ≡ Some p
-            → IsMoved self.old.live self.new.live (K.data_of node) (Some p) (placed right_before (K.data_of sibling) (K.data_of node))) }
-        ensures values { (k : KeyOf) → value_of self.new.live k ≡ value_of self.old.live k }
-        ensures nodes { OnOk result (has_node self.old.live (K.data_of node) × IsSome (parent_of self.old.live (K.data_of sibling))) }
-        ensures no_cycle { OnOk result (IsWithin self.old.live (K.data_of sibling) (K.data_of node) → ⊥) }
-        ensures stale { KeepsSpent self.old self.new }
-        ensures err { IfErr result (RefusesBeside self.old.live (K.data_of node) (K.data_of sibling)) }
+        ensures moved { OnOk result ((p : KeyOf) → parent_of self.old.nodes.live (K.data_of sibling) ≡ Some p
+            → self.new ≡ with_trees self.old (as_child self.old.nodes.live (K.data_of node) p (placed right_before (K.data_of sibling) (K.data_of node)))) }
+        ensures trees { OnOk result ((p : KeyOf) → parent_of self.old.nodes.live (K.data_of sibling) ≡ Some p
+            → IsMoved self.old.nodes.live self.new.nodes.live (K.data_of node) (Some p) (placed right_before (K.data_of sibling) (K.data_of node))) }
+        ensures values { (k : KeyOf) → value_of self.new.nodes.live k ≡ value_of self.old.nodes.live k }
+        ensures capacity { memory self.new ≡ memory self.old }
+        ensures nodes { OnOk result (has_node self.old.nodes.live (K.data_of node) × IsSome (parent_of self.old.nodes.live (K.data_of sibling))) }
+        ensures no_cycle { OnOk result (IsWithin self.old.nodes.live (K.data_of sibling) (K.data_of node) → ⊥) }
+        ensures stale { KeepsSpent self.old.nodes self.new.nodes }
+        ensures err { IfErr result (RefusesBeside self.old.nodes.live (K.data_of node) (K.data_of sibling)) }
         ensures unchanged { OnErr result (self.new ≡ self.old) }
     {
         self.move_beside(inner(node), Side::Before, inner(sibling))
@@ -190,15 +193,16 @@ impl<K: Key, T: Drop> Scene<K, T> {
     /// assert_eq!(rt; scene.move_after(wheel, car), Err(MoveError::GoneSibling));
     /// ```
     pub fn move_after(&mut self, node: K, sibling: K) -> Result<(), MoveError>
-        ensures moved { OnOk result ((p : KeyOf) → parent_of self.old.live (K.data_of sibling) ≡ Some p
-            → self.new ≡ record self.old { live = as_child self.old.live (K.data_of node) p (placed right_behind (K.data_of sibling) (K.data_of node)) }) }
-        ensures trees { OnOk result ((p : KeyOf) → parent_of self.old.live (K.data_of sibling) ≡ Some p
-            → IsMoved self.old.live self.new.live (K.data_of node) (Some p) (placed right_behind (K.data_of sibling) (K.data_of node))) }
-        ensures values { (k : KeyOf) → value_of self.new.live k ≡ value_of self.old.live k }
-        ensures nodes { OnOk result (has_node self.old.live (K.data_of node) × IsSome (parent_of self.old.live (K.data_of sibling))) }
-        ensures no_cycle { OnOk result (IsWithin self.old.live (K.data_of sibling) (K.data_of node) → ⊥) }
-        ensures stale { KeepsSpent self.old self.new }
-        ensures err { IfErr result (RefusesBeside self.old.live (K.data_of node) (K.data_of sibling)) }
+        ensures moved { OnOk result ((p : KeyOf) → parent_of self.old.nodes.live (K.data_of sibling) ≡ Some p
+            → self.new ≡ with_trees self.old (as_child self.old.nodes.live (K.data_of node) p (placed right_behind (K.data_of sibling) (K.data_of node)))) }
+        ensures trees { OnOk result ((p : KeyOf) → parent_of self.old.nodes.live (K.data_of sibling) ≡ Some p
+            → IsMoved self.old.nodes.live self.new.nodes.live (K.data_of node) (Some p) (placed right_behind (K.data_of sibling) (K.data_of node))) }
+        ensures values { (k : KeyOf) → value_of self.new.nodes.live k ≡ value_of self.old.nodes.live k }
+        ensures capacity { memory self.new ≡ memory self.old }
+        ensures nodes { OnOk result (has_node self.old.nodes.live (K.data_of node) × IsSome (parent_of self.old.nodes.live (K.data_of sibling))) }
+        ensures no_cycle { OnOk result (IsWithin self.old.nodes.live (K.data_of sibling) (K.data_of node) → ⊥) }
+        ensures stale { KeepsSpent self.old.nodes self.new.nodes }
+        ensures err { IfErr result (RefusesBeside self.old.nodes.live (K.data_of node) (K.data_of sibling)) }
         ensures unchanged { OnErr result (self.new ≡ self.old) }
     {
         self.move_beside(inner(node), Side::After, inner(sibling))
@@ -218,13 +222,14 @@ impl<K: Key, T: Drop> Scene<K, T> {
     /// assert!(rt; !scene.move_to_front(car));
     /// ```
     pub fn move_to_front(&mut self, node: K) -> bool
-        ensures which { IsTrue result ↔ IsSome (parent_of self.old.live (K.data_of node)) }
-        ensures moved { (p : KeyOf) → parent_of self.old.live (K.data_of node) ≡ Some p
-            → self.new ≡ record self.old { live = as_child self.old.live (K.data_of node) p (λ ks. K.data_of node ∷ ks) } }
-        ensures trees { (p : KeyOf) → parent_of self.old.live (K.data_of node) ≡ Some p
-            → IsMoved self.old.live self.new.live (K.data_of node) (Some p) (λ ks. K.data_of node ∷ ks) }
-        ensures values { (k : KeyOf) → value_of self.new.live k ≡ value_of self.old.live k }
-        ensures stale { KeepsSpent self.old self.new }
+        ensures which { IsTrue result ↔ IsSome (parent_of self.old.nodes.live (K.data_of node)) }
+        ensures moved { (p : KeyOf) → parent_of self.old.nodes.live (K.data_of node) ≡ Some p
+            → self.new ≡ with_trees self.old (as_child self.old.nodes.live (K.data_of node) p (λ ks. K.data_of node ∷ ks)) }
+        ensures trees { (p : KeyOf) → parent_of self.old.nodes.live (K.data_of node) ≡ Some p
+            → IsMoved self.old.nodes.live self.new.nodes.live (K.data_of node) (Some p) (λ ks. K.data_of node ∷ ks) }
+        ensures values { (k : KeyOf) → value_of self.new.nodes.live k ≡ value_of self.old.nodes.live k }
+        ensures capacity { memory self.new ≡ memory self.old }
+        ensures stale { KeepsSpent self.old.nodes self.new.nodes }
         ensures unchanged { result ≡ false → self.new ≡ self.old }
     {
         let node = inner(node);
@@ -248,13 +253,14 @@ impl<K: Key, T: Drop> Scene<K, T> {
     /// assert_eq!(rt; scene.last_child(car), Some(wheel));
     /// ```
     pub fn move_to_back(&mut self, node: K) -> bool
-        ensures which { IsTrue result ↔ IsSome (parent_of self.old.live (K.data_of node)) }
-        ensures moved { (p : KeyOf) → parent_of self.old.live (K.data_of node) ≡ Some p
-            → self.new ≡ record self.old { live = as_last_child self.old.live (K.data_of node) p } }
-        ensures trees { (p : KeyOf) → parent_of self.old.live (K.data_of node) ≡ Some p
-            → IsMoved self.old.live self.new.live (K.data_of node) (Some p) (λ ks. ks ++ K.data_of node ∷ []) }
-        ensures values { (k : KeyOf) → value_of self.new.live k ≡ value_of self.old.live k }
-        ensures stale { KeepsSpent self.old self.new }
+        ensures which { IsTrue result ↔ IsSome (parent_of self.old.nodes.live (K.data_of node)) }
+        ensures moved { (p : KeyOf) → parent_of self.old.nodes.live (K.data_of node) ≡ Some p
+            → self.new ≡ with_trees self.old (as_last_child self.old.nodes.live (K.data_of node) p) }
+        ensures trees { (p : KeyOf) → parent_of self.old.nodes.live (K.data_of node) ≡ Some p
+            → IsMoved self.old.nodes.live self.new.nodes.live (K.data_of node) (Some p) (λ ks. ks ++ K.data_of node ∷ []) }
+        ensures values { (k : KeyOf) → value_of self.new.nodes.live k ≡ value_of self.old.nodes.live k }
+        ensures capacity { memory self.new ≡ memory self.old }
+        ensures stale { KeepsSpent self.old.nodes self.new.nodes }
         ensures unchanged { result ≡ false → self.new ≡ self.old }
     {
         let node = inner(node);

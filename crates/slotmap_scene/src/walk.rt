@@ -41,9 +41,9 @@ impl<'a, K: Key, T> Model for Walk<'a, K, T> {
 
     ghost Value = { List SeenVisit };
 
-    ghost view = { λ it. visits_from it.scene.now.live (K.data_of it.node) (option_map (visit_of K.data_of) it.at) };
+    ghost view = { λ it. visits_from it.scene.now.nodes.live (K.data_of it.node) (option_map (visit_of K.data_of) it.at) };
 
-    ghost invariant = { λ it. IsWalk it.scene.now.live (K.data_of it.node) (option_map (visit_of K.data_of) it.at) };
+    ghost invariant = { λ it. IsWalk it.scene.now.nodes.live (K.data_of it.node) (option_map (visit_of K.data_of) it.at) };
 }
 
 impl<'a, K: Key, T: Drop> Iterator for Walk<'a, K, T> {
@@ -65,10 +65,10 @@ impl<'a, K: Key, T: Drop> FusedIterator for Walk<'a, K, T> {}
 impl<K: Key, T: Drop> Scene<K, T> {
     // What comes once a node was left: its next sibling is entered, or its parent is left.
     fn next_left(&self, node: K, key: K) -> Option<Visit<K>>
-        requires { IsWalk self.now.live (K.data_of node) (Some (leaving (K.data_of key))) }
-        ensures walk { IsWalk self.now.live (K.data_of node) (option_map (visit_of K.data_of) result) }
-        ensures rest { visits_from self.now.live (K.data_of node) (Some (leaving (K.data_of key)))
-            ≡ leaving (K.data_of key) ∷ visits_from self.now.live (K.data_of node) (option_map (visit_of K.data_of) result) }
+        requires { IsWalk self.now.nodes.live (K.data_of node) (Some (leaving (K.data_of key))) }
+        ensures walk { IsWalk self.now.nodes.live (K.data_of node) (option_map (visit_of K.data_of) result) }
+        ensures rest { visits_from self.now.nodes.live (K.data_of node) (Some (leaving (K.data_of key)))
+            ≡ leaving (K.data_of key) ∷ visits_from self.now.nodes.live (K.data_of node) (option_map (visit_of K.data_of) result) }
     {
         let end = inner(node);
         if inner(key) == end {
@@ -83,10 +83,10 @@ impl<K: Key, T: Drop> Scene<K, T> {
 
     // What comes once a node was entered: its first child is entered, or it is left.
     fn next_entered(&self, node: K, key: K) -> Option<Visit<K>>
-        requires { IsWalk self.now.live (K.data_of node) (Some (entering (K.data_of key))) }
-        ensures walk { IsWalk self.now.live (K.data_of node) (option_map (visit_of K.data_of) result) }
-        ensures rest { visits_from self.now.live (K.data_of node) (Some (entering (K.data_of key)))
-            ≡ entering (K.data_of key) ∷ visits_from self.now.live (K.data_of node) (option_map (visit_of K.data_of) result) }
+        requires { IsWalk self.now.nodes.live (K.data_of node) (Some (entering (K.data_of key))) }
+        ensures walk { IsWalk self.now.nodes.live (K.data_of node) (option_map (visit_of K.data_of) result) }
+        ensures rest { visits_from self.now.nodes.live (K.data_of node) (Some (entering (K.data_of key)))
+            ≡ entering (K.data_of key) ∷ visits_from self.now.nodes.live (K.data_of node) (option_map (visit_of K.data_of) result) }
     {
         if let Some(child) = self.first_child(key) {
             return Some(Visit::Enter(child));
@@ -96,10 +96,10 @@ impl<K: Key, T: Drop> Scene<K, T> {
 
     // The visit behind this one.
     fn next_visit(&self, node: K, visit: Visit<K>) -> Option<Visit<K>>
-        requires { IsWalk self.now.live (K.data_of node) (Some (visit_of K.data_of visit)) }
-        ensures walk { IsWalk self.now.live (K.data_of node) (option_map (visit_of K.data_of) result) }
-        ensures rest { visits_from self.now.live (K.data_of node) (Some (visit_of K.data_of visit))
-            ≡ visit_of K.data_of visit ∷ visits_from self.now.live (K.data_of node) (option_map (visit_of K.data_of) result) }
+        requires { IsWalk self.now.nodes.live (K.data_of node) (Some (visit_of K.data_of visit)) }
+        ensures walk { IsWalk self.now.nodes.live (K.data_of node) (option_map (visit_of K.data_of) result) }
+        ensures rest { visits_from self.now.nodes.live (K.data_of node) (Some (visit_of K.data_of visit))
+            ≡ visit_of K.data_of visit ∷ visits_from self.now.nodes.live (K.data_of node) (option_map (visit_of K.data_of) result) }
     {
         match visit {
             Visit::Enter(key) => self.next_entered(node, key),
@@ -125,12 +125,12 @@ impl<K: Key, T: Drop> Scene<K, T> {
     /// assert_eq!(rt; walk.next(), None);
     /// ```
     pub fn walk(&self, node: K) -> Walk<'_, K, T>
-        ensures visits { has_node self.now.live (K.data_of node) → result ≡ visits_of self.now.live (K.data_of node) }
-        ensures none { lacks_node self.now.live (K.data_of node) → result ≡ [] }
+        ensures visits { has_node self.now.nodes.live (K.data_of node) → result ≡ visits_of self.now.nodes.live (K.data_of node) }
+        ensures none { lacks_node self.now.nodes.live (K.data_of node) → result ≡ [] }
 
         // Each node is entered, its children are visited in their order, and it is left.
-        ensures each { (k : KeyOf) → has_node self.now.live k
-            → visits_of self.now.live k ≡ entering k ∷ of_each (visits_of self.now.live) (children_of self.now.live k) ++ leaving k ∷ [] }
+        ensures each { (k : KeyOf) → has_node self.now.nodes.live k
+            → visits_of self.now.nodes.live k ≡ entering k ∷ of_each (visits_of self.now.nodes.live) (children_of self.now.nodes.live k) ++ leaving k ∷ [] }
     {
         let _ = &self.alloc;
         if !self.contains_key(node) {

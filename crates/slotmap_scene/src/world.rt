@@ -119,9 +119,9 @@ impl<K: Key, T: Drop> Scene<K, T> {
     where
         F: Drop,
         // For each value on the way, after calls for the values below it.
-        requires { CallableUp F.FnMut self.now.live (K.data_of node) f start }
-        ensures some { IfSome result (FoldsUp F.FnMut self.now.live (K.data_of node) f start) }
-        ensures none { IfNone result (lacks_node self.now.live (K.data_of node)) }
+        requires { CallableUp F.FnMut self.now.nodes.live (K.data_of node) f start }
+        ensures some { IfSome result (FoldsUp F.FnMut self.now.nodes.live (K.data_of node) f start) }
+        ensures none { IfNone result (lacks_node self.now.nodes.live (K.data_of node)) }
     {
         let mut at = inner(node);
         if !self.nodes.contains_key(at) {
@@ -152,9 +152,9 @@ impl<K: Key, T: Transform> Scene<K, T> {
     /// assert_eq!(rt; arm.world(hand), Some(Offset { x: 8, y: -4 }));
     /// ```
     pub fn world(&self, node: K) -> Option<T>
-        ensures some { IfSome result (IsComposed T.under (λ v. v) self.now.live (K.data_of node)) }
-        ensures joined { Joins T.under → IfSome result (IsWorld T.under self.now.live (K.data_of node)) }
-        ensures none { IfNone result (lacks_node self.now.live (K.data_of node)) }
+        ensures some { IfSome result (IsComposed T.under (λ v. v) self.now.nodes.live (K.data_of node)) }
+        ensures joined { Joins T.under → IfSome result (IsWorld T.under self.now.nodes.live (K.data_of node)) }
+        ensures none { IfNone result (lacks_node self.now.nodes.live (K.data_of node)) }
     {
         let local = *self.nodes.get(inner(node))?;
         match self.nodes.parent(inner(node)) {
@@ -181,9 +181,9 @@ impl<K: Key, T: HasTransform + Drop> Scene<K, T> {
     /// assert_eq!(rt; arm.world_transform(hand), Some(Offset { x: 8, y: -4 }));
     /// ```
     pub fn world_transform(&self, node: K) -> Option<T::Transform>
-        ensures some { IfSome result (IsComposed T.Transform.under T.transform_of self.now.live (K.data_of node)) }
-        ensures joined { Joins T.Transform.under → IfSome result (IsWorldOf T.Transform.under T.transform_of self.now.live (K.data_of node)) }
-        ensures none { IfNone result (lacks_node self.now.live (K.data_of node)) }
+        ensures some { IfSome result (IsComposed T.Transform.under T.transform_of self.now.nodes.live (K.data_of node)) }
+        ensures joined { Joins T.Transform.under → IfSome result (IsWorldOf T.Transform.under T.transform_of self.now.nodes.live (K.data_of node)) }
+        ensures none { IfNone result (lacks_node self.now.nodes.live (K.data_of node)) }
     {
         let start = self.nodes.get(inner(node))?.transform();
         match self.nodes.parent(inner(node)) {

@@ -6,6 +6,7 @@ ghost use Rattle.slotmap.specs.Words.{Key as KeyOf};
 ghost use Rattle.slotmap_bounded.specs.Changed.{changed};
 ghost use Rattle.slotmap_bounded.specs.KeyLists.{times};
 ghost use Rattle.slotmap_scene.specs.Below.{all_below};
+ghost use Rattle.slotmap_scene.specs.Node.{with_trees};
 ghost use Rattle.structure_examples.specs.Marked.{dirtied};
 
 use slotmap::Key;
@@ -20,7 +21,7 @@ pub struct Part {
 
 // Marks one node, if it exists.
 fn mark<K: Key>(scene: &mut Scene<K, Part>, key: K)
-    ensures { scene.new ≡ record scene.old { live = changed scene.old.live (K.data_of key) dirtied } }
+    ensures { scene.new ≡ with_trees scene.old (changed scene.old.nodes.live (K.data_of key) dirtied) }
 {
     if let Some(part) = scene.get_mut(key) {
         part.is_dirty = true;
@@ -29,10 +30,10 @@ fn mark<K: Key>(scene: &mut Scene<K, Part>, key: K)
 
 /// Marks each node below a node as dirty, in place. Nothing else changes.
 pub fn mark_below<K: Key>(scene: &mut Scene<K, Part>, node: K)
-    ensures marked { (k : KeyOf) → 0 < times k (all_below scene.old.live (K.data_of node))
-        → map.get scene.new.live k ≡ option_map dirtied (map.get scene.old.live k) }
-    ensures others { (k : KeyOf) → times k (all_below scene.old.live (K.data_of node)) ≡ 0 → map.get scene.new.live k ≡ map.get scene.old.live k }
-    ensures rest { scene.new ≡ record scene.old { live = scene.new.live } }
+    ensures marked { (k : KeyOf) → 0 < times k (all_below scene.old.nodes.live (K.data_of node))
+        → map.get scene.new.nodes.live k ≡ option_map dirtied (map.get scene.old.nodes.live k) }
+    ensures others { (k : KeyOf) → times k (all_below scene.old.nodes.live (K.data_of node)) ≡ 0 → map.get scene.new.nodes.live k ≡ map.get scene.old.nodes.live k }
+    ensures rest { scene.new ≡ with_trees scene.old scene.new.nodes.live }
 {
     // By what `len` ensures, the nodes form trees: so each of them comes once.
     let _ = scene.len();

@@ -25,9 +25,9 @@ pub fn group(
     b: DefaultKey,
 ) -> Result<DefaultKey, GroupError>
     requires { a ≢ b }
-    ensures first { IfOk result (λ root. parent_of scene.new.live a ≡ Some root) }
-    ensures second { IfOk result (λ root. parent_of scene.new.live b ≡ Some root) }
-    ensures children { IfOk result (λ root. children_of scene.new.live root ≡ a ∷ b ∷ []) }
+    ensures first { IfOk result (λ root. parent_of scene.new.nodes.live a ≡ Some root) }
+    ensures second { IfOk result (λ root. parent_of scene.new.nodes.live b ≡ Some root) }
+    ensures children { IfOk result (λ root. children_of scene.new.nodes.live root ≡ a ∷ b ∷ []) }
 {
     let root = scene.add_root(0)?;
     scene.reparent(a, root)?;

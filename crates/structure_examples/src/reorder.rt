@@ -18,12 +18,12 @@ pub fn place_before(
     node: DefaultKey,
     sibling: DefaultKey,
 ) -> bool
-    ensures place { IsTrue result → (p : KeyOf) → parent_of scene.old.live sibling ≡ Some p
-        → children_of scene.new.live p ≡ placed right_before sibling node (without node (children_of scene.old.live p)) }
-    ensures values { (k : KeyOf) → value_of scene.new.live k ≡ value_of scene.old.live k }
-    ensures nodes { (k : KeyOf) → map.contains_key scene.new.live k ≡ map.contains_key scene.old.live k }
-    ensures parents { (k : KeyOf) → k ≢ node → parent_of scene.new.live k ≡ parent_of scene.old.live k }
-    ensures order { (p : KeyOf) → without node (children_of scene.new.live p) ≡ without node (children_of scene.old.live p) }
+    ensures place { IsTrue result → (p : KeyOf) → parent_of scene.old.nodes.live sibling ≡ Some p
+        → children_of scene.new.nodes.live p ≡ placed right_before sibling node (without node (children_of scene.old.nodes.live p)) }
+    ensures values { (k : KeyOf) → value_of scene.new.nodes.live k ≡ value_of scene.old.nodes.live k }
+    ensures nodes { (k : KeyOf) → map.contains_key scene.new.nodes.live k ≡ map.contains_key scene.old.nodes.live k }
+    ensures parents { (k : KeyOf) → k ≢ node → parent_of scene.new.nodes.live k ≡ parent_of scene.old.nodes.live k }
+    ensures order { (p : KeyOf) → without node (children_of scene.new.nodes.live p) ≡ without node (children_of scene.old.nodes.live p) }
 {
     let Some(_) = scene.parent(sibling) else {
         return false;
@@ -36,8 +36,8 @@ pub fn place_before(
 
 /// Makes a node the last child of another one, and returns whether it could.
 pub fn hand_over(scene: &mut Scene<DefaultKey, u64>, node: DefaultKey, parent: DefaultKey) -> bool
-    ensures nodes { (k : KeyOf) → map.contains_key scene.new.live k ≡ map.contains_key scene.old.live k }
-    ensures order { (p : KeyOf) → without node (children_of scene.new.live p) ≡ without node (children_of scene.old.live p) }
+    ensures nodes { (k : KeyOf) → map.contains_key scene.new.nodes.live k ≡ map.contains_key scene.old.nodes.live k }
+    ensures order { (p : KeyOf) → without node (children_of scene.new.nodes.live p) ≡ without node (children_of scene.old.nodes.live p) }
 {
     match scene.reparent(node, parent) {
         Ok(()) => true,
@@ -48,8 +48,8 @@ pub fn hand_over(scene: &mut Scene<DefaultKey, u64>, node: DefaultKey, parent: D
 /// Moves a node one place to the front among its siblings, as an editor's "move up" does, in constant
 /// time.
 pub fn move_up(scene: &mut Scene<DefaultKey, u64>, node: DefaultKey) -> bool
-    ensures nodes { (k : KeyOf) → map.contains_key scene.new.live k ≡ map.contains_key scene.old.live k }
-    ensures parents { (k : KeyOf) → k ≢ node → parent_of scene.new.live k ≡ parent_of scene.old.live k }
+    ensures nodes { (k : KeyOf) → map.contains_key scene.new.nodes.live k ≡ map.contains_key scene.old.nodes.live k }
+    ensures parents { (k : KeyOf) → k ≢ node → parent_of scene.new.nodes.live k ≡ parent_of scene.old.nodes.live k }
 {
     let Some(sibling) = scene.prev_sibling(node) else {
         return false;

@@ -18,8 +18,8 @@ pub fn find_below(
     node: DefaultKey,
     value: u64,
 ) -> Option<DefaultKey>
-    ensures some { IfSome result (λ found. IsWithin scene.now.live found node × (found ≢ node) × (value_of scene.now.live found ≡ Some value)) }
-    ensures none { IfNone result ((k : KeyOf) → IsWithin scene.now.live k node → k ≢ node → value_of scene.now.live k ≢ Some value) }
+    ensures some { IfSome result (λ found. IsWithin scene.now.nodes.live found node × (found ≢ node) × (value_of scene.now.nodes.live found ≡ Some value)) }
+    ensures none { IfNone result ((k : KeyOf) → IsWithin scene.now.nodes.live k node → k ≢ node → value_of scene.now.nodes.live k ≢ Some value) }
 {
     for below in scene.keys_below(node) {
         if scene[below] == value {
@@ -34,8 +34,8 @@ pub fn find_at(
     scene: &Scene<DefaultKey, Offset>,
     place: Offset,
 ) -> Result<Option<DefaultKey>, AllocError>
-    ensures some { IfOk result (λ found. IfSome found (λ node. IsWorldOf shifted (λ own. own) scene.now.live node place)) }
-    ensures none { IfOk result (λ found. IfNone found ((k : KeyOf) → IsWorldOf shifted (λ own. own) scene.now.live k place → ⊥)) }
+    ensures some { IfOk result (λ found. IfSome found (λ node. IsWorldOf shifted (λ own. own) scene.now.nodes.live node place)) }
+    ensures none { IfOk result (λ found. IfNone found ((k : KeyOf) → IsWorldOf shifted (λ own. own) scene.now.nodes.live k place → ⊥)) }
 {
     let places = scene.world_transforms()?;
     for (node, at) in places.as_slice() {

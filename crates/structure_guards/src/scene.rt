@@ -6,13 +6,13 @@ ghost use Rattle.std.specs.Option.{option_copied_mut};
 ghost use Rattle.std.specs.Prelude.{◌≡◌, ◌≢◌, ◌<◌, ◌++◌, ◌∷◌, ◌↔◌, ◌+ℤ◌, [], Some, None, Err, IfOk, OnOk, IfSome, IfNone, IsTrue};
 ghost use Rattle.std.specs.Prelude.{option_map, map as list_map};
 ghost use Rattle.slotmap.specs.Words.{Key as KeyOf, IsCloneOf};
-ghost use Rattle.slotmap_bounded.specs.Bounded.{space};
 ghost use Rattle.slotmap_bounded.specs.KeyLists.{times, without};
 ghost use Rattle.slotmap_links.specs.Lists.{first_or};
 ghost use Rattle.slotmap_scene.specs.Below.{all_below};
 ghost use Rattle.slotmap_scene.specs.Climb.{ClimbsTo, IsWithin, has_node, lacks_node, parent_of};
 ghost use Rattle.slotmap_scene.specs.Family.{IsNodeClone, behind, child, children_of, placed, right_before, right_behind, siblings_of, value_of};
 ghost use Rattle.slotmap_scene.specs.Levels.{AreWorlds, GoesByLevel, keys_of_pairs};
+ghost use Rattle.slotmap_scene.specs.Node.{memory};
 ghost use Rattle.slotmap_scene.specs.Visits.{entering, leaving, of_each, visit_of, visits_of};
 ghost use Rattle.slotmap_scene.specs.WorldValue.{CallableUp, FoldsUp, IsComposed};
 
@@ -32,19 +32,19 @@ pub fn reads<K: Key, T: Drop>(
 ) -> (bool, bool, Option<K>, Option<K>, bool)
     // It is true exactly where there is no node.
     // Refuses `is_empty_at_one`: `ensures` of `is_empty`.
-    ensures is_empty_where_no_node_is { IsTrue result.0 ↔ (map.len scene.now.live ≡ 0) }
+    ensures is_empty_where_no_node_is { IsTrue result.0 ↔ (map.len scene.now.nodes.live ≡ 0) }
     // It is true of the nodes alone.
     // Refuses `contains_key_turned_round`: `ensures` of `contains_key`.
-    ensures contains_key_tells_nodes { result.1 ≡ map.contains_key scene.now.live (K.data_of node) }
+    ensures contains_key_tells_nodes { result.1 ≡ map.contains_key scene.now.nodes.live (K.data_of node) }
     // It is the child in front of all others.
     // Refuses `first_child_is_the_last`: `value` of `first_child`.
-    ensures first_child_is_in_front { option_map K.data_of result.2 ≡ first_or (children_of scene.now.live (K.data_of node)) None }
+    ensures first_child_is_in_front { option_map K.data_of result.2 ≡ first_or (children_of scene.now.nodes.live (K.data_of node)) None }
     // It is the sibling behind the node.
     // Refuses `next_sibling_returns_the_node`: `value` of `next_sibling`.
-    ensures next_sibling_is_behind_the_node { option_map K.data_of result.3 ≡ behind (K.data_of node) (siblings_of scene.now.live (K.data_of node)) }
+    ensures next_sibling_is_behind_the_node { option_map K.data_of result.3 ≡ behind (K.data_of node) (siblings_of scene.now.nodes.live (K.data_of node)) }
     // It is true exactly where the node is the other one, or below it.
     // Refuses `is_within_finds_no_cycle`: `ensures` of `is_within`.
-    ensures is_within_finds_nodes_above { IsTrue result.4 ↔ (has_node scene.now.live (K.data_of node) × IsWithin scene.now.live (K.data_of node) (K.data_of other)) }
+    ensures is_within_finds_nodes_above { IsTrue result.4 ↔ (has_node scene.now.nodes.live (K.data_of node) × IsWithin scene.now.nodes.live (K.data_of node) (K.data_of other)) }
 {
     (
         scene.is_empty(),
@@ -58,8 +58,8 @@ pub fn reads<K: Key, T: Drop>(
 /// So many steps lead up to a root, and only a key that isn't there has no depth.
 /// Refuses `depth_stops_at_once`: `some` of `depth`.
 pub fn depth_counts_the_steps_up<K: Key, T: Drop>(scene: &Scene<K, T>, node: K) -> Option<usize>
-    ensures some { IfSome result (λ steps. ClimbsTo scene.now.live steps (K.data_of node)) }
-    ensures none { IfNone result (lacks_node scene.now.live (K.data_of node)) }
+    ensures some { IfSome result (λ steps. ClimbsTo scene.now.nodes.live steps (K.data_of node)) }
+    ensures none { IfNone result (lacks_node scene.now.nodes.live (K.data_of node)) }
 {
     scene.depth(node)
 }
@@ -67,18 +67,18 @@ pub fn depth_counts_the_steps_up<K: Key, T: Drop>(scene: &Scene<K, T>, node: K) 
 /// The value of the node is lent.
 /// Refuses `value_mut_looks_for_the_null_key`: `value` of `get_mut`.
 pub fn get_mut_shows_the_value<K: Key, T: Drop>(scene: &mut Scene<K, T>, node: K) -> Option<&mut T>
-    ensures { option_copied_mut result ≡ value_of scene.old.live (K.data_of node) }
+    ensures { option_copied_mut result ≡ value_of scene.old.nodes.live (K.data_of node) }
 {
     scene.get_mut(node)
 }
 
-/// A node is added without memory where there is room, and the capacity stays.
+/// A node is added where there is room, and no vector grows.
 /// Refuses `add_reserves_more`: `room` and `in_place` of `add_root`.
 pub fn added_root_needs_no_memory<K: Key, T: Drop>(
     scene: &mut Scene<K, T>,
     value: T,
 ) -> Result<K, InsertError<T>>
-    ensures { 0 < scene.old.room → space scene.new ≡ space scene.old }
+    ensures { 0 < scene.old.nodes.room → memory scene.new ≡ memory scene.old }
 {
     scene.add_root(value)
 }
@@ -91,10 +91,10 @@ pub fn add_child<K: Key, T: Drop>(
 ) -> Result<K, AddError<T>>
     // It is behind the other children.
     // Refuses `add_child_comes_first`: `gains` of `add_child`.
-    ensures added_child_is_the_last { IfOk result (λ key. children_of scene.new.live (K.data_of parent) ≡ children_of scene.old.live (K.data_of parent) ++ K.data_of key ∷ []) }
+    ensures added_child_is_the_last { IfOk result (λ key. children_of scene.new.nodes.live (K.data_of parent) ≡ children_of scene.old.nodes.live (K.data_of parent) ++ K.data_of key ∷ []) }
     // It has the parent, the value, and no children.
     // Refuses `add_child_stays_a_root`: `gains` of `add_child`.
-    ensures added_child_has_the_parent { IfOk result (λ key. map.get scene.new.live (K.data_of key) ≡ Some (child (Some (K.data_of parent)) value)) }
+    ensures added_child_has_the_parent { IfOk result (λ key. map.get scene.new.nodes.live (K.data_of key) ≡ Some (child (Some (K.data_of parent)) value)) }
 {
     scene.add_child(parent, value)
 }
@@ -107,13 +107,13 @@ pub fn insert_before<K: Key, T: Drop>(
 ) -> Result<K, AddError<T>>
     // It is right before the sibling.
     // Refuses `insert_before_comes_behind`: `gains` of `insert_before`.
-    ensures inserted_child_comes_before { IfOk result (λ key. (p : KeyOf) → parent_of scene.old.live (K.data_of sibling) ≡ Some p
-        → children_of scene.new.live p ≡ placed right_before (K.data_of sibling) (K.data_of key) (children_of scene.old.live p)) }
+    ensures inserted_child_comes_before { IfOk result (λ key. (p : KeyOf) → parent_of scene.old.nodes.live (K.data_of sibling) ≡ Some p
+        → children_of scene.new.nodes.live p ≡ placed right_before (K.data_of sibling) (K.data_of key) (children_of scene.old.nodes.live p)) }
     // It never fails with `Gone`, which is of a parent, and fails with `GoneSibling` only where the
     // sibling has no parent.
     // Refuses `insert_tells_a_gone_sibling_as_a_gone_parent`: `err` of `insert_before`.
     ensures insert_tells_no_gone_parent { (back : T) → result ≡ Err (AddError.Gone back) → ⊥ }
-    ensures insert_tells_a_gone_sibling { (back : T) → result ≡ Err (AddError.GoneSibling back) → parent_of scene.old.live (K.data_of sibling) ≡ None }
+    ensures insert_tells_a_gone_sibling { (back : T) → result ≡ Err (AddError.GoneSibling back) → parent_of scene.old.nodes.live (K.data_of sibling) ≡ None }
 {
     scene.insert_before(sibling, value)
 }
@@ -125,8 +125,8 @@ pub fn child_inserted_after_comes_behind<K: Key, T: Drop>(
     sibling: K,
     value: T,
 ) -> Result<K, AddError<T>>
-    ensures { IfOk result (λ key. (p : KeyOf) → parent_of scene.old.live (K.data_of sibling) ≡ Some p
-        → children_of scene.new.live p ≡ placed right_behind (K.data_of sibling) (K.data_of key) (children_of scene.old.live p)) }
+    ensures { IfOk result (λ key. (p : KeyOf) → parent_of scene.old.nodes.live (K.data_of sibling) ≡ Some p
+        → children_of scene.new.nodes.live p ≡ placed right_behind (K.data_of sibling) (K.data_of key) (children_of scene.old.nodes.live p)) }
 {
     scene.insert_after(sibling, value)
 }
@@ -139,14 +139,14 @@ pub fn reparent<K: Key, T: Drop>(
 ) -> Result<(), ReparentError>
     // The node is the last child of the parent, also where it was one of its children.
     // Refuses `reparent_leaves_a_child_in_its_place`: `trees` of `reparent`.
-    ensures moved_node_is_the_last_child { OnOk result (children_of scene.new.live (K.data_of parent) ≡ without (K.data_of node) (children_of scene.old.live (K.data_of parent)) ++ K.data_of node ∷ []) }
+    ensures moved_node_is_the_last_child { OnOk result (children_of scene.new.nodes.live (K.data_of parent) ≡ without (K.data_of node) (children_of scene.old.nodes.live (K.data_of parent)) ++ K.data_of node ∷ []) }
     // No other node has it as a child, and each keeps its other children.
     // Refuses `reparent_forgets_the_old_list`, `take_out_takes_the_parent`: `trees` of `reparent`.
-    ensures moved_node_leaves_its_old_parent { OnOk result ((q : KeyOf) → (Some (K.data_of parent) ≡ Some q → ⊥) → children_of scene.new.live q ≡ without (K.data_of node) (children_of scene.old.live q)) }
+    ensures moved_node_leaves_its_old_parent { OnOk result ((q : KeyOf) → (Some (K.data_of parent) ≡ Some q → ⊥) → children_of scene.new.nodes.live q ≡ without (K.data_of node) (children_of scene.old.nodes.live q)) }
     // It fails with `Cycle` exactly where the parent is the node, or below it.
     // Refuses `reparent_asks_the_other_way_round`: `err` and `no_cycle` of `reparent`.
-    ensures reparent_tells_cycles { result ≡ Err ReparentError.Cycle → IsWithin scene.old.live (K.data_of parent) (K.data_of node) }
-    ensures reparent_makes_no_cycle { OnOk result (IsWithin scene.old.live (K.data_of parent) (K.data_of node) → ⊥) }
+    ensures reparent_tells_cycles { result ≡ Err ReparentError.Cycle → IsWithin scene.old.nodes.live (K.data_of parent) (K.data_of node) }
+    ensures reparent_makes_no_cycle { OnOk result (IsWithin scene.old.nodes.live (K.data_of parent) (K.data_of node) → ⊥) }
 {
     scene.reparent(node, parent)
 }
@@ -159,13 +159,16 @@ pub fn move_before<K: Key, T: Drop>(
 ) -> Result<(), MoveError>
     // The node is right before the sibling.
     // Refuses `move_before_comes_behind`: `trees` of `move_before`.
-    ensures moved_node_comes_before { OnOk result ((p : KeyOf) → parent_of scene.old.live (K.data_of sibling) ≡ Some p
-        → children_of scene.new.live p ≡ placed right_before (K.data_of sibling) (K.data_of node) (without (K.data_of node) (children_of scene.old.live p))) }
+    ensures moved_node_comes_before { OnOk result ((p : KeyOf) → parent_of scene.old.nodes.live (K.data_of sibling) ≡ Some p
+        → children_of scene.new.nodes.live p ≡ placed right_before (K.data_of sibling) (K.data_of node) (without (K.data_of node) (children_of scene.old.nodes.live p))) }
+    // No vector grows.
+    // Refuses `move_beside_asks_for_links`: `capacity` of `move_before`.
+    ensures move_keeps_the_capacity { memory scene.new ≡ memory scene.old }
     // It fails with `Cycle` exactly where the sibling is below the node.
     // Refuses `move_beside_asks_the_other_way_round`, `is_below_finds_no_cycle_under_a_parent`: `err` and
     // `no_cycle` of `move_before`.
-    ensures move_tells_cycles { result ≡ Err MoveError.Cycle → IsWithin scene.old.live (K.data_of sibling) (K.data_of node) }
-    ensures move_makes_no_cycle { OnOk result (IsWithin scene.old.live (K.data_of sibling) (K.data_of node) → ⊥) }
+    ensures move_tells_cycles { result ≡ Err MoveError.Cycle → IsWithin scene.old.nodes.live (K.data_of sibling) (K.data_of node) }
+    ensures move_makes_no_cycle { OnOk result (IsWithin scene.old.nodes.live (K.data_of sibling) (K.data_of node) → ⊥) }
 {
     scene.move_before(node, sibling)
 }
@@ -173,8 +176,8 @@ pub fn move_before<K: Key, T: Drop>(
 /// A child is in front of its siblings.
 /// Refuses `move_to_front_goes_to_the_back`: `trees` of `move_to_front`.
 pub fn moved_child_is_the_first<K: Key, T: Drop>(scene: &mut Scene<K, T>, node: K) -> bool
-    ensures { (p : KeyOf) → parent_of scene.old.live (K.data_of node) ≡ Some p
-        → children_of scene.new.live p ≡ K.data_of node ∷ without (K.data_of node) (children_of scene.old.live p) }
+    ensures { (p : KeyOf) → parent_of scene.old.nodes.live (K.data_of node) ≡ Some p
+        → children_of scene.new.nodes.live p ≡ K.data_of node ∷ without (K.data_of node) (children_of scene.old.nodes.live p) }
 {
     scene.move_to_front(node)
 }
@@ -183,10 +186,10 @@ pub fn moved_child_is_the_first<K: Key, T: Drop>(scene: &mut Scene<K, T>, node: 
 pub fn remove<K: Key, T: Drop>(scene: &mut Scene<K, T>, node: K) -> Option<T>
     // The node and all below it are gone.
     // Holds by `removed` of `remove`.
-    ensures removed_nodes_are_gone { (k : KeyOf) → IsWithin scene.old.live k (K.data_of node) → lacks_node scene.new.live k }
-    // No memory is allocated or freed.
-    // Refuses `remove_reserves_more`: `capacity` of `remove`.
-    ensures remove_keeps_the_capacity { space scene.new ≡ space scene.old }
+    ensures removed_nodes_are_gone { (k : KeyOf) → IsWithin scene.old.nodes.live k (K.data_of node) → lacks_node scene.new.nodes.live k }
+    // No vector grows.
+    // Refuses `remove_reserves_more`, `leave_asks_for_links`: `capacity` of `remove`.
+    ensures remove_keeps_the_capacity { memory scene.new ≡ memory scene.old }
 {
     scene.remove(node)
 }
@@ -195,10 +198,10 @@ pub fn remove<K: Key, T: Drop>(scene: &mut Scene<K, T>, node: K) -> Option<T>
 pub fn clear<K: Key, T: Drop>(scene: &mut Scene<K, T>)
     // No node is left.
     // Holds by `empty` of `clear`.
-    ensures clear_leaves_no_node { scene.new.live ≡ map.empty }
-    // No memory is allocated or freed.
+    ensures clear_leaves_no_node { scene.new.nodes.live ≡ map.empty }
+    // No vector grows.
     // Refuses `clear_reserves_more`: `capacity` of `clear`.
-    ensures clear_keeps_the_capacity { space scene.new ≡ space scene.old }
+    ensures clear_keeps_the_capacity { memory scene.new ≡ memory scene.old }
 {
     scene.clear();
 }
@@ -208,7 +211,7 @@ pub fn clear<K: Key, T: Drop>(scene: &mut Scene<K, T>)
 pub fn copy_has_the_same_trees<K: Key, T: Clone>(
     scene: &Scene<K, T>,
 ) -> Result<Scene<K, T>, AllocError>
-    ensures { IfOk result (λ copy. (key : KeyOf) → IsCloneOf (IsNodeClone T.is_clone) (map.get scene.now.live key) (map.get copy.live key)) }
+    ensures { IfOk result (λ copy. (key : KeyOf) → IsCloneOf (IsNodeClone T.is_clone) (map.get scene.now.nodes.live key) (map.get copy.nodes.live key)) }
 {
     scene.clone()
 }
@@ -257,7 +260,7 @@ pub fn keys_below_begin_under_the_node<K: Key, T: Drop>(
     scene: &Scene<K, T>,
     node: K,
 ) -> KeysBelow<'_, K, T>
-    ensures { result ≡ all_below scene.now.live (K.data_of node) }
+    ensures { result ≡ all_below scene.now.nodes.live (K.data_of node) }
 {
     scene.keys_below(node)
 }
@@ -277,25 +280,25 @@ pub fn keys_below_yield_their_first<'a, K: Key, T: Drop>(
 pub fn next_below<K: Key, T: Drop>(scene: &Scene<K, T>, node: K, key: K) -> Option<K>
     // From the node itself the walk comes to the first key below it.
     // Refuses `next_below_passes_the_first_child_over`: `first` of `next_below`.
-    ensures walk_begins_with_the_first_key_below { K.data_of key ≡ K.data_of node → option_map K.data_of result ≡ first_or (all_below scene.now.live (K.data_of node)) None }
+    ensures walk_begins_with_the_first_key_below { K.data_of key ≡ K.data_of node → option_map K.data_of result ≡ first_or (all_below scene.now.nodes.live (K.data_of node)) None }
     // From a key below the node it comes to the one behind it.
     // Refuses `next_below_climbs_from_the_node`, `next_below_goes_to_siblings_first`, `next_below_skips_a_child`,
     // `next_below_stops_at_the_first_leaf`: `along` of `next_below`.
-    ensures walk_goes_on_behind_the_key { 0 < times (K.data_of key) (all_below scene.now.live (K.data_of node))
-        → option_map K.data_of result ≡ behind (K.data_of key) (all_below scene.now.live (K.data_of node)) }
+    ensures walk_goes_on_behind_the_key { 0 < times (K.data_of key) (all_below scene.now.nodes.live (K.data_of node))
+        → option_map K.data_of result ≡ behind (K.data_of key) (all_below scene.now.nodes.live (K.data_of node)) }
     // It doesn't leave what is below the node.
     // Refuses `next_below_goes_on_above_the_root`, `next_below_leaves_the_subtree`: `within` of `next_below`.
-    ensures walk_stays_below_the_node { IsWithin scene.now.live (K.data_of key) (K.data_of node)
-        → IfSome result (λ next. IsWithin scene.now.live (K.data_of next) (K.data_of node) × (K.data_of next ≢ K.data_of node)) }
+    ensures walk_stays_below_the_node { IsWithin scene.now.nodes.live (K.data_of key) (K.data_of node)
+        → IfSome result (λ next. IsWithin scene.now.nodes.live (K.data_of next) (K.data_of node) × (K.data_of next ≢ K.data_of node)) }
     // From a key elsewhere it goes on through that key's tree.
     // Holds by `elsewhere` of `next_below`.
-    ensures walk_from_elsewhere_stays_in_its_tree { (root : KeyOf) → (IsWithin scene.now.live (K.data_of key) (K.data_of node) → ⊥)
-        → IsWithin scene.now.live (K.data_of key) root → parent_of scene.now.live root ≡ None
-        → option_map K.data_of result ≡ behind (K.data_of key) (root ∷ all_below scene.now.live root) }
+    ensures walk_from_elsewhere_stays_in_its_tree { (root : KeyOf) → (IsWithin scene.now.nodes.live (K.data_of key) (K.data_of node) → ⊥)
+        → IsWithin scene.now.nodes.live (K.data_of key) root → parent_of scene.now.nodes.live root ≡ None
+        → option_map K.data_of result ≡ behind (K.data_of key) (root ∷ all_below scene.now.nodes.live root) }
     // From a key that isn't there it ends, and else it comes to nodes alone.
     // Holds by `stale` and `live` of `next_below`.
-    ensures walk_ends_at_a_gone_key { lacks_node scene.now.live (K.data_of key) → result ≡ None }
-    ensures walk_comes_to_nodes { IfSome result (λ next. has_node scene.now.live (K.data_of next)) }
+    ensures walk_ends_at_a_gone_key { lacks_node scene.now.nodes.live (K.data_of key) → result ≡ None }
+    ensures walk_comes_to_nodes { IfSome result (λ next. has_node scene.now.nodes.live (K.data_of next)) }
 {
     scene.next_below(node, key)
 }
@@ -304,11 +307,11 @@ pub fn next_below<K: Key, T: Drop>(scene: &Scene<K, T>, node: K, key: K) -> Opti
 pub fn walk<K: Key, T: Drop>(scene: &Scene<K, T>, node: K) -> Walk<'_, K, T>
     // The node is entered, its children are visited in their order, and it is left.
     // Holds by `visits` and `each` of `walk`.
-    ensures walk_enters_and_leaves_each_node { has_node scene.now.live (K.data_of node)
-        → result ≡ entering (K.data_of node) ∷ of_each (visits_of scene.now.live) (children_of scene.now.live (K.data_of node)) ++ leaving (K.data_of node) ∷ [] }
+    ensures walk_enters_and_leaves_each_node { has_node scene.now.nodes.live (K.data_of node)
+        → result ≡ entering (K.data_of node) ∷ of_each (visits_of scene.now.nodes.live) (children_of scene.now.nodes.live (K.data_of node)) ++ leaving (K.data_of node) ∷ [] }
     // A node that isn't there has no visits.
     // Holds by `none` of `walk`.
-    ensures walk_of_a_gone_node_has_no_visits { lacks_node scene.now.live (K.data_of node) → result ≡ [] }
+    ensures walk_of_a_gone_node_has_no_visits { lacks_node scene.now.nodes.live (K.data_of node) → result ≡ [] }
 {
     scene.walk(node)
 }
@@ -330,7 +333,7 @@ pub fn descendants_lists_all_below<K: Key, T: Drop>(
     scene: &Scene<K, T>,
     node: K,
 ) -> Result<Vec<K>, AllocError>
-    ensures { IfOk result (λ keys. list_map K.data_of keys.items ≡ all_below scene.now.live (K.data_of node)) }
+    ensures { IfOk result (λ keys. list_map K.data_of keys.items ≡ all_below scene.now.nodes.live (K.data_of node)) }
 {
     scene.descendants(node)
 }
@@ -344,8 +347,8 @@ pub fn fold_up_calls_once_for_each_value<K: Key, T: Drop, A: Drop, F: FnMut(A, &
     start: A,
     f: F,
 ) -> Option<A>
-    requires { CallableUp F.FnMut scene.now.live (K.data_of node) f start }
-    ensures { IfSome result (FoldsUp F.FnMut scene.now.live (K.data_of node) f start) }
+    requires { CallableUp F.FnMut scene.now.nodes.live (K.data_of node) f start }
+    ensures { IfSome result (FoldsUp F.FnMut scene.now.nodes.live (K.data_of node) f start) }
 {
     scene.fold_up(node, start, f)
 }
@@ -354,10 +357,10 @@ pub fn fold_up_calls_once_for_each_value<K: Key, T: Drop, A: Drop, F: FnMut(A, &
 pub fn world<K: Key, T: Transform>(scene: &Scene<K, T>, node: K) -> Option<T>
     // The node's own value is put under that of its parent, and so on up to the root.
     // Refuses `world_puts_the_parent_under_the_child`: `some` of `world`.
-    ensures world_goes_up_to_the_root { IfSome result (IsComposed T.under (λ v. v) scene.now.live (K.data_of node)) }
+    ensures world_goes_up_to_the_root { IfSome result (IsComposed T.under (λ v. v) scene.now.nodes.live (K.data_of node)) }
     // Only a key that isn't there has none.
     // Refuses `world_misses_the_roots`: `none` of `world`.
-    ensures each_node_has_a_world { IfNone result (lacks_node scene.now.live (K.data_of node)) }
+    ensures each_node_has_a_world { IfNone result (lacks_node scene.now.nodes.live (K.data_of node)) }
 {
     scene.world(node)
 }
@@ -369,7 +372,7 @@ pub fn world_transform_goes_up_to_the_root<K: Key, T: HasTransform + Drop>(
     scene: &Scene<K, T>,
     node: K,
 ) -> Option<T::Transform>
-    ensures { IfSome result (IsComposed T.Transform.under T.transform_of scene.now.live (K.data_of node)) }
+    ensures { IfSome result (IsComposed T.Transform.under T.transform_of scene.now.nodes.live (K.data_of node)) }
 {
     scene.world_transform(node)
 }
@@ -381,13 +384,13 @@ pub fn world_transforms<K: Key, T: HasTransform + Drop>(
     // Each node has its transform in the coordinates of its root.
     // Refuses `world_transforms_double_the_roots`, `world_transforms_put_the_parent_under_the_child`: `each`
     // of `world_transforms`.
-    ensures each_transform_is_that_of_its_node { IfOk result (λ all. AreWorlds K.data_of T.Transform.under T.transform_of scene.now.live all.items) }
+    ensures each_transform_is_that_of_its_node { IfOk result (λ all. AreWorlds K.data_of T.Transform.under T.transform_of scene.now.nodes.live all.items) }
     // Each node is listed.
     // Refuses `world_transforms_leave_nodes_out`: `all` of `world_transforms`.
-    ensures world_transforms_lists_each_node { IfOk result (λ all. (k : KeyOf) → has_node scene.now.live k → 0 < times k (keys_of_pairs K.data_of all.items)) }
+    ensures world_transforms_lists_each_node { IfOk result (λ all. (k : KeyOf) → has_node scene.now.nodes.live k → 0 < times k (keys_of_pairs K.data_of all.items)) }
     // The roots come first, and behind them the children of each node that is listed.
     // Refuses `world_transforms_list_a_parent_for_its_child`: `order` of `world_transforms`.
-    ensures world_transforms_goes_by_level { IfOk result (λ all. GoesByLevel scene.now.live (keys_of_pairs K.data_of all.items)) }
+    ensures world_transforms_goes_by_level { IfOk result (λ all. GoesByLevel scene.now.nodes.live (keys_of_pairs K.data_of all.items)) }
 {
     scene.world_transforms()
 }

@@ -14,7 +14,7 @@ pub returns : goal.returns
 returns g c =
     let items = c.loop-key.below.items in
     let listed = list_map g.K.Key.data_of items in
-    let nodes = c.args.self.now.live in
+    let nodes = c.args.self.now.nodes.live in
     let node = g.K.Key.data_of c.args.node in
     let below = c.keys_below-key-items.ensures in
     let is : listed ≡ all_below nodes node = sym (ap (λ l. listed ++ l) c.in-None.ensures.steps.0 ∙ append-nil listed) ∙ c.loop-key.invariant.2 in

@@ -11,7 +11,7 @@ loop-step-init g c = grind (arith, climbing_start, c.inner-at.ensures, c.self.in
 
 pub returns-then-eq : goal.returns-then-eq
 returns-then-eq g c =
-    let live : has_node c.args.self.now.live (g.K.Key.data_of c.args.node) = rw (← c.self.view_is, ← c.inner-at.ensures)
+    let live : has_node c.args.self.now.nodes.live (g.K.Key.data_of c.args.node) = rw (← c.self.view_is, ← c.inner-at.ensures)
     (sym c.contains_key.ensures.value ∙ c.if-not-contains_key.false) in (
       λ _. (live, rw (← c.inner-other.ensures) (c.loop-step.invariant.1.1 (zero, (same_keys c.loop-step.at c.inner-other.result).0 (sym c.if-eq.ensures)))),
       λ _. refl,

@@ -3,4 +3,4 @@ use Rattle.std.specs.FinMap as map
 use Rattle.slotmap_scene.proofs.Scene.keys.Goals as goal
 
 pub returns : goal.returns
-returns g c = ap (list_map (λ e. e.0)) c.iter.ensures ∙ map-map (λ e. e.0) key_and_value (map.entries c.args.self.now.live)
+returns g c = ap (list_map (λ e. e.0)) c.iter.ensures ∙ map-map (λ e. e.0) key_and_value (map.entries c.args.self.now.nodes.live)

@@ -7,12 +7,12 @@ returns-clause-value g c = search rules
 
 pub returns-clause-live : goal.returns-clause-live
 returns-clause-live g c =
-    let nodes = c.args.self.now.live in
+    let nodes = c.args.self.now.nodes.live in
     let node = g.K.Key.data_of c.args.node in
     under_live (rw c.self.view_is at c.self.invariant) (parent_of nodes node) _ (behind_listed node _ (siblings_of nodes node) (sym (returns-clause-value g c)))
 
 pub returns-clause-same_parent : goal.returns-clause-same_parent
 returns-clause-same_parent g c =
-    let nodes = c.args.self.now.live in
+    let nodes = c.args.self.now.nodes.live in
     let node = g.K.Key.data_of c.args.node in
     under_parent (rw c.self.view_is at c.self.invariant) (parent_of nodes node) _ (behind_listed node _ (siblings_of nodes node) (sym (returns-clause-value g c)))

@@ -5,7 +5,7 @@ use Rattle.slotmap_scene.proofs.Scene.push_roots.Goals as goal
 pub loop-root-init : goal.loop-root-init
 loop-root-init g c =
     let gives = c.into_iter-root-iterator.ensures.into_iter_gives ∙ c.roots-root-items.ensures in
-    (tt, tt, record { walked = rw c.requires gives; ahead = λ k more. listed_root c.args.self.now.live k (rw gives at more); each = rw c.requires (All-nil _) })
+    (tt, tt, record { walked = rw c.requires gives; ahead = λ k more. listed_root c.args.self.now.nodes.live k (rw gives at more); each = rw c.requires (All-nil _) })
 
 pub index-requires : goal.index-requires
 index-requires g c = (first_ahead _ _ _ c.in-Some.ensures.steps _ c.loop-root.invariant.2.ahead).0.0

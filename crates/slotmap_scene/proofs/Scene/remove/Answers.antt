@@ -4,22 +4,22 @@ use Rattle.slotmap_scene.proofs.Scene.remove.Goals as goal
 
 pub returns-then-not-contains_key-clause-removed : goal.returns-then-not-contains_key-clause-removed
 returns-then-not-contains_key-clause-removed g c =
-    rw (← c.self.view_is, ← c.inner-node.ensures) (gone_within c.self.inside.nodes.live c.self.invariant c.inner-node.result (sym c.contains_key.ensures.value ∙ c.if-not-contains_key.true))
+    rw (← c.self.view_is, ← c.inner-node.ensures) (gone_within c.self.inside.nodes.nodes.live c.self.invariant c.inner-node.result (sym c.contains_key.ensures.value ∙ c.if-not-contains_key.true))
 
 pub returns-then-not-contains_key-clause-others : goal.returns-then-not-contains_key-clause-others
 returns-then-not-contains_key-clause-others g c = rw (← c.self.view_is, ← c.inner-node.ensures)
-    (λ k out. gone_forgotten c.self.inside.nodes.live c.self.invariant c.inner-node.result (sym c.contains_key.ensures.value ∙ c.if-not-contains_key.true) k)
+    (λ k out. gone_forgotten c.self.inside.nodes.nodes.live c.self.invariant c.inner-node.result (sym c.contains_key.ensures.value ∙ c.if-not-contains_key.true) k)
 
 pub returns-then-not-contains_key-clause-for_good : goal.returns-then-not-contains_key-clause-for_good
 returns-then-not-contains_key-clause-for_good g c = rw (← c.self.view_is, ← c.inner-node.ensures)
-    (λ k live within. absurd (let none = gone_within c.self.inside.nodes.live c.self.invariant c.inner-node.result (sym c.contains_key.ensures.value ∙ c.if-not-contains_key.true) k within in cc))
+    (λ k live within. absurd (let none = gone_within c.self.inside.nodes.nodes.live c.self.invariant c.inner-node.result (sym c.contains_key.ensures.value ∙ c.if-not-contains_key.true) k within in cc))
 
 pub returns-then-not-contains_key-clause-leaves : goal.returns-then-not-contains_key-clause-leaves
 returns-then-not-contains_key-clause-leaves g c = leaves_none _
 
 pub returns-clause-for_good : goal.returns-clause-for_good
 returns-clause-for_good g c = rw (← c.self.view_is, ← c.inner-node.ensures)
-    (λ k live within. left_spent c.self.inside.nodes c.remove_tree.new.self true c.contains_key.ensures.valid k c.remove_tree.ensures.leaves live (c.remove_tree.ensures.removed k within))
+    (λ k live within. left_spent c.self.inside.nodes.nodes c.remove_tree.new.self.nodes true c.contains_key.ensures.valid k c.remove_tree.ensures.leaves live (c.remove_tree.ensures.removed k within))
 
 pub returns-clause-stale : goal.returns-clause-stale
 returns-clause-stale g c = spent_leaves _ _ (rw (← c.self.view_is) c.remove_tree.ensures.leaves)

@@ -16,7 +16,7 @@ returns c =
     let upper = c.in_ok-upper.ensures in
     let lower = c.in_ok-lower.ensures in
     let tip = c.in_ok-tip.ensures in
-    let at_upper : IsWorld shifted c.add_root.new.self.live c.in_ok-upper.upper c.args.shoulder =
+    let at_upper : IsWorld shifted c.add_root.new.self.nodes.live c.in_ok-upper.upper c.args.shoulder =
     subst (λ m. IsWorld shifted m c.in_ok-upper.upper c.args.shoulder) (sym upper.adds.live) (world_added_root _ _ c.args.shoulder shifted) in
     let at_lower = world_added_child _ _ _ _ lower.gains lower.fresh shifted _ at_upper in
     let at_tip = world_added_child _ _ _ _ tip.gains tip.fresh shifted _ at_lower in

@@ -7,7 +7,7 @@ use Rattle.structure_examples.proofs.arm.move_hand.Goals as goal
 
 pub prove_eq-unreachable-requires : goal.prove_eq-unreachable-requires
 prove_eq-unreachable-requires c =
-    let own : value_of c.args.arm.now.live c.args.hand ≡ Some c.in_ok-shift.field-0.now = sym c.in_ok-shift.ensures in
+    let own : value_of c.args.arm.now.nodes.live c.args.hand ≡ Some c.in_ok-shift.field-0.now = sym c.in_ok-shift.ensures in
     let here = world_moved _ _ c.args.hand c.args.piece c.in-Ok.ensures.trees c.in-Ok.ensures.values c.in-Ok.ensures.no_cycle shifted _ c.in_ok-base.base own
     (c.in_ok-base.ensures.joined shifted_joins) in
     let is = one_world _ shifted c.args.hand c.in_ok-place.place _ (c.in_ok-place.ensures.joined shifted_joins) here in

@@ -1,7 +1,6 @@
 use Rattle.std.proofs.Common.{◌≡◌, ap, option_map, refl, ◌∙◌}
 use Rattle.slotmap_bounded.specs.Changed.{changed}
-use Rattle.slotmap.specs.Words.{Content}
-use Rattle.slotmap_scene.specs.{Below.all_below, Family.behind, Node.Node}
+use Rattle.slotmap_scene.specs.{Below.all_below, Family.behind, Node.Forest, Node.with_trees}
 use Rattle.slotmap_scene.proofs.Callers.{below_changed, below_end, below_here, below_less, below_others, below_start, below_still}
 use Rattle.structure_examples.specs.declared.dirty.Part.{Part}
 use Rattle.structure_examples.specs.Marked.{dirtied}
@@ -11,16 +10,16 @@ pub loop-at-init : goal.loop-at-init
 loop-at-init g c = record { goes = below_start _ c.len.ensures.scene _ _ (c.next_below-at.ensures.first refl) _ _ (λ k. refl); below = refl; rest = refl }
 
 -- the key behind this one, among those that were below the node at first
-after : (g : _) (c : goal.After-next_below-at-in-Some g) → option_map g.K.Key.data_of c.next_below-at-in-Some.result ≡ behind (g.K.Key.data_of c.in-Some.key) (all_below c.args.scene.now.live (g.K.Key.data_of c.args.node))
+after : (g : _) (c : goal.After-next_below-at-in-Some g) → option_map g.K.Key.data_of c.next_below-at-in-Some.result ≡ behind (g.K.Key.data_of c.in-Some.key) (all_below c.args.scene.now.nodes.live (g.K.Key.data_of c.args.node))
 after g c =
-    let same = ap (λ s. all_below s.live (g.K.Key.data_of c.args.node)) c.mark.ensures ∙ below_still _ _ dirtied (λ n. refl) _ ∙ c.loop-at.invariant.below in
+    let same = ap (λ s. all_below s.nodes.live (g.K.Key.data_of c.args.node)) c.mark.ensures ∙ below_still _ _ dirtied (λ n. refl) _ ∙ c.loop-at.invariant.below in
     c.next_below-at-in-Some.ensures.along (rw same (below_here _ _ _ _ (rw c.in-Some.is at c.loop-at.invariant.goes))) ∙ ap (behind (g.K.Key.data_of c.in-Some.key)) same
 
 pub loop-at-preserved : goal.loop-at-preserved
 loop-at-preserved g c = rw c.mark.ensures (record {
   goes = below_changed _ _ dirtied _ _ (rw c.in-Some.is at c.loop-at.invariant.goes) _ (after g c);
   below = below_still _ _ dirtied (λ n. refl) _ ∙ c.loop-at.invariant.below;
-  rest = ap (λ (s : Content (Node Part)). record s { live = changed c.loop-at.scene.live (g.K.Key.data_of c.in-Some.key) dirtied }) c.loop-at.invariant.rest;
+  rest = ap (λ (s : Forest Part). with_trees s (changed c.loop-at.scene.nodes.live (g.K.Key.data_of c.in-Some.key) dirtied)) c.loop-at.invariant.rest;
 })
 
 pub loop-at-smaller : goal.loop-at-smaller

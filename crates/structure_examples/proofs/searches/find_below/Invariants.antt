@@ -10,6 +10,6 @@ abbrev pub invariant-loop-below : goal.invariant-loop-below
 invariant-loop-below l = record {
   can_next : (goal.iterator-loop-below).can_next l.below-iterator;
   is_finite : (goal.iterator-loop-below).is_finite l.below-iterator;
-  only : (k : Key) → 0 < times k l.below-iterator → has_node l.scene.live k × IsWithin l.scene.live k l.fn.node × (k ≢ l.fn.node);
-  left : (k : Key) → IsWithin l.scene.live k l.fn.node → k ≢ l.fn.node → value_of l.scene.live k ≡ Some l.fn.value → 0 < times k l.below-iterator;
+  only : (k : Key) → 0 < times k l.below-iterator → has_node l.scene.nodes.live k × IsWithin l.scene.nodes.live k l.fn.node × (k ≢ l.fn.node);
+  left : (k : Key) → IsWithin l.scene.nodes.live k l.fn.node → k ≢ l.fn.node → value_of l.scene.nodes.live k ≡ Some l.fn.value → 0 < times k l.below-iterator;
 }

@@ -1,5 +1,5 @@
 use Rattle.slotmap_scene.proofs.Common.{List, [], ap, arith, length, length-replicate, list_cleared, list_of, ℕ, ◌∙◌}
-use Rattle.slotmap_scene.proofs.SceneSteps.{bare_kept, bare_seen, family_leaves, family_space, family_valid}
+use Rattle.slotmap_scene.proofs.SceneSteps.{bare_kept, bare_seen, family_leaves, family_valid, forest_memory}
 use Rattle.slotmap_scene.proofs.family.Nodes.clear.Goals as goal
 
 pub invariant_of-self : goal.invariant_of-self
@@ -16,5 +16,6 @@ returns g c =
       empty = bare_seen c.clear.new.self c.clear.ensures.empty at.parents.items c.clear-2.new.self;
       leaves = family_leaves at.values at.parents.items at.children c.clear.new.self at.parents.items c.clear-2.new.self c.clear.ensures.leaves;
       valid = family_valid at.values at.parents.items at.children c.clear.ensures.valid.before;
-      capacity = family_space at.values at.parents.items at.children c.clear.new.self at.parents.items c.clear-2.new.self c.clear.ensures.bound c.clear.ensures.valid.capacity;
+      capacity = forest_memory at.values at.parents.items at.children c.clear.new.self at.parents.items c.clear-2.new.self c.clear.ensures.bound c.clear.ensures.valid.capacity
+          (ap (λ l. l.capacity) c.clear-2.ensures) _;
     })

@@ -12,7 +12,7 @@ take_out-requires g c =
     record {
       parent = left_below c.self.invariant c.self.view_is c.args.node c.requires.there _ (rw c.deref.ensures.value at c.parent_number-parent.ensures) some;
       child = left_listed c.self.invariant c.self.view_is c.args.node c.requires.there _ (rw c.deref.ensures.value at c.parent_number-parent.ensures) some
-          (λ p own. listed_once c.args.self.now.live c.requires.scene.listed p c.args.node own);
+          (λ p own. listed_once c.args.self.now.nodes.live c.requires.scene.listed p c.args.node own);
     }
 
 pub invariant_of-self : goal.invariant_of-self

@@ -1,5 +1,5 @@
 use Rattle.slotmap_scene.proofs.Common.{IfSome_then, Some, put_in_place, rules, same_Some, ◌∙◌}
-use Rattle.slotmap_scene.proofs.Moved.{hung_alone, hung_keys, hung_sibling, keys_placed, moved_placed, scene_placed, spent_alike, times_put, values_placed}
+use Rattle.slotmap_scene.proofs.Moved.{hung_alone, hung_keys, hung_sibling, keys_placed, moved_placed, placed_memory, scene_placed, spent_alike, times_put, values_placed}
 use Rattle.slotmap_scene.proofs.family.Nodes.move_to.Goals as goal
 
 pub attach-requires : goal.attach-requires
@@ -21,6 +21,7 @@ returns g c =
       values = values_placed c.requires.scene c.args.node o put;
       scene = scene_placed c.requires.scene c.args.node o put c.requires.node c.requires.parent (λ x ks. times_put c.args.node x c.args.side c.args.sibling ks)
           (λ p is within. c.requires.no_cycle (rw (same_Some _ _ is) within));
-      stale = spent_alike c.args.self.now _ (keys_placed c.requires.scene c.args.node o put);
+      stale = spent_alike c.args.self.now.nodes _ (keys_placed c.requires.scene c.args.node o put);
+      capacity = placed_memory c.args.self.now _ (keys_placed c.requires.scene c.args.node o put);
       moved = search rules;
     })

@@ -1,6 +1,6 @@
-use Rattle.slotmap_scene.proofs.Common.{ap, is_some, leaves_by_removal, sym, true, ◌∙◌}
+use Rattle.slotmap_scene.proofs.Common.{ap, is_some, leaves_by_removal, refl, sym, true, ◌∙◌}
 use Rattle.slotmap_scene.proofs.{Families.seen_value, Placing.is_live}
-use Rattle.slotmap_scene.proofs.SceneSteps.{family_leaves, family_space, gone_kept, gone_seen}
+use Rattle.slotmap_scene.proofs.SceneSteps.{family_leaves, forest_memory, gone_kept, gone_seen}
 use Rattle.slotmap_scene.proofs.family.Nodes.remove.Goals as goal
 
 pub unreachable-requires : goal.unreachable-requires
@@ -20,5 +20,5 @@ returns g c =
           (rw (← c.self.view_is) at c.requires.alone) (rw (← c.self.view_is) at c.requires.childless) c.remove.new.self c.remove.ensures.live c.remove.ensures.bound;
       leaves = family_leaves at.values at.parents.items at.children c.remove.new.self at.parents.items at.children
           (leaves_by_removal true at.values c.remove.ensures.valid.before c.args.node (ap is_some (sym c.in-Some.ensures.value)) c.remove.new.self c.in-Some.ensures.removes);
-      capacity = family_space at.values at.parents.items at.children c.remove.new.self at.parents.items at.children c.remove.ensures.bound c.remove.ensures.valid.capacity;
+      capacity = forest_memory at.values at.parents.items at.children c.remove.new.self at.parents.items at.children c.remove.ensures.bound c.remove.ensures.valid.capacity refl _;
     })

@@ -4,7 +4,7 @@ use Rattle.slotmap_scene.proofs.Removals.{all_removed, down_smaller, goes_down, 
 use Rattle.slotmap_scene.proofs.family.Nodes.remove_tree.Goals as goal
 
 pub loop-child-init : goal.loop-child-init
-loop-child-init g c = grind (arith, removing_start c.args.self.now.live c.args.root c.requires.scene c.requires.there, leaves_none c.args.self.now)
+loop-child-init g c = grind (arith, removing_start c.args.self.now.nodes.live c.args.root c.requires.scene c.requires.there, leaves_none c.args.self.now.nodes)
 
 pub loop-child-smaller-in-Some : goal.loop-child-smaller-in-Some
 loop-child-smaller-in-Some g c = down_smaller _ _ _ _ c.loop-child.invariant.removing c.in-Some.child (sym c.in-Some.ensures) c.requires.scene.tree
@@ -17,7 +17,7 @@ loop-child-preserved-in-Some g c = record {
 }
 
 pub prune-value-requires-clause-leaf : goal.prune-value-requires-clause-leaf
-prune-value-requires-clause-leaf g c = none_last (children_of c.loop-child.self.live c.loop-child.at) (sym c.in-None.ensures)
+prune-value-requires-clause-leaf g c = none_last (children_of c.loop-child.self.nodes.live c.loop-child.at) (sym c.in-None.ensures)
 
 pub returns-then-eq : goal.returns-then-eq
 returns-then-eq g c =

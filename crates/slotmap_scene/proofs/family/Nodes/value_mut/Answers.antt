@@ -1,4 +1,5 @@
-use Rattle.slotmap_scene.proofs.Common.{Content, Node, ap, arith, family, same_lent, same_unlent, sym, with_value, ◌∙◌}
+use Rattle.slotmap_scene.proofs.Common.{Forest, ap, arith, forest, same_lent, same_unlent, sym, with_trees, with_value, ◌∙◌}
+use Rattle.std.specs.Vec.{vec_capacity}
 use Rattle.slotmap_scene.proofs.{Families.seen_value, SceneSteps.written_kept, SceneSteps.written_seen}
 use Rattle.slotmap_scene.proofs.family.Nodes.value_mut.Goals as goal
 
@@ -8,9 +9,9 @@ invariant_of-self-lent g c = λ w. written_kept c.self.invariant c.args.node c.i
 pub returns-in-Some : goal.returns-in-Some
 returns-in-Some g c =
     let k = c.args.node in (
-      same_lent _ _ _ (λ w. ap (λ x. record (family c.self.inside.values c.self.inside.parents.items c.self.inside.children) { live = x })
+      same_lent _ _ _ (λ w. ap (λ x. with_trees (forest c.self.inside.values c.self.inside.parents.items c.self.inside.children (vec_capacity c.self.inside.parents)) x)
           (written_seen c.self.invariant k c.in-Some.value.now w (sym c.in-Some.ensures.value))
-          ∙ ap (λ (s : Content (Node g.row.T.Denot)). record s { live = with_value s.live k w }) c.self.view_is),
+          ∙ ap (λ (s : Forest g.row.T.Denot). with_trees s (with_value s.nodes.live k w)) c.self.view_is),
       record {
         writes_back = tt;
         value = rw (← c.self.view_is)
