@@ -1,13 +1,14 @@
 -- What each change of the map and of the links leaves of a list.
 use Rattle.slotmap_list.proofs.Common.{without_values, get-insert_here, get-insert_other, live-insert_still, same_or_other, alone-written, times_joined, with_value_at, AreLiveIndices, put_by_place, removed_here, removed_other}
-use Rattle.slotmap_list.proofs.Common.{◌∙◌, ClonesEqual, with_value, clone_live, owners_stay, same_or_not, one_itself, times_first, times_gone, elements_at, put_number}
-use Rattle.slotmap_list.proofs.Common.{length, is_some, key_cmp, Content, IsContent, IsCloneBy, IsCloneOf, AreClones, same_live, with_list, list_now, one_other, Sequence, at_index, AreApart, is_place}
-use Rattle.slotmap_list.proofs.Common.{zero, true, List, Option, Some, None, refl, subst, arith, IsLive, Inserts, Removes, IsNew, Lists, list_of, times, IsFree, without, IsKept, Place}
+use Rattle.slotmap_list.proofs.Common.{◌∙◌, with_value, clone_live, owners_stay, same_or_not, one_itself, times_first, times_gone, elements_at, put_number}
+use Rattle.slotmap_list.proofs.Common.{length, is_some, key_cmp, Content, IsContent, IsCloneBy, AreClones, same_live, with_list, list_now, one_other, Sequence, AreApart, is_place}
+use Rattle.slotmap_list.proofs.Common.{zero, true, List, Some, None, refl, subst, arith, IsLive, Inserts, Removes, IsNew, Lists, list_of, times, IsFree, without, IsKept, Place}
 use Rattle.slotmap_list.proofs.Common.{ℕ, suc, [], inl, inr, sym, ap, bound, Key, same, used, used_alone}
 use Rattle.std.proofs.Common.{◌≡◌, ◌≢◌, ◌+◌, ◌<◌, ◌≤◌, ◌∷◌, ◌++◌}
 use Rattle.std.proofs.Math.{ListN.get_or-eq_default, Nat.eq-zero-or-pos}
-use Rattle.slotmap_list.proofs.Parts.{content_apart, element_of, elements_first, rest_indices as indices_behind, put_between, number_without, element_without, at_is, at_live, in_first, IsPlace}
+use Rattle.slotmap_list.proofs.Parts.{content_apart, put_between, number_without, element_without, IsPlace}
 use Rattle.slotmap_list.proofs.Parts.{place_in, part_left, placed}
+use Rattle.slotmap_list.proofs.Copies.{clones_by}
 use Rattle.slotmap_list.proofs.Elements.{splits}
 use Rattle.slotmap_list.proofs.Seen.{once, own, stands}
 use Rattle.std.specs.FinMap as map
@@ -224,29 +225,9 @@ module _ {T : Type 0} (is_clone : T → T → Type 0) {c copy : Content T} {s : 
   pub kept_cloned : bound copy ≡ bound c → (s' : Lists) → s'.lists ≡ s.lists → s'.members ≡ s.members → IsKept copy s'
   kept_cloned same s' lists members = kept_alike kept copy (clone_live is_clone c copy clones) s' lists (omega arith) (omega (arith, kept.covered))
 
-  clones_by : AreApart copy.live → (is : List ℕ) → AreLiveIndices c.live is → AreClones is_clone (elements_at c.live is) (elements_at copy.live is)
-  clones_by apart [] all = tt
-  clones_by apart (i ∷ is) all = let e = element_of all i (in_first i is) in let found = at_is c.live i e.0 e.1 in
-      by e.0 e.1 found.0 (map.get copy.live e.0.0) refl (subst (λ o. IsCloneOf is_clone o (map.get copy.live e.0.0)) found.1 (clones.live e.0.0)) (clones_by apart is (indices_behind all))
-    where
-      by : (e : Key × T) → at_index c.live i ≡ Some e → e.0.index ≡ i → (o : Option T) → map.get copy.live e.0 ≡ o → IsCloneOf is_clone (Some e.1) o
-          → AreClones is_clone (elements_at c.live is) (elements_at copy.live is) → AreClones is_clone (elements_at c.live (i ∷ is)) (elements_at copy.live (i ∷ is))
-      by e at index None found is_one others = absurd is_one
-      by e at index (Some w) found is_one others =
-          let there : at_index copy.live i ≡ Some (e.0, w) = ap (at_index copy.live) (sym index) ∙ at_live copy.live apart e.0 w found in
-          subst (λ (x : List (Key × T) × List (Key × T)). AreClones is_clone x.0 x.1)
-          (λ j. (sym (elements_first c.live i is e at) j, sym (elements_first copy.live i is (e.0, w) there) j)) ((refl, is_one), others)
-
   pub elements_cloned : AreClones is_clone (elements_at c.live (list_of s 0)) (elements_at copy.live (list_of s 0))
-  elements_cloned = clones_by (λ a b of_a of_b. kept.indices.apart a b (sym (clone_live is_clone c copy clones a) ∙ of_a) (sym (clone_live is_clone c copy clones b) ∙ of_b))
+  elements_cloned = clones_by is_clone clones (λ a b of_a of_b. kept.indices.apart a b (sym (clone_live is_clone c copy clones a) ∙ of_a) (sym (clone_live is_clone c copy clones b) ∙ of_b))
       (list_of s 0) kept.indices
-
--- where clones equal their values, so do the lists
-pub clones_are_same : {T : Type 0} (is_clone : T → T → Type 0) → ClonesEqual is_clone → (xs ys : List (Key × T)) → AreClones is_clone xs ys → ys ≡ xs
-clones_are_same is_clone same [] [] are = refl
-clones_are_same is_clone same [] (y ∷ ys) are = absurd are
-clones_are_same is_clone same (x ∷ xs) [] are = absurd are
-clones_are_same is_clone same (x ∷ xs) (y ∷ ys) are = λ i. (are.0.0 i, same x.1 y.1 are.0.1 i) ∷ clones_are_same is_clone same xs ys are.1 i
 
 -- a new list has no indices
 pub kept_new : {T : Type 0} (c : Content T) (s : Lists) → s.lists ≡ [] ∷ [] → IsNew c → bound c < s.members → IsKept c s

@@ -1,6 +1,7 @@
 mod Adding
 pub mod Callers
 mod Common
+pub mod Copies
 mod Draining
 pub mod Elements
 mod Ends

@@ -80,7 +80,7 @@ pub use values::{Cursors, Values};
 ///
 /// A clause sees `elements`, the list of the cursors with their values, from front to back, and
 /// `cursors`, by which it says that a cursor is never used again. `memory` is what the list has memory
-/// for: a call that keeps it asks for none.
+/// for: where a call keeps it, no vector grows.
 pub struct StableList<K, T> {
     // The values, each under the cursor of its element.
     values: BoundedMap<K, T>,

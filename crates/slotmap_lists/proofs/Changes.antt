@@ -4,10 +4,11 @@ use Rattle.slotmap_lists.proofs.Common.{eq-zero-or-pos, get-insert_here, get-ins
 use Rattle.slotmap_lists.proofs.Common.{Inserts, Removes, AreApart, same_or_not, Lists, list_of, with_list, times, IsFree, elements_at, AreLiveIndices}
 use Rattle.slotmap_lists.proofs.Common.{is_spot, element_put, index_put, spot_in, without, Place, absent, times_none, element_without, part_left}
 use Rattle.slotmap_lists.proofs.Common.{put_between, content_apart, home_of, one_if, lists_at, AreListed, elements_of, value_under, with_elements, without_key, put_into}
-use Rattle.std.proofs.Common.{◌≡◌, ◌≢◌, ◌+◌, ◌<◌, ◌≤◌, ◌∷◌, ◌++◌}
-use Rattle.slotmap_lists.proofs.Listed.{seen_list, as_many_lists, once, in_home, inside_home, apart_home, home_below, stands, stands_in, value_at}
+use Rattle.std.proofs.Common.{◌≡◌, ◌≢◌, ◌<◌, ◌≤◌}
+use Rattle.slotmap_lists.proofs.Listed.{seen_list, as_many_lists, once, inside_home, apart_home, home_below, stands, stands_in, value_at}
 use Rattle.slotmap_lists.proofs.Spots.{IsSpot, spot_at, spot_there}
 use Rattle.slotmap_lists.proofs.Relinks.{Relinks, relinks_taken, relinks_put, relinks_then}
+use Rattle.slotmap_lists.proofs.Callers.{with_long, with_other, without_each, without_long}
 use Rattle.slotmap_lists.proofs.Which.{map_alike, map_one}
 use Rattle.std.specs.FinMap as map
 use Rattle.slotmap_links.specs.Lists as numbers
@@ -115,6 +116,12 @@ module _ {T : Type 0} {c : Content T} {homes : List ℕ} {s : Lists} (kept : Are
       lists_removed = lists_same c.live new.live rest (λ p. part_left c.live new.live k apart_left
           (λ q u other is. other_same q (λ e. other (ap (λ (q : Key). q.index) e)) ∙ is) (list_of rest p) (rest_indices p) (taken.here p)) ∙ lists_left
 
+      pub each_removed : (q : ℕ) → elements_of q (lists_at new.live rest) ≡ without k (elements_of q lists)
+      each_removed q = ap (elements_of q) lists_removed ∙ without_each k lists q
+
+      pub as_many_removed : length (lists_at new.live rest) ≡ length lists
+      as_many_removed = ap length lists_removed ∙ without_long k lists
+
     -- it is put into a place of a list
     module _ (q : ℕ) (place : Place) (there : q < length s.lists) (can : is_spot place (elements_of q (without_key k lists)) ≡ true) where
       seen_left : elements_of q (without_key k lists) ≡ elements_at c.live (list_of rest q)
@@ -160,7 +167,7 @@ module _ {T : Type 0} {c : Content T} {homes : List ℕ} {s : Lists} (kept : Are
     pub here_new : map.get new.live k ≡ Some v
     here_new = ap (λ m. map.get m k) inserts.live ∙ get-insert_here c.live k v
 
-    still : (p : Key) → p ≢ k → map.get new.live p ≡ map.get c.live p
+    pub still : (p : Key) → p ≢ k → map.get new.live p ≡ map.get c.live p
     still p other = ap (λ m. map.get m p) inserts.live ∙ get-insert_other c.live k v p other
 
     stays : (p : Key) → IsLive c p → IsLive new p
@@ -210,3 +217,9 @@ module _ {T : Type 0} {c : Content T} {homes : List ℕ} {s : Lists} (kept : Are
         ∙ sym (spot_new.element (k, v)) ∙ ap (element_put place (k, v)) (sym (seen_list c.live s q)))
         ∙ ap (with_elements q (element_put place (k, v) (elements_of q lists)))
         (lists_same c.live new.live s (λ p. part_left c.live new.live k apart_new other_same (list_of s p) (kept.indices p) (none_yet p)))
+
+    pub others_put : (p : ℕ) → p ≢ q → elements_of p (lists_at new.live more_links) ≡ elements_of p lists
+    others_put p other = ap (elements_of p) lists_put ∙ with_other q p (element_put place (k, v) (elements_of q lists)) lists other
+
+    pub as_many_put : length (lists_at new.live more_links) ≡ length lists
+    as_many_put = ap length lists_put ∙ with_long q (element_put place (k, v) (elements_of q lists)) lists

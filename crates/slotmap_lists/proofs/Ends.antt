@@ -1,6 +1,6 @@
 -- An element at an end of one of the lists, which is taken out of all.
-use Rattle.slotmap_lists.proofs.Common.{zero, suc, length, is_some, ◌∙◌, append-nil, ℕ, List, [], Some, None, refl, sym, ap, subst, arith, Key, value_of, first_or, last_or, without, IsOnce, read_map}
-use Rattle.slotmap_lists.proofs.Common.{keys_total, exact_keys, itself, cond, key_times, times_some, times_none, times-append, none_there, once_if, splits, elements_of, all_elements, value_under, without_key}
+use Rattle.slotmap_lists.proofs.Common.{zero, suc, is_some, ◌∙◌, append-nil, ℕ, List, [], Some, None, refl, sym, ap, subst, arith, Key, value_of, first_or, last_or, without, IsOnce, read_map}
+use Rattle.slotmap_lists.proofs.Common.{keys_total, exact_keys, itself, cond, key_times, times_some, times-append, none_there, once_if, splits, elements_of, all_elements, value_under, without_key}
 use Rattle.std.proofs.Common.{◌≡◌, ◌≢◌, ◌+◌, ◌≤◌, ◌<◌, ◌∷◌, ◌++◌}
 use Rattle.slotmap_list.proofs.Elements.{absent, at_most_once, absent_before, back_of, front_of, last_in}
 use Rattle.slotmap_lists.proofs.Which.{value_first, value_later}

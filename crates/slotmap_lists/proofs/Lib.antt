@@ -1,6 +1,9 @@
 mod Arriving
+pub mod Callers
 mod Changes
+mod Clearing
 mod Common
+mod Copied
 mod Ends
 mod Listed
 mod Moved

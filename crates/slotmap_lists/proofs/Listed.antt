@@ -1,14 +1,19 @@
 -- What the map, the links and the homes say of the lists.
-use Rattle.slotmap_lists.proofs.Common.{length, is_some, ◌∙◌, option_map, ℕ, List, [], Option, Some, None, inl, inr, refl, sym, ap, arith, true, false, get_or-eq_default, read_map, eq-zero-or-pos}
+use Rattle.slotmap_lists.proofs.Common.{length, is_some, ◌∙◌, option_map, ℕ, List, [], Option, Some, None, IfSome, cond, itself, exact_keys, same_or_not, inl, inr, refl, sym, ap, arith, true, false, get_or-eq_default, read_map, eq-zero-or-pos}
 use Rattle.slotmap_lists.proofs.Common.{Key, key_cmp, Content, IsLive, len_alike, keys_total, some_is, one_itself, one_other, Lists, list_of, times, IsIn, elements_at, key_there}
 use Rattle.slotmap_lists.proofs.Common.{value_of, first_or, last_or, key_after, key_before, IsOnce, none_there, once_if, once_long, times_none, key_times, IsAt, stands_at, value_there, value_none}
 use Rattle.slotmap_lists.proofs.Common.{next_there, prev_there, first_at, last_at, as_often, home_of, lists_at, AreListed, elements_of, all_elements, value_under, list_with, number_with, length-map}
-use Rattle.std.proofs.Common.{◌≡◌, ◌≢◌, ◌+◌, ◌<◌, ◌≤◌, ◌∷◌, ◌++◌}
+use Rattle.std.proofs.Common.{◌≡◌, ◌≢◌, ◌<◌, ◌≤◌}
 use Rattle.std.proofs.lemmas.Bool.{cases_lt}
+use Rattle.slotmap_list.proofs.Elements.{front_of, last_in, some_there, after_stands, before_stands}
 use Rattle.slotmap_lists.proofs.Relinks.{one_most}
 use Rattle.slotmap_lists.proofs.Which.{StandsIn, none_joined, none_list, none_number, stands_joined, stands_list, stands_number, times_in}
 use Rattle.std.specs.FinMap as map
 use Rattle.slotmap_links.specs.Lists as numbers
+
+first_in : {T : Type 0} (es : List (Key × T)) (k : Key) → first_or es None ≡ Some k → is_some (value_of k es) ≡ true
+first_in es k first = let f = front_of es k first in
+    ap is_some (ap (value_of k) f.2 ∙ ap (λ b. cond b (Some f.0) (value_of k f.1)) (itself keys_total exact_keys k))
 
 module _ {T : Type 0} (m : map.FinMap key_cmp T) (s : Lists) where
   -- each list of elements, and how many there are
@@ -110,6 +115,17 @@ module _ {T : Type 0} {c : Content T} {homes : List ℕ} {s : Lists} (kept : Are
   pub number_is : (k : Key) → IsLive c k → number_with k lists ≡ Some (home k)
   number_is k live = let v = some_is (map.get c.live k) live in stands_number k v.0 lists (home k) (stands_in k v.0 v.1)
 
+  -- a key that stands in a list is in that one
+  number_there : (k : Key) (p : ℕ) → is_some (value_of k (elements_of p lists)) ≡ true → number_with k lists ≡ Some p
+  number_there k p there = by (map.get c.live k) refl
+    where
+      by : (o : Option T) → map.get c.live k ≡ o → number_with k lists ≡ Some p
+      by None gone = absurd (let none = nowhere k gone p in cc)
+      by (Some v) found = elim (same_or_not p (home k)) [
+        | inl is ↦ number_is k (ap is_some found) ∙ ap Some (sym is)
+        | inr other ↦ absurd (let none = (stands_in k v found).only p other in cc)
+      ]
+
   gone_if : (k : Key) → map.contains_key c.live k ≡ false → map.get c.live k ≡ None
   gone_if k gone = by (map.get c.live k) gone
     where
@@ -122,6 +138,29 @@ module _ {T : Type 0} {c : Content T} {homes : List ℕ} {s : Lists} (kept : Are
 
   pub no_number : (k : Key) → map.contains_key c.live k ≡ false → number_with k lists ≡ None
   no_number k gone = none_number k lists (nowhere k (gone_if k gone))
+
+  -- the cursors that a call returns stand, and in which list
+  module _ {K : Type 0} (data_of : K → Key) where
+    pub stand_all : (r : Option K) → IfSome r (λ key. IsLive c (data_of key)) → IfSome r (λ key. is_some (value_under (data_of key) lists) ≡ true)
+    stand_all None live = live
+    stand_all (Some key) live = sym (stands_if (data_of key)) ∙ live
+
+    pub first_number : (p : ℕ) (r : Option K) → option_map data_of r ≡ first_or (elements_of p lists) None → IfSome r (λ key. number_with (data_of key) lists ≡ Some p)
+    first_number p None is = tt
+    first_number p (Some key) is = number_there (data_of key) p (first_in (elements_of p lists) (data_of key) (sym is))
+
+    pub last_number : (p : ℕ) (r : Option K) → option_map data_of r ≡ last_or (elements_of p lists) None → IfSome r (λ key. number_with (data_of key) lists ≡ Some p)
+    last_number p None is = tt
+    last_number p (Some key) is = number_there (data_of key) p (some_there (data_of key) (elements_of p lists) (last_in (elements_of p lists) (data_of key) (sym is)))
+
+    module _ (k : Key) (live : IsLive c k) where
+      pub after_number : (r : Option K) → option_map data_of r ≡ key_after k (list_with k lists) → IfSome r (λ key. number_with (data_of key) lists ≡ number_with k lists)
+      after_number None is = tt
+      after_number (Some key) is = number_there (data_of key) (home k) (after_stands k (data_of key) (elements_of (home k) lists) (is ∙ ap (key_after k) (list_is k live))) ∙ sym (number_is k live)
+
+      pub before_number : (r : Option K) → option_map data_of r ≡ key_before None k (list_with k lists) → IfSome r (λ key. number_with (data_of key) lists ≡ number_with k lists)
+      before_number None is = tt
+      before_number (Some key) is = number_there (data_of key) (home k) (before_stands k (data_of key) (elements_of (home k) lists) (is ∙ ap (key_before None k) (list_is k live))) ∙ sym (number_is k live)
 
   -- there is a link for the index of a live key, and a home
   module _ (k : Key) (live : IsLive c k) (i : ℕ) (same : i ≡ k.index) where

@@ -1,7 +1,7 @@
 -- A number that is taken out of a list of numbers, and put into another one.
-use Rattle.slotmap_lists.proofs.Common.{length, ◌∙◌, ℕ, List, [], inl, inr, ap, arith, sym, list_now, list_other, owners_stay, same_or_not, one_itself, one_other, times_first, times_joined}
+use Rattle.slotmap_lists.proofs.Common.{length, ◌∙◌, ℕ, List, inl, inr, ap, arith, sym, list_now, list_other, owners_stay, same_or_not, one_itself, one_other, times_first, times_joined}
 use Rattle.slotmap_lists.proofs.Common.{times_gone, times_without, Lists, list_of, with_list, times, one_if}
-use Rattle.std.proofs.Common.{◌≡◌, ◌≢◌, ◌+◌, ◌<◌, ◌≤◌, ◌∷◌, ◌++◌, refl}
+use Rattle.std.proofs.Common.{◌≡◌, ◌≢◌, ◌<◌, ◌≤◌, ◌∷◌, ◌++◌, refl}
 use Rattle.slotmap_links.specs.Lists as numbers
 
 pub one_most : (a b : ℕ) → one_if a b ≤ 1

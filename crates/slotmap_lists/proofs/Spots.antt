@@ -1,7 +1,7 @@
 -- A place in a list: what stands before it and behind it.
-use Rattle.slotmap_lists.proofs.Common.{is_some, ◌∙◌, append_assoc, append-nil, ℕ, List, [], Option, Some, None, refl, sym, ap, arith, true, Key, key_cmp, some_is, times, elements_at, AreLiveIndices}
+use Rattle.slotmap_lists.proofs.Common.{is_some, ◌∙◌, append_assoc, append-nil, ℕ, List, [], Some, refl, sym, ap, arith, true, Key, key_cmp, some_is, times, elements_at, AreLiveIndices}
 use Rattle.slotmap_lists.proofs.Common.{Place, Front, Back, Before, After, spot_in, index_put, is_spot, element_put, value_of, put_after, put_before, times_some, splits, as_often, value_none}
-use Rattle.slotmap_lists.proofs.Common.{IsAt, stands_at, elements_first, elements-append}
+use Rattle.slotmap_lists.proofs.Common.{stands_at, elements_first, elements-append}
 use Rattle.std.proofs.Common.{◌≡◌, ◌<◌, ◌≤◌, ◌∷◌, ◌++◌}
 use Rattle.slotmap_links.proofs.SeenLists.{splits as number_splits}
 use Rattle.std.specs.FinMap as map

@@ -1,8 +1,8 @@
 -- What a write to the value of a live key leaves of the lists.
-use Rattle.slotmap_lists.proofs.Common.{bound, used-written, is_some, ◌∙◌, ℕ, List, [], Some, inl, inr, refl, sym, ap, arith, cond, Key, Content, IsLive, Lists, list_of, times, with_value, without_values, some_is, AreApart}
+use Rattle.slotmap_lists.proofs.Common.{used-written, ◌∙◌, ℕ, List, [], Some, inl, inr, refl, sym, ap, arith, Key, Content, IsLive, Lists, list_of, with_value, without_values, some_is, AreApart}
 use Rattle.slotmap_lists.proofs.Common.{alone-written, same_live, get-insert_here, get-insert_other, same_or_not, elements_at, part_left, placed, splits, key_times, as_often, lists_at, home_of, AreListed}
 use Rattle.slotmap_lists.proofs.Common.{with_value_at, with_value_in, Sequences, list_map}
-use Rattle.std.proofs.Common.{◌≡◌, ◌≢◌, ◌<◌, ◌∷◌, ◌++◌}
+use Rattle.std.proofs.Common.{◌≡◌, ◌≢◌, ◌∷◌}
 use Rattle.slotmap_list.proofs.Elements.{apart_first}
 use Rattle.slotmap_lists.proofs.Listed.{apart_home, stands}
 use Rattle.slotmap_lists.proofs.Opening.{listed_alike}
@@ -49,6 +49,6 @@ module _ {T : Type 0} where
     lists_written = map_alike (elements_at written.live) (λ is. with_value_at k w (elements_at c.live is)) s.lists [] written_at ∙ sym (twice (elements_at c.live) (with_value_at k w) s.lists)
 
     -- what the model of the lists is then
-    pub seen_written : ◌≡◌ {A = Sequences T} (record { lists = lists_at written.live s; cursors = without_values written })
-        (record { lists = with_value_in k w (lists_at c.live s); cursors = without_values c })
-    seen_written = let same_cursors = alone-written c k w live in λ i. record { lists = lists_written i; cursors = same_cursors i }
+    pub seen_written : (n : ℕ × (ℕ × ℕ)) → ◌≡◌ {A = Sequences T} (record { lists = lists_at written.live s; cursors = without_values written; links = n })
+        (record { lists = with_value_in k w (lists_at c.live s); cursors = without_values c; links = n })
+    seen_written n = let same_cursors = alone-written c k w live in λ i. record { lists = lists_written i; cursors = same_cursors i; links = n }

@@ -1,5 +1,5 @@
 -- How several lists are kept: the values of all in one map, the indices of the keys as lists of numbers, and for each index the number of its list.
-use Rattle.std.specs.Prelude.{◌≡◌, ℕ, ◌<◌, ◌≤◌, ◌^◌, List, length, slice_index_or, slice_set, map as list_map, if◌then◌else◌, nat_eq}
+use Rattle.std.specs.Prelude.{◌≡◌, ℕ, ◌<◌, ◌≤◌, ◌^◌, List, length, slice_index_or, map as list_map, if◌then◌else◌, nat_eq}
 use Rattle.slotmap.specs.Words.{Key, key_cmp, Content, IsLive}
 use Rattle.slotmap_bounded.specs.Bounded.{bound}
 use Rattle.slotmap_links.specs.Lists.{Lists, list_of, times}

@@ -1,8 +1,8 @@
 -- Several lists as their user sees them: for each number a list of keys with their values, from front to back.
 use Rattle.std.specs.Prelude.{refl, ℕ, ◌+◌, nat_lt, List, [], ◌∷◌, ◌++◌, Option, Some, None, Bool, cond, not, ◌&&◌, is_some, length, slice_index_or, slice_set, option_map, map as list_map}
-use Rattle.std.specs.Coded.{Coded, code_by, coded×, coded_list}
+use Rattle.std.specs.Coded.{Coded, code_by, coded×, coded_list, coded_ℕ}
 use Rattle.slotmap.specs.Words.{Key, coded_key, Content, keys_code}
-use Rattle.slotmap_bounded.specs.KeyLists.{is_key}
+use Rattle.slotmap_bounded.specs.{Bounded.space, KeyLists.is_key}
 use Rattle.slotmap_list.specs.Sequence.{value_of, without, put_after, put_before, with_value_at}
 
 pub record Sequences (T : Type 0) : Type 0 where
@@ -10,14 +10,21 @@ pub record Sequences (T : Type 0) : Type 0 where
   pub lists : List (List (Key × T))
   -- the cursors without their values; `IsSpent` says which are never used again
   pub cursors : Content (Unit {0})
+  -- there is memory for the numbers of the lists of so many slots, and for links of so many lists and so many slots
+  pub links : ℕ × (ℕ × ℕ)
 
 -- by which a proof tells two of them apart
 abbrev pub sequences_code : {T : Type 0} → Coded T → Coded (Sequences T)
 sequences_code {T} code =
-    code_by (List (List (Key × T)) × Content (Unit {0})) (coded× (coded_list (coded_list (coded× coded_key code))) keys_code) (λ s. (s.lists, s.cursors))
-    (λ p. record { lists = p.0; cursors = p.1 }) (λ _. refl)
+    code_by (List (List (Key × T)) × (Content (Unit {0}) × (ℕ × (ℕ × ℕ))))
+    (coded× (coded_list (coded_list (coded× coded_key code))) (coded× keys_code (coded× coded_ℕ (coded× coded_ℕ coded_ℕ))))
+    (λ s. (s.lists, (s.cursors, s.links))) (λ p. record { lists = p.0; cursors = p.1.0; links = p.1.1 }) (λ _. refl)
 
 module _ {T : Type 0} where
+  -- what the lists have memory for, and the bound of their indices: where these stay, no vector has grown
+  abbrev pub memory : Sequences T → (ℕ × ℕ) × (ℕ × (ℕ × ℕ))
+  memory s = (space s.cursors, s.links)
+
   -- the elements of the list with this number; where it isn't there, none
   abbrev pub elements_of : ℕ → List (List (Key × T)) → List (Key × T)
   elements_of p lists = slice_index_or lists p []

@@ -1,10 +1,9 @@
 //! The calls that add an element.
 
-ghost use Rattle.std.specs.Prelude.{◌≡◌, ◌+◌, ◌<◌, ◌≤◌, ◌++◌, ◌∷◌, [], IsOk, IfOk, OnOk, IfErr, OnErr, IsTrue, ◌↔◌, None, Some, true, length};
-ghost use Rattle.slotmap.specs.Words.{HasVacant, Inserts, IsSpent, Keeps, KeepsSpent, used};
-ghost use Rattle.slotmap_bounded.specs.Bounded.{space};
+ghost use Rattle.std.specs.Prelude.{◌≡◌, ◌≢◌, ℕ, ◌+◌, ◌<◌, ◌≤◌, ◌++◌, ◌∷◌, [], IsOk, IfOk, OnOk, IfErr, OnErr, IsTrue, ◌↔◌, None, Some, true, length};
+ghost use Rattle.slotmap.specs.Words.{Key as KeyOf, HasVacant, Inserts, IsSpent, Keeps, KeepsSpent, used};
 ghost use Rattle.slotmap_list.specs.Refused.{RefusesPush};
-ghost use Rattle.slotmap_lists.specs.Sequences.{elements_of, number_with, value_under, with_elements};
+ghost use Rattle.slotmap_lists.specs.Sequences.{memory, elements_of, number_with, value_under, with_elements};
 ghost use Rattle.slotmap_lists.specs.Places.{element_put, is_spot};
 ghost use Rattle.slotmap_lists.specs.Refused.{RefusesAdd};
 
@@ -22,6 +21,10 @@ impl<K: Key, T: Drop> StableLists<K, T> {
         ensures ok { IfOk result (λ key. self.new.lists
             ≡ with_elements list (element_put place (K.data_of key, value) (elements_of list self.old.lists)) self.old.lists) }
         ensures in_list { IfOk result (λ key. number_with (K.data_of key) self.new.lists ≡ Some list) }
+        ensures added { IfOk result (λ key. value_under (K.data_of key) self.new.lists ≡ Some value) }
+        ensures others { (q : ℕ) → q ≢ list → elements_of q self.new.lists ≡ elements_of q self.old.lists }
+        ensures values { IfOk result (λ key. (q : KeyOf) → q ≢ K.data_of key → value_under q self.new.lists ≡ value_under q self.old.lists) }
+        ensures as_many { length self.new.lists ≡ length self.old.lists }
         ensures fresh { IfOk result (λ key. value_under (K.data_of key) self.old.lists ≡ None) }
         ensures unspent { IfOk result (λ key. IsSpent self.old.cursors (K.data_of key) → ⊥) }
         ensures cursors { IfOk result (λ key. Inserts self.old.cursors (K.data_of key) tt self.new.cursors) }
@@ -30,7 +33,7 @@ impl<K: Key, T: Drop> StableLists<K, T> {
         ensures reuses { HasVacant self.old.cursors → IsOk result }
         ensures room { 0 < self.old.cursors.room → IsOk result }
         ensures capacity { self.old.cursors.capacity ≤ self.new.cursors.capacity }
-        ensures in_place { 0 < self.old.cursors.room → space self.new.cursors ≡ space self.old.cursors }
+        ensures in_place { 0 < self.old.cursors.room → memory self.new ≡ memory self.old }
         ensures unchanged { OnErr result (self.new.lists ≡ self.old.lists) }
         ensures keeps { OnErr result (Keeps self.old.cursors self.new.cursors) }
         ensures gone { KeepsSpent self.old.cursors self.new.cursors }
@@ -62,11 +65,15 @@ impl<K: Key, T: Drop> StableLists<K, T> {
         ensures lists { self.new.lists
             ≡ with_elements list (element_put place (K.data_of result, value) (elements_of list self.old.lists)) self.old.lists }
         ensures in_list { number_with (K.data_of result) self.new.lists ≡ Some list }
+        ensures added { value_under (K.data_of result) self.new.lists ≡ Some value }
+        ensures others { (q : ℕ) → q ≢ list → elements_of q self.new.lists ≡ elements_of q self.old.lists }
+        ensures values { (q : KeyOf) → q ≢ K.data_of result → value_under q self.new.lists ≡ value_under q self.old.lists }
+        ensures as_many { length self.new.lists ≡ length self.old.lists }
         ensures fresh { value_under (K.data_of result) self.old.lists ≡ None }
         ensures unspent { IsSpent self.old.cursors (K.data_of result) → ⊥ }
         ensures cursors { Inserts self.old.cursors (K.data_of result) tt self.new.cursors }
         ensures used { used self.new.cursors ≡ used self.old.cursors + 1 }
-        ensures capacity { space self.new.cursors ≡ space self.old.cursors }
+        ensures capacity { memory self.new ≡ memory self.old }
         ensures gone { KeepsSpent self.old.cursors self.new.cursors }
     {
         let key = self.values.insert_reserved(value);
@@ -82,6 +89,10 @@ impl<K: Key, T: Drop> StableLists<K, T> {
         ensures ok { IfOk result (λ key. self.new.lists
             ≡ with_elements list (element_put place (K.data_of key, value) (elements_of list self.old.lists)) self.old.lists) }
         ensures in_list { IfOk result (λ key. number_with (K.data_of key) self.new.lists ≡ Some list) }
+        ensures added { IfOk result (λ key. value_under (K.data_of key) self.new.lists ≡ Some value) }
+        ensures others { (q : ℕ) → q ≢ list → elements_of q self.new.lists ≡ elements_of q self.old.lists }
+        ensures values { IfOk result (λ key. (q : KeyOf) → q ≢ K.data_of key → value_under q self.new.lists ≡ value_under q self.old.lists) }
+        ensures as_many { length self.new.lists ≡ length self.old.lists }
         ensures fresh { IfOk result (λ key. value_under (K.data_of key) self.old.lists ≡ None) }
         ensures unspent { IfOk result (λ key. IsSpent self.old.cursors (K.data_of key) → ⊥) }
         ensures cursors { IfOk result (λ key. Inserts self.old.cursors (K.data_of key) tt self.new.cursors) }
@@ -92,7 +103,7 @@ impl<K: Key, T: Drop> StableLists<K, T> {
         ensures reuses { list < length self.old.lists → HasVacant self.old.cursors → IsOk result }
         ensures room { list < length self.old.lists → 0 < self.old.cursors.room → IsOk result }
         ensures capacity { self.old.cursors.capacity ≤ self.new.cursors.capacity }
-        ensures in_place { 0 < self.old.cursors.room → space self.new.cursors ≡ space self.old.cursors }
+        ensures in_place { 0 < self.old.cursors.room → memory self.new ≡ memory self.old }
         ensures unchanged { OnErr result (self.new.lists ≡ self.old.lists) }
         ensures keeps { OnErr result (Keeps self.old.cursors self.new.cursors) }
         ensures gone { KeepsSpent self.old.cursors self.new.cursors }
@@ -124,6 +135,10 @@ impl<K: Key, T: Drop> StableLists<K, T> {
     pub fn push_front(&mut self, list: usize, value: T) -> Result<K, AddError<T>>
         ensures ok { IfOk result (λ key. self.new.lists ≡ with_elements list ((K.data_of key, value) ∷ elements_of list self.old.lists) self.old.lists) }
         ensures in_list { IfOk result (λ key. number_with (K.data_of key) self.new.lists ≡ Some list) }
+        ensures added { IfOk result (λ key. value_under (K.data_of key) self.new.lists ≡ Some value) }
+        ensures others { (q : ℕ) → q ≢ list → elements_of q self.new.lists ≡ elements_of q self.old.lists }
+        ensures values { IfOk result (λ key. (q : KeyOf) → q ≢ K.data_of key → value_under q self.new.lists ≡ value_under q self.old.lists) }
+        ensures as_many { length self.new.lists ≡ length self.old.lists }
         ensures fresh { IfOk result (λ key. value_under (K.data_of key) self.old.lists ≡ None) }
         ensures unspent { IfOk result (λ key. IsSpent self.old.cursors (K.data_of key) → ⊥) }
         ensures cursors { IfOk result (λ key. Inserts self.old.cursors (K.data_of key) tt self.new.cursors) }
@@ -134,7 +149,7 @@ impl<K: Key, T: Drop> StableLists<K, T> {
         ensures reuses { list < length self.old.lists → HasVacant self.old.cursors → IsOk result }
         ensures room { list < length self.old.lists → 0 < self.old.cursors.room → IsOk result }
         ensures capacity { self.old.cursors.capacity ≤ self.new.cursors.capacity }
-        ensures in_place { 0 < self.old.cursors.room → space self.new.cursors ≡ space self.old.cursors }
+        ensures in_place { 0 < self.old.cursors.room → memory self.new ≡ memory self.old }
         ensures unchanged { OnErr result (self.new.lists ≡ self.old.lists) }
         ensures keeps { OnErr result (Keeps self.old.cursors self.new.cursors) }
         ensures gone { KeepsSpent self.old.cursors self.new.cursors }
@@ -159,6 +174,10 @@ impl<K: Key, T: Drop> StableLists<K, T> {
     pub fn push_back(&mut self, list: usize, value: T) -> Result<K, AddError<T>>
         ensures ok { IfOk result (λ key. self.new.lists ≡ with_elements list (elements_of list self.old.lists ++ (K.data_of key, value) ∷ []) self.old.lists) }
         ensures in_list { IfOk result (λ key. number_with (K.data_of key) self.new.lists ≡ Some list) }
+        ensures added { IfOk result (λ key. value_under (K.data_of key) self.new.lists ≡ Some value) }
+        ensures others { (q : ℕ) → q ≢ list → elements_of q self.new.lists ≡ elements_of q self.old.lists }
+        ensures values { IfOk result (λ key. (q : KeyOf) → q ≢ K.data_of key → value_under q self.new.lists ≡ value_under q self.old.lists) }
+        ensures as_many { length self.new.lists ≡ length self.old.lists }
         ensures fresh { IfOk result (λ key. value_under (K.data_of key) self.old.lists ≡ None) }
         ensures unspent { IfOk result (λ key. IsSpent self.old.cursors (K.data_of key) → ⊥) }
         ensures cursors { IfOk result (λ key. Inserts self.old.cursors (K.data_of key) tt self.new.cursors) }
@@ -169,7 +188,7 @@ impl<K: Key, T: Drop> StableLists<K, T> {
         ensures reuses { list < length self.old.lists → HasVacant self.old.cursors → IsOk result }
         ensures room { list < length self.old.lists → 0 < self.old.cursors.room → IsOk result }
         ensures capacity { self.old.cursors.capacity ≤ self.new.cursors.capacity }
-        ensures in_place { 0 < self.old.cursors.room → space self.new.cursors ≡ space self.old.cursors }
+        ensures in_place { 0 < self.old.cursors.room → memory self.new ≡ memory self.old }
         ensures unchanged { OnErr result (self.new.lists ≡ self.old.lists) }
         ensures keeps { OnErr result (Keeps self.old.cursors self.new.cursors) }
         ensures gone { KeepsSpent self.old.cursors self.new.cursors }

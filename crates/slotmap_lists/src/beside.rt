@@ -1,10 +1,9 @@
 //! The calls that add an element beside another one.
 
-ghost use Rattle.std.specs.Prelude.{◌≡◌, ◌+◌, ◌<◌, ◌≤◌, IsOk, IfOk, OnOk, IfErr, OnErr, IsSome, None, map as list_map};
-ghost use Rattle.slotmap.specs.Words.{HasVacant, Inserts, IsSpent, Keeps, KeepsSpent, used};
-ghost use Rattle.slotmap_bounded.specs.Bounded.{space};
+ghost use Rattle.std.specs.Prelude.{◌≡◌, ◌≢◌, ◌+◌, ◌<◌, ◌≤◌, IsOk, IfOk, OnOk, IfErr, OnErr, IsSome, Some, None, length, map as list_map};
+ghost use Rattle.slotmap.specs.Words.{Key as KeyOf, HasVacant, Inserts, IsSpent, Keeps, KeepsSpent, used};
 ghost use Rattle.slotmap_list.specs.Sequence.{put_after, put_before};
-ghost use Rattle.slotmap_lists.specs.Sequences.{number_with, value_under};
+ghost use Rattle.slotmap_lists.specs.Sequences.{memory, number_with, value_under};
 ghost use Rattle.slotmap_lists.specs.Refused.{RefusesBeside};
 
 use crate::StableLists;
@@ -30,6 +29,9 @@ impl<K: Key, T: Drop> StableLists<K, T> {
     pub fn insert_before(&mut self, cursor: K, value: T) -> Result<K, PlaceError<T>>
         ensures ok { IfOk result (λ key. self.new.lists ≡ list_map (put_before (K.data_of cursor) (K.data_of key, value)) self.old.lists) }
         ensures in_list { IfOk result (λ key. number_with (K.data_of key) self.new.lists ≡ number_with (K.data_of cursor) self.old.lists) }
+        ensures added { IfOk result (λ key. value_under (K.data_of key) self.new.lists ≡ Some value) }
+        ensures values { IfOk result (λ key. (q : KeyOf) → q ≢ K.data_of key → value_under q self.new.lists ≡ value_under q self.old.lists) }
+        ensures as_many { length self.new.lists ≡ length self.old.lists }
         ensures fresh { IfOk result (λ key. value_under (K.data_of key) self.old.lists ≡ None) }
         ensures unspent { IfOk result (λ key. IsSpent self.old.cursors (K.data_of key) → ⊥) }
         ensures cursors { IfOk result (λ key. Inserts self.old.cursors (K.data_of key) tt self.new.cursors) }
@@ -40,7 +42,7 @@ impl<K: Key, T: Drop> StableLists<K, T> {
         ensures reuses { IsSome (value_under (K.data_of cursor) self.old.lists) → HasVacant self.old.cursors → IsOk result }
         ensures room { IsSome (value_under (K.data_of cursor) self.old.lists) → 0 < self.old.cursors.room → IsOk result }
         ensures capacity { self.old.cursors.capacity ≤ self.new.cursors.capacity }
-        ensures in_place { 0 < self.old.cursors.room → space self.new.cursors ≡ space self.old.cursors }
+        ensures in_place { 0 < self.old.cursors.room → memory self.new ≡ memory self.old }
         ensures unchanged { OnErr result (self.new.lists ≡ self.old.lists) }
         ensures keeps { OnErr result (Keeps self.old.cursors self.new.cursors) }
         ensures gone { KeepsSpent self.old.cursors self.new.cursors }
@@ -73,6 +75,9 @@ impl<K: Key, T: Drop> StableLists<K, T> {
     pub fn insert_after(&mut self, cursor: K, value: T) -> Result<K, PlaceError<T>>
         ensures ok { IfOk result (λ key. self.new.lists ≡ list_map (put_after (K.data_of cursor) (K.data_of key, value)) self.old.lists) }
         ensures in_list { IfOk result (λ key. number_with (K.data_of key) self.new.lists ≡ number_with (K.data_of cursor) self.old.lists) }
+        ensures added { IfOk result (λ key. value_under (K.data_of key) self.new.lists ≡ Some value) }
+        ensures values { IfOk result (λ key. (q : KeyOf) → q ≢ K.data_of key → value_under q self.new.lists ≡ value_under q self.old.lists) }
+        ensures as_many { length self.new.lists ≡ length self.old.lists }
         ensures fresh { IfOk result (λ key. value_under (K.data_of key) self.old.lists ≡ None) }
         ensures unspent { IfOk result (λ key. IsSpent self.old.cursors (K.data_of key) → ⊥) }
         ensures cursors { IfOk result (λ key. Inserts self.old.cursors (K.data_of key) tt self.new.cursors) }
@@ -83,7 +88,7 @@ impl<K: Key, T: Drop> StableLists<K, T> {
         ensures reuses { IsSome (value_under (K.data_of cursor) self.old.lists) → HasVacant self.old.cursors → IsOk result }
         ensures room { IsSome (value_under (K.data_of cursor) self.old.lists) → 0 < self.old.cursors.room → IsOk result }
         ensures capacity { self.old.cursors.capacity ≤ self.new.cursors.capacity }
-        ensures in_place { 0 < self.old.cursors.room → space self.new.cursors ≡ space self.old.cursors }
+        ensures in_place { 0 < self.old.cursors.room → memory self.new ≡ memory self.old }
         ensures unchanged { OnErr result (self.new.lists ≡ self.old.lists) }
         ensures keeps { OnErr result (Keeps self.old.cursors self.new.cursors) }
         ensures gone { KeepsSpent self.old.cursors self.new.cursors }

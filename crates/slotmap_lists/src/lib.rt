@@ -10,6 +10,8 @@
 //! - An element that moves to another list, or to another place of its own, keeps its cursor and its
 //!   value. No move can fail for want of memory, and the capacity stays.
 //! - The cursor of a removed element is never used again for another element.
+//! - A call that adds, removes or moves an element leaves all other values as they were, and all lists
+//!   but those that the element leaves or comes to. The number of lists stays.
 //! - A call with a cursor that is in no list, or with the number of a list that isn't there, changes
 //!   nothing. An insert returns its value then.
 //! - Where there is room, no added element is refused for memory, and the capacity stays. No removal
@@ -17,7 +19,8 @@
 //!
 //! A call takes constant time, with these exceptions:
 //!
-//! - Making the lists takes time linear in their number and in the capacity.
+//! - Making the lists and `clone` take time linear in their number and in the capacity.
+//! - `clear_list` takes time linear in the elements of the list, and `append` in those that move.
 //! - `reserve` takes time linear in the capacity where it has to make room.
 //! - A push or an insert may have to grow the vectors, and takes constant time on average.
 //!
@@ -38,7 +41,7 @@
 //! ```
 #![tactic(auto, using(slotmap::proofs::Callers::keys))]
 
-ghost use Rattle.std.specs.Prelude.{◌≡◌, ◌≢◌, ℕ, ◌<◌, ◌≤◌, ◌^◌, ◌∷◌, [], Some, None, true, IfOk, IfErr, OnOk, IsTrue, ◌↔◌, max};
+ghost use Rattle.std.specs.Prelude.{◌≡◌, ◌≢◌, ℕ, ◌<◌, ◌≤◌, ◌^◌, ◌∷◌, [], Some, None, true, IfOk, IfErr, OnOk, IfSome, IsTrue, ◌↔◌, max};
 ghost use Rattle.std.specs.Prelude.{is_some, length, option_copied, option_map, replicate};
 ghost use Rattle.std.specs.FinMap as map;
 ghost use Rattle.slotmap.specs.Words.{Key as KeyOf, IsLive, IsNew, IsSpent, RefusesCapacity};
@@ -57,6 +60,9 @@ use thiserror::Error;
 
 mod add;
 mod beside;
+mod clone;
+mod debug;
+mod emptying;
 mod iter;
 mod moves;
 mod place;
@@ -73,7 +79,8 @@ const MOST: usize = 4294967294;
 /// Several lists, whose elements have cursors of the key type `K`.
 ///
 /// A clause sees `lists`, for each number the list of the cursors with their values, from front to
-/// back, and `cursors`, by which it says that a cursor is never used again.
+/// back, and `cursors`, by which it says that a cursor is never used again. `memory` is what the lists
+/// have memory for: where a call keeps it, no vector grows.
 pub struct StableLists<K, T> {
     // The values, each under the cursor of its element.
     values: BoundedMap<K, T>,
@@ -102,8 +109,9 @@ impl<K, T> Model for StableLists<K, T> {
 
     ghost use Rattle.slotmap.specs.Words.{without_values};
     ghost use Rattle.slotmap_lists.specs.Kept.{AreListed, lists_at};
+    ghost use Rattle.std.specs.Prelude.{vec_capacity};
 
-    ghost view = { λ l. record { lists = lists_at l.values.live l.links; cursors = without_values l.values } };
+    ghost view = { λ l. record { lists = lists_at l.values.live l.links; cursors = without_values l.values; links = (vec_capacity l.homes, l.links.capacity) } };
 
     ghost invariant = { λ l. AreListed l.values l.homes.items l.links };
 }
@@ -144,7 +152,8 @@ fn first_homes(alloc: Global, members: usize) -> Result<Vec<u32>, AllocError>
 
 // The live key with an index, if there is one.
 fn key_at<K: Key, T: Drop>(values: &BoundedMap<K, T>, index: Option<u32>) -> Option<K>
-    ensures { option_map K.data_of result ≡ key_there values.now.live index }
+    ensures value { option_map K.data_of result ≡ key_there values.now.live index }
+    ensures live { IfSome result (λ key. IsLive values.now (K.data_of key)) }
 {
     // By what `len` ensures, no two live keys have one index.
     let _ = values.len();
@@ -379,7 +388,9 @@ impl<K: Key, T: Drop> StableLists<K, T> {
     /// assert_eq!(rt; (lists.first(0), lists.first(1)), (None, Some(one)));
     /// ```
     pub fn first(&self, list: usize) -> Option<K>
-        ensures { option_map K.data_of result ≡ first_or (elements_of list self.now.lists) None }
+        ensures value { option_map K.data_of result ≡ first_or (elements_of list self.now.lists) None }
+        ensures stands { IfSome result (λ key. is_some (value_under (K.data_of key) self.now.lists) ≡ true) }
+        ensures in_list { IfSome result (λ key. number_with (K.data_of key) self.now.lists ≡ Some list) }
     {
         if list >= self.lists() {
             return None;
@@ -396,7 +407,9 @@ impl<K: Key, T: Drop> StableLists<K, T> {
     /// assert_eq!(rt; (lists.last(0), lists.last(1)), (None, Some(two)));
     /// ```
     pub fn last(&self, list: usize) -> Option<K>
-        ensures { option_map K.data_of result ≡ last_or (elements_of list self.now.lists) None }
+        ensures value { option_map K.data_of result ≡ last_or (elements_of list self.now.lists) None }
+        ensures stands { IfSome result (λ key. is_some (value_under (K.data_of key) self.now.lists) ≡ true) }
+        ensures in_list { IfSome result (λ key. number_with (K.data_of key) self.now.lists ≡ Some list) }
     {
         if list >= self.lists() {
             return None;
@@ -414,7 +427,9 @@ impl<K: Key, T: Drop> StableLists<K, T> {
     /// assert_eq!(rt; (lists.next(one), lists.next(two)), (Some(two), None));
     /// ```
     pub fn next(&self, cursor: K) -> Option<K>
-        ensures { option_map K.data_of result ≡ key_after (K.data_of cursor) (list_with (K.data_of cursor) self.now.lists) }
+        ensures value { option_map K.data_of result ≡ key_after (K.data_of cursor) (list_with (K.data_of cursor) self.now.lists) }
+        ensures stands { IfSome result (λ key. is_some (value_under (K.data_of key) self.now.lists) ≡ true) }
+        ensures in_list { IfSome result (λ key. number_with (K.data_of key) self.now.lists ≡ number_with (K.data_of cursor) self.now.lists) }
     {
         if !self.values.contains_key(cursor) {
             return None;
@@ -432,7 +447,9 @@ impl<K: Key, T: Drop> StableLists<K, T> {
     /// assert_eq!(rt; (lists.prev(one), lists.prev(two)), (None, Some(one)));
     /// ```
     pub fn prev(&self, cursor: K) -> Option<K>
-        ensures { option_map K.data_of result ≡ key_before None (K.data_of cursor) (list_with (K.data_of cursor) self.now.lists) }
+        ensures value { option_map K.data_of result ≡ key_before None (K.data_of cursor) (list_with (K.data_of cursor) self.now.lists) }
+        ensures stands { IfSome result (λ key. is_some (value_under (K.data_of key) self.now.lists) ≡ true) }
+        ensures in_list { IfSome result (λ key. number_with (K.data_of key) self.now.lists ≡ number_with (K.data_of cursor) self.now.lists) }
     {
         if !self.values.contains_key(cursor) {
             return None;

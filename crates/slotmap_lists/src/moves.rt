@@ -1,11 +1,11 @@
 //! The calls that change a value, or move an element.
 
-ghost use Rattle.std.specs.Prelude.{◌≡◌, ◌<◌, ◌^◌, if◌then◌else◌, true, IsTrue, Some, None, is_some, length};
+ghost use Rattle.std.specs.Prelude.{◌≡◌, ◌≢◌, ℕ, ◌<◌, ◌^◌, if◌then◌else◌, true, IsTrue, Some, None, is_some, length};
 ghost use Rattle.std.specs.Option.{option_copied_mut};
 ghost use Rattle.std.specs.Borrow.{sem};
 ghost use Rattle.slotmap.specs.Words.{Key as KeyOf};
-ghost use Rattle.slotmap_list.specs.Sequence.{first_or, last_or, key_after, key_before};
-ghost use Rattle.slotmap_lists.specs.Sequences.{elements_of, list_with, number_with, value_under, without_key, put_into, are_two_in, can_move_to};
+ghost use Rattle.slotmap_list.specs.Sequence.{first_or, last_or, without};
+ghost use Rattle.slotmap_lists.specs.Sequences.{elements_of, number_with, value_under, without_key, put_into, are_two_in, can_move_to};
 ghost use Rattle.slotmap_lists.specs.Sequences.{moved_to_front_of, moved_to_back_of, moved_behind, moved_ahead};
 ghost use Rattle.slotmap_lists.specs.Places.{element_put, is_spot};
 
@@ -56,8 +56,10 @@ impl<K: Key, T: Drop> StableLists<K, T> {
         ensures moved { self.new ≡ record self.old
             { lists = if result then moved_to_front_of (K.data_of cursor) list self.old.lists else self.old.lists } }
         ensures in_list { IsTrue result → number_with (K.data_of cursor) self.new.lists ≡ Some list }
+        ensures others { IsTrue result → (q : ℕ) → q ≢ list → elements_of q self.new.lists ≡ without (K.data_of cursor) (elements_of q self.old.lists) }
         ensures first { IsTrue result → first_or (elements_of list self.new.lists) None ≡ Some (K.data_of cursor) }
         ensures values { (q : KeyOf) → value_under q self.new.lists ≡ value_under q self.old.lists }
+        ensures as_many { length self.new.lists ≡ length self.old.lists }
     {
         if !self.can_move_to(cursor, list) {
             return false;
@@ -85,8 +87,10 @@ impl<K: Key, T: Drop> StableLists<K, T> {
         ensures moved { self.new ≡ record self.old
             { lists = if result then moved_to_back_of (K.data_of cursor) list self.old.lists else self.old.lists } }
         ensures in_list { IsTrue result → number_with (K.data_of cursor) self.new.lists ≡ Some list }
+        ensures others { IsTrue result → (q : ℕ) → q ≢ list → elements_of q self.new.lists ≡ without (K.data_of cursor) (elements_of q self.old.lists) }
         ensures last { IsTrue result → last_or (elements_of list self.new.lists) None ≡ Some (K.data_of cursor) }
         ensures values { (q : KeyOf) → value_under q self.new.lists ≡ value_under q self.old.lists }
+        ensures as_many { length self.new.lists ≡ length self.old.lists }
     {
         if !self.can_move_to(cursor, list) {
             return false;
@@ -114,6 +118,7 @@ impl<K: Key, T: Drop> StableLists<K, T> {
             { lists = if result then moved_ahead (K.data_of cursor) (K.data_of other) self.old.lists else self.old.lists } }
         ensures in_list { IsTrue result → number_with (K.data_of cursor) self.new.lists ≡ number_with (K.data_of other) self.old.lists }
         ensures values { (q : KeyOf) → value_under q self.new.lists ≡ value_under q self.old.lists }
+        ensures as_many { length self.new.lists ≡ length self.old.lists }
     {
         if !self.has_two(cursor, other) {
             return false;
@@ -142,6 +147,7 @@ impl<K: Key, T: Drop> StableLists<K, T> {
             { lists = if result then moved_behind (K.data_of cursor) (K.data_of other) self.old.lists else self.old.lists } }
         ensures in_list { IsTrue result → number_with (K.data_of cursor) self.new.lists ≡ number_with (K.data_of other) self.old.lists }
         ensures values { (q : KeyOf) → value_under q self.new.lists ≡ value_under q self.old.lists }
+        ensures as_many { length self.new.lists ≡ length self.old.lists }
     {
         if !self.has_two(cursor, other) {
             return false;
@@ -161,7 +167,9 @@ impl<K: Key, T: Drop> StableLists<K, T> {
               (value_under (K.data_of cursor) self.old.lists) self.old.lists;
         } }
         ensures in_list { number_with (K.data_of cursor) self.new.lists ≡ Some list }
+        ensures others { (q : ℕ) → q ≢ list → elements_of q self.new.lists ≡ without (K.data_of cursor) (elements_of q self.old.lists) }
         ensures values { (q : KeyOf) → value_under q self.new.lists ≡ value_under q self.old.lists }
+        ensures as_many { length self.new.lists ≡ length self.old.lists }
     {
         let index = cursor.data().idx();
         let home = home_at(&self.homes, index);

@@ -1,6 +1,6 @@
 //! Room for elements: how much there is, and more of it.
 
-ghost use Rattle.std.specs.Prelude.{◌≡◌, ℕ, ◌+◌, ◌<◌, ◌≤◌, ◌^◌, true, IsOk, OnErr, OnOk, IfErr, length};
+ghost use Rattle.std.specs.Prelude.{◌≡◌, ℕ, ◌+◌, ◌<◌, ◌≤◌, ◌^◌, true, IsOk, OnErr, OnOk, IfErr, length, vec_capacity};
 ghost use Rattle.std.specs.FinMap as map;
 ghost use Rattle.slotmap.specs.Words.{IsContent, Keeps, KeepsSpent, MakesRoom, RefusesCapacity, used};
 ghost use Rattle.slotmap_bounded.specs.Bounded.{bound};
@@ -35,6 +35,7 @@ fn cover(links: &mut Links, homes: &mut Vec<u32>, needed: usize) -> Result<(), A
     ensures long { links.new.members ≤ length homes.new.items }
     ensures had_room { needed ≤ links.old.members → IsOk result }
     ensures in_place { needed ≤ links.old.members → links.new ≡ links.old }
+    ensures homes_in_place { needed ≤ links.old.members → vec_capacity homes.new ≡ vec_capacity homes.old }
 {
     let members = links.members();
     if needed <= members {

@@ -1,10 +1,9 @@
 //! The calls that remove elements.
 
-ghost use Rattle.std.specs.Prelude.{◌≡◌, ◌≢◌, ℕ, IfNone, IfSome, OnSome, None, option_map};
-ghost use Rattle.slotmap.specs.Words.{IsSpent, KeepsSpent, Leaves, Removes};
-ghost use Rattle.slotmap_bounded.specs.Bounded.{space};
-ghost use Rattle.slotmap_list.specs.Sequence.{TakesFront, TakesBack};
-ghost use Rattle.slotmap_lists.specs.Sequences.{elements_of, value_under, without_key};
+ghost use Rattle.std.specs.Prelude.{◌≡◌, ◌≢◌, ℕ, IfNone, IfSome, OnSome, None, length, option_map};
+ghost use Rattle.slotmap.specs.Words.{Key as KeyOf, IsSpent, KeepsSpent, Leaves, Removes};
+ghost use Rattle.slotmap_list.specs.Sequence.{TakesFront, TakesBack, without};
+ghost use Rattle.slotmap_lists.specs.Sequences.{memory, elements_of, value_under, without_key};
 
 use crate::StableLists;
 use crate::place::home_at;
@@ -24,12 +23,15 @@ impl<K: Key, T: Drop> StableLists<K, T> {
     pub fn remove(&mut self, cursor: K) -> Option<T>
         ensures value { result ≡ value_under (K.data_of cursor) self.old.lists }
         ensures removed { self.new.lists ≡ without_key (K.data_of cursor) self.old.lists }
+        ensures each { (q : ℕ) → elements_of q self.new.lists ≡ without (K.data_of cursor) (elements_of q self.old.lists) }
+        ensures values { (q : KeyOf) → q ≢ K.data_of cursor → value_under q self.new.lists ≡ value_under q self.old.lists }
+        ensures as_many { length self.new.lists ≡ length self.old.lists }
         ensures absent { value_under (K.data_of cursor) self.new.lists ≡ None }
         ensures cursors { OnSome result (Removes self.old.cursors (K.data_of cursor) self.new.cursors) }
         ensures for_good { OnSome result (IsSpent self.new.cursors (K.data_of cursor)) }
         ensures gone { KeepsSpent self.old.cursors self.new.cursors }
         ensures leaves { Leaves self.old.cursors self.new.cursors }
-        ensures capacity { space self.new.cursors ≡ space self.old.cursors }
+        ensures capacity { memory self.new ≡ memory self.old }
         ensures stale { IfNone result (self.new ≡ self.old) }
     {
         let value = self.values.remove(cursor)?;
@@ -54,12 +56,14 @@ impl<K: Key, T: Drop> StableLists<K, T> {
         ensures front { TakesFront (elements_of list self.old.lists) (option_map (λ e. (K.data_of e.0, e.1)) result) (elements_of list self.new.lists) }
         ensures removed { IfSome result (λ element. self.new.lists ≡ without_key (K.data_of element.0) self.old.lists) }
         ensures others { (q : ℕ) → q ≢ list → elements_of q self.new.lists ≡ elements_of q self.old.lists }
+        ensures values { IfSome result (λ element. (q : KeyOf) → q ≢ K.data_of element.0 → value_under q self.new.lists ≡ value_under q self.old.lists) }
+        ensures as_many { length self.new.lists ≡ length self.old.lists }
         ensures cursors { IfSome result (λ element. Removes self.old.cursors (K.data_of element.0) self.new.cursors) }
         ensures for_good { IfSome result (λ element. IsSpent self.new.cursors (K.data_of element.0)) }
         ensures absent { IfSome result (λ element. value_under (K.data_of element.0) self.new.lists ≡ None) }
         ensures gone { KeepsSpent self.old.cursors self.new.cursors }
         ensures leaves { Leaves self.old.cursors self.new.cursors }
-        ensures capacity { space self.new.cursors ≡ space self.old.cursors }
+        ensures capacity { memory self.new ≡ memory self.old }
         ensures empty { IfNone result (self.new ≡ self.old) }
     {
         // By what `len` ensures, no cursor stands twice.
@@ -84,12 +88,14 @@ impl<K: Key, T: Drop> StableLists<K, T> {
         ensures back { TakesBack (elements_of list self.old.lists) (option_map (λ e. (K.data_of e.0, e.1)) result) (elements_of list self.new.lists) }
         ensures removed { IfSome result (λ element. self.new.lists ≡ without_key (K.data_of element.0) self.old.lists) }
         ensures others { (q : ℕ) → q ≢ list → elements_of q self.new.lists ≡ elements_of q self.old.lists }
+        ensures values { IfSome result (λ element. (q : KeyOf) → q ≢ K.data_of element.0 → value_under q self.new.lists ≡ value_under q self.old.lists) }
+        ensures as_many { length self.new.lists ≡ length self.old.lists }
         ensures cursors { IfSome result (λ element. Removes self.old.cursors (K.data_of element.0) self.new.cursors) }
         ensures for_good { IfSome result (λ element. IsSpent self.new.cursors (K.data_of element.0)) }
         ensures absent { IfSome result (λ element. value_under (K.data_of element.0) self.new.lists ≡ None) }
         ensures gone { KeepsSpent self.old.cursors self.new.cursors }
         ensures leaves { Leaves self.old.cursors self.new.cursors }
-        ensures capacity { space self.new.cursors ≡ space self.old.cursors }
+        ensures capacity { memory self.new ≡ memory self.old }
         ensures empty { IfNone result (self.new ≡ self.old) }
     {
         // By what `len` ensures, no cursor stands twice.

@@ -1,8 +1,8 @@
 //! A cache with two segments: what is new is on probation, and what was used again is protected.
 
-ghost use Rattle.std.specs.Prelude.{◌≡◌, ◌<◌, IsTrue, IfSome, Some, length, option_map};
+ghost use Rattle.std.specs.Prelude.{◌≡◌, ◌<◌, IsTrue, IfSome, None, Some, length, option_map};
 ghost use Rattle.slotmap.specs.Words.{Key as KeyOf};
-ghost use Rattle.slotmap_list.specs.Sequence.{TakesBack};
+ghost use Rattle.slotmap_list.specs.Sequence.{TakesBack, last_or};
 ghost use Rattle.slotmap_lists.specs.Sequences.{can_move_to, elements_of, number_with, value_under};
 
 use slotmap_lists::{Cursor, StableLists};
@@ -23,8 +23,11 @@ pub fn touch(cache: &mut StableLists<Cursor, u64>, cursor: Cursor) -> bool
 
 /// Where more elements than `most` are protected, the one that was used longest ago goes back on
 /// probation, under its cursor.
+#[tactic(auto, using(slotmap_lists::proofs::Callers::moves))]
 pub fn demote(cache: &mut StableLists<Cursor, u64>, most: usize) -> Option<Cursor>
     ensures which { IfSome result (λ cursor. most < length (elements_of 1 cache.old.lists)) }
+    ensures oldest { IfSome result (λ cursor. last_or (elements_of 1 cache.old.lists) None ≡ Some cursor) }
+    ensures probation { IfSome result (λ cursor. number_with cursor cache.new.lists ≡ Some 0) }
     ensures values { (q : KeyOf) → value_under q cache.new.lists ≡ value_under q cache.old.lists }
     ensures cursors { cache.new.cursors ≡ cache.old.cursors }
 {

@@ -1,20 +1,21 @@
 //! A wheel of timers: a list for each tick of a round, and one for those that are due.
 
-ghost use Rattle.std.specs.Prelude.{◌≡◌};
+ghost use Rattle.std.specs.Prelude.{◌≡◌, ◌≢◌, ℕ, ◌<◌, ◌++◌, [], length};
 ghost use Rattle.slotmap.specs.Words.{Key as KeyOf};
-ghost use Rattle.slotmap_lists.specs.Sequences.{value_under};
+ghost use Rattle.slotmap_lists.specs.Sequences.{elements_of, memory, value_under};
 
 use slotmap_lists::{Cursor, StableLists};
 
-/// Moves the timers of a tick behind those that are due. Each keeps its cursor and its value, and no
-/// memory is asked for.
+/// Moves the timers of a tick behind those that are due, in their order. Each keeps its cursor and its
+/// value, the other lists stay, and no vector grows.
 pub fn expire(wheel: &mut StableLists<Cursor, u64>, tick: usize, due: usize)
+    ensures empty { due ≢ tick → due < length wheel.old.lists → tick < length wheel.old.lists → elements_of tick wheel.new.lists ≡ [] }
+    ensures behind { due ≢ tick → due < length wheel.old.lists → tick < length wheel.old.lists
+        → elements_of due wheel.new.lists ≡ elements_of due wheel.old.lists ++ elements_of tick wheel.old.lists }
+    ensures others { (q : ℕ) → q ≢ tick → q ≢ due → elements_of q wheel.new.lists ≡ elements_of q wheel.old.lists }
     ensures values { (q : KeyOf) → value_under q wheel.new.lists ≡ value_under q wheel.old.lists }
     ensures cursors { wheel.new.cursors ≡ wheel.old.cursors }
+    ensures memory { memory wheel.new ≡ memory wheel.old }
 {
-    for _ in 0..wheel.list_len(tick) {
-        if let Some(cursor) = wheel.first(tick) {
-            wheel.move_to_back(cursor, due);
-        }
-    }
+    wheel.append(due, tick);
 }

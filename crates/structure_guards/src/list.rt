@@ -5,6 +5,7 @@ ghost use Rattle.std.specs.Option.{option_copied_mut};
 ghost use Rattle.std.specs.Prelude.{◌≡◌, ◌-◌, ◌+◌, ◌<◌, ◌≤◌, ◌++◌, ◌∷◌, ◌↔◌, [], Some, None, Err, IfOk, OnOk, OnErr, IfSome, IfNone, IsTrue};
 ghost use Rattle.std.specs.Prelude.{length, is_some, option_copied, option_map, slice_get, map as list_map};
 ghost use Rattle.slotmap.specs.Words.{AreClones, used, most};
+ghost use Rattle.slotmap_bounded.specs.Bounded.{bound};
 ghost use Rattle.slotmap_list.specs.Additions.{Adds};
 ghost use Rattle.slotmap_list.specs.Retain.{CallableInOrder, RetainsEach};
 ghost use Rattle.slotmap_list.specs.Sequence.{Swaps, are_two, first_or, from_key, key_after, key_before, memory, value_of, without};
@@ -150,7 +151,10 @@ pub fn from_iter_loses_no_value<K: Key, T: Drop, I: IntoIterator<Item = T> + Dro
 pub fn copy_has_the_same_order<K: Key, T: Clone>(
     list: &StableList<K, T>,
 ) -> Result<StableList<K, T>, AllocError>
-    ensures { IfOk result (λ copy. AreClones T.is_clone list.now.elements copy.elements) }
+    ensures copy_has_clones_in_order { IfOk result (λ copy. AreClones T.is_clone list.now.elements copy.elements) }
+    // A copy has no more room than the list.
+    // Refuses `clone_reserves_more`: `capacity` of `clone`.
+    ensures copy_has_the_same_capacity { IfOk result (λ copy. bound copy.cursors ≡ bound list.now.cursors) }
 {
     list.clone()
 }

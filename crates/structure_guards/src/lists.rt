@@ -1,14 +1,15 @@
 //! Several lists in one map.
 
-ghost use Rattle.std.specs.Prelude.{◌≡◌, ◌≢◌, ◌<◌, ◌≤◌, ◌+◌, ◌++◌, ◌∷◌, ℕ, [], Some, None, Err, IfOk, OnOk, OnErr, IfSome, IsTrue, IsOk};
-ghost use Rattle.std.specs.Prelude.{length, option_copied, option_map};
-ghost use Rattle.slotmap.specs.Words.{Key as KeyOf, IsSpent, Leaves, used, most};
-ghost use Rattle.slotmap_bounded.specs.Bounded.{space};
-ghost use Rattle.slotmap_list.specs.Sequence.{IsOnce, first_or, last_or, key_after, key_before};
-ghost use Rattle.slotmap_lists.specs.Sequences.{all_elements, elements_of, list_with, number_with, value_under, with_elements, without_key};
+ghost use Rattle.std.specs.Prelude.{◌≡◌, ◌≢◌, ◌<◌, ◌≤◌, ◌+◌, ◌++◌, ◌∷◌, ℕ, [], Some, None, Err, IfOk, OnOk, OnErr, IfSome, IsSome, IsTrue, IsOk, false, true};
+ghost use Rattle.std.specs.Prelude.{is_some, length, option_map};
+ghost use Rattle.slotmap.specs.Words.{AreClones, Key as KeyOf, IsSpent, Leaves, used, most};
+ghost use Rattle.slotmap_bounded.specs.Bounded.{bound};
+ghost use Rattle.slotmap_list.specs.Sequence.{IsOnce, first_or, last_or, key_after, key_before, value_of, without};
+ghost use Rattle.slotmap_lists.specs.Sequences.{all_elements, elements_of, list_with, memory, number_with, value_under, with_elements, without_key};
 
 use slotmap::{Key, ReserveError};
 use slotmap_lists::{AddError, PlaceError, StableLists};
+use std::alloc::AllocError;
 
 /// Guards of the calls that read: `len`, `list_of`, `get`, `first`, `last`, `next`, `prev` and `capacity`.
 pub fn reads<K: Key, T: Drop>(
@@ -36,11 +37,16 @@ pub fn reads<K: Key, T: Drop>(
     // Holds by `gone` of `get`.
     ensures a_spent_cursor_finds_nothing { IsSpent lists.now.cursors (K.data_of cursor) → result.2 ≡ None }
     // The cursors at both ends, and beside an element.
-    // Holds by `ensures` of `first`, `last`, `next` and `prev`.
+    // Holds by `value` of `first`, `last`, `next` and `prev`.
     ensures first_is_the_first_cursor { option_map K.data_of result.3 ≡ first_or (elements_of list lists.now.lists) None }
     ensures last_is_the_last_cursor { option_map K.data_of result.4 ≡ last_or (elements_of list lists.now.lists) None }
     ensures next_is_the_next_cursor { option_map K.data_of result.5 ≡ key_after (K.data_of cursor) (list_with (K.data_of cursor) lists.now.lists) }
     ensures prev_is_the_previous_cursor { option_map K.data_of result.6 ≡ key_before None (K.data_of cursor) (list_with (K.data_of cursor) lists.now.lists) }
+    // A cursor that is returned has a value, and is in that list.
+    // Holds by `stands` of `first`, and by `in_list` of `first` and `next`.
+    ensures first_has_a_value { IfSome result.3 (λ key. is_some (value_under (K.data_of key) lists.now.lists) ≡ true) }
+    ensures first_is_in_the_list { IfSome result.3 (λ key. number_with (K.data_of key) lists.now.lists ≡ Some list) }
+    ensures next_is_in_the_same_list { IfSome result.5 (λ key. number_with (K.data_of key) lists.now.lists ≡ number_with (K.data_of cursor) lists.now.lists) }
     // It is for the slots in use and those that there is room for.
     // Holds by `exact` of `capacity`.
     ensures capacity_is_for_used_slots_and_room { result.7 ≡ used lists.now.cursors + lists.now.cursors.room }
@@ -74,7 +80,11 @@ pub fn push_back<K: Key, T: Drop>(
     // Where there is room, it succeeds, and the capacity stays.
     // Holds by `room` and `in_place` of `push_back`.
     ensures push_into_room_succeeds { list < length lists.old.lists → 0 < lists.old.cursors.room → IsOk result }
-    ensures push_into_room_asks_for_no_slot { 0 < lists.old.cursors.room → space lists.new.cursors ≡ space lists.old.cursors }
+    ensures push_into_room_needs_no_memory { 0 < lists.old.cursors.room → memory lists.new ≡ memory lists.old }
+    // No other list changes, and no other value.
+    // Holds by `others` and `values` of `push_back`.
+    ensures push_changes_no_other_list { (q : ℕ) → q ≢ list → elements_of q lists.new.lists ≡ elements_of q lists.old.lists }
+    ensures push_changes_no_other_value { IfOk result (λ key. (q : KeyOf) → q ≢ K.data_of key → value_under q lists.new.lists ≡ value_under q lists.old.lists) }
     // Where it fails, the lists are the same.
     // Holds by `unchanged` of `push_back`.
     ensures failed_push_changes_no_list { OnErr result (lists.new.lists ≡ lists.old.lists) }
@@ -104,10 +114,13 @@ pub fn remove<K: Key, T: Drop>(lists: &mut StableLists<K, T>, cursor: K) -> Opti
     // Holds by `value` and `removed` of `remove`.
     ensures removed_value_is_returned { result ≡ value_under (K.data_of cursor) lists.old.lists }
     ensures only_that_element_is_removed { lists.new.lists ≡ without_key (K.data_of cursor) lists.old.lists }
-    // No room is lost, and the capacity stays.
+    // Each other cursor keeps its value.
+    // Holds by `values` of `remove`.
+    ensures removal_changes_no_other_value { (q : KeyOf) → q ≢ K.data_of cursor → value_under q lists.new.lists ≡ value_under q lists.old.lists }
+    // No room is lost, and no vector grows.
     // Holds by `leaves` and `capacity` of `remove`.
     ensures removal_leaves_room { Leaves lists.old.cursors lists.new.cursors }
-    ensures removal_asks_for_no_slot { space lists.new.cursors ≡ space lists.old.cursors }
+    ensures removal_keeps_the_memory { memory lists.new ≡ memory lists.old }
 {
     lists.remove(cursor)
 }
@@ -134,8 +147,50 @@ pub fn move_to_front<K: Key, T: Drop>(lists: &mut StableLists<K, T>, cursor: K, 
     // Holds by `values` and `moved` of `move_to_front`.
     ensures move_keeps_all_values { (q : KeyOf) → value_under q lists.new.lists ≡ value_under q lists.old.lists }
     ensures move_keeps_all_cursors { lists.new.cursors ≡ lists.old.cursors }
+    // No vector grows.
+    // Holds by `moved` of `move_to_front`.
+    ensures move_keeps_the_memory { memory lists.new ≡ memory lists.old }
+    // Each other list has the elements that it had, but for that one.
+    // Holds by `others` of `move_to_front`.
+    ensures move_changes_no_other_list { IsTrue result → (q : ℕ) → q ≢ list → elements_of q lists.new.lists ≡ without (K.data_of cursor) (elements_of q lists.old.lists) }
 {
     lists.move_to_front(cursor, list)
+}
+
+/// Guards of `clear_list`.
+pub fn clear_list<K: Key, T: Drop>(lists: &mut StableLists<K, T>, list: usize)
+    // No element is left in the list, and their cursors are gone for good.
+    // Holds by `empty` and `for_good` of `clear_list`.
+    ensures clear_list_leaves_no_element { elements_of list lists.new.lists ≡ [] }
+    ensures clear_list_spends_its_cursors { (q : KeyOf) → IsSome (value_of q (elements_of list lists.old.lists)) → IsSpent lists.new.cursors q }
+    // The other lists stay, and no vector grows.
+    // Holds by `others`, `as_many` and `capacity` of `clear_list`.
+    ensures clear_list_changes_no_other_list { (q : ℕ) → q ≢ list → elements_of q lists.new.lists ≡ elements_of q lists.old.lists }
+    ensures clear_list_keeps_the_lists { length lists.new.lists ≡ length lists.old.lists }
+    ensures clear_list_keeps_the_memory { memory lists.new ≡ memory lists.old }
+{
+    lists.clear_list(list);
+}
+
+/// Guards of `append`.
+pub fn append<K: Key, T: Drop>(lists: &mut StableLists<K, T>, list: usize, other: usize) -> bool
+    // It joins two lists that are there, in their order, and leaves the second one empty.
+    // Holds by `which`, `joined` and `empty` of `append`.
+    ensures append_joins_two_lists { list ≢ other → list < length lists.old.lists → other < length lists.old.lists → IsTrue result }
+    ensures append_joins_in_order { IsTrue result → elements_of list lists.new.lists ≡ elements_of list lists.old.lists ++ elements_of other lists.old.lists }
+    ensures append_leaves_no_element { IsTrue result → elements_of other lists.new.lists ≡ [] }
+    // Each cursor keeps its value, and none is given or taken.
+    // Holds by `values` and `cursors` of `append`.
+    ensures append_keeps_all_values { (q : KeyOf) → value_under q lists.new.lists ≡ value_under q lists.old.lists }
+    ensures append_keeps_all_cursors { lists.new.cursors ≡ lists.old.cursors }
+    // No vector grows.
+    // Holds by `cursors` and `links` of `append`.
+    ensures append_keeps_the_memory { memory lists.new ≡ memory lists.old }
+    // Where it returns false, nothing changes.
+    // Holds by `unchanged` of `append`.
+    ensures refused_append_changes_nothing { result ≡ false → lists.new ≡ lists.old }
+{
+    lists.append(list, other)
 }
 
 /// Where there is room for so many elements, nothing changes.
@@ -147,4 +202,17 @@ pub fn reserve_of_less_changes_nothing<K: Key, T: Drop>(
     ensures { additional ≤ lists.old.cursors.room → lists.new ≡ lists.old }
 {
     lists.reserve(additional)
+}
+
+/// Guards of `clone`.
+pub fn clone<K: Key, T: Clone>(lists: &StableLists<K, T>) -> Result<StableLists<K, T>, AllocError>
+    // A copy has as many lists, and in each the same cursors in the same order, with clones of the values.
+    // Holds by `as_many` and `clones` of `clone`.
+    ensures copy_has_as_many_lists { IfOk result (λ copy. length copy.lists ≡ length lists.now.lists) }
+    ensures copy_has_clones_in_order { IfOk result (λ copy. (q : ℕ) → AreClones T.is_clone (elements_of q lists.now.lists) (elements_of q copy.lists)) }
+    // A copy has no more room than the lists.
+    // Holds by `capacity` of `clone`.
+    ensures copy_has_the_same_capacity { IfOk result (λ copy. bound copy.cursors ≡ bound lists.now.cursors) }
+{
+    lists.clone()
 }

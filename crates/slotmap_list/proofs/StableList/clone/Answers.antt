@@ -1,7 +1,7 @@
 use Rattle.std.proofs.Common.{ap}
 use Rattle.slotmap_bounded.proofs.Alone.{alone-copy, used_alone}
 use Rattle.slotmap_links.specs.Lists.{Lists}
-use Rattle.slotmap_list.proofs.Keeps.{kept_cloned, elements_cloned, clones_are_same}
+use Rattle.slotmap_list.proofs.{Copies.clones_are_same, Keeps.elements_cloned, Keeps.kept_cloned}
 use Rattle.slotmap_list.proofs.StableList.clone.Goals as goal
 
 pub invariant_of-result : goal.invariant_of-result

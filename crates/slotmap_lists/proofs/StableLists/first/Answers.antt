@@ -1,9 +1,9 @@
-use Rattle.slotmap_lists.proofs.Common.{length, None, sym, ap, ◌∙◌, arith, first_or}
-use Rattle.slotmap_lists.proofs.Listed.{as_many_lists, first_is, no_elements}
+use Rattle.slotmap_lists.proofs.Common.{length, None, sym, ap, arith, first_or}
+use Rattle.slotmap_lists.proofs.Listed.{as_many_lists, first_is, first_number, no_elements, stand_all}
 use Rattle.slotmap_lists.proofs.StableLists.first.Goals as goal
 
-pub returns-then-list-lists : goal.returns-then-list-lists
-returns-then-list-lists g c = sym (ap (λ l. first_or l None) (no_elements c.args.self.now.lists c.args.list (omega (arith, c.lists.ensures.value, c.if-list-lists.true))))
+pub returns-then-list-lists-clause-value : goal.returns-then-list-lists-clause-value
+returns-then-list-lists-clause-value g c = sym (ap (λ l. first_or l None) (no_elements c.args.self.now.lists c.args.list (omega (arith, c.lists.ensures.value, c.if-list-lists.true))))
 
 pub first-requires : goal.first-requires
 first-requires g c = omega (
@@ -15,4 +15,10 @@ first-requires g c = omega (
 )
 
 pub returns : goal.returns
-returns g c = rw (← c.self.view_is) (first_is c.self.invariant g.K.Key.data_of c.key_at.result c.first.result c.key_at.ensures c.args.list c.first.ensures)
+returns g c =
+    let value = first_is c.self.invariant g.K.Key.data_of c.key_at.result c.first.result c.key_at.ensures.value c.args.list c.first.ensures in
+    record {
+      value = rw (← c.self.view_is) value;
+      stands = rw (← c.self.view_is) (stand_all c.self.invariant g.K.Key.data_of c.key_at.result c.key_at.ensures.live);
+      in_list = rw (← c.self.view_is) (first_number c.self.invariant g.K.Key.data_of c.args.list c.key_at.result value);
+    }

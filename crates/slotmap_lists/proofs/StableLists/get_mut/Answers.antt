@@ -8,7 +8,7 @@ invariant_of-self-lent g c = λ w. listed_written c.self.invariant (g.K.Key.data
 pub returns-in-Some : goal.returns-in-Some
 returns-in-Some g c =
     let k = g.K.Key.data_of c.args.cursor in (
-      same_lent _ _ _ (λ w. seen_written c.self.invariant k (ap is_some (sym c.in-Some.ensures.value)) w
+      same_lent _ _ _ (λ w. seen_written c.self.invariant k (ap is_some (sym c.in-Some.ensures.value)) w _
           ∙ ap (λ (s : Sequences g.row.T.Denot). record s { lists = with_value_in k w s.lists }) c.self.view_is),
       record { writes_back = tt; value = rw (← c.self.view_is) (c.in-Some.ensures.value ∙ sym (value_at c.self.invariant k)) },
     )

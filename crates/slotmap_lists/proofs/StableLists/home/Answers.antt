@@ -1,4 +1,4 @@
-use Rattle.slotmap_lists.proofs.Common.{Some, is_some, length, sym, ap, ◌∙◌, arith, Key, Sequences, IsLive, value_under, home_of, some_is}
+use Rattle.slotmap_lists.proofs.Common.{is_some, ap, ◌∙◌, arith, Key, Sequences, IsLive, value_under, home_of, some_is}
 use Rattle.std.proofs.Common.{◌≡◌}
 use Rattle.slotmap_lists.proofs.Listed.{as_many_lists, home_below, homed_below, live_if, number_is, stands_in}
 use Rattle.slotmap_lists.proofs.StableLists.home.Goals.{After-idx}

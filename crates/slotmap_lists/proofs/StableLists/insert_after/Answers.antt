@@ -1,4 +1,4 @@
-use Rattle.slotmap_lists.proofs.Common.{sym, ◌∙◌, Key}
+use Rattle.slotmap_lists.proofs.Common.{sym, ◌∙◌}
 use Rattle.slotmap_lists.proofs.Arriving.{put_behind}
 use Rattle.slotmap_lists.proofs.StableLists.insert_after.Goals as goal
 

@@ -1,4 +1,4 @@
-use Rattle.slotmap_lists.proofs.Common.{sym, ◌∙◌, Key}
+use Rattle.slotmap_lists.proofs.Common.{sym, ◌∙◌}
 use Rattle.slotmap_lists.proofs.Arriving.{put_ahead}
 use Rattle.slotmap_lists.proofs.StableLists.insert_before.Goals as goal
 

@@ -1,4 +1,4 @@
-use Rattle.slotmap_lists.proofs.Common.{length, sym, ap, ◌∙◌, arith, Sequences}
+use Rattle.slotmap_lists.proofs.Common.{length, sym, ap, arith}
 use Rattle.slotmap_list.proofs.Parts.{elements_once}
 use Rattle.slotmap_lists.proofs.Listed.{as_many_lists, once, seen_list}
 use Rattle.slotmap_lists.proofs.StableLists.iter.Goals as goal

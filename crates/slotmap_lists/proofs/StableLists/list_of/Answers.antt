@@ -1,4 +1,4 @@
-use Rattle.slotmap_lists.proofs.Common.{is_some, sym, ap, ◌∙◌, Sequences, value_under}
+use Rattle.slotmap_lists.proofs.Common.{sym, ◌∙◌}
 use Rattle.slotmap_lists.proofs.Which.{no_number_with}
 use Rattle.slotmap_lists.proofs.StableLists.list_of.Goals as goal
 

@@ -1,4 +1,4 @@
-use Rattle.slotmap_lists.proofs.Common.{ap, sym, ◌∙◌, List, Key, Sequences}
+use Rattle.slotmap_lists.proofs.Common.{ap, sym, ◌∙◌, List, Key}
 use Rattle.slotmap_lists.proofs.Arriving.{both, other_stands, behind_is}
 use Rattle.slotmap_lists.proofs.StableLists.move_after.Goals as goal
 

@@ -1,4 +1,4 @@
-use Rattle.slotmap_lists.proofs.Common.{ap, sym, ◌∙◌, List, Key, Sequences}
+use Rattle.slotmap_lists.proofs.Common.{ap, sym, ◌∙◌, List, Key}
 use Rattle.slotmap_lists.proofs.Arriving.{both, other_stands, ahead_is}
 use Rattle.slotmap_lists.proofs.StableLists.move_before.Goals as goal
 

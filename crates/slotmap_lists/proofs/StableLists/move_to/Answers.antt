@@ -1,4 +1,4 @@
-use Rattle.slotmap_lists.proofs.Common.{true, length, is_some, refl, sym, ap, ◌∙◌, arith, Key, Sequences, value_under, elements_of, without_key, put_into, element_put, is_spot, lists_at, home_of}
+use Rattle.slotmap_lists.proofs.Common.{true, length, is_some, ap, ◌∙◌, arith, Key, Sequences, value_under, elements_of, without_key, put_into, element_put, is_spot, lists_at, home_of}
 use Rattle.std.proofs.Common.{◌≡◌, ◌<◌}
 use Rattle.slotmap_lists.proofs.Listed.{homed_below, live_if}
 use Rattle.slotmap_lists.proofs.Moved.{Moves, moves, seen_as}
@@ -61,9 +61,9 @@ returns-clause-moved g c =
     let at = goal.at.returns-clause-moved g c in
     let k = g.K.Key.data_of c.args.cursor in
     rw (c.put_index.ensures, c.take_out.ensures, home g at.After-home_at-home, index g at.After-home_at-home)
-    (seen_as c.args.self.now _ _ _ ((made g at.After-home_at-home).lists
+    (seen_as c.args.self.now _ _ _ _ ((made g at.After-home_at-home).lists
     ∙ ap (λ (s : Sequences g.row.T.Denot). put_into (element_put c.args.place) c.args.list k (value_under k s.lists) s.lists) c.self.view_is)
-    (ap (λ (s : Sequences g.row.T.Denot). s.cursors) c.self.view_is))
+    (ap (λ (s : Sequences g.row.T.Denot). s.cursors) c.self.view_is) (ap (λ (s : Sequences g.row.T.Denot). s.links) c.self.view_is))
 
 pub returns-clause-in_list : goal.returns-clause-in_list
 returns-clause-in_list g c = let at = goal.at.returns-clause-in_list g c in
@@ -72,3 +72,11 @@ returns-clause-in_list g c = let at = goal.at.returns-clause-in_list g c in
 pub returns-clause-values : goal.returns-clause-values
 returns-clause-values g c q = let at = goal.at.returns-clause-values g c in
     rw (c.put_index.ensures, c.take_out.ensures, home g at.After-home_at-home, index g at.After-home_at-home, ← c.self.view_is) ((made g at.After-home_at-home).values q)
+
+pub returns-clause-others : goal.returns-clause-others
+returns-clause-others g c q apart = let at = goal.at.returns-clause-others g c in
+    rw (c.put_index.ensures, c.take_out.ensures, home g at.After-home_at-home, index g at.After-home_at-home, ← c.self.view_is) ((made g at.After-home_at-home).others q apart)
+
+pub returns-clause-as_many : goal.returns-clause-as_many
+returns-clause-as_many g c = let at = goal.at.returns-clause-as_many g c in
+    rw (c.put_index.ensures, c.take_out.ensures, home g at.After-home_at-home, index g at.After-home_at-home, ← c.self.view_is) (made g at.After-home_at-home).as_many

@@ -1,7 +1,7 @@
-use Rattle.slotmap_lists.proofs.Common.{true, length, refl, sym, ap, ◌∙◌, arith, rules, Key, Sequences, Some, elements_of, is_some, is_spot, lists_at, get_or-set_same, home_of}
+use Rattle.slotmap_lists.proofs.Common.{true, length, refl, sym, ap, ◌∙◌, arith, Key, Sequences, Some, elements_of, is_some, is_spot, lists_at, get_or-set_same, Lists, vec_capacity}
 use Rattle.slotmap_lists.proofs.Common.{alone_spent, inserted_len, inserted_not_spent, keeps_spent_alone, spent_inserts, alone-inserts, alone-space, used_alone}
 use Rattle.std.proofs.Common.{◌≡◌, ◌<◌}
-use Rattle.slotmap_lists.proofs.Changes.{has_spot, here_new, listed_put, lists_put, new_free}
+use Rattle.slotmap_lists.proofs.Changes.{as_many_put, has_spot, here_new, listed_put, lists_put, new_free, others_put, still}
 use Rattle.slotmap_lists.proofs.Listed.{as_many_lists, number_is, value_at}
 use Rattle.slotmap_lists.proofs.StableLists.put_in_room.Goals.{After-idx-index}
 use Rattle.std.specs.FinSet as set
@@ -44,18 +44,30 @@ returns g c =
     let made = c.insert_reserved-key.ensures in
     let k = g.K.Key.data_of c.insert_reserved-key.result in
     let v = c.args.value in
+    let here = here_new c.self.invariant c.insert_reserved-key.new.self k v made.inserts made.fresh made.valid.after c.args.list c.args.place (there g at) (can g at) in
     let stays = listed_put c.self.invariant c.insert_reserved-key.new.self k v made.inserts made.fresh made.valid.after c.args.list c.args.place (there g at) (can g at) (below g at) made.bound in
     record {
       lists = rw (c.put_index.ensures, index g at, ← c.self.view_is)
           (lists_put c.self.invariant c.insert_reserved-key.new.self k v made.inserts made.fresh made.valid.after c.args.list c.args.place (there g at) (can g at));
       in_list = rw (c.put_index.ensures, index g at)
-          (number_is stays k (ap is_some (here_new c.self.invariant c.insert_reserved-key.new.self k v made.inserts made.fresh made.valid.after c.args.list c.args.place (there g at) (can g at)))
+          (number_is stays k (ap is_some here)
           ∙ ap Some (get_or-set_same c.self.inside.homes.items k.index c.args.list 0 (omega (arith, below g at, c.self.invariant.homes_long))));
+      added = rw (c.put_index.ensures, index g at) (value_at stays k ∙ here);
+      others = λ q apart. rw (c.put_index.ensures, index g at, ← c.self.view_is)
+          (others_put c.self.invariant c.insert_reserved-key.new.self k v made.inserts made.fresh made.valid.after c.args.list c.args.place (there g at) (can g at) q apart);
+      values = λ q other. rw (c.put_index.ensures, index g at, ← c.self.view_is) (value_at stays q
+          ∙ still c.self.invariant c.insert_reserved-key.new.self k v made.inserts made.fresh made.valid.after c.args.list c.args.place (there g at) (can g at) q other
+          ∙ sym (value_at c.self.invariant q));
+      as_many = rw (c.put_index.ensures, index g at, ← c.self.view_is)
+          (as_many_put c.self.invariant c.insert_reserved-key.new.self k v made.inserts made.fresh made.valid.after c.args.list c.args.place (there g at) (can g at));
       fresh = rw (← c.self.view_is) (value_at c.self.invariant k ∙ made.fresh);
       unspent = rw (← c.self.view_is) (λ spent. inserted_not_spent _ _ true made.valid.before _ _ made.inserts _ (alone_spent _ _ spent) refl);
       cursors = rw (← c.self.view_is) (alone-inserts _ _ _ _ made.inserts);
       used = rw (← c.self.view_is, used_alone c.self.inside.values, used_alone c.insert_reserved-key.new.self)
           (omega (arith, inserted_len true _ _ v _ made.valid.before made.inserts, ap set.len made.inserts.detached, ap set.len made.inserts.retired));
-      capacity = rw (← c.self.view_is) (alone-space c.self.inside.values c.insert_reserved-key.new.self made.bound made.valid.capacity);
+      capacity = rw (← c.self.view_is) (λ i. (
+        alone-space c.self.inside.values c.insert_reserved-key.new.self made.bound made.valid.capacity i,
+        (vec_capacity c.self.inside.homes, ap (λ (s : Lists). s.capacity) c.put_index.ensures i),
+      ));
       gone = rw (← c.self.view_is) (keeps_spent_alone _ _ (spent_inserts _ _ true made.valid.before _ _ made.inserts));
     }

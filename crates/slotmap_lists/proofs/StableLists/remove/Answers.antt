@@ -1,8 +1,9 @@
 use Rattle.slotmap_lists.proofs.Common.{true, Some, is_some, ◌∙◌, rules, sym, ap, keeps_spent_alone, leaves_by_removal, leaves_none, removed_spent, spent_alone, spent_removes, removed_here}
-use Rattle.slotmap_lists.proofs.Common.{alone-leaves, alone-removes, alone-space, Key, home_of}
+use Rattle.slotmap_lists.proofs.Common.{alone-leaves, alone-removes, alone-space, Key, Lists, home_of, vec_capacity, elements_of, removed_other}
 use Rattle.std.proofs.Common.{◌≡◌}
-use Rattle.slotmap_lists.proofs.Changes.{listed_removed, lists_removed}
+use Rattle.slotmap_lists.proofs.Changes.{as_many_removed, each_removed, listed_removed, lists_removed}
 use Rattle.slotmap_lists.proofs.Listed.{home_below, homed_below, inside_home, value_at}
+use Rattle.slotmap_lists.proofs.Callers.{without_each}
 use Rattle.slotmap_lists.proofs.Which.{no_key_without}
 use Rattle.slotmap_lists.proofs.StableLists.remove.Goals.{After-idx-index, After-home_at-home}
 use Rattle.std.specs.FinMap as map
@@ -27,6 +28,9 @@ returns-in_err-value-clause-removed g c =
     let k = g.K.Key.data_of c.args.cursor in
     let none = value_at c.self.invariant k ∙ sym (rw c.in_err-value.was at c.remove.ensures.value) in
     rw (c.in_err-value.ensures.unchanged, ← c.self.view_is) (sym (no_key_without k _ none))
+
+pub returns-in_err-value-clause-each : goal.returns-in_err-value-clause-each
+returns-in_err-value-clause-each g c q = ap (elements_of q) (returns-in_err-value-clause-removed g c) ∙ without_each (g.K.Key.data_of c.args.cursor) _ q
 
 pub returns-in_err-value-clause-absent : goal.returns-in_err-value-clause-absent
 returns-in_err-value-clause-absent g c =
@@ -65,12 +69,21 @@ returns g c =
       value = rw (← c.self.view_is) (sym there ∙ sym (value_at c.self.invariant k));
       removed = rw (c.take_out.ensures, home g at.After-home_at-home, index g at.After-idx-index, ← c.self.view_is)
           (lists_removed c.self.invariant k c.in_ok-value.value there c.remove.new.self removes);
+      each = λ q. rw (c.take_out.ensures, home g at.After-home_at-home, index g at.After-idx-index, ← c.self.view_is)
+          (each_removed c.self.invariant k c.in_ok-value.value there c.remove.new.self removes q);
+      values = λ q other. rw (c.take_out.ensures, home g at.After-home_at-home, index g at.After-idx-index, ← c.self.view_is) (value_at stays q
+          ∙ ap (λ m. map.get m q) removes.live ∙ removed_other c.self.inside.values.live k q other ∙ sym (value_at c.self.invariant q));
+      as_many = rw (c.take_out.ensures, home g at.After-home_at-home, index g at.After-idx-index, ← c.self.view_is)
+          (as_many_removed c.self.invariant k c.in_ok-value.value there c.remove.new.self removes);
       absent = rw (c.take_out.ensures, home g at.After-home_at-home, index g at.After-idx-index)
           (value_at stays k ∙ ap (λ m. map.get m k) removes.live ∙ removed_here c.self.inside.values.live k);
       cursors = rw (← c.self.view_is) (alone-removes _ _ k removes);
       for_good = spent_alone _ k (removed_spent _ _ true before _ live removes);
       gone = rw (← c.self.view_is) (keeps_spent_alone _ _ (spent_removes _ _ true before _ live removes));
       leaves = rw (← c.self.view_is) (alone-leaves _ _ (leaves_by_removal true _ before _ live _ removes));
-      capacity = rw (← c.self.view_is) (alone-space c.self.inside.values c.remove.new.self c.remove.ensures.bound c.remove.ensures.valid.capacity);
+      capacity = rw (← c.self.view_is) (λ i. (
+        alone-space c.self.inside.values c.remove.new.self c.remove.ensures.bound c.remove.ensures.valid.capacity i,
+        (vec_capacity c.self.inside.homes, ap (λ (s : Lists). s.capacity) c.take_out.ensures i),
+      ));
       stale = search rules;
     }

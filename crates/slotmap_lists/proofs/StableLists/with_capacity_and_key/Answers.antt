@@ -1,4 +1,4 @@
-use Rattle.slotmap_lists.proofs.Common.{arith, ap, length}
+use Rattle.slotmap_lists.proofs.Common.{arith}
 use Rattle.std.proofs.Common.{◌+◌}
 use Rattle.slotmap_bounded.proofs.Alone.{alone-new}
 use Rattle.slotmap_lists.proofs.Opening.{listed_new, lists_opened}
