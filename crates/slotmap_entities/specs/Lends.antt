@@ -3,7 +3,7 @@ use Rattle.std.specs.Prelude.{Option}
 use Rattle.std.specs.Borrow.{LendsIf, Fml, RattleType, MutBor}
 use Rattle.slotmap.specs.Words.{Key, KeyMembers, with_value_of}
 use Rattle.slotmap_entities.specs.World.{World}
-use Rattle.slotmap_entities.specs.declared.tables.Tables.{Ghosts}
+use Rattle.slotmap_entities.specs.declared.tuples.Tables.{Ghosts}
 use Rattle.slotmap_entities.specs.contracts.World.{the_row}
 
 module _ (K E T P : RattleType) (key : KeyMembers K.Denot) (tables : Ghosts T.Denot K.Denot P.Denot) where

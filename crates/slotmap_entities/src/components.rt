@@ -137,7 +137,7 @@ impl<K: Key, E: Drop, T: Tables<K>> World<K, E, T> {
     }
 
     /// Takes a component off an entity, and returns it, or `None` if it has none of this kind or doesn't
-    /// exist. No room is lost.
+    /// exist. No room is lost, and the capacity of a `SecondaryMap` stays.
     ///
     /// ```
     /// let mut world: World<DefaultKey, u8, (SecondaryMap<DefaultKey, u32>, ())> = World::new(alloc)?;
@@ -150,6 +150,7 @@ impl<K: Key, E: Drop, T: Tables<K>> World<K, E, T> {
         ensures live { IsSome result → IsLive self.old.entities.content (K.data_of key) }
         ensures none_now { get (C.Table.pairs (C.table self.new.tables)) (K.data_of key) ≡ None }
         ensures room { (i count : ℕ) → C.Table.fits (C.table self.old.tables) i count → C.Table.fits (C.table self.new.tables) i count }
+        ensures capacity { C.Table.keeps_capacity (C.table self.old.tables) (C.table self.new.tables) }
         ensures others { (q : KeyOf) → q ≢ K.data_of key → get (C.Table.pairs (C.table self.new.tables)) q ≡ get (C.Table.pairs (C.table self.old.tables)) q }
         ensures kinds { self.new.tables ≡ C.with_table self.old.tables (C.table self.new.tables) }
         ensures entities { self.new.entities ≡ self.old.entities }
@@ -224,7 +225,8 @@ impl<K: Key, E: Drop, T: Tables<K>> World<K, E, T> {
     /// entity where it returns false.
     ///
     /// The caller has to prove that `f` may be called for each component of the kind, and for no other. The
-    /// components come in some order, and no room is lost. It takes time linear in the size of the table.
+    /// components come in some order. No room is lost, and the capacity of a `SecondaryMap` stays. It takes
+    /// time linear in the size of the table.
     ///
     /// ```
     /// let mut world: World<DefaultKey, u8, (SecondaryMap<DefaultKey, u32>, ())> = World::new(alloc)?;
@@ -245,6 +247,7 @@ impl<K: Key, E: Drop, T: Tables<K>> World<K, E, T> {
         requires { CallableOnEach F.FnMut K.data_of f (keyed (C.Table.pairs (C.table self.old.tables))) }
         ensures retained { RetainsBy F.FnMut K.data_of f (keyed (C.Table.pairs (C.table self.old.tables))) (keyed (C.Table.pairs (C.table self.new.tables))) }
         ensures room { (i count : ℕ) → C.Table.fits (C.table self.old.tables) i count → C.Table.fits (C.table self.new.tables) i count }
+        ensures capacity { C.Table.keeps_capacity (C.table self.old.tables) (C.table self.new.tables) }
         ensures kinds { self.new.tables ≡ C.with_table self.old.tables (C.table self.new.tables) }
         ensures entities { self.new.entities ≡ self.old.entities }
     {

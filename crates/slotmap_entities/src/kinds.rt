@@ -5,7 +5,8 @@ ghost use Rattle.std.specs.Borrow.{sem, Lends};
 ghost use Rattle.slotmap.specs.Words.{Key as KeyOf, contains_key, get};
 ghost use Rattle.std.specs.FinMap as map;
 
-use crate::tables::{Table, Tables};
+use crate::tables::Table;
+use crate::tuples::Tables;
 use slotmap::Key;
 use std::marker::PhantomData;
 

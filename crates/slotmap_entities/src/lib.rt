@@ -59,6 +59,7 @@ mod spawn;
 mod spawn_both;
 mod spawn_three;
 mod tables;
+mod tuples;
 
 pub use clone::{CloneKind, CloneTable, CloneTables};
 pub use components::AttachError;
@@ -73,7 +74,8 @@ use std::alloc::Global;
 use std::fmt;
 use std::marker::Model;
 use std::ops::Index;
-pub use tables::{Table, Tables};
+pub use tables::Table;
+pub use tuples::Tables;
 
 /// Entities with values of type `E` under keys of type `K`, and their components in the tables `T`.
 ///

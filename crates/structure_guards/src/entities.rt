@@ -156,9 +156,23 @@ pub fn retain_components_calls_once_for_each<
     F: FnMut(K, &mut Of<K, T, C>) -> bool + Drop,
 >(world: &mut World<K, E, T>, f: F)
     requires { CallableOnEach F.FnMut K.data_of f (keyed (C.Table.pairs (C.table world.old.tables))) }
-    ensures { RetainsBy F.FnMut K.data_of f (keyed (C.Table.pairs (C.table world.old.tables))) (keyed (C.Table.pairs (C.table world.new.tables))) }
+    ensures retained { RetainsBy F.FnMut K.data_of f (keyed (C.Table.pairs (C.table world.old.tables))) (keyed (C.Table.pairs (C.table world.new.tables))) }
+    // The table takes no memory, where its type tells that.
+    // Refuses `retain_components_asks_for_memory`: `capacity` of `retain_components`.
+    ensures keeps_the_capacity { C.Table.keeps_capacity (C.table world.old.tables) (C.table world.new.tables) }
 {
     world.retain_components::<C, F>(f);
+}
+
+/// A component is taken off, and the table takes no memory, where its type tells that.
+/// Refuses `detach_asks_for_memory`: `capacity` of `detach`.
+pub fn detach_keeps_the_capacity<K: Key, E: Drop, T: Tables<K>, C: Kind<K, T>>(
+    world: &mut World<K, E, T>,
+    key: K,
+) -> Option<Of<K, T, C>>
+    ensures { C.Table.keeps_capacity (C.table world.old.tables) (C.table world.new.tables) }
+{
+    world.detach::<C>(key)
 }
 
 /// Guards of `replace_both`.
