@@ -122,8 +122,12 @@ def read_items(path, lines, start, stop, indent):
                 set_subject(item)
             number = end
         else:
-            one_line = text.endswith(";")
-            end = number + 1 if one_line else end_of(lines, number, indent)
+            end = number + 1
+            if kind == "type":
+                while not lines[end - 1].rstrip().endswith(";"):
+                    end += 1
+            elif not text.endswith(";"):
+                end = end_of(lines, number, indent)
             item.lines = lines[number:end]
             number = end
         found.append(item)

@@ -51,6 +51,11 @@ def with_ones(values):
     return [number for value in values for number in (value, 1)]
 
 
+def steps(count, turns):
+    """How many elements there are in so many steps, and how many are left then."""
+    return [min(count, turns), count - min(count, turns)]
+
+
 def list_part(size):
     print(" list")
     random = Random(1)
@@ -112,6 +117,8 @@ def list_part(size):
     tell("in the list", [int(number in live) for number in cursors])
     # There is no number before the first one.
     tell("by cursors", [number for pair in zip(left, [MASK] + left) for number in pair])
+    tell("by loops", twice(left) + left[::-1] * 2)
+    tell("lengths", steps(len(left), len(left) // 2) * 3 + [len(left)])
     tell("from the second", twice(left[1:]))
     tell("cleared", [])
     tell("copied", both_ends(left))
@@ -120,6 +127,7 @@ def list_part(size):
     tell("appended", made * 2)
     tell("popped", with_ones(both_ends(made * 2)))
     tell("drained", [])
+    tell("taken", [*steps(size, size // 2), 0, *steps(size, size // 2)])
     # Three lists that were made empty, each in another way.
     for _ in range(3):
         tell("drained", with_ones(range(size)))
@@ -142,7 +150,6 @@ class Segments:
         del self.lists[self.home.pop(number)][number]
 
     def put_beside(self, number, other, behind):
-        self.take(number)
         home = self.home[other]
         order = list(self.lists[home])
         order.insert(order.index(other) + behind, number)
@@ -172,11 +179,18 @@ def segments_part(size):
         number, other = random.pick(numbers), random.pick(numbers)
         beside.append(int(number != other))
         if number != other:
+            segments.take(number)
             segments.put_beside(number, other, turn % 2)
     tell("moves", moves)
     tell("moves beside", beside)
     tell("moved", segments.shown(value))
-    value = [number + 1 for number in numbers]
+    for number in range(size, size + min(size, 1000)):
+        segments.put_beside(number, random.pick(numbers), number % 2 == 0)
+        value.append(number)
+    tell("inserted", segments.shown(value))
+    orders = [list(order) for order in segments.lists]
+    tell("by each way", [number for order in orders for number in [*order[::-1], *twice(order), *order[::-1], *steps(len(order), 2)]])
+    value = [number + (number < size) for number in value]
     for number in numbers[::3]:
         segments.take(number)
     tell("removed", [value[number] for number in numbers[::3]])
@@ -184,6 +198,12 @@ def segments_part(size):
     tell("homes", [segments.home.get(number, 3) for number in numbers])
     tell("popped", both_ends([value[number] for number in segments.lists[1]]))
     tell("left", [len(segments.lists[0]) + len(segments.lists[2]), 0])
+    segments.lists = [OrderedDict.fromkeys([*segments.lists[0], *segments.lists[2]]), {}, {}]
+    joined = list(segments.shown(value))
+    segments.lists[0] = {}
+    tell("joins", [0, 0, 1])
+    tell("emptied", segments.shown(value))
+    tell("copied", joined)
 
 
 class Graph:
@@ -268,6 +288,8 @@ def graph_part(size):
         into = [graph.edges[edge][2] for edge in graph.into[node]]
         tell("from back", [len(into)] + into[::-1])
         tell("with ends", with_ends(edges))
+        counts = [len(edges) for edges in (graph.edges, graph.out[node], graph.into[node], graph.out[node])]
+        tell("lengths", [n for count in counts for n in steps(count, 2)] + [counts[2]])
         tell("reachable", graph.reachable(node))
     # A path leads through all nodes, so that they have one order.
     order = range(size, -1, -1)
@@ -447,6 +469,9 @@ def below_part(scene, random, nodes):
             ahead.append((False, node))
             ahead += [(True, child) for child in reversed(scene.children[node])]
     tell("visits", visits)
+    count = len(nodes)
+    tell("lengths", steps(count, 2) * 3 + steps(len(scene.children[nodes[0]]), 2))
+    tell("ways", [len(scene.above(nodes[-1])), 1, count - 1, count * 2])
 
 
 def chance_part(size):
@@ -479,7 +504,7 @@ def chance_part(size):
     tell("left", scene.seen())
     # There is no number above a root.
     above = [MASK if scene.parent[node] is None else scene.value[scene.parent[node]] for node in scene.value]
-    tell("by keys", [*scene.value.values(), *above])
+    tell("by keys", [*scene.value.values(), *above, *scene.value.values()])
     tell("live", [int(node in scene.value) for node in nodes] + [len(scene.value)] * 3)
     tell("cleared", [])
 
@@ -662,6 +687,8 @@ def scheduler_part(size):
     tell("cleared", [])
     in_order = sorted(jobs.turn, key=jobs.turn.get)
     tell("in order", [n for job in in_order for n in (jobs.turn[job][0], jobs.value[job], jobs.value[job])])
+    left = steps(len(jobs.turn), 2)
+    tell("lengths", [*left * 4, 0, *left])
     retained, drained = [], []
     for job in sorted(jobs.turn):
         time, turn = jobs.turn[job]
@@ -716,10 +743,13 @@ def world_part(size):
     detached = [second.pop(key, None) for key in (random.pick(keys) for _ in range(size // 2))]
     tell("detached", [component for component in detached if component is not None])
     first = {key: value + 1 for key, value in first.items() if (value + 1) % 4 != 0}
+    second = {key: value for key, value in second.items() if value % 4 != 0}
     tell("three", joined(packed, first, second, first))
     tell("without the first", joined([key for key in packed if key not in first], second))
     optional = [[number[key], first[key], *([second[key]] if key in second else [])] for key in packed if key in first]
     tell("perhaps the second", [n for found in optional for n in found])
+    both, one, other = first.keys() & second.keys(), len(first), len(second)
+    tell("lengths", [one, len(both), len(both), other - len(both), one])
     for key in packed:
         if key in first and key in second:
             first[key] += second[key]

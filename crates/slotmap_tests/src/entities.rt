@@ -1,8 +1,10 @@
-//! Entity stores: what their errors say, and what a debugger shows.
+//! Entity stores: what their errors say, what a debugger shows, and copies of one table.
 
-use crate::shown::{is_text, reads};
-use slotmap::{DefaultKey, SecondaryMap};
-use slotmap_entities::{AttachError, First, Kind, SpawnError, Table, Tables, World};
+use crate::shown::{copies, is_text, reads};
+use slotmap::{DefaultKey, KeyData, SecondaryMap, SparseSecondaryMap};
+use slotmap_entities::{
+    AttachError, CloneTable, CloneTables, First, Kind, SpawnError, Table, World,
+};
 use std::alloc::Global;
 use std::fmt;
 use std::test::Fail;
@@ -34,20 +36,22 @@ fn errors(rt: HostRuntime) -> Result<(), Fail> {
 
 const SHOWN: &str = "World { entities: {DefaultKey(1v1): 1}, tables: ({DefaultKey(1v1): 10}, ()) }";
 
-// Spawns an entity with a component, and says whether the world has its text.
+// Spawns an entity with a component, and says whether the world and its copy have their text.
 fn shows_one<T, C>(world: &mut Numbers<T>, alloc: Global) -> bool
 where
-    T: Tables<DefaultKey> + fmt::Debug,
+    T: CloneTables<DefaultKey> + fmt::Debug,
     C: Kind<DefaultKey, T>,
     C::Table: Table<DefaultKey, Component = u32>,
 {
-    world.spawn_with::<C>(1, 10).is_ok() && is_text(format!(in alloc; "{world:?}"), SHOWN)
+    world.spawn_with::<C>(1, 10).is_ok()
+        && is_text(format!(in alloc; "{world:?}"), SHOWN)
+        && copies(alloc, world, SHOWN)
 }
 
 // The same, with the world made.
 fn shows_made<T, C>(alloc: Global) -> bool
 where
-    T: Tables<DefaultKey> + fmt::Debug,
+    T: CloneTables<DefaultKey> + fmt::Debug,
     C: Kind<DefaultKey, T>,
     C::Table: Table<DefaultKey, Component = u32>,
 {
@@ -60,5 +64,38 @@ where
 #[test]
 fn shows_its_tables(rt: HostRuntime) -> Result<(), Fail> {
     assert!(rt; shows_made::<(SecondaryMap<DefaultKey, u32>, ()), First>(rt.alloc()));
+    Ok(())
+}
+
+// Gives an entity a component in an empty table, copies the table, and clears it. Says whether the copy alone has the component.
+fn keeps_a_copy<M>(table: &mut M) -> bool
+where
+    M: CloneTable<DefaultKey> + Table<DefaultKey, Component = u32>,
+{
+    let key = DefaultKey::from(KeyData::new(2, 3));
+    let put = table.insert(key, 7).is_ok();
+    let copied = table.clone_table();
+    table.clear();
+    match copied {
+        Ok(copy) => put && (copy.get(key), table.get(key)) == (Some(&7), None),
+        Err(_) => false,
+    }
+}
+
+// The same, with the table made.
+fn is_copied_well<M>(alloc: Global) -> bool
+where
+    M: CloneTable<DefaultKey> + Table<DefaultKey, Component = u32>,
+{
+    match M::new(alloc) {
+        Ok(mut table) => keeps_a_copy(&mut table),
+        Err(_) => false,
+    }
+}
+
+#[test]
+fn copies_of_tables(rt: HostRuntime) -> Result<(), Fail> {
+    assert!(rt; is_copied_well::<SecondaryMap<DefaultKey, u32>>(rt.alloc()));
+    assert!(rt; is_copied_well::<SparseSecondaryMap<DefaultKey, u32>>(rt.alloc()));
     Ok(())
 }

@@ -1,6 +1,6 @@
 //! Graphs: what their errors say, and what a debugger shows.
 
-use crate::shown::{is_text, reads};
+use crate::shown::{copies, is_text, reads};
 use slotmap::{DefaultKey, KeyData};
 use slotmap_graph::{EdgeError, EdgeKey, Graph, OrderError};
 use std::alloc::Global;
@@ -26,14 +26,16 @@ fn errors(rt: HostRuntime) -> Result<(), Fail> {
     Ok(())
 }
 
-// Adds a node with an edge to itself, and says whether the graph has its text.
+// Adds a node with an edge to itself, and says whether the graph and its copy have their text.
 fn shows_loop(graph: &mut Graph<DefaultKey, u64, u64>, alloc: Global) -> bool {
     let Ok(a) = graph.add_node(7) else {
         return false;
     };
     let shown = "Graph { nodes: {DefaultKey(1v1): 7}, edges: {EdgeKey(1v1): \
         Edge { from: DefaultKey(1v1), to: DefaultKey(1v1), value: 8 }} }";
-    graph.add_edge(a, a, 8).is_ok() && is_text(format!(in alloc; "{graph:?}"), shown)
+    graph.add_edge(a, a, 8).is_ok()
+        && is_text(format!(in alloc; "{graph:?}"), shown)
+        && copies(alloc, graph, shown)
 }
 
 fn shows_its_edges_well(alloc: Global) -> bool {

@@ -17,6 +17,8 @@ mod links;
 #[cfg(test)]
 mod list;
 #[cfg(test)]
+mod lists;
+#[cfg(test)]
 mod scene;
 #[cfg(test)]
 mod scheduler;

@@ -1,6 +1,6 @@
 //! Lists: what their errors say, and what a debugger shows.
 
-use crate::shown::{is_text, reads, shows};
+use crate::shown::{copies, is_text, reads, shows};
 use slotmap::KeyData;
 use slotmap_list::{Cursor, PlaceError, PushError, StableList};
 use std::alloc::Global;
@@ -30,11 +30,12 @@ fn cursors(rt: HostRuntime) -> Result<(), Fail> {
     Ok(())
 }
 
-// Adds the values 2 and 1, in the other order, and says whether the list has its text, on one line and on several.
+// Adds the values 2 and 1, in the other order, and says whether the list has its text, on one line and on several, and its copy too.
 fn shows_turned(list: &mut List, alloc: Global) -> bool {
     let turned = list.push_back(1).is_ok() && list.push_front(2).is_ok();
     turned
         && is_text(format!(in alloc; "{list:?}"), "[2, 1]")
+        && copies(alloc, list, "[2, 1]")
         && is_text(format!(in alloc; "{list:#?}"), "[\n    2,\n    1,\n]")
 }
 

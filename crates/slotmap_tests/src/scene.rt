@@ -2,9 +2,9 @@
 
 mod floats;
 
-use crate::shown::{is_text, reads, shows};
+use crate::shown::{copies, is_text, reads, shows};
 use slotmap::NodeKey;
-use slotmap_scene::world::Offset;
+use slotmap_scene::world::{HasTransform, Offset, Transform};
 use slotmap_scene::{AddError, MoveError, ReparentError, Scene};
 use std::alloc::Global;
 use std::test::Fail;
@@ -66,6 +66,23 @@ fn offsets(rt: HostRuntime) -> Result<(), Fail> {
     Ok(())
 }
 
+// Whether sums of offsets wrap around, and an offset is its own transform.
+fn adds_offsets() -> bool {
+    let (hand, elbow) = (Offset { x: 3, y: -4 }, Offset { x: 5, y: i32::MIN });
+    Transform::under(&hand, &elbow)
+        == (Offset {
+            x: 8,
+            y: 2147483644,
+        })
+        && HasTransform::transform(&hand) == hand
+}
+
+#[test]
+fn sums_of_offsets(rt: HostRuntime) -> Result<(), Fail> {
+    assert!(rt; adds_offsets());
+    Ok(())
+}
+
 // Adds a root of value 1 with two children, of the values 2 and 3, of which the first has one child. Returns the root.
 fn add_tree(scene: &mut Family) -> Option<NodeKey> {
     let top = scene.add_root(1).ok()?;
@@ -88,9 +105,10 @@ const ON_SEVERAL_LINES: &str = "{
     NodeKey(5v1): 5,
 }";
 
-// Whether a scene of this tree and one more root has its texts.
+// Whether a scene of this tree and one more root has its texts, and its copy too.
 fn shows_trees(scene: &Family, alloc: Global, top: NodeKey) -> bool {
     shows(alloc, scene, ON_ONE_LINE)
+        && copies(alloc, scene, ON_ONE_LINE)
         && is_text(format!(in alloc; "{scene:#?}"), ON_SEVERAL_LINES)
         && shows(alloc, &scene.children(top), "ChildKeys { remaining: 2 }")
 }

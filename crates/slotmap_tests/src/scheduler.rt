@@ -1,6 +1,6 @@
 //! Schedulers: what their errors say, and what a debugger shows.
 
-use crate::shown::{is_text, reads};
+use crate::shown::{copies, is_text, reads};
 use slotmap::NodeKey;
 use slotmap_scheduler::{RescheduleError, ScheduleError, Scheduler};
 use std::alloc::Global;
@@ -28,12 +28,13 @@ fn errors(rt: HostRuntime) -> Result<(), Fail> {
 
 const BY_TIME: &str = "[(20, NodeKey(2v1), 2), (30, NodeKey(1v1), 1), (30, NodeKey(3v1), 3)]";
 
-// Schedules two jobs, the second due before the first, and one that is due with the first. Says whether they are shown so.
+// Schedules two jobs, the second due before the first, and one that is due with the first. Says whether they are shown so, and those of a copy too.
 fn shows_three(jobs: &mut Scheduler<NodeKey, u64>, alloc: Global) -> bool {
     jobs.schedule(30, 1).is_ok()
         && jobs.schedule(20, 2).is_ok()
         && jobs.schedule(30, 3).is_ok()
         && is_text(format!(in alloc; "{jobs:?}"), BY_TIME)
+        && copies(alloc, jobs, BY_TIME)
 }
 
 fn shows_the_jobs_by_time_well(alloc: Global) -> bool {

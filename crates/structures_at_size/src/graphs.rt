@@ -2,7 +2,7 @@
 
 mod steps;
 
-use crate::graphs::steps::sum_by_steps;
+use crate::graphs::steps::{sum_by_keys, sum_by_steps, sum_of_lengths};
 use crate::items::{first_of, increment, keep, last_of};
 use crate::random::Random;
 use crate::sums::{Sum, tell};
@@ -187,18 +187,6 @@ fn tell_from_back(rt: &HostRuntime, graph: &Numbers, node: NodeKey) -> bool {
     }
 }
 
-// The numbers of all nodes and edges by their keys.
-fn sum_by_keys(graph: &Numbers) -> Sum {
-    let mut sum = Sum::new();
-    for node in graph.nodes() {
-        sum.add_found(graph.node(node));
-    }
-    for edge in graph.edges() {
-        sum.add_found(graph.edge(edge));
-    }
-    sum
-}
-
 // Which of these nodes and edges are in the graph.
 fn sum_of_live(graph: &Numbers, nodes: &[NodeKey], edges: &[EdgeKey]) -> Sum {
     let mut sum = Sum::new();
@@ -241,6 +229,7 @@ fn search(rt: &HostRuntime, graph: &Numbers, node: NodeKey) -> bool {
         && tell(rt, "along", sum_along(graph, node))
         && tell_from_back(rt, graph, node)
         && tell(rt, "with ends", sum_of_edges_at(graph, node))
+        && tell(rt, "lengths", sum_of_lengths(graph, node, 2))
         && tell_nodes(rt, "reachable", graph, graph.reachable(rt.alloc(), node))
 }
 

@@ -1,6 +1,7 @@
 //! Lists of numbers.
 
 use crate::items::{increment, keep};
+use crate::lengths::{add_exact, add_within};
 use crate::random::Random;
 use crate::sums::{Sum, tell};
 use slotmap::ReserveError;
@@ -58,6 +59,33 @@ fn sum_by_cursors(list: &Numbers) -> Sum {
         }
         sum.add_found(list.get(list.prev(cursor).unwrap_or_default()));
     }
+    sum
+}
+
+// The numbers from front to back, and then from back to front, each by its cursor and then without one.
+fn sum_by_loops(list: &Numbers) -> Sum {
+    let mut sum = Sum::new();
+    for (cursor, value) in list {
+        sum.add_found(list.get(cursor));
+        sum.add(*value);
+    }
+    for cursor in list.cursors().rev() {
+        sum.add_found(list.get(cursor));
+    }
+    for value in list.values().rev() {
+        sum.add(*value);
+    }
+    sum
+}
+
+// The lengths of the iterators: after half the elements, and of the last one to its end.
+fn sum_of_lengths(list: &Numbers) -> Sum {
+    let (mut sum, half) = (Sum::new(), list.len() / 2);
+    add_exact(&mut sum, list.iter(), half);
+    add_exact(&mut sum, list.cursors(), half);
+    add_exact(&mut sum, list.values(), half);
+    let first = list.first().unwrap_or_default();
+    add_within(&mut sum, list.iter_from(first), list.len());
     sum
 }
 
@@ -334,6 +362,8 @@ fn retain_and_remove(
         && tell_vector(rt, "left", list)
         && tell(rt, "in the list", sum_of_places(list, cursors))
         && tell(rt, "by cursors", sum_by_cursors(list))
+        && tell(rt, "by loops", sum_by_loops(list))
+        && tell(rt, "lengths", sum_of_lengths(list))
         && tell(rt, "from the second", sum_from_second(list))
 }
 
@@ -359,6 +389,15 @@ fn run_in(
         && insert_and_move(rt, list, cursors.as_slice(), random, size)
         && retain_and_remove(rt, list, cursors.as_slice(), random, size)
         && copy(rt, list)
+}
+
+// The lengths of the iterators that take all elements out of two lists, after so many.
+fn sum_of_taken(mut list: Numbers, other: Numbers, steps: usize) -> Sum {
+    let mut sum = Sum::new();
+    add_exact(&mut sum, list.drain(), steps);
+    sum.add(list.len() as u64);
+    add_exact(&mut sum, other.into_iter(), steps);
+    sum
 }
 
 // A list in room that was made for it.
@@ -388,6 +427,18 @@ fn run_append(rt: &HostRuntime, size: u64) -> bool {
     }
 }
 
+// The same of two lists of many values.
+fn run_taken(rt: &HostRuntime, size: u64) -> bool {
+    match (collect(rt, size), collect(rt, size)) {
+        (Some(list), Some(other)) => tell(
+            rt,
+            "taken",
+            sum_of_taken(list, other, size as usize / 2),
+        ),
+        _ => false,
+    }
+}
+
 // Fills an empty list with many values at once, in room that was reserved.
 fn extend_reserved(rt: &HostRuntime, list: &mut Numbers, size: u64) -> bool {
     list.reserve(size as usize).is_ok()
@@ -410,6 +461,7 @@ pub fn run(rt: &HostRuntime, size: u64) -> bool {
     println!(rt; " list").is_ok()
         && run_reserved(rt, size)
         && run_append(rt, size)
+        && run_taken(rt, size)
         && run_extend(rt, StableList::new(rt.alloc()), size)
         && run_extend(rt, StableList::with_key(rt.alloc()), size)
         && run_extend(rt, StableList::with_capacity_and_key(rt.alloc(), 1), size)

@@ -11,6 +11,7 @@
 mod depth_first;
 mod graphs;
 mod items;
+mod lengths;
 mod lists;
 mod random;
 mod rooms;

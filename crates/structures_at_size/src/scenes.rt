@@ -146,7 +146,7 @@ fn sum_of_all(scene: &Numbers) -> Sum {
     sum
 }
 
-// All numbers, and the number above each node.
+// All numbers, the number above each node, and all numbers again.
 fn sum_by_keys(scene: &Numbers) -> Sum {
     let mut sum = Sum::new();
     for value in scene.values() {
@@ -154,6 +154,9 @@ fn sum_by_keys(scene: &Numbers) -> Sum {
     }
     for node in scene.keys() {
         sum.add_found(scene.get(scene.parent(node).unwrap_or_default()));
+    }
+    for (_, value) in scene {
+        sum.add(*value);
     }
     sum
 }

@@ -1,6 +1,7 @@
 //! Schedulers of numbers.
 
 use crate::items::{increment, keep};
+use crate::lengths::add_exact;
 use crate::random::Random;
 use crate::sums::{Sum, tell};
 use slotmap::{DefaultKey, ReserveError};
@@ -96,6 +97,26 @@ fn sum_of_waiting(jobs: &Numbers, handles: &[DefaultKey]) -> Sum {
         sum.add(u64::from(jobs.contains(*handle)));
     }
     sum
+}
+
+// The lengths of the iterators after so many jobs. The last two take all jobs out.
+fn sum_of_lengths(mut jobs: Numbers, other: Numbers, steps: usize) -> Sum {
+    let mut sum = Sum::new();
+    add_exact(&mut sum, jobs.iter(), steps);
+    add_exact(&mut sum, jobs.keys(), steps);
+    add_exact(&mut sum, jobs.values(), steps);
+    add_exact(&mut sum, jobs.drain(), steps);
+    sum.add(jobs.len() as u64);
+    add_exact(&mut sum, other.into_iter(), steps);
+    sum
+}
+
+// The same of two copies.
+fn tell_lengths(rt: &HostRuntime, jobs: &Numbers) -> bool {
+    match (jobs.clone(), jobs.clone()) {
+        (Ok(one), Ok(other)) => tell(rt, "lengths", sum_of_lengths(one, other, 2)),
+        _ => false,
+    }
 }
 
 // Each of these jobs that waits, by its handle.
@@ -276,6 +297,7 @@ fn clear(rt: &HostRuntime, jobs: &mut Numbers, copy: &Numbers, handles: &[Defaul
     jobs.clear();
     tell(rt, "cleared", sum_of(jobs))
         && take_apart(rt, copy)
+        && tell_lengths(rt, copy)
         && drain_copy(rt, copy, handles)
         && pop_copy(rt, copy)
 }

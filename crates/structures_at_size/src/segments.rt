@@ -1,9 +1,12 @@
 //! Several lists of numbers in one map.
 
 use crate::items::{increment, keep};
+use crate::lengths::add_exact;
 use crate::random::Random;
 use crate::sums::{Sum, tell};
+use slotmap::ReserveError;
 use slotmap_lists::{Cursor, StableLists};
+use std::alloc::Global;
 
 type Numbers = StableLists<Cursor, u64>;
 
@@ -26,6 +29,57 @@ fn sum_of(lists: &Numbers) -> Sum {
         sum.add(lists.list_len(list) as u64);
         add_list(&mut sum, lists, list);
         sum.add_found(lists.get(lists.last(list).unwrap_or_default()));
+    }
+    sum
+}
+
+// The numbers of a list from back to front, each by a step from the one behind it.
+fn add_list_from_back(sum: &mut Sum, lists: &Numbers, list: usize) {
+    let mut at = lists.last(list).unwrap_or_default();
+    for _ in 0..lists.list_len(list) {
+        sum.add_found(lists.get(at));
+        at = lists.prev(at).unwrap_or_default();
+    }
+}
+
+// The numbers of a list by its iterator, each also by its cursor.
+fn add_by_iterator(sum: &mut Sum, lists: &Numbers, list: usize) {
+    let Some(elements) = lists.iter(list) else {
+        return;
+    };
+    for (cursor, value) in elements {
+        if lists.contains(cursor) {
+            sum.add(lists[cursor]);
+        }
+        sum.add(*value);
+    }
+}
+
+// The numbers of a list by its iterator, from back to front.
+fn add_by_iterator_from_back(sum: &mut Sum, lists: &Numbers, list: usize) {
+    let Some(elements) = lists.iter(list) else {
+        return;
+    };
+    for (_, value) in elements.rev() {
+        sum.add(*value);
+    }
+}
+
+// The length of the iterator of a list after two elements, if there is this list.
+fn add_length(sum: &mut Sum, lists: &Numbers, list: usize) {
+    if let Some(elements) = lists.iter(list) {
+        add_exact(sum, elements, 2);
+    }
+}
+
+// The numbers of all lists in each of these ways. The last list isn't there.
+fn sum_by_ways(lists: &Numbers) -> Sum {
+    let mut sum = Sum::new();
+    for list in 0..=lists.lists() {
+        add_list_from_back(&mut sum, lists, list);
+        add_by_iterator(&mut sum, lists, list);
+        add_by_iterator_from_back(&mut sum, lists, list);
+        add_length(&mut sum, lists, list);
     }
     sum
 }
@@ -53,6 +107,29 @@ fn push_all(lists: &mut Numbers, cursors: &mut Vec<Cursor>, count: u64) -> bool 
     let mut done = true;
     for value in 0..count {
         done &= push(lists, cursors, value);
+    }
+    done
+}
+
+// Adds a number beside an element, on one side or the other.
+fn insert_beside(lists: &mut Numbers, at: Cursor, value: u64) -> bool {
+    match value % 2 {
+        0 => lists.insert_after(at, value).is_ok(),
+        _ => lists.insert_before(at, value).is_ok(),
+    }
+}
+
+// Adds the numbers from `first` on beside elements, in room that is made for them.
+fn insert_all(
+    lists: &mut Numbers,
+    cursors: &[Cursor],
+    random: &mut Random,
+    first: u64,
+    turns: u64,
+) -> bool {
+    let mut done = lists.reserve(turns as usize).is_ok();
+    for turn in 0..turns {
+        done &= insert_beside(lists, random.pick(cursors), first.wrapping_add(turn));
     }
     done
 }
@@ -136,9 +213,36 @@ fn change(rt: &HostRuntime, lists: &mut Numbers, cursors: &[Cursor], size: u64) 
     tell(rt, "moves", moved)
         && tell(rt, "moves beside", beside)
         && tell(rt, "moved", sum_of(lists))
+        && insert_all(lists, cursors, &mut random, size, size.min(1000))
+        && tell(rt, "inserted", sum_of(lists))
+        && tell(rt, "by each way", sum_by_ways(lists))
         && tell(rt, "removed", write_and_remove(lists, cursors))
         && tell(rt, "left", sum_of(lists))
         && tell(rt, "homes", sum_of_homes(lists, cursors))
+}
+
+// Whether a list can be joined with itself, and with one that isn't there; and then with the last one.
+fn sum_of_joins(lists: &mut Numbers) -> Sum {
+    Sum::of(&[
+        u64::from(lists.append(0, 0)),
+        u64::from(lists.append(0, LISTS as usize)),
+        u64::from(lists.append(0, 2)),
+    ])
+}
+
+// Empties a list of which there is a copy.
+fn empty(rt: &HostRuntime, lists: &mut Numbers, copy: &Numbers) -> bool {
+    lists.clear_list(0);
+    tell(rt, "emptied", sum_of(lists)) && tell(rt, "copied", sum_of(copy))
+}
+
+// Joins two lists, and empties them.
+fn join_and_empty(rt: &HostRuntime, lists: &mut Numbers) -> bool {
+    tell(rt, "joins", sum_of_joins(lists))
+        && match lists.clone() {
+            Ok(copy) => empty(rt, lists, &copy),
+            Err(_) => false,
+        }
 }
 
 // The calls on empty lists.
@@ -152,6 +256,26 @@ fn run_in(rt: &HostRuntime, lists: &mut Numbers, cursors: &mut Vec<Cursor>, size
             "left",
             Sum::of(&[lists.len() as u64, lists.list_len(1) as u64]),
         )
+        && join_and_empty(rt, lists)
+}
+
+// Whether as many lists as there are here were made, all of them empty, with room for so many elements.
+fn is_made(made: Result<Numbers, ReserveError>, room: usize) -> bool {
+    match made {
+        Ok(lists) => {
+            lists.is_empty() && lists.lists() == LISTS as usize && lists.capacity() >= room
+        }
+        Err(_) => false,
+    }
+}
+
+// Makes lists in each way.
+fn make_all(alloc: Global, room: usize) -> bool {
+    let count = LISTS as usize;
+    is_made(StableLists::new(alloc, count), 0)
+        && is_made(StableLists::with_key(alloc, count), 0)
+        && is_made(StableLists::with_capacity(alloc, count, room), room)
+        && is_made(StableLists::with_capacity_and_key(alloc, count, room), room)
 }
 
 /// Makes the calls of several lists, and returns whether all that may fail succeeded.
@@ -160,5 +284,7 @@ pub fn run(rt: &HostRuntime, size: u64) -> bool {
         return false;
     };
     let mut cursors = Vec::new(rt.alloc());
-    println!(rt; " lists").is_ok() && run_in(rt, &mut lists, &mut cursors, size)
+    println!(rt; " lists").is_ok()
+        && make_all(rt.alloc(), size as usize)
+        && run_in(rt, &mut lists, &mut cursors, size)
 }

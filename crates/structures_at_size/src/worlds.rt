@@ -218,6 +218,7 @@ where
     let detached = detach_some::<T, S>(world, keys, random, turns);
     write_all::<T, F>(world, keys);
     retain_others::<T, F>(world);
+    retain_others::<T, S>(world);
     tell(rt, "despawned", despawned) && tell(rt, "detached", detached)
 }
 

@@ -1,4 +1,4 @@
-//! The message of each error, and what it prints with `{:?}`.
+//! The message of each error, what it prints with `{:?}`, and the value that comes back in it.
 
 use super::text::hold_text;
 use slotmap::{
@@ -10,6 +10,36 @@ use std::error::Error;
 use std::fmt::{Debug, Display};
 use std::process::Abort;
 use std::test::Fail;
+
+// The next number.
+fn next(number: u64) -> u64 {
+    number.wrapping_add(1)
+}
+
+#[test]
+fn what_comes_back_of_an_insert(rt: HostRuntime) {
+    assert!(rt; InsertError::Full(5).into_inner() == 5 && InsertError::Memory(6).into_inner() == 6);
+    assert!(rt; matches!(InsertError::Full(5).map(next), InsertError::Full(6)));
+    assert!(rt; matches!(InsertError::Memory(5).map(next), InsertError::Memory(6)));
+}
+
+#[test]
+fn what_comes_back_of_a_reattach(rt: HostRuntime) {
+    assert!(rt; ReattachError::NotDetached(5).into_inner() == 5);
+    assert!(rt; ReattachError::Memory(6).into_inner() == 6);
+    assert!(rt;
+        matches!(
+            ReattachError::NotDetached(5).map(next),
+            ReattachError::NotDetached(6)
+        )
+    );
+    assert!(rt; matches!(ReattachError::Memory(5).map(next), ReattachError::Memory(6)));
+}
+
+#[test]
+fn what_comes_back_of_a_put(rt: HostRuntime) {
+    assert!(rt; matches!(PutError(5).map(next), PutError(6)));
+}
 
 // Holds errors of one type to their texts, each of the message and of what `{:?}` prints.
 fn hold_texts<E: Error + Display + Debug>(

@@ -1,6 +1,8 @@
 //! Keys: their numbers, debug texts, order and hash.
 
 use slotmap::{DefaultKey, Key, KeyData, NodeKey, is_older_version};
+use slotmap_graph::EdgeKey;
+use slotmap_list::Cursor;
 use std::alloc::Global;
 use std::collections::HashSet;
 use std::fmt::Debug;
@@ -87,6 +89,7 @@ fn is_hashed_as_data<K: Key>(alloc: Global) -> Result<bool, Fail> {
 #[test]
 fn key_types_are_as_their_data(rt: HostRuntime) {
     assert!(rt; is_null_last::<DefaultKey>() && is_null_last::<NodeKey>());
+    assert!(rt; is_null_last::<Cursor>() && is_null_last::<EdgeKey>());
     assert!(rt; is_ordered_as_data::<DefaultKey>() && is_ordered_as_data::<NodeKey>());
 }
 

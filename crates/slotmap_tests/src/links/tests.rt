@@ -3,7 +3,7 @@
 ghost use Rattle.std.specs.Prelude.{◌≡◌, ◌∷◌, [], IfOk};
 ghost use Rattle.slotmap_tests.specs.Filled.{with_one};
 
-use slotmap_links::Links;
+use slotmap_links::{Links, Members};
 use std::alloc::Global;
 use std::test::Fail;
 
@@ -36,12 +36,29 @@ fn looks_well(links: &Links) -> bool
         && (links.owners(), links.members(), links.is_empty(0)) == (1, 8, false)
 }
 
+// Whether a size hint allows so many items.
+fn is_within(hint: (usize, Option<usize>), count: usize) -> bool {
+    let (least, most) = hint;
+    least <= count && count <= most.unwrap_or(usize::MAX)
+}
+
+// Whether a copy of an iterator yields 7 and 3.
+fn copied_well(members: &Members<'_>) -> bool {
+    match members.clone() {
+        Ok(mut copy) => (copy.next(), copy.next(), copy.next()) == (Some(7), Some(3), None),
+        Err(_) => false,
+    }
+}
+
 fn walks_well(links: &Links) -> bool
     requires { links.now ≡ with_one (2 ∷ 7 ∷ 3 ∷ 5 ∷ []) links.now.capacity }
 {
     let mut members = links.iter(0);
     let mut rest = links.iter_from(3);
     (members.next(), members.next_back(), members.len()) == (Some(2), Some(5), 2)
+        && members.size_hint() == (2, Some(2))
+        && copied_well(&members)
+        && is_within(rest.size_hint(), 2)
         && (rest.next(), rest.next(), rest.next()) == (Some(3), Some(5), None)
 }
 

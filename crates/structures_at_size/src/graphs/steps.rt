@@ -1,7 +1,9 @@
-//! Steps from node to node and from edge to edge of a graph.
+//! Steps from node to node and from edge to edge of a graph, and how many its iterators have left.
 
 use crate::graphs::{Numbers, number_of};
+use crate::lengths::{add_exact, add_within};
 use crate::sums::Sum;
+use slotmap::NodeKey;
 
 // The numbers of all nodes by steps from node to node, and 1 if these end there.
 fn add_nodes_by_steps(graph: &Numbers, sum: &mut Sum) {
@@ -32,5 +34,28 @@ pub(crate) fn sum_by_steps(graph: &Numbers) -> Sum {
     let mut sum = Sum::new();
     add_nodes_by_steps(graph, &mut sum);
     add_edges_by_steps(graph, &mut sum);
+    sum
+}
+
+/// The lengths of the iterators over edges after so many, and of that over nodes to its end.
+pub(crate) fn sum_of_lengths(graph: &Numbers, node: NodeKey, steps: usize) -> Sum {
+    let mut sum = Sum::new();
+    add_exact(&mut sum, graph.edge_references(), steps);
+    add_exact(&mut sum, graph.edge_references_from(node), steps);
+    add_exact(&mut sum, graph.edge_references_to(node), steps);
+    add_exact(&mut sum, graph.edges_from(node), steps);
+    add_within(&mut sum, graph.neighbours_to(node), graph.edge_count());
+    sum
+}
+
+/// The numbers of all nodes and edges by their keys.
+pub(crate) fn sum_by_keys(graph: &Numbers) -> Sum {
+    let mut sum = Sum::new();
+    for node in graph.nodes() {
+        sum.add_found(graph.node(node));
+    }
+    for edge in graph.edges() {
+        sum.add_found(graph.edge(edge));
+    }
     sum
 }

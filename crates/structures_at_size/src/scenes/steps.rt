@@ -1,6 +1,7 @@
 //! Siblings one by one: looked up by steps from both ends, and moved beside others. And what is below a node, by steps.
 
-use crate::items::increment;
+use crate::items::{increment, last_of};
+use crate::lengths::{add_exact, add_within};
 use crate::random::Random;
 use crate::scenes::Numbers;
 use crate::sums::{Sum, tell};
@@ -125,6 +126,26 @@ fn sum_of_visits(scene: &Numbers, node: DefaultKey) -> Sum {
     sum
 }
 
+// The lengths of the iterators over all nodes and over children, after so many.
+fn sum_of_lengths(scene: &Numbers, root: DefaultKey, steps: usize) -> Sum {
+    let mut sum = Sum::new();
+    add_exact(&mut sum, scene.iter(), steps);
+    add_exact(&mut sum, scene.keys(), steps);
+    add_exact(&mut sum, scene.values(), steps);
+    add_exact(&mut sum, scene.children(root), steps);
+    sum
+}
+
+// How many nodes there are on the ways up and down, above a node and below a root.
+fn sum_of_ways(scene: &Numbers, root: DefaultKey, node: DefaultKey) -> Sum {
+    let (mut sum, most) = (Sum::new(), scene.len());
+    add_within(&mut sum, scene.ancestors(node), most);
+    add_within(&mut sum, scene.roots(), most);
+    add_within(&mut sum, scene.keys_below(root), most);
+    add_within(&mut sum, scene.walk(root), most.wrapping_mul(2));
+    sum
+}
+
 /// Makes these calls: within a root, and those by chance anywhere.
 pub(crate) fn run_below(
     rt: &HostRuntime,
@@ -137,4 +158,6 @@ pub(crate) fn run_below(
     tell(rt, "written", write_below(scene, root))
         && tell(rt, "behind", sum_behind(scene, nodes, random, turns))
         && tell(rt, "visits", sum_of_visits(scene, root))
+        && tell(rt, "lengths", sum_of_lengths(scene, root, 2))
+        && tell(rt, "ways", sum_of_ways(scene, root, last_of(nodes)))
 }

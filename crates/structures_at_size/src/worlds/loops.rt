@@ -1,6 +1,7 @@
 //! Loops over a world of numbers: joins of three kinds, of one without another and of one with an optional one, and a loop over the positions of the keys,
 //! which writes components on the way.
 
+use crate::lengths::add_within;
 use crate::sums::{Sum, tell};
 use crate::worlds::{Numbers, sum_with};
 use slotmap::DefaultKey;
@@ -60,6 +61,24 @@ where
     sum
 }
 
+// How many entities each iterator yields.
+fn sum_of_lengths<'a, T, F, S>(world: &'a Numbers<T>) -> Sum
+where
+    T: Tables<DefaultKey>,
+    F: Kind<DefaultKey, T>,
+    S: Kind<DefaultKey, T>,
+    F::Table: Table<DefaultKey, Component = u64> + 'a,
+    S::Table: Table<DefaultKey, Component = u64> + 'a,
+{
+    let (mut sum, most) = (Sum::new(), world.len());
+    add_within(&mut sum, world.with::<F>(), most);
+    add_within(&mut sum, world.with_both::<F, S>(), most);
+    add_within(&mut sum, world.with_three::<F, S, F>(), most);
+    add_within(&mut sum, world.with_without::<S, F>(), most);
+    add_within(&mut sum, world.with_optional::<F, S>(), most);
+    sum
+}
+
 // Adds the second component of an entity to its first one.
 fn move_one<T, F, S>(world: &mut Numbers<T>, key: DefaultKey)
 where
@@ -106,9 +125,11 @@ where
     let three = sum_with_three::<T, F, S>(world);
     let without = sum_with_without::<T, F, S>(world);
     let optional = sum_with_optional::<T, F, S>(world);
+    let lengths = sum_of_lengths::<T, F, S>(world);
     move_all::<T, F, S>(world);
     tell(rt, "three", three)
         && tell(rt, "without the first", without)
         && tell(rt, "perhaps the second", optional)
+        && tell(rt, "lengths", lengths)
         && tell(rt, "moved", sum_with::<T, F>(world))
 }
