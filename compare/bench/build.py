@@ -122,7 +122,9 @@ def sources_of(parts):
 def write_port(folder, crates, parts):
     """A repository in `folder`: copies of the maps' crates and those below them, and the library over them."""
     lines = {it.split(":")[0]: it for it in read(os.path.join(crates, "../crates.txt")).split("\n") if it}
-    used = sorted({"slotmap", "slotmap_core"} | {it.crate for it in kinds_of(parts)})
+    # The paths are those of a graph.
+    below = {"slotmap_graph"} if "paths" in parts else set()
+    used = sorted({"slotmap", "slotmap_core"} | below | {it.crate for it in kinds_of(parts)})
     copied = with_crates_below(used, lines)
     write(
         os.path.join(folder, "crates.txt"),

@@ -126,6 +126,15 @@ LIST = [
     Operation("churn", "Churn", "a removal by cursor, and `push_back`", each),
 ]
 
+LISTS = [
+    Operation("push", "Push", "`push_back` to one of eight lists in turn, from empty lists", each),
+    Operation("push-first", "PushFirst", "`push_back` to one of eight lists in turn, the first lists", each),
+    Operation("push-room", "PushRoom", "`push_back` to one of eight lists in turn, the first lists, with room", each),
+    Operation("move", "Move", "`move_to_back` of a random element, to a random list", each),
+    Operation("churn", "Churn", "a removal by cursor, and `push_back` to a random list", each),
+    Operation("queue", "Queue", "`pop_front` of a list, and `push_back` to the next one", each),
+]
+
 GRAPH = [
     Operation("build", "Build", "`add_edge`, and a fourth of `add_node`", fourfold),
     Operation("build-first", "BuildFirst", "`add_edge`, and a fourth of `add_node`, the first graph", fourfold),
@@ -133,6 +142,12 @@ GRAPH = [
     Operation("ends", "Ends", "an edge of `edges_from`, and the value at its end", fourfold),
     Operation("search", "Search", "a node of `reachable`, and its value", each),
     Operation("churn", "Churn", "`remove_edge`, and `add_edge`", fourfold),
+]
+
+PATHS = [
+    Operation("shortest", "Shortest", "a node of `shortest_paths`, by random costs", each),
+    Operation("post-order", "PostOrder", "a node of `post_order`, and its value", each),
+    Operation("components", "Components", "a node of `kosaraju_scc`", each),
 ]
 
 SCENE = [
@@ -163,7 +178,9 @@ FAMILIES = {
     "Valued": VALUED,
     "Stepped": STEPPED,
     "List": LIST,
+    "Lists": LISTS,
     "Graph": GRAPH,
+    "Paths": PATHS,
     "Scene": SCENE,
     "Scheduler": SCHEDULER,
     "World": WORLD,
@@ -171,7 +188,7 @@ FAMILIES = {
 
 # The structures are compared with hand-written versions, written for the bench (driver/list.rs and its like), and the graph with
 # petgraph's, too.
-STRUCTURES = ["list", "graph", "ordered", "petgraph", "scene", "stamped", "scheduler", "world"]
+STRUCTURES = ["list", "lists", "graph", "paths", "ordered", "petgraph", "scene", "stamped", "scheduler", "world"]
 
 # What the model of a SlotMap has (driver/columns.rs).
 MODELLED = ["insert", "insert-room", "get-live", "get-stale", "contains", "churn"]
@@ -195,7 +212,9 @@ MAPS = [
     Map("hop-values", 8, "HopSlotMap", "slotmap_hop", "Valued", []),
     Map("stepped", 9, "SecondaryMap", "slotmap_secondary", "Stepped", []),
     Map("list", 10, "StableList", "slotmap_list", "List", []),
+    Map("lists", 19, "StableLists", "slotmap_lists", "Lists", []),
     Map("graph", 11, "Graph", "slotmap_graph", "Graph", []),
+    Map("paths", 20, "Graph", "slotmap_paths", "Paths", []),
     Map("scene", 12, "Scene", "slotmap_scene", "Scene", []),
     Map("scheduler", 13, "Scheduler", "slotmap_scheduler", "Scheduler", []),
     Map("ordered", 16, "Graph", "slotmap_graph", "Graph", []),
@@ -213,7 +232,7 @@ def is_first(operation):
 
 def is_build(kind, operation):
     """Whether it builds a list, a graph or a scene."""
-    return kind.family in ("List", "Graph", "Scene") and operation.name.startswith(("push", "build"))
+    return kind.family in ("List", "Lists", "Graph", "Scene") and operation.name.startswith(("push", "build"))
 
 
 def operations_of(kind):

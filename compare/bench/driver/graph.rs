@@ -42,22 +42,22 @@ pub fn along<F: Fn(u32) -> Option<(u32, u32)>>(first: u32, step: F) -> impl Iter
     })
 }
 
-struct Node {
+pub struct Node {
     value: u64,
-    // The first outgoing and the first incoming edge.
-    edges: [u32; 2],
+    /// The first outgoing and the first incoming edge.
+    pub edges: [u32; 2],
 }
 
-struct Edge {
-    value: u64,
-    ends: [u32; 2],
-    next: [u32; 2],
+pub struct Edge {
+    pub value: u64,
+    pub ends: [u32; 2],
+    pub next: [u32; 2],
 }
 
 /// An edge is put in front of the others, and is looked for where it is removed.
 pub struct Net {
-    nodes: Vec<Node>,
-    edges: Vec<Edge>,
+    pub nodes: Vec<Node>,
+    pub edges: Vec<Edge>,
     vacant: u32,
     edge_count: u64,
 }

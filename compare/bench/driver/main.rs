@@ -16,8 +16,10 @@ mod columns;
 mod folded;
 mod graph;
 mod list;
+mod lists;
 mod operations;
 mod ordered;
+mod paths;
 #[cfg(maps)]
 mod primary;
 mod scene;
@@ -35,7 +37,7 @@ mod value;
 mod valued;
 mod world;
 
-use operations::{Graph, List, Scene, Scheduler, World};
+use operations::{Graph, List, Lists, Paths, Scene, Scheduler, World};
 #[cfg(maps)]
 use operations::{Primary, Secondary, Stepped};
 use std::hint::black_box;
@@ -87,6 +89,8 @@ fn rust_bench(map: u32, operation: u32, n: u64, rounds: u64) -> Option<u64> {
         #[cfg(petgraph)]
         17 => Some(stable::workload(Graph::of_number(operation)?, n, rounds)),
         18 => Some(stamped::workload(Scene::of_number(operation)?, n, rounds)),
+        19 => Some(lists::workload(Lists::of_number(operation)?, n, rounds)),
+        20 => Some(paths::workload(Paths::of_number(operation)?, n, rounds)),
         _ => of_maps(map, operation, n, rounds),
     }
 }
