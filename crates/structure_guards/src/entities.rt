@@ -157,14 +157,14 @@ pub fn retain_components_calls_once_for_each<
 >(world: &mut World<K, E, T>, f: F)
     requires { CallableOnEach F.FnMut K.data_of f (keyed (C.Table.pairs (C.table world.old.tables))) }
     ensures retained { RetainsBy F.FnMut K.data_of f (keyed (C.Table.pairs (C.table world.old.tables))) (keyed (C.Table.pairs (C.table world.new.tables))) }
-    // The table takes no memory, where its type tells that.
+    // The capacity of the table stays, where its type tells it.
     // Refuses `retain_components_asks_for_memory`: `capacity` of `retain_components`.
     ensures keeps_the_capacity { C.Table.keeps_capacity (C.table world.old.tables) (C.table world.new.tables) }
 {
     world.retain_components::<C, F>(f);
 }
 
-/// A component is taken off, and the table takes no memory, where its type tells that.
+/// A component is taken off, and the capacity of its table stays, where the type of the table tells it.
 /// Refuses `detach_asks_for_memory`: `capacity` of `detach`.
 pub fn detach_keeps_the_capacity<K: Key, E: Drop, T: Tables<K>, C: Kind<K, T>>(
     world: &mut World<K, E, T>,
