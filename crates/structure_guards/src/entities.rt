@@ -26,7 +26,7 @@ pub fn keys_as_slice_lists_each_entity<K: Key, E: Drop, T: Tables<K>>(
     world.keys_as_slice()
 }
 
-/// An entity is added without memory where there is room, and the capacity stays.
+/// Where there is room, an entity is added, and the capacity stays.
 /// Refuses `spawn_reserves_for_a_thousand`: `room` and `in_place` of `spawn`.
 pub fn spawn_with_room_needs_no_memory<K: Key, E: Drop, T: Tables<K>>(
     world: &mut World<K, E, T>,
@@ -46,7 +46,7 @@ pub fn despawn<K: Key, E: Drop, T: Tables<K>>(
     // Its components are gone too.
     // Refuses `despawn_keeps_the_components`: `no_component` of `despawn`.
     ensures despawned_entity_has_no_component { T.has world.new.tables (K.data_of key) ≡ false }
-    // No memory is allocated or freed.
+    // The capacity stays.
     // Refuses `despawn_reserves_for_a_thousand`: `capacity` of `despawn`.
     ensures despawn_keeps_the_capacity { world.new.entities.content.capacity ≡ world.old.entities.content.capacity }
 {
@@ -58,7 +58,7 @@ pub fn clear<K: Key, E: Drop, T: Tables<K>>(world: &mut World<K, E, T>)
     // No entity has a component.
     // Refuses `clear_keeps_the_components`: `tables` of `clear`.
     ensures clear_leaves_no_component { (q : KeyOf) → T.has world.new.tables q ≡ false }
-    // No memory is allocated or freed.
+    // The capacity stays.
     // Refuses `clear_reserves_for_a_thousand`: `capacity` of `clear`.
     ensures clear_keeps_the_capacity { world.new.entities.content.capacity ≡ world.old.entities.content.capacity }
 {
@@ -195,7 +195,7 @@ pub fn replace_both<K: Key, E: Drop, T: Tables<K>, A: Apart<K, T, B>, B: Kind<K,
     world.replace_both::<A, B>(key, first, second)
 }
 
-/// An entity with a component is added without memory where there is room for both.
+/// Where there is room for both, an entity with a component is added.
 /// Refuses `spawn_with_wants_room_for_a_thousand`: `room` of `spawn_with`.
 pub fn spawn_with_room_for_the_component_succeeds<K: Key, E: Drop, T: Tables<K>, C: Kind<K, T>>(
     world: &mut World<K, E, T>,

@@ -247,7 +247,7 @@ pub fn add_edge<K: Key, N: Drop, E: Drop>(
     // Refuses `add_edge_tells_memory_as_full`, `add_edge_reserves_more`: `err` of `add_edge`.
     ensures add_edge_says_why_it_fails_full { (back : E) → result ≡ Err (EdgeError.Full back) → used graph.old.edges ≡ most }
     ensures add_edge_says_why_it_fails_memory { (back : E) → result ≡ Err (EdgeError.Memory back) → (used graph.old.edges < most) × (graph.old.edges.room ≡ 0) }
-    // Where there is room, no memory is allocated.
+    // Where there is room, no vector grows.
     // Refuses `put_edge_asks_for_links`: `in_place` and `same_links` of `add_edge`.
     ensures add_edge_in_room_keeps_the_capacity { 0 < graph.old.edges.room → space graph.new.edges ≡ space graph.old.edges }
     ensures add_edge_in_room_keeps_the_links { 0 < graph.old.edges.room → graph.new.links ≡ graph.old.links }
@@ -260,7 +260,7 @@ pub fn remove_edge<K: Key, N: Drop, E: Drop>(graph: &mut Graph<K, N, E>, edge: E
     // No node has the edge any more, and each keeps its others.
     // Refuses `remove_edge_takes_out_of_the_wrong_list`: `into` of `remove_edge`.
     ensures removed_edge_leads_to_no_node { (k : KeyOf) → edges_at graph.new.into k ≡ without edge (edges_at graph.old.into k) }
-    // No memory is allocated or freed.
+    // No vector grows.
     // Refuses `remove_edge_reserves_more`: `capacity` and `links` of `remove_edge`.
     ensures remove_edge_keeps_the_capacity { space graph.new.edges ≡ space graph.old.edges }
     ensures remove_edge_keeps_the_links { graph.new.links ≡ graph.old.links }
@@ -274,7 +274,7 @@ pub fn clear<K: Key, N: Drop, E: Drop>(graph: &mut Graph<K, N, E>)
     // Holds by `nodes` and `edges` of `clear`.
     ensures clear_leaves_no_node { graph.new.nodes.live ≡ map.empty }
     ensures clear_leaves_no_edge { graph.new.edges.live ≡ map.empty }
-    // No memory is allocated or freed.
+    // No vector grows.
     // Refuses `clear_reserves_more`: `edges_capacity` and `links` of `clear`.
     ensures clear_keeps_the_capacity { space graph.new.edges ≡ space graph.old.edges }
     ensures clear_keeps_the_links { graph.new.links ≡ graph.old.links }

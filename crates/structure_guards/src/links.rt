@@ -1,13 +1,13 @@
-//! Links: which calls ask for no memory.
+//! Links: in which calls no vector grows.
 
 ghost use Rattle.std.specs.Prelude.{◌≡◌, ◌<◌, length};
 ghost use Rattle.slotmap_links.specs.Lists.{IsFree, IsIn};
 
 use slotmap_links::Links;
 
-/// A member is put into a list without memory.
+/// A member is put into a list, and no vector grows.
 /// Refuses `put_asks_for_memory`: `ensures` of `put_last`.
-pub fn put_last_needs_no_memory(links: &mut Links, owner: u32, member: u32)
+pub fn put_last_grows_no_vector(links: &mut Links, owner: u32, member: u32)
     requires owner { owner < length links.old.lists }
     requires free { IsFree links.old member }
     ensures { links.new.capacity ≡ links.old.capacity }
@@ -15,9 +15,9 @@ pub fn put_last_needs_no_memory(links: &mut Links, owner: u32, member: u32)
     links.put_last(owner, member);
 }
 
-/// A member is taken out of a list without memory.
+/// A member is taken out of a list, and no vector grows.
 /// Refuses `take_out_asks_for_memory`: `ensures` of `take_out`.
-pub fn take_out_needs_no_memory(links: &mut Links, owner: u32, member: u32)
+pub fn take_out_grows_no_vector(links: &mut Links, owner: u32, member: u32)
     requires owner { owner < length links.old.lists }
     requires member { IsIn links.old owner member }
     ensures { links.new.capacity ≡ links.old.capacity }
@@ -25,9 +25,9 @@ pub fn take_out_needs_no_memory(links: &mut Links, owner: u32, member: u32)
     links.take_out(owner, member);
 }
 
-/// All lists are emptied without memory.
+/// All lists are emptied, and no vector grows.
 /// Holds by `ensures` of `clear`.
-pub fn clear_needs_no_memory(links: &mut Links)
+pub fn clear_grows_no_vector(links: &mut Links)
     ensures { links.new.capacity ≡ links.old.capacity }
 {
     links.clear();

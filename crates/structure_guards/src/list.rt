@@ -159,9 +159,9 @@ pub fn copy_has_the_same_order<K: Key, T: Clone>(
     list.clone()
 }
 
-/// An element is added without memory where there is room.
+/// Where there is room, an element is added, and no vector grows.
 /// Holds by `in_place` of `push_back`.
-pub fn pushed_element_needs_no_memory<K: Key, T: Drop>(
+pub fn pushed_element_grows_no_vector<K: Key, T: Drop>(
     list: &mut StableList<K, T>,
     value: T,
 ) -> Result<K, PushError<T>>
@@ -175,7 +175,7 @@ pub fn remove<K: Key, T: Drop>(list: &mut StableList<K, T>, cursor: K) -> Option
     // The element of the cursor is gone, and all others stay in their order.
     // Refuses `remove_takes_out_the_first`: `removed` of `remove`.
     ensures remove_takes_out_its_element { list.new.elements ≡ without (K.data_of cursor) list.old.elements }
-    // No memory is allocated or freed.
+    // No vector grows.
     // Refuses `remove_reserves_more`: `capacity` of `remove`.
     ensures remove_keeps_the_capacity { memory list.new ≡ memory list.old }
 {
@@ -187,7 +187,7 @@ pub fn pop_front<K: Key, T: Drop>(list: &mut StableList<K, T>) -> Option<(K, T)>
     // The first element is taken out, or there is none.
     // Holds by `front` of `pop_front`.
     ensures pop_front_takes_the_first_element { IfSome result (λ element. list.old.elements ≡ (K.data_of element.0, element.1) ∷ list.new.elements) }
-    // No memory is allocated or freed.
+    // No vector grows.
     // Refuses `pop_front_reserves_more`: `capacity` of `pop_front`.
     ensures pop_front_keeps_the_capacity { memory list.new ≡ memory list.old }
 {
@@ -210,7 +210,7 @@ pub fn clear<K: Key, T: Drop>(list: &mut StableList<K, T>)
     // No element is left.
     // Holds by `empty` of `clear`.
     ensures clear_leaves_no_element { list.new.elements ≡ [] }
-    // No memory is allocated or freed.
+    // No vector grows.
     // Refuses `clear_reserves_more`: `capacity` of `clear`.
     ensures clear_keeps_the_capacity { memory list.new ≡ memory list.old }
 {
@@ -222,7 +222,7 @@ pub fn dropped_drain<K: Key, T: Drop>(list: &mut StableList<K, T>)
     // No element is left.
     // Holds by `list` of `drain`, and `ends` of its drop.
     ensures dropped_drain_leaves_no_element { list.new.elements ≡ [] }
-    // No memory is allocated or freed.
+    // No vector grows.
     // Refuses `drain_reserves_more`: `list` of `drain`, and `ends` of its drop.
     ensures dropped_drain_keeps_the_capacity { memory list.new ≡ memory list.old }
 {
@@ -237,7 +237,7 @@ pub fn move_to_front<K: Key, T: Drop>(list: &mut StableList<K, T>, cursor: K) ->
     // The element is in front of all others.
     // Refuses `move_to_front_moves_to_the_back`: `first` of `move_to_front`.
     ensures moved_element_is_first { IsTrue result → first_or list.new.elements None ≡ Some (K.data_of cursor) }
-    // No memory is allocated or freed.
+    // No vector grows.
     // Refuses `move_to_asks_for_links`: `moved` of `move_to_front`.
     ensures move_to_front_keeps_the_memory { memory list.new ≡ memory list.old }
 {
@@ -281,7 +281,7 @@ pub fn retain<K: Key, T: Drop, F: FnMut(K, &mut T) -> bool + Drop>(
     // `false` are removed, and the others have what it wrote.
     // Refuses `retain_begins_at_the_back`: the premise and `retained` of `retain`.
     ensures retain_calls_once_for_each_element { (last : F) × RetainsEach F.FnMut K.data_of f list.old.elements list.new.elements last }
-    // No memory is allocated or freed.
+    // No vector grows.
     // Refuses `retain_reserves_more`: `capacity` of `retain`.
     ensures retain_keeps_the_capacity { memory list.new ≡ memory list.old }
 {

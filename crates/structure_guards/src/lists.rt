@@ -80,7 +80,7 @@ pub fn push_back<K: Key, T: Drop>(
     // Where there is room, it succeeds, and the capacity stays.
     // Holds by `room` and `in_place` of `push_back`.
     ensures push_into_room_succeeds { list < length lists.old.lists → 0 < lists.old.cursors.room → IsOk result }
-    ensures push_into_room_needs_no_memory { 0 < lists.old.cursors.room → memory lists.new ≡ memory lists.old }
+    ensures push_into_room_grows_no_vector { 0 < lists.old.cursors.room → memory lists.new ≡ memory lists.old }
     // No other list changes, and no other value.
     // Holds by `others` and `values` of `push_back`.
     ensures push_changes_no_other_list { (q : ℕ) → q ≢ list → elements_of q lists.new.lists ≡ elements_of q lists.old.lists }

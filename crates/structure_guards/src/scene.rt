@@ -74,7 +74,7 @@ pub fn get_mut_shows_the_value<K: Key, T: Drop>(scene: &mut Scene<K, T>, node: K
 
 /// A node is added where there is room, and no vector grows.
 /// Refuses `add_reserves_more`: `room` and `in_place` of `add_root`.
-pub fn added_root_needs_no_memory<K: Key, T: Drop>(
+pub fn added_root_grows_no_vector<K: Key, T: Drop>(
     scene: &mut Scene<K, T>,
     value: T,
 ) -> Result<K, InsertError<T>>

@@ -59,7 +59,7 @@ pub fn cancel<K: Key, T: Drop>(scheduler: &mut Scheduler<K, T>, handle: K) -> Op
     // The job of the handle waits no longer, and all others do in their order.
     // Holds by `removed` of `cancel`.
     ensures canceled_job_waits_no_longer { scheduler.new.waiting ≡ without (K.data_of handle) scheduler.old.waiting }
-    // No memory is allocated or freed.
+    // The capacity stays.
     // Refuses `cancel_reserves_for_a_thousand`: `capacity` of `cancel`.
     ensures cancel_keeps_the_capacity { scheduler.new.handles.capacity ≡ scheduler.old.handles.capacity }
 {
@@ -131,7 +131,7 @@ pub fn clear<K: Key, T: Drop>(scheduler: &mut Scheduler<K, T>)
     // No job waits.
     // Holds by `empty` of `clear`.
     ensures clear_leaves_no_job { scheduler.new.waiting ≡ [] }
-    // No memory is allocated or freed.
+    // The capacity stays.
     // Refuses `clear_reserves_for_a_thousand`: `capacity` of `clear`.
     ensures clear_keeps_the_capacity { scheduler.new.handles.capacity ≡ scheduler.old.handles.capacity }
 {
