@@ -26,8 +26,8 @@
  * a key. `side_map::put` may lose the entry at the key's index. Where a T that can't be copied throws as the array grows, values may
  * be lost, as in std::vector.
  *
- * A destructor of T may call `erase`, `find`, `clear` and the like on the map that it leaves, also during `clear`. It must not insert
- * there: the array may move.
+ * A destructor of T may call `erase`, `find`, `clear` and the like on the map that it leaves, also during `clear` and where another map
+ * is assigned. It must not insert there: the array may move.
  *
  * Many threads may read one of them at once by its const calls, but for copying it, which takes a thread alone, as do all calls that
  * aren't const. That a read writes nothing is tested; the proof of slotmap.h presumes one call at a time.
@@ -79,8 +79,10 @@ public:
     {
     }
     slot_map(const slot_map &other) : base(other), keys(other.keys), vacant(other.vacant) {}
+    /* The values that were here go first: their destructors may call this map, and must not find those that come. */
     slot_map &operator=(slot_map other) noexcept
     {
+        values.drop_all();
         swap(other);
         return *this;
     }
@@ -188,6 +190,7 @@ public:
     side_map(const side_map &) = default;
     side_map &operator=(side_map other) noexcept
     {
+        values.drop_all();
         swap(other);
         return *this;
     }
@@ -222,7 +225,8 @@ public:
                 stood->emplace(key_type{here.id}, std::move(here.value()));
             values.drop(here);
         }
-        values.fill(here, at.id, std::move(value));
+        /* The place is reached anew, since the destructor may have cleared the map. */
+        values.fill(values.reach(at.index()), at.id, std::move(value));
         return true;
     }
     /* Removes a key, and returns its value. */
@@ -236,7 +240,8 @@ public:
     {
         place &at = base::place_at(where);
         values.drop(at);
-        return iterator(&at, values.end());
+        /* The destructor may have cleared the map: then it ends before this place. */
+        return iterator(std::min(&at, values.end()), values.end());
     }
     /* Removes every key. The capacity stays. */
     void clear() noexcept { values.drop_all(); }

@@ -251,7 +251,7 @@ public:
     }
 };
 
-/* By ascending index. What may move the values, an insert or a put, ends an iteration, as with a vector. */
+/* By ascending index. What may move the values, an insert or a put, ends an iteration, as with a vector; so does a clear. */
 template <class Place, class Value, class Key> class iterator_of {
     Place *at = nullptr, *last = nullptr;
 

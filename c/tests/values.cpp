@@ -194,6 +194,66 @@ static void check_destructors()
     CHECK(one.nodes.size() == 13);
 }
 
+/* Another map is assigned over one whose nodes erase their children: its own nodes have the same keys, and stay. */
+static void check_assigning()
+{
+    scene one;
+    for (int turn = 0; turn < 3; turn++) {
+        scene other;
+        key root = tree(other, 3);
+        for (auto pair : other.nodes)
+            pair.second.in = &one;
+        one.nodes = std::move(other.nodes);
+        CHECK(one.nodes.size() == 40 && one.nodes.contains(root) && one.nodes.at(root).children.size() == 3);
+        CHECK(one.ended == 40 * static_cast<unsigned long>(turn));
+    }
+}
+
+/* A value that ends the whole side map with it. */
+struct last_one {
+    slotmaps::side_map<last_one> *in;
+    bool clears;
+
+    last_one(slotmaps::side_map<last_one> *it, bool last) : in(it), clears(last) {}
+    last_one(last_one &&other) noexcept : in(std::exchange(other.in, nullptr)), clears(other.clears) {}
+    ~last_one()
+    {
+        if (in != nullptr && clears)
+            in->clear();
+    }
+};
+
+static void check_clearing_destructors()
+{
+    slotmaps::slot_map<int> map;
+    slotmaps::side_map<last_one> side, other;
+    std::vector<key> keys;
+    for (int i = 0; i < 10; i++)
+        keys.push_back(map.insert(i));
+    auto fill = [&] {
+        for (key at : keys)
+            CHECK(side.put(at, last_one(&side, at == keys[3])));
+        CHECK(side.size() == 10);
+    };
+    fill();
+    CHECK(side.put(keys[3], last_one(&side, false)) && side.size() == 1 && side.contains(keys[3]) && side.begin()->first == keys[3]);
+    fill();
+    auto next = side.erase(std::next(side.cbegin(), 3));
+    CHECK(next == side.end() && side.empty());
+    fill();
+    CHECK(erase_if(side, [](auto pair) { return pair.second.clears; }) == 10 && side.empty());
+    fill();
+    side.erase(keys[3]);
+    CHECK(side.empty() && side.begin() == side.end());
+    fill();
+    side.clear();
+    CHECK(side.empty());
+    fill();
+    CHECK(other.put(keys[3], last_one(&other, false)));
+    side = std::move(other);
+    CHECK(side.size() == 1 && side.contains(keys[3]));
+}
+
 /* A type that holds maps of itself. */
 struct folder {
     std::string name;
@@ -311,6 +371,8 @@ int main()
     check_side_map();
     check_capacity();
     check_destructors();
+    check_assigning();
+    check_clearing_destructors();
     check_recursion();
     check_alignment();
 #if defined(__cpp_exceptions)
