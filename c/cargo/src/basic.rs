@@ -37,6 +37,7 @@ pub struct SlotMap<K: Key, V> {
 
 #[cold]
 #[inline(never)]
+#[track_caller]
 pub(crate) fn fail(status: Status) -> ! {
     panic!("{}", status)
 }
@@ -344,6 +345,7 @@ impl<K: Key, V> SlotMap<K, V> {
     /// Gives a detached key a value again. It allocates nothing. Constant time.
     ///
     /// Panics if the key isn't detached: [`try_reattach`](Self::try_reattach) hands the value back.
+    #[track_caller]
     pub fn reattach(&mut self, detached_key: K, value: V) {
         if self.try_reattach(detached_key, value).is_err() {
             fail(Status::NOT_DETACHED);

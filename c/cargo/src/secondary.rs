@@ -262,7 +262,8 @@ impl<K: Key, V> SecondaryMap<K, V> {
 
     /// Removes all keys, and drops their values. The capacity stays. Linear in the number of slots.
     ///
-    /// If the drop of a value panics, all keys are removed nonetheless; in the crate those after it stay.
+    /// If the drop of a value panics, all keys are removed nonetheless, and their values dropped; in the crate those after it stay. If a
+    /// second one panics meanwhile, the program is aborted, as by `Vec::clear`.
     ///
     /// ```
     /// # use slotmap_proved::{SecondaryMap, SlotMap};

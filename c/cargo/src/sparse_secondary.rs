@@ -145,6 +145,8 @@ impl<K: Key, V, S: BuildHasher> SparseSecondaryMap<K, V, S> {
     }
 
     /// Removes all keys, and drops their values. Linear in the capacity, which stays.
+    ///
+    /// If the drop of a value panics, all keys are removed nonetheless, but other values may be leaked, as by std's hash map.
     pub fn clear(&mut self) {
         self.slots.clear();
     }

@@ -74,7 +74,7 @@ pub(crate) mod ffi {
 }
 
 /// A status other than `SLOTMAP_OK`, by its number in slotmap.h.
-#[derive(Clone, Copy, Debug, PartialEq, Eq, Hash)]
+#[derive(Clone, Copy, PartialEq, Eq, Hash)]
 pub struct Status(pub u32);
 
 #[allow(dead_code)]
@@ -110,6 +110,13 @@ impl fmt::Display for Status {
             Status::NO_ENTRY => "the key is null, or older than the one at its index",
             Status(_) => "no status of slotmap.h",
         })
+    }
+}
+
+/// Prints the number with its meaning: who unwraps an error reads that.
+impl fmt::Debug for Status {
+    fn fmt(&self, f: &mut fmt::Formatter<'_>) -> fmt::Result {
+        write!(f, "Status({}: {self})", self.0)
     }
 }
 

@@ -1,7 +1,7 @@
 //! Every call of `SlotMap` and of keys, where it succeeds and where it is refused.
 
-use slotmap_proved::{new_key_type, DefaultKey, InsertError, Key, KeyData, SecondaryMap, SlotMap, Status};
-use std::cell::Cell;
+use slotmap_proved::{new_key_type, DefaultKey, InsertError, Key, KeyData, SecondaryMap, SlotMap, SparseSecondaryMap, Status};
+use std::cell::{Cell, RefCell};
 use std::collections::{BTreeMap, HashMap};
 use std::error::Error;
 use std::panic::{catch_unwind, AssertUnwindSafe};
@@ -220,7 +220,41 @@ fn errors_of_any_value_are_returned() {
     assert!(matches!(insert(&mut SlotMap::new()), Ok(5)));
     let error = InsertError { value: Cell::new(1), status: Status::FULL };
     assert_eq!((error.to_string(), error.value.get()), ("over the limit of 4294967294 keys".to_string(), 1));
-    assert_eq!(format!("{error:?}"), "InsertError { status: Status(1), .. }");
+    assert_eq!(format!("{error:?}"), "InsertError { status: Status(1: over the limit of 4294967294 keys), .. }");
+}
+
+thread_local! {
+    static PLACE: RefCell<String> = const { RefCell::new(String::new()) };
+}
+
+/// The file in which a call panics.
+fn place_of<T>(call: impl FnOnce() -> T) -> String {
+    assert!(panics(call));
+    PLACE.with(RefCell::take)
+}
+
+#[test]
+fn a_panic_names_the_line_of_the_caller() {
+    let hook = std::panic::take_hook();
+    std::panic::set_hook(Box::new(move |info| {
+        let file = info.location().map_or(String::new(), |place| place.file().to_string());
+        PLACE.with(|it| it.replace(file));
+        hook(info);
+    }));
+    let mut map = SlotMap::new();
+    let mut side = SecondaryMap::new();
+    let mut sparse = SparseSecondaryMap::new();
+    let (stale, live) = (map.insert(1), map.insert(2));
+    map.remove(stale);
+    side.insert(live, 3);
+    sparse.insert(live, 4);
+    for place in [place_of(|| map[stale]), place_of(|| side[stale]), place_of(|| sparse[stale])] {
+        assert!(place.ends_with("maps.rs"), "{place}");
+    }
+    for place in [place_of(|| map[stale] = 5), place_of(|| side[stale] = 5), place_of(|| sparse[stale] = 5), place_of(|| map.reattach(live, 5))] {
+        assert!(place.ends_with("maps.rs"), "{place}");
+    }
+    assert_eq!((map[live], side[live], sparse[live]), (2, 3, 4));
 }
 
 #[test]

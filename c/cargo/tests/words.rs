@@ -80,4 +80,5 @@ fn side_table() -> Result<(), Status> {
 fn statuses_are_errors() {
     let error: Box<dyn Error> = Box::new(Status::NO_MEMORY);
     assert_eq!((error.to_string(), Status(9).to_string()), ("out of memory".to_string(), "no status of slotmap.h".to_string()));
+    assert_eq!(format!("{error:?}"), "Status(2: out of memory)");
 }

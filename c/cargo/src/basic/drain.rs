@@ -10,7 +10,8 @@ impl<K: Key, V> SlotMap<K, V> {
     /// Removes every live key, and drops its value. The capacity stays, and detached keys stay detached. Linear in the number of
     /// slots.
     ///
-    /// If the drop of a value panics, all keys are removed nonetheless; in the crate those after it stay.
+    /// If the drop of a value panics, all keys are removed nonetheless, and their values dropped; in the crate those after it stay. If a
+    /// second one panics meanwhile, the program is aborted, as by `Vec::clear`.
     ///
     /// ```
     /// # use slotmap_proved::SlotMap;

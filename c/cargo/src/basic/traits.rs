@@ -234,6 +234,7 @@ impl<K: Key, V> Index<K> for SlotMap<K, V> {
     type Output = V;
 
     #[inline]
+    #[track_caller]
     fn index(&self, key: K) -> &V {
         match self.get(key) {
             Some(value) => value,
@@ -245,6 +246,7 @@ impl<K: Key, V> Index<K> for SlotMap<K, V> {
 /// Panics if the key isn't live.
 impl<K: Key, V> IndexMut<K> for SlotMap<K, V> {
     #[inline]
+    #[track_caller]
     fn index_mut(&mut self, key: K) -> &mut V {
         match self.get_mut(key) {
             Some(value) => value,

@@ -175,6 +175,7 @@ impl<K: Key, V> Index<K> for SecondaryMap<K, V> {
     type Output = V;
 
     #[inline]
+    #[track_caller]
     fn index(&self, key: K) -> &V {
         match self.get(key) {
             Some(value) => value,
@@ -186,6 +187,7 @@ impl<K: Key, V> Index<K> for SecondaryMap<K, V> {
 /// Panics if the key has no value.
 impl<K: Key, V> IndexMut<K> for SecondaryMap<K, V> {
     #[inline]
+    #[track_caller]
     fn index_mut(&mut self, key: K) -> &mut V {
         match self.get_mut(key) {
             Some(value) => value,

@@ -34,6 +34,7 @@ impl<K: Key, V: Eq, S: BuildHasher> Eq for SparseSecondaryMap<K, V, S> {}
 impl<K: Key, V, S: BuildHasher> Index<K> for SparseSecondaryMap<K, V, S> {
     type Output = V;
 
+    #[track_caller]
     fn index(&self, key: K) -> &V {
         match self.get(key) {
             Some(value) => value,
@@ -44,6 +45,7 @@ impl<K: Key, V, S: BuildHasher> Index<K> for SparseSecondaryMap<K, V, S> {
 
 /// Panics if the key has no value.
 impl<K: Key, V, S: BuildHasher> IndexMut<K> for SparseSecondaryMap<K, V, S> {
+    #[track_caller]
     fn index_mut(&mut self, key: K) -> &mut V {
         match self.get_mut(key) {
             Some(value) => value,
