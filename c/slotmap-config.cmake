@@ -3,6 +3,8 @@
 #
 # find_package(slotmap) gives the targets slotmap::slotmap, the shared library, and slotmap::static.
 get_filename_component(slotmap_libraries "${CMAKE_CURRENT_LIST_DIR}/../.." ABSOLUTE)
+# Sought anew each time: a build folder may be told of another slotmap_DIR.
+unset(slotmap_INCLUDE_DIR CACHE)
 find_path(slotmap_INCLUDE_DIR slotmap.h NO_DEFAULT_PATH
     PATHS "${slotmap_libraries}/../include" "${slotmap_libraries}/../../include")
 if(NOT slotmap_INCLUDE_DIR)

@@ -13,6 +13,10 @@
  *     struct players;
  *     slotmaps::slot_map<std::string, players> names;
  *     slotmaps::typed_key<players> first = names.insert("Ada");
+ *     for (auto [key, name] : names)
+ *         name += "!";
+ *
+ * The loop's pair is made at each step, so `auto &[key, name]` doesn't compile; `name` is a reference to the value nonetheless.
  *
  * Each frees what it has at the end of its scope. It can be moved, swapped and copied; a copy has the same keys. A call that can't get
  * memory throws std::bad_alloc, and one over 4294967294 keys std::length_error; the map then holds what it held, and makes the same

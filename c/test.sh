@@ -190,6 +190,10 @@ if left="CMake" has cmake; then
         cmake_program "$kind" 0.7 || { cat "$out/cmake-log" >&2; exit 1; }
         same "$out/cmake-$kind/build/names"
     done
+    # The build folder is told of a second copy: then it takes the header from there too.
+    cp -r "$root" "$out/second"
+    cmake -S "$out/cmake-static" -B "$out/cmake-static/build" -Dslotmap_DIR="$out/second/lib/cmake/slotmap" >"$out/cmake-log" 2>&1
+    grep -q "slotmap_INCLUDE_DIR.*=$out/second/include" "$out/cmake-static/build/CMakeCache.txt" || { echo "c/test.sh: CMake keeps the header of its first copy" >&2; exit 1; }
     ! cmake_program other 0.8 && grep -q "requested version" "$out/cmake-log" || { echo "c/test.sh: CMake takes the version 0.8" >&2; exit 1; }
     echo "CMake: both libraries, and no other version"
 fi
