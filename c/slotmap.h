@@ -262,7 +262,7 @@ typedef struct slotmap_keys {
 } slotmap_keys_t;
 
 /* Returns the index of a key: its low half. */
-static inline uint32_t slotmap_index(uint64_t key) { return (uint32_t)key; }
+static inline uint32_t slotmap_index(uint64_t key) { return key & UINT32_MAX; }
 
 /* Opens a closed handle with an empty map.
  * SLOTMAP_OK, SLOTMAP_NO_MEMORY, or SLOTMAP_OPEN, which changes nothing. */

@@ -9,6 +9,7 @@
 #include "slotmap.h"
 
 #include <algorithm>
+#include <cstddef>
 #include <cstdint>
 #include <cstdlib>
 #include <exception>

@@ -98,7 +98,7 @@ if left="C++" has c++; then
     c++ -std=c++17 "${strict[@]}" -x c++ tests/calls.c -x none "$out/heap.o" "$out/heap-cpp.o" "$archive" -o "$out/calls-cpp"
     c++ -std=c++17 "${strict[@]}" -x c++ tests/keys.c -x none "$out/heap-cpp.o" "$archive" -o "$out/keys-cpp"
     c++ -std=c++17 "${strict[@]}" tests/classes.cpp "$out/heap-cpp.o" "$archive" -o "$out/classes"
-    c++ -std=c++17 "${strict[@]}" examples/names.cpp "$out/heap-cpp.o" "$archive" -o "$out/names-cpp"
+    c++ -std=c++17 "${strict[@]}" -Wshadow -Wold-style-cast examples/names.cpp "$out/heap-cpp.o" "$archive" -o "$out/names-cpp"
     checked "C++17" "$out/calls-cpp"
     checked "C++17" "$out/keys-cpp"
     checked "C++17" "$out/classes"
