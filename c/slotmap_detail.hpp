@@ -335,7 +335,7 @@ public:
     T *find(key_type at) noexcept
     {
         place<T> *found = values.find(at.id);
-        return found != nullptr ? &found->value() : nullptr;
+        return found != nullptr ? std::addressof(found->value()) : nullptr;
     }
     const T *find(key_type at) const noexcept { return const_cast<table *>(this)->find(at); }
     bool contains(key_type at) const noexcept { return find(at) != nullptr; }

@@ -287,6 +287,21 @@ static void check_alignment()
         CHECK(value.number == next++ && at.index() == static_cast<std::uint32_t>(next));
 }
 
+/* A value that takes no `&`. */
+struct hidden {
+    int number;
+    hidden *operator&() = delete;
+    const hidden *operator&() const = delete;
+};
+
+static void check_addresses()
+{
+    slotmaps::slot_map<hidden> map;
+    slotmaps::side_map<hidden> side;
+    key a = map.insert(hidden{5});
+    CHECK(side.put(a, hidden{6}) && map.find(a)->number == 5 && side.at(a).number == 6 && map.erase(a)->number == 5);
+}
+
 #if defined(__cpp_exceptions)
 /* A value of which the n-th copy or move throws. */
 struct heavy {
@@ -375,6 +390,7 @@ int main()
     check_clearing_destructors();
     check_recursion();
     check_alignment();
+    check_addresses();
 #if defined(__cpp_exceptions)
     check_nth_move();
 #endif

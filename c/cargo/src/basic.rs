@@ -283,8 +283,8 @@ impl<K: Key, V> SlotMap<K, V> {
 
     /// Inserts the value that a function makes of its new key, unless the function returns an error.
     ///
-    /// Then nothing is inserted, and the key is never live: in the crate the next insert may return it. Panics as `insert` does,
-    /// before the function is called.
+    /// Then nothing is inserted, and the key is never live in this map: in the crate the next insert may return it. Panics as `insert`
+    /// does, before the function is called.
     ///
     /// ```
     /// # use slotmap_proved::SlotMap;
