@@ -70,6 +70,10 @@ def one_key():
         names[A]
     except KeyError as error:
         assert error.args == (A,)
+    try:
+        SlotMap([1])
+    except TypeError as error:
+        assert str(error) == "SlotMap() takes no arguments"
     assert type(SlotMap[str]()) is SlotMap and type(Side[str]()) is Side and sys.getsizeof(names) >= 24 * names.capacity() > 0
     del names[B]
     names.clear()

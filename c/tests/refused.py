@@ -56,6 +56,26 @@ def use(run):
     return keys, state()
 
 
+def unknown_keys():
+    """Where the number of the new key is refused memory, nothing is inserted. It needs CPython's own test module."""
+    try:
+        from _testcapi import remove_mem_hooks, set_nomemory
+    except ImportError:
+        return
+    names, value = SlotMap(), object()
+    before, inserted = sys.getrefcount(value), names.insert("name")
+    set_nomemory(0, 1)
+    try:
+        names.insert(value)
+        raised = False
+    except MemoryError:
+        raised = True
+    finally:
+        remove_mem_hooks()
+    assert raised and names.pairs() == [(inserted, "name")] and sys.getrefcount(value) == before
+    assert names[names.insert(value)] is value
+
+
 def main():
     first = Run(0, 0)
     expected = use(first)
@@ -69,6 +89,7 @@ def main():
             if refused() == seen:
                 break
             turn += 1
+    unknown_keys()
     names = SlotMap()
     for _ in range(100):
         refuse_after(0)

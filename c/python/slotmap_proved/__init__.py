@@ -76,6 +76,8 @@ def _deep_copied(table: _Both, memo: dict[int, Any]) -> _Both:
 class SlotMap(_tables.Map[_T], Mapping[int, _T]):
     """Objects under keys that `insert` makes.
 
+    `map[key] = value` sets the value of a live key, and raises KeyError for any other: only `insert` and `reattach` make a key live.
+
     It iterates by ascending index, the low half of a key. An iteration ends with RuntimeError if keys are inserted or removed
     meanwhile, as that of a dict; values may be set.
     """
@@ -108,7 +110,8 @@ class SlotMap(_tables.Map[_T], Mapping[int, _T]):
 
 
 class Side(_tables.Side[_T], Mapping[int, _T]):
-    """Further objects under the keys of a map, at most one for each index. A newer key takes the place of an older one, never the reverse.
+    """Further objects under the keys of a map, at most one for each index. A newer key takes the place of an older one. Never the reverse:
+    `side[key] = value` raises KeyError if a newer key has a value at this index.
 
     It knows nothing of removals: remove a key here too. It takes 24 bytes for each index up to that of a key. So one key from outside
     may take gigabytes: ask the map first whether it is live.

@@ -81,10 +81,12 @@ static PyObject *new_table(PyTypeObject *type, bool is_side)
 
 static int no_arguments(PyObject *self, PyObject *arguments, PyObject *named)
 {
-    (void)self;
     if (PyTuple_Size(arguments) == 0 && (named == NULL || PyDict_Size(named) == 0))
         return 0;
-    PyErr_SetString(PyExc_TypeError, "it takes no arguments");
+    PyObject *name = PyObject_GetAttrString((PyObject *)Py_TYPE(self), "__name__");
+    if (name != NULL)
+        PyErr_Format(PyExc_TypeError, "%S() takes no arguments", name);
+    Py_XDECREF(name);
     return -1;
 }
 
@@ -343,8 +345,15 @@ static PyObject *new_map(PyTypeObject *type, PyObject *arguments, PyObject *name
 static PyObject *insert(PyObject *self, PyObject *value)
 {
     uint64_t key = 0;
+    PyObject *back = NULL;
     slotmap_status status = table_insert((Table *)self, value, &key);
-    return status == SLOTMAP_OK ? PyLong_FromUnsignedLongLong(key) : fail(status, Py_None);
+    if (status != SLOTMAP_OK)
+        return fail(status, Py_None);
+    PyObject *number = PyLong_FromUnsignedLongLong(key);
+    /* Who can't be told the key has inserted nothing. The key is used up. */
+    if (number == NULL && table_remove((Table *)self, key, &back) == SLOTMAP_OK)
+        Py_DECREF(back);
+    return number;
 }
 
 static int assign(PyObject *self, PyObject *object, PyObject *value)
