@@ -1,11 +1,12 @@
 -- An element that moves to an end of a list, or beside another element.
 use Rattle.slotmap_lists.proofs.Common.{length, list_map, is_some, ◌∙◌, ℕ, List, [], Some, None, refl, sym, ap, arith, true, Key, some_is, get_or-set_same, length-map, read_map, value_of, first_or, last_or}
-use Rattle.slotmap_lists.proofs.Common.{put_after, put_before, without, key_times, times_none, elements_of, value_under, with_elements, without_key, put_into, placed_beside}
-use Rattle.std.proofs.Common.{◌≡◌, ◌≢◌, ◌<◌, ◌∷◌, ◌++◌}
+use Rattle.slotmap_lists.proofs.Common.{key_after, key_before, list_with, put_after, put_before, without, key_times, times_none, elements_of, value_under, with_elements, without_key, put_into, placed_beside}
+use Rattle.std.proofs.Common.{◌≡◌, ◌≢◌, ◌<◌, ◌∷◌, ◌++◌, Result, Ok, Err, IfOk, OnOk}
 use Rattle.std.proofs.lemmas.Bool.Decides.{nat_tests}
 use Rattle.slotmap_bounded.proofs.Counts.{is_itself}
 use Rattle.slotmap_list.proofs.Elements.{apart_first, last_or-append}
 use Rattle.slotmap_list.proofs.Callers.{without_other}
+use Rattle.slotmap_lists.proofs.Callers.{with_each, stands_with, next_put, prev_put, with_here}
 use Rattle.slotmap_lists.proofs.Which.{map_one}
 use Rattle.slotmap_lists.specs.Sequences.{are_two_in, can_move_to, moved_to_front_of, moved_to_back_of, moved_ahead, moved_behind}
 
@@ -42,6 +43,19 @@ module _ {T : Type 0} where
     pub both : (other ≢ k) × (is_some (value_under k lists) ≡ true) × (is_some (value_under other lists) ≡ true)
     both = grind (arith, is_itself k)
 
+    -- the other element stands, and is beside the one that moved
+    left_with : is_some (value_of other (list_with other (without_key k lists))) ≡ true
+    left_with = ap is_some (ap (value_of other) (with_each other (without k) refl (λ es. ap is_some (without_other k es other both.0)) lists) ∙ without_other k (list_with other lists) other both.0)
+        ∙ stands_with other lists both.2
+
+    pub next_moved : key_after other (list_with other (moved_behind k other lists)) ≡ Some k
+    next_moved = let v = some_is (value_under k lists) both.1 in
+        ap (λ o. key_after other (list_with other (placed_beside (put_after other) k o lists))) v.1 ∙ next_put other (k, v.0) (without_key k lists) left_with both.0
+
+    pub prev_moved : key_before None other (list_with other (moved_ahead k other lists)) ≡ Some k
+    prev_moved = let v = some_is (value_under k lists) both.1 in
+        ap (λ o. key_before None other (list_with other (placed_beside (put_before other) k o lists))) v.1 ∙ prev_put other (k, v.0) (without_key k lists) left_with both.0
+
     module _ (p : ℕ) where
       other_left : (q : ℕ) → value_of other (elements_of q (without_key k lists)) ≡ value_of other (elements_of q lists)
       other_left q = ap (value_of other) (read_map (without k) lists q []) ∙ without_other k (elements_of q lists) other both.0
@@ -65,6 +79,19 @@ module _ {T : Type 0} where
 
         pub behind_is : put_into (put_after other) p k (value_under k lists) lists ≡ moved_behind k other lists
         behind_is = beside_is (put_after other) (put_after_absent other)
+
+  -- an element that is put at an end of a list
+  module _ {K E : Type 0} (data_of : K → Key) (v : T) (old new : List (List (Key × T))) (p : ℕ) where
+    pub pushed_first : (r : Result K E) → OnOk r (p < length old) → IfOk r (λ key. new ≡ with_elements p ((data_of key, v) ∷ elements_of p old) old)
+        → IfOk r (λ key. first_or (elements_of p new) None ≡ Some (data_of key))
+    pushed_first (Ok key) there is = ap (λ lists. first_or (elements_of p lists) None) is ∙ ap (λ es. first_or es None) (with_here p ((data_of key, v) ∷ elements_of p old) old there)
+    pushed_first (Err e) there is = is
+
+    pub pushed_last : (r : Result K E) → OnOk r (p < length old) → IfOk r (λ key. new ≡ with_elements p (elements_of p old ++ (data_of key, v) ∷ []) old)
+        → IfOk r (λ key. last_or (elements_of p new) None ≡ Some (data_of key))
+    pushed_last (Ok key) there is = ap (λ lists. last_or (elements_of p lists) None) is ∙ ap (λ es. last_or es None) (with_here p (elements_of p old ++ (data_of key, v) ∷ []) old there)
+        ∙ last_or-append (elements_of p old) ((data_of key, v) ∷ []) None
+    pushed_last (Err e) there is = is
 
   -- an element that is put beside another one, in the only list which that is in
   module _ (other : Key) (x : Key × T) (lists : List (List (Key × T))) (p : ℕ) (there : p < length lists) (alone : (q : ℕ) → q ≢ p → value_of other (elements_of q lists) ≡ None) where

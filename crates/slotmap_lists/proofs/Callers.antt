@@ -1,6 +1,8 @@
 -- What callers of several lists cite: which elements each list has after a call, and which value each cursor.
 use Rattle.slotmap_lists.proofs.Common.{length, list_map, is_some, ◌∙◌, option_map, ℕ, List, [], Option, Some, None, suc, refl, sym, ap, arith, true, cond, Key, get_or-set_same, get_or-set_other, length-map, length-set, read_map}
-use Rattle.slotmap_lists.proofs.Common.{value_of, put_after, put_before, without, elements_of, all_elements, value_under, number_with, with_elements, without_key, put_into, placed_beside}
+use Rattle.slotmap_lists.proofs.Common.{value_of, first_or, last_or, key_after, key_before, put_after, put_before, without, elements_of, all_elements, value_under, list_with, number_with, with_elements, without_key, put_into, placed_beside}
+use Rattle.slotmap_list.proofs.Elements.{no_first, no_last}
+use Rattle.slotmap_list.proofs.Callers.{put_after_next, put_after_other, put_before_other, put_before_prev}
 use Rattle.std.proofs.Common.{◌≡◌, ◌≢◌, ◌+◌, ◌<◌, ◌≤◌, ◌∷◌, ◌++◌}
 use Rattle.std.proofs.lemmas.Bool.Decides.{nat_tests}
 use Rattle.slotmap_lists.specs.Sequences.{can_move_to, moved_to_front_of, moved_to_back_of, moved_behind, moved_ahead}
@@ -65,6 +67,29 @@ module _ {T : Type 0} where
     ahead_each other q = ap (λ o. elements_of q (placed_beside (put_before other) k o lists)) found
         ∙ put_before_each other (k, v) (without_key k lists) q ∙ ap (put_before other (k, v)) (without_each k lists q)
 
+  -- the list that a cursor is in, where each list changes and the cursor stays
+  pub with_each : (q : Key) (f : List (Key × T) → List (Key × T)) → f [] ≡ [] → ((es : List (Key × T)) → is_some (value_of q (f es)) ≡ is_some (value_of q es))
+      → (lists : List (List (Key × T))) → list_with q (list_map f lists) ≡ f (list_with q lists)
+  with_each q f none same [] = sym none
+  with_each q f none same (es ∷ lists) = grind (arith, same es, with_each q f none same lists)
+
+  pub stands_with : (k : Key) (lists : List (List (Key × T))) → is_some (value_under k lists) ≡ true → is_some (value_of k (list_with k lists)) ≡ true
+  stands_with k [] some = absurd (cc)
+  stands_with k (es ∷ lists) some = by (value_of k es) refl (stands_with k lists)
+    where
+      by : (o : Option T) → value_of k es ≡ o → (is_some (value_under k lists) ≡ true → is_some (value_of k (list_with k lists)) ≡ true)
+          → is_some (value_of k (list_with k (es ∷ lists))) ≡ true
+      by None none rest = grind (arith, rest (ap is_some (sym (value_later k es (all_elements lists) none)) ∙ some))
+      by (Some v) here rest = grind arith
+
+  -- which cursor stands beside another one, where an element was put there
+  module _ (k : Key) (x : Key × T) (lists : List (List (Key × T))) (stands : is_some (value_of k (list_with k lists)) ≡ true) (apart : k ≢ x.0) where
+    pub next_put : key_after k (list_with k (list_map (put_after k x) lists)) ≡ Some x.0
+    next_put = ap (key_after k) (with_each k (put_after k x) refl (λ es. ap is_some (put_after_other k x es k apart)) lists) ∙ put_after_next k x (list_with k lists) stands
+
+    pub prev_put : key_before None k (list_with k (list_map (put_before k x) lists)) ≡ Some x.0
+    prev_put = ap (key_before None k) (with_each k (put_before k x) refl (λ es. ap is_some (put_before_other k x es k apart)) lists) ∙ put_before_prev k x None (list_with k lists) stands apart
+
   -- a cursor has the value that it has in its list
   pub value_in : (k : Key) (p : ℕ) (lists : List (List (Key × T))) → number_with k lists ≡ Some p → value_of k (elements_of p lists) ≡ value_under k lists
   value_in k p [] is = absurd (cc)
@@ -94,5 +119,12 @@ module _ {T : Type 0} where
       by None none rest = let first : p ≡ 0 = (grind arith) in omega (arith, first)
       by (Some n) at rest = let one : p ≤ n + 1 = (grind arith) in omega (arith, one, rest n at)
 
--- for `using`: that an element can move, and to a list that is there
-pub ruleset moves = (can_move, number_below)
+  -- a list without a first cursor, or without a last one, is empty
+  pub none_first : (p : ℕ) (lists : List (List (Key × T))) → first_or (elements_of p lists) None ≡ None → length (elements_of p lists) ≡ 0
+  none_first p lists none = ap length (no_first (elements_of p lists) none)
+
+  pub none_last : (p : ℕ) (lists : List (List (Key × T))) → last_or (elements_of p lists) None ≡ None → length (elements_of p lists) ≡ 0
+  none_last p lists none = ap length (no_last (elements_of p lists) none)
+
+-- for `using`: that an element can move, and to a list that is there, and that a list without an end is empty
+pub ruleset moves = (can_move, number_below, none_first, none_last)

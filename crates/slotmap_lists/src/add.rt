@@ -3,6 +3,7 @@
 ghost use Rattle.std.specs.Prelude.{◌≡◌, ◌≢◌, ℕ, ◌+◌, ◌<◌, ◌≤◌, ◌++◌, ◌∷◌, [], IsOk, IfOk, OnOk, IfErr, OnErr, IsTrue, ◌↔◌, None, Some, true, length};
 ghost use Rattle.slotmap.specs.Words.{Key as KeyOf, HasVacant, Inserts, IsSpent, Keeps, KeepsSpent, used};
 ghost use Rattle.slotmap_list.specs.Refused.{RefusesPush};
+ghost use Rattle.slotmap_list.specs.Sequence.{first_or, last_or};
 ghost use Rattle.slotmap_lists.specs.Sequences.{memory, elements_of, number_with, value_under, with_elements};
 ghost use Rattle.slotmap_lists.specs.Places.{element_put, is_spot};
 ghost use Rattle.slotmap_lists.specs.Refused.{RefusesAdd};
@@ -135,6 +136,7 @@ impl<K: Key, T: Drop> StableLists<K, T> {
     pub fn push_front(&mut self, list: usize, value: T) -> Result<K, AddError<T>>
         ensures ok { IfOk result (λ key. self.new.lists ≡ with_elements list ((K.data_of key, value) ∷ elements_of list self.old.lists) self.old.lists) }
         ensures in_list { IfOk result (λ key. number_with (K.data_of key) self.new.lists ≡ Some list) }
+        ensures first { IfOk result (λ key. first_or (elements_of list self.new.lists) None ≡ Some (K.data_of key)) }
         ensures added { IfOk result (λ key. value_under (K.data_of key) self.new.lists ≡ Some value) }
         ensures others { (q : ℕ) → q ≢ list → elements_of q self.new.lists ≡ elements_of q self.old.lists }
         ensures values { IfOk result (λ key. (q : KeyOf) → q ≢ K.data_of key → value_under q self.new.lists ≡ value_under q self.old.lists) }
@@ -174,6 +176,7 @@ impl<K: Key, T: Drop> StableLists<K, T> {
     pub fn push_back(&mut self, list: usize, value: T) -> Result<K, AddError<T>>
         ensures ok { IfOk result (λ key. self.new.lists ≡ with_elements list (elements_of list self.old.lists ++ (K.data_of key, value) ∷ []) self.old.lists) }
         ensures in_list { IfOk result (λ key. number_with (K.data_of key) self.new.lists ≡ Some list) }
+        ensures last { IfOk result (λ key. last_or (elements_of list self.new.lists) None ≡ Some (K.data_of key)) }
         ensures added { IfOk result (λ key. value_under (K.data_of key) self.new.lists ≡ Some value) }
         ensures others { (q : ℕ) → q ≢ list → elements_of q self.new.lists ≡ elements_of q self.old.lists }
         ensures values { IfOk result (λ key. (q : KeyOf) → q ≢ K.data_of key → value_under q self.new.lists ≡ value_under q self.old.lists) }

@@ -1,9 +1,9 @@
 //! The calls that add an element beside another one.
 
-ghost use Rattle.std.specs.Prelude.{◌≡◌, ◌≢◌, ◌+◌, ◌<◌, ◌≤◌, IsOk, IfOk, OnOk, IfErr, OnErr, IsSome, Some, None, length, map as list_map};
+ghost use Rattle.std.specs.Prelude.{◌≡◌, ◌≢◌, ℕ, ◌+◌, ◌<◌, ◌≤◌, IsOk, IfOk, OnOk, IfErr, OnErr, IsSome, Some, None, length, map as list_map};
 ghost use Rattle.slotmap.specs.Words.{Key as KeyOf, HasVacant, Inserts, IsSpent, Keeps, KeepsSpent, used};
-ghost use Rattle.slotmap_list.specs.Sequence.{put_after, put_before};
-ghost use Rattle.slotmap_lists.specs.Sequences.{memory, number_with, value_under};
+ghost use Rattle.slotmap_list.specs.Sequence.{key_after, key_before, put_after, put_before};
+ghost use Rattle.slotmap_lists.specs.Sequences.{elements_of, list_with, memory, number_with, value_under};
 ghost use Rattle.slotmap_lists.specs.Refused.{RefusesBeside};
 
 use crate::StableLists;
@@ -29,6 +29,8 @@ impl<K: Key, T: Drop> StableLists<K, T> {
     pub fn insert_before(&mut self, cursor: K, value: T) -> Result<K, PlaceError<T>>
         ensures ok { IfOk result (λ key. self.new.lists ≡ list_map (put_before (K.data_of cursor) (K.data_of key, value)) self.old.lists) }
         ensures in_list { IfOk result (λ key. number_with (K.data_of key) self.new.lists ≡ number_with (K.data_of cursor) self.old.lists) }
+        ensures others { (q : ℕ) → number_with (K.data_of cursor) self.old.lists ≢ Some q → elements_of q self.new.lists ≡ elements_of q self.old.lists }
+        ensures prev { IfOk result (λ key. key_before None (K.data_of cursor) (list_with (K.data_of cursor) self.new.lists) ≡ Some (K.data_of key)) }
         ensures added { IfOk result (λ key. value_under (K.data_of key) self.new.lists ≡ Some value) }
         ensures values { IfOk result (λ key. (q : KeyOf) → q ≢ K.data_of key → value_under q self.new.lists ≡ value_under q self.old.lists) }
         ensures as_many { length self.new.lists ≡ length self.old.lists }
@@ -75,6 +77,8 @@ impl<K: Key, T: Drop> StableLists<K, T> {
     pub fn insert_after(&mut self, cursor: K, value: T) -> Result<K, PlaceError<T>>
         ensures ok { IfOk result (λ key. self.new.lists ≡ list_map (put_after (K.data_of cursor) (K.data_of key, value)) self.old.lists) }
         ensures in_list { IfOk result (λ key. number_with (K.data_of key) self.new.lists ≡ number_with (K.data_of cursor) self.old.lists) }
+        ensures others { (q : ℕ) → number_with (K.data_of cursor) self.old.lists ≢ Some q → elements_of q self.new.lists ≡ elements_of q self.old.lists }
+        ensures next { IfOk result (λ key. key_after (K.data_of cursor) (list_with (K.data_of cursor) self.new.lists) ≡ Some (K.data_of key)) }
         ensures added { IfOk result (λ key. value_under (K.data_of key) self.new.lists ≡ Some value) }
         ensures values { IfOk result (λ key. (q : KeyOf) → q ≢ K.data_of key → value_under q self.new.lists ≡ value_under q self.old.lists) }
         ensures as_many { length self.new.lists ≡ length self.old.lists }

@@ -9,11 +9,12 @@
 //! - Each element is in exactly one list, and there once.
 //! - An element that moves to another list, or to another place of its own, keeps its cursor and its
 //!   value. No move can fail for want of memory, and the capacity stays.
-//! - The cursor of a removed element is never used again for another element.
+//! - The cursor of a removed element is never used again for another element, unless `clone_from`
+//!   makes the lists a copy of others.
 //! - A call that adds, removes or moves an element leaves all other values as they were, and all lists
 //!   but those that the element leaves or comes to. The number of lists stays.
 //! - A call with a cursor that is in no list, or with the number of a list that isn't there, changes
-//!   nothing. An insert returns its value then.
+//!   nothing. An insert or a push returns its value then.
 //! - Where there is room, no added element is refused for memory, and the capacity stays. No removal
 //!   loses room or changes the capacity.
 //!

@@ -4,8 +4,8 @@ ghost use Rattle.std.specs.Prelude.{◌≡◌, ◌≢◌, ℕ, ◌<◌, ◌^◌,
 ghost use Rattle.std.specs.Option.{option_copied_mut};
 ghost use Rattle.std.specs.Borrow.{sem};
 ghost use Rattle.slotmap.specs.Words.{Key as KeyOf};
-ghost use Rattle.slotmap_list.specs.Sequence.{first_or, last_or, without};
-ghost use Rattle.slotmap_lists.specs.Sequences.{elements_of, number_with, value_under, without_key, put_into, are_two_in, can_move_to};
+ghost use Rattle.slotmap_list.specs.Sequence.{first_or, key_after, key_before, last_or, without};
+ghost use Rattle.slotmap_lists.specs.Sequences.{elements_of, list_with, number_with, value_under, without_key, put_into, are_two_in, can_move_to};
 ghost use Rattle.slotmap_lists.specs.Sequences.{moved_to_front_of, moved_to_back_of, moved_behind, moved_ahead};
 ghost use Rattle.slotmap_lists.specs.Places.{element_put, is_spot};
 
@@ -117,6 +117,8 @@ impl<K: Key, T: Drop> StableLists<K, T> {
         ensures moved { self.new ≡ record self.old
             { lists = if result then moved_ahead (K.data_of cursor) (K.data_of other) self.old.lists else self.old.lists } }
         ensures in_list { IsTrue result → number_with (K.data_of cursor) self.new.lists ≡ number_with (K.data_of other) self.old.lists }
+        ensures prev { IsTrue result → key_before None (K.data_of other) (list_with (K.data_of other) self.new.lists) ≡ Some (K.data_of cursor) }
+        ensures others { IsTrue result → (q : ℕ) → number_with (K.data_of other) self.old.lists ≢ Some q → elements_of q self.new.lists ≡ without (K.data_of cursor) (elements_of q self.old.lists) }
         ensures values { (q : KeyOf) → value_under q self.new.lists ≡ value_under q self.old.lists }
         ensures as_many { length self.new.lists ≡ length self.old.lists }
     {
@@ -146,6 +148,8 @@ impl<K: Key, T: Drop> StableLists<K, T> {
         ensures moved { self.new ≡ record self.old
             { lists = if result then moved_behind (K.data_of cursor) (K.data_of other) self.old.lists else self.old.lists } }
         ensures in_list { IsTrue result → number_with (K.data_of cursor) self.new.lists ≡ number_with (K.data_of other) self.old.lists }
+        ensures next { IsTrue result → key_after (K.data_of other) (list_with (K.data_of other) self.new.lists) ≡ Some (K.data_of cursor) }
+        ensures others { IsTrue result → (q : ℕ) → number_with (K.data_of other) self.old.lists ≢ Some q → elements_of q self.new.lists ≡ without (K.data_of cursor) (elements_of q self.old.lists) }
         ensures values { (q : KeyOf) → value_under q self.new.lists ≡ value_under q self.old.lists }
         ensures as_many { length self.new.lists ≡ length self.old.lists }
     {
