@@ -3,7 +3,7 @@
 use Rattle.slotmap_graph.proofs.Common.{cond, append-nil, append_assoc, some_entry, same_or_other, get-insert_here, get-insert_other, exact_keys, times_first, times_pushed, times_joined, without_none}
 use Rattle.slotmap_graph.proofs.Common.{◌∙◌, list_map, keys_total, Content, is_itself, one_other, one_itself, is_other, same_Some, first_or, key_after, SeenEdge, ListsEdges, with_edge, IsJoined}
 use Rattle.slotmap_graph.proofs.Common.{false, Option, Some, None, List, length, get_or, refl, arith, Bool, true, key_cmp, is_key, times, without, Edges, from, Seen, in_midst, find, goes_to, HasEdge}
-use Rattle.slotmap_graph.proofs.Common.{ℕ, suc, [], sym, ap, Key}
+use Rattle.slotmap_graph.proofs.Common.{ℕ, zero, suc, [], sym, ap, Key}
 use Rattle.std.proofs.Common.{◌≡◌, ◌≢◌, ◌<◌, ◌≤◌, ◌∷◌, ◌++◌}
 use Rattle.slotmap_graph.proofs.Adjacent.{listed_once}
 -- which edges the list of a node has
@@ -35,6 +35,12 @@ module _ {K : Type 0} (data_of : K → Key) where
   pub not_found : (keys : List K) (x : Key) → ((i : ℕ) (other : K) → 0 ≤ i → i < length keys → is_key (data_of (get_or keys i other)) x ≡ false)
       → 0 < times x (list_map data_of keys) → ⊥
   not_found keys x apart some = absurd (omega (arith, none_is keys x apart, some))
+
+  -- where it says yes, the key is there
+  pub found_there : (keys : List K) (x : Key) → (i : ℕ) × (i < length keys) × ((other : K) → is_key (data_of (get_or keys i other)) x ≡ true) → 0 < times x (list_map data_of keys)
+  found_there [] x at = absurd (omega (arith, at.1))
+  found_there (k ∷ keys) x (zero, below, is) = grind (arith, times_first x (data_of k) (list_map data_of keys), is k)
+  found_there (k ∷ keys) x (suc i, below, is) = omega (arith, times_first x (data_of k) (list_map data_of keys), found_there keys x (i, omega arith, is))
 
 -- the first key that passes a test, and where none does
 module _ (test : Key → Bool) where

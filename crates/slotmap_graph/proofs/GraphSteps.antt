@@ -54,6 +54,11 @@ module _ {E : Type 0} (edges : Edges E) (k : Key) (untouched : (x : Key) (e : Se
   pub none_to : ListsEdges to edges k ks → ks ≡ []
   none_to lists = nothing_listed to edges k ks lists (λ x e there at. grind (arith, untouched x e there, is_itself k))
 
+-- a node that an edge touches exists
+pub touched_there : {N E : Type 0} (s : Seen N E) → IsJoined s → (k x : Key) (e : SeenEdge E) → map.get s.edges.live x ≡ Some e → touches k e ≡ true
+    → map.contains_key s.nodes.live k ≡ false → ⊥
+touched_there s joined k x e there touched absent = absurd (grind (arith, joined.ends x e there, same_or_other e.from k, same_or_other e.to k, is_other e.from k, is_other e.to k))
+
 -- every graph is joined
 pub graph_joined : {N E : Type 0} (nodes : Content N) (edges : Content (SeenEdge E)) (outs intos : Lists) → IsGraph nodes edges outs intos
     → IsJoined (record { nodes = nodes; edges = edges; out = by_node nodes.live edges.live outs; into = by_node nodes.live edges.live intos; links = (outs.capacity, intos.capacity) })

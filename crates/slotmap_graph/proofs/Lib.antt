@@ -1,6 +1,7 @@
 mod Adjacent
 pub mod Callers
 mod Common
+pub mod Cycles
 mod GraphSteps
 mod Indices
 mod Searches

@@ -8,7 +8,7 @@ ghost use Rattle.std.specs.FinMap as map;
 ghost use Rattle.slotmap.specs.Words.{Key as KeyOf, HasVacant, Inserts, Removes, Keeps, Leaves, IsLive, IsSpent, IsContent, KeepsSpent, Refuses};
 ghost use Rattle.slotmap_bounded.specs.Bounded.{space};
 ghost use Rattle.slotmap_bounded.specs.KeyLists.{without};
-ghost use Rattle.slotmap_graph.specs.Parts.{SeenEdge, avoids, touches, from, to, value, edges_at, ListsEdges, PutsBehind, SameEdges, RefusesEdge};
+ghost use Rattle.slotmap_graph.specs.Parts.{SeenEdge, IsJoined, avoids, touches, value, edges_at, PutsBehind, SameEdges, RefusesEdge};
 
 use crate::lists::{put_last, take_out};
 use crate::{Edge, EdgeError, EdgeKey, Graph};
@@ -200,8 +200,7 @@ impl<K: Key, N: Drop, E: Drop> Graph<K, N, E> {
     fn edge_at(&self, node: K) -> Option<EdgeKey>
         ensures some { IfSome result (λ key. (e : SeenEdge E) × (map.get self.now.edges.live key ≡ Some e) × (touches (K.data_of node) e ≡ true)) }
         ensures none { IfNone result ((k : KeyOf) (e : SeenEdge E) → map.get self.now.edges.live k ≡ Some e → touches (K.data_of node) e ≡ false) }
-        ensures out { (k : KeyOf) → ListsEdges from self.now.edges.live k (edges_at self.now.out k) }
-        ensures into { (k : KeyOf) → ListsEdges to self.now.edges.live k (edges_at self.now.into k) }
+        ensures joined { IsJoined self.now }
     {
         let _ = &self.nodes;
         match self.edges_from(node).next() {
@@ -211,7 +210,8 @@ impl<K: Key, N: Drop, E: Drop> Graph<K, N, E> {
     }
 
     /// Removes every edge from a node or to it, and no other. Their keys are never used again. No room
-    /// is lost, and the capacity stays. It takes time linear in their number.
+    /// is lost, and the capacity stays. A node that doesn't exist has no edges, so nothing changes. It
+    /// takes time linear in the number of these edges.
     ///
     /// ```
     /// let mut graph: Graph<NodeKey, &str, u64> = Graph::new(alloc)?;
@@ -233,6 +233,7 @@ impl<K: Key, N: Drop, E: Drop> Graph<K, N, E> {
         ensures none_into { edges_at self.new.into (K.data_of node) ≡ [] }
         ensures nodes { self.new.nodes ≡ self.old.nodes }
         ensures gone { KeepsSpent self.old.edges self.new.edges }
+        ensures stale { map.contains_key self.old.nodes.live (K.data_of node) ≡ false → self.new ≡ self.old }
     {
         while let Some(edge) = self.edge_at(node) {
             self.remove_edge(edge);

@@ -24,6 +24,9 @@
 //! - [`Graph::reachable`] takes time linear in the number of nodes that it finds and of their edges, and
 //!   in the largest index of one of them.
 //! - [`Graph::topological_order`] takes time linear in the number of slots of nodes and edges.
+//! - [`Graph::next_node`] and [`Graph::next_edge`] take time linear in the number of slots that they pass
+//!   over. All steps of [`Graph::nodes`], [`Graph::edges`] and the iterators over references to all of
+//!   them read each slot once.
 //! - [`Graph::clear`] takes time linear in the number of slots that have had a node or an edge. It also
 //!   resets the ends of the lists of each node that there is room for, 24 bytes a node.
 //! - [`Graph::clone`], [`Graph::with_capacity`] and [`Graph::with_capacity_and_key`] take time linear in

@@ -1,6 +1,6 @@
 use Rattle.slotmap_graph.proofs.Common.{◌∙◌, is_some, refl, ap, arith, option_map, keys_total, exact_keys, len_removed, of_some, leaves_none, leaves_in_turn, edges_at, from, to, value}
 use Rattle.slotmap_graph.proofs.Thinned.{thinned_start, thinned_step, thinned_end, thinned_spent, thin_step, thin_end}
-use Rattle.slotmap_graph.proofs.GraphSteps.{none_from, none_to}
+use Rattle.slotmap_graph.proofs.GraphSteps.{none_from, none_to, touched_there}
 use Rattle.slotmap_graph.proofs.Graph.remove_edges_of.Goals as goal
 
 pub loop-edge-init : goal.loop-edge-init
@@ -12,6 +12,7 @@ loop-edge-init g c = record {
   nodes = refl;
   out = λ k. refl;
   into = λ k. refl;
+  stale = λ absent. refl;
 }
 
 pub loop-edge-smaller : goal.loop-edge-smaller
@@ -32,6 +33,7 @@ loop-edge-preserved-in-Some g c =
       nodes = c.remove_edge.ensures.nodes ∙ so_far.nodes;
       out = λ k. rw (c.remove_edge.ensures.live, c.remove_edge.ensures.out k) (thin_step now (edges_at c.args.self.now.out k) (edges_at c.loop-edge.self.out k) (so_far.out k) c.in-Some.edge);
       into = λ k. rw (c.remove_edge.ensures.live, c.remove_edge.ensures.into k) (thin_step now (edges_at c.args.self.now.into k) (edges_at c.loop-edge.self.into k) (so_far.into k) c.in-Some.edge);
+      stale = λ absent. absurd (touched_there c.loop-edge.self c.in-Some.ensures.joined (g.K.Key.data_of c.args.node) c.in-Some.edge there.0 there.1 there.2 (rw (← so_far.nodes) at absent));
     }
 
 pub returns : goal.returns
@@ -47,10 +49,11 @@ returns g c =
       leaves = so_far.leaves;
       capacity = so_far.capacity;
       links = so_far.links;
-      out = λ k. thin_end now.edges.live (edges_at old.out k) (edges_at now.out k) (so_far.out k) from k (end.out k);
-      into = λ k. thin_end now.edges.live (edges_at old.into k) (edges_at now.into k) (so_far.into k) to k (end.into k);
-      none_out = none_from now.edges.live node end.none _ (end.out node);
-      none_into = none_to now.edges.live node end.none _ (end.into node);
+      out = λ k. thin_end now.edges.live (edges_at old.out k) (edges_at now.out k) (so_far.out k) from k (end.joined.out k);
+      into = λ k. thin_end now.edges.live (edges_at old.into k) (edges_at now.into k) (so_far.into k) to k (end.joined.into k);
+      none_out = none_from now.edges.live node end.none _ (end.joined.out node);
+      none_into = none_to now.edges.live node end.none _ (end.joined.into node);
       nodes = so_far.nodes;
       gone = so_far.thinned.keeps;
+      stale = so_far.stale;
     }

@@ -1,4 +1,4 @@
-use Rattle.slotmap_graph.proofs.Common.{filter, Key, Leaves, edges_at}
+use Rattle.slotmap_graph.proofs.Common.{false, filter, Key, Leaves, edges_at}
 use Rattle.std.proofs.Common.{◌≡◌}
 use Rattle.slotmap_bounded.specs.Bounded.{space}
 use Rattle.slotmap_graph.proofs.Thinned.{Thinned}
@@ -14,6 +14,7 @@ invariant-loop-edge g l = record {
   nodes : l.self.nodes ≡ l.fn.self.nodes;
   out : (k : Key) → filter (map.contains_key l.self.edges.live) (edges_at l.fn.self.out k) ≡ filter (map.contains_key l.self.edges.live) (edges_at l.self.out k);
   into : (k : Key) → filter (map.contains_key l.self.edges.live) (edges_at l.fn.self.into k) ≡ filter (map.contains_key l.self.edges.live) (edges_at l.self.into k);
+  stale : map.contains_key l.fn.self.nodes.live (g.K.Key.data_of l.node) ≡ false → l.self ≡ l.fn.self;
 }
 
 abbrev pub decreases-loop-edge : goal.decreases-loop-edge
