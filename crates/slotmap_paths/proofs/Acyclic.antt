@@ -9,7 +9,7 @@ use Rattle.slotmap_graph.specs.Parts.{IsJoined, Edges, Seen}
 use Rattle.slotmap_graph.specs.Search.{Leads, LeadsBy}
 use Rattle.slotmap_graph.specs.TopologicalOrder.{HasCycle}
 use Rattle.slotmap_paths.specs.Depth.{GoesBackward, IsPostOrder, keys_behind}
-use Rattle.slotmap_paths.proofs.Ways.{leads_on}
+use Rattle.slotmap_graph.proofs.Cycles.{leads_on}
 
 -- what is behind a key is in the list
 inside : (b c : Key) (ks : List Key) → times c (keys_behind b ks) ≤ times c ks

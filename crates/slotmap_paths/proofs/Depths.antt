@@ -1,6 +1,6 @@
 -- The steps of a depth first search: a node is opened, an edge is followed, a node is left.
-use Rattle.std.proofs.Common.{◌≡◌, ◌≢◌, ℕ, zero, suc, ◌+◌, ◌<◌, ◌≤◌, Bool, true, false, if◌then◌else◌, is_some, option_map, append-nil, Option, Some, None, List, [], ◌∷◌, ◌++◌, length, map as list_map, reverse}
-use Rattle.std.proofs.Common.{refl, sym, ap, ◌∙◌, inl, inr, arith}
+use Rattle.std.proofs.Common.{◌≡◌, ◌≢◌, ℕ, zero, suc, ◌+◌, ◌<◌, ◌≤◌, Bool, true, false, if◌then◌else◌, is_some, option_map, append-nil, append_assoc, Option}
+use Rattle.std.proofs.Common.{Some, None, List, [], ◌∷◌, ◌++◌, length, map as list_map, reverse, refl, sym, ap, ◌∙◌, inl, inr, arith}
 use Rattle.std.specs.List.{All}
 use Rattle.std.specs.FinMap as map
 use Rattle.std.proofs.lemmas.List.Elements.{All-cons, All-head, All-nil, All-tail, All-weaker}
@@ -8,7 +8,7 @@ use Rattle.std.proofs.lemmas.List.{map-append, reverse-append}
 use Rattle.std.proofs.lemmas.Option.{same_Some}
 use Rattle.slotmap.specs.Words.{IsBeside, IsContent, IsLive, Key, contains_key, get, put}
 use Rattle.slotmap.proofs.Callers.{get-put_live, get-put_other, same_or_other, secondary}
-use Rattle.slotmap_bounded.specs.KeyLists.{times}
+use Rattle.slotmap_bounded.specs.KeyLists.{last_or, times}
 use Rattle.slotmap_bounded.proofs.Counts.{as_many, one_itself, one_other, times_first, times_pushed}
 use Rattle.slotmap_bounded.proofs.MapKeys.{key_there}
 use Rattle.slotmap_links.specs.Lists.{first_or}
@@ -20,7 +20,8 @@ use Rattle.slotmap_paths.specs.Deepening.{Deepening, Enters, Found, IsOpen, Open
 use Rattle.slotmap_paths.specs.declared.depth.Open.{Open}
 use Rattle.slotmap_paths.proofs.Candidates.{owed_one}
 use Rattle.slotmap_paths.proofs.Orders.{leaves_by_open, order_left, order_none, order_opened}
-use Rattle.slotmap_paths.proofs.Ways.{ahead_all, behind_some, leads_further, next_inside, step_ahead}
+use Rattle.slotmap_graph.proofs.Cycles.{leads_further}
+use Rattle.slotmap_paths.proofs.CutLists.{ahead_all, behind_some, last_joined, next_inside, step_ahead}
 
 module _ {N E : Type 0} (s : Seen N E) where
   pub deepening_start : (found : Found) → found ≡ map.empty → Deepening s found [] []
@@ -163,6 +164,7 @@ module _ {N E : Type 0} (s : Seen N E) (joined : IsJoined s) (well : IsContent t
     begun = was.0;
     led = λ x had. inl had;
     opened_led = λ x more. absurd (omega (arith, more));
+    last = λ new. absurd (grind (arith, new, was.0));
   })
   visiting_start left deep live new opened (inr enters) =
       let marked = now_marked before deep.live start live new enters.1 in
@@ -179,12 +181,13 @@ module _ {N E : Type 0} (s : Seen N E) (joined : IsJoined s) (well : IsContent t
           | inl is ↦ (zero, sym is)
           | inr other ↦ absurd (omega (arith, more, times_first x start [], one_other start x (λ is. other (sym is))))
         ];
+        last = λ new. last_joined left (start ∷ []) None;
       })
 
   -- a node is entered from the open ones, of which all lead to it
   module _ (found : Found) (opened : List OpenNode) (left : List Key) (v : SearchesFrom s before start found opened left) (y : Key) (live : IsLive s.nodes y)
       (leads : (a : Key) → 0 < times a (open_nodes opened) → Leads s.edges.live a y) (begun : Leads s.edges.live start y) (after : List OpenNode)
-      (same_nodes : open_nodes after ≡ open_nodes opened)
+      (same_nodes : open_nodes after ≡ open_nodes opened) (some : (o : Option Key) → last_or (open_nodes opened) o ≡ last_or (open_nodes opened) None)
       (all : (new : Found) → ((q : Key) → contains_key found q ≡ true → contains_key new q ≡ true) → contains_key new y ≡ true → All (IsOpen s new) after) where
     pub visiting_entered : (new : Found) (opened' : List OpenNode) → Enters s found after y new opened' → SearchesFrom s before start new opened' left
     visiting_entered new opened' (inl was) = rw (was.1, was.2) (record {
@@ -193,6 +196,7 @@ module _ {N E : Type 0} (s : Seen N E) (joined : IsJoined s) (well : IsContent t
       begun = v.begun;
       led = v.led;
       opened_led = rw same_nodes v.opened_led;
+      last = rw same_nodes v.last;
     })
     visiting_entered new opened' (inr enters) =
         let marked = now_marked found v.deepening.live y live new enters.1 in
@@ -210,6 +214,8 @@ module _ {N E : Type 0} (s : Seen N E) (joined : IsJoined s) (well : IsContent t
             | inl is ↦ rw is begun
             | inr other ↦ v.opened_led x (omega (arith, more, times_first x y (open_nodes after), one_other y x (λ is. other (sym is)), ap (times x) same_nodes))
           ];
+          last = λ new. rw same_nodes (last_joined left (y ∷ open_nodes opened) None ∙ some (Some y)
+              ∙ sym (some (last_or left None)) ∙ sym (last_joined left (open_nodes opened) None) ∙ v.last new);
         })
 
   -- an edge of the node in front is followed
@@ -245,7 +251,7 @@ module _ {N E : Type 0} (s : Seen N E) (joined : IsJoined s) (well : IsContent t
       visiting_followed =
           visiting_entered found ((x, Some k) ∷ opened) left v to to_live (λ b more. rw (← to_is) (leads_there b more))
           (rw (← to_is) (leads_further s.edges.live start x (next_edge.0.to) (v.opened_led x (omega (arith, times_first x x (open_nodes opened), one_itself x))) edge_there))
-          ((x, key_after k (edges_at s.out x)) ∷ opened) refl
+          ((x, key_after k (edges_at s.out x)) ∷ opened) refl (λ o. refl)
           (λ later kept had. All-cons (IsOpen s later) (x, key_after k (edges_at s.out x)) opened
           (open_next s joined found x k front_open later kept next_edge.0 next_edge.1 (rw to_is had))
           (All-weaker (IsOpen s found) (IsOpen s later) (open_kept s found later kept) opened (All-tail (IsOpen s found) (x, Some k) opened v.deepening.followed)))
@@ -279,6 +285,7 @@ module _ {N E : Type 0} (s : Seen N E) (joined : IsJoined s) (well : IsContent t
       begun = v.begun;
       led = v.led;
       opened_led = λ q more. v.opened_led q (omega (arith, more, times_first q x (open_nodes opened)));
+      last = rw (append_assoc left (x ∷ []) (open_nodes opened)) v.last;
     }
 
     pub work_ended : work_left s found opened < work_left s found ((x, None) ∷ opened)
@@ -404,8 +411,8 @@ module _ {N E : Type 0} (s : Seen N E) (start : Key) (found : Found) (left : Lis
   pub from_all : (x : Key) → IsLive s.nodes start → Leads s.edges.live start x → 0 < times x left
   from_all x live way = visited_all s start found left (visited live) x way
 
-  pub from_live : (x : Key) → 0 < times x left → IsLive s.nodes start × IsLive s.nodes x
-  from_live x more = let live = start_live x more in let v = visited live in (live, v.deepening.live x (left_there s found left v.deepening x more))
+  pub from_last : IsLive s.nodes start → last_or left None ≡ Some start
+  from_last live = sym (ap (λ ks. last_or ks None) (append-nil left)) ∙ (visited live).last (grind (arith, secondary))
 
   pub from_order : IsPostOrder s.edges.live left
   from_order a b after way = ended_order s found left (visited (start_live a (behind_some a b left after))).deepening a b after way

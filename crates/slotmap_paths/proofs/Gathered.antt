@@ -16,7 +16,8 @@ use Rattle.slotmap_paths.specs.Components.{IsComponent, LeadOnward, times_in}
 use Rattle.slotmap_paths.specs.Deepening.{Found}
 use Rattle.slotmap_paths.specs.Gathering.{MarksOne, AreAdded, Collecting, FindsMore, Gathering, Gathers, HasPrevious, IsClosed, IsLast, StayMarked}
 use Rattle.slotmap_paths.specs.Depth.{IsPostOrder, keys_behind}
-use Rattle.slotmap_paths.proofs.Ways.{behind_gone, behind_more, leads_on}
+use Rattle.slotmap_graph.proofs.Cycles.{leads_on}
+use Rattle.slotmap_paths.proofs.CutLists.{behind_gone, behind_more}
 
 -- the nodes where the edges of a list begin
 module _ {E : Type 0} (edges : Edges E) where

@@ -7,7 +7,7 @@ use Rattle.slotmap_bounded.proofs.Counts.{one_other, times_pushed}
 use Rattle.slotmap_graph.specs.Parts.{Edges}
 use Rattle.slotmap_graph.specs.Search.{HasNext, Leads, LeadsBy}
 use Rattle.slotmap_paths.specs.Deepening.{Found, OrdersSoFar}
-use Rattle.slotmap_paths.proofs.Ways.{behind_gone, behind_kept, behind_more}
+use Rattle.slotmap_paths.proofs.CutLists.{behind_gone, behind_kept, behind_more}
 
 module _ {E : Type 0} (edges : Edges E) (left opened : List Key) where
   -- a path from a node that was left stays among these, or comes to an open one

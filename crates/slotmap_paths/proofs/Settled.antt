@@ -1,57 +1,55 @@
 -- A search that settles nodes by ascending distance, over any nodes and edges: what its steps keep, and what it has found at its end.
-use Rattle.std.proofs.Common.{◌≡◌, ◌≢◌, ℕ, zero, suc, ◌+◌, ◌≤◌, ◌⊎◌, Option, Some, None, refl, sym, ap, ◌∙◌, inl, inr, arith}
-use Rattle.slotmap_paths.specs.Paths.{PathOf, Costs, ComesAlong}
-use Rattle.slotmap_paths.specs.Settling.{IsSettledWithin, IsWaiting, Settling, far}
+use Rattle.std.proofs.Common.{◌≡◌, ◌≢◌, ℕ, zero, suc, ◌+◌, ◌≤◌, ◌⊎◌, Option, Some, None, option_map, refl, sym, ap, ◌∙◌, inl, inr, arith}
+use Rattle.slotmap_paths.specs.Paths.{PathOf, ComesAlong, TracedBy, TracedBelow}
+use Rattle.slotmap_paths.specs.Settling.{IsSettledWithin, IsWaiting, Settling}
 
-module _ {Node Edge Handle R C : Type 0} (distance : R → ℕ) (last : R → Option Edge) (node : C → Node) (via : C → Option Edge)
-    (Step : Edge → Node → Node → ℕ → Type 0) (start : Node) where
+-- last edges that lead back to the start
+module _ {Node Edge R : Type 0} (Step : Edge → Node → Node → ℕ → Type 0) (distance : R → ℕ) (last : R → Option Edge) (start : Node) (found : Node → Option R) where
+  pub traced_path : (n : ℕ) (b : Node) (s : ℕ) (by : Option Edge) → TracedBy Step distance last start found n b s by → PathOf Step n start b s
+  traced_path zero b s by t = (sym t.0, t.1)
+  traced_path (suc n) b s by t = (t.1, distance t.3, t.0, t.2, traced_path n t.1 (distance t.3) (last t.3) t.8, t.6, t.7)
+
+  pub traced_comes : (n : ℕ) (b : Node) (s : ℕ) (by : Option Edge) → TracedBy Step distance last start found n b s by → ComesAlong Step start (λ a. option_map distance (found a)) b s by
+  traced_comes zero b s by t = rw t.2 (t.0, t.1)
+  traced_comes (suc n) b s by t = rw t.4 (t.1, distance t.3, t.2, ap (option_map distance) t.5, t.6, t.7)
+
+  -- more was found
+  module _ (found' : Node → Option R) (grows : (b : Node) (r : R) → found b ≡ Some r → found' b ≡ Some r) where
+    traced_grows : (n : ℕ) (b : Node) (s : ℕ) (by : Option Edge) → TracedBy Step distance last start found n b s by → TracedBy Step distance last start found' n b s by
+    traced_grows zero b s by t = t
+    traced_grows (suc n) b s by t = (t.0, t.1, t.2, t.3, t.4, grows t.1 t.3 t.5, t.6, t.7, traced_grows n t.1 (distance t.3) (last t.3) t.8)
+
+    pub below_grows : (m m' : ℕ) → m ≤ m' → (b : Node) (s : ℕ) (by : Option Edge)
+        → TracedBelow Step distance last start found m b s by → TracedBelow Step distance last start found' m' b s by
+    below_grows m m' more b s by t = (t.0, omega (arith, t.1), traced_grows t.0 b s by t.2)
+
+module _ {Node Edge Handle R C : Type 0} {distance : R → ℕ} {last : R → Option Edge} {node : C → Node} {via : C → Option Edge}
+    {Step : Edge → Node → Node → ℕ → Type 0} {start : Node} where
   -- the start alone waits
-  pub settling_start : (settled : Node → Option R) (waiting : Handle → Option (ℕ × C)) → ((b : Node) → settled b ≡ None) → (h : Handle) (x : C) → waiting h ≡ Some (0, x)
-      → node x ≡ start → via x ≡ None → ((q : Handle) (t : ℕ) (y : C) → waiting q ≡ Some (t, y) → (t ≡ 0) × (y ≡ x)) → (Left : Edge → Type 0)
-      → Settling distance last node via Step start settled waiting Left
-  settling_start settled waiting none h x there at first only Left = record {
-    led = λ b r is. absurd (grind (arith, none b, is));
-    come = λ b r is. absurd (grind (arith, none b, is));
-    coming = λ q t y is. rw ((only q t y is).0, (only q t y is).1, first) (at, refl);
+  pub settling_start : (settled : Node → Option R) (size : ℕ) (waiting : Handle → Option (ℕ × C)) → ((b : Node) → settled b ≡ None)
+      → (h : Handle) (x : C) → waiting h ≡ Some (0, x) → node x ≡ start → via x ≡ None → ((q : Handle) (t : ℕ) (y : C) → waiting q ≡ Some (t, y) → (t ≡ 0) × (y ≡ x))
+      → (Left : Edge → Type 0) → Settling distance last node via Step start settled size waiting Left
+  settling_start settled size waiting none h x there at first only Left = record {
+    traced = λ b r is. absurd (grind (arith, none b, is));
+    tracing = λ q t y is. (let one = only q t y is in (zero, omega arith, (ap node one.1 ∙ at, one.0, ap via one.1 ∙ first)));
     begun = inr (h, 0, x, there, at, omega arith);
     covered = λ k a b c r is. absurd (grind (arith, none a, is));
     ordered = λ b r h t x is. absurd (grind (arith, none b, is));
   }
 
-  module _ (settled : Node → Option R) (waiting : Handle → Option (ℕ × C)) (Left : Edge → Type 0) (settling : Settling distance last node via Step start settled waiting Left) where
+  module _ {settled : Node → Option R} {size : ℕ} {waiting : Handle → Option (ℕ × C)} {Left : Edge → Type 0}
+      (settling : Settling distance last node via Step start settled size waiting Left) where
     -- from a settled node an edge leads on
-    pub led_on : (k : Edge) (a b : Node) (c : ℕ) (r : R) → settled a ≡ Some r → Step k a b c → Costs Step start b (distance r + c)
-    led_on k a b c r is step = let path = settling.led a r is in (suc path.0, (a, distance r, k, c, path.1, step, refl))
-
-    comes_led : (b : Node) (s : ℕ) (k : Option Edge) → ComesAlong Step start (far distance settled) b s k → Costs Step start b s
-    comes_led b s None comes = (zero, (sym comes.0, comes.1))
-    comes_led b s (Some k) comes = by (settled comes.0) refl
-      where
-        by : (o : Option R) → settled comes.0 ≡ o → Costs Step start b s
-        by None is = absurd (grind (arith, is, comes.3))
-        by (Some r) is = let d : distance r ≡ comes.1 = grind (arith, is, comes.3) in rw (comes.5, ← d) (led_on k comes.0 b comes.2 r is comes.4)
-
-    -- what was settled before, and one more
-    module _ (settled' : Node → Option R) (grows : (b : Node) (r : R) → settled b ≡ Some r → settled' b ≡ Some r) where
-      far_grows : (a : Node) (d : ℕ) → far distance settled a ≡ Some d → far distance settled' a ≡ Some d
-      far_grows a d is = by (settled a) refl
-        where
-          by : (o : Option R) → settled a ≡ o → far distance settled' a ≡ Some d
-          by None none = absurd (grind (arith, none, is))
-          by (Some r) found = grind (arith, grows a r found, found, is)
-
-      comes_grows : (b : Node) (s : ℕ) (k : Option Edge) → ComesAlong Step start (far distance settled) b s k → ComesAlong Step start (far distance settled') b s k
-      comes_grows b s None comes = comes
-      comes_grows b s (Some k) comes = (comes.0, comes.1, comes.2, far_grows comes.0 comes.1 comes.3, comes.4, comes.5)
+    pub traced_on : (k : Edge) (a b : Node) (c : ℕ) (r : R) → settled a ≡ Some r → Step k a b c → TracedBelow Step distance last start settled (suc size) b (distance r + c) (Some k)
+    traced_on k a b c r is step = let t = settling.traced a r is in (suc t.0, omega (arith, t.1), (k, a, c, r, refl, is, step, refl, t.2))
 
     -- an edge needs no step any more: where it leads is settled or waits
     pub settling_passed : (Left' : Edge → Type 0) (k : Edge) → ((q : Edge) → Left q → (q ≡ k) ⊎ Left' q)
         → ((a b : Node) (c : ℕ) (r : R) → settled a ≡ Some r → Step k a b c → IsSettledWithin distance settled b (distance r + c) ⊎ IsWaiting node waiting b (distance r + c))
-        → Settling distance last node via Step start settled waiting Left'
+        → Settling distance last node via Step start settled size waiting Left'
     settling_passed Left' k rest here = record {
-      led = settling.led;
-      come = settling.come;
-      coming = settling.coming;
+      traced = settling.traced;
+      tracing = settling.tracing;
       begun = settling.begun;
       covered = λ q a b c r is step. elim (settling.covered q a b c r is step) [
         | inl left ↦ elim (rest q left) [
@@ -75,14 +73,14 @@ module _ {Node Edge Handle R C : Type 0} (distance : R → ℕ) (last : R → Op
               | inr other ↦ others waits.0 other ∙ waits.3
             ]
 
-        pub settling_pushed : ComesAlong Step start (far distance settled) (node x) t (via x) → ((b : Node) (r : R) → settled b ≡ Some r → distance r ≤ t) → Settling distance last node via Step start settled waiting' Left
-        settling_pushed comes latest = record {
-          led = settling.led;
-          come = settling.come;
-          coming = λ q s y is. elim (same_handle q h) [
+        pub settling_pushed : TracedBelow Step distance last start settled (suc size) (node x) t (via x) → ((b : Node) (r : R) → settled b ≡ Some r → distance r ≤ t)
+            → Settling distance last node via Step start settled size waiting' Left
+        settling_pushed trace latest = record {
+          traced = settling.traced;
+          tracing = λ q s y is. elim (same_handle q h) [
             | inl same ↦ (let one : Some (t, x) ≡ Some (s, y) = sym there ∙ ap waiting' (sym same) ∙ is in
-                let times : t ≡ s = grind (arith, one) in let jobs : x ≡ y = grind (arith, one) in rw (← times, ← jobs) comes)
-            | inr other ↦ settling.coming q s y (sym (others q other) ∙ is)
+                let times : t ≡ s = grind (arith, one) in let jobs : x ≡ y = grind (arith, one) in rw (← times, ← jobs) trace)
+            | inr other ↦ settling.tracing q s y (sym (others q other) ∙ is)
           ];
           begun = elim settling.begun [
             | inl found ↦ inl found
@@ -126,11 +124,10 @@ module _ {Node Edge Handle R C : Type 0} (distance : R → ℕ) (last : R → Op
             | inr on ↦ inr on
           ]
 
-          pub settling_skipped : Settling distance last node via Step start settled waiting' Left
+          pub settling_skipped : Settling distance last node via Step start settled size waiting' Left
           settling_skipped = record {
-            led = settling.led;
-            come = settling.come;
-            coming = λ q s y is. settling.coming q s y (was q s y is);
+            traced = settling.traced;
+            tracing = λ q s y is. settling.tracing q s y (was q s y is);
             begun = still_covered start 0 settling.begun;
             covered = λ k a b c o is step. elim (settling.covered k a b c o is step) [
               | inl left ↦ inl left
@@ -170,17 +167,18 @@ module _ {Node Edge Handle R C : Type 0} (distance : R → ℕ) (last : R → Op
             | inr old ↦ settling.ordered b o h t x old first
           ]
 
-          pub settling_settled : ((k : Edge) → Left k → ⊥) → (Left' : Edge → Type 0) → ((k : Edge) (b : Node) (c : ℕ) → Step k (node x) b c → Left' k) → Settling distance last node via Step start settled' waiting' Left'
-          settling_settled none Left' leaves = record {
-            led = λ b o is. elim (now_or b o is) [
-              | inl one ↦ rw (one.0, one.1, at_t) (comes_led (node x) t (via x) (settling.coming h t x first))
-              | inr old ↦ settling.led b o old
+          more : (m m' : ℕ) → m ≤ m' → (b : Node) (s : ℕ) (by : Option Edge)
+              → TracedBelow Step distance last start settled m b s by → TracedBelow Step distance last start settled' m' b s by
+          more = below_grows Step distance last start settled settled' grown
+
+          pub settling_settled : (size' : ℕ) → size' ≡ suc size → ((k : Edge) → Left k → ⊥) → (Left' : Edge → Type 0)
+              → ((k : Edge) (b : Node) (c : ℕ) → Step k (node x) b c → Left' k) → Settling distance last node via Step start settled' size' waiting' Left'
+          settling_settled size' grew none Left' leaves = record {
+            traced = λ b o is. elim (now_or b o is) [
+              | inl one ↦ rw (one.0, one.1, at_t, along) (more (suc size) size' (omega arith) (node x) t (via x) (settling.tracing h t x first))
+              | inr old ↦ more size size' (omega arith) b (distance o) (last o) (settling.traced b o old)
             ];
-            come = λ b o is. elim (now_or b o is) [
-              | inl one ↦ rw (one.0, one.1, at_t, along) (comes_grows settled' grown (node x) t (via x) (settling.coming h t x first))
-              | inr old ↦ comes_grows settled' grown b (distance o) (last o) (settling.come b o old)
-            ];
-            coming = λ q s y is. comes_grows settled' grown (node y) s (via y) (settling.coming q s y (was q s y is));
+            tracing = λ q s y is. more (suc size) (suc size') (omega arith) (node y) s (via y) (settling.tracing q s y (was q s y is));
             begun = settles start 0 settling.begun;
             covered = λ k a b c o is step. elim (now_or a o is) [
               | inl one ↦ inl (leaves k b c (rw (← one.0) step))

@@ -3,7 +3,7 @@ use Rattle.std.specs.Prelude.{◌≡◌, ℕ, ◌+◌, ◌<◌, ◌⊎◌, true,
 use Rattle.std.specs.List.{All}
 use Rattle.std.specs.FinMap as map
 use Rattle.slotmap.specs.Words.{IsBeside, Key, Pairs, contains_key, put}
-use Rattle.slotmap_bounded.specs.KeyLists.{is_key, times}
+use Rattle.slotmap_bounded.specs.KeyLists.{is_key, last_or, times}
 use Rattle.slotmap_links.specs.Lists.{first_or}
 use Rattle.slotmap_graph.specs.Parts.{ByNode, Edges, Seen, SeenEdge, edges_at}
 use Rattle.slotmap_graph.specs.Search.{HasNext, Leads}
@@ -78,6 +78,8 @@ module _ {N E : Type 0} (s : Seen N E) where
     pub begun : contains_key found start ≡ true
     pub led : (x : Key) → contains_key found x ≡ true → (contains_key before x ≡ true) ⊎ Leads s.edges.live start x
     pub opened_led : (x : Key) → 0 < times x (open_nodes opened) → Leads s.edges.live start x
+    -- the start will be the last one
+    pub last : contains_key before start ≡ false → last_or (left ++ open_nodes opened) None ≡ Some start
 
   -- nothing changes where the node was found before, or else it is found and opened
   abbrev pub Enters : Found → List OpenNode → Key → Found → List OpenNode → Type 0

@@ -7,16 +7,10 @@ use Rattle.slotmap_bounded.specs.KeyLists.{times}
 use Rattle.slotmap_graph.specs.Parts.{Edges, IsJoined, Seen, edges_at}
 use Rattle.slotmap_graph.specs.Search.{Leads}
 use Rattle.slotmap_scheduler.specs.Schedule.{IsOnce, Waiting, job_of}
-use Rattle.slotmap_paths.specs.Costs.{HaveCosts, IsStep, IsSum, ComesBy}
+use Rattle.slotmap_paths.specs.Costs.{AreTraced, HaveCosts, IsStep, IsSum, distance, last_edge}
 use Rattle.slotmap_paths.specs.Settling.{Settling}
 use Rattle.slotmap_paths.specs.declared.Reached.{Reached}
 use Rattle.slotmap_paths.specs.declared.search.Candidate.{Candidate}
-
-abbrev pub distance : Reached → ℕ
-distance r = r.distance
-
-abbrev pub last_edge : Reached → Option Key
-last_edge r = r.by
 
 module _ {K : Type 0} (data_of : K → Key) where
   abbrev pub node_of : Candidate K → Key
@@ -28,7 +22,7 @@ module _ {K : Type 0} (data_of : K → Key) where
   -- a search from the start, some of whose edges are left: none but these
   abbrev pub Searching : {E : Type 0} → Edges E → Pairs ℕ → Key → Pairs Reached → Waiting (Candidate K) → List Key → Type 0
   Searching edges costs start settled waiting left =
-      Settling distance last_edge node_of edge_to (IsStep edges costs) start (get settled) (λ h. job_of h waiting) (λ k. 0 < times k left)
+      Settling distance last_edge node_of edge_to (IsStep edges costs) start (get settled) (map.len settled) (λ h. job_of h waiting) (λ k. 0 < times k left)
 
   -- one more waits: a node at the distance s, by this edge
   abbrev pub Waits : Waiting (Candidate K) → Waiting (Candidate K) → Key → ℕ → Option Key → Type 0
@@ -78,10 +72,8 @@ pub record IsLatest (settled : Pairs Reached) (node : Key) (t : ℕ) : Type 0 wh
 
 -- what a search has found at its end
 pub record FindsPaths {N E : Type 0} (nodes : Content N) (edges : Edges E) (costs : Pairs ℕ) (start : Key) (found : Pairs Reached) : Type 0 where
-  pub sum : (x : Key) (r : Reached) → get found x ≡ Some r → IsSum edges costs start x r.distance
+  pub traced : AreTraced edges costs start found
   pub least : (x : Key) (s : ℕ) → IsLive nodes start → IsSum edges costs start x s → (r : Reached) × (get found x ≡ Some r) × (r.distance ≤ s)
-  pub by : (x : Key) (r : Reached) → get found x ≡ Some r → ComesBy edges costs start found x r
-  pub leads : (x : Key) (r : Reached) → get found x ≡ Some r → Leads edges start x
   pub all : HaveCosts edges costs → (x : Key) → IsLive nodes start → Leads edges start x → contains_key found x ≡ true
   pub live : IsBeside nodes found
   pub begun : (x : Key) (r : Reached) → get found x ≡ Some r → IsLive nodes start

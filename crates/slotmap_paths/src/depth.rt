@@ -1,9 +1,9 @@
 //! Depth first search, which lists nodes in the order in which it leaves them.
 
-ghost use Rattle.std.specs.Prelude.{◌≡◌, ◌<◌, ◌≤◌, [], ◌∷◌, IfOk, OnOk, true, false, if◌then◌else◌, length, map as list_map};
+ghost use Rattle.std.specs.Prelude.{◌≡◌, ◌<◌, ◌≤◌, Some, None, [], ◌∷◌, IfOk, OnOk, true, false, if◌then◌else◌, length, map as list_map};
 ghost use Rattle.std.specs.FinMap as map;
 ghost use Rattle.slotmap.specs.Words.{Key as KeyOf, IsContent, IsLive, contains_key, put};
-ghost use Rattle.slotmap_bounded.specs.KeyLists.{times};
+ghost use Rattle.slotmap_bounded.specs.KeyLists.{last_or, times};
 ghost use Rattle.slotmap_graph.specs.Parts.{IsJoined};
 ghost use Rattle.slotmap_graph.specs.Search.{Leads};
 ghost use Rattle.slotmap_graph.specs.TopologicalOrder.{HasCycle};
@@ -237,7 +237,7 @@ pub fn post_order<K: Key, N: Drop, E: Drop>(
 /// Returns the nodes that are reachable from this one, each once, in the order in which a depth first
 /// search leaves them. If the node doesn't exist, there are none.
 ///
-/// The order is that of [`post_order`], so the node itself comes last. It takes time linear in the
+/// The order is like that of [`post_order`], and the node itself comes last. It takes time linear in the
 /// number of these nodes and their outgoing edges, and in the largest index of one of them: the marks
 /// are in a `SecondaryMap`. It fails only if memory runs out.
 ///
@@ -261,6 +261,7 @@ pub fn post_order_from<K: Key, N: Drop, E: Drop>(
         → Leads graph.now.edges.live (K.data_of start) x → 0 < times x (list_map K.data_of order.items)) }
     ensures live { IfOk result (λ order. (x : KeyOf) → 0 < times x (list_map K.data_of order.items)
         → IsLive graph.now.nodes (K.data_of start) × IsLive graph.now.nodes x) }
+    ensures last { IfOk result (λ order. IsLive graph.now.nodes (K.data_of start) → last_or (list_map K.data_of order.items) None ≡ Some (K.data_of start)) }
     ensures in_order { IfOk result (λ order. IsPostOrder graph.now.edges.live (list_map K.data_of order.items)) }
 {
     let mut search = new_depth(alloc)?;

@@ -8,7 +8,8 @@
 //! - Each node that it finds is reached by a path whose edges cost its distance in all.
 //! - No path costs less, and a node to which a path leads is found.
 //! - The last edge of a node begins at a node that was found. The distance of that node and the cost of
-//!   the edge add up to the node's distance.
+//!   the edge add up to the node's distance. One after the other, last edges lead back to the start, and
+//!   [`path_to`] returns the edges of a shortest path.
 //!
 //! [`post_order`] and [`kosaraju_scc`] ask for no costs. What is proved of them, from the contract of the
 //! graph alone:
@@ -30,22 +31,25 @@
 //! costs.insert(fast, 20)?;
 //! let paths = shortest_paths(alloc, &graph, a, &costs)?;
 //! assert_eq!(rt; paths[b], Reached { distance: 20, by: Some(fast) });
+//! assert_eq!(rt; path_to(alloc, &graph, &paths, b)?.unwrap().as_slice(), [fast].as_slice());
 //! ```
 #![tactic(auto, using(slotmap::proofs::Callers::keys))]
 
 ghost use Rattle.std.specs.Prelude.{◌≡◌, ℕ, ◌≤◌, Some, IfOk, IfErr, true};
 ghost use Rattle.slotmap.specs.Words.{Key as KeyOf, IsBeside, IsLive, contains_key, get};
 ghost use Rattle.slotmap_graph.specs.Search.{Leads};
-ghost use Rattle.slotmap_paths.specs.Costs.{ComesBy, HaveCosts, IsSum, RefusesPaths};
+ghost use Rattle.slotmap_paths.specs.Costs.{AreTraced, ComesBy, HaveCosts, IsSum, RefusesPaths};
 ghost use Rattle.slotmap_paths.specs.declared.Reached.{Reached as ReachedOf};
 
 mod depth;
 mod kosaraju;
+mod path;
 mod search;
 
 use crate::search::{new_search, search_from};
 pub use depth::{post_order, post_order_from};
 pub use kosaraju::kosaraju_scc;
+pub use path::path_to;
 use slotmap::{Key, SecondaryMap};
 use slotmap_graph::{EdgeKey, Graph};
 use std::alloc::Global;
@@ -84,7 +88,7 @@ pub enum PathError {
 }
 
 /// Returns each node to which a path leads from a node, with the least cost of such a path and its last
-/// edge.
+/// edge. [`path_to`] then returns the edges of the path.
 ///
 /// A path goes along edges that have a cost in the table. The start itself is at distance 0, by no edge.
 /// If it doesn't exist, no node is found. The call fails with `TooLong` if it comes to a path that costs
@@ -136,6 +140,9 @@ pub fn shortest_paths<K: Key, N: Drop, E: Drop>(
     // The last edge comes from a node that was found, and its cost leads to the distance.
     ensures by { IfOk result (λ paths. (x : KeyOf) (r : ReachedOf) → get paths.pairs x ≡ Some r
         → ComesBy graph.now.edges.live costs.now.pairs (K.data_of from) paths.pairs x r) }
+
+    // The last edges lead back to the start, one after the other.
+    ensures traced { IfOk result (λ paths. AreTraced graph.now.edges.live costs.now.pairs (K.data_of from) paths.pairs) }
 
     // Which nodes are found: where each edge has a cost, those that are reachable.
     ensures leads { IfOk result (λ paths. (x : KeyOf) (r : ReachedOf) → get paths.pairs x ≡ Some r → Leads graph.now.edges.live (K.data_of from) x) }

@@ -1,25 +1,18 @@
--- Paths one behind the other, and lists of keys cut at one of them.
-use Rattle.std.proofs.Common.{◌≡◌, ◌≢◌, ℕ, zero, suc, ◌+◌, ◌<◌, ◌≤◌, Some, None, List, [], ◌∷◌, ◌++◌, refl, sym, ap, ◌∙◌, inl, inr, arith}
+-- Lists of keys that are cut at one of them.
+use Rattle.std.proofs.Common.{◌≡◌, ◌≢◌, ◌+◌, ◌<◌, ◌≤◌, Option, Some, None, List, [], ◌∷◌, ◌++◌, refl, sym, ap, ◌∙◌, inl, inr, arith}
 use Rattle.slotmap.specs.Words.{Key}
 use Rattle.slotmap.proofs.Callers.{same_or_other}
-use Rattle.slotmap_bounded.specs.KeyLists.{same, times}
+use Rattle.slotmap_bounded.specs.KeyLists.{last_or, same, times}
 use Rattle.slotmap_bounded.proofs.Counts.{is_itself, is_other, one_itself, one_other, times_first, times_joined}
 use Rattle.slotmap_links.specs.Lists.{first_or}
-use Rattle.slotmap_graph.specs.Parts.{Edges, key_after}
-use Rattle.slotmap_graph.specs.Search.{HasEdge, Leads, LeadsBy}
+use Rattle.slotmap_graph.specs.Parts.{key_after}
 use Rattle.slotmap_paths.specs.Depth.{keys_behind}
 use Rattle.slotmap_paths.specs.Deepening.{ahead, keys_from}
 
-module _ {E : Type 0} (edges : Edges E) where
-  pub leads_further : (a b c : Key) → Leads edges a b → HasEdge edges b c → Leads edges a c
-  leads_further a b c way join = (suc way.0, (b, way.1, join))
-
-  joined_ways : (a b : Key) → Leads edges a b → (n : ℕ) (c : Key) → LeadsBy edges n b c → Leads edges a c
-  joined_ways a b way zero c is = rw (← is) way
-  joined_ways a b way (suc n) c path = leads_further a path.0 c (joined_ways a b way n path.0 path.1) path.2
-
-  pub leads_on : (a b c : Key) → Leads edges a b → Leads edges b c → Leads edges a c
-  leads_on a b c way next = joined_ways a b way next.0 c next.1
+-- the last key of two lists
+pub last_joined : (xs ys : List Key) (o : Option Key) → last_or (xs ++ ys) o ≡ last_or ys (last_or xs o)
+last_joined [] ys o = refl
+last_joined (x ∷ xs) ys o = last_joined xs ys (Some x)
 
 -- what is behind a key in two lists
 module _ (k : Key) (rest : List Key) where
