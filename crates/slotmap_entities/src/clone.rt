@@ -140,9 +140,9 @@ impl<K: Key, E: Clone + Drop, T: CloneTables<K>> World<K, E, T> {
     /// and components.
     ///
     /// Both worlds will return the same new keys. Where clones equal what they are of, the copy has the same
-    /// values and components. If memory runs out, or the clone of a value or of a
-    /// component fails, the call fails, and what was copied is dropped. It takes time linear in the number
-    /// of slots and in the size of the tables.
+    /// values and components. The room and the capacity of the copy are its own. If memory runs out, or
+    /// the clone of a value or of a component fails, the call fails, and what was copied is dropped. It
+    /// takes time linear in the number of slots and in the size of the tables.
     ///
     /// ```
     /// let mut world: World<DefaultKey, u8, (SecondaryMap<DefaultKey, u32>, ())> = World::new(alloc)?;

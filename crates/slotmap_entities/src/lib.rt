@@ -1,7 +1,8 @@
 //! Entities with components: an entity store.
 //!
-//! An entity of a [`World`] is a key that no other entity ever had. Its components are in side
-//! tables, one for each kind, under the same keys, and are removed with it. What is proved of it:
+//! An entity of a [`World`] is a key that no other entity of it ever had, unless `clone_from` makes it a
+//! copy of another. Its components are in side tables, one for each kind, under the same keys, and are
+//! removed with it. What is proved of it:
 //!
 //! - A component is never seen under a later entity, even if that has the same slot.
 //! - Only live entities have components.
@@ -186,7 +187,8 @@ impl<K: Key, E: Drop, T: Tables<K>> World<K, E, T> {
     }
 
     /// Reserves room for `additional` more entities. Then [`World::spawn`] can't fail for them, and the
-    /// capacity stays. For their components see [`World::reserve_components`].
+    /// capacity stays. For their components see [`World::reserve_components`]. It takes constant time if
+    /// there is room already, else time linear in the number of slots.
     ///
     /// It fails with `TooGreat` if more than 4294967294 entities would be there, counting those whose
     /// slots are retired, and with `Memory` if memory runs out. The world has the same entities then.

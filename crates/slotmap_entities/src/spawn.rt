@@ -11,8 +11,8 @@ use crate::{Apart, Kind, Table, Tables, World};
 use slotmap::{DenseSlotMap, InsertError, InsertWithError, Key, TryInsertError};
 use thiserror::Error;
 
-/// An entity was not spawned with its component, or with its two. The error holds what was given, two
-/// components as a pair.
+/// An entity was not spawned with its components. The error holds what was given, two or three
+/// components as a tuple.
 #[derive(Debug, Drop, Error)]
 pub enum SpawnError<E, C> {
     /// The map of the entities holds as many keys as it can.

@@ -60,8 +60,8 @@ impl<K: Key, T: Drop> StableList<K, T> {
     /// If a value can't be added, there is no list. The values before it are dropped, and so is the
     /// rest of the iterator. The error holds that value. It is `Full` if there were as many values
     /// before it as a map can hold, 4294967294, else `Memory`. It is `None` only if the iterator has no
-    /// value, and not even an empty list can be made. The iterator has to end. It takes constant time a
-    /// value, unless a vector grows. In Rust this is `FromIterator`.
+    /// value. The iterator has to end. It takes constant time a value, unless a vector grows. In Rust
+    /// this is `FromIterator`.
     ///
     /// ```
     /// let list: StableList<Cursor, u64> = StableList::from_iter(alloc, vec![in alloc; 1, 2]?).unwrap();

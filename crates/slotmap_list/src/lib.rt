@@ -5,7 +5,8 @@
 //!
 //! - A clause sees the list as its cursors with their values, from front to back. Each call's
 //!   contract gives the resulting list.
-//! - The cursor of a removed element is never used again for another element.
+//! - The cursor of a removed element is never used again for another element, unless `clone_from` makes
+//!   the list a copy of another.
 //! - A call with a cursor that isn't in the list changes nothing. An insert returns its value then.
 //! - An element that is moved keeps its cursor, and the capacity stays.
 //! - Where there is room, no added element is refused for memory, and the capacity stays. No removal

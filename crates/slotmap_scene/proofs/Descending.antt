@@ -2,6 +2,7 @@
 use Rattle.std.proofs.Common.{◌++◌, ◌+◌, ◌<◌, ◌∷◌, ◌≡◌, ◌≢◌, ◌≤◌, ◌⊎◌}
 use Rattle.slotmap_scene.proofs.Common.{All, All-cons, All-nil, GoesDown, IsScene, IsWithin, Key, List, Nodes, Some, StepsTo, [], all_below, ap, append-nil, append_assoc, arith, children_of}
 use Rattle.slotmap_scene.proofs.Common.{eq-zero-or-pos, has_node, inl, inr, keys_down, length, length-append, list_map, no_more_than, one_itself, one_other, parent_of, refl, same, same_or_other}
+use Rattle.slotmap_scene.proofs.Common.{as_many, cond, forgets, key_live, key_there, keys_once, lacks_node, length-map, option_map}
 use Rattle.slotmap_scene.proofs.Common.{subst, suc, sym, times, times_first, times_joined, times_pushed, zero, ℕ, ◌∙◌}
 use Rattle.slotmap_scene.proofs.Climbs.{has_parent, no_cycle}
 use Rattle.slotmap_scene.proofs.Moved.{listed_few, listed_once, listed_parent}
@@ -142,3 +143,29 @@ module _ {T : Type 0} (nodes : Nodes T) (scene : IsScene nodes) (node : Key) whe
 
   pub below_only : (k : Key) → 0 < times k (all_below nodes node) → has_node nodes k × IsWithin nodes k node × (k ≢ node)
   below_only k more = below_node nodes scene node (all_below nodes node) [] all_down.1 k (omega arith)
+
+  -- the node goes with all of these, and no other
+  module _ (live : has_node nodes node) (new : Nodes T) (removed : (k : Key) → IsWithin nodes k node → lacks_node new k)
+      (others : (k : Key) → (IsWithin nodes k node → ⊥) → map.get new k ≡ option_map (forgets node) (map.get nodes k)) where
+    abbrev old_keys : List Key
+    old_keys = (node ∷ all_below nodes node) ++ map.keys new
+
+    left_often : (k : Key) → times k (map.keys new) ≡ cond (map.contains_key new k) 1 0
+    left_often k = grind (arith, key_there new k, key_live new k, keys_once new k)
+
+    old_often : (k : Key) → times k old_keys ≡ cond (map.contains_key nodes k) 1 0
+    old_often k =
+        let all = times_joined k (node ∷ all_below nodes node) (map.keys new) in
+        let first = times_first k node (all_below nodes node) in
+        elim (same_or_other k node) [
+          | inl is ↦ grind (arith, all, first, left_often k, is, one_itself node, live, removed node (zero, refl), below_only node, below_once node)
+          | inr other ↦ let apart = one_other node k (λ is. other (sym is)) in elim (eq-zero-or-pos (times k (all_below nodes node))) [
+            | inl none ↦ grind (arith, all, first, left_often k, apart, none, others k (λ within. omega (arith, none, below_all k within other)))
+            | inr more ↦ grind (arith, all, first, left_often k, apart, below_once k, below_only k more, removed k (below_only k more).1)
+          ]
+        ]
+
+    pub fewer_nodes : map.len new + length (all_below nodes node) + 1 ≡ map.len nodes
+    fewer_nodes =
+        let many = as_many old_keys nodes (λ k. grind (arith, old_often k)) (λ k more. grind (arith, old_often k)) (λ k there. grind (arith, old_often k)) in
+        omega (arith, many, length-append (node ∷ all_below nodes node) (map.keys new), map.len-entries new, length-map (map.entries new) (λ e. e.0))

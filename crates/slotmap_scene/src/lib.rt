@@ -14,7 +14,7 @@
 //!   exactly if a node doesn't exist or the move would make a cycle. A move beside a sibling is also
 //!   refused if the sibling is a root or the node itself.
 //! - [`Scene::remove`] removes a node with its subtree, and no other node. Their keys are never used
-//!   again.
+//!   again, unless `clone_from` makes the scene a copy of another.
 //! - A call that fails leaves the same trees, and uses up no key. One that adds a node returns its value.
 //!
 //! The children of a node are kept as links between siblings, beside the map of the values, by the
@@ -308,8 +308,7 @@ impl<K: Key, T: Drop> Scene<K, T> {
 
     /// Returns how many nodes there can be before more room is made, in constant time.
     ///
-    /// It counts the slots of nodes, of removed nodes, and those that have had no node yet. It is the sum of
-    /// the slots in use and the room that is left.
+    /// It counts the slots that are retired.
     ///
     /// ```
     /// let mut scene: Scene<DefaultKey, &str> = Scene::with_capacity_and_key(alloc, 2)?;

@@ -1,8 +1,10 @@
 //! The calls that add, move and remove nodes.
 
-ghost use Rattle.std.specs.Prelude.{◌≡◌, ◌↔◌, ◌<◌, ◌≤◌, ◌++◌, ◌∷◌, [], Some, None, IfOk, IfErr, IsOk, OnOk, OnErr, IfSome, IfNone, OnSome, IsTrue, true, option_map};
+ghost use Rattle.std.specs.Prelude.{◌≡◌, ◌↔◌, ◌+◌, ◌<◌, ◌≤◌, ◌++◌, ◌∷◌, [], Some, None, IfOk, IfErr, IsOk, OnOk, OnErr, IfSome, IfNone, OnSome};
+ghost use Rattle.std.specs.Prelude.{IsTrue, true, length, option_map};
 ghost use Rattle.std.specs.FinMap as map;
 ghost use Rattle.slotmap.specs.Words.{Key as KeyOf, HasVacant, IsSpent, KeepsSpent, Inserts, Keeps, Leaves};
+ghost use Rattle.slotmap_scene.specs.Below.{all_below};
 ghost use Rattle.slotmap_scene.specs.Climb.{IsWithin, has_node, lacks_node};
 ghost use Rattle.slotmap_scene.specs.Family.{IsMoved, IsNewChild, IsScene, as_last_child, as_root, child, children_of, forgets, value_of, with_child};
 ghost use Rattle.slotmap_scene.specs.Node.{memory, with_trees};
@@ -172,6 +174,7 @@ impl<K: Key, T: Drop> Scene<K, T> {
         ensures capacity { memory self.new ≡ memory self.old }
         ensures for_good { (k : KeyOf) → has_node self.old.nodes.live k → IsWithin self.old.nodes.live k (K.data_of node) → IsSpent self.new.nodes k }
         ensures stale { KeepsSpent self.old.nodes self.new.nodes }
+        ensures fewer { OnSome result (map.len self.new.nodes.live + length (all_below self.old.nodes.live (K.data_of node)) + 1 ≡ map.len self.old.nodes.live) }
         ensures unchanged { IfNone result (self.new ≡ self.old) }
     {
         let node = inner(node);

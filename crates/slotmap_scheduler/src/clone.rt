@@ -25,8 +25,9 @@ impl<K: Key, T: Clone> Scheduler<K, T> {
     /// Returns a copy of the scheduler, with clones of the jobs under the same handles, in the same
     /// order.
     ///
-    /// Both schedulers will return the same new handles. If memory runs out, or the clone of a job fails,
-    /// the call fails, and what was copied is dropped. It takes time linear in the number of slots.
+    /// Both schedulers will return the same new handles. The room and the capacity of the copy are its
+    /// own. If memory runs out, or the clone of a job fails, the call fails, and what was copied is
+    /// dropped. It takes time linear in the number of slots.
     ///
     /// ```
     /// let mut scheduler: Scheduler<DefaultKey, u64> = Scheduler::new(alloc)?;

@@ -1,4 +1,5 @@
 use Rattle.slotmap_scene.proofs.Common.{leaves_none, left_spent, spent_leaves, sym, true, ◌∙◌}
+use Rattle.slotmap_scene.proofs.Descending.{fewer_nodes}
 use Rattle.slotmap_scene.proofs.Moved.{gone_forgotten, gone_within}
 use Rattle.slotmap_scene.proofs.Scene.remove.Goals as goal
 
@@ -23,3 +24,8 @@ returns-clause-for_good g c = rw (← c.self.view_is, ← c.inner-node.ensures)
 
 pub returns-clause-stale : goal.returns-clause-stale
 returns-clause-stale g c = spent_leaves _ _ (rw (← c.self.view_is) c.remove_tree.ensures.leaves)
+
+pub returns-clause-fewer : goal.returns-clause-fewer
+returns-clause-fewer g c = rw (← c.self.view_is, ← c.inner-node.ensures)
+    (fewer_nodes c.self.inside.nodes.nodes.live c.self.invariant c.inner-node.result (sym c.contains_key.ensures.value ∙ c.if-not-contains_key.false) c.remove_tree.new.self.nodes.live
+    c.remove_tree.ensures.removed c.remove_tree.ensures.others)
