@@ -528,8 +528,13 @@ def routes_part(size):
     for _ in range(size * 2):
         a, b = random.pick(nodes), random.pick(nodes)
         roads[a].append((b, random.draw() % 1000))
-    tell("distances", distances(roads))
-    tell("by odd costs", distances([[(to, cost) for to, cost in ends if cost % 2] for ends in roads]))
+    found = distances(roads)
+    tell("distances", found)
+    # The edges to a node cost its distance.
+    tell("along routes", found)
+    found = distances([[(to, cost) for to, cost in ends if cost % 2] for ends in roads])
+    tell("by odd costs", found)
+    tell("along routes", found)
 
 
 def left_below(ends, start, found):

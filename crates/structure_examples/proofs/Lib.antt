@@ -1,2 +1,1 @@
 mod Filled
-mod OneComponent

@@ -1,8 +1,8 @@
 //! A cache with two segments: what is new is on probation, and what was used again is protected.
 
-ghost use Rattle.std.specs.Prelude.{◌≡◌, ◌<◌, IsTrue, IfSome, None, Some, length, option_map};
+ghost use Rattle.std.specs.Prelude.{◌≡◌, ◌<◌, ◌≤◌, IsTrue, IfSome, IfNone, None, Some, length, option_map};
 ghost use Rattle.slotmap.specs.Words.{Key as KeyOf};
-ghost use Rattle.slotmap_list.specs.Sequence.{TakesBack, last_or};
+ghost use Rattle.slotmap_list.specs.Sequence.{TakesBack, first_or, last_or};
 ghost use Rattle.slotmap_lists.specs.Sequences.{can_move_to, elements_of, number_with, value_under};
 
 use slotmap_lists::{Cursor, StableLists};
@@ -15,6 +15,7 @@ const PROTECTED: usize = 1;
 pub fn touch(cache: &mut StableLists<Cursor, u64>, cursor: Cursor) -> bool
     ensures which { result ≡ can_move_to cursor 1 cache.old.lists }
     ensures protected { IsTrue result → number_with cursor cache.new.lists ≡ Some 1 }
+    ensures front { IsTrue result → first_or (elements_of 1 cache.new.lists) None ≡ Some cursor }
     ensures values { (q : KeyOf) → value_under q cache.new.lists ≡ value_under q cache.old.lists }
     ensures cursors { cache.new.cursors ≡ cache.old.cursors }
 {
@@ -26,6 +27,7 @@ pub fn touch(cache: &mut StableLists<Cursor, u64>, cursor: Cursor) -> bool
 #[tactic(auto, using(slotmap_lists::proofs::Callers::moves))]
 pub fn demote(cache: &mut StableLists<Cursor, u64>, most: usize) -> Option<Cursor>
     ensures which { IfSome result (λ cursor. most < length (elements_of 1 cache.old.lists)) }
+    ensures none { IfNone result (length (elements_of 1 cache.old.lists) ≤ most) }
     ensures oldest { IfSome result (λ cursor. last_or (elements_of 1 cache.old.lists) None ≡ Some cursor) }
     ensures probation { IfSome result (λ cursor. number_with cursor cache.new.lists ≡ Some 0) }
     ensures values { (q : KeyOf) → value_under q cache.new.lists ≡ value_under q cache.old.lists }

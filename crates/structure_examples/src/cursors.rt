@@ -50,7 +50,7 @@ pub fn touch(list: &mut StableList<Cursor, u64>, cursor: Cursor) -> Option<u64>
 }
 
 /// Returns what is selected once the element of a cursor goes: the one behind it, or else the one before
-/// it, with its value. It returns `None` if the list has no other element.
+/// it, with its value. It returns `None` if the list has no other element, or the cursor isn't in it.
 pub fn next_selected(list: &StableList<Cursor, u64>, cursor: Cursor) -> Option<(Cursor, u64)>
     ensures beside { IfSome result (λ e. (key_after cursor list.now.elements ≡ Some e.0) ⊎ (key_before None cursor list.now.elements ≡ Some e.0)) }
     ensures value { IfSome result (λ e. value_of e.0 list.now.elements ≡ Some e.1) }

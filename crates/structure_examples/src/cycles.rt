@@ -1,6 +1,6 @@
 //! A graph whose cycles are cut, nodes without edges, and sums of the values beside a node.
 
-ghost use Rattle.std.specs.Prelude.{◌≡◌, None, IfSome};
+ghost use Rattle.std.specs.Prelude.{◌≡◌, None, IfSome, IfNone};
 ghost use Rattle.std.specs.FinMap as map;
 ghost use Rattle.slotmap_graph.specs.TopologicalOrder.{ClosesCycle, HasCycle};
 
@@ -14,6 +14,7 @@ pub fn cut(graph: &mut Graph<NodeKey, u64, u64>, alloc: Global) -> Option<EdgeKe
     ensures closed { IfSome result (ClosesCycle graph.old.edges.live) }
     ensures gone { IfSome result (λ edge. map.get graph.new.edges.live edge ≡ None) }
     ensures nodes { graph.new.nodes ≡ graph.old.nodes }
+    ensures unchanged { IfNone result (graph.new ≡ graph.old) }
 {
     let edge = graph.topological_order(alloc).err()?.edge()?;
     graph.remove_edge(edge);

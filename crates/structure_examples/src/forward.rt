@@ -1,7 +1,8 @@
 //! A graph that stays without cycles.
 
-ghost use Rattle.std.specs.Prelude.{◌≡◌, IfOk, IsSome};
+ghost use Rattle.std.specs.Prelude.{◌≡◌, IfOk, IsSome, None};
 ghost use Rattle.slotmap_graph.specs.Search.{Leads};
+ghost use Rattle.slotmap_graph.specs.TopologicalOrder.{HasCycle};
 
 use slotmap::NodeKey;
 use slotmap_graph::{EdgeError, EdgeKey, Graph};
@@ -16,6 +17,9 @@ pub fn add_forward(
     length: u64,
 ) -> Result<Option<EdgeKey>, EdgeError<u64>>
     ensures forward { IfOk result (λ edge. IsSome edge → Leads graph.old.edges.live to from → ⊥) }
+    ensures acyclic { (HasCycle graph.old.edges.live → ⊥) → HasCycle graph.new.edges.live → ⊥ }
+    ensures refused { IfOk result (λ edge. edge ≡ None → Leads graph.old.edges.live to from) }
+    ensures unchanged { IfOk result (λ edge. edge ≡ None → graph.new ≡ graph.old) }
     ensures nodes { graph.new.nodes ≡ graph.old.nodes }
 {
     let Ok(below) = graph.reachable(alloc, to) else {

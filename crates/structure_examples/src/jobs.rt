@@ -1,6 +1,6 @@
 //! Jobs of a scheduler that are all visited or taken out, in the order in which they are due.
 
-ghost use Rattle.std.specs.Prelude.{◌≡◌, ◌≤◌, ◌++◌, ◌∷◌, [], ℕ, OnOk, IfOk, IfSome, IfNone, not, nat_lt};
+ghost use Rattle.std.specs.Prelude.{◌≡◌, ◌≤◌, ◌++◌, ◌∷◌, [], ℕ, OnOk, OnErr, IfOk, IfSome, IfNone, not, nat_lt};
 ghost use Rattle.std.specs.List.{All, filter};
 ghost use Rattle.slotmap_scheduler.specs.Schedule.{Waiting, IsOnce, IsByTime};
 ghost use Rattle.structure_examples.specs.Ran.{ran_as, taken_as};
@@ -19,6 +19,7 @@ pub fn run_all(
     ensures sorted { IfOk result (λ ran. IsByTime (ran_as ran.items)) }
     ensures once { IfOk result (λ ran. IsOnce (ran_as ran.items)) }
     ensures empty { OnOk result (scheduler.new.waiting ≡ []) }
+    ensures others { OnErr result ((ran : Waiting ℕ) × (scheduler.old.waiting ≡ ran ++ scheduler.new.waiting)) }
 {
     // Reads the scheduler, which says that its jobs are in order and each handle is there once.
     let _ = scheduler.len();

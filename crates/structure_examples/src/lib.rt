@@ -17,6 +17,7 @@ pub mod groups;
 pub mod heirs;
 pub mod jobs;
 pub mod outward;
+pub mod queues;
 pub mod reaper;
 pub mod reorder;
 pub mod room;

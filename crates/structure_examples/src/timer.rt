@@ -1,6 +1,6 @@
 //! Jobs of a scheduler that are taken out, put off, and scheduled again.
 
-ghost use Rattle.std.specs.Prelude.{◌≡◌, ◌≢◌, ◌+◌, ◌++◌, ◌∷◌, ◌<◌, ◌≤◌, ℕ, Some, IfSome, IfOk, length, option_map, true, false};
+ghost use Rattle.std.specs.Prelude.{◌≡◌, ◌≢◌, ◌+◌, ◌++◌, ◌∷◌, ◌<◌, ◌≤◌, ℕ, Some, IfSome, IfNone, is_some, IfOk, length, option_map, true, false};
 ghost use Rattle.std.specs.List.{All};
 ghost use Rattle.slotmap.specs.Words.{Key as KeyOf, IsLive, is_last};
 ghost use Rattle.slotmap_scheduler.specs.Schedule.{Waiting, job_of, last_turn};
@@ -9,7 +9,8 @@ use slotmap::{DefaultKey, ReserveError};
 use slotmap_scheduler::Scheduler;
 use std::alloc::Global;
 
-/// Takes out all jobs that are due, and adds them up. The others still wait.
+/// Takes out all jobs that are due. The others still wait. It returns the sum of their values, of which
+/// no clause speaks.
 pub fn run_due(scheduler: &mut Scheduler<DefaultKey, u64>, now: u64) -> u64
     ensures taken { (due : Waiting ℕ) × (scheduler.old.waiting ≡ due ++ scheduler.new.waiting) × All (λ e. e.1.0 ≤ now) due }
     ensures none { All (λ e. now < e.1.0) scheduler.new.waiting }
@@ -30,7 +31,8 @@ pub fn run_next(scheduler: &mut Scheduler<DefaultKey, u64>, now: u64) -> Option<
     Some(job)
 }
 
-/// Puts a job off, and returns when it is due then. All other jobs stay.
+/// Puts a job off, and returns when it is due then. All other jobs stay. It returns `None`, and changes
+/// nothing, if no job waits under the handle, or if the scheduler has no turn left.
 pub fn put_off(
     scheduler: &mut Scheduler<DefaultKey, u64>,
     handle: DefaultKey,
@@ -39,6 +41,7 @@ pub fn put_off(
     ensures due { IfSome result (λ time. option_map (λ due. due.0) (job_of handle scheduler.new.waiting) ≡ Some time) }
     ensures others { (q : KeyOf) → q ≢ handle → job_of q scheduler.new.waiting ≡ job_of q scheduler.old.waiting }
     ensures as_many { length scheduler.new.waiting ≡ length scheduler.old.waiting }
+    ensures unchanged { IfNone result (scheduler.new ≡ scheduler.old) }
 {
     let time = scheduler.due(handle)?.saturating_add(by);
     match scheduler.reschedule(handle, time) {
@@ -47,9 +50,13 @@ pub fn put_off(
     }
 }
 
-/// Cancels a job. One job less waits.
+/// Cancels a job. One job less waits, and the others stay. It returns `false`, and changes nothing, if no
+/// job waits under the handle.
 pub fn give_up(scheduler: &mut Scheduler<DefaultKey, u64>, handle: DefaultKey) -> bool
+    ensures which { result ≡ is_some (job_of handle scheduler.old.waiting) }
     ensures one_less { result ≡ true → length scheduler.new.waiting + 1 ≡ length scheduler.old.waiting }
+    ensures others { (q : KeyOf) → q ≢ handle → job_of q scheduler.new.waiting ≡ job_of q scheduler.old.waiting }
+    ensures unchanged { result ≡ false → scheduler.new ≡ scheduler.old }
 {
     scheduler.cancel(handle).is_some()
 }

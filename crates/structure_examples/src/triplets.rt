@@ -1,4 +1,4 @@
-//! Entities with three components, and systems over one that may be missing.
+//! Entities with three components.
 
 ghost use Rattle.std.specs.Prelude.{◌≡◌, ◌<◌, ◌≤◌, ◌+◌, ℕ, IsOk};
 ghost use Rattle.slotmap.specs.Words.{places};

@@ -3,7 +3,7 @@
 ghost use Rattle.std.specs.FinMap as map;
 ghost use Rattle.std.specs.List.{find};
 ghost use Rattle.std.specs.Option.{option_and_then};
-ghost use Rattle.std.specs.Prelude.{◌≡◌, ◌<◌, ◌≤◌, ◌⊎◌, ◌++◌, ◌∷◌, ◌↔◌, [], Some, None, Err, IfOk, IfSome, IfNone, IsTrue};
+ghost use Rattle.std.specs.Prelude.{◌≡◌, ◌<◌, ◌≤◌, ◌⊎◌, ◌++◌, ◌∷◌, ◌↔◌, [], Some, None, Err, IfOk, IfSome, IfNone, IsTrue, false};
 ghost use Rattle.std.specs.Prelude.{cond, length, map as list_map};
 ghost use Rattle.slotmap.specs.Words.{Key as KeyOf, IsCloneOf, IsLive, index_after, used, most};
 ghost use Rattle.slotmap_bounded.specs.KeyLists.{is_key, times, without};
@@ -266,6 +266,17 @@ pub fn remove_edge<K: Key, N: Drop, E: Drop>(graph: &mut Graph<K, N, E>, edge: E
     ensures remove_edge_keeps_the_links { graph.new.links ≡ graph.old.links }
 {
     graph.remove_edge(edge)
+}
+
+/// Where the node doesn't exist, nothing changes.
+/// Holds by `stale` of `remove_edges_of`.
+pub fn remove_edges_of_no_node_changes_nothing<K: Key, N: Drop, E: Drop>(
+    graph: &mut Graph<K, N, E>,
+    node: K,
+)
+    ensures { map.contains_key graph.old.nodes.live (K.data_of node) ≡ false → graph.new ≡ graph.old }
+{
+    graph.remove_edges_of(node);
 }
 
 /// Guards of `clear`.

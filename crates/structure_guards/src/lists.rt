@@ -73,6 +73,9 @@ pub fn push_back<K: Key, T: Drop>(
     // Holds by `ok` of `push_back`.
     ensures pushed_value_is_last_of_its_list { IfOk result (λ key. lists.new.lists
         ≡ with_elements list (elements_of list lists.old.lists ++ (K.data_of key, value) ∷ []) lists.old.lists) }
+    // Its cursor is the last one of the list.
+    // Holds by `last` of `push_back`.
+    ensures pushed_cursor_is_the_last { IfOk result (λ key. last_or (elements_of list lists.new.lists) None ≡ Some (K.data_of key)) }
     // It says why it fails, and returns the value.
     // Holds by `err` of `push_back`.
     ensures push_says_why_it_fails_no_list { (back : T) → result ≡ Err (AddError.NoList back) → (length lists.old.lists ≤ list) × (back ≡ value) }
@@ -104,8 +107,25 @@ pub fn insert_after<K: Key, T: Drop>(
     // Where the given cursor is in no list, nothing changes.
     // Holds by `stale` of `insert_after`.
     ensures insert_after_a_stale_cursor_changes_nothing { value_under (K.data_of cursor) lists.old.lists ≡ None → lists.new ≡ lists.old }
+    // It stands behind the given one, and no other list changes.
+    // Holds by `next` and `others` of `insert_after`.
+    ensures inserted_value_is_next_to_the_given_one { IfOk result (λ key. key_after (K.data_of cursor) (list_with (K.data_of cursor) lists.new.lists) ≡ Some (K.data_of key)) }
+    ensures insert_after_changes_no_other_list { (q : ℕ) → number_with (K.data_of cursor) lists.old.lists ≢ Some q
+        → elements_of q lists.new.lists ≡ elements_of q lists.old.lists }
 {
     lists.insert_after(cursor, value)
+}
+
+/// Guards of `move_before`.
+pub fn move_before<K: Key, T: Drop>(lists: &mut StableLists<K, T>, cursor: K, other: K) -> bool
+    // The element stands right before the other one, and leaves no trace in another list.
+    // Holds by `prev` and `others` of `move_before`.
+    ensures moved_element_is_right_before_the_other { IsTrue result
+        → key_before None (K.data_of other) (list_with (K.data_of other) lists.new.lists) ≡ Some (K.data_of cursor) }
+    ensures move_before_takes_it_out_of_other_lists { IsTrue result → (q : ℕ) → number_with (K.data_of other) lists.old.lists ≢ Some q
+        → elements_of q lists.new.lists ≡ without (K.data_of cursor) (elements_of q lists.old.lists) }
+{
+    lists.move_before(cursor, other)
 }
 
 /// Guards of `remove`.

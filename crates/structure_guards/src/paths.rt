@@ -2,18 +2,18 @@
 
 ghost use Rattle.std.specs.FinMap as map;
 ghost use Rattle.std.specs.List.{All};
-ghost use Rattle.std.specs.Prelude.{◌≡◌, ℕ, ◌≤◌, ◌^◌, Some, None, IfOk, IfErr, true, if◌then◌else◌, map as list_map};
-ghost use Rattle.slotmap.specs.Words.{Key as KeyOf, IsLive, contains_key, get};
-ghost use Rattle.slotmap_bounded.specs.KeyLists.{times};
+ghost use Rattle.std.specs.Prelude.{◌≡◌, ℕ, ◌≤◌, ◌^◌, Some, None, IfOk, IfErr, IfSome, IsSome, true, false, if◌then◌else◌, map as list_map};
+ghost use Rattle.slotmap.specs.Words.{Key as KeyOf, IsLive, Pairs, contains_key, get};
+ghost use Rattle.slotmap_bounded.specs.KeyLists.{last_or, times};
 ghost use Rattle.slotmap_graph.specs.Search.{Leads};
 ghost use Rattle.slotmap_paths.specs.Components.{IsComponent, LeadOnward, times_in};
-ghost use Rattle.slotmap_paths.specs.Costs.{HaveCosts, IsSum};
+ghost use Rattle.slotmap_paths.specs.Costs.{AddUp, AreTraced, HaveCosts, IsRoute, IsSum};
 ghost use Rattle.slotmap_paths.specs.Depth.{IsPostOrder};
 ghost use Rattle.slotmap_paths.specs.declared.PathError.TheVariants.{TooLong};
 ghost use Rattle.slotmap_paths.specs.declared.Reached.{Reached as ReachedOf};
 
 use slotmap::Key;
-use slotmap_graph::Graph;
+use slotmap_graph::{EdgeKey, Graph};
 use slotmap_paths::{Costs, PathError, Paths};
 use std::alloc::{AllocError, Global};
 
@@ -39,6 +39,9 @@ pub fn shortest_paths<K: Key, N: Drop, E: Drop>(
     // Only the start was reached by no edge.
     // Refuses `visit_forgets_the_edge`: `by` of `shortest_paths`.
     ensures only_the_start_has_no_edge { IfOk result (λ paths. (x : KeyOf) (r : ReachedOf) → get paths.pairs x ≡ Some r → r.by ≡ None → x ≡ K.data_of from) }
+    // Last edges lead back to the start, also where they cost nothing.
+    // Holds by `traced` of `shortest_paths`.
+    ensures last_edges_lead_back_to_the_start { IfOk result (λ paths. AreTraced graph.now.edges.live costs.now.pairs (K.data_of from) paths.pairs) }
     // Edges lead to each node that was found, and to no other if each edge has a cost.
     // Refuses `step_goes_back`: `leads` of `shortest_paths`.
     ensures edges_lead_to_each_node { IfOk result (λ paths. (x : KeyOf) (r : ReachedOf) → get paths.pairs x ≡ Some r → Leads graph.now.edges.live (K.data_of from) x) }
@@ -56,6 +59,35 @@ pub fn shortest_paths<K: Key, N: Drop, E: Drop>(
     slotmap_paths::shortest_paths(alloc, graph, from, costs)
 }
 
+/// Guards of `path_to`.
+pub fn path_to<K: Key, N: Drop, E: Drop>(
+    alloc: Global,
+    graph: &Graph<K, N, E>,
+    paths: &Paths<K>,
+    node: K,
+) -> Result<Option<Vec<EdgeKey>>, AllocError>
+    // There is a path to each node that was found.
+    // Refuses `path_to_gives_up_at_two_edges`: `some` of `path_to`.
+    ensures each_node_that_was_found_has_a_path { (costs : Pairs ℕ) (start : KeyOf) → AreTraced graph.now.edges.live costs start paths.now.pairs
+        → IfOk result (λ found. contains_key paths.now.pairs (K.data_of node) ≡ true → IsSome found) }
+    // Its edges go from the start to the node, one after the other.
+    // Holds by `route` of `path_to`.
+    ensures edges_go_from_the_start_to_the_node { (costs : Pairs ℕ) (start : KeyOf) → AreTraced graph.now.edges.live costs start paths.now.pairs
+        → IfOk result (λ found. IfSome found (λ edges. IsRoute graph.now.edges.live edges.items start (K.data_of node))) }
+    // They cost the distance.
+    // Holds by `cost` of `path_to`.
+    ensures edges_cost_the_distance { (costs : Pairs ℕ) (start : KeyOf) (r : ReachedOf) → AreTraced graph.now.edges.live costs start paths.now.pairs
+        → get paths.now.pairs (K.data_of node) ≡ Some r → IfOk result (λ found. IfSome found (λ edges. AddUp costs edges.items r.distance)) }
+    // They lead to the node, whatever the table is.
+    // Refuses `step_back_takes_each_edge`: `joined` of `path_to`.
+    ensures edges_lead_to_the_node { IfOk result (λ found. IfSome found (λ edges. (a : KeyOf) × IsRoute graph.now.edges.live edges.items a (K.data_of node))) }
+    // No path leads to a node that wasn't found.
+    // Holds by `none` of `path_to`.
+    ensures no_other_node_has_a_path { IfOk result (λ found. contains_key paths.now.pairs (K.data_of node) ≡ false → found ≡ None) }
+{
+    slotmap_paths::path_to(alloc, graph, paths, node)
+}
+
 /// Guards of `post_order`.
 pub fn post_order<K: Key, N: Drop, E: Drop>(
     alloc: Global,
@@ -69,6 +101,19 @@ pub fn post_order<K: Key, N: Drop, E: Drop>(
     ensures nodes_are_left_after_those_that_they_lead_to { IfOk result (λ order. IsPostOrder graph.now.edges.live (list_map K.data_of order.items)) }
 {
     slotmap_paths::post_order(alloc, graph)
+}
+
+/// Guards of `post_order_from`.
+pub fn post_order_from<K: Key, N: Drop, E: Drop>(
+    alloc: Global,
+    graph: &Graph<K, N, E>,
+    start: K,
+) -> Result<Vec<K>, AllocError>
+    // The start is left last.
+    // Holds by `last` of `post_order_from`.
+    ensures the_start_is_left_last { IfOk result (λ order. IsLive graph.now.nodes (K.data_of start) → last_or (list_map K.data_of order.items) None ≡ Some (K.data_of start)) }
+{
+    slotmap_paths::post_order_from(alloc, graph, start)
 }
 
 /// Guards of `kosaraju_scc`.

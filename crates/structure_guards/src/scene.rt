@@ -3,8 +3,8 @@
 ghost use Rattle.std.specs.FinMap as map;
 ghost use Rattle.std.specs.Int.{int_wrap, w32};
 ghost use Rattle.std.specs.Option.{option_copied_mut};
-ghost use Rattle.std.specs.Prelude.{◌≡◌, ◌≢◌, ◌<◌, ◌++◌, ◌∷◌, ◌↔◌, ◌+ℤ◌, [], Some, None, Err, IfOk, OnOk, IfSome, IfNone, IsTrue};
-ghost use Rattle.std.specs.Prelude.{option_map, map as list_map};
+ghost use Rattle.std.specs.Prelude.{◌≡◌, ◌≢◌, ◌+◌, ◌<◌, ◌++◌, ◌∷◌, ◌↔◌, ◌+ℤ◌, [], Some, None, Err, IfOk, OnOk, OnSome, IfSome, IfNone, IsTrue};
+ghost use Rattle.std.specs.Prelude.{length, option_map, map as list_map};
 ghost use Rattle.slotmap.specs.Words.{Key as KeyOf, IsCloneOf};
 ghost use Rattle.slotmap_bounded.specs.KeyLists.{times, without};
 ghost use Rattle.slotmap_links.specs.Lists.{first_or};
@@ -187,6 +187,9 @@ pub fn remove<K: Key, T: Drop>(scene: &mut Scene<K, T>, node: K) -> Option<T>
     // The node and all below it are gone.
     // Holds by `removed` of `remove`.
     ensures removed_nodes_are_gone { (k : KeyOf) → IsWithin scene.old.nodes.live k (K.data_of node) → lacks_node scene.new.nodes.live k }
+    // The number of nodes falls by that of the subtree.
+    // Holds by `fewer` of `remove`.
+    ensures removed_nodes_are_counted { OnSome result (map.len scene.new.nodes.live + length (all_below scene.old.nodes.live (K.data_of node)) + 1 ≡ map.len scene.old.nodes.live) }
     // No vector grows.
     // Refuses `remove_reserves_more`, `leave_asks_for_links`: `capacity` of `remove`.
     ensures remove_keeps_the_capacity { memory scene.new ≡ memory scene.old }

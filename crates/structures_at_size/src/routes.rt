@@ -5,7 +5,7 @@ use crate::random::Random;
 use crate::sums::{Sum, tell};
 use slotmap::{NodeKey, SecondaryMap};
 use slotmap_graph::{EdgeKey, Graph};
-use slotmap_paths::{Costs, Paths, shortest_paths};
+use slotmap_paths::{Costs, Paths, path_to, shortest_paths};
 
 type Roads = Graph<NodeKey, u64, u64>;
 
@@ -78,10 +78,86 @@ fn sum_of(paths: &Paths<NodeKey>, nodes: &[NodeKey]) -> Sum {
     sum
 }
 
-// Finds the paths from the first node, and prints the distances.
+// Where an edge ends that begins at this node. Where it doesn't, the null key.
+fn end_from(roads: &Roads, at: NodeKey, edge: EdgeKey) -> NodeKey {
+    let Some(ends) = roads.edge_ends(edge) else {
+        return NodeKey::default();
+    };
+    if ends.0 == at {
+        ends.1
+    } else {
+        NodeKey::default()
+    }
+}
+
+// The cost of an edge.
+fn cost_of(costs: &Costs, edge: EdgeKey) -> u64 {
+    costs.get(edge).copied().unwrap_or_default()
+}
+
+// What these edges cost in all. Where they don't lead from the start to the end, one after the other, it
+// is the greatest number.
+fn cost_along(
+    roads: &Roads,
+    costs: &Costs,
+    edges: &[EdgeKey],
+    start: NodeKey,
+    end: NodeKey,
+) -> u64 {
+    let mut at = start;
+    let mut cost: u64 = 0;
+    for edge in edges {
+        at = end_from(roads, at, *edge);
+        cost = cost.wrapping_add(cost_of(costs, *edge));
+    }
+    if at == end { cost } else { u64::MAX }
+}
+
+// Adds what the edges to a node cost in all. Where it wasn't found, it is the greatest number.
+fn add_route(
+    rt: &HostRuntime,
+    roads: &Roads,
+    costs: &Costs,
+    paths: &Paths<NodeKey>,
+    start: NodeKey,
+    end: NodeKey,
+    sum: &mut Sum,
+) -> bool {
+    match path_to(rt.alloc(), roads, paths, end) {
+        Ok(Some(edges)) => {
+            sum.add(cost_along(roads, costs, edges.as_slice(), start, end));
+            true
+        }
+        Ok(None) => {
+            sum.add(u64::MAX);
+            true
+        }
+        Err(_) => false,
+    }
+}
+
+// Prints what the edges to each node cost.
+fn find_routes(
+    rt: &HostRuntime,
+    roads: &Roads,
+    costs: &Costs,
+    paths: &Paths<NodeKey>,
+    nodes: &[NodeKey],
+) -> bool {
+    let mut sum = Sum::new();
+    let mut done = true;
+    for node in nodes {
+        done &= add_route(rt, roads, costs, paths, first_of(nodes), *node, &mut sum);
+    }
+    done && tell(rt, "along routes", sum)
+}
+
+// Finds the paths from the first node, and prints the distances, and what the edges of the paths cost.
 fn find(rt: &HostRuntime, roads: &Roads, costs: &Costs, nodes: &[NodeKey], what: &str) -> bool {
     match shortest_paths(rt.alloc(), roads, first_of(nodes), costs) {
-        Ok(paths) => tell(rt, what, sum_of(&paths, nodes)),
+        Ok(paths) => {
+            tell(rt, what, sum_of(&paths, nodes)) && find_routes(rt, roads, costs, &paths, nodes)
+        }
         Err(_) => false,
     }
 }

@@ -1,6 +1,6 @@
 use Rattle.std.proofs.Common.{arith}
 use Rattle.std.proofs.lemmas.List.{length-map}
-use Rattle.structure_examples.proofs.OneComponent.{leads_to_each, one_at_most}
+use Rattle.slotmap_paths.proofs.Callers.{leads_to_each, one_at_most}
 use Rattle.structure_examples.proofs.connected.is_strongly_connected.Goals as goal
 
 pub returns : goal.returns

@@ -1,4 +1,4 @@
-use Rattle.std.proofs.Common.{◌≡◌, refl, sym, ap, ◌∙◌}
+use Rattle.std.proofs.Common.{◌≡◌}
 use Rattle.slotmap_graph.specs.Parts.{edges_at, from, key_after}
 use Rattle.slotmap_graph.proofs.Callers.{along_here, along_removed, along_removed_all, along_start, removed_less}
 use Rattle.structure_examples.proofs.cuts.cut_off.Goals as goal

@@ -1,5 +1,5 @@
-use Rattle.std.proofs.Common.{Result, Ok, Err, IfOk, sym, ◌∙◌}
-use Rattle.std.proofs.lemmas.Option.{none-some, same_Some}
+use Rattle.std.proofs.Common.{Result, Ok, Err, IfOk, sym}
+use Rattle.slotmap_paths.proofs.Callers.{none_less, none_missed}
 use Rattle.structure_guards.proofs.paths.shortest_paths.Goals as goal
 
 -- what follows from two facts where a call succeeds
@@ -9,12 +9,12 @@ both (Err e) f p q = tt
 
 pub returns-clause-no_path_costs_less : goal.returns-clause-no_path_costs_less
 returns-clause-no_path_costs_less g c = both c.shortest_paths.result
-    (λ paths least start x r sum here is. let found = least x sum (start x r here) is in rw (same_Some _ _ (sym here ∙ found.1)) found.2)
+    (λ paths least start x r sum here is. none_less _ _ _ _ _ (λ s. least x s (start x r here)) sum is r (sym here))
     c.shortest_paths.ensures.least c.shortest_paths.ensures.start
 
 pub returns-clause-no_path_leads_elsewhere : goal.returns-clause-no_path_leads_elsewhere
 returns-clause-no_path_leads_elsewhere g c = both c.shortest_paths.result
-    (λ paths least start x sum live none is. let found = least x sum live is in none-some found.0 (sym none ∙ found.1))
+    (λ paths least start x sum live none is. none_missed _ _ _ _ _ (λ s. least x s live) sum is (sym none))
     c.shortest_paths.ensures.least c.shortest_paths.ensures.start
 
 pub returns-clause-only_the_start_has_no_edge : goal.returns-clause-only_the_start_has_no_edge
