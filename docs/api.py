@@ -412,8 +412,8 @@ def first_page(all_items):
     add_table(page, all_items)
     page.heading(2, "Structures")
     page.add("Each is a crate of its own. They share two more:", "")
-    page.add(f"- [`{SHARED}`](api/{SHARED}.md) has a slot map whose indices stay within a bound, for structures with tables beside it: for `StableList`, `Graph` and `Scene`.")
-    page.add("  All but `World` take the words of lists of keys from there.")
+    page.add(f"- [`{SHARED}`](api/{SHARED}.md) has a slot map whose indices stay within a bound, for structures with tables beside it: for `StableList`, `StableLists`, `Graph` and `Scene`.")
+    page.add("  All but `World` and `Scheduler` take the words of lists of keys from there.")
     page.add(f"- [`{ALONE}`](api/{ALONE}.md) needs no map: it has lists of numbers that are kept as links, one list for each owner.", "")
     page.add("| Type | What it is |", "|---|---|")
     for crate, (name, what) in STRUCTURES.items():

@@ -201,7 +201,8 @@ def module_items(crate, module):
     lines = text.split("\n")
     found = read_items(path, lines, 0, len(lines), 0)
     children = re.findall(r"(?m)^(pub )?mod (\w+);", text)
-    shown = set(re.findall(r"(?m)^pub use (?:\w+::)*(\w+);", text))
+    named = re.findall(r"(?m)^pub use (?:\w+::)*(\{[^}]*\}|\w+);", text)
+    shown = {name for names in named for name in re.findall(r"\w+", names)}
     for public, child in children:
         child_path = os.path.join(f"crates/{crate}/src", module, f"{child}.rt")
         with open(os.path.join(TOP, child_path), encoding="utf-8") as file:
