@@ -14,9 +14,9 @@
 # - `slotrun` prints what it prints without, up to a line that says `memory`, or `no script` at the end. Where one request
 #   was refused, the other lines are then those of the script without the refused line.
 # - `slotdemo`, whose five structures do without a second try, prints what it prints without, or stops on the way with status 1.
-# - `structures_at_size`, which makes each call of the five structures that may ask for memory, at 10 elements, does so too. What it prints
+# - `structures_at_size`, which makes each call of the structures that may ask for memory, at 12 elements, does so too. What it prints
 #   without is what `expected.py` says. Where `StableList::from_iter` is refused a value, it prints this value in a last line. This has to
-#   happen, and a value below 10 comes back each time.
+#   happen, and a value below 12 comes back each time.
 #
 # Row files with a call that is repeated over 1,000 times are left out, and the hundred lists, which ask for memory as often. So
 # are the random rows of secondary_rows, which count drops after an `extend`: it keeps the pairs before the fault, and is called
@@ -124,7 +124,7 @@ export -f check_demo
 
 # check_sizes OUT: what structures_at_size printed, but for a value that a list was refused.
 check_sizes() {
-    sed '/^  refused: [0-9]$/d' "$1" >"$1.rest"
+    sed -E '/^  refused: ([0-9]|1[01])$/d' "$1" >"$1.rest"
     cmp -s "$1" "$1.rest" || echo "$refused" >>"$case/refused"
     check_demo "$1.rest"
 }
@@ -312,15 +312,15 @@ try_slotrun() {
     done
 }
 
-# try_sizes: the calls of the five structures at 10 elements.
+# try_sizes: the calls of the structures at 12 elements. At 10 the paths of the test lead nowhere.
 try_sizes() {
     local folder=$top/crates/structures_at_size
     check_structures "$folder/out/structures_at_size"
-    "$folder/out/structures_at_size" 10 >"$scratch/sizes"
-    python3 "$folder/expected.py" 10 | diff "$scratch/sizes" - || exit 1
-    try_case check_sizes "$top" "$folder/out/structures_at_size" 10 /dev/null 0
+    "$folder/out/structures_at_size" 12 >"$scratch/sizes"
+    python3 "$folder/expected.py" 12 | diff "$scratch/sizes" - || exit 1
+    try_case check_sizes "$top" "$folder/out/structures_at_size" 12 /dev/null 0
     if ! cat "$scratch"/case.*/refused >"$scratch/refused"; then
-        echo "fault: structures_at_size 10 never prints the value that a list was refused"
+        echo "fault: structures_at_size 12 never prints the value that a list was refused"
         exit 1
     fi
     echo "structures_at_size: a list's refused value came back in $(wc -l <"$scratch/refused") runs"
