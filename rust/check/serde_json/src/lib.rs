@@ -1,0 +1,119 @@
+//! What the programs and tests here call of the crate `serde_json`, so that they need no registry.
+//!
+//! The package `beside` runs them over the crate itself.
+
+use std::fmt;
+
+/// A JSON value. The members of an object are in the order of their names, each once.
+#[derive(Clone, Debug, PartialEq)]
+pub enum Value {
+    Null,
+    Bool(bool),
+    Number(Number),
+    String(String),
+    Array(Vec<Value>),
+    Object(Vec<(String, Value)>),
+}
+
+/// A number: the crate keeps whole numbers apart from others.
+#[derive(Clone, Copy, Debug, PartialEq)]
+pub enum Number {
+    Whole(i128),
+    Other(f64),
+}
+
+/// Why a text is no JSON.
+#[derive(Debug)]
+pub struct Error;
+
+impl Value {
+    pub fn get(&self, name: &str) -> Option<&Value> {
+        match self {
+            Value::Object(members) => members.iter().find(|member| member.0 == name).map(|member| &member.1),
+            _ => None,
+        }
+    }
+    pub fn as_u64(&self) -> Option<u64> {
+        match self {
+            Value::Number(Number::Whole(number)) => u64::try_from(*number).ok(),
+            _ => None,
+        }
+    }
+    pub fn as_i64(&self) -> Option<i64> {
+        match self {
+            Value::Number(Number::Whole(number)) => i64::try_from(*number).ok(),
+            _ => None,
+        }
+    }
+    pub fn as_array(&self) -> Option<&Vec<Value>> {
+        match self {
+            Value::Array(values) => Some(values),
+            _ => None,
+        }
+    }
+    pub fn is_null(&self) -> bool {
+        *self == Value::Null
+    }
+    pub fn object(mut members: Vec<(String, Value)>) -> Value {
+        members.sort_by(|a, b| a.0.cmp(&b.0));
+        Value::Object(members)
+    }
+}
+
+macro_rules! whole {
+    ($($number:ty)*) => {
+        $(impl From<$number> for Value {
+            fn from(number: $number) -> Value {
+                Value::Number(Number::Whole(number as i128))
+            }
+        })*
+    };
+}
+whole!(u8 u16 u32 u64 i32 i64 usize);
+
+impl From<Vec<Value>> for Value {
+    fn from(values: Vec<Value>) -> Value {
+        Value::Array(values)
+    }
+}
+
+/// An object, or any value that `From` makes.
+#[macro_export]
+macro_rules! json {
+    ({$($name:literal: $value:expr),* $(,)?}) => {
+        $crate::Value::object(vec![$(($name.to_string(), $crate::Value::from($value))),*])
+    };
+    (null) => { $crate::Value::Null };
+    ($value:expr) => { $crate::Value::from($value) };
+}
+
+impl fmt::Display for Value {
+    fn fmt(&self, f: &mut fmt::Formatter<'_>) -> fmt::Result {
+        match self {
+            Value::Null => f.write_str("null"),
+            Value::Bool(truth) => write!(f, "{truth}"),
+            Value::Number(Number::Whole(number)) => write!(f, "{number}"),
+            Value::Number(Number::Other(number)) => write!(f, "{number:?}"),
+            Value::String(text) => write!(f, "{text:?}"),
+            Value::Array(values) => {
+                f.write_str("[")?;
+                for (at, value) in values.iter().enumerate() {
+                    write!(f, "{}{value}", if at == 0 { "" } else { "," })?;
+                }
+                f.write_str("]")
+            }
+            Value::Object(members) => {
+                f.write_str("{")?;
+                for (at, (name, value)) in members.iter().enumerate() {
+                    write!(f, "{}{name:?}:{value}", if at == 0 { "" } else { "," })?;
+                }
+                f.write_str("}")
+            }
+        }
+    }
+}
+
+/// Reads a value from a text.
+pub fn from_str(_text: &str) -> Result<Value, Error> {
+    todo!("the reader")
+}

@@ -1,0 +1,1 @@
+"""Takes the contracts out of proved sources."""

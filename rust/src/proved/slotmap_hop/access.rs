@@ -1,0 +1,304 @@
+//! Look-ups: which keys are live, and their values, of one key and of several at once.
+
+#[allow(unused_imports)]
+use crate::rt::prelude::*;
+
+use crate::proved::slotmap_hop::HopSlotMap;
+use crate::proved::slotmap_hop::links::Slot;
+use crate::proved::slotmap_core::keys::Key;
+use crate::proved::slotmap_core::sure::rule_out;
+use crate::rt::std::mem;
+use crate::rt::std::ops::{Index, IndexMut};
+
+impl<K: Key, V: Sized> HopSlotMap<K, V> {
+    // The index of a live key's slot.
+    #[inline]
+    pub(in crate::proved::slotmap_hop) fn live_index(&self, key: K) -> Option<usize>
+    {
+        self.note_valid();
+        let key = key.data();
+        let index = key.idx() as usize;
+        if self.slots.get(index)?.version() == key.version() {
+            Some(index)
+        } else {
+            None
+        }
+    }
+
+    /// Returns whether this key is live.
+    ///
+    /// A removed key isn't live, nor is the null key. A key of another map is live here only if
+    /// this map has a live key of the same index and version. Constant time.
+    ///
+    /// ```ignore
+    /// assert!(map.contains_key(a));
+    /// map.remove(a);
+    /// assert!(!map.contains_key(a));
+    /// assert!(!map.contains_key(DefaultKey::null()));
+    /// ```
+    ///
+    /// # Proved
+    ///
+    /// ```text
+    /// ensures value { result ≡ map.contains_key self.now.content.live (K.data_of key) }
+    /// ensures valid { IsHopContent self.now }
+    /// ```
+    #[inline]
+    pub fn contains_key(&self, key: K) -> bool
+    {
+        self.live_index(key).is_some()
+    }
+
+    /// Returns the value of a live key, or `None` if the key isn't live.
+    ///
+    /// Constant time.
+    ///
+    /// ```ignore
+    /// assert_eq!(map.get(b), Some(&2));
+    /// map.remove(b);
+    /// assert_eq!(map.get(b), None);
+    /// ```
+    ///
+    /// # Proved
+    ///
+    /// ```text
+    /// ensures value { option_copied result ≡ map.get self.now.content.live (K.data_of key) }
+    /// ensures valid { IsHopContent self.now }
+    /// ```
+    #[inline]
+    pub fn get(&self, key: K) -> Option<&V>
+    {
+        let index = self.live_index(key)?;
+        match &self.slots[index] {
+            Slot::Occupied(_, _, value) => Some(value),
+            _ => {
+                rule_out(true);
+                unreachable!()
+            }
+        }
+    }
+
+    /// Returns the value of a live key, without checking its version.
+    ///
+    /// The contract requires that the key is live. So this call is safe; Rust's is `unsafe`.
+    /// Constant time.
+    ///
+    /// ```ignore
+    /// assert_eq!(*map.get_unchecked(a), 1);
+    /// ```
+    ///
+    /// # Proved
+    ///
+    /// ```text
+    /// requires { IsLive self.now.content (K.data_of key) }
+    /// ensures value { map.get self.now.content.live (K.data_of key) ≡ Some result.now }
+    /// ensures valid { IsHopContent self.now }
+    /// ```
+    #[inline]
+    pub fn get_unchecked(&self, key: K) -> &V
+    {
+        assert!(self.contains_key(key), "the key is not live");
+        self.note_valid();
+        let index = key.data().idx() as usize;
+        match &self.slots[index] {
+            Slot::Occupied(_, _, value) => value,
+            _ => {
+                rule_out(true);
+                unreachable!()
+            }
+        }
+    }
+
+    /// Returns a mutable reference to the value of a live key, or `None` if the key isn't live.
+    ///
+    /// Once the reference ends, the key has the last value written through it. All else is as
+    /// before. Constant time.
+    ///
+    /// ```ignore
+    /// if let Some(value) = map.get_mut(a) {
+    ///     *value = 5;
+    /// }
+    /// assert_eq!(map.get(a), Some(&5));
+    /// ```
+    ///
+    /// # Proved
+    ///
+    /// ```text
+    /// ensures* writes_back { sem 𝓛 (lends_get K.row V.row self.entry (K.data_of key) result) }
+    /// ensures value { option_copied_mut result ≡ map.get self.old.content.live (K.data_of key) }
+    /// ensures valid { IsHopContent self.old }
+    /// ```
+    #[inline]
+    pub fn get_mut(&mut self, key: K) -> Option<&mut V>
+    {
+        if self.contains_key(key) {
+            Some(self.get_unchecked_mut(key))
+        } else {
+            None
+        }
+    }
+
+    /// Returns a mutable reference to the value of a live key, without checking its version.
+    ///
+    /// The contract requires that the key is live. So this call is safe; Rust's is `unsafe`.
+    /// Constant time.
+    ///
+    /// ```ignore
+    /// *map.get_unchecked_mut(a) = 5;
+    /// assert_eq!(map.get(a), Some(&5));
+    /// ```
+    ///
+    /// # Proved
+    ///
+    /// ```text
+    /// requires { IsLive self.old.content (K.data_of key) }
+    /// ensures* writes_back { sem 𝓛 (lends_value K.row V.row self.entry (K.data_of key) result) }
+    /// ensures value { map.get self.old.content.live (K.data_of key) ≡ Some result.now }
+    /// ensures valid { IsHopContent self.old }
+    /// ```
+    #[inline]
+    pub fn get_unchecked_mut(&mut self, key: K) -> &mut V
+    {
+        assert!(self.contains_key(key), "the key is not live");
+        let index = key.data().idx() as usize;
+        match &mut self.slots[index] {
+            Slot::Occupied(_, _, value) => value,
+            _ => {
+                rule_out(true);
+                unreachable!()
+            }
+        }
+    }
+
+    /// Sets the value of a live key and returns the old value.
+    ///
+    /// If the key isn't live, nothing changes, and the new value is returned as the error. Constant
+    /// time. Rust lacks this call.
+    ///
+    /// ```ignore
+    /// assert_eq!(map.replace(a, 5), Ok(1));
+    /// map.remove(a);
+    /// assert_eq!(map.replace(a, 6), Err(6));
+    /// ```
+    ///
+    /// # Proved
+    ///
+    /// ```text
+    /// ensures ok { IfOk result (λ before. map.get self.old.content.live (K.data_of key) ≡ Some before) }
+    /// ensures replaces { OnOk result (self.new ≡ hop_with_value self.old (K.data_of key) value) }
+    /// ensures err { IfErr result (λ back. (map.contains_key self.old.content.live (K.data_of key) ≡ false) × (back ≡ value)) }
+    /// ensures unchanged { OnErr result (self.new ≡ self.old) }
+    /// ensures valid { StaysHop self.old self.new }
+    /// ```
+    #[inline]
+    pub fn replace(&mut self, key: K, value: V) -> Result<V, V>
+    {
+        match self.get_mut(key) {
+            Some(stored) => Ok(mem::replace(stored, value)),
+            None => Err(value),
+        }
+    }
+
+    /// Replaces the value of `keys[i]` by `values[i]`, for each i, and returns the old values.
+    ///
+    /// If one of the keys isn't live, or two are equal, nothing changes, and the new values are
+    /// returned as the error. It looks up each key and compares each two, and allocates nothing.
+    /// Its time doesn't depend on the size of the map. In Rust `get_disjoint_mut` returns
+    /// references instead.
+    ///
+    /// ```ignore
+    /// assert_eq!(map.replace_disjoint([a, b], [5, 6]), Ok([1, 2]));
+    /// assert_eq!(map.get(b), Some(&6));
+    /// assert_eq!(map.replace_disjoint([a, a], [7, 8]), Err([7, 8]));
+    /// ```
+    ///
+    /// # Proved
+    ///
+    /// ```text
+    /// ensures which { IsOk result ↔ CanReplace self.old.content (map_list K.data_of keys) }
+    /// ensures value { IfOk result (AreValuesOf self.old.content (map_list K.data_of keys)) }
+    /// ensures ok { OnOk result (self.new ≡ hop_with_values self.old (map_list K.data_of keys) values) }
+    /// ensures err { IfErr result (λ given. given ≡ values) }
+    /// ensures unchanged { OnErr result (self.new ≡ self.old) }
+    /// ensures valid { StaysHop self.old self.new }
+    /// ```
+    #[inline]
+    pub fn replace_disjoint<const N: usize>(
+        &mut self,
+        keys: [K; N],
+        mut values: [V; N],
+    ) -> Result<[V; N], [V; N]>
+    {
+        if !self.can_replace(&keys) {
+            return Err(values);
+        }
+        for i in 0..N {
+            self.swap_value(keys[i], &mut values[i]);
+        }
+        Ok(values)
+    }
+
+    // Returns whether each key is live, and no two are equal.
+    #[inline]
+    fn can_replace(&self, keys: &[K]) -> bool
+    {
+        self.note_valid();
+        for i in 0..keys.len() {
+            let key = keys[i];
+            if !self.contains_key(key) || keys[..i].contains(&key) {
+                return false;
+            }
+        }
+        true
+    }
+
+    // Exchanges the value of a live key for another.
+    #[inline]
+    fn swap_value(&mut self, key: K, value: &mut V)
+    {
+        assert!(self.contains_key(key), "the key is not live");
+        mem::swap(self.get_unchecked_mut(key), value);
+    }
+}
+
+impl<K: Key, V: Sized> Index<K> for HopSlotMap<K, V> {
+    type Output = V;
+
+    /// Returns the value of a live key, without checking its version.
+    ///
+    /// The contract requires that the key is live; in Rust any other key panics. Constant time.
+    ///
+    /// ```ignore
+    /// assert_eq!(map[a] + map[b], 3);
+    /// ```
+    #[inline]
+    fn index(&self, key: K) -> &V {
+        self.get_unchecked(key)
+    }
+}
+
+impl<K: Key, V: Sized> IndexMut<K> for HopSlotMap<K, V> {
+    /// Returns a mutable reference to the value of a live key, without checking its version.
+    ///
+    /// The contract requires that the key is live; in Rust any other key panics. Constant time.
+    ///
+    /// ```ignore
+    /// map[a] = 5;
+    /// assert_eq!(map.get(a), Some(&5));
+    /// ```
+    ///
+    /// # Proved
+    ///
+    /// ```text
+    /// requires { IsLive self.old.content (K.data_of key) }
+    /// ensures* writes_back { sem 𝓛 (lends_value K.row V.row self.entry (K.data_of key) result) }
+    /// ensures value { map.get self.old.content.live (K.data_of key) ≡ Some result.now }
+    /// ensures valid { IsHopContent self.old }
+    /// ```
+    #[inline]
+    fn index_mut(&mut self, key: K) -> &mut V
+    {
+        assert!(self.contains_key(key), "the key is not live");
+        self.get_unchecked_mut(key)
+    }
+}

@@ -1,0 +1,100 @@
+//! Room for elements: how much there is, and more of it.
+
+#[allow(unused_imports)]
+use crate::rt::prelude::*;
+
+use crate::proved::slotmap_lists::{MOST, StableLists};
+use crate::proved::slotmap::{Key, ReserveError};
+use crate::proved::slotmap_links::Links;
+use crate::rt::std::alloc::AllocError;
+
+// Makes homes for the numbers below `needed`.
+fn cover_homes(homes: &mut Vec<u32>, needed: usize) -> Result<(), AllocError>
+{
+    if needed <= homes.len() {
+        return Ok(());
+    }
+    homes.resize(needed, 0)
+}
+
+// Lets the numbers below `needed` be in a list. Where links have to be added, at least 64 are, as long
+// as there may be so many. So lists that grow from nothing to 64 elements add links once.
+fn cover(links: &mut Links, homes: &mut Vec<u32>, needed: usize) -> Result<(), AllocError>
+{
+    let members = links.members();
+    if needed <= members {
+        return Ok(());
+    }
+    let more = needed.max((members + 64).min(MOST));
+    cover_homes(homes, more)?;
+    links.cover_members(more)
+}
+
+impl<K: Key, T: Sized> StableLists<K, T> {
+    /// Reserves room for `additional` more elements, in whichever lists.
+    ///
+    /// Adding the next `additional` elements can't fail, except with `NoList` or `Gone`, and the
+    /// capacity stays then. If there is room for them already, the call succeeds and changes nothing,
+    /// in constant time. Else it takes time linear in the capacity. The errors are these; either leaves
+    /// the lists as they were:
+    ///
+    /// - `TooGreat`: more than 4294967294 elements would be there, counting those whose slots are
+    ///   retired.
+    /// - `Memory`: memory runs out.
+    ///
+    /// ```ignore
+    /// let mut lists = StableLists::new(alloc, 2)?;
+    /// lists.reserve(2)?;
+    /// let capacity = lists.capacity();
+    /// lists.push_back(0, 1)?;
+    /// lists.push_back(1, 2)?;
+    /// assert_eq!(lists.capacity(), capacity);
+    /// ```
+    ///
+    /// # Proved
+    ///
+    /// ```text
+    /// ensures makes_room { MakesRoom true self.old.cursors additional (IsOk result) self.new.cursors }
+    /// ensures room { OnOk result (additional ≤ self.new.cursors.room) }
+    /// ensures had_room { additional ≤ self.old.cursors.room → IsOk result }
+    /// ensures reuses { additional ≤ map.len self.old.cursors.next → IsOk result }
+    /// ensures err { IfErr result (RefusesCapacity (used self.old.cursors + additional)) }
+    /// ensures in_place { additional ≤ self.old.cursors.room → self.new ≡ self.old }
+    /// ensures unchanged { OnErr result (self.new.cursors ≡ record self.old.cursors { capacity = self.new.cursors.capacity }) }
+    /// ensures lists { self.new.lists ≡ self.old.lists }
+    /// ensures keeps { Keeps self.old.cursors self.new.cursors }
+    /// ensures gone { KeepsSpent self.old.cursors self.new.cursors }
+    /// ```
+    #[inline(never)]
+    pub fn reserve(&mut self, additional: usize) -> Result<(), ReserveError>
+    {
+        let capacity = self.values.capacity_for(additional)?;
+        if cover(&mut self.links, &mut self.homes, capacity + 1).is_err() {
+            return Err(ReserveError::Memory);
+        }
+        self.values.reserve(additional)
+    }
+
+    /// Returns how many elements there can be before more room is made, in constant time. It counts
+    /// the slots that are retired.
+    ///
+    /// ```ignore
+    /// let mut lists = StableLists::with_capacity(alloc, 2, 8)?;
+    /// let capacity = lists.capacity();
+    /// assert!(capacity >= 8);
+    /// lists.push_back(1, 1)?;
+    /// assert_eq!(lists.capacity(), capacity);
+    /// ```
+    ///
+    /// # Proved
+    ///
+    /// ```text
+    /// ensures value { result ≡ bound self.now.cursors }
+    /// ensures exact { result ≡ used self.now.cursors + self.now.cursors.room }
+    /// ensures valid { IsContent true self.now.cursors }
+    /// ```
+    pub fn capacity(&self) -> usize
+    {
+        self.values.capacity()
+    }
+}

@@ -1,0 +1,57 @@
+//! Comparison of maps.
+
+#[allow(unused_imports)]
+use crate::rt::prelude::*;
+
+use crate::proved::slotmap_secondary::SecondaryMap;
+use crate::proved::slotmap_core::keys::Key;
+
+impl<K: Key, V: PartialEq> PartialEq for SecondaryMap<K, V> {
+    /// Returns whether both maps hold the same keys with equal values.
+    ///
+    /// The numbers of slots and the capacities don't matter. Takes time linear in the number of
+    /// slots of both maps, and stops at the first difference.
+    ///
+    /// ```ignore
+    /// let copy = map.clone()?;
+    /// assert!(copy == map);
+    /// map.remove(a);
+    /// assert!(copy != map);
+    /// ```
+    ///
+    /// # Proved
+    ///
+    /// ```text
+    /// ensures value { result ≡ are_equal V.eq self.now.pairs other.now.pairs }
+    /// ensures which { IsTrue result ↔ AreEqual V.eq self.now.pairs other.now.pairs }
+    /// ```
+    #[inline]
+    fn eq(&self, other: &Self) -> bool
+    {
+        self.is_same(other)
+    }
+}
+
+impl<K: Key, V: PartialEq> SecondaryMap<K, V> {
+    // Whether the iterators of both maps yield the same.
+    #[inline]
+    fn is_same(&self, other: &Self) -> bool
+    {
+        let mut left = self.iter();
+        let mut right = other.iter();
+        while let Some((key, value)) = left.next() {
+            match right.next() {
+                Some((other_key, other_value)) => {
+                    if key.data() != other_key.data() || value != other_value {
+                        return false;
+                    }
+                }
+                None => return false,
+            }
+        }
+        right.next().is_none()
+    }
+}
+
+impl<K: Key, V: Eq> Eq for SecondaryMap<K, V> {
+}
