@@ -10,8 +10,6 @@
 #     VERDICT                           the kit, and what it said of the crate
 #     wheels                            the Python package, by c/python/wheels.sh, which says what it needs
 #
-# The Cargo package has copies of x86_64-linux and aarch64-linux in c/cargo/dist, since Cargo packs no file from outside its folder.
-#
 # With --check it builds all of this anew in another folder, compares it byte by byte with what is there, and fails at the first
 # difference. It needs the kit, and some ten minutes of processor time in a fresh clone, later one.
 set -euo pipefail
@@ -41,17 +39,13 @@ archive x86_64 --cpu x86-64
 (cd "$top/c" && sha256sum slotmap.h heap.c) >"$out/dist/SHA256SUMS"
 (cd "$out" && sha256sum dist/*/libslotmap_c.a) >>"$out/dist/SHA256SUMS"
 
-mkdir -p "$out/cargo"
-cp -r "$out/dist/x86_64-linux" "$out/dist/aarch64-linux" "$out/cargo/"
-
 if [ -n "$check" ]; then
-    diff -r --exclude=wheels "$dist" "$out/dist" && diff -r "$top/c/cargo/dist" "$out/cargo" || { echo "c/dist.sh: c/dist or c/cargo/dist differs from what was built; run c/dist.sh" >&2; exit 1; }
+    diff -r --exclude=wheels "$dist" "$out/dist" || { echo "c/dist.sh: c/dist differs from what was built; run c/dist.sh" >&2; exit 1; }
     echo "c/dist.sh: the same bytes:"
     "$top/c/python/wheels.sh" --check
 else
-    rm -rf "$dist" "$top/c/cargo/dist"
+    rm -rf "$dist"
     cp -r "$out/dist" "$dist"
-    cp -r "$out/cargo" "$top/c/cargo/dist"
     "$top/c/python/wheels.sh"
 fi
 cat "$out/dist/VERDICT" "$out/dist/SHA256SUMS"

@@ -1,7 +1,7 @@
 #!/usr/bin/env bash
 # c/test.sh [ARCHIVE]
 #
-# Tests the calls for C, C++, Rust and Python over the archive of c/dist for this machine, or over ARCHIVE:
+# Tests the calls for C, C++ and Python over the archive of c/dist for this machine, or over ARCHIVE:
 #
 # - every call, from C99 and from C++17, also with clang's address and undefined-behaviour sanitizers, under valgrind, and on an
 #   x86-64 processor without SSE4.1 under qemu;
@@ -11,12 +11,10 @@
 #   refused in turn, with sanitizers, by each compiler for C++17 and C++20, and without exceptions; two threads that read one of each;
 # - `make install` into a folder, with a program by pkg-config and by CMake, static and shared, and the names that the shared library has;
 # - a second `make install` with another prefix and another archive, one into folders with a space, and `make uninstall`;
-# - the Cargo package: its tests, among them a million random calls, also with the address sanitizer of Rust's nightly, its example and
-#   its page, also with serde;
 # - the Python package, installed by pip into a folder, from source and as the wheel of c/dist: every call, random calls beside a
 #   model, threads, each allocation refused, and its type hints. PYTHONS="python3.9 .." names other Pythons than python3. A million
 #   random calls are made over the module as gcc's address and undefined-behaviour sanitizers compile it;
-# - the program of docs/C.md in C, C++, Python and Rust: each prints what the page says, also by the commands that the page has;
+# - the program of docs/C.md in C, C++ and Python: each prints what the page says, also by the commands that the page has;
 # - the archive for AArch64 under qemu, and that for x86-64-v2;
 # - that the prototypes of slotmap.h are the exports;
 # - that the packages have the version of slotmap.h and the licences, and that dist/SHA256SUMS has the sums.
@@ -224,38 +222,6 @@ exports() {
 }
 exports "make install" "$root/lib/libslotmap.so"
 
-if left="the Cargo package" has cargo; then
-    mkdir "$out/archive"
-    cp "$archive" "$out/archive/libslotmap_c.a"
-    cp -r cargo "$out/cargo"
-    # in_package FOLDER ARGUMENT ..: Cargo in this folder of a copy. In the folder check it looks for no registry.
-    in_package() { (cd "$out/cargo/$1" && SLOTMAP_CALLS=1000000 SLOTMAP_C_LIB=$out/archive CARGO_TARGET_DIR=$out/target cargo "${@:2}" --offline --quiet); }
-    in_package check test
-    RUSTDOCFLAGS="-D warnings" in_package check doc --no-deps -p slotmap-proved
-    in_package check build --example names
-    same "$out/target/debug/examples/names"
-    if left="clippy" has cargo-clippy && left="clippy" has clippy-driver; then
-        touch "$out/cargo/src/lib.rs"
-        (cd "$out/cargo/check" && SLOTMAP_C_LIB=$out/archive CARGO_TARGET_DIR=$out/target cargo clippy --offline --quiet --all-targets -- -D warnings)
-        echo "the Cargo package: clippy has nothing to say"
-    fi
-    if cargo +nightly --version >/dev/null 2>&1; then
-        RUSTFLAGS=-Zsanitizer=address in_package check +nightly test --target "$machine-unknown-linux-gnu"
-        echo "the Cargo package: with the address sanitizer"
-    else
-        echo "left out, since rustup has no nightly toolchain: the Cargo package with the address sanitizer"
-    fi
-    registry=/usr/share/cargo/registry
-    if compgen -G "$registry/serde_json-1.*" >/dev/null; then
-        mkdir "$out/cargo/.cargo"
-        printf '[source.crates-io]\nreplace-with = "debian"\n[source.debian]\ndirectory = "%s"\n' "$registry" >"$out/cargo/.cargo/config.toml"
-        in_package . test --features serde
-        echo "the Cargo package: also with serde"
-    else
-        echo "left out, since serde isn't in $registry: the package's feature serde, and the examples in its comments"
-    fi
-fi
-
 # pip_into PYTHON FOLDER WHAT ..: by pip, without a network, into a folder from which programs then import.
 pip_into() {
     "$1" -m pip install --quiet --no-index --disable-pip-version-check --root-user-action ignore --target "$2" "${@:3}"
@@ -346,7 +312,7 @@ fi
 version=$(sed -n 's/.*SLOTMAP_VERSION "\(.*\)"/\1/p' slotmap.h)
 IFS=. read -r major minor patch <<<"$version"
 grep -qx "#define SLOTMAP_VERSION_NUMBER $((10000 * major + 100 * minor + patch))" slotmap.h || { echo "c/test.sh: SLOTMAP_VERSION_NUMBER isn't that of $version" >&2; exit 1; }
-for place in "cargo/Cargo.toml version" "python/pyproject.toml version" "python/slotmap_proved/__init__.py __version__" "python/backend.py VERSION"; do
+for place in "python/pyproject.toml version" "python/slotmap_proved/__init__.py __version__" "python/backend.py VERSION"; do
     read -r file name <<<"$place"
     grep -q "\b$name = .*\"$version\"$" "$file" || { echo "c/test.sh: $file has another version than $version" >&2; exit 1; }
 done
@@ -355,14 +321,9 @@ for file in slotmap.h slotmap*.hpp heap.c Makefile python/slotmap_proved/__init_
 done
 for file in LICENSE LICENSE-slotmap; do
     cmp "../$file" "$file"
-    cmp "../$file" "cargo/$file"
     cmp "../$file" "$root/share/doc/slotmap/$file"
     [ ! -e "$out/python" ] || cmp "../$file" "$out"/python/slotmap_proved-*.dist-info/licenses/"$file"
 done
 sha256sum --quiet -c dist/SHA256SUMS
-# The Cargo package has copies, since Cargo packs no file from outside its folder.
-for built in x86_64 aarch64; do
-    cmp "cargo/dist/$built-linux/libslotmap_c.a" "dist/$built-linux/libslotmap_c.a"
-done
-echo "versions, licences, sums and copies: the same everywhere"
+echo "versions, licences and sums: the same everywhere"
 echo "c/test.sh: ok"

@@ -2,17 +2,16 @@
 # c-speed.sh SOURCE [ARCHIVE]
 #
 # Measures the calls of the archive in c/dist for x86-64, or of ARCHIVE, beside the maps of the Rust crate slotmap 1.1.1, whose
-# folder SOURCE has src/lib.rs. Prints four tables for docs/C.md:
+# folder SOURCE has src/lib.rs. Prints three tables for docs/C.md:
 #
 #     1. the crate is inlined in the same program, the calls aren't: instructions, and nanoseconds at 1,000 and 100,000 slots
 #     2. the crate behind the same calls: instructions inside the library
 #     3. instructions of a walk inside the library, for each share of live slots, at 10,000 slots
-#     4. the maps of the Cargo package: instructions, nanoseconds at 1,000 and 1,000,000 slots, and bytes for a key
 #
 # Instructions are counted by callgrind, as the difference of runs with 1 and 3 rounds. The times are the least of many short
 # runs, on both sides in turn. Both sides are compiled for x86-64-v2. It needs rustc, a C compiler and valgrind.
 set -euo pipefail
-[ $# -ge 1 ] || { sed -n '2,14s/^# \{0,1\}//p' "$0"; exit 2; }
+[ $# -ge 1 ] || { sed -n '2,13s/^# \{0,1\}//p' "$0"; exit 2; }
 top=$(cd "$(dirname "$0")/.." && pwd)
 source=$(cd "$1" && pwd)
 archive=$(realpath -m "${2:-$top/c/dist/x86_64-linux/libslotmap_c.a}")
@@ -26,12 +25,6 @@ cc -shared -o "$out/libport.so" "$out/heap.o" -Wl,--whole-archive "$archive" -Wl
 rustc "${flags[@]}" --crate-type cdylib --extern slotmap="$out/libslotmap.rlib" "$top/compare/c_behind.rs" -o "$out/libcrate.so"
 rustc "${flags[@]}" --extern slotmap="$out/libslotmap.rlib" "$top/compare/c_speed.rs" -o "$out/c_speed" \
     -C "link-arg=$archive" -C "link-arg=$out/heap.o"
-mkdir "$out/archive"
-cp "$archive" "$out/archive/libslotmap_c.a"
-rustc "${flags[@]}" --crate-name slotmap_proved --crate-type rlib "$top/c/cargo/src/lib.rs" \
-    -L "native=$out/archive" -l static=slotmap_c -o "$out/libslotmap_proved.rlib"
-rustc "${flags[@]}" --cfg typed --extern slotmap="$out/libslotmap.rlib" --extern slotmap_proved="$out/libslotmap_proved.rlib" \
-    "$top/compare/c_speed.rs" -o "$out/c_speed-typed"
 for library in port crate; do
     rustc "${flags[@]}" --extern slotmap="$out/libslotmap.rlib" "$top/compare/c_speed.rs" -o "$out/c_speed-$library" \
         -C "link-arg=$out/lib$library.so" -C "link-arg=-Wl,-rpath,$out"
@@ -87,10 +80,3 @@ for live in 1000 999 900 500 100 10; do
         "$(count c_speed-port port "a key of a list" 10000 $at slotmap_list_after) |" \
         "$(count c_speed rust "a step of a walk" 10000 $at) |"
 done
-
-echo
-echo "| Operation, Cargo package · the Rust crate | Instructions at 1,000 slots | Nanoseconds at 1,000 | Nanoseconds at 1,000,000 |"
-echo "|---|---|---|---|"
-compared c_speed-typed
-"$out/c_speed-typed" reserved | awk -F'\t' '{ print "| a walk over 10 values, after `reserve(1_000_000)` | | " $1 " · " $2 " | |" }'
-"$out/c_speed-typed" bytes | awk -F'\t' '{ print "| bytes for a key of " $1 " | | | " $2 " · " $3 " |" }'

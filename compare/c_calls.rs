@@ -1,7 +1,7 @@
 //! Random calls on maps and side tables of the archive, through the C interface, and on a `SlotMap` and a `SecondaryMap` of the
 //! Rust crate: each result is compared. See c-calls.sh.
 
-#[path = "../c/cargo/src/words.rs"]
+#[path = "c_words.rs"]
 mod port;
 
 use slotmap::{DefaultKey, Key, KeyData, SecondaryMap, SlotMap};

@@ -1,14 +1,9 @@
 //! Measures the calls of the archive beside the maps of the Rust crate, which are inlined here. See c-speed.sh. By default these are
-//! the calls of the C interface; with `--cfg typed` those of the Cargo package, with values of 8 bytes.
+//! the calls of the C interface.
 //!
 //!     c_speed                                     prints the least time of each operation, of many runs in turn
 //!     c_speed SIDE OPERATION SLOTS LIVE ROUNDS    does so many rounds with so many live slots, for a count of instructions, and
 //!                                                 prints how many calls a round makes. SIDE is `port` or `rust`
-//!
-//! With `--cfg typed` also:
-//!
-//!     c_speed bytes                               prints the bytes of memory for a key, of maps and of side tables, at 1,048,575 keys
-//!     c_speed reserved                            prints the nanoseconds of a walk over 10 values, after a reserve of 1,000,000
 
 use std::time::Instant;
 
@@ -23,47 +18,7 @@ const OPERATIONS: [&str; 9] = [
     "get of a side table",
     "put of a new key",
 ];
-#[cfg(not(typed))]
 const SIZES: [usize; 2] = [1000, 100_000];
-#[cfg(typed)]
-const SIZES: [usize; 2] = [1000, 1_000_000];
-
-/// Counts the bytes that are allocated.
-#[cfg(typed)]
-mod counted {
-    use std::alloc::{GlobalAlloc, Layout, System};
-    use std::sync::atomic::{AtomicUsize, Ordering};
-
-    struct Counted;
-
-    static BYTES: AtomicUsize = AtomicUsize::new(0);
-
-    #[global_allocator]
-    static HEAP: Counted = Counted;
-
-    pub fn bytes() -> usize {
-        BYTES.load(Ordering::Relaxed)
-    }
-
-    // SAFETY: the calls are those of the system's allocator.
-    unsafe impl GlobalAlloc for Counted {
-        unsafe fn alloc(&self, layout: Layout) -> *mut u8 {
-            BYTES.fetch_add(layout.size(), Ordering::Relaxed);
-            System.alloc(layout)
-        }
-
-        unsafe fn realloc(&self, block: *mut u8, layout: Layout, size: usize) -> *mut u8 {
-            BYTES.fetch_add(size, Ordering::Relaxed);
-            BYTES.fetch_sub(layout.size(), Ordering::Relaxed);
-            System.realloc(block, layout, size)
-        }
-
-        unsafe fn dealloc(&self, block: *mut u8, layout: Layout) {
-            BYTES.fetch_sub(layout.size(), Ordering::Relaxed);
-            System.dealloc(block, layout)
-        }
-    }
-}
 
 /// A map with n live keys and n stale ones, and a side table with the live ones.
 trait Side {
@@ -72,12 +27,6 @@ trait Side {
     fn thin(&mut self, live: usize);
     /// Does an operation once for each key, and returns a sum that the operation can't be left out for.
     fn round(&mut self, operation: &str) -> u64;
-    /// The bytes of a map, and of a side table, with so many keys.
-    #[cfg(typed)]
-    fn bytes(n: usize) -> (usize, usize);
-    /// The least time of a walk over 10 values of a map with room for a million.
-    #[cfg(typed)]
-    fn reserved() -> u128;
 }
 
 /// The same for a number and for that with its halves the other way round.
@@ -96,11 +45,9 @@ fn order(n: usize) -> Vec<usize> {
     all
 }
 
-#[cfg(not(typed))]
-#[path = "../c/cargo/src/words.rs"]
+#[path = "c_words.rs"]
 mod port;
 
-#[cfg(not(typed))]
 struct Port {
     map: port::SlotMap,
     side: port::Side,
@@ -109,7 +56,6 @@ struct Port {
     order: Vec<usize>,
 }
 
-#[cfg(not(typed))]
 impl Side for Port {
     fn new(n: usize) -> Port {
         let (mut map, mut side) = (port::SlotMap::new().unwrap(), port::Side::new().unwrap());
@@ -241,36 +187,11 @@ macro_rules! side {
                 }
                 sum
             }
-
-            #[cfg(typed)]
-            fn bytes(n: usize) -> (usize, usize) {
-                let start = counted::bytes();
-                let (mut map, mut side) = ($of::SlotMap::new(), $of::SecondaryMap::new());
-                let keys: Vec<_> = (0..n as u64).map(|i| map.insert(i)).collect();
-                let with_map = counted::bytes();
-                side.extend(keys.iter().map(|key| (*key, 1_u64)));
-                (with_map - start - std::mem::size_of_val(&keys[..]), counted::bytes() - with_map)
-            }
-
-            #[cfg(typed)]
-            fn reserved() -> u128 {
-                let mut map: $of::SlotMap<$of::DefaultKey, u64> = $of::SlotMap::new();
-                map.reserve(1_000_000);
-                let keys = [(); 10].map(|()| map.insert(7));
-                let walk = || {
-                    let start = Instant::now();
-                    assert_eq!(std::hint::black_box(&map).values().sum::<u64>(), 7 * keys.len() as u64);
-                    start.elapsed().as_nanos()
-                };
-                (0..100).map(|_| walk()).min().unwrap()
-            }
         }
     };
 }
 
 side!(Rust, slotmap);
-#[cfg(typed)]
-side!(Port, slotmap_proved);
 
 /// The least times of a round on both sides, in turn, in nanoseconds for one call.
 fn times(operation: &str, n: usize) -> (f64, f64) {
@@ -301,19 +222,6 @@ fn main() {
     if let [side, operation, slots, live, rounds] = &words[..] {
         let numbers = [slots, live, rounds].map(|it| it.parse::<usize>().expect("a number"));
         return if side == "port" { run::<Port>(operation, numbers) } else { run::<Rust>(operation, numbers) };
-    }
-    #[cfg(typed)]
-    if words == ["bytes"] {
-        let n = (1 << 20) - 1;
-        let ((map, side), (rust, rust_side)) = (Port::bytes(n), Rust::bytes(n));
-        let [map, side, rust, rust_side] = [map, side, rust, rust_side].map(|it| it as f64 / n as f64);
-        println!("a map\t{map:.1}\t{rust:.1}\na side table\t{side:.1}\t{rust_side:.1}");
-        return;
-    }
-    #[cfg(typed)]
-    if words == ["reserved"] {
-        println!("{}\t{}", Port::reserved(), Rust::reserved());
-        return;
     }
     for n in SIZES {
         for operation in OPERATIONS {

@@ -63,7 +63,7 @@ ORDER = [
     ]),
 ]
 # Pages of packages, which stand beside the packages.
-BESIDE = ("c/README.md", "c/cargo/README.md", "c/python/README.md")
+BESIDE = ("c/README.md", "c/python/README.md", "rust/README.md")
 LINK = re.compile(r"(!?\[(?:[^\[\]]|\[[^\]]*\])*\]\()([^)\s]+)(\))")
 STYLE = """
 .wy-nav-content { max-width: 1150px; }

@@ -1,4 +1,4 @@
-"""Compares the prototypes of slotmap.h with the exports of crates/slotmap_c, and with those that cargo/src declares."""
+"""Compares the prototypes of slotmap.h with the exports of crates/slotmap_c, and with those that compare/c_words.rs declares."""
 
 import glob
 import os
@@ -34,14 +34,13 @@ def main():
     header = dict(declared())
     files = glob.glob(os.path.join(TOP, "crates/slotmap_c/src/**/*.rt"), recursive=True)
     exported = dict(functions("".join(map(text, sorted(files))), 'pub extern "C" '))
-    sources = glob.glob(os.path.join(TOP, "c/cargo/src/**/*.rs"), recursive=True)
-    imported = dict(functions("".join(map(text, sorted(sources))), "pub "))
+    imported = dict(functions(text("compare/c_words.rs"), "pub "))
     wrong = 0
     for name in sorted(header.keys() | exported.keys() | imported.keys()):
         if header.get(name) != exported.get(name) or imported.get(name, header.get(name)) != header.get(name):
-            print(f"{name}: in the header {header.get(name)}, exported {exported.get(name)}, in cargo/src {imported.get(name)}")
+            print(f"{name}: in the header {header.get(name)}, exported {exported.get(name)}, in c_words.rs {imported.get(name)}")
             wrong += 1
-    print(f"prototypes: {len(header)} in the header, {len(exported)} exports, {len(imported)} in cargo/src, {wrong} differ")
+    print(f"prototypes: {len(header)} in the header, {len(exported)} exports, {len(imported)} in c_words.rs, {wrong} differ")
     return wrong > 0
 
 

@@ -1,1 +1,0 @@
-//! Nothing: this package has the tests of another.
