@@ -1,6 +1,8 @@
-//! Code that is proved never to run, and what an option that is proved to hold a value holds.
+//! What proofs and builds know of code: a case that never runs, an option that holds a value, a drop
+//! that may unwind.
 //!
-//! For the crates of the maps: their code takes out what is known to be there.
+//! For the crates of the maps and above. Each function here costs nothing. A build of these sources
+//! as Rust has bodies of its own for them.
 
 ghost use Rattle.std.specs.contracts.option.Option.{the_row};
 ghost use Rattle.std.specs.Prelude.{◌≡◌, IsSome, Some, false};
@@ -54,4 +56,21 @@ pub fn sure_mut<T>(option: &mut Option<T>) -> &mut T
             unreachable!()
         }
     }
+}
+
+/// Returns whether dropping a value of type `T` may unwind.
+///
+/// In Rattle no drop unwinds, so the answer is `false`. A build of these sources as Rust answers
+/// `std::mem::needs_drop::<T>()`: there a drop may panic. No clause tells the answer, so code that
+/// asks is proved for both. Constant time, and the test is left out of machine code. Rust lacks this
+/// call.
+///
+/// ```
+/// // Where no drop unwinds, all values can go at once; else one by one, each already out of the map.
+/// let at_once = !drop_may_unwind::<u64>();
+/// assert!(rt; at_once);
+/// ```
+#[inline(always)]
+pub fn drop_may_unwind<T>() -> bool {
+    false
 }
