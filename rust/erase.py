@@ -1,106 +1,221 @@
 #!/usr/bin/env python3
-"""erase.py CRATES OUT [--root PREFIX] [--outer PREFIX] [--check] CRATE..: the proved sources (.rt) as plain Rust modules.
+"""The proved sources as Rust: crates/*/src/*.rt with their contracts taken out.
 
-Contracts and ghost code are taken out, and each documented call's clauses go into its rustdoc. Nothing else of a body changes.
-The source is read token by token; what it doesn't know is an error, never a guess: see `leftovers`.
-  --root   the path of the modules that are written now (crate::proved)
-  --outer  the path of crates that were erased elsewhere (for the tests: slotmap_proved::proved)
-  --check  writes nothing, and ends with status 1 if a file differs from what would be written
+    python3 rust/erase.py              writes rust/src/proved and rust/check/src/programs
+    python3 rust/erase.py --check      writes nothing, and fails if a file there differs, is missing or shouldn't be there
+    python3 rust/erase.py --requires   prints each public call that asks something of its caller, and what becomes of that
+
+A source is read token by token. Its clauses and ghost items go, and nothing else of a body changes, but for what
+project.py lists and what src/rt stands for. A form that the eraser doesn't know is an error with file and line.
+
+Some forms compile in Rust with another meaning. What guards against each:
+
+- A `requires` is proved of no Rust caller: requires.py has a test for each, or a reason why none is needed.
+- A type's invariant as ghost fields beside public fields could be broken by anyone: refused (items.py).
+- The bound `Drop` means "may be dropped" in Rattle: it goes (drops.py). Anything else named `Drop` is refused.
+- A drop by hand takes its value in Rattle: it is lent here, and then Rust drops the fields in their order. A value that
+  has such a drop and is taken apart elsewhere would not be dropped in Rattle: refused (drops.py).
+- `clone`, `push`, `collect` and others return a `Result` in Rattle: src/rt has them so. A closure that returns a clone,
+  of which only the count may be looked at, is refused; so are `collect()` and `to_string()` with no allocator.
+- `prove!` and `debug_assert!`: no macro is known but those in closed.py. `unreachable!` is proved never to run, and would
+  panic here.
+- The size of a type, and its name: refused (closed.py). So are floats, open ranges that are walked, and fields from
+  another value, whose meanings differ in some cases.
+- Overflow and lossy `as` are proved not to happen, where `usize` has 64 bits: the package's tests run with checks, and
+  for 32 bits nothing is proved.
+- Which impl a method call finds can differ where a bound holds in Rattle alone. Nothing guards that; the erased row
+  programs print what the proved ones print.
+- A drop or a closure that panics unwinds in Rust and ends the process in Rattle: the package's tests have each call
+  panic at each place.
 """
-import os, re, sys
+import os
+import re
+import sys
 
-from eraser.contracts import leftovers, take_ghost
+from eraser import closed, contracts, drops, errors, paths, requires, sealed
+from eraser.attributes import take_attributes
 from eraser.documents import documented, examples
-from eraser.items import drop_bounds, error_impls, items
-from eraser.paths import INLINED, fmt_calls, inlined, paths
-from eraser.requires import HERE
-from eraser.tokens import Bad, tokens
+from eraser.project import IN_SHIM, LENT, LIBRARIES, LIBRARY_TREE, PATCHES, PROGRAM_TREE, PROGRAMS, TOP, files_of, refuse_unknown_crates
+from eraser.tokens import Bad, Edits
 
-def erase(source, crate, libs, root, outer):
-    t = take_ghost(tokens(source))
-    t = items(t)
-    t = drop_bounds(t)
-    t, impls = error_impls(t)
-    t = paths(t, crate, libs, root, outer)
-    text = "".join("\x01" + w.replace("\n", "\x03") + "\x02" if k == "clause" else w for k, w in t)
-    text = documented(text, crate)
-    text = fmt_calls(text)
-    text = examples(text)
-    text = re.sub(r"[ \t]+\n", "\n", text); text = re.sub(r"\n{3,}", "\n\n", text)
-    text = re.sub(r"\{\n\n+", "{\n", text); text = re.sub(r"\n\n(\s*\})", r"\n\1", text)
-    text = text.replace("ROOT::", "crate::")
-    text = re.sub(r"\.to_string\((?=\w)", ".to_string_in(", text)
-    text = re.sub(r"\.collect\((?=\w)", ".collect_in(", text)
-    text = re.sub(r"^fn main\(", "pub fn main(", text, flags=re.M)
-    if crate in INLINED: text = inlined(text)
-    head = re.match(r"(?:\s*//!.*\n)*", text).end()
-    text = text[:head] + "\n#[allow(unused_imports)]\nuse crate::rt::prelude::*;\n" + text[head:] + ("\n" + "\n".join(impls) if impls else "")
-    text = re.sub(r"\n{3,}", "\n\n", text).rstrip("\n") + "\n"
-    leftovers(text, crate)
-    return text
+PRELUDE = "#[allow(unused_imports)]\nuse crate::rt::prelude::*;"
 
-def put(to, text, check, differ, made):
-    made.add(to)
-    if check:
-        if not os.path.exists(to) or open(to).read() != text: differ.append(to)
-        return
-    os.makedirs(os.path.dirname(to), exist_ok=True)
-    if not os.path.exists(to) or open(to).read() != text: open(to, "w").write(text)
 
 def main():
-    args, root, outer, check = sys.argv[1:], "crate::proved", None, False
-    if "--check" in args: args.remove("--check"); check = True
-    for flag in ("--root", "--outer", "--below"):
-        if flag in args:
-            at = args.index(flag)
-            if flag == "--root": root = args[at + 1]
-            if flag == "--outer": outer = args[at + 1]
-            if flag == "--below": below = args[at + 1].split(",")
-            del args[at:at + 2]
-    crates, out, *names = args
-    libs = {name: root for name in names}
-    if outer:
-        for name in os.listdir(crates):
-            if name not in libs: libs[name] = outer
-    differ, bad, count = [], 0, 0
-    made = set()
-    for crate in names:
-        base = f"{crates}/{crate}/src"
-        for folder, _, files in sorted(os.walk(base)):
-            for file in sorted(files):
-                if not file.endswith(".rt"): continue
-                path = os.path.relpath(os.path.join(folder, file), base)[:-3]
-                if (crate, path) in SKIP: continue
-                HERE[0] = (crate, path)
-                try: text = erase(SOURCES(crates, crate, path), crate, libs, root, outer)
-                except Bad as why: print(f"{crate}/src/{path}.rt: {why}"); bad += 1; continue
-                if (crate, path) in LENT:
-                    text += f'\n/// By hand.\n#[path = "{LENT[crate, path]}"]\npub(crate) mod lent;\n'
-                to = f"{out}/{crate}/{'mod' if path in ('lib', 'main') else path}.rs"
-                put(to, text, check, differ, made); count += 1
-    for to in differ: print(f"differs: {to}")
-    print(f"{count} files erased, {bad} not" if not check else f"{count} files compared, {len(differ)} differ, {bad} not erased")
-    sys.exit(1 if bad or differ else 0)
+    """Runs what the command asks for."""
+    wanted = sys.argv[1:]
+    if wanted not in ([], ["--check"], ["--requires"]):
+        raise SystemExit(__doc__)
+    refuse_unknown_crates()
+    crates = read_all()
+    if wanted == ["--requires"]:
+        print_requires(crates)
+    else:
+        write_or_compare(generated(crates), is_check=wanted == ["--check"])
 
-SKIP = {("slotmap_core", "sure")}
-# What Rust wants written otherwise. Each stands once in its file.
-PATCHES = {("slotmap_secondary", "drain"): [("map.clear_from(index);", "map.clear_from(*index);")],
-    # A drop that panics would leave `len` as it was. To be changed in the source: proved, with the proof files of `clear` deleted.
-    ("slotmap_secondary", "clear"): [("slot::vacate_all(&mut self.slots);\n        self.len = 0;", "self.clear_from(0);")],
-    # The same: the slots are overwritten one by one, which drops values.
-    ("slotmap_hop", "clear"): [("if self.clear_at_once() {", "if !std::mem::needs_drop::<V>() && self.clear_at_once() {")],
-    ("slotmap_rows", "lib"): [("mod call;", "pub use ROOT::{looked, written};\nmod call;")],
-    ("slotmap", "lib"): [("pub use slotmap_json::{", '#[cfg(feature = "json")]\npub use slotmap_json::{')]}
-# Modules by hand in the erased tree, in src/lent: they see private fields.
-LENT = {("slotmap_basic", "columns"): "../../lent/basic_columns.rs", ("slotmap_basic", "lib"): "../../lent/basic.rs",
-    ("slotmap_dense", "lib"): "../../lent/dense.rs", ("slotmap_hop", "lib"): "../../lent/hop.rs",
-    ("slotmap_secondary", "lib"): "../../lent/secondary.rs", ("slotmap_slots", "slots"): "../../lent/slots.rs",
-    ("slotmap_sparse", "lib"): "../../lent/sparse.rs"}
-def SOURCES(crates, crate, path):
-    text = open(f"{crates}/{crate}/src/{path}.rt").read()
-    for old, new in PATCHES.get((crate, path), []):
-        if text.count(old) != 1: raise Bad(f"{old!r} stands {text.count(old)} times")
+
+def read_all():
+    """The files of all crates, read."""
+    known_macros, crates = {}, {}
+    for crate in (*LIBRARIES, *PROGRAMS):
+        crates[crate] = files_of(crate)
+        own = {name for file in crates[crate] for name in re.findall(r"\bmacro_rules! (\w+)", file.text)}
+        known_macros[crate] = known_macros.get("programs", set()) | own if crate in PROGRAMS else own
+        if crate in PROGRAMS:
+            known_macros["programs"] = known_macros[crate]
+        for file in crates[crate]:
+            tell_place(file, lambda: file.read(macros_of(crate, known_macros[crate])))
+    return crates
+
+
+def macros_of(crate, own):
+    """The macros that a crate may call."""
+    return closed.MACROS | own | (closed.MACROS_OF_PROGRAMS if crate in PROGRAMS else set())
+
+
+def tell_place(file, action):
+    """Does something with a file; an error ends the program with the place."""
+    try:
+        return action()
+    except Bad as why:
+        raise SystemExit(f"{file.source}:{why.line or '?'}: {why}")
+
+
+def generated(crates):
+    """All files that are generated, with their texts."""
+    found = {}
+    for crate, files in crates.items():
+        types = requires.Types(files)
+        for file in files:
+            found[file.target] = tell_place(file, lambda: head_of(file) + erased(file, types))
+    found[f"{LIBRARY_TREE}/mod.rs"] = modules_of_libraries()
+    return found
+
+
+def head_of(file):
+    """The first line of a generated file."""
+    return f"// Generated by rust/erase.py from {file.source}, SHA-256 {file.sum}: edit that.\n"
+
+
+def modules_of_libraries():
+    """The file that declares the libraries' modules."""
+    lines = ["// Generated by rust/erase.py: the proved libraries, each a module.\n"]
+    for crate, feature in LIBRARIES.items():
+        lines += [f'#[cfg(feature = "{feature}")]\n'] if feature else []
+        lines.append(f"pub mod {crate};\n")
+    return "".join(lines)
+
+
+def where_crates_are(crate):
+    """The module of each crate that a file may name."""
+    found = {name: f"crate::proved::{name}" if crate in LIBRARIES else f"slotmap_proved::proved::{name}" for name in LIBRARIES}
+    found.update({name: f"crate::programs::{name}" for name in PROGRAMS})
+    return {**found, "crate": found[crate]}
+
+
+def erased(file, types):
+    """The Rust text of a file."""
+    if (file.crate, file.path) in IN_SHIM:
+        return names_in_shim(file)
+    t, items, edits = file.tokens, file.items, Edits(file.tokens)
+    closed.refuse_unknown(t, file.macros)
+    contracts.take_contracts(t, items, edits)
+    take_attributes(t, items, edits)
+    drops.take_drops(t, items, edits)
+    paths.change_imports(t, items, edits)
+    paths.change_formatters(t, items, edits)
+    paths.change_calls(t, edits)
+    if file.crate in LIBRARIES:
+        requires.guard(file, types, edits)
+    paths.change_paths(t, where_crates_are(file.crate), edits)
+    impls = errors.impls_of_errors(t, items)
+    if file.crate in LIBRARIES:
+        sealed.seal(t, items, edits)
+        impls += sealed.seals_of_impls(t, items, edits)
+        paths.mark_inline(t, items, edits)
+    else:
+        paths.publish_main(t, items, edits)
+    return finished(file, edits.result(), impls)
+
+
+def names_in_shim(file):
+    """A file whose functions src/rt has."""
+    names = sorted(item.name for item in file.items if item.kind == "fn" and item.public)
+    return f"pub use crate::rt::{IN_SHIM[file.crate, file.path]}::{{{', '.join(names)}}};\n"
+
+
+def finished(file, text, impls):
+    """The text with its docs, its prelude, its impls and its patches."""
+    requires.HERE[0] = (file.crate, file.path)
+    text = examples(documented(text, file.crate))
+    head = re.match(r"(?:\s*//!.*\n)*", text).end()
+    text = f"{text[:head]}\n{PRELUDE}\n{text[head:]}" if head else f"{PRELUDE}\n\n{text}"
+    text = "\n".join([text.rstrip("\n") + "\n", *impls])
+    if (file.crate, file.path) in LENT:
+        up = "../" * (2 + file.path.count("/"))
+        text += f'\n/// By hand.\n#[path = "{up}lent/{LENT[file.crate, file.path]}.rs"]\npub(crate) mod lent;\n'
+    return patched(file, re.sub(r"\n{3,}", "\n\n", text))
+
+
+def patched(file, text):
+    """The text with the patches of project.py."""
+    for old, new in PATCHES.get((file.crate, file.path), []):
+        if text.count(old) != 1:
+            raise Bad(f"a patch: {old!r} stands {text.count(old)} times")
         text = text.replace(old, new)
     return text
 
-if __name__ == "__main__": main()
+
+def print_requires(crates):
+    """Prints what becomes of each premise."""
+    for crate in LIBRARIES:
+        types = requires.Types(crates[crate])
+        for file in crates[crate]:
+            if (file.crate, file.path) in IN_SHIM:
+                continue
+            for _, premises in tell_place(file, lambda: requires.handled(file, types)):
+                for premise in premises:
+                    print(f"{premise.call}\n    {premise.term}\n    {premise.way}: {premise.said}")
+
+
+def present():
+    """The files that are there."""
+    found = set()
+    for tree in (LIBRARY_TREE, PROGRAM_TREE):
+        for folder, _, names in os.walk(os.path.join(TOP, tree)):
+            found |= {os.path.relpath(os.path.join(folder, name), TOP) for name in names}
+    return found
+
+
+def content(name):
+    """What a file holds, or nothing if it is missing."""
+    try:
+        with open(os.path.join(TOP, name), encoding="utf-8") as file:
+            return file.read()
+    except FileNotFoundError:
+        return None
+
+
+def write_or_compare(texts, is_check):
+    """Writes the files that differ, or tells them."""
+    differ = sorted(name for name, text in texts.items() if content(name) != text)
+    extra = sorted(present() - set(texts))
+    if is_check:
+        for name in differ:
+            print(f"{name}: differs from its source, or is missing: run python3 rust/erase.py")
+        for name in extra:
+            print(f"{name}: shouldn't be there")
+        print(f"{len(texts)} files compared, {len(differ) + len(extra)} differ")
+        raise SystemExit(1 if differ or extra else 0)
+    for name in differ:
+        path = os.path.join(TOP, name)
+        os.makedirs(os.path.dirname(path), exist_ok=True)
+        with open(path, "w", encoding="utf-8") as file:
+            file.write(texts[name])
+    for name in extra:
+        os.remove(os.path.join(TOP, name))
+    print(f"{len(texts)} files, {len(differ)} written, {len(extra)} removed")
+
+
+if __name__ == "__main__":
+    main()

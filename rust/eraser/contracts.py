@@ -1,51 +1,79 @@
-"""Clauses and ghost items."""
-from .tokens import *
+"""Takes out clauses and ghost items. The clauses of a documented function go on as marks, for its rustdoc."""
+from .items import signature_clauses
+from .tokens import Bad, after_space, before_space
 
-CLAUSES = ("ensures", "requires", "decreases")
-# Words of Rattle that no Rust source of ours has: one left over is an error.
-FOREIGN = {"ghost", "ensures", "requires", "decreases", "invariant", "tactic", "prove", "lemma", "law", "Model", "pinned", "by"}
-MAY_NAME = {"by"}  # a field of slotmap_paths
+# A clause in the erased text, until documents.py has read it: BEGIN, the clause with BREAK for a line break, END.
+BEGIN, END, BREAK = "\x01", "\x02", "\x03"
 
-def take_ghost(t):
-    """Contracts and ghost items out; per clause a mark token that holds its text, for the docs."""
-    out, at = [], 0
-    while at < len(t):
-        kind, word = t[at]
-        if kind == "word" and word == "ghost":
-            if out and out[-1] == ("space", " ") and len(out) > 1 and out[-2] == ("word", "pub"): out.pop(); out.pop()
-            end, depth = at, 0
-            while True:
-                if end >= len(t): raise Bad("a ghost item has no end")
-                k, w = t[end]
-                if k == "mark" and w == "{": end = skip_clause(t, end); continue
-                if k == "mark" and w in ";,": end += 1; break
-                if k == "mark" and w in CLOSE: break
-                if k == "word" and w in ("fn", "let", "struct", "impl"): raise Bad(f"ghost {w}")
-                end += 1
-            trim_line(out); at = end; continue
-        if kind == "word" and word in CLAUSES:
-            if word == "loop": raise Bad("loop")
-            end = at + 1
-            star = t[end] == ("mark", "*")
-            if star: end += 1
-            end = after_space(t, end); name = ""
-            if t[end][0] == "word": name = t[end][1]; end = after_space(t, end + 1)
-            if t[end] != ("mark", "{"): raise Bad(f"{word} {name}: no brace, but {t[end][1]}")
-            close = skip_clause(t, end)
-            # Comments right before a clause go with it.
-            said = []
-            while len(out) > 1 and out[-1][0] == "space" and out[-2][0] == "comment":
-                said.insert(0, out[-2][1]); out.pop(); out.pop()
-            out += [("clause", line) for line in said]
-            if said and out[-len(said) - 1][0] == "space": pass
-            while len(out) > len(said) and out[-len(said) - 1][0] == "space": del out[-len(said) - 1]
-            trim_line(out)
-            out.append(("clause", f"{word}{'*' if star else ''} {name}{' ' if name else ''}{text_of(t[end:close])}"))
-            at = close; continue
-        out.append(t[at]); at += 1
-    return out
 
-def leftovers(text, where):
-    for kind, word in tokens(text):
-        if kind == "word" and word in FOREIGN - MAY_NAME: raise Bad(f"{word} is left over")
-        if kind in ("word", "mark") and ord(word[0]) > 127: raise Bad(f"{word} is left over")
+def take_contracts(t, items, edits):
+    """Takes all contracts out of a file."""
+    for at, token in enumerate(t):
+        if token[0] == "ghost":
+            take_ghost(t, at, edits)
+    in_signatures = set()
+    for item in items:
+        if item.clauses:
+            in_signatures.update(item.clauses)
+            take_clauses(t, item, edits)
+    for at, token in enumerate(t):
+        if token[0] == "clause" and at not in in_signatures:
+            take_clause_of_closure(t, at, edits)
+
+
+def take_ghost(t, at, edits):
+    """Takes a ghost item out, with its `pub` if it has one."""
+    before = before_space(t, at)
+    start = before if before >= 0 and t[before] == ("word", "pub") else at
+    edits.drop_line(start, at + 1)
+
+
+def take_clauses(t, item, edits):
+    """Takes a function's clauses out of its signature, and puts them behind it as marks."""
+    said = signature_clauses(t, item)
+    last = before_space(t, said[0])
+    while t[last][0] == "clause":
+        last = before_space(t, last)
+    edits.drop(last + 1, item.header_end)
+    edits.put_after(last, "".join(mark_of(t[at]) for at in said))
+    if t[item.header_end] == ("mark", "{"):
+        edits.put_before(item.header_end, space_before_body(t, item))
+
+
+def mark_of(token):
+    """A clause, or a comment between clauses, as a mark."""
+    return BEGIN + token[1].replace("\n", BREAK) + END
+
+
+def space_before_body(t, item):
+    """What stands before the brace of a body: a line break below a `where`, as rustfmt has it."""
+    if any(token == ("word", "where") for token in t[item.at:item.header_end]):
+        return "\n" + indentation(t, item.whole)
+    return " "
+
+
+def indentation(t, at):
+    """The white space that a line begins with in which a token stands first."""
+    return t[at - 1][1].rpartition("\n")[2] if at and t[at - 1][0] == "space" else ""
+
+
+def take_clause_of_closure(t, at, edits):
+    """Takes a closure's clause out. A clause that belongs to no closure either is unknown."""
+    place = before_space(t, at)
+    while t[place][0] == "clause":
+        place = before_space(t, place)
+    after = after_space(t, at + 1)
+    is_followed = t[after][0] == "clause" or t[after] == ("mark", "{")
+    if not is_followed or not ends_closure_header(t, place):
+        raise Bad(f"{t[at][1].split()[0]} stands in no signature", t[at].line)
+    edits.drop_line(at, at + 1)
+    if t[after] == ("mark", "{"):
+        edits.drop_line(after, after)
+        edits.put_before(after, " ")
+
+
+def ends_closure_header(t, place):
+    """Whether a closure's parameters, or the type of its result, end here."""
+    while place >= 0 and (t[place][0] in ("word", "space", "lifetime") or t[place][1] in ("::", "<", ">", "&", "(", ")", ",", "[", "]", "->")):
+        place -= 1
+    return place >= 0 and t[place] == ("mark", "|")

@@ -1,133 +1,194 @@
-"""Attributes, models, drops by hand, errors and bounds."""
-import re
-from .tokens import *
+"""The items of a source: functions, impls, traits, types and the rest, each with its attributes. What else stands there is an error."""
+from .tokens import Bad, after_space, before_space, is_blank, matching, plain
 
-def items(t):
-    """Attributes, `impl Model`, `Drop` by hand, and the impls of errors."""
-    out, at, made = [], 0, []
-    derives, errors = [], None
-    while at < len(t):
-        kind, word = t[at]
-        if kind == "mark" and word == "#":
-            start = at + 1 + (t[at + 1][1] == "!")
-            if t[start] != ("mark", "["): raise Bad("# without [")
-            end = matching(t, start); name = t[start + 1][1]
-            inside = text_of(t[start + 1:end - 1])
-            if name in ("tactic", "error", "error_bound", "from"):
-                if name == "tactic" and out and out[-1][0] == "space": trim_line(out)
-                else:
-                    if out and out[-1][0] == "space": out.pop(); out.append(("space", ""))
-                if name == "error": out.append(("error", inside[inside.index("(") + 1:-1].strip()))
-                if name == "error_bound": out.append(("bound", inside[inside.index("(") + 1:-1].strip()))
-                if name == "from": raise Bad("#[from]")
-                at = end; continue
-            if name == "derive":
-                kept = [d for d in re.findall(r"\w+", inside)[1:] if d not in ("Drop",)]
-                if "Error" in kept: kept.remove("Error"); out.append(("is_error", ""))
-                if "Debug" in kept:
-                    # A Debug with no bound where the type has parameters of types: unwrap asks for it.
-                    header = text_of([x for x in t[end:end + 60] if x[0] not in ("comment", "string", "clause")])
-                    if re.match(r"[^{;]*?\b(enum|struct) \w+<[A-Z]", header): kept.remove("Debug"); out.append(("debug", ""))
-                if not kept:
-                    if out[-1][0] == "space": trim_line(out)
-                    at = end; continue
-                out.append(("attr", f"#[derive({', '.join(kept)})]")); at = end; continue
-            if name not in ("inline", "cfg", "cold", "test", "macro_export", "repr", "allow"): raise Bad(f"#[{name}]")
-            out += t[at:end]; at = end; continue
-        if kind == "word" and word == "impl" and (not out or out[-1][0] != "space" or out[-1][1].endswith("\n")):
-            brace = at
-            while t[brace] != ("mark", "{"): brace += 1
-            words = [w for k, w in t[at:brace] if k == "word"]
-            header = re.sub(r"\s+", " ", text_of(t[at:brace]))
-            end = matching(t, brace)
-            if re.search(r"\bModel for\b", header):
-                trim_line(out); at = end; continue
-            if re.search(r"\bDrop for\b", header):
-                body = re.sub(r"\s+", " ", text_of([x for x in t[brace + 1:end - 1] if x[0] not in ("comment", "clause")])).strip()
-                if re.fullmatch(r"(#\[inline\(always\)\] )?fn drop\(self\) ?\{ let \w+ \{[^}]*\} = self; \}", body): trim_line(out); at = end; continue
-                if not re.match(r"(#\[inline\(always\)\] )?fn drop\(self\)", body): raise Bad(f"impl Drop: {body}")
-                out.append(("hand_drop", "")); 
-                for i in range(brace, end):
-                    if t[i] == ("word", "drop") and t[i + 1] == ("mark", "("): t[i + 2] = ("word", "&mut self"); break
-        out.append(t[at]); at += 1
-    return out
+VISIBILITY_PLACES = ("crate", "super")
+# Items that end at a semicolon, items whose braces hold items, and types, which end at either.
+FLAT = ("use", "const", "type")
+HOLDERS = ("impl", "trait", "mod")
+TYPES = ("struct", "enum")
 
-def in_trait_header(out):
-    for kind, word in reversed(out):
-        if kind == "mark" and word in "{};": return False
-        if (kind, word) == ("word", "trait"): return True
-    return False
 
-def drop_bounds(t):
-    out, at = [], 0
-    real = [i for i, x in enumerate(t)]
-    while at < len(t):
-        if t[at] == ("word", "Drop"):
-            before = len(out) - 1
-            while before >= 0 and out[before][0] == "space": before -= 1
-            after = after_space(t, at + 1)
-            if out[before] == ("mark", "+") and in_trait_header(out): out.append(("word", "Sized")); at += 1; continue
-            if out[before] == ("mark", "+"): del out[before - (out[before - 1][0] == "space"):]; at += 1; continue
-            if t[after] == ("mark", "+"): at = after_space(t, after + 1); continue
-            if out[before] == ("mark", ":"): out.append(("word", "Sized")); at += 1; continue
-            if text_of(t[at:at + 3]) == "Drop for": out.append(t[at]); at += 1; continue
-            raise Bad("Drop stands in no bound")
-        out.append(t[at]); at += 1
-    return out
+class Item:
+    """An item: where its parts stand in the tokens, and in what item it stands."""
 
-def error_impls(t):
-    """Display and Error of the types that derive Error, from their messages."""
-    out, impls, at = [], [], 0
-    is_error, bound, message = False, None, None
-    while at < len(t):
-        kind, word = t[at]
-        if kind == "is_error": is_error = True; at += 1; continue
-        if kind == "debug":
-            m = re.search(r"(?:enum|struct) (\w+)<([^>]*)>", text_of([x for x in t[at:at + 40] if x[0] not in ("error", "bound", "comment", "clause")]))
-            args = m[2]; names = ", ".join(re.findall(r"(?:^|, )('?\w+)", args))
-            impls.append(f"impl<{args}> std::fmt::Debug for {m[1]}<{names}> {{\n    fn fmt(&self, f: &mut std::fmt::Formatter<'_>) -> std::fmt::Result {{\n        f.write_str(\"{m[1]}\")\n    }}\n}}\n")
-            at += 1; continue
-        if kind == "bound": bound = word; at += 1; continue
-        if kind == "error" and not (is_error and word): raise Bad("#[error]")
-        if kind == "error": message = word; at += 1; continue
-        if kind == "word" and word in ("enum", "struct") and is_error:
-            m = re.match(r"(enum|struct) (\w+)(<([^>]*)>)?", text_of(t[at:at + 30]))
-            args, names = m[4] or "", m[3] or ""
-            shown = f"<{bound}>" if bound else (f"<{args}>" if args else "")
-            if word == "struct":
-                body = f"f.write_str({message})"
-                if "{" in message: raise Bad("a struct's message with a value")
-                end = at
-            else:
-                brace = at
-                while t[brace] != ("mark", "{"): brace += 1
-                end = matching(t, brace)
-                arms, i, message = [], brace + 1, None
-                kept = t[at:brace + 1]
-                while i < end - 1:
-                    if t[i][0] == "error": message = t[i][1]; i += 1; continue
-                    if t[i][0] == "word":
-                        variant = t[i][1]; kept.append(t[i]); i += 1; shape = ""
-                        if t[i][1] in OPEN:
-                            e = matching(t, i); shape = t[i][1]; kept += t[i:e]; fields = text_of(t[i:e]); i = e
-                        if message is None: raise Bad(f"{variant} has no message")
-                        used = re.findall(r"\{(\w+)[^}]*\}", message)
-                        if shape == "(":
-                            count = len([p for p in fields.strip("() ,").split(",")])
-                            binds = ", ".join(f"_{n}" if str(n) in used else "_" for n in range(count))
-                            arms.append((f"{m[2]}::{variant}({binds})", re.sub(r"\{(\d)", r"{_\1", message)))
-                        elif shape == "{": arms.append((f"{m[2]}::{variant} {{ {', '.join(used + ['..'])} }}", message))
-                        else: arms.append((f"{m[2]}::{variant}", message))
-                        message = None; continue
-                    kept.append(t[i]); i += 1
-                kept.append(t[end - 1])
-                body = "match self {\n" + "".join(f"            {a} => write!(f, {s}),\n" for a, s in arms) + "        }"
-                out += kept
-            impls.append(f"impl{shown} std::fmt::Display for {m[2]}{names} {{\n    fn fmt(&self, f: &mut std::fmt::Formatter<'_>) -> std::fmt::Result {{\n        {body}\n    }}\n}}\n")
-            impls.append(f"impl{shown} std::error::Error for {m[2]}{names} {{}}\n")
-            is_error, bound, message = False, None, None
-            if word == "struct": out.append(t[at]); at += 1
-            else: at = end
-            continue
-        out.append(t[at]); at += 1
-    return out, impls
+    def __init__(self, kind, owner, attributes, start, at):
+        self.kind, self.owner, self.attributes = kind, owner, attributes
+        self.start = start  # the first token behind the attributes
+        self.at = at  # the token of its kind
+        self.name = ""
+        self.header_end = None  # the place of `{` or `;`
+        self.end = None  # the place behind it
+        self.public = False
+        self.restricted = False  # pub(crate) or pub(super)
+        self.ghosts = []  # the places of its ghost items
+        self.clauses = []  # the places of its clauses
+
+    @property
+    def whole(self):
+        """The first token, attributes included."""
+        return self.attributes[0].start if self.attributes else self.start
+
+    @property
+    def has_body(self):
+        """Whether braces follow the header."""
+        return self.end - self.header_end > 1
+
+    def header(self, t):
+        """The text of the header."""
+        return plain(t[self.start:self.header_end])
+
+
+class Attribute:
+    """An attribute: its name, what its brackets hold, and its place."""
+
+    def __init__(self, t, at):
+        self.start = at
+        opened = after_space(t, at + 1)
+        if t[opened] != ("mark", "["):
+            raise Bad("# without [", t[at].line)
+        self.end = matching(t, opened)
+        self.inside = plain(t[opened + 1:self.end - 1])
+        self.name = t[after_space(t, opened + 1)][1]
+        self.argument = self.inside[len(self.name):].strip().removeprefix("(").removesuffix(")").strip()
+        self.line = t[at].line
+
+
+class Reader:
+    """Reads the items of a file."""
+
+    def __init__(self, t, macros):
+        self.t, self.macros = t, macros
+        self.items = []
+        self.file_attributes = []
+
+    def read(self):
+        """All items, each after the one that holds it."""
+        at = after_space(self.t, 0)
+        while self.word(at) == "#" and self.word(at + 1) == "!":
+            attribute = Attribute(self.t, at + 1)
+            attribute.start = at
+            self.file_attributes.append(attribute)
+            at = after_space(self.t, attribute.end)
+        self.read_between(at, len(self.t), None)
+        return self.items
+
+    def word(self, at):
+        """The text of a token, or nothing past the end."""
+        return self.t[at][1] if at < len(self.t) else ""
+
+    def read_between(self, at, end, owner):
+        """The items between two places."""
+        at = after_space(self.t, at)
+        while at < end:
+            at = after_space(self.t, self.read_one(at, owner))
+
+    def read_one(self, at, owner):
+        """One item; returns the place behind it."""
+        attributes = []
+        while self.t[at] == ("mark", "#"):
+            attributes.append(Attribute(self.t, at))
+            at = after_space(self.t, attributes[-1].end)
+        if self.is_ghost(at):
+            return self.read_ghost(at, owner, attributes)
+        if self.word(at) in self.macros and self.word(at) != "macro_rules" and self.word(at + 1) == "!":
+            return self.read_macro_call(at)
+        item = Item("", owner, attributes, at, at)
+        item.at = self.read_visibility(item)
+        if self.word(item.at) == "const" and self.word(after_space(self.t, item.at + 1)) == "fn":
+            item.at = after_space(self.t, item.at + 1)
+        item.kind = self.word(item.at)
+        self.read_parts(item)
+        return item.end
+
+    def is_ghost(self, at):
+        """Whether a ghost item stands here, public or not."""
+        return self.t[at][0] == "ghost" or self.word(at) == "pub" and self.t[after_space(self.t, at + 1)][0] == "ghost"
+
+    def read_ghost(self, at, owner, attributes):
+        """A ghost item belongs to the item that it stands in."""
+        if attributes:
+            raise Bad("an attribute of a ghost item", self.t[at].line)
+        place = at if self.t[at][0] == "ghost" else after_space(self.t, at + 1)
+        if owner:
+            owner.ghosts.append(place)
+        return place + 1
+
+    def read_visibility(self, item):
+        """Reads `pub`, if it is there; returns the place behind it."""
+        at = item.start
+        if self.word(at) != "pub":
+            return at
+        if self.word(at + 1) != "(":
+            item.public = True
+            return after_space(self.t, at + 1)
+        if self.word(at + 2) not in VISIBILITY_PLACES or self.word(at + 3) != ")":
+            raise Bad(f"pub({self.word(at + 2)}", self.t[at].line)
+        item.restricted = True
+        return after_space(self.t, at + 4)
+
+    def read_parts(self, item):
+        """Reads an item from its kind on."""
+        kind, line = item.kind, self.t[item.start].line
+        if kind == "macro_rules" and kind in self.macros:
+            item.header_end = self.find(item.at, "{")
+        elif kind in FLAT:
+            item.header_end = self.find_end(item.at)
+        elif kind in HOLDERS or kind in TYPES or kind == "fn":
+            item.header_end = self.find(item.at, "{", ";")
+        else:
+            raise Bad(f"{kind} begins no item that the eraser knows", line)
+        item.name = "" if kind == "impl" else self.word(after_space(self.t, item.at + 1 + (kind == "macro_rules")))
+        braced = self.word(item.header_end) == "{"
+        item.end = matching(self.t, item.header_end) if braced else item.header_end + 1
+        item.clauses = [at for at in range(item.start, item.header_end) if self.t[at][0] == "clause"]
+        if item.clauses and kind != "fn":
+            raise Bad(f"a clause of {kind} {item.name}", line)
+        self.items.append(item)
+        if braced and kind in HOLDERS:
+            self.read_between(item.header_end + 1, item.end - 1, item)
+        elif braced and kind == "struct":
+            self.read_fields(item)
+
+    def read_fields(self, item):
+        """The ghost fields of a type: what they say must hold of it, so no other field may be public."""
+        inside = range(item.header_end + 1, item.end - 1)
+        item.ghosts = [at for at in inside if self.t[at][0] == "ghost"]
+        ghosts_named = [before_space(self.t, at) for at in item.ghosts]
+        public = [at for at in inside if self.t[at] == ("word", "pub") and at not in ghosts_named]
+        if item.ghosts and public:
+            raise Bad(f"{item.name} has a ghost field beside a public one, which anyone may write", self.t[item.start].line)
+
+    def read_macro_call(self, at):
+        """A macro that writes impls."""
+        opened = after_space(self.t, at + 2)
+        end = matching(self.t, opened)
+        return end + 1 if self.word(end) == ";" else end
+
+    def find(self, at, *marks):
+        """The next of some marks that stands in no bracket."""
+        while at < len(self.t):
+            if self.t[at][0] == "mark" and self.t[at][1] in marks:
+                return at
+            at = matching(self.t, at) if self.t[at] in (("mark", "("), ("mark", "[")) else at + 1
+        raise Bad("an item has no end")
+
+    def find_end(self, at):
+        """The next semicolon that stands in no bracket."""
+        while at < len(self.t) and self.t[at] != ("mark", ";"):
+            at = matching(self.t, at) if self.t[at][0] == "mark" and self.t[at][1] in "([{" else at + 1
+        if at == len(self.t):
+            raise Bad("an item has no semicolon")
+        return at
+
+
+def signature_clauses(t, item):
+    """The clauses of a function in their order, each after the comments that stand before it."""
+    found = []
+    for at in item.clauses:
+        said, place = [], at - 1
+        while place > item.at and (is_blank(t[place])):
+            if t[place][0] == "comment":
+                said.insert(0, place)
+            place -= 1
+        found += said + [at]
+    return found

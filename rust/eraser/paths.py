@@ -1,55 +1,99 @@
-"""Paths, formatters and what is inlined."""
+"""Paths, calls that take an allocator, formatters, and functions that rustc may copy into another crate's code."""
 import re
-from .requires import PUBLIC
-from .tokens import *
 
-def paths(t, crate, libs, root, outer):
-    out, at = [], 0
-    here = f"{root}::{crate}"
-    def names(i): return t[i + 1:i + 2] == [("mark", "::")]
-    prev = None
-    while at < len(t):
-        kind, word = t[at]
-        dollar = prev == ("mark", "$")
-        pathlike = prev != ("mark", "::")
-        if kind == "word" and word == "crate" and names(at) : out.append(("word", here[7:] if False else (here.replace("crate::", "crate::", 1)))) 
-        elif kind == "word" and word == "crate" and out and out[-1] == ("mark", "(") and out[-2:-1] == [("word", "pub")]: out.append(("word", f"in {here}"))
-        elif kind == "word" and word in libs and names(at) and pathlike: out.append(("word", f"{libs[word]}::{word}"))
-        elif kind == "word" and word == "std" and names(at) and pathlike: out.append(("word", "crate::rt::std"))
-        elif kind == "word" and word == "serde_json" and names(at) and pathlike: out.append(("word", "crate::rt::serde_json"))
-        elif kind == "word" and word == "serde" and names(at) and pathlike: out.append(("word", "crate::rt::serde"))
-        elif kind == "word" and word == "super" and False: pass
-        else: out.append((kind, word))
-        if kind not in ("space", "comment"): prev = (kind, word)
-        at += 1
-    return out
+from .tokens import Bad, after_space, before_space, matching, plain
 
-def fmt_calls(text):
-    text = re.sub(r"<W: fmt::Write>(?=\(&self, \w+: &mut fmt::Formatter<W>\))", "", text)
-    if "fmt::Formatter<W>" in text: text = re.sub(r"<W: fmt::Write>|, W: fmt::Write\b|\bW: fmt::Write, ", "", text)
-    text = text.replace("fmt::Formatter<W>", "fmt::Formatter<'_>")
-    text = re.sub(r"use crate::rt::std::marker::\{Model, PhantomData\};", "use crate::rt::std::marker::PhantomData;", text)
-    text = re.sub(r"use crate::rt::std::marker::Model;\n", "", text).replace("use thiserror::Error;\n", "")
-    return text
+# What stands for Rattle's std, and for the crates that come with Rattle, is in src/rt.
+OF_RATTLE = ("std", "serde", "serde_json")
+# Methods that are passed the allocator in Rattle: their names in src/rt.
+PASSED_ALLOCATOR = {"collect": "collect_in", "to_string": "to_string_in"}
 
-# Rattle's compiler sees the whole program; rustc asks to be told what may be copied into another crate's code.
-INLINED = PUBLIC | {"slotmap_slots", "slotmap_core", "slotmap_bounded", "slotmap_links"}
-def inlined(text):
-    lines, out = text.split("\n"), []
-    for line in lines:
-        m = re.match(r"(\s*)(?:pub(?:\([^)]*\))? )?fn (?!main\b)\w+", line)
-        if m and not line.rstrip().endswith(";"):
-            back = len(out)
-            while back > 0 and re.match(r"\s*#\[", out[back - 1]): back -= 1
-            attributes = " ".join(out[back:])
-            if "inline" not in attributes and "cold" not in attributes and "test" not in attributes: out.append(f"{m[1]}#[inline]")
-        out.append(line)
-    # A method of a trait that only says what others write has no body to be inlined.
-    kept = []
-    for at, line in enumerate(out):
-        if line.strip() == "#[inline]":
-            end = at + 1
-            while end < len(out) and not re.search(r"[{;]\s*$", out[end]): end += 1
-            if end < len(out) and out[end].rstrip().endswith(";"): continue
-        kept.append(line)
-    return "\n".join(kept)
+
+def change_paths(t, where, edits):
+    """Paths lead to where the crates are now: `where` has the module of each, and that of the file's own crate under `crate`."""
+    for at, (kind, word) in enumerate(t):
+        if kind != "word":
+            continue
+        if word == "crate" and t[at - 1] == ("mark", "(") and t[at - 2] == ("word", "pub"):
+            edits.put(at, f"in {where['crate']}")
+        elif t[at + 1:at + 2] != [("mark", "::")] or t[at - 1] == ("mark", "::"):
+            continue
+        elif word in OF_RATTLE:
+            edits.put(at, f"crate::rt::{word}")
+        elif word in where:
+            edits.put(at, where[word])
+
+
+def change_calls(t, edits):
+    """Calls that are passed the allocator."""
+    for at in range(1, len(t) - 2):
+        if t[at - 1] == ("mark", ".") and t[at][1] in PASSED_ALLOCATOR and t[at + 1] == ("mark", "("):
+            if t[after_space(t, at + 2)] == ("mark", ")"):
+                raise Bad(f"{t[at][1]} without an allocator", t[at].line)
+            edits.put(at, PASSED_ALLOCATOR[t[at][1]])
+
+
+def change_formatters(t, items, edits):
+    """Rattle's `fmt` has a parameter for what it writes to; Rust's has none."""
+    for at in range(len(t) - 3):
+        if t[at] == ("word", "Formatter") and plain(t[at + 1:at + 4]) == "<W>":
+            edits.put(at + 2, "'_")
+    for item in items:
+        if item.kind == "fn" and "fmt::Formatter<W>" in item.header(t):
+            take_writer(t, item, edits)
+
+
+def take_writer(t, item, edits):
+    """Takes `W: fmt::Write` out of a function's parameters."""
+    opened = after_space(t, after_space(t, item.at + 1) + 1)
+    if t[opened] != ("mark", "<"):
+        raise Bad("a formatter of an unknown W", t[item.start].line)
+    for at in range(opened, item.header_end):
+        if plain(t[at:at + 6]) == "W: fmt::Write" and t[at + 5] == ("word", "Write"):
+            take_parameter(t, at, at + 6, edits)
+            return
+    raise Bad("a formatter of an unknown W", t[item.start].line)
+
+
+def take_parameter(t, start, end, edits):
+    """Takes one parameter out of angle brackets, and these if nothing is left in them."""
+    before, after = before_space(t, start), after_space(t, end)
+    if t[before] == ("mark", "<") and t[after] == ("mark", ">"):
+        edits.drop(before, after + 1)
+    elif t[before] == ("mark", ","):
+        edits.drop(before, end)
+    else:
+        edits.drop(start, after_space(t, after + 1))
+
+
+def change_imports(t, items, edits):
+    """Takes imports of what only Rattle has out of a file."""
+    for item in items:
+        if item.kind != "use":
+            continue
+        text = item.header(t)
+        if text in ("use std::marker::Model", "use thiserror::Error"):
+            edits.drop_line(item.whole, item.end)
+        elif re.search(r"\bModel\b|\bthiserror\b", text):
+            if text != "use std::marker::{Model, PhantomData}":
+                raise Bad(text, t[item.start].line)
+            for at in range(item.at, item.end):
+                if t[at][1] in ("{", "Model", ",", "}") or t[at - 1] == ("mark", ","):
+                    edits.drop(at, at + 1)
+
+
+def mark_inline(t, items, edits):
+    """Rattle's compiler sees the whole program; rustc asks to be told what may be copied into another crate's code."""
+    for item in items:
+        names = {it.name for it in item.attributes}
+        if item.kind == "fn" and item.has_body and not names & {"inline", "cold"}:
+            start = item.start - 1
+            space = t[start][1].rpartition("\n")[2] if start >= 0 and t[start][0] == "space" else ""
+            edits.put_before(item.start, f"#[inline]\n{space}")
+
+
+def publish_main(t, items, edits):
+    """A program's `main` is called by the one that runs it."""
+    for item in items:
+        if item.kind == "fn" and item.name == "main" and not item.owner and not item.public:
+            edits.put_before(item.start, "pub ")

@@ -1,22 +1,190 @@
-"""What becomes of a `requires`."""
-import re
-from .tokens import *
+"""What becomes of a `requires`. Rattle proves it of each caller; in Rust nobody does.
 
-# What a `requires` of a public call becomes: nobody proves it in Rust, so it is tested.
-TESTED = [(r"IsLive self\.\w+(\.content)? \(K\.data_of key\)", 'assert!(self.contains_key(key), "the key is not live");'),
-    (r"CanReplace value_of self\.\w+ \(map_list K\.data_of keys\)", 'assert!(self.can_replace(&keys), "the keys are live and differ");'),
-    (r"contains_key self\.\w+\.pairs \(K\.data_of key\) ≡ true", 'assert!(self.contains_key(key), "the key is not in the map");')]
-PUBLIC = {"slotmap_basic", "slotmap_dense", "slotmap_hop", "slotmap_secondary", "slotmap_sparse"}
-STRUCTURES = {"slotmap_list", "slotmap_lists", "slotmap_graph", "slotmap_paths", "slotmap_scene", "slotmap_entities", "slotmap_scheduler", "slotmap_run", "slotmap_json"}
-# What Rust's callers can't break: closures return or panic, iterators end, and only the map's own `entry` makes entries.
-INTERNAL = {("slotmap_scene", "family"), ("slotmap_scene", "tree")}  # calls of a type that the crate keeps to itself
+So each one of a call that users can reach is in a table here: it is tested where the call begins (TESTED), or the call is
+kept to the crate (KEPT), or no Rust program can break it (HELD). Any other one is an error. The premises of a trait of
+Rattle's std that stand in an impl as ghost members, such as `can_index`, are in the tables too.
+
+    python3 rust/erase.py --requires
+
+prints each call with what becomes of its premises.
+"""
+import re
+
+from .contracts import indentation
+from .sealed import BELOW_SEALED, SEALED
+from .tokens import Bad
+
+# Crates, and files of them, that are never exported: what they have `pub` with a premise is kept to the crate.
+NEVER_EXPORTED = {"slotmap_slots", "slotmap_links", "slotmap_bounded"}
+# A call of an exported crate that is for the maps alone.
+KEPT = {("slotmap_core", "KeyData", "exact")}
+# A value of such a crate may be lent to users, and its methods with it; a function has no other way out than its module.
+KEPT_METHOD, KEPT_FUNCTION = "pub(crate)", "its module is private"
+
+NOT_LIVE = "the key is not live"
+NO_VALUE = "the map holds no value under the key"
+KEY = r"\(K\.data_of key\)"
+# (crates, premise, test, reason): the test is the first statement of the body, and panics with the reason.
+TESTED = [
+    ("slotmap_basic slotmap_dense slotmap_hop", rf"IsLive self\.(?:now|old)(?:\.content)? {KEY}", "self.contains_key(key)", NOT_LIVE),
+    ("slotmap_basic slotmap_dense slotmap_hop", rf"λ m key\. IsLive m(?:\.content)? {KEY}", "self.contains_key(key)", NOT_LIVE),
+    ("slotmap_secondary slotmap_sparse", rf"contains_key self\.(?:now|old)\.pairs {KEY} ≡ true", "self.contains_key(key)", NO_VALUE),
+    ("slotmap_secondary slotmap_sparse", rf"λ m key\. contains_key m\.pairs {KEY} ≡ true", "self.contains_key(key)", NO_VALUE),
+    ("slotmap_dense", r"CanReplace value_of self\.old \(map_list K\.data_of keys\)", "self.can_replace(&keys)", "a key is not live, or two keys are equal"),
+    ("slotmap_list", r"λ list cursor\. is_some \(value_of \(K\.data_of cursor\) list\.elements\) ≡ true", "self.contains(cursor)", "the cursor is not in the list"),
+    ("slotmap_lists", r"λ lists cursor\. is_some \(value_under \(K\.data_of cursor\) lists\.lists\) ≡ true", "self.contains(cursor)", "the cursor is in no list"),
+    ("slotmap_graph", r"λ graph node\. IsLive graph\.nodes \(K\.data_of node\)", "self.contains_node(node)", "the node is not in the graph"),
+    ("slotmap_scene", r"λ scene node\. has_node scene\.nodes\.live \(K\.data_of node\)", "self.contains_key(node)", "the node is not in the scene"),
+    ("slotmap_entities", rf"λ world key\. IsLive world\.entities\.content {KEY}", "self.contains_key(key)", "the entity is not in the world"),
+    ("slotmap_scheduler", r"λ s handle\. is_some \(job_of \(K\.data_of handle\) s\.waiting\) ≡ true", "self.contains(handle)", "no job waits under the handle"),
+]
+
+RETURNS = "A closure of Rust may be called with any argument of its type: it returns, or it panics."
+ENDS = ("An iterator of Rust may be asked for the next item at any time. One that doesn't end doesn't let the call end, or fills the map; "
+        "all items so far are then where the call's `ensures` has them.")
+IN_PLACE = "Only `entry` of the map makes an entry, its fields are private, and it borrows the map: so it is in its place until it is used up."
+STEPS = "Only the map makes such an iterator, its fields are private, and each step leaves it so that it can make the next."
+# (premise, why no Rust program can break it)
+HELD = [
+    (r"[A-Z]\.pre f(?: self\.0| \(\w+ self\))?", RETURNS),
+    (r"used (self\.old(?:\.content)?|\(content self\.old\)) < most → \(key : K\) → K\.data_of key ≡ (?:self\.old(?:\.content)?|\(content self\.old\))\.offer → F\.pre f key", RETURNS),
+    (r"CallableOnEach F\.FnMut K\.data_of f (?:self\.old(?:\.content)?\.live|\(content self\.old\)\.live|\(keyed [^→≡<]*\))", RETURNS),
+    (r"CallableInOrder F\.FnMut K\.data_of f self\.old\.elements", RETURNS),
+    (r"CallableOnJobs F\.FnMut K\.data_of f self\.old\.waiting", RETURNS),
+    (r"CallableUp F\.FnMut self\.now\.nodes\.live \(K\.data_of node\) f start", RETURNS),
+    (r"[A-Z]\.IsAlwaysCallable \w+(?:\.now)?", RETURNS),
+    (r"\(shown : MutBor V\) → (?:side|sparse)_entry_value K\.data_of self ≡ Some shown\.now → F\.pre f shown", RETURNS),
+    (r"(?:side|sparse)_entry_value K\.data_of self ≡ None → F\.pre f", RETURNS),
+    (r"\(it : I\.IntoIter\) → I\.into_iter_gives iter it → I\.IntoIter\.can_next it × IsFinite \(I\.IntoIter\.remaining it\)", ENDS),
+    (r"(?:IsSideInPlace|IsSparseInPlace) K\.data_of (?:self|\((?:Vacant|Occupied) self(?:\.now|\.old)?\))", IN_PLACE),
+    (r"DrainCanStep|SideDrainCanStep|IterMutCanStep|HopDrainCanStep K\.data_of", STEPS),
+]
+TERM = re.compile(r"^(?:requires\*? ?\w* ?|[^{]*?[:=] *)\{(.*)\}[;,]?$", re.S)
+
+
+class Premise:
+    """One premise of a call: where it stands, and what becomes of it."""
+
+    def __init__(self, token, call):
+        self.line, self.call = token.line, call
+        self.term = re.sub(r"\s+", " ", TERM.match(token[1])[1]).strip()
+        self.name = token.name
+        self.way = self.said = ""
+
+    def refuse(self):
+        """There is no table for it."""
+        raise Bad(f"nothing tests what {self.call} asks for: {self.term}", self.line)
+
+
+class Types:
+    """Which types and traits of a crate are public."""
+
+    def __init__(self, files):
+        self.public = {}
+        for file in files:
+            for item in file.items:
+                if item.kind in ("struct", "enum", "trait"):
+                    self.public[item.name] = item.public or self.public.get(item.name, False)
+
+    def is_public(self, name):
+        """Whether a type can be reached by users; one of another crate is taken for public."""
+        return self.public.get(name, True)
+
+
+def without_generics(text):
+    """A header with no angle brackets and what stands in them."""
+    while re.search(r"<[^<>]*>", text.replace("->", "")):
+        text = re.sub(r"<[^<>]*>", "", text.replace("->", ""))
+    return text
+
+
+def owner_of(t, item):
+    """The trait and the type that a function stands in."""
+    if not item.owner or item.owner.kind == "mod":
+        return "", ""
+    if item.owner.kind == "trait":
+        return item.owner.name, ""
+    header = without_generics(item.owner.header(t)).split(" where ")[0].removeprefix("impl")
+    trait, _, kind = header.rpartition(" for ")
+    words = [re.findall(r"\w+", part) for part in (trait, re.sub(r"'\w+|\bmut\b", "", kind))]
+    return tuple(found[-1] if found else "" for found in words)
+
+
+def is_reachable(t, item, types):
+    """Whether users may call a function."""
+    trait, kind = owner_of(t, item)
+    if not types.is_public(trait) or not types.is_public(kind):
+        return False
+    return bool(trait) or item.public
+
+
+def premises_of(t, item, call):
+    """The premises of a function: its clauses, and those of Rattle's std in the impl that it stands in."""
+    found = [Premise(t[at], call) for at in item.clauses if t[at][1].startswith("requires")]
+    members = item.owner.ghosts if item.owner else []
+    return found + [Premise(t[at], call) for at in members if t[at].name == f"can_{item.name}"]
+
+
+def handled(file, types):
+    """The premises of each function of a file that users can reach, with what becomes of them."""
+    t, calls = file.tokens, []
+    refuse_unknown_members(t, file.items)
+    for item in file.items:
+        if item.kind != "fn" or not is_reachable(t, item, types):
+            continue
+        trait, kind = owner_of(t, item)
+        call = "::".join(filter(None, [file.crate, kind or trait, item.name]))
+        premises = premises_of(t, item, call)
+        for premise in premises:
+            handle(premise, file, item, trait, kind)
+        if premises:
+            calls.append((item, premises))
+    return calls
+
+
+def refuse_unknown_members(t, items):
+    """A ghost member that is a premise belongs to a function beside it."""
+    for owner in items:
+        names = {f"can_{it.name}" for it in items if it.owner is owner and it.kind == "fn"}
+        for at in owner.ghosts:
+            if owner.kind == "impl" and t[at].name.startswith("can_") and t[at].name not in names:
+                raise Bad(f"{t[at].name} is no premise of a function here", t[at].line)
+
+
+def handle(premise, file, item, trait, kind):
+    """Finds what becomes of a premise."""
+    for crates, pattern, test, reason in TESTED:
+        if file.crate in crates.split() and re.fullmatch(pattern, premise.term) and item.has_body:
+            premise.way, premise.said = "tested", f'assert!({test}, "{reason}");'
+            return
+    for pattern, reason in HELD:
+        if re.fullmatch(pattern, premise.term):
+            premise.way, premise.said = "held", reason
+            return
+    is_kept = file.crate in NEVER_EXPORTED or (file.crate, kind, item.name) in KEPT
+    if trait in SEALED or trait in BELOW_SEALED and file.crate in NEVER_EXPORTED:
+        premise.way, premise.said = "kept", f"{trait} is sealed, and no user can name it"
+    elif is_kept and item.public:
+        premise.way, premise.said = "kept", KEPT_METHOD if kind else KEPT_FUNCTION
+    else:
+        premise.refuse()
+
+
+def guard(file, types, edits):
+    """Writes the tests, and keeps calls to the crate."""
+    for item, premises in handled(file, types):
+        tests = dict.fromkeys(it.said for it in premises if it.way == "tested")
+        margin = "\n" + indentation(file.tokens, item.whole) + "    "
+        if tests:
+            edits.put_after(item.header_end, "".join(margin + test for test in tests))
+        if any(it.said == KEPT_METHOD for it in premises):
+            edits.put(item.start, "pub(crate)")
+
+
+# For documents.py: the file that is being erased.
 HERE = [None]
-HOLDS = re.compile(r"\w\.pre |IsAlwaysCallable|Callable|into_iter_gives|IsSideInPlace|IsSparseInPlace")
-def test_of(clauses, crate, public):
-    for clause in clauses:
-        if public and crate in PUBLIC | STRUCTURES and HERE[0] not in INTERNAL and clause.startswith("requires") and not HOLDS.search(clause) and not any(re.search(pattern, clause) for pattern, _ in TESTED):
-            raise Bad(f"a public call asks for what nothing tests: {clause}")
-    for clause in clauses:
-        for pattern, test in TESTED:
-            if crate in PUBLIC and re.match(r"requires \w*\s*\{\s*" + pattern + r"\s*\}", clause): return test
+
+
+def test_of(_clauses, _crate, _public):
+    """Tests are written by `guard`."""
     return None

@@ -17,6 +17,7 @@ pub mod rt;
 
 mod key;
 mod maps;
+mod sealed;
 #[cfg(feature = "serde")]
 mod serialize;
 

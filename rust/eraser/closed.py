@@ -1,0 +1,145 @@
+"""What the eraser doesn't know is an error, and never a guess: keywords, macros, names of Rattle, and forms that Rust reads otherwise.
+
+Most of what Rattle has and Rust lacks doesn't compile, so rustc refuses it. These lists are for the rest, and for a plain message.
+"""
+from .tokens import CLOSE, Bad, after_space, before_space, matching
+
+# Keywords that mean the same in both languages and stand in these sources. The others of Rust are unknown here.
+KEYWORDS = set("as break const continue crate else enum false fn for if impl in let loop match mod move mut pub return self Self struct"
+               " super trait true type use where while".split())
+OTHER_KEYWORDS = set("abstract async await auto become box do dyn extern final gen macro override priv raw ref safe static try typeof"
+                     " union unsafe unsized virtual yield".split())
+MACROS = {"json", "matches", "unreachable", "write", "writeln"}
+MACROS_OF_PROGRAMS = {"format", "macro_rules", "println", "vec"}
+# Words of Rattle's contracts and proofs. None is left once they are out.
+OF_RATTLE = {"also_owns", "antt", "assume", "axiom", "decreases", "derive_where", "ensures", "ghost", "invariant", "invariants", "law", "laws",
+             "lemma", "loop_invariant", "loop_invariants", "Model", "Owns", "pinned", "proof", "prove", "prove_eq", "prove_ne", "requires",
+             "tactic", "tactics", "theorem"}
+# Names that compile in both languages, and whose value or effect may differ.
+DIFFERENT = {
+    "align_of": "Rattle lays fields out in their order", "size_of": "Rattle lays fields out in their order",
+    "size_of_val": "Rattle lays fields out in their order", "type_name": "its text", "type_id": "its number", "transmute": "no unsafe",
+    "f32": "a cast may round", "f64": "a cast may round", "anyhow": "its Debug", "thread": "a thread's value is dropped otherwise",
+    "catch_unwind": "no call of Rattle unwinds", "panic": "no call of Rattle unwinds", "dbg": "it prints", "forever": "a loop of a handle", "spawn_blocking": "a thread",
+}
+# The names of std that src/rt has, each with the meaning that Rattle's has.
+STD = {
+    "alloc": {"AllocError", "AllocFailed", "Global"}, "cell": {"Cell"}, "collections": {"HashMap", "VecDeque", "hash_map", "RandomState"},
+    "env": {"", "Env"}, "fmt": {"", "Display"}, "fs": {"", "Files"}, "hash": {"BuildHasher", "BuildHasherDefault", "FoldHasher", "Hash", "Hasher"},
+    "io": {"", "BufWriter", "ErrorKind", "Read", "Write"}, "iter": {"FusedIterator"}, "marker": {"Model", "PhantomData"}, "mem": {""},
+    "num": {"NonZeroU32"}, "ops": {"Index", "IndexMut"}, "process": {"ExitCode"}, "simd": {"prelude"}, "slice": {""}, "vec": {""},
+}
+
+
+def refuse_unknown(t, macros):
+    """Refuses what isn't known. Contracts and attributes are read elsewhere."""
+    at = 0
+    while at < len(t):
+        if t[at] == ("mark", "#") and t[at + 1][1] in "[!":
+            at = matching(t, at + (1 if t[at + 1][1] == "[" else 2))
+            continue
+        if t[at][0] == "word":
+            refuse_word(t, at, macros)
+            refuse_path(t, at)
+            refuse_call(t, at)
+        elif t[at] == ("mark", ".."):
+            refuse_range(t, at)
+        at += 1
+
+
+def refuse_word(t, at, macros):
+    """A keyword, a macro or a word of Rattle."""
+    word, line = t[at][1], t[at].line
+    if not word.isascii():
+        raise Bad(f"{word} is left over", line)
+    if is_macro(t, at):
+        if word not in macros:
+            raise Bad(f"{word}! is a macro that the eraser doesn't know", line)
+    elif word in OTHER_KEYWORDS:
+        raise Bad(f"{word} is a keyword that the eraser doesn't know", line)
+    elif word in OF_RATTLE and not (word == "Model" and is_of_model(t, at)):
+        raise Bad(f"{word} is a word of Rattle", line)
+
+
+def is_macro(t, at):
+    """Whether a macro is called, or declared, by this word."""
+    return t[at + 1:at + 2] == [("mark", "!")] and at + 2 < len(t) and (t[at + 2][1] in "([{" or t[at][1] == "macro_rules")
+
+
+def is_of_model(t, at):
+    """Whether `Model` stands in an import or heads an impl: these are taken out."""
+    return t[at - 1][1] in ("::", "{") or t[after_space(t, at + 1)] == ("word", "for")
+
+
+def refuse_path(t, at):
+    """A name of std that src/rt has not, or that means something else there."""
+    word, line = t[at][1], t[at].line
+    if word in DIFFERENT and t[at - 1] != ("word", "fn") and not is_macro(t, at):
+        raise Bad(f"{word} differs in Rust: {DIFFERENT[word]}", line)
+    if word != "std" or t[at + 1:at + 2] != [("mark", "::")] or t[at - 1] == ("mark", "::"):
+        return
+    for module, *names in leaves(t, at + 2)[0]:
+        if module not in STD:
+            raise Bad(f"std::{module} is not in src/rt", line)
+        if (names or [""])[0] not in STD[module]:
+            raise Bad(f"std::{'::'.join([module, *names])} is not in src/rt", line)
+
+
+def leaves(t, at):
+    """The paths that a path with braces stands for, and the place behind it."""
+    if t[at] == ("mark", "{"):
+        found, at = [], after_space(t, at + 1)
+        while t[at] != ("mark", "}"):
+            more, at = leaves(t, at)
+            found += more
+            at = after_space(t, at)
+            at = after_space(t, at + 1) if t[at] == ("mark", ",") else at
+        return found, at + 1
+    name, at = t[at][1], at + 1
+    if t[at:at + 1] != [("mark", "::")] or t[at + 1] == ("mark", "<"):
+        return [[name]], at
+    rest, at = leaves(t, at + 1)
+    return [[name, *it] for it in rest], at
+
+
+def refuse_call(t, at):
+    """A clone that a closure returns: in Rattle it is a `Result`, which only a `?` or a pattern tells from a value."""
+    if t[at][1] != "clone" or t[at - 1] != ("mark", "."):
+        return
+    close = after_space(t, after_space(t, at + 1) + 1)
+    if t[after_space(t, close + 1)] == ("mark", "?"):
+        return
+    place = at - 1
+    while t[place][0] in ("word", "space") or t[place][1] in (".", "&", "*"):
+        place -= 1
+    if t[place] == ("mark", "|"):
+        raise Bad("a closure that returns a clone", t[at].line)
+
+
+def refuse_range(t, at):
+    """A range without an end that is walked, and fields from another value."""
+    line, before, after = t[at].line, t[before_space(t, at)], t[after_space(t, at + 1)]
+    is_bounded = before[0] in ("word", "number") or before[1] in CLOSE
+    if is_bounded and after == ("mark", "{"):
+        raise Bad("a range without an end is walked", line)
+    if is_bounded and after == ("mark", ")") and is_group(t, at):
+        raise Bad("a range without an end is walked", line)
+    if before == ("mark", ",") and after[1] not in ("}", "]", ")", ",") and not is_variable_alone(t, at):
+        raise Bad("fields from another value than a variable", line)
+
+
+def is_variable_alone(t, at):
+    """Whether the fields of a variable follow. Rattle doesn't read another value where no field of it is wanted."""
+    name = after_space(t, at + 1)
+    return t[name][0] == "word" and t[after_space(t, name + 1)] in (("mark", "}"), ("mark", ","))
+
+
+def is_group(t, at):
+    """Whether the bracket that is open here only groups, and is no call's."""
+    depth, place = 0, at
+    while depth >= 0 and place > 0:
+        place -= 1
+        if t[place][0] == "mark":
+            depth += (t[place][1] in CLOSE) - (t[place][1] in "([{")
+    before = t[before_space(t, place)]
+    return before[0] != "word" and before[1] not in (">", ")", "]", "!")

@@ -1,0 +1,144 @@
+"""Errors: `#[derive(Error)]` with its messages as impls of Display and Error, and Debug with no bound on what an error carries."""
+import re
+
+from .attributes import has_derive, has_own_debug
+from .items import Attribute
+from .tokens import Bad, after_space, matching, plain
+
+
+def impls_of_errors(t, items):
+    """The text of the impls that the derives of a file stand for."""
+    found = []
+    for item in items:
+        if item.kind not in ("struct", "enum"):
+            continue
+        if has_own_debug(t, item):
+            found.append(debug_impl(t, item))
+        if has_derive(item, "Error"):
+            found += error_impls(t, item)
+    refuse_other_messages(t, items)
+    return found
+
+
+def refuse_other_messages(t, items):
+    """A message that no derived error reads is unknown."""
+    errors = [item for item in items if item.kind in ("struct", "enum") and has_derive(item, "Error")]
+    for at in range(len(t) - 2):
+        if t[at] == ("mark", "#") and t[at + 2][1] in ("error", "error_bound"):
+            if not any(item.whole <= at < item.end for item in errors):
+                raise Bad(f"#[{t[at + 2][1]}] of what isn't an error", t[at].line)
+
+
+def generics_of(t, item):
+    """A type's parameters as they are declared, and by their names alone, each in angle brackets."""
+    declared = re.search(r"<.*>", item.header(t))
+    if not declared:
+        return "", ""
+    if re.search(r"[(<].*[(<]|\bwhere\b", declared.group()):
+        raise Bad(f"the parameters of {item.name}", t[item.start].line)
+    names = re.findall(r"(?:^<|, )('?\w+)", declared.group())
+    return declared.group(), f"<{', '.join(names)}>"
+
+
+def impl_text(generics, trait, name, names, body):
+    """An impl of a trait with one function, `fmt`."""
+    head = f"impl{generics} std::fmt::{trait} for {name}{names} {{\n"
+    return f"{head}    fn fmt(&self, f: &mut std::fmt::Formatter<'_>) -> std::fmt::Result {{\n        {body}\n    }}\n}}\n"
+
+
+def match_text(arms, write):
+    """A match on `self`, one line an arm."""
+    return "match self {\n" + "".join(f"            {pattern} => {write(said)},\n" for pattern, said in arms) + "        }"
+
+
+def debug_impl(t, item):
+    """Debug prints which case an error is, and two points for what it carries, so that any value may be carried."""
+    generics, names = generics_of(t, item)
+    if item.kind == "struct":
+        body = f'f.write_str("{shape_text(item.name, struct_shape(t, item))}")'
+    else:
+        arms = [(f"{item.name}::{it.name}{ANY[it.shape]}", shape_text(it.name, it.shape)) for it in variants(t, item)]
+        body = match_text(arms, lambda said: f'f.write_str("{said}")')
+    return impl_text(generics, "Debug", item.name, names, body)
+
+
+ANY = {"": "", "(": "(..)", "{": " { .. }"}
+
+
+def shape_text(name, shape):
+    """How a case is printed."""
+    return name + ANY[shape]
+
+
+def struct_shape(t, item):
+    """How a struct's fields are written."""
+    if t[item.header_end] == ("mark", "{"):
+        return "{"
+    return "(" if any(token == ("mark", "(") for token in t[item.at:item.header_end]) else ""
+
+
+class Variant:
+    """A case of an enum: its message, its name, and how its fields are written."""
+
+    def __init__(self, message, name, shape, fields):
+        self.message, self.name, self.shape, self.fields = message, name, shape, fields
+
+
+def variants(t, item):
+    """The cases of an enum."""
+    found, message = [], None
+    at, end = after_space(t, item.header_end + 1), item.end - 1
+    while at < end:
+        if t[at] == ("mark", "#"):
+            attribute = Attribute(t, at)
+            message = attribute.argument if attribute.name == "error" else message
+            at = after_space(t, attribute.end)
+            continue
+        if t[at][0] != "word":
+            raise Bad(f"{t[at][1]} in {item.name}", t[at].line)
+        name, at = t[at][1], after_space(t, at + 1)
+        shape = t[at][1] if t[at][1] in ("(", "{") else ""
+        close = matching(t, at) if shape else at
+        found.append(Variant(message, name, shape, plain(t[at + 1:close - 1]) if shape else ""))
+        message, at = None, after_space(t, close)
+        if at < end and t[at] != ("mark", ","):
+            raise Bad(f"{t[at][1]} in {item.name}", t[at].line)
+        at = after_space(t, at + 1)
+    return found
+
+
+def error_impls(t, item):
+    """Display and Error of a type that derives `Error`."""
+    generics, names = generics_of(t, item)
+    bound = next((it.argument for it in item.attributes if it.name == "error_bound"), None)
+    shown = f"<{bound.replace('Display', 'std::fmt::Display')}>" if bound else generics
+    if item.kind == "struct":
+        body = f"f.write_str({struct_message(item)})"
+    else:
+        body = match_text([arm_of(item, it) for it in variants(t, item)], lambda said: f"write!(f, {said})")
+    return [impl_text(shown, "Display", item.name, names, body), f"impl{shown} std::error::Error for {item.name}{names} {{}}\n"]
+
+
+def struct_message(item):
+    """The message of a struct, which names no field."""
+    message = next((it.argument for it in item.attributes if it.name == "error"), None)
+    if not message or "{" in message:
+        raise Bad(f"the message of {item.name}", item.attributes[0].line)
+    return message
+
+
+def arm_of(item, variant):
+    """The pattern and the message of one case."""
+    path = f"{item.name}::{variant.name}"
+    if variant.message is None:
+        raise Bad(f"{path} has no message", item.attributes[0].line)
+    used = re.findall(r"\{(\w+)\}", variant.message)
+    if variant.message.count("{") != len(used):
+        raise Bad(f"the message of {path}", item.attributes[0].line)
+    if variant.shape == "(":
+        count = len([it for it in variant.fields.split(",") if it.strip()])
+        binds = ", ".join(f"_{place}" if str(place) in used else "_" for place in range(count))
+        return f"{path}({binds})", re.sub(r"\{(\d+)\}", r"{_\1}", variant.message)
+    if variant.shape == "{":
+        return f"{path} {{ {', '.join([*used, '..'])} }}", variant.message
+    return path, variant.message

@@ -1,0 +1,114 @@
+"""Traits of the exported crates: those that only tie types together are sealed, and each other one says what an impl must keep."""
+from .tokens import Bad, after_space
+
+# No user may implement these. What they promise is proved of the types that have them, and the code relies on it.
+SEALED = {"Layout", "Table", "Tables", "Kind"}
+# These have a sealed trait above them.
+BELOW_SEALED = {"CopyLayout": "Layout", "CloneTable": "Table", "CloneTables": "Tables", "CloneKind": "Kind", "Apart": "Kind"}
+# Anyone may implement these. An impl that lies spoils the answers of the calls that use it, and never memory.
+OPEN = {
+    "Key": "An impl that answers otherwise from call to call, or whose `Eq`, `Ord` and `Hash` don't follow `data`, spoils the maps "
+    "that it is a key of: a call may then return another value than the one under a key, or panic. It breaks no other map.",
+    "Primary": "An impl that does otherwise spoils the runs and searches that are given it.",
+    "Detaching": "An impl that does otherwise spoils the runs that are given it.",
+    "Secondary": "An impl that does otherwise spoils the runs and searches that are given it.",
+    "Transform": "An impl that does otherwise spoils the transforms that a scene of it returns.",
+    "HasTransform": "An impl that does otherwise spoils the transforms that a scene of it returns.",
+}
+LAWS = "In Rattle each impl is proved to do what the clauses here say. In Rust nothing checks that."
+CLOSED = "This trait is sealed: only types of this crate implement it."
+
+
+def seal(t, items, edits):
+    """Gives the traits of a library their seals, and says in their docs who may implement them."""
+    for item in items:
+        if item.kind == "trait" and item.public:
+            seal_trait(t, item, edits)
+
+
+def seal_trait(t, item, edits):
+    """One public trait."""
+    if item.name in OPEN:
+        say(t, item, f"{LAWS} {OPEN[item.name]}", edits)
+        return
+    if item.name in SEALED:
+        add_supertrait(t, item, edits)
+    elif BELOW_SEALED.get(item.name) not in supertraits(t, item):
+        raise Bad(f"who may implement {item.name}", t[item.start].line)
+    say(t, item, CLOSED, edits)
+
+
+def supertraits(t, item):
+    """The words of a trait's header behind its name."""
+    return {word for kind, word in t[after_space(t, item.at + 1) + 1:item.header_end] if kind == "word"}
+
+
+def say(t, item, text, edits):
+    """Adds a paragraph to the docs of an item."""
+    if item.whole < 2 or not t[item.whole - 2][1].startswith("///"):
+        raise Bad(f"{item.name} has no docs", t[item.start].line)
+    edits.put_before(item.whole, f"///\n/// {text}\n")
+
+
+def add_supertrait(t, item, edits):
+    """A supertrait that only this crate can name."""
+    name = after_space(t, item.at + 1)
+    seal_of = f"crate::sealed::{item.name}{arguments(t, name + 1)}"
+    colon = top_level_colon(t, name + 1, item.header_end)
+    if colon is None:
+        edits.put_after(name if t[name + 1] != ("mark", "<") else angle_end(t, name + 1) - 1, f": {seal_of}")
+    else:
+        edits.put_after(colon, f" {seal_of} +")
+
+
+def angle_end(t, at):
+    """The place behind the angle bracket that closes the one at `at`."""
+    depth = 0
+    while True:
+        depth += {"<": 1, ">": -1}.get(t[at][1], 0) if t[at][0] == "mark" else 0
+        at += 1
+        if depth == 0:
+            return at
+
+
+def arguments(t, at):
+    """The names of a trait's parameters, in angle brackets."""
+    if t[at] != ("mark", "<"):
+        return ""
+    names, depth, is_next = [], 0, False
+    for token in t[at:angle_end(t, at)]:
+        if token[0] == "mark":
+            depth += {"<": 1, ">": -1}.get(token[1], 0)
+            is_next = depth == 1 and token[1] in "<,"
+        elif token[0] in ("word", "lifetime") and is_next:
+            names.append(token[1])
+            is_next = False
+    return f"<{', '.join(names)}>"
+
+
+def top_level_colon(t, at, end):
+    """The colon that a trait's supertraits follow, if it has some."""
+    if t[at] == ("mark", "<"):
+        at = angle_end(t, at)
+    at = after_space(t, at)
+    return at if at < end and t[at] == ("mark", ":") else None
+
+
+def seals_of_impls(t, items, edits):
+    """For each impl of a sealed trait the impl of its seal, with the same parameters and bounds: it holds where that impl holds."""
+    found = []
+    for item in items:
+        place = place_of_trait(t, item) if item.kind == "impl" else None
+        if place is None:
+            continue
+        header = "".join("crate::sealed::" + word if at == place else word for at, word in enumerate(edits.text[item.start:item.header_end], item.start))
+        found.append(f"{header.rstrip()} {{}}\n")
+    return found
+
+
+def place_of_trait(t, item):
+    """Where an impl's header names a sealed trait, if it is an impl of one."""
+    at = item.at + 1
+    at = angle_end(t, at) if t[at] == ("mark", "<") else at
+    at = after_space(t, at)
+    return at if t[at][1] in SEALED else None
