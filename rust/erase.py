@@ -9,6 +9,7 @@ The source is read token by token; what it doesn't know is an error, never a gue
 """
 import os, re, sys
 
+from eraser.clauses import macro
 from eraser.contracts import leftovers, take_ghost
 from eraser.documents import documented, examples
 from eraser.items import drop_bounds, error_impls, items
@@ -78,6 +79,7 @@ def main():
                     text += f'\n/// By hand.\n#[path = "{LENT[crate, path]}"]\npub(crate) mod lent;\n'
                 to = f"{out}/{crate}/{'mod' if path in ('lib', 'main') else path}.rs"
                 put(to, text, check, differ, made); count += 1
+    if not outer: put(f"{out}/../clauses.rs", macro(), check, differ, made); count += 1
     for to in differ: print(f"differs: {to}")
     print(f"{count} files erased, {bad} not" if not check else f"{count} files compared, {len(differ)} differ, {bad} not erased")
     sys.exit(1 if bad or differ else 0)

@@ -2,6 +2,9 @@
 #![forbid(unsafe_code)]
 #![allow(unexpected_cfgs)]
 
+#[macro_use]
+mod clauses;
+
 #[cfg(not(feature = "internals"))]
 #[allow(warnings)]
 mod proved;
