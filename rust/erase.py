@@ -11,7 +11,8 @@ import os, re, sys
 
 from eraser.clauses import macro
 from eraser.contracts import leftovers, take_ghost
-from eraser.documents import documented, examples
+from eraser.documents import documented
+from eraser.examples import examples
 from eraser.items import drop_bounds, error_impls, items
 from eraser.paths import INLINED, fmt_calls, inlined, paths
 from eraser.requires import HERE
@@ -26,7 +27,7 @@ def erase(source, crate, libs, root, outer):
     text = "".join("\x01" + w.replace("\n", "\x03") + "\x02" if k == "clause" else w for k, w in t)
     text = documented(text, crate)
     text = fmt_calls(text)
-    text = examples(text)
+    text = examples(text, crate)
     text = re.sub(r"[ \t]+\n", "\n", text); text = re.sub(r"\n{3,}", "\n\n", text)
     text = re.sub(r"\{\n\n+", "{\n", text); text = re.sub(r"\n\n(\s*\})", r"\n\1", text)
     text = text.replace("ROOT::", "crate::")

@@ -14,11 +14,20 @@ impl<K: Key, V: Sized> SlotMap<K, V> {
     /// A removed or detached key isn't live, nor is the null key. A key of another map is live here
     /// only if this map has a live key of the same index and version. Constant time.
     ///
-    /// ```ignore
+    /// ```
+    /// # use slotmap_proved::{DefaultKey, Global, Key};
+    /// # use slotmap_proved::fallible::SlotMap;
+    /// # fn main() -> Result<(), Box<dyn std::error::Error>> {
+    /// # let alloc = Global;
+    /// # let mut map: SlotMap<DefaultKey, u64> = SlotMap::new(alloc)?;
+    /// # let a = map.insert(1)?;
+    /// # let b = map.insert(2)?;
     /// assert!(map.contains_key(a));
     /// map.remove(a);
     /// assert!(!map.contains_key(a));
     /// assert!(!map.contains_key(DefaultKey::null()));
+    /// # Ok(())
+    /// # }
     /// ```
     ///
     /// # Proved
@@ -37,10 +46,19 @@ impl<K: Key, V: Sized> SlotMap<K, V> {
     ///
     /// Constant time.
     ///
-    /// ```ignore
+    /// ```
+    /// # use slotmap_proved::{DefaultKey, Global, Key};
+    /// # use slotmap_proved::fallible::SlotMap;
+    /// # fn main() -> Result<(), Box<dyn std::error::Error>> {
+    /// # let alloc = Global;
+    /// # let mut map: SlotMap<DefaultKey, u64> = SlotMap::new(alloc)?;
+    /// # let a = map.insert(1)?;
+    /// # let b = map.insert(2)?;
     /// assert_eq!(map.get(b), Some(&2));
     /// map.remove(b);
     /// assert_eq!(map.get(b), None);
+    /// # Ok(())
+    /// # }
     /// ```
     ///
     /// # Proved
@@ -60,8 +78,17 @@ impl<K: Key, V: Sized> SlotMap<K, V> {
     /// The contract requires that the key is live. So this call is safe; Rust's is `unsafe`.
     /// Constant time.
     ///
-    /// ```ignore
+    /// ```
+    /// # use slotmap_proved::{DefaultKey, Global, Key};
+    /// # use slotmap_proved::fallible::SlotMap;
+    /// # fn main() -> Result<(), Box<dyn std::error::Error>> {
+    /// # let alloc = Global;
+    /// # let mut map: SlotMap<DefaultKey, u64> = SlotMap::new(alloc)?;
+    /// # let a = map.insert(1)?;
+    /// # let b = map.insert(2)?;
     /// assert_eq!(*map.get_unchecked(a), 1);
+    /// # Ok(())
+    /// # }
     /// ```
     ///
     /// # Proved
@@ -83,11 +110,20 @@ impl<K: Key, V: Sized> SlotMap<K, V> {
     /// Once the reference ends, the key has the last value written through it. All else is as
     /// before. Constant time.
     ///
-    /// ```ignore
+    /// ```
+    /// # use slotmap_proved::{DefaultKey, Global, Key};
+    /// # use slotmap_proved::fallible::SlotMap;
+    /// # fn main() -> Result<(), Box<dyn std::error::Error>> {
+    /// # let alloc = Global;
+    /// # let mut map: SlotMap<DefaultKey, u64> = SlotMap::new(alloc)?;
+    /// # let a = map.insert(1)?;
+    /// # let b = map.insert(2)?;
     /// if let Some(value) = map.get_mut(a) {
     ///     *value = 5;
     /// }
     /// assert_eq!(map.get(a), Some(&5));
+    /// # Ok(())
+    /// # }
     /// ```
     ///
     /// # Proved
@@ -112,9 +148,18 @@ impl<K: Key, V: Sized> SlotMap<K, V> {
     /// The contract requires that the key is live. So this call is safe; Rust's is `unsafe`.
     /// Constant time.
     ///
-    /// ```ignore
+    /// ```
+    /// # use slotmap_proved::{DefaultKey, Global, Key};
+    /// # use slotmap_proved::fallible::SlotMap;
+    /// # fn main() -> Result<(), Box<dyn std::error::Error>> {
+    /// # let alloc = Global;
+    /// # let mut map: SlotMap<DefaultKey, u64> = SlotMap::new(alloc)?;
+    /// # let a = map.insert(1)?;
+    /// # let b = map.insert(2)?;
     /// *map.get_unchecked_mut(a) = 5;
     /// assert_eq!(map.get(a), Some(&5));
+    /// # Ok(())
+    /// # }
     /// ```
     ///
     /// # Proved
@@ -137,10 +182,19 @@ impl<K: Key, V: Sized> SlotMap<K, V> {
     /// If the key isn't live, nothing changes, and the new value is returned as the error. Constant
     /// time. Rust lacks this call.
     ///
-    /// ```ignore
+    /// ```
+    /// # use slotmap_proved::{DefaultKey, Global, Key};
+    /// # use slotmap_proved::fallible::SlotMap;
+    /// # fn main() -> Result<(), Box<dyn std::error::Error>> {
+    /// # let alloc = Global;
+    /// # let mut map: SlotMap<DefaultKey, u64> = SlotMap::new(alloc)?;
+    /// # let a = map.insert(1)?;
+    /// # let b = map.insert(2)?;
     /// assert_eq!(map.replace(a, 5), Ok(1));
     /// map.remove(a);
     /// assert_eq!(map.replace(a, 6), Err(6));
+    /// # Ok(())
+    /// # }
     /// ```
     ///
     /// # Proved
@@ -168,10 +222,19 @@ impl<K: Key, V: Sized> SlotMap<K, V> {
     /// Its time doesn't depend on the size of the map. In Rust `get_disjoint_mut` returns
     /// references instead.
     ///
-    /// ```ignore
+    /// ```
+    /// # use slotmap_proved::{DefaultKey, Global, Key};
+    /// # use slotmap_proved::fallible::SlotMap;
+    /// # fn main() -> Result<(), Box<dyn std::error::Error>> {
+    /// # let alloc = Global;
+    /// # let mut map: SlotMap<DefaultKey, u64> = SlotMap::new(alloc)?;
+    /// # let a = map.insert(1)?;
+    /// # let b = map.insert(2)?;
     /// assert_eq!(map.replace_disjoint([a, b], [5, 6]), Ok([1, 2]));
     /// assert_eq!(map.get(b), Some(&6));
     /// assert_eq!(map.replace_disjoint([a, a], [7, 8]), Err([7, 8]));
+    /// # Ok(())
+    /// # }
     /// ```
     ///
     /// # Proved
@@ -180,6 +243,7 @@ impl<K: Key, V: Sized> SlotMap<K, V> {
     /// ensures which { IsOk result ↔ CanReplace self.old (map_list K.data_of keys) }
     /// ensures value { IfOk result (AreValuesOf self.old (map_list K.data_of keys)) }
     /// ensures ok { OnOk result (self.new ≡ with_values self.old (map_list K.data_of keys) values) }
+    ///
     /// ensures err { IfErr result (λ given. given ≡ values) }
     /// ensures unchanged { OnErr result (self.new ≡ self.old) }
     /// ensures valid { StaysValid true self.old self.new }
@@ -230,8 +294,17 @@ impl<K: Key, V: Sized> Index<K> for SlotMap<K, V> {
     ///
     /// The contract requires that the key is live; in Rust any other key panics. Constant time.
     ///
-    /// ```ignore
+    /// ```
+    /// # use slotmap_proved::{DefaultKey, Global, Key};
+    /// # use slotmap_proved::fallible::SlotMap;
+    /// # fn main() -> Result<(), Box<dyn std::error::Error>> {
+    /// # let alloc = Global;
+    /// # let mut map: SlotMap<DefaultKey, u64> = SlotMap::new(alloc)?;
+    /// # let a = map.insert(1)?;
+    /// # let b = map.insert(2)?;
     /// assert_eq!(map[a] + map[b], 3);
+    /// # Ok(())
+    /// # }
     /// ```
     #[inline]
     fn index(&self, key: K) -> &V {
@@ -244,9 +317,18 @@ impl<K: Key, V: Sized> IndexMut<K> for SlotMap<K, V> {
     ///
     /// The contract requires that the key is live; in Rust any other key panics. Constant time.
     ///
-    /// ```ignore
+    /// ```
+    /// # use slotmap_proved::{DefaultKey, Global, Key};
+    /// # use slotmap_proved::fallible::SlotMap;
+    /// # fn main() -> Result<(), Box<dyn std::error::Error>> {
+    /// # let alloc = Global;
+    /// # let mut map: SlotMap<DefaultKey, u64> = SlotMap::new(alloc)?;
+    /// # let a = map.insert(1)?;
+    /// # let b = map.insert(2)?;
     /// map[a] = 5;
     /// assert_eq!(map.get(a), Some(&5));
+    /// # Ok(())
+    /// # }
     /// ```
     ///
     /// # Proved

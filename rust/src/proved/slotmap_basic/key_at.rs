@@ -13,11 +13,20 @@ impl<K: Key, V: Sized> SlotMap<K, V> {
     /// No two live keys have the same index. So a table beside the map may name a key by its index, in 4
     /// bytes. Constant time; allocates nothing. Rust lacks this call.
     ///
-    /// ```ignore
+    /// ```
+    /// # use slotmap_proved::{DefaultKey, Global, Key};
+    /// # use slotmap_proved::fallible::SlotMap;
+    /// # fn main() -> Result<(), Box<dyn std::error::Error>> {
+    /// # let alloc = Global;
+    /// # let mut map: SlotMap<DefaultKey, u64> = SlotMap::new(alloc)?;
+    /// # let a = map.insert(1)?;
+    /// # let b = map.insert(2)?;
     /// let index = a.data().idx();
     /// assert_eq!(map.key_at(index), Some(a));
     /// map.remove(a);
     /// assert_eq!(map.key_at(index), None);
+    /// # Ok(())
+    /// # }
     /// ```
     ///
     /// # Proved

@@ -21,11 +21,20 @@ impl<K: Key, V: Sized> SlotMap<K, V> {
     /// cloned once. Linear in the number of slots. `from_slots` reads the list back, except that of
     /// a map with 4294967294 slots, which is too long. In Rust `Serialize` writes the same records.
     ///
-    /// ```ignore
+    /// ```
+    /// # use slotmap_proved::{DefaultKey, Global, Key};
+    /// # use slotmap_proved::fallible::SlotMap;
+    /// # fn main() -> Result<(), Box<dyn std::error::Error>> {
+    /// # let alloc = Global;
+    /// # let mut map: SlotMap<DefaultKey, u64> = SlotMap::new(alloc)?;
+    /// # let a = map.insert(1)?;
+    /// # let b = map.insert(2)?;
     /// let list = map.to_slots()?;
     /// assert_eq!(list.len(), 3);
     /// assert_eq!(list[a.data().idx() as usize].value, Some(1));
     /// assert_eq!(list[a.data().idx() as usize].version, a.data().version());
+    /// # Ok(())
+    /// # }
     /// ```
     ///
     /// # Proved
@@ -34,9 +43,11 @@ impl<K: Key, V: Sized> SlotMap<K, V> {
     /// // The list is that of a copy, and has a clone under each live key.
     /// ensures writes { IfOk result (λ slots. WritesClones V.is_clone true self.now slots.items) }
     /// ensures contents { IfOk result (λ slots. (k : KeyOf) → IsCloneOf V.is_clone (map.get self.now.live k) (map.get (start_live slots.items) k)) }
+    ///
     /// // Where clones equal their values, it is the map's own list.
     /// ensures writes_if_clones_equal { IfOk result (λ slots. ClonesEqual V.is_clone → Writes self.now slots.items) }
     /// ensures contents_if_clones_equal { IfOk result (λ slots. ClonesEqual V.is_clone → start_live slots.items ≡ self.now.live) }
+    ///
     /// ensures valid { IsContent true self.now }
     /// ```
     #[inline]
@@ -71,7 +82,14 @@ impl<K: Key, V: Sized> SlotMap<K, V> {
     /// Two passes over the list. In Rust `Deserialize` reads such a list, and version 0 is that of
     /// a vacant slot, so the versions of a slot wrap around.
     ///
-    /// ```ignore
+    /// ```
+    /// # use slotmap_proved::{DefaultKey, Global, Key, KeyData, SlotRecord};
+    /// # use slotmap_proved::fallible::{SlotMap, Vec};
+    /// # fn main() -> Result<(), Box<dyn std::error::Error>> {
+    /// # let alloc = Global;
+    /// # let mut map: SlotMap<DefaultKey, u64> = SlotMap::new(alloc)?;
+    /// # let a = map.insert(1)?;
+    /// # let b = map.insert(2)?;
     /// let mut list = Vec::new(alloc);
     /// list.push(SlotRecord { value: None, version: 0 })?;
     /// list.push(SlotRecord { value: Some(7), version: 3 })?;
@@ -79,6 +97,8 @@ impl<K: Key, V: Sized> SlotMap<K, V> {
     /// let mut made: SlotMap<DefaultKey, u64> = SlotMap::from_slots(alloc, list)?;
     /// assert_eq!(made.get(DefaultKey::from(KeyData::new(1, 3))), Some(&7));
     /// assert_eq!(made.insert(8)?.data(), KeyData::new(2, 3));
+    /// # Ok(())
+    /// # }
     /// ```
     ///
     /// # Proved
@@ -87,6 +107,7 @@ impl<K: Key, V: Sized> SlotMap<K, V> {
     /// // What the list says, and which slot is used next.
     /// ensures reads { IfOk result (ReadsAs true list.items) }
     /// ensures stack { IfOk result (λ made. made.stack ≡ Some (start_stack list.items)) }
+    ///
     /// // The errors: the first one that applies is returned.
     /// ensures accepted { IsOk result → Accepts list.items list_limit }
     /// ensures err { IfErr result (RefusesStart list.items list_limit) }

@@ -11,7 +11,7 @@
 //! Each example comes after these lines:
 //!
 //! ```text
-//! let alloc = rt.alloc();
+//! let alloc = Global;
 //! let mut map: SlotMap<DefaultKey, u64> = SlotMap::new(alloc)?;
 //! let a = map.insert(1)?;
 //! let b = map.insert(2)?;
@@ -59,11 +59,20 @@ use crate::rt::std::marker::PhantomData;
 /// A live key can be detached: its value is taken out, and its slot is kept until `reattach` binds
 /// the key to a value again. At most 4294967294 keys can be live, detached or retired.
 ///
-/// ```ignore
+/// ```
+/// # use slotmap_proved::{DefaultKey, Global, Key};
+/// # use slotmap_proved::fallible::SlotMap;
+/// # fn main() -> Result<(), Box<dyn std::error::Error>> {
+/// # let alloc = Global;
+/// # let mut map: SlotMap<DefaultKey, u64> = SlotMap::new(alloc)?;
+/// # let a = map.insert(1)?;
+/// # let b = map.insert(2)?;
 /// let key = map.insert(5)?;
 /// assert_eq!(map.get(key), Some(&5));
 /// assert_eq!(map.remove(key), Some(5));
 /// assert!(!map.contains_key(key));
+/// # Ok(())
+/// # }
 /// ```
 pub struct SlotMap<K, V> {
     // Versions, uses and values, each in a vector of its own.
@@ -89,10 +98,19 @@ impl<V: Sized> SlotMap<DefaultKey, V> {
     /// It allocates slot 0, which no key uses, and fails with `Memory` if memory runs out. Constant time,
     /// the allocations aside.
     ///
-    /// ```ignore
+    /// ```
+    /// # use slotmap_proved::{DefaultKey, Global, Key, KeyData};
+    /// # use slotmap_proved::fallible::SlotMap;
+    /// # fn main() -> Result<(), Box<dyn std::error::Error>> {
+    /// # let alloc = Global;
+    /// # let mut map: SlotMap<DefaultKey, u64> = SlotMap::new(alloc)?;
+    /// # let a = map.insert(1)?;
+    /// # let b = map.insert(2)?;
     /// let mut empty: SlotMap<DefaultKey, u64> = SlotMap::new(alloc)?;
     /// assert!(empty.is_empty());
     /// assert_eq!(empty.insert(5)?.data(), KeyData::new(1, 1));
+    /// # Ok(())
+    /// # }
     /// ```
     ///
     /// # Proved
@@ -114,10 +132,19 @@ impl<V: Sized> SlotMap<DefaultKey, V> {
     /// The next `capacity` inserts succeed. It fails with `TooGreat` if `capacity` is over
     /// 4294967294, and with `Memory` if memory runs out. Constant time, the allocations aside.
     ///
-    /// ```ignore
+    /// ```
+    /// # use slotmap_proved::{DefaultKey, Global, Key};
+    /// # use slotmap_proved::fallible::SlotMap;
+    /// # fn main() -> Result<(), Box<dyn std::error::Error>> {
+    /// # let alloc = Global;
+    /// # let mut map: SlotMap<DefaultKey, u64> = SlotMap::new(alloc)?;
+    /// # let a = map.insert(1)?;
+    /// # let b = map.insert(2)?;
     /// let roomy: SlotMap<DefaultKey, u64> = SlotMap::with_capacity(alloc, 10)?;
     /// assert!(roomy.is_empty());
     /// assert!(roomy.capacity() >= 10);
+    /// # Ok(())
+    /// # }
     /// ```
     ///
     /// # Proved
@@ -143,10 +170,19 @@ impl<K: Key, V: Sized> SlotMap<K, V> {
     /// It allocates slot 0, which no key uses, and fails with `Memory` if memory runs out. Constant time,
     /// the allocations aside.
     ///
-    /// ```ignore
+    /// ```
+    /// # use slotmap_proved::{DefaultKey, Global, Key, NodeKey};
+    /// # use slotmap_proved::fallible::SlotMap;
+    /// # fn main() -> Result<(), Box<dyn std::error::Error>> {
+    /// # let alloc = Global;
+    /// # let mut map: SlotMap<DefaultKey, u64> = SlotMap::new(alloc)?;
+    /// # let a = map.insert(1)?;
+    /// # let b = map.insert(2)?;
     /// let mut nodes: SlotMap<NodeKey, u64> = SlotMap::with_key(alloc)?;
     /// let key: NodeKey = nodes.insert(5)?;
     /// assert_eq!(nodes.get(key), Some(&5));
+    /// # Ok(())
+    /// # }
     /// ```
     ///
     /// # Proved
@@ -168,9 +204,18 @@ impl<K: Key, V: Sized> SlotMap<K, V> {
     /// The next `capacity` inserts succeed. It fails with `TooGreat` if `capacity` is over
     /// 4294967294, and with `Memory` if memory runs out. Constant time, the allocations aside.
     ///
-    /// ```ignore
+    /// ```
+    /// # use slotmap_proved::{DefaultKey, Global, Key, NodeKey};
+    /// # use slotmap_proved::fallible::SlotMap;
+    /// # fn main() -> Result<(), Box<dyn std::error::Error>> {
+    /// # let alloc = Global;
+    /// # let mut map: SlotMap<DefaultKey, u64> = SlotMap::new(alloc)?;
+    /// # let a = map.insert(1)?;
+    /// # let b = map.insert(2)?;
     /// let nodes: SlotMap<NodeKey, u64> = SlotMap::with_capacity_and_key(alloc, 10)?;
     /// assert!(nodes.capacity() >= 10);
+    /// # Ok(())
+    /// # }
     /// ```
     ///
     /// # Proved
@@ -193,10 +238,19 @@ impl<K: Key, V: Sized> SlotMap<K, V> {
     ///
     /// Constant time.
     ///
-    /// ```ignore
+    /// ```
+    /// # use slotmap_proved::{DefaultKey, Global, Key};
+    /// # use slotmap_proved::fallible::SlotMap;
+    /// # fn main() -> Result<(), Box<dyn std::error::Error>> {
+    /// # let alloc = Global;
+    /// # let mut map: SlotMap<DefaultKey, u64> = SlotMap::new(alloc)?;
+    /// # let a = map.insert(1)?;
+    /// # let b = map.insert(2)?;
     /// assert_eq!(map.len(), 2);
     /// map.detach(a);
     /// assert_eq!(map.len(), 1);
+    /// # Ok(())
+    /// # }
     /// ```
     ///
     /// # Proved
@@ -215,10 +269,19 @@ impl<K: Key, V: Sized> SlotMap<K, V> {
     ///
     /// Constant time.
     ///
-    /// ```ignore
+    /// ```
+    /// # use slotmap_proved::{DefaultKey, Global, Key};
+    /// # use slotmap_proved::fallible::SlotMap;
+    /// # fn main() -> Result<(), Box<dyn std::error::Error>> {
+    /// # let alloc = Global;
+    /// # let mut map: SlotMap<DefaultKey, u64> = SlotMap::new(alloc)?;
+    /// # let a = map.insert(1)?;
+    /// # let b = map.insert(2)?;
     /// assert!(!map.is_empty());
     /// map.clear();
     /// assert!(map.is_empty());
+    /// # Ok(())
+    /// # }
     /// ```
     ///
     /// # Proved
@@ -238,10 +301,19 @@ impl<K: Key, V: Sized> SlotMap<K, V> {
     /// The slots of live, detached and retired keys count, as do vacant slots and those that aren't
     /// made yet. Constant time.
     ///
-    /// ```ignore
+    /// ```
+    /// # use slotmap_proved::{DefaultKey, Global, Key};
+    /// # use slotmap_proved::fallible::SlotMap;
+    /// # fn main() -> Result<(), Box<dyn std::error::Error>> {
+    /// # let alloc = Global;
+    /// # let mut map: SlotMap<DefaultKey, u64> = SlotMap::new(alloc)?;
+    /// # let a = map.insert(1)?;
+    /// # let b = map.insert(2)?;
     /// let before = map.capacity();
     /// map.clear();
     /// assert_eq!(map.capacity(), before);
+    /// # Ok(())
+    /// # }
     /// ```
     ///
     /// # Proved
@@ -270,13 +342,22 @@ impl<K: Key, V: Sized> SlotMap<K, V> {
     /// If there is room already, the call succeeds and nothing changes. Rust counts detached slots
     /// as free. Linear in the number of slots if the vectors grow, else constant time.
     ///
-    /// ```ignore
+    /// ```
+    /// # use slotmap_proved::{DefaultKey, Global, Key};
+    /// # use slotmap_proved::fallible::SlotMap;
+    /// # fn main() -> Result<(), Box<dyn std::error::Error>> {
+    /// # let alloc = Global;
+    /// # let mut map: SlotMap<DefaultKey, u64> = SlotMap::new(alloc)?;
+    /// # let a = map.insert(1)?;
+    /// # let b = map.insert(2)?;
     /// map.reserve(10)?;
     /// let capacity = map.capacity();
     /// for i in 0..10 {
     ///     map.insert(i)?;
     /// }
     /// assert_eq!(map.capacity(), capacity);
+    /// # Ok(())
+    /// # }
     /// ```
     ///
     /// # Proved
@@ -297,9 +378,18 @@ impl<K: Key, V: Sized> SlotMap<K, V> {
     /// Here `reserve` returns a `Result` too; in Rust it aborts if memory runs out. Costs as
     /// `reserve`.
     ///
-    /// ```ignore
+    /// ```
+    /// # use slotmap_proved::{DefaultKey, Global, Key, ReserveError};
+    /// # use slotmap_proved::fallible::SlotMap;
+    /// # fn main() -> Result<(), Box<dyn std::error::Error>> {
+    /// # let alloc = Global;
+    /// # let mut map: SlotMap<DefaultKey, u64> = SlotMap::new(alloc)?;
+    /// # let a = map.insert(1)?;
+    /// # let b = map.insert(2)?;
     /// assert!(map.try_reserve(10).is_ok());
     /// assert!(matches!(map.try_reserve(4294967295), Err(ReserveError::TooGreat)));
+    /// # Ok(())
+    /// # }
     /// ```
     ///
     /// # Proved

@@ -14,10 +14,19 @@ impl<K: Key, V: Sized> SlotMap<K, V> {
     /// keys are visited by ascending index. Detached keys aren't visited, and stay detached. Linear
     /// in the number of slots.
     ///
-    /// ```ignore
+    /// ```
+    /// # use slotmap_proved::{DefaultKey, Global, Key};
+    /// # use slotmap_proved::fallible::SlotMap;
+    /// # fn main() -> Result<(), Box<dyn std::error::Error>> {
+    /// # let alloc = Global;
+    /// # let mut map: SlotMap<DefaultKey, u64> = SlotMap::new(alloc)?;
+    /// # let a = map.insert(1)?;
+    /// # let b = map.insert(2)?;
     /// map.retain(|_, value| *value % 2 == 0);
     /// assert_eq!(map.get(a), None);
     /// assert_eq!(map.get(b), Some(&2));
+    /// # Ok(())
+    /// # }
     /// ```
     ///
     /// # Proved

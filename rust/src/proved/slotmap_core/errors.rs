@@ -14,18 +14,28 @@ use crate::rt::std::fmt::Display;
 
 /// Memory ran out.
 ///
-/// ```ignore
-/// assert_eq!(format!("{OutOfMemory}")?.as_str(), "out of memory");
+/// ```
+/// # use slotmap_proved::{Global, Key, OutOfMemory};
+/// # fn main() -> Result<(), Box<dyn std::error::Error>> {
+/// # let alloc = Global;
+/// assert_eq!(format!("{OutOfMemory}").as_str(), "out of memory");
+/// # Ok(())
+/// # }
 /// ```
 #[derive(Debug)]
 pub struct OutOfMemory;
 
 /// The error of an insert, with the value.
 ///
-/// ```ignore
+/// ```
+/// # use slotmap_proved::{Global, InsertError, Key};
+/// # fn main() -> Result<(), Box<dyn std::error::Error>> {
+/// # let alloc = Global;
 /// let error = InsertError::Full(5);
-/// assert_eq!(format!("{error}")?.as_str(), "full");
+/// assert_eq!(format!("{error}").as_str(), "full");
 /// assert!(matches!(error, InsertError::Full(5)));
+/// # Ok(())
+/// # }
 /// ```
 
 pub enum InsertError<V> {
@@ -37,8 +47,13 @@ pub enum InsertError<V> {
 
 /// The error of an insert by a closure that returns a value. The closure wasn't called.
 ///
-/// ```ignore
-/// assert_eq!(format!("{}", InsertWithError::Full)?.as_str(), "full");
+/// ```
+/// # use slotmap_proved::{Global, InsertWithError, Key};
+/// # fn main() -> Result<(), Box<dyn std::error::Error>> {
+/// # let alloc = Global;
+/// assert_eq!(format!("{}", InsertWithError::Full).as_str(), "full");
+/// # Ok(())
+/// # }
 /// ```
 #[derive(Debug)]
 pub enum InsertWithError {
@@ -50,9 +65,14 @@ pub enum InsertWithError {
 
 /// The error of an insert by a closure that may fail. Only for `Closure` was the closure called.
 ///
-/// ```ignore
+/// ```
+/// # use slotmap_proved::{Global, Key, TryInsertError};
+/// # fn main() -> Result<(), Box<dyn std::error::Error>> {
+/// # let alloc = Global;
 /// let error: TryInsertError<&str> = TryInsertError::Closure("not now");
-/// assert_eq!(format!("{error}")?.as_str(), "not now");
+/// assert_eq!(format!("{error}").as_str(), "not now");
+/// # Ok(())
+/// # }
 /// ```
 
 pub enum TryInsertError<E> {
@@ -66,10 +86,16 @@ pub enum TryInsertError<E> {
 
 /// The error of `reattach`, with the value.
 ///
-/// ```ignore
+/// ```
+/// # use slotmap_proved::{DefaultKey, Global, Key, ReattachError};
+/// # use slotmap_proved::fallible::SlotMap;
+/// # fn main() -> Result<(), Box<dyn std::error::Error>> {
+/// # let alloc = Global;
 /// let mut map: SlotMap<DefaultKey, u64> = SlotMap::new(alloc)?;
 /// let key = map.insert(5)?;
 /// assert!(matches!(map.reattach(key, 6), Err(ReattachError::NotDetached(6))));
+/// # Ok(())
+/// # }
 /// ```
 
 pub enum ReattachError<V> {
@@ -81,9 +107,15 @@ pub enum ReattachError<V> {
 
 /// The error of a call that reserves room.
 ///
-/// ```ignore
+/// ```
+/// # use slotmap_proved::{DefaultKey, Global, Key, ReserveError};
+/// # use slotmap_proved::fallible::SlotMap;
+/// # fn main() -> Result<(), Box<dyn std::error::Error>> {
+/// # let alloc = Global;
 /// let mut map: SlotMap<DefaultKey, u64> = SlotMap::new(alloc)?;
 /// assert!(matches!(map.reserve(4294967295), Err(ReserveError::TooGreat)));
+/// # Ok(())
+/// # }
 /// ```
 #[derive(Debug)]
 pub enum ReserveError {
@@ -95,17 +127,27 @@ pub enum ReserveError {
 
 /// The error of an insert into a secondary map, with the value. Memory ran out.
 ///
-/// ```ignore
-/// assert_eq!(format!("{}", PutError(5))?.as_str(), "out of memory");
+/// ```
+/// # use slotmap_proved::{Global, Key, PutError};
+/// # fn main() -> Result<(), Box<dyn std::error::Error>> {
+/// # let alloc = Global;
+/// assert_eq!(format!("{}", PutError(5)).as_str(), "out of memory");
+/// # Ok(())
+/// # }
 /// ```
 
 pub struct PutError<V>(pub V);
 
 /// The error of a list of slots that isn't read as a map.
 ///
-/// ```ignore
+/// ```
+/// # use slotmap_proved::{Global, Key, SlotsError};
+/// # fn main() -> Result<(), Box<dyn std::error::Error>> {
+/// # let alloc = Global;
 /// let error = SlotsError::Inconsistent(3);
-/// assert_eq!(format!("{error}")?.as_str(), "inconsistent 3");
+/// assert_eq!(format!("{error}").as_str(), "inconsistent 3");
+/// # Ok(())
+/// # }
 /// ```
 #[derive(Debug)]
 pub enum SlotsError {
@@ -121,10 +163,17 @@ pub enum SlotsError {
 
 /// The error of JSON that isn't read as a key or as a list of slots.
 ///
-/// ```ignore
-/// let value = Value::from_str(alloc, "[1, 2]")?;
+/// ```
+/// # use slotmap_proved::{DefaultKey, Global, JsonError, Key};
+/// # use slotmap_proved::json::key_from_value;
+/// # use serde_json::Value;
+/// # fn main() -> Result<(), Box<dyn std::error::Error>> {
+/// # let alloc = Global;
+/// let value: Value = serde_json::from_str("[1, 2]")?;
 /// let key: Result<DefaultKey, JsonError> = key_from_value(&value);
 /// assert!(matches!(key, Err(JsonError::Shape)));
+/// # Ok(())
+/// # }
 /// ```
 #[derive(Debug)]
 pub enum JsonError {
@@ -139,8 +188,13 @@ impl<V> InsertError<V> {
     ///
     /// Constant time.
     ///
-    /// ```ignore
+    /// ```
+    /// # use slotmap_proved::{Global, InsertError, Key};
+    /// # fn main() -> Result<(), Box<dyn std::error::Error>> {
+    /// # let alloc = Global;
     /// assert_eq!(InsertError::Full(5).into_inner(), 5);
+    /// # Ok(())
+    /// # }
     /// ```
     ///
     /// # Proved
@@ -162,9 +216,14 @@ impl<V> InsertError<V> {
     ///
     /// One call of the closure.
     ///
-    /// ```ignore
+    /// ```
+    /// # use slotmap_proved::{Global, InsertError, Key};
+    /// # fn main() -> Result<(), Box<dyn std::error::Error>> {
+    /// # let alloc = Global;
     /// let error = InsertError::Full((5, "five")).map(|pair| pair.0);
     /// assert!(matches!(error, InsertError::Full(5)));
+    /// # Ok(())
+    /// # }
     /// ```
     ///
     /// # Proved
@@ -188,8 +247,13 @@ impl<V> ReattachError<V> {
     ///
     /// Constant time.
     ///
-    /// ```ignore
+    /// ```
+    /// # use slotmap_proved::{Global, Key, ReattachError};
+    /// # fn main() -> Result<(), Box<dyn std::error::Error>> {
+    /// # let alloc = Global;
     /// assert_eq!(ReattachError::NotDetached(5).into_inner(), 5);
+    /// # Ok(())
+    /// # }
     /// ```
     ///
     /// # Proved
@@ -210,9 +274,14 @@ impl<V> ReattachError<V> {
     ///
     /// One call of the closure.
     ///
-    /// ```ignore
+    /// ```
+    /// # use slotmap_proved::{Global, Key, ReattachError};
+    /// # fn main() -> Result<(), Box<dyn std::error::Error>> {
+    /// # let alloc = Global;
     /// let error = ReattachError::NotDetached((5, "five")).map(|pair| pair.0);
     /// assert!(matches!(error, ReattachError::NotDetached(5)));
+    /// # Ok(())
+    /// # }
     /// ```
     ///
     /// # Proved
@@ -236,8 +305,13 @@ impl<V> PutError<V> {
     ///
     /// One call of the closure.
     ///
-    /// ```ignore
+    /// ```
+    /// # use slotmap_proved::{Global, Key, PutError};
+    /// # fn main() -> Result<(), Box<dyn std::error::Error>> {
+    /// # let alloc = Global;
     /// assert_eq!(PutError((5, "five")).map(|pair| pair.0).0, 5);
+    /// # Ok(())
+    /// # }
     /// ```
     ///
     /// # Proved

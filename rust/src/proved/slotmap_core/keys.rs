@@ -22,11 +22,16 @@ pub use node_key::NodeKey;
 /// - The debug text is `null`, or the index, `v` and the version.
 /// - The default is the null key.
 ///
-/// ```ignore
+/// ```
+/// # use slotmap_proved::{Global, Key, KeyData};
+/// # fn main() -> Result<(), Box<dyn std::error::Error>> {
+/// # let alloc = Global;
 /// let data = KeyData::new(2, 3);
-/// assert_eq!(format!("{data:?}")?.as_str(), "2v3");
+/// assert_eq!(format!("{data:?}").as_str(), "2v3");
 /// assert!(data < KeyData::new(2, 5));
 /// assert!(data < KeyData::default());
+/// # Ok(())
+/// # }
 /// ```
 #[derive(Clone, Copy, PartialEq, Eq, PartialOrd, Ord)]
 pub struct KeyData {
@@ -41,9 +46,14 @@ impl KeyData {
     /// whatever the version. The result is that of `from_ffi` at `version * 2^32 + idx`. Constant
     /// time. Rust lacks this call.
     ///
-    /// ```ignore
+    /// ```
+    /// # use slotmap_proved::{Global, Key, KeyData};
+    /// # fn main() -> Result<(), Box<dyn std::error::Error>> {
+    /// # let alloc = Global;
     /// assert_eq!(KeyData::new(2, 4), KeyData::new(2, 5));
     /// assert_eq!(KeyData::new(4294967295, 9), KeyData::default());
+    /// # Ok(())
+    /// # }
     /// ```
     ///
     /// # Proved
@@ -70,8 +80,13 @@ impl KeyData {
     /// contract asks for an odd version and, at the greatest index, for version 1. In contrast to
     /// `new` nothing is tested or changed. Constant time. Rust lacks this call.
     ///
-    /// ```ignore
+    /// ```
+    /// # use slotmap_proved::{Global, Key, KeyData};
+    /// # fn main() -> Result<(), Box<dyn std::error::Error>> {
+    /// # let alloc = Global;
     /// assert_eq!(KeyData::exact(2, 3), KeyData::new(2, 3));
+    /// # Ok(())
+    /// # }
     /// ```
     ///
     /// # Proved
@@ -90,9 +105,14 @@ impl KeyData {
     ///
     /// Constant time. Rust lacks this call.
     ///
-    /// ```ignore
+    /// ```
+    /// # use slotmap_proved::{Global, Key, KeyData};
+    /// # fn main() -> Result<(), Box<dyn std::error::Error>> {
+    /// # let alloc = Global;
     /// assert_eq!(KeyData::new(2, 3).idx(), 2);
     /// assert_eq!(KeyData::default().idx(), 4294967295);
+    /// # Ok(())
+    /// # }
     /// ```
     ///
     /// # Proved
@@ -111,9 +131,14 @@ impl KeyData {
     ///
     /// Constant time. Rust lacks this call.
     ///
-    /// ```ignore
+    /// ```
+    /// # use slotmap_proved::{Global, Key, KeyData};
+    /// # fn main() -> Result<(), Box<dyn std::error::Error>> {
+    /// # let alloc = Global;
     /// assert_eq!(KeyData::new(2, 3).version(), 3);
     /// assert_eq!(KeyData::default().version(), 1);
+    /// # Ok(())
+    /// # }
     /// ```
     ///
     /// # Proved
@@ -133,9 +158,14 @@ impl KeyData {
     /// Code in other languages can hold a key as this number. `from_ffi` returns the key again.
     /// Constant time.
     ///
-    /// ```ignore
+    /// ```
+    /// # use slotmap_proved::{Global, Key, KeyData};
+    /// # fn main() -> Result<(), Box<dyn std::error::Error>> {
+    /// # let alloc = Global;
     /// assert_eq!(KeyData::new(1, 3).as_ffi(), 12884901889);
     /// assert_eq!(KeyData::default().as_ffi(), 8589934591);
+    /// # Ok(())
+    /// # }
     /// ```
     ///
     /// # Proved
@@ -156,9 +186,14 @@ impl KeyData {
     /// lowest bit set, are the version. If the index is 4294967295, the version becomes 1, so there
     /// is one null key. Rust keeps the version there, so its null keys can differ. Constant time.
     ///
-    /// ```ignore
+    /// ```
+    /// # use slotmap_proved::{Global, Key, KeyData};
+    /// # fn main() -> Result<(), Box<dyn std::error::Error>> {
+    /// # let alloc = Global;
     /// assert_eq!(KeyData::from_ffi(12884901889), KeyData::new(1, 3));
     /// assert_eq!(KeyData::from_ffi(17179869183), KeyData::default());
+    /// # Ok(())
+    /// # }
     /// ```
     ///
     /// # Proved
@@ -180,10 +215,15 @@ impl KeyData {
 /// It is older if `(a - b) mod 2^32` is at least 2^31. So at a distance of exactly 2^31 each of the
 /// two is older than the other. Constant time. In Rust it is private.
 ///
-/// ```ignore
+/// ```
+/// # use slotmap_proved::{Global, is_older_version, Key};
+/// # fn main() -> Result<(), Box<dyn std::error::Error>> {
+/// # let alloc = Global;
 /// assert!(is_older_version(1, 3));
 /// assert!(is_older_version(4294967295, 0));
 /// assert!(!is_older_version(3, 3));
+/// # Ok(())
+/// # }
 /// ```
 ///
 /// # Proved
@@ -238,10 +278,15 @@ impl fmt::Debug for KeyData {
 /// - keys are equal, ordered and hashed as their data are
 /// - the default is the null key
 ///
-/// ```ignore
+/// ```
+/// # use slotmap_proved::{Global, Key, KeyData, NodeKey};
+/// # fn main() -> Result<(), Box<dyn std::error::Error>> {
+/// # let alloc = Global;
 /// let key = NodeKey::from(KeyData::new(2, 3));
 /// assert_eq!(key.data(), KeyData::new(2, 3));
 /// assert!(key < NodeKey::null());
+/// # Ok(())
+/// # }
 /// ```
 pub trait Key: From<KeyData> + Copy + Default + Eq + Ord + Hash + fmt::Debug {
     /// The data of a key.
@@ -252,9 +297,14 @@ pub trait Key: From<KeyData> + Copy + Default + Eq + Ord + Hash + fmt::Debug {
     ///
     /// It is the default, too. Constant time.
     ///
-    /// ```ignore
+    /// ```
+    /// # use slotmap_proved::{DefaultKey, Global, Key, KeyData};
+    /// # fn main() -> Result<(), Box<dyn std::error::Error>> {
+    /// # let alloc = Global;
     /// assert_eq!(DefaultKey::null(), DefaultKey::default());
     /// assert_eq!(DefaultKey::null().data(), KeyData::new(4294967295, 1));
+    /// # Ok(())
+    /// # }
     /// ```
     ///
     /// # Proved
@@ -268,9 +318,14 @@ pub trait Key: From<KeyData> + Copy + Default + Eq + Ord + Hash + fmt::Debug {
     ///
     /// Constant time.
     ///
-    /// ```ignore
+    /// ```
+    /// # use slotmap_proved::{DefaultKey, Global, Key, KeyData};
+    /// # fn main() -> Result<(), Box<dyn std::error::Error>> {
+    /// # let alloc = Global;
     /// assert!(DefaultKey::null().is_null());
     /// assert!(!DefaultKey::from(KeyData::new(1, 1)).is_null());
+    /// # Ok(())
+    /// # }
     /// ```
     ///
     /// # Proved
@@ -284,10 +339,15 @@ pub trait Key: From<KeyData> + Copy + Default + Eq + Ord + Hash + fmt::Debug {
     ///
     /// Constant time.
     ///
-    /// ```ignore
+    /// ```
+    /// # use slotmap_proved::{DefaultKey, Global, Key, KeyData};
+    /// # fn main() -> Result<(), Box<dyn std::error::Error>> {
+    /// # let alloc = Global;
     /// let key = DefaultKey::from(KeyData::new(2, 3));
     /// assert_eq!(key.data().idx(), 2);
     /// assert_eq!(DefaultKey::from(key.data()), key);
+    /// # Ok(())
+    /// # }
     /// ```
     ///
     /// # Proved
@@ -301,10 +361,16 @@ pub trait Key: From<KeyData> + Copy + Default + Eq + Ord + Hash + fmt::Debug {
 
 /// The key type of a map that names no other.
 ///
-/// ```ignore
+/// ```
+/// # use slotmap_proved::{DefaultKey, Global, Key};
+/// # use slotmap_proved::fallible::SlotMap;
+/// # fn main() -> Result<(), Box<dyn std::error::Error>> {
+/// # let alloc = Global;
 /// let mut map: SlotMap<DefaultKey, u64> = SlotMap::new(alloc)?;
 /// let key: DefaultKey = map.insert(5)?;
 /// assert_eq!(map.get(key), Some(&5));
+/// # Ok(())
+/// # }
 /// ```
 #[derive(Clone, Copy, PartialEq, Eq, PartialOrd, Ord, Hash, Debug)]
 pub struct DefaultKey(KeyData);

@@ -11,12 +11,18 @@ use crate::proved::slotmap_core::keys::Key;
 
 /// What `or_put` did.
 ///
-/// ```ignore
+/// ```
+/// # use slotmap_proved::{DefaultKey, Global, Key, OrPut};
+/// # use slotmap_proved::fallible::{SecondaryMap, SlotMap};
+/// # fn main() -> Result<(), Box<dyn std::error::Error>> {
+/// # let alloc = Global;
 /// let mut map: SlotMap<DefaultKey, u64> = SlotMap::new(alloc)?;
 /// let mut side: SecondaryMap<DefaultKey, u64> = SecondaryMap::new(alloc)?;
 /// let key = map.insert(5)?;
 /// assert!(matches!(side.or_put(key, 1), OrPut::Placed));
 /// assert!(matches!(side.or_put(key, 2), OrPut::Kept(2)));
+/// # Ok(())
+/// # }
 /// ```
 
 pub enum OrPut<V> {
@@ -32,9 +38,15 @@ pub enum OrPut<V> {
 
 /// The error of `try_entry`: the key has no entry, or memory ran out for its slot.
 ///
-/// ```ignore
+/// ```
+/// # use slotmap_proved::{DefaultKey, Global, Key, NoEntry};
+/// # use slotmap_proved::fallible::SecondaryMap;
+/// # fn main() -> Result<(), Box<dyn std::error::Error>> {
+/// # let alloc = Global;
 /// let mut side: SecondaryMap<DefaultKey, u64> = SecondaryMap::new(alloc)?;
 /// assert!(matches!(side.try_entry(DefaultKey::null()), Err(NoEntry::Older)));
+/// # Ok(())
+/// # }
 /// ```
 #[derive(Debug)]
 pub enum NoEntry {
@@ -52,12 +64,18 @@ pub enum NoEntry {
 /// on one key takes constant time, unless slots are made or memory grows; in a sparse map only if the
 /// hasher spreads the indices. Rust lacks this trait.
 ///
-/// ```ignore
+/// ```
+/// # use slotmap_proved::{DefaultKey, Global, Key, Secondary};
+/// # use slotmap_proved::fallible::{SecondaryMap, SlotMap};
+/// # fn main() -> Result<(), Box<dyn std::error::Error>> {
+/// # let alloc = Global;
 /// let mut map: SlotMap<DefaultKey, u64> = SlotMap::new(alloc)?;
 /// let mut side: SecondaryMap<DefaultKey, u64> = SecondaryMap::new(alloc)?;
 /// let key = map.insert(5)?;
 /// Secondary::insert(&mut side, key, 7)?;
 /// assert_eq!(Secondary::get(&side, key), Some(&7));
+/// # Ok(())
+/// # }
 /// ```
 pub trait Secondary<K: Key, V: Sized> {
     // What the map holds now.
@@ -66,9 +84,15 @@ pub trait Secondary<K: Key, V: Sized> {
     ///
     /// Constant time.
     ///
-    /// ```ignore
+    /// ```
+    /// # use slotmap_proved::{DefaultKey, Global, Key, Secondary};
+    /// # use slotmap_proved::fallible::SecondaryMap;
+    /// # fn main() -> Result<(), Box<dyn std::error::Error>> {
+    /// # let alloc = Global;
     /// let side: SecondaryMap<DefaultKey, u64> = SecondaryMap::new(alloc)?;
     /// assert_eq!(Secondary::len(&side), 0);
+    /// # Ok(())
+    /// # }
     /// ```
     ///
     /// # Proved
@@ -83,13 +107,19 @@ pub trait Secondary<K: Key, V: Sized> {
     ///
     /// Constant time; in a sparse map only if the hasher spreads the indices.
     ///
-    /// ```ignore
+    /// ```
+    /// # use slotmap_proved::{DefaultKey, Global, Key, Secondary};
+    /// # use slotmap_proved::fallible::{SecondaryMap, SlotMap};
+    /// # fn main() -> Result<(), Box<dyn std::error::Error>> {
+    /// # let alloc = Global;
     /// let mut map: SlotMap<DefaultKey, u64> = SlotMap::new(alloc)?;
     /// let mut side: SecondaryMap<DefaultKey, u64> = SecondaryMap::new(alloc)?;
     /// let (a, b) = (map.insert(1)?, map.insert(2)?);
     /// side.insert(a, 10)?;
     /// assert!(Secondary::contains_key(&side, a));
     /// assert!(!Secondary::contains_key(&side, b));
+    /// # Ok(())
+    /// # }
     /// ```
     ///
     /// # Proved
@@ -104,13 +134,19 @@ pub trait Secondary<K: Key, V: Sized> {
     ///
     /// Constant time; in a sparse map only if the hasher spreads the indices.
     ///
-    /// ```ignore
+    /// ```
+    /// # use slotmap_proved::{DefaultKey, Global, Key, Secondary};
+    /// # use slotmap_proved::fallible::{SecondaryMap, SlotMap};
+    /// # fn main() -> Result<(), Box<dyn std::error::Error>> {
+    /// # let alloc = Global;
     /// let mut map: SlotMap<DefaultKey, u64> = SlotMap::new(alloc)?;
     /// let mut side: SecondaryMap<DefaultKey, u64> = SecondaryMap::new(alloc)?;
     /// let (a, b) = (map.insert(1)?, map.insert(2)?);
     /// side.insert(a, 10)?;
     /// assert_eq!(Secondary::get(&side, a), Some(&10));
     /// assert_eq!(Secondary::get(&side, b), None);
+    /// # Ok(())
+    /// # }
     /// ```
     ///
     /// # Proved
@@ -129,13 +165,19 @@ pub trait Secondary<K: Key, V: Sized> {
     /// If memory runs out, the map holds what it held, and the error holds the value. That can happen
     /// only if the key's entry is vacant.
     ///
-    /// ```ignore
+    /// ```
+    /// # use slotmap_proved::{DefaultKey, Global, Key, Secondary};
+    /// # use slotmap_proved::fallible::{SecondaryMap, SlotMap};
+    /// # fn main() -> Result<(), Box<dyn std::error::Error>> {
+    /// # let alloc = Global;
     /// let mut map: SlotMap<DefaultKey, u64> = SlotMap::new(alloc)?;
     /// let mut side: SecondaryMap<DefaultKey, u64> = SecondaryMap::new(alloc)?;
     /// let key = map.insert(5)?;
     /// assert_eq!(Secondary::insert(&mut side, key, 7)?, None);
     /// assert_eq!(Secondary::insert(&mut side, key, 8)?, Some(7));
     /// assert_eq!(Secondary::insert(&mut side, DefaultKey::null(), 9)?, None);
+    /// # Ok(())
+    /// # }
     /// ```
     ///
     /// # Proved
@@ -143,8 +185,10 @@ pub trait Secondary<K: Key, V: Sized> {
     /// ```text
     /// ensures value { IfOk result (λ before. before ≡ pair.get (pairs self.old) (K.data_of key)) }
     /// ensures ok { OnOk result (pairs self.new ≡ pair.put (pairs self.old) (K.data_of key) value) }
+    ///
     /// ensures err { IfErr result (λ error. RefusesPut (pairs self.old) (K.data_of key) value error.0) }
     /// ensures unchanged { OnErr result (pairs self.new ≡ pairs self.old) }
+    ///
     /// ensures valid { IsSecondary (pairs self.new) }
     /// ```
     fn insert(&mut self, key: K, value: V) -> Result<Option<V>, PutError<V>>;
@@ -153,13 +197,19 @@ pub trait Secondary<K: Key, V: Sized> {
     ///
     /// Constant time; in a sparse map only if the hasher spreads the indices.
     ///
-    /// ```ignore
+    /// ```
+    /// # use slotmap_proved::{DefaultKey, Global, Key, Secondary};
+    /// # use slotmap_proved::fallible::{SecondaryMap, SlotMap};
+    /// # fn main() -> Result<(), Box<dyn std::error::Error>> {
+    /// # let alloc = Global;
     /// let mut map: SlotMap<DefaultKey, u64> = SlotMap::new(alloc)?;
     /// let mut side: SecondaryMap<DefaultKey, u64> = SecondaryMap::new(alloc)?;
     /// let key = map.insert(5)?;
     /// side.insert(key, 7)?;
     /// assert_eq!(Secondary::remove(&mut side, key), Some(7));
     /// assert_eq!(Secondary::remove(&mut side, key), None);
+    /// # Ok(())
+    /// # }
     /// ```
     ///
     /// # Proved
@@ -167,6 +217,7 @@ pub trait Secondary<K: Key, V: Sized> {
     /// ```text
     /// ensures value { result ≡ pair.get (pairs self.old) (K.data_of key) }
     /// ensures removes { pairs self.new ≡ pair.remove (pairs self.old) (K.data_of key) }
+    ///
     /// ensures valid { IsSecondary (pairs self.new) }
     /// ```
     fn remove(&mut self, key: K) -> Option<V>;
@@ -175,13 +226,19 @@ pub trait Secondary<K: Key, V: Sized> {
     ///
     /// [`OrPut`] lists the results.
     ///
-    /// ```ignore
+    /// ```
+    /// # use slotmap_proved::{DefaultKey, Global, Key, OrPut, Secondary};
+    /// # use slotmap_proved::fallible::{SecondaryMap, SlotMap};
+    /// # fn main() -> Result<(), Box<dyn std::error::Error>> {
+    /// # let alloc = Global;
     /// let mut map: SlotMap<DefaultKey, u64> = SlotMap::new(alloc)?;
     /// let mut side: SecondaryMap<DefaultKey, u64> = SecondaryMap::new(alloc)?;
     /// let key = map.insert(5)?;
     /// side.insert(key, 7)?;
     /// assert!(matches!(Secondary::or_put(&mut side, key, 8), OrPut::Kept(8)));
     /// assert_eq!(side.get(key), Some(&7));
+    /// # Ok(())
+    /// # }
     /// ```
     ///
     /// # Proved
@@ -198,14 +255,21 @@ pub trait Secondary<K: Key, V: Sized> {
 /// Each variant names its reply, a variant of [`SecondaryReply`]. `look` is the closure that the
 /// run is given.
 ///
-/// ```ignore
+/// ```
+/// # use slotmap_proved::{DefaultKey, Global, Key, OutOfMemory};
+/// # use slotmap_proved::fallible::{SecondaryMap, SlotMap};
+/// # use slotmap_proved::runs::{run_secondary, SecondaryCommand, SecondaryReply};
+/// # fn main() -> Result<(), Box<dyn std::error::Error>> {
+/// # let alloc = Global;
 /// let mut map: SlotMap<DefaultKey, u64> = SlotMap::new(alloc)?;
 /// let mut side: SecondaryMap<DefaultKey, u64> = SecondaryMap::new(alloc)?;
 /// let key = map.insert(5)?;
-/// let commands = vec![SecondaryCommand::Insert(key, 7), SecondaryCommand::Get(key)]?;
+/// let commands = vec![SecondaryCommand::Insert(key, 7), SecondaryCommand::Get(key)].into();
 /// let replies = run_secondary(alloc, &mut side, commands, |value: &u64| *value + 1)
 ///     .map_err(|_| OutOfMemory)?;
 /// assert!(matches!(replies[1], SecondaryReply::Looked(Some(8))));
+/// # Ok(())
+/// # }
 /// ```
 pub enum SecondaryCommand<K, V> {
     /// Inserts the value under this key: `Old`; or `Memory`, with the value. If the key is null, or older
@@ -225,12 +289,19 @@ pub enum SecondaryCommand<K, V> {
 
 /// The reply to a command to a secondary map.
 ///
-/// ```ignore
+/// ```
+/// # use slotmap_proved::{DefaultKey, Global, Key, OutOfMemory};
+/// # use slotmap_proved::fallible::SecondaryMap;
+/// # use slotmap_proved::runs::{run_secondary, SecondaryCommand, SecondaryReply};
+/// # fn main() -> Result<(), Box<dyn std::error::Error>> {
+/// # let alloc = Global;
 /// let mut side: SecondaryMap<DefaultKey, u64> = SecondaryMap::new(alloc)?;
-/// let commands = vec![SecondaryCommand::Remove(DefaultKey::null())]?;
+/// let commands = vec![SecondaryCommand::Remove(DefaultKey::null())].into();
 /// let replies = run_secondary(alloc, &mut side, commands, |value: &u64| *value)
 ///     .map_err(|_| OutOfMemory)?;
 /// assert!(matches!(replies[0], SecondaryReply::Taken(None)));
+/// # Ok(())
+/// # }
 /// ```
 pub enum SecondaryReply<V, R> {
     /// The value that the key had, if any.

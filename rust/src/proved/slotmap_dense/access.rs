@@ -27,11 +27,20 @@ impl<K: Key, V: Sized> DenseSlotMap<K, V> {
     /// A removed or detached key isn't live, nor is the null key. A key of another map is live here
     /// only if this map has a live key of the same index and version. Constant time.
     ///
-    /// ```ignore
+    /// ```
+    /// # use slotmap_proved::{DefaultKey, Global, Key};
+    /// # use slotmap_proved::fallible::DenseSlotMap;
+    /// # fn main() -> Result<(), Box<dyn std::error::Error>> {
+    /// # let alloc = Global;
+    /// # let mut map: DenseSlotMap<DefaultKey, u64> = DenseSlotMap::new(alloc)?;
+    /// # let a = map.insert(1)?;
+    /// # let b = map.insert(2)?;
     /// assert!(map.contains_key(a));
     /// map.remove(a);
     /// assert!(!map.contains_key(a));
     /// assert!(!map.contains_key(DefaultKey::null()));
+    /// # Ok(())
+    /// # }
     /// ```
     ///
     /// # Proved
@@ -50,10 +59,19 @@ impl<K: Key, V: Sized> DenseSlotMap<K, V> {
     ///
     /// Constant time.
     ///
-    /// ```ignore
+    /// ```
+    /// # use slotmap_proved::{DefaultKey, Global, Key};
+    /// # use slotmap_proved::fallible::DenseSlotMap;
+    /// # fn main() -> Result<(), Box<dyn std::error::Error>> {
+    /// # let alloc = Global;
+    /// # let mut map: DenseSlotMap<DefaultKey, u64> = DenseSlotMap::new(alloc)?;
+    /// # let a = map.insert(1)?;
+    /// # let b = map.insert(2)?;
     /// assert_eq!(map.get(b), Some(&2));
     /// map.remove(b);
     /// assert_eq!(map.get(b), None);
+    /// # Ok(())
+    /// # }
     /// ```
     ///
     /// # Proved
@@ -74,8 +92,17 @@ impl<K: Key, V: Sized> DenseSlotMap<K, V> {
     /// The contract requires that the key is live. So this call is safe; Rust's is `unsafe`.
     /// Constant time.
     ///
-    /// ```ignore
+    /// ```
+    /// # use slotmap_proved::{DefaultKey, Global, Key};
+    /// # use slotmap_proved::fallible::DenseSlotMap;
+    /// # fn main() -> Result<(), Box<dyn std::error::Error>> {
+    /// # let alloc = Global;
+    /// # let mut map: DenseSlotMap<DefaultKey, u64> = DenseSlotMap::new(alloc)?;
+    /// # let a = map.insert(1)?;
+    /// # let b = map.insert(2)?;
     /// assert_eq!(*map.get_unchecked(a), 1);
+    /// # Ok(())
+    /// # }
     /// ```
     ///
     /// # Proved
@@ -98,11 +125,20 @@ impl<K: Key, V: Sized> DenseSlotMap<K, V> {
     /// Once the reference ends, the key has the last value written through it. All else is as
     /// before. Constant time.
     ///
-    /// ```ignore
+    /// ```
+    /// # use slotmap_proved::{DefaultKey, Global, Key};
+    /// # use slotmap_proved::fallible::DenseSlotMap;
+    /// # fn main() -> Result<(), Box<dyn std::error::Error>> {
+    /// # let alloc = Global;
+    /// # let mut map: DenseSlotMap<DefaultKey, u64> = DenseSlotMap::new(alloc)?;
+    /// # let a = map.insert(1)?;
+    /// # let b = map.insert(2)?;
     /// if let Some(value) = map.get_mut(a) {
     ///     *value = 5;
     /// }
     /// assert_eq!(map.get(a), Some(&5));
+    /// # Ok(())
+    /// # }
     /// ```
     ///
     /// # Proved
@@ -127,9 +163,18 @@ impl<K: Key, V: Sized> DenseSlotMap<K, V> {
     /// The contract requires that the key is live. So this call is safe; Rust's is `unsafe`.
     /// Constant time.
     ///
-    /// ```ignore
+    /// ```
+    /// # use slotmap_proved::{DefaultKey, Global, Key};
+    /// # use slotmap_proved::fallible::DenseSlotMap;
+    /// # fn main() -> Result<(), Box<dyn std::error::Error>> {
+    /// # let alloc = Global;
+    /// # let mut map: DenseSlotMap<DefaultKey, u64> = DenseSlotMap::new(alloc)?;
+    /// # let a = map.insert(1)?;
+    /// # let b = map.insert(2)?;
     /// *map.get_unchecked_mut(a) = 5;
     /// assert_eq!(map.get(a), Some(&5));
+    /// # Ok(())
+    /// # }
     /// ```
     ///
     /// # Proved
@@ -153,10 +198,19 @@ impl<K: Key, V: Sized> DenseSlotMap<K, V> {
     /// If the key isn't live, nothing changes, and the new value is returned as the error. Constant
     /// time. Rust lacks this call.
     ///
-    /// ```ignore
+    /// ```
+    /// # use slotmap_proved::{DefaultKey, Global, Key};
+    /// # use slotmap_proved::fallible::DenseSlotMap;
+    /// # fn main() -> Result<(), Box<dyn std::error::Error>> {
+    /// # let alloc = Global;
+    /// # let mut map: DenseSlotMap<DefaultKey, u64> = DenseSlotMap::new(alloc)?;
+    /// # let a = map.insert(1)?;
+    /// # let b = map.insert(2)?;
     /// assert_eq!(map.replace(a, 5), Ok(1));
     /// map.remove(a);
     /// assert_eq!(map.replace(a, 6), Err(6));
+    /// # Ok(())
+    /// # }
     /// ```
     ///
     /// # Proved
@@ -183,10 +237,19 @@ impl<K: Key, V: Sized> DenseSlotMap<K, V> {
     /// returned as the error. It looks up each key and compares each two, and allocates nothing.
     /// Its time doesn't depend on the size of the map. Rust lacks this call.
     ///
-    /// ```ignore
+    /// ```
+    /// # use slotmap_proved::{DefaultKey, Global, Key};
+    /// # use slotmap_proved::fallible::DenseSlotMap;
+    /// # fn main() -> Result<(), Box<dyn std::error::Error>> {
+    /// # let alloc = Global;
+    /// # let mut map: DenseSlotMap<DefaultKey, u64> = DenseSlotMap::new(alloc)?;
+    /// # let a = map.insert(1)?;
+    /// # let b = map.insert(2)?;
     /// assert_eq!(map.replace_disjoint([a, b], [5, 6]), Ok([1, 2]));
     /// assert_eq!(map.get(b), Some(&6));
     /// assert_eq!(map.replace_disjoint([a, a], [7, 8]), Err([7, 8]));
+    /// # Ok(())
+    /// # }
     /// ```
     ///
     /// # Proved
@@ -195,8 +258,10 @@ impl<K: Key, V: Sized> DenseSlotMap<K, V> {
     /// ensures which { IsOk result ↔ CanReplace value_of self.old (map_list K.data_of keys) }
     /// ensures value { IfOk result (AreValuesOf value_of self.old (map_list K.data_of keys)) }
     /// ensures ok { OnOk result (self.new ≡ with_values with_value_of self.old (map_list K.data_of keys) values) }
+    ///
     /// ensures err { IfErr result (λ back. back ≡ values) }
     /// ensures unchanged { OnErr result (self.new ≡ self.old) }
+    ///
     /// ensures valid { StaysDense self.old self.new }
     /// ```
     #[inline]
@@ -222,9 +287,18 @@ impl<K: Key, V: Sized> DenseSlotMap<K, V> {
     /// else they fail. It looks up each key and compares each two, and allocates nothing. Rust
     /// lacks this call.
     ///
-    /// ```ignore
+    /// ```
+    /// # use slotmap_proved::{DefaultKey, Global, Key};
+    /// # use slotmap_proved::fallible::DenseSlotMap;
+    /// # fn main() -> Result<(), Box<dyn std::error::Error>> {
+    /// # let alloc = Global;
+    /// # let mut map: DenseSlotMap<DefaultKey, u64> = DenseSlotMap::new(alloc)?;
+    /// # let a = map.insert(1)?;
+    /// # let b = map.insert(2)?;
     /// assert!(map.can_replace(&[a, b]));
     /// assert!(!map.can_replace(&[a, a]));
+    /// # Ok(())
+    /// # }
     /// ```
     ///
     /// # Proved
@@ -271,11 +345,20 @@ impl<K: Key, V: Sized> DenseSlotMap<K, V> {
     /// [`DenseSlotMap::can_replace`] first. In Rust there may be any number of keys. Constant time;
     /// allocates nothing.
     ///
-    /// ```ignore
+    /// ```
+    /// # use slotmap_proved::{DefaultKey, Global, Key};
+    /// # use slotmap_proved::fallible::DenseSlotMap;
+    /// # fn main() -> Result<(), Box<dyn std::error::Error>> {
+    /// # let alloc = Global;
+    /// # let mut map: DenseSlotMap<DefaultKey, u64> = DenseSlotMap::new(alloc)?;
+    /// # let a = map.insert(1)?;
+    /// # let b = map.insert(2)?;
     /// if let Some((first, second)) = map.get_disjoint_mut([a, b]) {
     ///     *first = *second;
     /// }
     /// assert_eq!(map.get(a), Some(&2));
+    /// # Ok(())
+    /// # }
     /// ```
     ///
     /// # Proved
@@ -302,10 +385,19 @@ impl<K: Key, V: Sized> DenseSlotMap<K, V> {
     /// `unsafe`. As at `get_disjoint_mut`, the contract doesn't say what the map holds once the
     /// references end. Constant time.
     ///
-    /// ```ignore
+    /// ```
+    /// # use slotmap_proved::{DefaultKey, Global, Key};
+    /// # use slotmap_proved::fallible::DenseSlotMap;
+    /// # fn main() -> Result<(), Box<dyn std::error::Error>> {
+    /// # let alloc = Global;
+    /// # let mut map: DenseSlotMap<DefaultKey, u64> = DenseSlotMap::new(alloc)?;
+    /// # let a = map.insert(1)?;
+    /// # let b = map.insert(2)?;
     /// let (first, second) = map.get_disjoint_unchecked_mut([a, b]);
     /// *first = *second;
     /// assert_eq!(map.get(a), Some(&2));
+    /// # Ok(())
+    /// # }
     /// ```
     ///
     /// # Proved
@@ -330,8 +422,17 @@ impl<K: Key, V: Sized> Index<K> for DenseSlotMap<K, V> {
     ///
     /// The contract requires that the key is live; in Rust any other key panics. Constant time.
     ///
-    /// ```ignore
+    /// ```
+    /// # use slotmap_proved::{DefaultKey, Global, Key};
+    /// # use slotmap_proved::fallible::DenseSlotMap;
+    /// # fn main() -> Result<(), Box<dyn std::error::Error>> {
+    /// # let alloc = Global;
+    /// # let mut map: DenseSlotMap<DefaultKey, u64> = DenseSlotMap::new(alloc)?;
+    /// # let a = map.insert(1)?;
+    /// # let b = map.insert(2)?;
     /// assert_eq!(map[a] + map[b], 3);
+    /// # Ok(())
+    /// # }
     /// ```
     #[inline]
     fn index(&self, key: K) -> &V {
@@ -344,9 +445,18 @@ impl<K: Key, V: Sized> IndexMut<K> for DenseSlotMap<K, V> {
     ///
     /// The contract requires that the key is live; in Rust any other key panics. Constant time.
     ///
-    /// ```ignore
+    /// ```
+    /// # use slotmap_proved::{DefaultKey, Global, Key};
+    /// # use slotmap_proved::fallible::DenseSlotMap;
+    /// # fn main() -> Result<(), Box<dyn std::error::Error>> {
+    /// # let alloc = Global;
+    /// # let mut map: DenseSlotMap<DefaultKey, u64> = DenseSlotMap::new(alloc)?;
+    /// # let a = map.insert(1)?;
+    /// # let b = map.insert(2)?;
     /// map[a] = 5;
     /// assert_eq!(map.get(a), Some(&5));
+    /// # Ok(())
+    /// # }
     /// ```
     ///
     /// # Proved

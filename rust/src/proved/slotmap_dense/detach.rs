@@ -17,11 +17,20 @@ impl<K: Key, V: Sized> DenseSlotMap<K, V> {
     /// moves to the position of the detached one in the packed order. Detaching retires no slot and
     /// allocates nothing. Constant time.
     ///
-    /// ```ignore
+    /// ```
+    /// # use slotmap_proved::{DefaultKey, Global, Key};
+    /// # use slotmap_proved::fallible::DenseSlotMap;
+    /// # fn main() -> Result<(), Box<dyn std::error::Error>> {
+    /// # let alloc = Global;
+    /// # let mut map: DenseSlotMap<DefaultKey, u64> = DenseSlotMap::new(alloc)?;
+    /// # let a = map.insert(1)?;
+    /// # let b = map.insert(2)?;
     /// assert_eq!(map.detach(a), Some(1));
     /// assert_eq!(map.get(a), None);
     /// map.reattach(a, 6)?;
     /// assert_eq!(map.get(a), Some(&6));
+    /// # Ok(())
+    /// # }
     /// ```
     ///
     /// # Proved
@@ -49,11 +58,20 @@ impl<K: Key, V: Sized> DenseSlotMap<K, V> {
     /// If room was reserved, it doesn't fail with `Memory`, and the capacity stays. Constant time, unless the
     /// vectors grow.
     ///
-    /// ```ignore
+    /// ```
+    /// # use slotmap_proved::{DefaultKey, Global, Key, ReattachError};
+    /// # use slotmap_proved::fallible::DenseSlotMap;
+    /// # fn main() -> Result<(), Box<dyn std::error::Error>> {
+    /// # let alloc = Global;
+    /// # let mut map: DenseSlotMap<DefaultKey, u64> = DenseSlotMap::new(alloc)?;
+    /// # let a = map.insert(1)?;
+    /// # let b = map.insert(2)?;
     /// map.detach(a);
     /// map.reattach(a, 5)?;
     /// assert_eq!(map.get(a), Some(&5));
     /// assert!(matches!(map.reattach(b, 6), Err(ReattachError::NotDetached(6))));
+    /// # Ok(())
+    /// # }
     /// ```
     ///
     /// # Proved

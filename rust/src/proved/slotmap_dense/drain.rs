@@ -70,13 +70,22 @@ impl<K: Key, V: Sized> DenseSlotMap<K, V> {
     /// the iterator early removes the remaining keys too. Detached keys stay detached. Each step
     /// takes constant time. Dropping it takes time linear in the number of keys that are left.
     ///
-    /// ```ignore
+    /// ```
+    /// # use slotmap_proved::{DefaultKey, Global, Key};
+    /// # use slotmap_proved::fallible::DenseSlotMap;
+    /// # fn main() -> Result<(), Box<dyn std::error::Error>> {
+    /// # let alloc = Global;
+    /// # let mut map: DenseSlotMap<DefaultKey, u64> = DenseSlotMap::new(alloc)?;
+    /// # let a = map.insert(1)?;
+    /// # let b = map.insert(2)?;
     /// let mut sum = 0;
     /// for (_, value) in map.drain() {
     ///     sum += value;
     /// }
     /// assert_eq!(sum, 3);
     /// assert!(map.is_empty());
+    /// # Ok(())
+    /// # }
     /// ```
     ///
     /// # Proved

@@ -58,10 +58,19 @@ impl<'a, K: Key, V> IterMut<'a, K, V> {
     ///
     /// Constant time.
     ///
-    /// ```ignore
+    /// ```
+    /// # use slotmap_proved::{DefaultKey, Global, Key};
+    /// # use slotmap_proved::fallible::DenseSlotMap;
+    /// # fn main() -> Result<(), Box<dyn std::error::Error>> {
+    /// # let alloc = Global;
+    /// # let mut map: DenseSlotMap<DefaultKey, u64> = DenseSlotMap::new(alloc)?;
+    /// # let a = map.insert(1)?;
+    /// # let b = map.insert(2)?;
     /// let mut pairs = map.iter_mut();
     /// pairs.next();
     /// assert_eq!(pairs.len(), 1);
+    /// # Ok(())
+    /// # }
     /// ```
     ///
     /// # Proved
@@ -122,10 +131,19 @@ impl<'a, K, V> ValuesMut<'a, K, V> {
     ///
     /// Constant time.
     ///
-    /// ```ignore
+    /// ```
+    /// # use slotmap_proved::{DefaultKey, Global, Key};
+    /// # use slotmap_proved::fallible::DenseSlotMap;
+    /// # fn main() -> Result<(), Box<dyn std::error::Error>> {
+    /// # let alloc = Global;
+    /// # let mut map: DenseSlotMap<DefaultKey, u64> = DenseSlotMap::new(alloc)?;
+    /// # let a = map.insert(1)?;
+    /// # let b = map.insert(2)?;
     /// let mut values = map.values_mut();
     /// values.next();
     /// assert_eq!(values.len(), 1);
+    /// # Ok(())
+    /// # }
     /// ```
     ///
     /// # Proved
@@ -149,11 +167,20 @@ impl<K: Key, V: Sized> DenseSlotMap<K, V> {
     /// Which reference wrote which value is tested, and is in no contract. It is made in constant
     /// time and allocates nothing.
     ///
-    /// ```ignore
+    /// ```
+    /// # use slotmap_proved::{DefaultKey, Global, Key};
+    /// # use slotmap_proved::fallible::DenseSlotMap;
+    /// # fn main() -> Result<(), Box<dyn std::error::Error>> {
+    /// # let alloc = Global;
+    /// # let mut map: DenseSlotMap<DefaultKey, u64> = DenseSlotMap::new(alloc)?;
+    /// # let a = map.insert(1)?;
+    /// # let b = map.insert(2)?;
     /// for (_, value) in map.iter_mut() {
     ///     *value += 10;
     /// }
     /// assert_eq!(map.get(a), Some(&11));
+    /// # Ok(())
+    /// # }
     /// ```
     ///
     /// # Proved
@@ -178,11 +205,20 @@ impl<K: Key, V: Sized> DenseSlotMap<K, V> {
     /// Once it ends, the values are written as by [`DenseSlotMap::iter_mut`]. Here too, which
     /// reference wrote which value is tested, and is in no contract. It costs the same.
     ///
-    /// ```ignore
+    /// ```
+    /// # use slotmap_proved::{DefaultKey, Global, Key};
+    /// # use slotmap_proved::fallible::DenseSlotMap;
+    /// # fn main() -> Result<(), Box<dyn std::error::Error>> {
+    /// # let alloc = Global;
+    /// # let mut map: DenseSlotMap<DefaultKey, u64> = DenseSlotMap::new(alloc)?;
+    /// # let a = map.insert(1)?;
+    /// # let b = map.insert(2)?;
     /// for value in map.values_mut() {
     ///     *value += 10;
     /// }
     /// assert_eq!(map.get(b), Some(&12));
+    /// # Ok(())
+    /// # }
     /// ```
     ///
     /// # Proved

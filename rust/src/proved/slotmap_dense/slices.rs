@@ -11,9 +11,18 @@ impl<K: Key, V: Sized> DenseSlotMap<K, V> {
     ///
     /// Constant time.
     ///
-    /// ```ignore
+    /// ```
+    /// # use slotmap_proved::{DefaultKey, Global, Key};
+    /// # use slotmap_proved::fallible::DenseSlotMap;
+    /// # fn main() -> Result<(), Box<dyn std::error::Error>> {
+    /// # let alloc = Global;
+    /// # let mut map: DenseSlotMap<DefaultKey, u64> = DenseSlotMap::new(alloc)?;
+    /// # let a = map.insert(1)?;
+    /// # let b = map.insert(2)?;
     /// let keys = map.keys_as_slice();
     /// assert_eq!((keys[0], keys[1]), (a, b));
+    /// # Ok(())
+    /// # }
     /// ```
     ///
     /// # Proved
@@ -32,9 +41,18 @@ impl<K: Key, V: Sized> DenseSlotMap<K, V> {
     ///
     /// Constant time.
     ///
-    /// ```ignore
+    /// ```
+    /// # use slotmap_proved::{DefaultKey, Global, Key};
+    /// # use slotmap_proved::fallible::DenseSlotMap;
+    /// # fn main() -> Result<(), Box<dyn std::error::Error>> {
+    /// # let alloc = Global;
+    /// # let mut map: DenseSlotMap<DefaultKey, u64> = DenseSlotMap::new(alloc)?;
+    /// # let a = map.insert(1)?;
+    /// # let b = map.insert(2)?;
     /// let values = map.values_as_slice();
     /// assert_eq!((values[0], values[1]), (1, 2));
+    /// # Ok(())
+    /// # }
     /// ```
     ///
     /// # Proved
@@ -53,9 +71,18 @@ impl<K: Key, V: Sized> DenseSlotMap<K, V> {
     ///
     /// Constant time.
     ///
-    /// ```ignore
+    /// ```
+    /// # use slotmap_proved::{DefaultKey, Global, Key};
+    /// # use slotmap_proved::fallible::DenseSlotMap;
+    /// # fn main() -> Result<(), Box<dyn std::error::Error>> {
+    /// # let alloc = Global;
+    /// # let mut map: DenseSlotMap<DefaultKey, u64> = DenseSlotMap::new(alloc)?;
+    /// # let a = map.insert(1)?;
+    /// # let b = map.insert(2)?;
     /// let (keys, values) = map.as_slices();
     /// assert_eq!((keys[1], values[1]), (b, 2));
+    /// # Ok(())
+    /// # }
     /// ```
     ///
     /// # Proved
@@ -76,9 +103,18 @@ impl<K: Key, V: Sized> DenseSlotMap<K, V> {
     /// A value written at a position is then the value of the key at this position. So sorting the
     /// slice moves values from key to key. Constant time.
     ///
-    /// ```ignore
+    /// ```
+    /// # use slotmap_proved::{DefaultKey, Global, Key};
+    /// # use slotmap_proved::fallible::DenseSlotMap;
+    /// # fn main() -> Result<(), Box<dyn std::error::Error>> {
+    /// # let alloc = Global;
+    /// # let mut map: DenseSlotMap<DefaultKey, u64> = DenseSlotMap::new(alloc)?;
+    /// # let a = map.insert(1)?;
+    /// # let b = map.insert(2)?;
     /// map.values_as_mut_slice()[0] = 5;
     /// assert_eq!(map.get(a), Some(&5));
+    /// # Ok(())
+    /// # }
     /// ```
     ///
     /// # Proved
@@ -98,11 +134,20 @@ impl<K: Key, V: Sized> DenseSlotMap<K, V> {
     ///
     /// A value written at a position is then the value of the key at this position. Constant time.
     ///
-    /// ```ignore
+    /// ```
+    /// # use slotmap_proved::{DefaultKey, Global, Key};
+    /// # use slotmap_proved::fallible::DenseSlotMap;
+    /// # fn main() -> Result<(), Box<dyn std::error::Error>> {
+    /// # let alloc = Global;
+    /// # let mut map: DenseSlotMap<DefaultKey, u64> = DenseSlotMap::new(alloc)?;
+    /// # let a = map.insert(1)?;
+    /// # let b = map.insert(2)?;
     /// let (keys, values) = map.as_mut_slices();
     /// values[1] = 5;
     /// assert_eq!(keys[1], b);
     /// assert_eq!(map.get(b), Some(&5));
+    /// # Ok(())
+    /// # }
     /// ```
     ///
     /// # Proved

@@ -10,12 +10,19 @@ use crate::proved::slotmap::dense::{Iter, Keys, Values};
 impl<K: Key, E: Sized, T: Tables<K>> World<K, E, T> {
     /// Returns an iterator over the entities with their values, in packed order.
     ///
-    /// ```ignore
+    /// ```
+    /// # use slotmap_proved::{DefaultKey, Key};
+    /// # use slotmap_proved::entities::{Apart, CloneKind, CloneTable, CloneTables, Kind, Table, Tables, World};
+    /// # use slotmap_proved::fallible::Global;
+    /// # fn main() -> Result<(), Box<dyn std::error::Error>> {
+    /// # let alloc = Global;
     /// let mut world: World<DefaultKey, u8, ()> = World::new(alloc)?;
     /// let hero = world.spawn(1)?;
     /// let mut entities = world.iter();
     /// assert_eq!(entities.next(), Some((hero, &1)));
     /// assert_eq!(entities.next(), None);
+    /// # Ok(())
+    /// # }
     /// ```
     ///
     /// # Proved
@@ -35,7 +42,12 @@ impl<K: Key, E: Sized, T: Tables<K>> World<K, E, T> {
     /// A loop over the positions may change the world on its way, and needs no vector of keys. An iterator,
     /// as [`World::keys`] or a join, borrows the world as long as it is used.
     ///
-    /// ```ignore
+    /// ```
+    /// # use slotmap_proved::{DefaultKey, Key};
+    /// # use slotmap_proved::entities::{Apart, CloneKind, CloneTable, CloneTables, First, Kind, Table, Tables, World};
+    /// # use slotmap_proved::fallible::{Global, SecondaryMap};
+    /// # fn main() -> Result<(), Box<dyn std::error::Error>> {
+    /// # let alloc = Global;
     /// let mut world: World<DefaultKey, u8, (SecondaryMap<DefaultKey, u32>, ())> = World::new(alloc)?;
     /// let hero = world.spawn_with::<First>(1, 7)?;
     /// for at in 0..world.len() {
@@ -45,6 +57,8 @@ impl<K: Key, E: Sized, T: Tables<K>> World<K, E, T> {
     ///     }
     /// }
     /// assert_eq!(world.component::<First>(hero), Some(&8));
+    /// # Ok(())
+    /// # }
     /// ```
     ///
     /// # Proved
@@ -62,10 +76,17 @@ impl<K: Key, E: Sized, T: Tables<K>> World<K, E, T> {
 
     /// Returns an iterator over the keys of the entities, in packed order.
     ///
-    /// ```ignore
+    /// ```
+    /// # use slotmap_proved::{DefaultKey, Key};
+    /// # use slotmap_proved::entities::{Apart, CloneKind, CloneTable, CloneTables, Kind, Table, Tables, World};
+    /// # use slotmap_proved::fallible::Global;
+    /// # fn main() -> Result<(), Box<dyn std::error::Error>> {
+    /// # let alloc = Global;
     /// let mut world: World<DefaultKey, u8, ()> = World::new(alloc)?;
     /// let hero = world.spawn(1)?;
     /// assert_eq!(world.keys().next(), Some(hero));
+    /// # Ok(())
+    /// # }
     /// ```
     ///
     /// # Proved
@@ -82,10 +103,17 @@ impl<K: Key, E: Sized, T: Tables<K>> World<K, E, T> {
 
     /// Returns an iterator over the values of the entities, in packed order.
     ///
-    /// ```ignore
+    /// ```
+    /// # use slotmap_proved::{DefaultKey, Key};
+    /// # use slotmap_proved::entities::{Apart, CloneKind, CloneTable, CloneTables, Kind, Table, Tables, World};
+    /// # use slotmap_proved::fallible::Global;
+    /// # fn main() -> Result<(), Box<dyn std::error::Error>> {
+    /// # let alloc = Global;
     /// let mut world: World<DefaultKey, u8, ()> = World::new(alloc)?;
     /// world.spawn(1)?;
     /// assert_eq!(world.values().next(), Some(&1));
+    /// # Ok(())
+    /// # }
     /// ```
     ///
     /// # Proved

@@ -86,7 +86,12 @@ impl<K: Key, E: Sized, T: Tables<K>> World<K, E, T> {
     /// It is made in constant time. All its steps together look each entity up once, and allocate
     /// nothing.
     ///
-    /// ```ignore
+    /// ```
+    /// # use slotmap_proved::{DefaultKey, Key};
+    /// # use slotmap_proved::entities::{Apart, CloneKind, CloneTable, CloneTables, First, Kind, Table, Tables, World};
+    /// # use slotmap_proved::fallible::{Global, SecondaryMap};
+    /// # fn main() -> Result<(), Box<dyn std::error::Error>> {
+    /// # let alloc = Global;
     /// let mut world: World<DefaultKey, u8, (SecondaryMap<DefaultKey, u32>, ())> = World::new(alloc)?;
     /// let hero = world.spawn(1)?;
     /// world.spawn(2)?;
@@ -94,6 +99,8 @@ impl<K: Key, E: Sized, T: Tables<K>> World<K, E, T> {
     /// let mut found = world.with::<First>();
     /// assert_eq!(found.next(), Some((hero, &7)));
     /// assert_eq!(found.next(), None);
+    /// # Ok(())
+    /// # }
     /// ```
     ///
     /// # Proved
@@ -119,7 +126,12 @@ impl<K: Key, E: Sized, T: Tables<K>> World<K, E, T> {
     /// It is made in constant time. All its steps together look each entity up once in the two
     /// tables, and allocate nothing.
     ///
-    /// ```ignore
+    /// ```
+    /// # use slotmap_proved::{DefaultKey, Key};
+    /// # use slotmap_proved::entities::{Apart, CloneKind, CloneTable, CloneTables, First, Kind, Second, Table, World};
+    /// # use slotmap_proved::fallible::{Global, SecondaryMap, SparseSecondaryMap};
+    /// # fn main() -> Result<(), Box<dyn std::error::Error>> {
+    /// # let alloc = Global;
     /// type Tables = (
     ///     SecondaryMap<DefaultKey, u32>,
     ///     (SparseSecondaryMap<DefaultKey, u64>, ()),
@@ -129,6 +141,8 @@ impl<K: Key, E: Sized, T: Tables<K>> World<K, E, T> {
     /// world.attach::<First>(hero, 7)?;
     /// world.attach::<Second>(hero, 8)?;
     /// assert_eq!(world.with_both::<First, Second>().next(), Some((hero, &7, &8)));
+    /// # Ok(())
+    /// # }
     /// ```
     ///
     /// # Proved

@@ -53,7 +53,12 @@ impl<K: Key, E: Sized, T: Tables<K>> World<K, E, T> {
     /// It is made in constant time. All its steps together look each entity up once in the table of `A`, and
     /// each that is yielded once in that of `B`. They allocate nothing.
     ///
-    /// ```ignore
+    /// ```
+    /// # use slotmap_proved::{DefaultKey, Key};
+    /// # use slotmap_proved::entities::{Apart, CloneKind, CloneTable, CloneTables, First, Kind, Second, Table, World};
+    /// # use slotmap_proved::fallible::{Global, SecondaryMap, SparseSecondaryMap};
+    /// # fn main() -> Result<(), Box<dyn std::error::Error>> {
+    /// # let alloc = Global;
     /// type Tables = (
     ///     SecondaryMap<DefaultKey, u32>,
     ///     (SparseSecondaryMap<DefaultKey, u64>, ()),
@@ -66,6 +71,8 @@ impl<K: Key, E: Sized, T: Tables<K>> World<K, E, T> {
     /// assert_eq!(found.next(), Some((hero, &7, Some(&8))));
     /// assert_eq!(found.next(), Some((plain, &9, None)));
     /// assert_eq!(found.next(), None);
+    /// # Ok(())
+    /// # }
     /// ```
     ///
     /// # Proved

@@ -61,7 +61,12 @@ impl<K: Key, E: Sized, T: Tables<K>> World<K, E, T> {
     /// It is made in constant time. All its steps together look each entity up once in the three
     /// tables, and allocate nothing.
     ///
-    /// ```ignore
+    /// ```
+    /// # use slotmap_proved::{DefaultKey, Key};
+    /// # use slotmap_proved::entities::{Apart, CloneKind, CloneTable, CloneTables, First, Kind, Second, Table, Third, World};
+    /// # use slotmap_proved::fallible::{Global, SecondaryMap, SparseSecondaryMap};
+    /// # fn main() -> Result<(), Box<dyn std::error::Error>> {
+    /// # let alloc = Global;
     /// type Tables = (
     ///     SecondaryMap<DefaultKey, u32>,
     ///     (SecondaryMap<DefaultKey, u64>, (SparseSecondaryMap<DefaultKey, bool>, ())),
@@ -72,12 +77,15 @@ impl<K: Key, E: Sized, T: Tables<K>> World<K, E, T> {
     /// world.attach::<Third>(hero, true)?;
     /// let mut found = world.with_three::<First, Second, Third>();
     /// assert_eq!(found.next(), Some((hero, &7, &8, &true)));
+    /// # Ok(())
+    /// # }
     /// ```
     ///
     /// # Proved
     ///
     /// ```text
-    /// ensures in_order { result ≡ three_found_by (get (A.Table.pairs (A.table self.now.tables))) (get (B.Table.pairs (B.table self.now.tables))) (get (C.Table.pairs (C.table self.now.tables))) self.now.entities.keys }
+    /// ensures in_order { result ≡ three_found_by (get (A.Table.pairs (A.table self.now.tables))) (get (B.Table.pairs (B.table self.now.tables)))
+    ///     (get (C.Table.pairs (C.table self.now.tables))) self.now.entities.keys }
     /// // So each of them is an entity, and is there once.
     /// ensures valid { IsDense self.now.entities }
     /// ```

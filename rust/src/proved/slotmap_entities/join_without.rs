@@ -54,7 +54,12 @@ impl<K: Key, E: Sized, T: Tables<K>> World<K, E, T> {
     /// It is made in constant time. All its steps together look each entity up once in the two
     /// tables, and allocate nothing.
     ///
-    /// ```ignore
+    /// ```
+    /// # use slotmap_proved::{DefaultKey, Key};
+    /// # use slotmap_proved::entities::{Apart, CloneKind, CloneTable, CloneTables, First, Kind, Second, Table, World};
+    /// # use slotmap_proved::fallible::{Global, SecondaryMap, SparseSecondaryMap};
+    /// # fn main() -> Result<(), Box<dyn std::error::Error>> {
+    /// # let alloc = Global;
     /// type Tables = (
     ///     SecondaryMap<DefaultKey, u32>,
     ///     (SparseSecondaryMap<DefaultKey, u64>, ()),
@@ -65,6 +70,8 @@ impl<K: Key, E: Sized, T: Tables<K>> World<K, E, T> {
     /// let mut found = world.with_without::<First, Second>();
     /// assert_eq!(found.next(), Some((plain, &9)));
     /// assert_eq!(found.next(), None);
+    /// # Ok(())
+    /// # }
     /// ```
     ///
     /// # Proved

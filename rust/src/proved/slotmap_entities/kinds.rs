@@ -17,11 +17,18 @@ pub trait Kind<K: Key, T: Tables<K>> {
 
     /// Returns its table.
     ///
-    /// ```ignore
+    /// ```
+    /// # use slotmap_proved::{DefaultKey, Key, KeyData};
+    /// # use slotmap_proved::entities::{Apart, CloneKind, CloneTable, CloneTables, First, Kind, Table, Tables};
+    /// # use slotmap_proved::fallible::{Global, SecondaryMap};
+    /// # fn main() -> Result<(), Box<dyn std::error::Error>> {
+    /// # let alloc = Global;
     /// let hero = DefaultKey::from(KeyData::new(1, 1));
     /// let mut tables: (SecondaryMap<DefaultKey, u32>, ()) = Tables::new(alloc)?;
     /// tables.0.insert(hero, 7)?;
     /// assert_eq!(First::table(&tables).get(hero), Some(&7));
+    /// # Ok(())
+    /// # }
     /// ```
     ///
     /// # Proved
@@ -33,11 +40,18 @@ pub trait Kind<K: Key, T: Tables<K>> {
 
     /// Returns a mutable reference to its table.
     ///
-    /// ```ignore
+    /// ```
+    /// # use slotmap_proved::{DefaultKey, Key, KeyData};
+    /// # use slotmap_proved::entities::{Apart, CloneKind, CloneTable, CloneTables, First, Kind, Table, Tables};
+    /// # use slotmap_proved::fallible::{Global, SecondaryMap};
+    /// # fn main() -> Result<(), Box<dyn std::error::Error>> {
+    /// # let alloc = Global;
     /// let hero = DefaultKey::from(KeyData::new(1, 1));
     /// let mut tables: (SecondaryMap<DefaultKey, u32>, ()) = Tables::new(alloc)?;
     /// First::table_mut(&mut tables).insert(hero, 7)?;
     /// assert_eq!(tables.0.get(hero), Some(&7));
+    /// # Ok(())
+    /// # }
     /// ```
     ///
     /// # Proved
@@ -68,7 +82,12 @@ pub trait Kind<K: Key, T: Tables<K>> {
 /// It says which calls on two kinds there are, as [`World::spawn_with_both`](crate::World::spawn_with_both),
 /// in either order of the kinds.
 ///
-/// ```ignore
+/// ```
+/// # use slotmap_proved::{DefaultKey, Key};
+/// # use slotmap_proved::entities::{Apart, CloneKind, CloneTable, CloneTables, First, Kind, Second, Table, World};
+/// # use slotmap_proved::fallible::{Global, SecondaryMap, SparseSecondaryMap};
+/// # fn main() -> Result<(), Box<dyn std::error::Error>> {
+/// # let alloc = Global;
 /// type Tables = (
 ///     SecondaryMap<DefaultKey, u32>,
 ///     (SparseSecondaryMap<DefaultKey, u64>, ()),
@@ -76,6 +95,8 @@ pub trait Kind<K: Key, T: Tables<K>> {
 /// let mut world: World<DefaultKey, u8, Tables> = World::new(alloc)?;
 /// let hero = world.spawn_with_both::<Second, First>(1, 8, 7)?;
 /// assert_eq!(world.both::<First, Second>(hero), Some((&7, &8)));
+/// # Ok(())
+/// # }
 /// ```
 pub trait Apart<K: Key, T: Tables<K>, B: Kind<K, T>>: Kind<K, T> {
     // A new table of one kind leaves that of the other as it is.

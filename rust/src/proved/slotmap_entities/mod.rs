@@ -22,7 +22,12 @@
 //! the entities and the sizes of the tables, `clone` in the slots and these sizes, `retain_components` in
 //! the size of one table.
 //!
-//! ```ignore
+//! ```
+//! # use slotmap_proved::{DefaultKey, Key};
+//! # use slotmap_proved::entities::{Apart, CloneKind, CloneTable, CloneTables, First, Kind, Second, Table, World};
+//! # use slotmap_proved::fallible::{Global, SecondaryMap, SparseSecondaryMap};
+//! # fn main() -> Result<(), Box<dyn std::error::Error>> {
+//! # let alloc = Global;
 //! type Position = First;
 //! type Name = Second;
 //! type Tables = (
@@ -36,6 +41,8 @@
 //! assert_eq!(world.despawn(hero), Some((1, (Some((3, 4)), (None, ())))));
 //! let other = world.spawn(2)?;
 //! assert_eq!(world.component::<Name>(other), None);
+//! # Ok(())
+//! # }
 //! ```
 
 #[allow(unused_imports)]
@@ -86,9 +93,16 @@ impl<E: Sized, T: Tables<DefaultKey>> World<DefaultKey, E, T> {
     ///
     /// It fails only if memory runs out.
     ///
-    /// ```ignore
+    /// ```
+    /// # use slotmap_proved::{DefaultKey, Key};
+    /// # use slotmap_proved::entities::{Apart, CloneKind, CloneTable, CloneTables, Kind, Table, Tables, World};
+    /// # use slotmap_proved::fallible::Global;
+    /// # fn main() -> Result<(), Box<dyn std::error::Error>> {
+    /// # let alloc = Global;
     /// let world: World<DefaultKey, u8, ()> = World::new(alloc)?;
     /// assert!(world.is_empty());
+    /// # Ok(())
+    /// # }
     /// ```
     ///
     /// # Proved
@@ -109,10 +123,17 @@ impl<E: Sized, T: Tables<DefaultKey>> World<DefaultKey, E, T> {
     /// It fails with `TooGreat` if `capacity` is over 4294967294, and with `Memory` if memory runs
     /// out.
     ///
-    /// ```ignore
+    /// ```
+    /// # use slotmap_proved::{DefaultKey, Key};
+    /// # use slotmap_proved::entities::{Apart, CloneKind, CloneTable, CloneTables, Kind, Table, Tables, World};
+    /// # use slotmap_proved::fallible::Global;
+    /// # fn main() -> Result<(), Box<dyn std::error::Error>> {
+    /// # let alloc = Global;
     /// let mut world: World<DefaultKey, u8, ()> = World::with_capacity(alloc, 2)?;
     /// assert!(world.capacity() >= 2);
     /// assert!(world.spawn(1).is_ok());
+    /// # Ok(())
+    /// # }
     /// ```
     ///
     /// # Proved
@@ -134,9 +155,16 @@ impl<K: Key, E: Sized, T: Tables<K>> World<K, E, T> {
     ///
     /// It fails only if memory runs out.
     ///
-    /// ```ignore
+    /// ```
+    /// # use slotmap_proved::{Key, NodeKey};
+    /// # use slotmap_proved::entities::{Apart, CloneKind, CloneTable, CloneTables, Kind, Table, Tables, World};
+    /// # use slotmap_proved::fallible::Global;
+    /// # fn main() -> Result<(), Box<dyn std::error::Error>> {
+    /// # let alloc = Global;
     /// let world: World<NodeKey, u8, ()> = World::with_key(alloc)?;
     /// assert!(world.is_empty());
+    /// # Ok(())
+    /// # }
     /// ```
     ///
     /// # Proved
@@ -156,9 +184,16 @@ impl<K: Key, E: Sized, T: Tables<K>> World<K, E, T> {
     /// It fails with `TooGreat` if `capacity` is over 4294967294, and with `Memory` if memory runs
     /// out.
     ///
-    /// ```ignore
+    /// ```
+    /// # use slotmap_proved::{Key, NodeKey};
+    /// # use slotmap_proved::entities::{Apart, CloneKind, CloneTable, CloneTables, Kind, Table, Tables, World};
+    /// # use slotmap_proved::fallible::Global;
+    /// # fn main() -> Result<(), Box<dyn std::error::Error>> {
+    /// # let alloc = Global;
     /// let world: World<NodeKey, u8, ()> = World::with_capacity_and_key(alloc, 2)?;
     /// assert!(world.capacity() >= 2);
+    /// # Ok(())
+    /// # }
     /// ```
     ///
     /// # Proved
@@ -183,10 +218,17 @@ impl<K: Key, E: Sized, T: Tables<K>> World<K, E, T> {
     /// It fails with `TooGreat` if more than 4294967294 entities would be there, counting those whose
     /// slots are retired, and with `Memory` if memory runs out. The world has the same entities then.
     ///
-    /// ```ignore
+    /// ```
+    /// # use slotmap_proved::{DefaultKey, Key};
+    /// # use slotmap_proved::entities::{Apart, CloneKind, CloneTable, CloneTables, Kind, Table, Tables, World};
+    /// # use slotmap_proved::fallible::Global;
+    /// # fn main() -> Result<(), Box<dyn std::error::Error>> {
+    /// # let alloc = Global;
     /// let mut world: World<DefaultKey, u8, ()> = World::new(alloc)?;
     /// world.reserve(2)?;
     /// assert!(world.spawn(1).is_ok());
+    /// # Ok(())
+    /// # }
     /// ```
     ///
     /// # Proved
@@ -203,12 +245,19 @@ impl<K: Key, E: Sized, T: Tables<K>> World<K, E, T> {
 
     /// Returns for how many entities there is memory, in constant time.
     ///
-    /// ```ignore
+    /// ```
+    /// # use slotmap_proved::{DefaultKey, Key};
+    /// # use slotmap_proved::entities::{Apart, CloneKind, CloneTable, CloneTables, Kind, Table, Tables, World};
+    /// # use slotmap_proved::fallible::Global;
+    /// # fn main() -> Result<(), Box<dyn std::error::Error>> {
+    /// # let alloc = Global;
     /// let mut world: World<DefaultKey, u8, ()> = World::with_capacity_and_key(alloc, 2)?;
     /// let capacity = world.capacity();
     /// assert!(capacity >= 2);
     /// world.spawn(1)?;
     /// assert_eq!(world.capacity(), capacity);
+    /// # Ok(())
+    /// # }
     /// ```
     ///
     /// # Proved
@@ -223,12 +272,19 @@ impl<K: Key, E: Sized, T: Tables<K>> World<K, E, T> {
 
     /// Returns how many entities there are, in constant time.
     ///
-    /// ```ignore
+    /// ```
+    /// # use slotmap_proved::{DefaultKey, Key};
+    /// # use slotmap_proved::entities::{Apart, CloneKind, CloneTable, CloneTables, Kind, Table, Tables, World};
+    /// # use slotmap_proved::fallible::Global;
+    /// # fn main() -> Result<(), Box<dyn std::error::Error>> {
+    /// # let alloc = Global;
     /// let mut world: World<DefaultKey, u8, ()> = World::new(alloc)?;
     /// let hero = world.spawn(1)?;
     /// assert_eq!(world.len(), 1);
     /// world.despawn(hero);
     /// assert_eq!(world.len(), 0);
+    /// # Ok(())
+    /// # }
     /// ```
     ///
     /// # Proved
@@ -244,11 +300,18 @@ impl<K: Key, E: Sized, T: Tables<K>> World<K, E, T> {
 
     /// Returns whether there is no entity, in constant time.
     ///
-    /// ```ignore
+    /// ```
+    /// # use slotmap_proved::{DefaultKey, Key};
+    /// # use slotmap_proved::entities::{Apart, CloneKind, CloneTable, CloneTables, Kind, Table, Tables, World};
+    /// # use slotmap_proved::fallible::Global;
+    /// # fn main() -> Result<(), Box<dyn std::error::Error>> {
+    /// # let alloc = Global;
     /// let mut world: World<DefaultKey, u8, ()> = World::new(alloc)?;
     /// assert!(world.is_empty());
     /// world.spawn(1)?;
     /// assert!(!world.is_empty());
+    /// # Ok(())
+    /// # }
     /// ```
     ///
     /// # Proved
@@ -263,12 +326,19 @@ impl<K: Key, E: Sized, T: Tables<K>> World<K, E, T> {
 
     /// Returns whether an entity exists, in constant time.
     ///
-    /// ```ignore
+    /// ```
+    /// # use slotmap_proved::{DefaultKey, Key};
+    /// # use slotmap_proved::entities::{Apart, CloneKind, CloneTable, CloneTables, Kind, Table, Tables, World};
+    /// # use slotmap_proved::fallible::Global;
+    /// # fn main() -> Result<(), Box<dyn std::error::Error>> {
+    /// # let alloc = Global;
     /// let mut world: World<DefaultKey, u8, ()> = World::new(alloc)?;
     /// let hero = world.spawn(1)?;
     /// assert!(world.contains_key(hero));
     /// world.despawn(hero);
     /// assert!(!world.contains_key(hero));
+    /// # Ok(())
+    /// # }
     /// ```
     ///
     /// # Proved
@@ -286,11 +356,18 @@ impl<K: Key, E: Sized, T: Tables<K>> World<K, E, T> {
     /// If there is room, it can't fail, and the capacity stays. If the call fails, the error holds the
     /// value, and the world has the same entities and components.
     ///
-    /// ```ignore
+    /// ```
+    /// # use slotmap_proved::{DefaultKey, Key};
+    /// # use slotmap_proved::entities::{Apart, CloneKind, CloneTable, CloneTables, Kind, Table, Tables, World};
+    /// # use slotmap_proved::fallible::Global;
+    /// # fn main() -> Result<(), Box<dyn std::error::Error>> {
+    /// # let alloc = Global;
     /// let mut world: World<DefaultKey, u8, ()> = World::new(alloc)?;
     /// let hero = world.spawn(1)?;
     /// assert_eq!(world.len(), 1);
     /// assert!(world.contains_key(hero));
+    /// # Ok(())
+    /// # }
     /// ```
     ///
     /// # Proved
@@ -305,14 +382,17 @@ impl<K: Key, E: Sized, T: Tables<K>> World<K, E, T> {
     /// ensures index { IfOk result (λ key. (K.data_of key).index ≤ places self.old.entities.content + 1) }
     /// // It is the last in the packed order.
     /// ensures order { IfOk result (λ key. Appends self.old.entities (K.data_of key) entity self.new.entities) }
+    ///
     /// // If there is room, it can't fail, and the capacity stays.
     /// ensures room { 0 < self.old.entities.content.room → IsOk result }
     /// ensures in_place { 0 < self.old.entities.content.room → self.new.entities.content.capacity ≡ self.old.entities.content.capacity }
     /// ensures capacity { self.old.entities.content.capacity ≤ self.new.entities.content.capacity }
+    ///
     /// // Why the call failed, and what that leaves.
     /// ensures err { IfErr result (Refuses self.old.entities.content entity) }
     /// ensures unchanged { OnErr result (Keeps self.old.entities.content self.new.entities.content) }
     /// ensures same_order { OnErr result (SameOrder self.old.entities self.new.entities) }
+    ///
     /// // All else is as before.
     /// ensures tables { self.new.tables ≡ self.old.tables }
     /// ensures gone { KeepsSpent self.old.entities.content self.new.entities.content }
@@ -327,12 +407,19 @@ impl<K: Key, E: Sized, T: Tables<K>> World<K, E, T> {
     /// unless the key was the last of its slot. No table loses room. If the entity doesn't exist, the
     /// call returns `None` and changes nothing.
     ///
-    /// ```ignore
+    /// ```
+    /// # use slotmap_proved::{DefaultKey, Key};
+    /// # use slotmap_proved::entities::{Apart, CloneKind, CloneTable, CloneTables, First, Kind, Table, Tables, World};
+    /// # use slotmap_proved::fallible::{Global, SecondaryMap};
+    /// # fn main() -> Result<(), Box<dyn std::error::Error>> {
+    /// # let alloc = Global;
     /// let mut world: World<DefaultKey, u8, (SecondaryMap<DefaultKey, u32>, ())> = World::new(alloc)?;
     /// let hero = world.spawn(1)?;
     /// world.attach::<First>(hero, 7)?;
     /// assert_eq!(world.despawn(hero), Some((1, (Some(7), ()))));
     /// assert_eq!(world.despawn(hero), None);
+    /// # Ok(())
+    /// # }
     /// ```
     ///
     /// # Proved
@@ -347,6 +434,7 @@ impl<K: Key, E: Sized, T: Tables<K>> World<K, E, T> {
     /// ensures removes { OnSome result (Removes self.old.entities.content (K.data_of key) self.new.entities.content) }
     /// // The last entity takes its position in the packed order.
     /// ensures order { IfSome result (λ removed. ClosesGap self.old.entities (K.data_of key) removed.0 self.new.entities) }
+    ///
     /// // All else is as before.
     /// ensures leaves { Leaves self.old.entities.content self.new.entities.content }
     /// ensures capacity { self.new.entities.content.capacity ≡ self.old.entities.content.capacity }
@@ -366,11 +454,18 @@ impl<K: Key, E: Sized, T: Tables<K>> World<K, E, T> {
     /// their slots. Each table has room for as many components in all as before. It takes time linear in the
     /// number of entities and in the sizes of the tables.
     ///
-    /// ```ignore
+    /// ```
+    /// # use slotmap_proved::{DefaultKey, Key};
+    /// # use slotmap_proved::entities::{Apart, CloneKind, CloneTable, CloneTables, Kind, Table, Tables, World};
+    /// # use slotmap_proved::fallible::Global;
+    /// # fn main() -> Result<(), Box<dyn std::error::Error>> {
+    /// # let alloc = Global;
     /// let mut world: World<DefaultKey, u8, ()> = World::new(alloc)?;
     /// let hero = world.spawn(1)?;
     /// world.clear();
     /// assert!(!world.contains_key(hero));
+    /// # Ok(())
+    /// # }
     /// ```
     ///
     /// # Proved
@@ -394,10 +489,17 @@ impl<K: Key, E: Sized, T: Tables<K>> World<K, E, T> {
 
     /// Returns the value of an entity, or `None` if it doesn't exist.
     ///
-    /// ```ignore
+    /// ```
+    /// # use slotmap_proved::{DefaultKey, Key};
+    /// # use slotmap_proved::entities::{Apart, CloneKind, CloneTable, CloneTables, Kind, Table, Tables, World};
+    /// # use slotmap_proved::fallible::Global;
+    /// # fn main() -> Result<(), Box<dyn std::error::Error>> {
+    /// # let alloc = Global;
     /// let mut world: World<DefaultKey, u8, ()> = World::new(alloc)?;
     /// let hero = world.spawn(1)?;
     /// assert_eq!(world.get(hero), Some(&1));
+    /// # Ok(())
+    /// # }
     /// ```
     ///
     /// # Proved
@@ -412,13 +514,20 @@ impl<K: Key, E: Sized, T: Tables<K>> World<K, E, T> {
 
     /// Returns a mutable reference to the value of an entity, or `None` if it doesn't exist.
     ///
-    /// ```ignore
+    /// ```
+    /// # use slotmap_proved::{DefaultKey, Key};
+    /// # use slotmap_proved::entities::{Apart, CloneKind, CloneTable, CloneTables, Kind, Table, Tables, World};
+    /// # use slotmap_proved::fallible::Global;
+    /// # fn main() -> Result<(), Box<dyn std::error::Error>> {
+    /// # let alloc = Global;
     /// let mut world: World<DefaultKey, u8, ()> = World::new(alloc)?;
     /// let hero = world.spawn(1)?;
     /// if let Some(value) = world.get_mut(hero) {
     ///     *value = 2;
     /// }
     /// assert_eq!(world.get(hero), Some(&2));
+    /// # Ok(())
+    /// # }
     /// ```
     ///
     /// # Proved
@@ -438,11 +547,18 @@ impl<K: Key, E: Sized, T: Tables<K>> World<K, E, T> {
     /// Returns the tables, for example to go through one with few components. Only entities have
     /// components.
     ///
-    /// ```ignore
+    /// ```
+    /// # use slotmap_proved::{DefaultKey, Key};
+    /// # use slotmap_proved::entities::{Apart, CloneKind, CloneTable, CloneTables, First, Kind, Table, Tables, World};
+    /// # use slotmap_proved::fallible::{Global, SparseSecondaryMap};
+    /// # fn main() -> Result<(), Box<dyn std::error::Error>> {
+    /// # let alloc = Global;
     /// let mut world: World<DefaultKey, u8, (SparseSecondaryMap<DefaultKey, u32>, ())> = World::new(alloc)?;
     /// let hero = world.spawn(1)?;
     /// world.attach::<First>(hero, 7)?;
     /// assert_eq!(world.tables().0.iter().next(), Some((hero, &7)));
+    /// # Ok(())
+    /// # }
     /// ```
     ///
     /// # Proved

@@ -28,9 +28,16 @@ pub trait Table<K: Key>: Sized {
 
     /// Makes an empty table. It fails only if memory runs out.
     ///
-    /// ```ignore
+    /// ```
+    /// # use slotmap_proved::{DefaultKey, Key};
+    /// # use slotmap_proved::entities::{Apart, CloneKind, CloneTable, CloneTables, Kind, Table, Tables};
+    /// # use slotmap_proved::fallible::{Global, SparseSecondaryMap};
+    /// # fn main() -> Result<(), Box<dyn std::error::Error>> {
+    /// # let alloc = Global;
     /// let table: SparseSecondaryMap<DefaultKey, u32> = Table::new(alloc)?;
     /// assert!(table.is_empty());
+    /// # Ok(())
+    /// # }
     /// ```
     ///
     /// # Proved
@@ -50,11 +57,18 @@ pub trait Table<K: Key>: Sized {
     /// The table has the same components then. If they fit already, nothing changes, and only a number
     /// that is too great is refused.
     ///
-    /// ```ignore
+    /// ```
+    /// # use slotmap_proved::{DefaultKey, Key, KeyData};
+    /// # use slotmap_proved::entities::{Apart, CloneKind, CloneTable, CloneTables, Kind, Table, Tables};
+    /// # use slotmap_proved::fallible::{Global, SparseSecondaryMap};
+    /// # fn main() -> Result<(), Box<dyn std::error::Error>> {
+    /// # let alloc = Global;
     /// let hero = DefaultKey::from(KeyData::new(1, 1));
     /// let mut table: SparseSecondaryMap<DefaultKey, u32> = Table::new(alloc)?;
     /// Table::reserve(&mut table, 1, 1)?;
     /// assert!(Table::insert(&mut table, hero, 7).is_ok());
+    /// # Ok(())
+    /// # }
     /// ```
     ///
     /// # Proved
@@ -71,12 +85,19 @@ pub trait Table<K: Key>: Sized {
 
     /// Returns whether an entity has a component here.
     ///
-    /// ```ignore
+    /// ```
+    /// # use slotmap_proved::{DefaultKey, Key, KeyData};
+    /// # use slotmap_proved::entities::{Apart, CloneKind, CloneTable, CloneTables, Kind, Table, Tables};
+    /// # use slotmap_proved::fallible::{Global, SparseSecondaryMap};
+    /// # fn main() -> Result<(), Box<dyn std::error::Error>> {
+    /// # let alloc = Global;
     /// let hero = DefaultKey::from(KeyData::new(1, 1));
     /// let mut table: SparseSecondaryMap<DefaultKey, u32> = Table::new(alloc)?;
     /// assert!(!Table::contains_key(&table, hero));
     /// Table::insert(&mut table, hero, 7)?;
     /// assert!(Table::contains_key(&table, hero));
+    /// # Ok(())
+    /// # }
     /// ```
     ///
     /// # Proved
@@ -88,12 +109,19 @@ pub trait Table<K: Key>: Sized {
 
     /// Returns the component of an entity, or `None` if it has none here.
     ///
-    /// ```ignore
+    /// ```
+    /// # use slotmap_proved::{DefaultKey, Key, KeyData};
+    /// # use slotmap_proved::entities::{Apart, CloneKind, CloneTable, CloneTables, Kind, Table, Tables};
+    /// # use slotmap_proved::fallible::{Global, SparseSecondaryMap};
+    /// # fn main() -> Result<(), Box<dyn std::error::Error>> {
+    /// # let alloc = Global;
     /// let hero = DefaultKey::from(KeyData::new(1, 1));
     /// let mut table: SparseSecondaryMap<DefaultKey, u32> = Table::new(alloc)?;
     /// assert_eq!(Table::get(&table, hero), None);
     /// Table::insert(&mut table, hero, 7)?;
     /// assert_eq!(Table::get(&table, hero), Some(&7));
+    /// # Ok(())
+    /// # }
     /// ```
     ///
     /// # Proved
@@ -105,7 +133,12 @@ pub trait Table<K: Key>: Sized {
 
     /// Returns a mutable reference to the component of an entity, or `None` if it has none here.
     ///
-    /// ```ignore
+    /// ```
+    /// # use slotmap_proved::{DefaultKey, Key, KeyData};
+    /// # use slotmap_proved::entities::{Apart, CloneKind, CloneTable, CloneTables, Kind, Table, Tables};
+    /// # use slotmap_proved::fallible::{Global, SparseSecondaryMap};
+    /// # fn main() -> Result<(), Box<dyn std::error::Error>> {
+    /// # let alloc = Global;
     /// let hero = DefaultKey::from(KeyData::new(1, 1));
     /// let mut table: SparseSecondaryMap<DefaultKey, u32> = Table::new(alloc)?;
     /// Table::insert(&mut table, hero, 7)?;
@@ -113,6 +146,8 @@ pub trait Table<K: Key>: Sized {
     ///     *component = 8;
     /// }
     /// assert_eq!(Table::get(&table, hero), Some(&8));
+    /// # Ok(())
+    /// # }
     /// ```
     ///
     /// # Proved
@@ -130,11 +165,18 @@ pub trait Table<K: Key>: Sized {
     /// A null key, or one older than that at its index, changes nothing: the component is dropped, and
     /// the result is `Ok(None)`. A newer key replaces an older one at its index.
     ///
-    /// ```ignore
+    /// ```
+    /// # use slotmap_proved::{DefaultKey, Key, KeyData};
+    /// # use slotmap_proved::entities::{Apart, CloneKind, CloneTable, CloneTables, Kind, Table, Tables};
+    /// # use slotmap_proved::fallible::{Global, SparseSecondaryMap};
+    /// # fn main() -> Result<(), Box<dyn std::error::Error>> {
+    /// # let alloc = Global;
     /// let hero = DefaultKey::from(KeyData::new(1, 1));
     /// let mut table: SparseSecondaryMap<DefaultKey, u32> = Table::new(alloc)?;
     /// assert_eq!(Table::insert(&mut table, hero, 7)?, None);
     /// assert_eq!(Table::insert(&mut table, hero, 8)?, Some(7));
+    /// # Ok(())
+    /// # }
     /// ```
     ///
     /// # Proved
@@ -157,12 +199,19 @@ pub trait Table<K: Key>: Sized {
 
     /// Removes the component of an entity, and returns it, or `None` if it has none here.
     ///
-    /// ```ignore
+    /// ```
+    /// # use slotmap_proved::{DefaultKey, Key, KeyData};
+    /// # use slotmap_proved::entities::{Apart, CloneKind, CloneTable, CloneTables, Kind, Table, Tables};
+    /// # use slotmap_proved::fallible::{Global, SparseSecondaryMap};
+    /// # fn main() -> Result<(), Box<dyn std::error::Error>> {
+    /// # let alloc = Global;
     /// let hero = DefaultKey::from(KeyData::new(1, 1));
     /// let mut table: SparseSecondaryMap<DefaultKey, u32> = Table::new(alloc)?;
     /// Table::insert(&mut table, hero, 7)?;
     /// assert_eq!(Table::remove(&mut table, hero), Some(7));
     /// assert_eq!(Table::remove(&mut table, hero), None);
+    /// # Ok(())
+    /// # }
     /// ```
     ///
     /// # Proved
@@ -178,12 +227,19 @@ pub trait Table<K: Key>: Sized {
     /// Calls `f` once for each component, which it may change, and removes those for which it returns
     /// false.
     ///
-    /// ```ignore
+    /// ```
+    /// # use slotmap_proved::{DefaultKey, Key, KeyData};
+    /// # use slotmap_proved::entities::{Apart, CloneKind, CloneTable, CloneTables, Kind, Table, Tables};
+    /// # use slotmap_proved::fallible::{Global, SparseSecondaryMap};
+    /// # fn main() -> Result<(), Box<dyn std::error::Error>> {
+    /// # let alloc = Global;
     /// let hero = DefaultKey::from(KeyData::new(1, 1));
     /// let mut table: SparseSecondaryMap<DefaultKey, u32> = Table::new(alloc)?;
     /// Table::insert(&mut table, hero, 7)?;
     /// Table::retain(&mut table, |_, component| *component > 7);
     /// assert!(!Table::contains_key(&table, hero));
+    /// # Ok(())
+    /// # }
     /// ```
     ///
     /// # Proved
@@ -200,12 +256,19 @@ pub trait Table<K: Key>: Sized {
 
     /// Removes all components. There is room for as many in all as before.
     ///
-    /// ```ignore
+    /// ```
+    /// # use slotmap_proved::{DefaultKey, Key, KeyData};
+    /// # use slotmap_proved::entities::{Apart, CloneKind, CloneTable, CloneTables, Kind, Table, Tables};
+    /// # use slotmap_proved::fallible::{Global, SparseSecondaryMap};
+    /// # fn main() -> Result<(), Box<dyn std::error::Error>> {
+    /// # let alloc = Global;
     /// let hero = DefaultKey::from(KeyData::new(1, 1));
     /// let mut table: SparseSecondaryMap<DefaultKey, u32> = Table::new(alloc)?;
     /// Table::insert(&mut table, hero, 7)?;
     /// Table::clear(&mut table);
     /// assert!(table.is_empty());
+    /// # Ok(())
+    /// # }
     /// ```
     ///
     /// # Proved

@@ -47,11 +47,18 @@ use crate::rt::std::alloc::Global;
 /// }
 /// ```
 ///
-/// ```ignore
+/// ```
+/// # use slotmap_proved::{DefaultKey, Key};
+/// # use slotmap_proved::entities::{Apart, CloneKind, CloneTable, CloneTables, Kind, Table, Tables};
+/// # use slotmap_proved::fallible::{Global, SecondaryMap, SparseSecondaryMap};
+/// # fn main() -> Result<(), Box<dyn std::error::Error>> {
+/// # let alloc = Global;
 /// let mut tables: (SecondaryMap<DefaultKey, u8>, (SparseSecondaryMap<DefaultKey, &str>, ())) =
 ///     Tables::new(alloc)?;
 /// let parts = Tables::remove(&mut tables, DefaultKey::null());
 /// assert_eq!(parts, (None, (None, ())));
+/// # Ok(())
+/// # }
 /// ```
 pub trait Tables<K: Key>: Sized {
     /// What an entity has in the tables: for each an `Option`, in the same pairs.
@@ -67,9 +74,16 @@ pub trait Tables<K: Key>: Sized {
 
     /// Makes empty tables. It fails only if memory runs out.
     ///
-    /// ```ignore
+    /// ```
+    /// # use slotmap_proved::{DefaultKey, Key};
+    /// # use slotmap_proved::entities::{Apart, CloneKind, CloneTable, CloneTables, Kind, Table, Tables};
+    /// # use slotmap_proved::fallible::{Global, SecondaryMap};
+    /// # fn main() -> Result<(), Box<dyn std::error::Error>> {
+    /// # let alloc = Global;
     /// let tables: (SecondaryMap<DefaultKey, u32>, ()) = Tables::new(alloc)?;
     /// assert!(tables.0.is_empty());
+    /// # Ok(())
+    /// # }
     /// ```
     ///
     /// # Proved
@@ -82,12 +96,19 @@ pub trait Tables<K: Key>: Sized {
 
     /// Removes the components of an entity from all tables, and returns them.
     ///
-    /// ```ignore
+    /// ```
+    /// # use slotmap_proved::{DefaultKey, Key, KeyData};
+    /// # use slotmap_proved::entities::{Apart, CloneKind, CloneTable, CloneTables, Kind, Table, Tables};
+    /// # use slotmap_proved::fallible::{Global, SecondaryMap};
+    /// # fn main() -> Result<(), Box<dyn std::error::Error>> {
+    /// # let alloc = Global;
     /// let hero = DefaultKey::from(KeyData::new(1, 1));
     /// let mut tables: (SecondaryMap<DefaultKey, u32>, ()) = Tables::new(alloc)?;
     /// tables.0.insert(hero, 7)?;
     /// assert_eq!(Tables::remove(&mut tables, hero), (Some(7), ()));
     /// assert!(tables.0.is_empty());
+    /// # Ok(())
+    /// # }
     /// ```
     ///
     /// # Proved
@@ -102,12 +123,19 @@ pub trait Tables<K: Key>: Sized {
 
     /// Removes all components of all entities. Each table has room for as many in all as before.
     ///
-    /// ```ignore
+    /// ```
+    /// # use slotmap_proved::{DefaultKey, Key, KeyData};
+    /// # use slotmap_proved::entities::{Apart, CloneKind, CloneTable, CloneTables, Kind, Table, Tables};
+    /// # use slotmap_proved::fallible::{Global, SecondaryMap};
+    /// # fn main() -> Result<(), Box<dyn std::error::Error>> {
+    /// # let alloc = Global;
     /// let hero = DefaultKey::from(KeyData::new(1, 1));
     /// let mut tables: (SecondaryMap<DefaultKey, u32>, ()) = Tables::new(alloc)?;
     /// tables.0.insert(hero, 7)?;
     /// Tables::clear(&mut tables);
     /// assert!(tables.0.is_empty());
+    /// # Ok(())
+    /// # }
     /// ```
     ///
     /// # Proved

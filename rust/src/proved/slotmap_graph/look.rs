@@ -11,12 +11,19 @@ use crate::proved::slotmap_bounded::outer;
 impl<K: Key, N: Sized, E: Sized> Graph<K, N, E> {
     /// Returns the value of a node, or `None` if the node doesn't exist, in constant time.
     ///
-    /// ```ignore
+    /// ```
+    /// # use slotmap_proved::{Key, NodeKey};
+    /// # use slotmap_proved::fallible::Global;
+    /// # use slotmap_proved::graph::Graph;
+    /// # fn main() -> Result<(), Box<dyn std::error::Error>> {
+    /// # let alloc = Global;
     /// let mut graph: Graph<NodeKey, &str, u64> = Graph::new(alloc)?;
     /// let a = graph.add_node("a")?;
     /// assert_eq!(graph.node(a), Some(&"a"));
     /// graph.remove_node(a);
     /// assert_eq!(graph.node(a), None);
+    /// # Ok(())
+    /// # }
     /// ```
     ///
     /// # Proved
@@ -32,13 +39,20 @@ impl<K: Key, N: Sized, E: Sized> Graph<K, N, E> {
     /// Returns a mutable reference to the value of a node, or `None` if the node doesn't exist, in
     /// constant time.
     ///
-    /// ```ignore
+    /// ```
+    /// # use slotmap_proved::{Key, NodeKey};
+    /// # use slotmap_proved::fallible::Global;
+    /// # use slotmap_proved::graph::Graph;
+    /// # fn main() -> Result<(), Box<dyn std::error::Error>> {
+    /// # let alloc = Global;
     /// let mut graph: Graph<NodeKey, u64, u64> = Graph::new(alloc)?;
     /// let a = graph.add_node(1)?;
     /// if let Some(value) = graph.node_mut(a) {
     ///     *value = 2;
     /// }
     /// assert_eq!(graph.node(a), Some(&2));
+    /// # Ok(())
+    /// # }
     /// ```
     ///
     /// # Proved
@@ -57,13 +71,20 @@ impl<K: Key, N: Sized, E: Sized> Graph<K, N, E> {
 
     /// Returns the value of an edge, or `None` if the edge doesn't exist, in constant time.
     ///
-    /// ```ignore
+    /// ```
+    /// # use slotmap_proved::{Key, NodeKey};
+    /// # use slotmap_proved::fallible::Global;
+    /// # use slotmap_proved::graph::Graph;
+    /// # fn main() -> Result<(), Box<dyn std::error::Error>> {
+    /// # let alloc = Global;
     /// let mut graph: Graph<NodeKey, &str, u64> = Graph::new(alloc)?;
     /// let a = graph.add_node("a")?;
     /// let edge = graph.add_edge(a, a, 5)?;
     /// assert_eq!(graph.edge(edge), Some(&5));
     /// graph.remove_edge(edge);
     /// assert_eq!(graph.edge(edge), None);
+    /// # Ok(())
+    /// # }
     /// ```
     ///
     /// # Proved
@@ -79,7 +100,12 @@ impl<K: Key, N: Sized, E: Sized> Graph<K, N, E> {
     /// Returns a mutable reference to the value of an edge, or `None` if the edge doesn't exist, in
     /// constant time.
     ///
-    /// ```ignore
+    /// ```
+    /// # use slotmap_proved::{Key, NodeKey};
+    /// # use slotmap_proved::fallible::Global;
+    /// # use slotmap_proved::graph::Graph;
+    /// # fn main() -> Result<(), Box<dyn std::error::Error>> {
+    /// # let alloc = Global;
     /// let mut graph: Graph<NodeKey, u64, u64> = Graph::new(alloc)?;
     /// let a = graph.add_node(1)?;
     /// let edge = graph.add_edge(a, a, 5)?;
@@ -87,6 +113,8 @@ impl<K: Key, N: Sized, E: Sized> Graph<K, N, E> {
     ///     *value = 6;
     /// }
     /// assert_eq!(graph.edge(edge), Some(&6));
+    /// # Ok(())
+    /// # }
     /// ```
     ///
     /// # Proved
@@ -107,12 +135,19 @@ impl<K: Key, N: Sized, E: Sized> Graph<K, N, E> {
     /// constant time. Both nodes exist. If the compiler inlines this call, a look-up of one of them
     /// right after it needs no test.
     ///
-    /// ```ignore
+    /// ```
+    /// # use slotmap_proved::{Key, NodeKey};
+    /// # use slotmap_proved::fallible::Global;
+    /// # use slotmap_proved::graph::Graph;
+    /// # fn main() -> Result<(), Box<dyn std::error::Error>> {
+    /// # let alloc = Global;
     /// let mut graph: Graph<NodeKey, &str, u64> = Graph::new(alloc)?;
     /// let a = graph.add_node("a")?;
     /// let b = graph.add_node("b")?;
     /// let edge = graph.add_edge(a, b, 5)?;
     /// assert_eq!(graph.edge_ends(edge), Some((a, b)));
+    /// # Ok(())
+    /// # }
     /// ```
     ///
     /// # Proved
@@ -136,7 +171,12 @@ impl<K: Key, N: Sized, E: Sized> Graph<K, N, E> {
     ///
     /// Constant time. A node that doesn't exist has none.
     ///
-    /// ```ignore
+    /// ```
+    /// # use slotmap_proved::{Key, NodeKey};
+    /// # use slotmap_proved::fallible::Global;
+    /// # use slotmap_proved::graph::Graph;
+    /// # fn main() -> Result<(), Box<dyn std::error::Error>> {
+    /// # let alloc = Global;
     /// let mut graph: Graph<NodeKey, &str, u64> = Graph::new(alloc)?;
     /// let a = graph.add_node("a")?;
     /// let first = graph.add_edge(a, a, 5)?;
@@ -145,6 +185,8 @@ impl<K: Key, N: Sized, E: Sized> Graph<K, N, E> {
     /// assert_eq!(edges.next(), Some(first));
     /// assert_eq!(edges.next(), Some(second));
     /// assert_eq!(edges.next(), None);
+    /// # Ok(())
+    /// # }
     /// ```
     ///
     /// # Proved
@@ -163,13 +205,20 @@ impl<K: Key, N: Sized, E: Sized> Graph<K, N, E> {
     ///
     /// Constant time. A node that doesn't exist has none.
     ///
-    /// ```ignore
+    /// ```
+    /// # use slotmap_proved::{Key, NodeKey};
+    /// # use slotmap_proved::fallible::Global;
+    /// # use slotmap_proved::graph::Graph;
+    /// # fn main() -> Result<(), Box<dyn std::error::Error>> {
+    /// # let alloc = Global;
     /// let mut graph: Graph<NodeKey, &str, u64> = Graph::new(alloc)?;
     /// let a = graph.add_node("a")?;
     /// let b = graph.add_node("b")?;
     /// let edge = graph.add_edge(a, b, 5)?;
     /// assert_eq!(graph.edges_to(b).next(), Some(edge));
     /// assert_eq!(graph.edges_to(a).len(), 0);
+    /// # Ok(())
+    /// # }
     /// ```
     ///
     /// # Proved
@@ -185,13 +234,20 @@ impl<K: Key, N: Sized, E: Sized> Graph<K, N, E> {
 
     /// Returns how many edges go out of a node, in constant time: 0 if the node doesn't exist.
     ///
-    /// ```ignore
+    /// ```
+    /// # use slotmap_proved::{Key, NodeKey};
+    /// # use slotmap_proved::fallible::Global;
+    /// # use slotmap_proved::graph::Graph;
+    /// # fn main() -> Result<(), Box<dyn std::error::Error>> {
+    /// # let alloc = Global;
     /// let mut graph: Graph<NodeKey, &str, u64> = Graph::new(alloc)?;
     /// let a = graph.add_node("a")?;
     /// let b = graph.add_node("b")?;
     /// graph.add_edge(a, b, 5)?;
     /// assert_eq!(graph.out_degree(a), 1);
     /// assert_eq!(graph.out_degree(b), 0);
+    /// # Ok(())
+    /// # }
     /// ```
     ///
     /// # Proved
@@ -206,13 +262,20 @@ impl<K: Key, N: Sized, E: Sized> Graph<K, N, E> {
 
     /// Returns how many edges come into a node, in constant time: 0 if the node doesn't exist.
     ///
-    /// ```ignore
+    /// ```
+    /// # use slotmap_proved::{Key, NodeKey};
+    /// # use slotmap_proved::fallible::Global;
+    /// # use slotmap_proved::graph::Graph;
+    /// # fn main() -> Result<(), Box<dyn std::error::Error>> {
+    /// # let alloc = Global;
     /// let mut graph: Graph<NodeKey, &str, u64> = Graph::new(alloc)?;
     /// let a = graph.add_node("a")?;
     /// let b = graph.add_node("b")?;
     /// graph.add_edge(a, b, 5)?;
     /// assert_eq!(graph.in_degree(b), 1);
     /// assert_eq!(graph.in_degree(a), 0);
+    /// # Ok(())
+    /// # }
     /// ```
     ///
     /// # Proved

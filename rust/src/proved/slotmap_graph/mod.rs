@@ -35,7 +35,12 @@
 //! The calls that make a graph, reserve room, add or copy may fail for memory, and so may those that
 //! take an `alloc`. Those that add need none where there is room, and those that remove need none.
 //!
-//! ```ignore
+//! ```
+//! # use slotmap_proved::{Key, NodeKey};
+//! # use slotmap_proved::fallible::Global;
+//! # use slotmap_proved::graph::Graph;
+//! # fn main() -> Result<(), Box<dyn std::error::Error>> {
+//! # let alloc = Global;
 //! let mut graph: Graph<NodeKey, &str, u64> = Graph::new(alloc)?;
 //! let a = graph.add_node("a")?;
 //! let b = graph.add_node("b")?;
@@ -45,6 +50,8 @@
 //! graph.remove_node(b);
 //! assert!(graph.edge(edge).is_none());
 //! assert_eq!(graph.out_degree(a), 0);
+//! # Ok(())
+//! # }
 //! ```
 
 #[allow(unused_imports)]
@@ -111,9 +118,16 @@ impl<N: Sized, E: Sized> Graph<NodeKey, N, E> {
     ///
     /// It fails only if memory runs out.
     ///
-    /// ```ignore
+    /// ```
+    /// # use slotmap_proved::{Key, NodeKey};
+    /// # use slotmap_proved::fallible::Global;
+    /// # use slotmap_proved::graph::Graph;
+    /// # fn main() -> Result<(), Box<dyn std::error::Error>> {
+    /// # let alloc = Global;
     /// let graph: Graph<NodeKey, &str, u64> = Graph::new(alloc)?;
     /// assert!(graph.is_empty());
+    /// # Ok(())
+    /// # }
     /// ```
     ///
     /// # Proved
@@ -134,9 +148,16 @@ impl<N: Sized, E: Sized> Graph<NodeKey, N, E> {
     /// It fails with `TooGreat` if one of the two is over 4294967294, and else with `Memory` if memory
     /// runs out. It takes time linear in `nodes` and `edges`.
     ///
-    /// ```ignore
+    /// ```
+    /// # use slotmap_proved::{Key, NodeKey};
+    /// # use slotmap_proved::fallible::Global;
+    /// # use slotmap_proved::graph::Graph;
+    /// # fn main() -> Result<(), Box<dyn std::error::Error>> {
+    /// # let alloc = Global;
     /// let mut graph: Graph<NodeKey, &str, u64> = Graph::with_capacity(alloc, 2, 4)?;
     /// assert!(graph.add_node("a").is_ok());
+    /// # Ok(())
+    /// # }
     /// ```
     ///
     /// # Proved
@@ -159,9 +180,16 @@ impl<K: Key, N: Sized, E: Sized> Graph<K, N, E> {
     ///
     /// It fails only if memory runs out.
     ///
-    /// ```ignore
+    /// ```
+    /// # use slotmap_proved::{DefaultKey, Key};
+    /// # use slotmap_proved::fallible::Global;
+    /// # use slotmap_proved::graph::Graph;
+    /// # fn main() -> Result<(), Box<dyn std::error::Error>> {
+    /// # let alloc = Global;
     /// let graph: Graph<DefaultKey, &str, u64> = Graph::with_key(alloc)?;
     /// assert!(graph.is_empty());
+    /// # Ok(())
+    /// # }
     /// ```
     ///
     /// # Proved
@@ -182,9 +210,16 @@ impl<K: Key, N: Sized, E: Sized> Graph<K, N, E> {
     /// It fails with `TooGreat` if one of the two is over 4294967294, and else with `Memory` if memory
     /// runs out. It takes time linear in `nodes` and `edges`.
     ///
-    /// ```ignore
+    /// ```
+    /// # use slotmap_proved::{DefaultKey, Key};
+    /// # use slotmap_proved::fallible::Global;
+    /// # use slotmap_proved::graph::Graph;
+    /// # fn main() -> Result<(), Box<dyn std::error::Error>> {
+    /// # let alloc = Global;
     /// let graph: Graph<DefaultKey, &str, u64> = Graph::with_capacity_and_key(alloc, 2, 4)?;
     /// assert_eq!(graph.node_count(), 0);
+    /// # Ok(())
+    /// # }
     /// ```
     ///
     /// # Proved
@@ -224,10 +259,17 @@ impl<K: Key, N: Sized, E: Sized> Graph<K, N, E> {
     /// It fails with `TooGreat` if more than 4294967294 nodes would be there, counting those whose slots
     /// are retired, and with `Memory` if memory runs out. The graph has the same nodes then.
     ///
-    /// ```ignore
+    /// ```
+    /// # use slotmap_proved::{Key, NodeKey};
+    /// # use slotmap_proved::fallible::Global;
+    /// # use slotmap_proved::graph::Graph;
+    /// # fn main() -> Result<(), Box<dyn std::error::Error>> {
+    /// # let alloc = Global;
     /// let mut graph: Graph<NodeKey, &str, u64> = Graph::new(alloc)?;
     /// graph.reserve_nodes(2)?;
     /// assert!(graph.add_node("a").is_ok());
+    /// # Ok(())
+    /// # }
     /// ```
     ///
     /// # Proved
@@ -256,11 +298,18 @@ impl<K: Key, N: Sized, E: Sized> Graph<K, N, E> {
     /// It fails with `TooGreat` if more than 4294967294 edges would be there, counting those whose slots
     /// are retired, and with `Memory` if memory runs out. The graph has the same edges then.
     ///
-    /// ```ignore
+    /// ```
+    /// # use slotmap_proved::{Key, NodeKey};
+    /// # use slotmap_proved::fallible::Global;
+    /// # use slotmap_proved::graph::Graph;
+    /// # fn main() -> Result<(), Box<dyn std::error::Error>> {
+    /// # let alloc = Global;
     /// let mut graph: Graph<NodeKey, &str, u64> = Graph::new(alloc)?;
     /// graph.reserve_edges(2)?;
     /// let a = graph.add_node("a")?;
     /// assert!(graph.add_edge(a, a, 5).is_ok());
+    /// # Ok(())
+    /// # }
     /// ```
     ///
     /// # Proved
@@ -285,9 +334,16 @@ impl<K: Key, N: Sized, E: Sized> Graph<K, N, E> {
     /// Returns how many nodes there can be before more room is made, in constant time. It counts the
     /// slots that are retired.
     ///
-    /// ```ignore
+    /// ```
+    /// # use slotmap_proved::{Key, NodeKey};
+    /// # use slotmap_proved::fallible::Global;
+    /// # use slotmap_proved::graph::Graph;
+    /// # fn main() -> Result<(), Box<dyn std::error::Error>> {
+    /// # let alloc = Global;
     /// let graph: Graph<NodeKey, &str, u64> = Graph::with_capacity_and_key(alloc, 2, 4)?;
     /// assert!(graph.node_capacity() >= 2);
+    /// # Ok(())
+    /// # }
     /// ```
     ///
     /// # Proved
@@ -305,9 +361,16 @@ impl<K: Key, N: Sized, E: Sized> Graph<K, N, E> {
     /// Returns how many edges there can be before more room is made, in constant time. It counts the
     /// slots that are retired.
     ///
-    /// ```ignore
+    /// ```
+    /// # use slotmap_proved::{Key, NodeKey};
+    /// # use slotmap_proved::fallible::Global;
+    /// # use slotmap_proved::graph::Graph;
+    /// # fn main() -> Result<(), Box<dyn std::error::Error>> {
+    /// # let alloc = Global;
     /// let graph: Graph<NodeKey, &str, u64> = Graph::with_capacity_and_key(alloc, 2, 4)?;
     /// assert!(graph.edge_capacity() >= 4);
+    /// # Ok(())
+    /// # }
     /// ```
     ///
     /// # Proved
@@ -324,12 +387,19 @@ impl<K: Key, N: Sized, E: Sized> Graph<K, N, E> {
 
     /// Returns the number of nodes, in constant time.
     ///
-    /// ```ignore
+    /// ```
+    /// # use slotmap_proved::{Key, NodeKey};
+    /// # use slotmap_proved::fallible::Global;
+    /// # use slotmap_proved::graph::Graph;
+    /// # fn main() -> Result<(), Box<dyn std::error::Error>> {
+    /// # let alloc = Global;
     /// let mut graph: Graph<NodeKey, &str, u64> = Graph::new(alloc)?;
     /// let a = graph.add_node("a")?;
     /// assert_eq!(graph.node_count(), 1);
     /// graph.remove_node(a);
     /// assert_eq!(graph.node_count(), 0);
+    /// # Ok(())
+    /// # }
     /// ```
     ///
     /// # Proved
@@ -345,9 +415,16 @@ impl<K: Key, N: Sized, E: Sized> Graph<K, N, E> {
 
     /// Returns whether there is no node, and so no edge, in constant time.
     ///
-    /// ```ignore
+    /// ```
+    /// # use slotmap_proved::{Key, NodeKey};
+    /// # use slotmap_proved::fallible::Global;
+    /// # use slotmap_proved::graph::Graph;
+    /// # fn main() -> Result<(), Box<dyn std::error::Error>> {
+    /// # let alloc = Global;
     /// let graph: Graph<NodeKey, &str, u64> = Graph::new(alloc)?;
     /// assert!(graph.is_empty());
+    /// # Ok(())
+    /// # }
     /// ```
     ///
     /// # Proved
@@ -363,13 +440,20 @@ impl<K: Key, N: Sized, E: Sized> Graph<K, N, E> {
 
     /// Returns the number of edges, in constant time.
     ///
-    /// ```ignore
+    /// ```
+    /// # use slotmap_proved::{Key, NodeKey};
+    /// # use slotmap_proved::fallible::Global;
+    /// # use slotmap_proved::graph::Graph;
+    /// # fn main() -> Result<(), Box<dyn std::error::Error>> {
+    /// # let alloc = Global;
     /// let mut graph: Graph<NodeKey, &str, u64> = Graph::new(alloc)?;
     /// let a = graph.add_node("a")?;
     /// graph.add_edge(a, a, 5)?;
     /// assert_eq!(graph.edge_count(), 1);
     /// graph.remove_node(a);
     /// assert_eq!(graph.edge_count(), 0);
+    /// # Ok(())
+    /// # }
     /// ```
     ///
     /// # Proved
@@ -385,12 +469,19 @@ impl<K: Key, N: Sized, E: Sized> Graph<K, N, E> {
 
     /// Returns whether a node exists, in constant time.
     ///
-    /// ```ignore
+    /// ```
+    /// # use slotmap_proved::{Key, NodeKey};
+    /// # use slotmap_proved::fallible::Global;
+    /// # use slotmap_proved::graph::Graph;
+    /// # fn main() -> Result<(), Box<dyn std::error::Error>> {
+    /// # let alloc = Global;
     /// let mut graph: Graph<NodeKey, &str, u64> = Graph::new(alloc)?;
     /// let a = graph.add_node("a")?;
     /// assert!(graph.contains_node(a));
     /// graph.remove_node(a);
     /// assert!(!graph.contains_node(a));
+    /// # Ok(())
+    /// # }
     /// ```
     ///
     /// # Proved
@@ -405,13 +496,20 @@ impl<K: Key, N: Sized, E: Sized> Graph<K, N, E> {
 
     /// Returns whether an edge exists, in constant time.
     ///
-    /// ```ignore
+    /// ```
+    /// # use slotmap_proved::{Key, NodeKey};
+    /// # use slotmap_proved::fallible::Global;
+    /// # use slotmap_proved::graph::Graph;
+    /// # fn main() -> Result<(), Box<dyn std::error::Error>> {
+    /// # let alloc = Global;
     /// let mut graph: Graph<NodeKey, &str, u64> = Graph::new(alloc)?;
     /// let a = graph.add_node("a")?;
     /// let edge = graph.add_edge(a, a, 5)?;
     /// assert!(graph.contains_edge(edge));
     /// graph.remove_node(a);
     /// assert!(!graph.contains_edge(edge));
+    /// # Ok(())
+    /// # }
     /// ```
     ///
     /// # Proved
@@ -428,7 +526,12 @@ impl<K: Key, N: Sized, E: Sized> Graph<K, N, E> {
     ///
     /// All its steps together read each slot once.
     ///
-    /// ```ignore
+    /// ```
+    /// # use slotmap_proved::{Key, NodeKey};
+    /// # use slotmap_proved::fallible::Global;
+    /// # use slotmap_proved::graph::Graph;
+    /// # fn main() -> Result<(), Box<dyn std::error::Error>> {
+    /// # let alloc = Global;
     /// let mut graph: Graph<NodeKey, &str, u64> = Graph::new(alloc)?;
     /// let a = graph.add_node("a")?;
     /// let b = graph.add_node("b")?;
@@ -436,6 +539,8 @@ impl<K: Key, N: Sized, E: Sized> Graph<K, N, E> {
     /// assert_eq!(nodes.next(), Some(a));
     /// assert_eq!(nodes.next(), Some(b));
     /// assert_eq!(nodes.next(), None);
+    /// # Ok(())
+    /// # }
     /// ```
     ///
     /// # Proved
@@ -452,13 +557,20 @@ impl<K: Key, N: Sized, E: Sized> Graph<K, N, E> {
     ///
     /// All its steps together read each slot once.
     ///
-    /// ```ignore
+    /// ```
+    /// # use slotmap_proved::{Key, NodeKey};
+    /// # use slotmap_proved::fallible::Global;
+    /// # use slotmap_proved::graph::Graph;
+    /// # fn main() -> Result<(), Box<dyn std::error::Error>> {
+    /// # let alloc = Global;
     /// let mut graph: Graph<NodeKey, &str, u64> = Graph::new(alloc)?;
     /// let a = graph.add_node("a")?;
     /// let edge = graph.add_edge(a, a, 5)?;
     /// let mut edges = graph.edges();
     /// assert_eq!(edges.next(), Some(edge));
     /// assert_eq!(edges.next(), None);
+    /// # Ok(())
+    /// # }
     /// ```
     ///
     /// # Proved

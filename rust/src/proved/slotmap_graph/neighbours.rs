@@ -47,7 +47,12 @@ impl<K: Key, N: Sized, E: Sized> Graph<K, N, E> {
     /// Constant time. It needs no memory. A node that doesn't exist has none. Each node that it yields
     /// exists, so `graph[node]` reads its value.
     ///
-    /// ```ignore
+    /// ```
+    /// # use slotmap_proved::{Key, NodeKey};
+    /// # use slotmap_proved::fallible::Global;
+    /// # use slotmap_proved::graph::Graph;
+    /// # fn main() -> Result<(), Box<dyn std::error::Error>> {
+    /// # let alloc = Global;
     /// let mut graph: Graph<NodeKey, &str, u64> = Graph::new(alloc)?;
     /// let a = graph.add_node("a")?;
     /// let b = graph.add_node("b")?;
@@ -58,6 +63,8 @@ impl<K: Key, N: Sized, E: Sized> Graph<K, N, E> {
     /// for next in graph.neighbours_from(a) {
     ///     assert_eq!(graph[next], "b");
     /// }
+    /// # Ok(())
+    /// # }
     /// ```
     ///
     /// # Proved
@@ -77,7 +84,12 @@ impl<K: Key, N: Sized, E: Sized> Graph<K, N, E> {
     /// Constant time. It needs no memory. A node that doesn't exist has none. Each node that it yields
     /// exists, so `graph[node]` reads its value.
     ///
-    /// ```ignore
+    /// ```
+    /// # use slotmap_proved::{Key, NodeKey};
+    /// # use slotmap_proved::fallible::Global;
+    /// # use slotmap_proved::graph::Graph;
+    /// # fn main() -> Result<(), Box<dyn std::error::Error>> {
+    /// # let alloc = Global;
     /// let mut graph: Graph<NodeKey, &str, u64> = Graph::new(alloc)?;
     /// let a = graph.add_node("a")?;
     /// let b = graph.add_node("b")?;
@@ -85,6 +97,8 @@ impl<K: Key, N: Sized, E: Sized> Graph<K, N, E> {
     /// let mut nodes = graph.neighbours_to(b);
     /// assert_eq!(nodes.next(), Some(a));
     /// assert_eq!(nodes.next(), None);
+    /// # Ok(())
+    /// # }
     /// ```
     ///
     /// # Proved

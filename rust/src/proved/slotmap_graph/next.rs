@@ -27,13 +27,20 @@ impl<K: Key, N: Sized, E: Sized> Graph<K, N, E> {
     /// edges can be added and removed. Only the index of `node` counts. It takes time linear in the
     /// number of slots that it passes over.
     ///
-    /// ```ignore
+    /// ```
+    /// # use slotmap_proved::{Key, NodeKey};
+    /// # use slotmap_proved::fallible::Global;
+    /// # use slotmap_proved::graph::Graph;
+    /// # fn main() -> Result<(), Box<dyn std::error::Error>> {
+    /// # let alloc = Global;
     /// let mut graph: Graph<NodeKey, &str, u64> = Graph::new(alloc)?;
     /// let a = graph.add_node("a")?;
     /// let b = graph.add_node("b")?;
     /// assert_eq!(graph.next_node(None), Some(a));
     /// assert_eq!(graph.next_node(Some(a)), Some(b));
     /// assert_eq!(graph.next_node(Some(b)), None);
+    /// # Ok(())
+    /// # }
     /// ```
     ///
     /// # Proved
@@ -41,7 +48,8 @@ impl<K: Key, N: Sized, E: Sized> Graph<K, N, E> {
     /// ```text
     /// ensures live { IfSome result (λ found. IsLive self.now.nodes (K.data_of found)) }
     /// ensures after { IfSome result (λ found. index_after K.data_of node ≤ (K.data_of found).index) }
-    /// ensures first { IfSome result (λ found. (other : KeyOf) → IsLive self.now.nodes other → index_after K.data_of node ≤ other.index → (K.data_of found).index ≤ other.index) }
+    /// ensures first { IfSome result (λ found. (other : KeyOf) → IsLive self.now.nodes other →
+    ///     index_after K.data_of node ≤ other.index → (K.data_of found).index ≤ other.index) }
     /// ensures none { IfNone result ((other : KeyOf) → IsLive self.now.nodes other → other.index < index_after K.data_of node) }
     /// ensures valid { IsContent true self.now.nodes }
     /// ```
@@ -57,12 +65,19 @@ impl<K: Key, N: Sized, E: Sized> Graph<K, N, E> {
     /// and borrow nothing meanwhile, as those of [`Graph::next_node`]. It takes time linear in the number
     /// of slots that it passes over.
     ///
-    /// ```ignore
+    /// ```
+    /// # use slotmap_proved::{Key, NodeKey};
+    /// # use slotmap_proved::fallible::Global;
+    /// # use slotmap_proved::graph::Graph;
+    /// # fn main() -> Result<(), Box<dyn std::error::Error>> {
+    /// # let alloc = Global;
     /// let mut graph: Graph<NodeKey, &str, u64> = Graph::new(alloc)?;
     /// let a = graph.add_node("a")?;
     /// let edge = graph.add_edge(a, a, 5)?;
     /// assert_eq!(graph.next_edge(None), Some(edge));
     /// assert_eq!(graph.next_edge(Some(edge)), None);
+    /// # Ok(())
+    /// # }
     /// ```
     ///
     /// # Proved
@@ -70,7 +85,8 @@ impl<K: Key, N: Sized, E: Sized> Graph<K, N, E> {
     /// ```text
     /// ensures live { IfSome result (λ found. IsLive self.now.edges found) }
     /// ensures after { IfSome result (λ found. index_after (λ e. e) edge ≤ found.index) }
-    /// ensures first { IfSome result (λ found. (other : KeyOf) → IsLive self.now.edges other → index_after (λ e. e) edge ≤ other.index → found.index ≤ other.index) }
+    /// ensures first { IfSome result (λ found. (other : KeyOf) → IsLive self.now.edges other →
+    ///     index_after (λ e. e) edge ≤ other.index → found.index ≤ other.index) }
     /// ensures none { IfNone result ((other : KeyOf) → IsLive self.now.edges other → other.index < index_after (λ e. e) edge) }
     /// ensures valid { IsContent true self.now.edges }
     /// ```
@@ -85,7 +101,12 @@ impl<K: Key, N: Sized, E: Sized> Graph<K, N, E> {
     /// borrows nothing meanwhile, so values and edges may change on the way. To remove the edge at
     /// hand, take the next one first. Constant time.
     ///
-    /// ```ignore
+    /// ```
+    /// # use slotmap_proved::{Key, NodeKey};
+    /// # use slotmap_proved::fallible::Global;
+    /// # use slotmap_proved::graph::Graph;
+    /// # fn main() -> Result<(), Box<dyn std::error::Error>> {
+    /// # let alloc = Global;
     /// let mut graph: Graph<NodeKey, &str, u64> = Graph::new(alloc)?;
     /// let a = graph.add_node("a")?;
     /// let b = graph.add_node("b")?;
@@ -93,6 +114,8 @@ impl<K: Key, N: Sized, E: Sized> Graph<K, N, E> {
     /// graph.add_edge(a, a, 6)?;
     /// assert_eq!(graph.first_from(a), Some(edge));
     /// assert_eq!(graph.first_from(b), None);
+    /// # Ok(())
+    /// # }
     /// ```
     ///
     /// # Proved
@@ -112,13 +135,20 @@ impl<K: Key, N: Sized, E: Sized> Graph<K, N, E> {
     /// nothing meanwhile, so values and edges may change on the way. To remove the edge at hand, take
     /// the next one first. Constant time.
     ///
-    /// ```ignore
+    /// ```
+    /// # use slotmap_proved::{Key, NodeKey};
+    /// # use slotmap_proved::fallible::Global;
+    /// # use slotmap_proved::graph::Graph;
+    /// # fn main() -> Result<(), Box<dyn std::error::Error>> {
+    /// # let alloc = Global;
     /// let mut graph: Graph<NodeKey, &str, u64> = Graph::new(alloc)?;
     /// let a = graph.add_node("a")?;
     /// let b = graph.add_node("b")?;
     /// let edge = graph.add_edge(a, b, 5)?;
     /// assert_eq!(graph.first_to(b), Some(edge));
     /// assert_eq!(graph.first_to(a), None);
+    /// # Ok(())
+    /// # }
     /// ```
     ///
     /// # Proved
@@ -137,7 +167,12 @@ impl<K: Key, N: Sized, E: Sized> Graph<K, N, E> {
     ///
     /// Constant time.
     ///
-    /// ```ignore
+    /// ```
+    /// # use slotmap_proved::{Key, NodeKey};
+    /// # use slotmap_proved::fallible::Global;
+    /// # use slotmap_proved::graph::Graph;
+    /// # fn main() -> Result<(), Box<dyn std::error::Error>> {
+    /// # let alloc = Global;
     /// let mut graph: Graph<NodeKey, &str, u64> = Graph::new(alloc)?;
     /// let a = graph.add_node("a")?;
     /// let b = graph.add_node("b")?;
@@ -145,6 +180,8 @@ impl<K: Key, N: Sized, E: Sized> Graph<K, N, E> {
     /// let second = graph.add_edge(a, a, 6)?;
     /// assert_eq!(graph.next_from(first), Some(second));
     /// assert_eq!(graph.next_from(second), None);
+    /// # Ok(())
+    /// # }
     /// ```
     ///
     /// # Proved
@@ -163,7 +200,12 @@ impl<K: Key, N: Sized, E: Sized> Graph<K, N, E> {
     ///
     /// Constant time.
     ///
-    /// ```ignore
+    /// ```
+    /// # use slotmap_proved::{Key, NodeKey};
+    /// # use slotmap_proved::fallible::Global;
+    /// # use slotmap_proved::graph::Graph;
+    /// # fn main() -> Result<(), Box<dyn std::error::Error>> {
+    /// # let alloc = Global;
     /// let mut graph: Graph<NodeKey, &str, u64> = Graph::new(alloc)?;
     /// let a = graph.add_node("a")?;
     /// let b = graph.add_node("b")?;
@@ -171,6 +213,8 @@ impl<K: Key, N: Sized, E: Sized> Graph<K, N, E> {
     /// let second = graph.add_edge(b, b, 6)?;
     /// assert_eq!(graph.next_to(first), Some(second));
     /// assert_eq!(graph.next_to(second), None);
+    /// # Ok(())
+    /// # }
     /// ```
     ///
     /// # Proved

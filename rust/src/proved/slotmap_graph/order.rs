@@ -11,8 +11,15 @@ use crate::rt::std::alloc::{AllocError, Global};
 
 /// There is no order of the nodes in which each edge goes forward, or memory ran out.
 ///
-/// ```ignore
-/// assert_eq!(format!("{}", OrderError::Memory)?.as_str(), "out of memory");
+/// ```
+/// # use slotmap_proved::Key;
+/// # use slotmap_proved::fallible::Global;
+/// # use slotmap_proved::graph::OrderError;
+/// # fn main() -> Result<(), Box<dyn std::error::Error>> {
+/// # let alloc = Global;
+/// assert_eq!(format!("{}", OrderError::Memory).as_str(), "out of memory");
+/// # Ok(())
+/// # }
 /// ```
 #[derive(Clone, Copy, Debug, Eq, PartialEq)]
 pub enum OrderError {
@@ -25,13 +32,20 @@ pub enum OrderError {
 impl OrderError {
     /// Returns the edge that closes a cycle, or `None` if memory ran out.
     ///
-    /// ```ignore
+    /// ```
+    /// # use slotmap_proved::{Key, NodeKey};
+    /// # use slotmap_proved::fallible::Global;
+    /// # use slotmap_proved::graph::Graph;
+    /// # fn main() -> Result<(), Box<dyn std::error::Error>> {
+    /// # let alloc = Global;
     /// let mut graph: Graph<NodeKey, &str, u64> = Graph::new(alloc)?;
     /// let a = graph.add_node("a")?;
     /// let own = graph.add_edge(a, a, 5)?;
     /// if let Err(error) = graph.topological_order(alloc) {
     ///     assert_eq!(error.edge(), Some(own));
     /// }
+    /// # Ok(())
+    /// # }
     /// ```
     ///
     /// # Proved
@@ -176,7 +190,12 @@ impl<K: Key, N: Sized, E: Sized> Graph<K, N, E> {
     /// memory runs out, and else with `Cycle` if there is no such order. That error holds an edge from
     /// whose end a path leads back to its start.
     ///
-    /// ```ignore
+    /// ```
+    /// # use slotmap_proved::{Key, NodeKey};
+    /// # use slotmap_proved::fallible::Global;
+    /// # use slotmap_proved::graph::{Graph, OrderError};
+    /// # fn main() -> Result<(), Box<dyn std::error::Error>> {
+    /// # let alloc = Global;
     /// let mut graph: Graph<NodeKey, &str, u64> = Graph::new(alloc)?;
     /// let a = graph.add_node("a")?;
     /// let b = graph.add_node("b")?;
@@ -185,6 +204,8 @@ impl<K: Key, N: Sized, E: Sized> Graph<K, N, E> {
     ///
     /// let own = graph.add_edge(a, a, 6)?;
     /// assert_eq!(graph.topological_order(alloc).err(), Some(OrderError::Cycle(own)));
+    /// # Ok(())
+    /// # }
     /// ```
     ///
     /// # Proved

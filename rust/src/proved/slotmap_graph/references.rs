@@ -93,7 +93,12 @@ impl<K: Key, N: Sized, E: Sized> Graph<K, N, E> {
     /// It is made in constant time. All its steps together read each slot of the edges once. Both nodes
     /// of each edge exist, so `graph[from]` and `graph[to]` read their values.
     ///
-    /// ```ignore
+    /// ```
+    /// # use slotmap_proved::{Key, NodeKey};
+    /// # use slotmap_proved::fallible::Global;
+    /// # use slotmap_proved::graph::Graph;
+    /// # fn main() -> Result<(), Box<dyn std::error::Error>> {
+    /// # let alloc = Global;
     /// let mut graph: Graph<NodeKey, &str, u64> = Graph::new(alloc)?;
     /// let a = graph.add_node("a")?;
     /// let b = graph.add_node("b")?;
@@ -101,6 +106,8 @@ impl<K: Key, N: Sized, E: Sized> Graph<K, N, E> {
     /// let mut edges = graph.edge_references();
     /// assert_eq!(edges.next(), Some((edge, a, b, &5)));
     /// assert!(edges.next().is_none());
+    /// # Ok(())
+    /// # }
     /// ```
     ///
     /// # Proved
@@ -124,7 +131,12 @@ impl<K: Key, N: Sized, E: Sized> Graph<K, N, E> {
     /// Constant time. A step looks up one edge. A node that doesn't exist has none. Both nodes of each
     /// edge exist.
     ///
-    /// ```ignore
+    /// ```
+    /// # use slotmap_proved::{Key, NodeKey};
+    /// # use slotmap_proved::fallible::Global;
+    /// # use slotmap_proved::graph::Graph;
+    /// # fn main() -> Result<(), Box<dyn std::error::Error>> {
+    /// # let alloc = Global;
     /// let mut graph: Graph<NodeKey, &str, u64> = Graph::new(alloc)?;
     /// let a = graph.add_node("a")?;
     /// let b = graph.add_node("b")?;
@@ -132,6 +144,8 @@ impl<K: Key, N: Sized, E: Sized> Graph<K, N, E> {
     /// let mut edges = graph.edge_references_from(a);
     /// assert_eq!(edges.next(), Some((edge, a, b, &5)));
     /// assert!(edges.next().is_none());
+    /// # Ok(())
+    /// # }
     /// ```
     ///
     /// # Proved
@@ -152,7 +166,12 @@ impl<K: Key, N: Sized, E: Sized> Graph<K, N, E> {
     /// Constant time. A step looks up one edge. A node that doesn't exist has none. Both nodes of each
     /// edge exist.
     ///
-    /// ```ignore
+    /// ```
+    /// # use slotmap_proved::{Key, NodeKey};
+    /// # use slotmap_proved::fallible::Global;
+    /// # use slotmap_proved::graph::Graph;
+    /// # fn main() -> Result<(), Box<dyn std::error::Error>> {
+    /// # let alloc = Global;
     /// let mut graph: Graph<NodeKey, &str, u64> = Graph::new(alloc)?;
     /// let a = graph.add_node("a")?;
     /// let b = graph.add_node("b")?;
@@ -160,6 +179,8 @@ impl<K: Key, N: Sized, E: Sized> Graph<K, N, E> {
     /// let mut edges = graph.edge_references_to(b);
     /// assert_eq!(edges.next(), Some((edge, a, b, &5)));
     /// assert_eq!(graph.edge_references_to(a).len(), 0);
+    /// # Ok(())
+    /// # }
     /// ```
     ///
     /// # Proved
@@ -178,12 +199,19 @@ impl<K: Key, N: Sized, E: Sized> Graph<K, N, E> {
     ///
     /// It is made in constant time. All its steps together read each slot of the nodes once.
     ///
-    /// ```ignore
+    /// ```
+    /// # use slotmap_proved::{Key, NodeKey};
+    /// # use slotmap_proved::fallible::Global;
+    /// # use slotmap_proved::graph::Graph;
+    /// # fn main() -> Result<(), Box<dyn std::error::Error>> {
+    /// # let alloc = Global;
     /// let mut graph: Graph<NodeKey, &str, u64> = Graph::new(alloc)?;
     /// let a = graph.add_node("a")?;
     /// let mut nodes = graph.node_references();
     /// assert_eq!(nodes.next(), Some((a, &"a")));
     /// assert_eq!(nodes.next(), None);
+    /// # Ok(())
+    /// # }
     /// ```
     ///
     /// # Proved

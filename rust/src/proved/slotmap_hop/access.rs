@@ -30,11 +30,20 @@ impl<K: Key, V: Sized> HopSlotMap<K, V> {
     /// A removed key isn't live, nor is the null key. A key of another map is live here only if
     /// this map has a live key of the same index and version. Constant time.
     ///
-    /// ```ignore
+    /// ```
+    /// # use slotmap_proved::{DefaultKey, Global, Key};
+    /// # use slotmap_proved::fallible::HopSlotMap;
+    /// # fn main() -> Result<(), Box<dyn std::error::Error>> {
+    /// # let alloc = Global;
+    /// # let mut map: HopSlotMap<DefaultKey, u64> = HopSlotMap::new(alloc)?;
+    /// # let a = map.insert(1)?;
+    /// # let b = map.insert(2)?;
     /// assert!(map.contains_key(a));
     /// map.remove(a);
     /// assert!(!map.contains_key(a));
     /// assert!(!map.contains_key(DefaultKey::null()));
+    /// # Ok(())
+    /// # }
     /// ```
     ///
     /// # Proved
@@ -53,10 +62,19 @@ impl<K: Key, V: Sized> HopSlotMap<K, V> {
     ///
     /// Constant time.
     ///
-    /// ```ignore
+    /// ```
+    /// # use slotmap_proved::{DefaultKey, Global, Key};
+    /// # use slotmap_proved::fallible::HopSlotMap;
+    /// # fn main() -> Result<(), Box<dyn std::error::Error>> {
+    /// # let alloc = Global;
+    /// # let mut map: HopSlotMap<DefaultKey, u64> = HopSlotMap::new(alloc)?;
+    /// # let a = map.insert(1)?;
+    /// # let b = map.insert(2)?;
     /// assert_eq!(map.get(b), Some(&2));
     /// map.remove(b);
     /// assert_eq!(map.get(b), None);
+    /// # Ok(())
+    /// # }
     /// ```
     ///
     /// # Proved
@@ -83,8 +101,17 @@ impl<K: Key, V: Sized> HopSlotMap<K, V> {
     /// The contract requires that the key is live. So this call is safe; Rust's is `unsafe`.
     /// Constant time.
     ///
-    /// ```ignore
+    /// ```
+    /// # use slotmap_proved::{DefaultKey, Global, Key};
+    /// # use slotmap_proved::fallible::HopSlotMap;
+    /// # fn main() -> Result<(), Box<dyn std::error::Error>> {
+    /// # let alloc = Global;
+    /// # let mut map: HopSlotMap<DefaultKey, u64> = HopSlotMap::new(alloc)?;
+    /// # let a = map.insert(1)?;
+    /// # let b = map.insert(2)?;
     /// assert_eq!(*map.get_unchecked(a), 1);
+    /// # Ok(())
+    /// # }
     /// ```
     ///
     /// # Proved
@@ -114,11 +141,20 @@ impl<K: Key, V: Sized> HopSlotMap<K, V> {
     /// Once the reference ends, the key has the last value written through it. All else is as
     /// before. Constant time.
     ///
-    /// ```ignore
+    /// ```
+    /// # use slotmap_proved::{DefaultKey, Global, Key};
+    /// # use slotmap_proved::fallible::HopSlotMap;
+    /// # fn main() -> Result<(), Box<dyn std::error::Error>> {
+    /// # let alloc = Global;
+    /// # let mut map: HopSlotMap<DefaultKey, u64> = HopSlotMap::new(alloc)?;
+    /// # let a = map.insert(1)?;
+    /// # let b = map.insert(2)?;
     /// if let Some(value) = map.get_mut(a) {
     ///     *value = 5;
     /// }
     /// assert_eq!(map.get(a), Some(&5));
+    /// # Ok(())
+    /// # }
     /// ```
     ///
     /// # Proved
@@ -143,9 +179,18 @@ impl<K: Key, V: Sized> HopSlotMap<K, V> {
     /// The contract requires that the key is live. So this call is safe; Rust's is `unsafe`.
     /// Constant time.
     ///
-    /// ```ignore
+    /// ```
+    /// # use slotmap_proved::{DefaultKey, Global, Key};
+    /// # use slotmap_proved::fallible::HopSlotMap;
+    /// # fn main() -> Result<(), Box<dyn std::error::Error>> {
+    /// # let alloc = Global;
+    /// # let mut map: HopSlotMap<DefaultKey, u64> = HopSlotMap::new(alloc)?;
+    /// # let a = map.insert(1)?;
+    /// # let b = map.insert(2)?;
     /// *map.get_unchecked_mut(a) = 5;
     /// assert_eq!(map.get(a), Some(&5));
+    /// # Ok(())
+    /// # }
     /// ```
     ///
     /// # Proved
@@ -175,10 +220,19 @@ impl<K: Key, V: Sized> HopSlotMap<K, V> {
     /// If the key isn't live, nothing changes, and the new value is returned as the error. Constant
     /// time. Rust lacks this call.
     ///
-    /// ```ignore
+    /// ```
+    /// # use slotmap_proved::{DefaultKey, Global, Key};
+    /// # use slotmap_proved::fallible::HopSlotMap;
+    /// # fn main() -> Result<(), Box<dyn std::error::Error>> {
+    /// # let alloc = Global;
+    /// # let mut map: HopSlotMap<DefaultKey, u64> = HopSlotMap::new(alloc)?;
+    /// # let a = map.insert(1)?;
+    /// # let b = map.insert(2)?;
     /// assert_eq!(map.replace(a, 5), Ok(1));
     /// map.remove(a);
     /// assert_eq!(map.replace(a, 6), Err(6));
+    /// # Ok(())
+    /// # }
     /// ```
     ///
     /// # Proved
@@ -206,10 +260,19 @@ impl<K: Key, V: Sized> HopSlotMap<K, V> {
     /// Its time doesn't depend on the size of the map. In Rust `get_disjoint_mut` returns
     /// references instead.
     ///
-    /// ```ignore
+    /// ```
+    /// # use slotmap_proved::{DefaultKey, Global, Key};
+    /// # use slotmap_proved::fallible::HopSlotMap;
+    /// # fn main() -> Result<(), Box<dyn std::error::Error>> {
+    /// # let alloc = Global;
+    /// # let mut map: HopSlotMap<DefaultKey, u64> = HopSlotMap::new(alloc)?;
+    /// # let a = map.insert(1)?;
+    /// # let b = map.insert(2)?;
     /// assert_eq!(map.replace_disjoint([a, b], [5, 6]), Ok([1, 2]));
     /// assert_eq!(map.get(b), Some(&6));
     /// assert_eq!(map.replace_disjoint([a, a], [7, 8]), Err([7, 8]));
+    /// # Ok(())
+    /// # }
     /// ```
     ///
     /// # Proved
@@ -218,8 +281,10 @@ impl<K: Key, V: Sized> HopSlotMap<K, V> {
     /// ensures which { IsOk result ↔ CanReplace self.old.content (map_list K.data_of keys) }
     /// ensures value { IfOk result (AreValuesOf self.old.content (map_list K.data_of keys)) }
     /// ensures ok { OnOk result (self.new ≡ hop_with_values self.old (map_list K.data_of keys) values) }
+    ///
     /// ensures err { IfErr result (λ given. given ≡ values) }
     /// ensures unchanged { OnErr result (self.new ≡ self.old) }
+    ///
     /// ensures valid { StaysHop self.old self.new }
     /// ```
     #[inline]
@@ -268,8 +333,17 @@ impl<K: Key, V: Sized> Index<K> for HopSlotMap<K, V> {
     ///
     /// The contract requires that the key is live; in Rust any other key panics. Constant time.
     ///
-    /// ```ignore
+    /// ```
+    /// # use slotmap_proved::{DefaultKey, Global, Key};
+    /// # use slotmap_proved::fallible::HopSlotMap;
+    /// # fn main() -> Result<(), Box<dyn std::error::Error>> {
+    /// # let alloc = Global;
+    /// # let mut map: HopSlotMap<DefaultKey, u64> = HopSlotMap::new(alloc)?;
+    /// # let a = map.insert(1)?;
+    /// # let b = map.insert(2)?;
     /// assert_eq!(map[a] + map[b], 3);
+    /// # Ok(())
+    /// # }
     /// ```
     #[inline]
     fn index(&self, key: K) -> &V {
@@ -282,9 +356,18 @@ impl<K: Key, V: Sized> IndexMut<K> for HopSlotMap<K, V> {
     ///
     /// The contract requires that the key is live; in Rust any other key panics. Constant time.
     ///
-    /// ```ignore
+    /// ```
+    /// # use slotmap_proved::{DefaultKey, Global, Key};
+    /// # use slotmap_proved::fallible::HopSlotMap;
+    /// # fn main() -> Result<(), Box<dyn std::error::Error>> {
+    /// # let alloc = Global;
+    /// # let mut map: HopSlotMap<DefaultKey, u64> = HopSlotMap::new(alloc)?;
+    /// # let a = map.insert(1)?;
+    /// # let b = map.insert(2)?;
     /// map[a] = 5;
     /// assert_eq!(map.get(a), Some(&5));
+    /// # Ok(())
+    /// # }
     /// ```
     ///
     /// # Proved

@@ -82,11 +82,20 @@ impl<K: Key, V: Sized> HopSlotMap<K, V> {
     /// runs out. The error holds the value, and the map holds what it held. In Rust a full map
     /// panics, and running out of memory aborts. Constant time, unless the vector grows.
     ///
-    /// ```ignore
+    /// ```
+    /// # use slotmap_proved::{DefaultKey, Global, Key};
+    /// # use slotmap_proved::fallible::HopSlotMap;
+    /// # fn main() -> Result<(), Box<dyn std::error::Error>> {
+    /// # let alloc = Global;
+    /// # let mut map: HopSlotMap<DefaultKey, u64> = HopSlotMap::new(alloc)?;
+    /// # let a = map.insert(1)?;
+    /// # let b = map.insert(2)?;
     /// map.remove(a);
     /// let c = map.insert(3)?;
     /// assert_eq!(c.data().idx(), a.data().idx());
     /// assert!(c != a);
+    /// # Ok(())
+    /// # }
     /// ```
     ///
     /// # Proved
@@ -94,11 +103,15 @@ impl<K: Key, V: Sized> HopSlotMap<K, V> {
     /// ```text
     /// ensures ok { IfOk result (λ key. Inserts self.old.content (K.data_of key) value self.new.content) }
     /// ensures err { IfErr result (λ error. Refuses self.old.content value error) }
+    ///
     /// // The blocks lose the new key's slot; if the insert fails they stay.
     /// ensures blocks { MatchResult result (λ _. self.new.blocks ≡ shorter self.old.blocks) (λ _. self.new.blocks ≡ self.old.blocks) }
+    ///
     /// ensures unchanged { OnErr result (Keeps self.old.content self.new.content) }
+    ///
     /// // If a slot is vacant, the call can't fail.
     /// ensures reuses { HasVacant self.old.content → IsOk result }
+    ///
     /// ensures valid { GrowsHop self.old self.new }
     /// ```
     #[inline(always)]
@@ -117,22 +130,37 @@ impl<K: Key, V: Sized> HopSlotMap<K, V> {
     /// closure. Then the closure is called once, with the key that the call will return. In Rust
     /// the closure runs before the vector grows. Costs as `insert`.
     ///
-    /// ```ignore
+    /// ```
+    /// # use slotmap_proved::{DefaultKey, Global, Key};
+    /// # use slotmap_proved::fallible::HopSlotMap;
+    /// # fn main() -> Result<(), Box<dyn std::error::Error>> {
+    /// # let alloc = Global;
+    /// # let mut map: HopSlotMap<DefaultKey, u64> = HopSlotMap::new(alloc)?;
+    /// # let a = map.insert(1)?;
+    /// # let b = map.insert(2)?;
     /// let c = map.insert_with_key(|key: DefaultKey| key.data().as_ffi())?;
     /// assert_eq!(map.get(c), Some(&c.data().as_ffi()));
+    /// # Ok(())
+    /// # }
     /// ```
     ///
     /// # Proved
     ///
     /// ```text
     /// requires { used self.old.content < most → (key : K) → K.data_of key ≡ self.old.content.offer → F.pre f key }
-    /// ensures ok { IfOk result (λ key. (v : V) × F.post f key v × Inserts self.old.content (K.data_of key) v self.new.content) }
+    ///
+    /// ensures ok { IfOk result (λ key. (v : V) × F.post f key v
+    ///     × Inserts self.old.content (K.data_of key) v self.new.content) }
     /// ensures err { IfErr result (RefusesInsert self.old.content) }
+    ///
     /// // The blocks lose the new key's slot; if the insert fails they stay.
     /// ensures blocks { MatchResult result (λ _. self.new.blocks ≡ shorter self.old.blocks) (λ _. self.new.blocks ≡ self.old.blocks) }
+    ///
     /// ensures unchanged { OnErr result (Keeps self.old.content self.new.content) }
+    ///
     /// // If a slot is vacant, the call can't fail.
     /// ensures reuses { HasVacant self.old.content → IsOk result }
+    ///
     /// ensures valid { GrowsHop self.old self.new }
     /// ```
     #[inline]
@@ -152,23 +180,38 @@ impl<K: Key, V: Sized> HopSlotMap<K, V> {
     /// closure's error is returned in `Closure`. The next insert returns the key that the closure
     /// was called with. Costs as `insert`. In Rust the closure's error alone is returned.
     ///
-    /// ```ignore
+    /// ```
+    /// # use slotmap_proved::{DefaultKey, Global, Key, TryInsertError};
+    /// # use slotmap_proved::fallible::HopSlotMap;
+    /// # fn main() -> Result<(), Box<dyn std::error::Error>> {
+    /// # let alloc = Global;
+    /// # let mut map: HopSlotMap<DefaultKey, u64> = HopSlotMap::new(alloc)?;
+    /// # let a = map.insert(1)?;
+    /// # let b = map.insert(2)?;
     /// let made: Result<DefaultKey, TryInsertError<u64>> = map.try_insert_with_key(|_| Err(7));
     /// assert!(matches!(made, Err(TryInsertError::Closure(7))));
     /// assert_eq!(map.len(), 2);
+    /// # Ok(())
+    /// # }
     /// ```
     ///
     /// # Proved
     ///
     /// ```text
     /// requires { used self.old.content < most → (key : K) → K.data_of key ≡ self.old.content.offer → F.pre f key }
-    /// ensures ok { IfOk result (λ key. (v : V) × F.post f key (Ok v) × Inserts self.old.content (K.data_of key) v self.new.content) }
+    ///
+    /// ensures ok { IfOk result (λ key. (v : V) × F.post f key (Ok v)
+    ///     × Inserts self.old.content (K.data_of key) v self.new.content) }
     /// ensures err { IfErr result (λ error. RefusesWith K.data_of (F.post f) self.old.content error) }
+    ///
     /// // The blocks lose the new key's slot; if the insert fails they stay.
     /// ensures blocks { MatchResult result (λ _. self.new.blocks ≡ shorter self.old.blocks) (λ _. self.new.blocks ≡ self.old.blocks) }
+    ///
     /// ensures unchanged { OnErr result (Keeps self.old.content self.new.content) }
+    ///
     /// // If a slot is vacant, memory can't run out.
     /// ensures reuses { result ≡ Err TryInsertError.Memory → map.len self.old.content.next ≡ 0 }
+    ///
     /// ensures valid { GrowsHop self.old self.new }
     /// ```
     #[inline]

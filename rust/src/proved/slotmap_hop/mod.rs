@@ -14,7 +14,7 @@
 //! Each example comes after these lines:
 //!
 //! ```text
-//! let alloc = rt.alloc();
+//! let alloc = Global;
 //! let mut map: HopSlotMap<DefaultKey, u64> = HopSlotMap::new(alloc)?;
 //! let a = map.insert(1)?;
 //! let b = map.insert(2)?;
@@ -64,11 +64,20 @@ use crate::rt::std::marker::PhantomData;
 /// slot to the blocks beside it. If there is
 /// none, it appends a new block to the list. An iterator skips a block in one step.
 ///
-/// ```ignore
+/// ```
+/// # use slotmap_proved::{DefaultKey, Global, Key};
+/// # use slotmap_proved::fallible::HopSlotMap;
+/// # fn main() -> Result<(), Box<dyn std::error::Error>> {
+/// # let alloc = Global;
+/// # let mut map: HopSlotMap<DefaultKey, u64> = HopSlotMap::new(alloc)?;
+/// # let a = map.insert(1)?;
+/// # let b = map.insert(2)?;
 /// let key = map.insert(5)?;
 /// assert_eq!(map.get(key), Some(&5));
 /// assert_eq!(map.remove(key), Some(5));
 /// assert!(!map.contains_key(key));
+/// # Ok(())
+/// # }
 /// ```
 pub struct HopSlotMap<K, V> {
     // Slot 0 is the sentinel: no key uses it.
@@ -93,10 +102,19 @@ impl<V: Sized> HopSlotMap<DefaultKey, V> {
     /// It allocates slot 0, which no key uses, and fails with `Memory` if memory runs out. Constant time,
     /// the allocations aside.
     ///
-    /// ```ignore
+    /// ```
+    /// # use slotmap_proved::{DefaultKey, Global, Key, KeyData};
+    /// # use slotmap_proved::fallible::HopSlotMap;
+    /// # fn main() -> Result<(), Box<dyn std::error::Error>> {
+    /// # let alloc = Global;
+    /// # let mut map: HopSlotMap<DefaultKey, u64> = HopSlotMap::new(alloc)?;
+    /// # let a = map.insert(1)?;
+    /// # let b = map.insert(2)?;
     /// let mut empty: HopSlotMap<DefaultKey, u64> = HopSlotMap::new(alloc)?;
     /// assert!(empty.is_empty());
     /// assert_eq!(empty.insert(5)?.data(), KeyData::new(1, 1));
+    /// # Ok(())
+    /// # }
     /// ```
     ///
     /// # Proved
@@ -118,10 +136,19 @@ impl<V: Sized> HopSlotMap<DefaultKey, V> {
     /// The next `capacity` inserts succeed. It fails with `TooGreat` if `capacity` is over
     /// 4294967294, and with `Memory` if memory runs out. Constant time, the allocations aside.
     ///
-    /// ```ignore
+    /// ```
+    /// # use slotmap_proved::{DefaultKey, Global, Key};
+    /// # use slotmap_proved::fallible::HopSlotMap;
+    /// # fn main() -> Result<(), Box<dyn std::error::Error>> {
+    /// # let alloc = Global;
+    /// # let mut map: HopSlotMap<DefaultKey, u64> = HopSlotMap::new(alloc)?;
+    /// # let a = map.insert(1)?;
+    /// # let b = map.insert(2)?;
     /// let roomy: HopSlotMap<DefaultKey, u64> = HopSlotMap::with_capacity(alloc, 10)?;
     /// assert!(roomy.is_empty());
     /// assert!(roomy.capacity() >= 10);
+    /// # Ok(())
+    /// # }
     /// ```
     ///
     /// # Proved
@@ -147,10 +174,19 @@ impl<K: Key, V: Sized> HopSlotMap<K, V> {
     /// It allocates slot 0, which no key uses, and fails with `Memory` if memory runs out. Constant time,
     /// the allocations aside.
     ///
-    /// ```ignore
+    /// ```
+    /// # use slotmap_proved::{DefaultKey, Global, Key, NodeKey};
+    /// # use slotmap_proved::fallible::HopSlotMap;
+    /// # fn main() -> Result<(), Box<dyn std::error::Error>> {
+    /// # let alloc = Global;
+    /// # let mut map: HopSlotMap<DefaultKey, u64> = HopSlotMap::new(alloc)?;
+    /// # let a = map.insert(1)?;
+    /// # let b = map.insert(2)?;
     /// let mut nodes: HopSlotMap<NodeKey, u64> = HopSlotMap::with_key(alloc)?;
     /// let key: NodeKey = nodes.insert(5)?;
     /// assert_eq!(nodes.get(key), Some(&5));
+    /// # Ok(())
+    /// # }
     /// ```
     ///
     /// # Proved
@@ -172,9 +208,18 @@ impl<K: Key, V: Sized> HopSlotMap<K, V> {
     /// The next `capacity` inserts succeed. It fails with `TooGreat` if `capacity` is over
     /// 4294967294, and with `Memory` if memory runs out. Constant time, the allocations aside.
     ///
-    /// ```ignore
+    /// ```
+    /// # use slotmap_proved::{DefaultKey, Global, Key, NodeKey};
+    /// # use slotmap_proved::fallible::HopSlotMap;
+    /// # fn main() -> Result<(), Box<dyn std::error::Error>> {
+    /// # let alloc = Global;
+    /// # let mut map: HopSlotMap<DefaultKey, u64> = HopSlotMap::new(alloc)?;
+    /// # let a = map.insert(1)?;
+    /// # let b = map.insert(2)?;
     /// let nodes: HopSlotMap<NodeKey, u64> = HopSlotMap::with_capacity_and_key(alloc, 10)?;
     /// assert!(nodes.capacity() >= 10);
+    /// # Ok(())
+    /// # }
     /// ```
     ///
     /// # Proved
@@ -207,10 +252,19 @@ impl<K: Key, V: Sized> HopSlotMap<K, V> {
     ///
     /// Constant time.
     ///
-    /// ```ignore
+    /// ```
+    /// # use slotmap_proved::{DefaultKey, Global, Key};
+    /// # use slotmap_proved::fallible::HopSlotMap;
+    /// # fn main() -> Result<(), Box<dyn std::error::Error>> {
+    /// # let alloc = Global;
+    /// # let mut map: HopSlotMap<DefaultKey, u64> = HopSlotMap::new(alloc)?;
+    /// # let a = map.insert(1)?;
+    /// # let b = map.insert(2)?;
     /// assert_eq!(map.len(), 2);
     /// map.remove(a);
     /// assert_eq!(map.len(), 1);
+    /// # Ok(())
+    /// # }
     /// ```
     ///
     /// # Proved
@@ -230,10 +284,19 @@ impl<K: Key, V: Sized> HopSlotMap<K, V> {
     ///
     /// Constant time.
     ///
-    /// ```ignore
+    /// ```
+    /// # use slotmap_proved::{DefaultKey, Global, Key};
+    /// # use slotmap_proved::fallible::HopSlotMap;
+    /// # fn main() -> Result<(), Box<dyn std::error::Error>> {
+    /// # let alloc = Global;
+    /// # let mut map: HopSlotMap<DefaultKey, u64> = HopSlotMap::new(alloc)?;
+    /// # let a = map.insert(1)?;
+    /// # let b = map.insert(2)?;
     /// assert!(!map.is_empty());
     /// map.clear();
     /// assert!(map.is_empty());
+    /// # Ok(())
+    /// # }
     /// ```
     ///
     /// # Proved
@@ -253,10 +316,19 @@ impl<K: Key, V: Sized> HopSlotMap<K, V> {
     /// The slots of live and retired keys count, as do vacant slots and those that aren't made yet.
     /// Constant time.
     ///
-    /// ```ignore
+    /// ```
+    /// # use slotmap_proved::{DefaultKey, Global, Key};
+    /// # use slotmap_proved::fallible::HopSlotMap;
+    /// # fn main() -> Result<(), Box<dyn std::error::Error>> {
+    /// # let alloc = Global;
+    /// # let mut map: HopSlotMap<DefaultKey, u64> = HopSlotMap::new(alloc)?;
+    /// # let a = map.insert(1)?;
+    /// # let b = map.insert(2)?;
     /// let before = map.capacity();
     /// map.clear();
     /// assert_eq!(map.capacity(), before);
+    /// # Ok(())
+    /// # }
     /// ```
     ///
     /// # Proved
@@ -291,13 +363,22 @@ impl<K: Key, V: Sized> HopSlotMap<K, V> {
     /// If there is room already, the call succeeds and nothing changes. Linear in the number of
     /// slots if the vector grows, else constant time.
     ///
-    /// ```ignore
+    /// ```
+    /// # use slotmap_proved::{DefaultKey, Global, Key};
+    /// # use slotmap_proved::fallible::HopSlotMap;
+    /// # fn main() -> Result<(), Box<dyn std::error::Error>> {
+    /// # let alloc = Global;
+    /// # let mut map: HopSlotMap<DefaultKey, u64> = HopSlotMap::new(alloc)?;
+    /// # let a = map.insert(1)?;
+    /// # let b = map.insert(2)?;
     /// map.reserve(10)?;
     /// let capacity = map.capacity();
     /// for i in 0..10 {
     ///     map.insert(i)?;
     /// }
     /// assert_eq!(map.capacity(), capacity);
+    /// # Ok(())
+    /// # }
     /// ```
     ///
     /// # Proved
@@ -326,9 +407,18 @@ impl<K: Key, V: Sized> HopSlotMap<K, V> {
     /// Here `reserve` returns a `Result` too; in Rust it aborts if memory runs out. Costs as
     /// `reserve`.
     ///
-    /// ```ignore
+    /// ```
+    /// # use slotmap_proved::{DefaultKey, Global, Key, ReserveError};
+    /// # use slotmap_proved::fallible::HopSlotMap;
+    /// # fn main() -> Result<(), Box<dyn std::error::Error>> {
+    /// # let alloc = Global;
+    /// # let mut map: HopSlotMap<DefaultKey, u64> = HopSlotMap::new(alloc)?;
+    /// # let a = map.insert(1)?;
+    /// # let b = map.insert(2)?;
     /// assert!(map.try_reserve(10).is_ok());
     /// assert!(matches!(map.try_reserve(4294967295), Err(ReserveError::TooGreat)));
+    /// # Ok(())
+    /// # }
     /// ```
     ///
     /// # Proved

@@ -17,9 +17,16 @@ use crate::rt::std::alloc::Global;
 ///
 /// It fails only if memory runs out. Constant time.
 ///
-/// ```ignore
+/// ```
+/// # use slotmap_proved::{DefaultKey, Key, KeyData};
+/// # use slotmap_proved::fallible::Global;
+/// # use slotmap_proved::json::key_to_value;
+/// # fn main() -> Result<(), Box<dyn std::error::Error>> {
+/// # let alloc = Global;
 /// let value = key_to_value(alloc, DefaultKey::from(KeyData::new(2, 3)))?;
-/// assert_eq!(value.to_string_in(alloc)?.as_str(), "{\"idx\":2,\"version\":3}");
+/// assert_eq!(value.to_string().as_str(), "{\"idx\":2,\"version\":3}");
+/// # Ok(())
+/// # }
 /// ```
 ///
 /// # Proved
@@ -42,10 +49,18 @@ pub fn key_to_value<K: Key>(alloc: Global, key: K) -> Result<Value, OutOfMemory>
 /// even version is raised to the next odd one, and the index 4294967295 gives the null key. The
 /// call allocates nothing. It costs two look-ups among the members.
 ///
-/// ```ignore
-/// let value = Value::from_str(alloc, "{\"version\":4,\"idx\":0,\"x\":true}")?;
+/// ```
+/// # use slotmap_proved::{DefaultKey, Key, KeyData};
+/// # use slotmap_proved::fallible::Global;
+/// # use slotmap_proved::json::key_from_value;
+/// # use serde_json::Value;
+/// # fn main() -> Result<(), Box<dyn std::error::Error>> {
+/// # let alloc = Global;
+/// let value: Value = serde_json::from_str("{\"version\":4,\"idx\":0,\"x\":true}")?;
 /// let key: DefaultKey = key_from_value(&value)?;
 /// assert_eq!(key.data(), KeyData::new(0, 5));
+/// # Ok(())
+/// # }
 /// ```
 ///
 /// # Proved
@@ -82,14 +97,22 @@ fn u32_member(value: &Value, name: &str) -> Option<u32>
 /// It fails with `OutOfMemory` if memory runs out or `f` fails; an empty list never fails. `f` is
 /// called at most once for each value, in order.
 ///
-/// ```ignore
+/// ```
+/// # use slotmap_proved::{Key, SlotRecord};
+/// # use slotmap_proved::fallible::Global;
+/// # use slotmap_proved::json::slots_to_value;
+/// # use serde_json::Value;
+/// # fn main() -> Result<(), Box<dyn std::error::Error>> {
+/// # let alloc = Global;
 /// let list = [
 ///     SlotRecord { value: None, version: 0 },
 ///     SlotRecord { value: Some(7), version: 1 },
 /// ];
 /// let value = slots_to_value(alloc, &list, |value: &u64| Ok(Value::from(*value)))?;
 /// let text = "[{\"value\":null,\"version\":0},{\"value\":7,\"version\":1}]";
-/// assert_eq!(value.to_string_in(alloc)?.as_str(), text);
+/// assert_eq!(value.to_string().as_str(), text);
+/// # Ok(())
+/// # }
 /// ```
 ///
 /// # Proved
@@ -142,13 +165,21 @@ fn slot_value(alloc: Global, value: Value, version: u32) -> Result<Value, OutOfM
 ///
 /// `g` is called at most once for each element.
 ///
-/// ```ignore
-/// let value = Value::from_str(alloc, "[{\"version\":0},{\"value\":7,\"version\":1}]")?;
+/// ```
+/// # use slotmap_proved::{JsonError, Key};
+/// # use slotmap_proved::fallible::Global;
+/// # use slotmap_proved::json::slots_from_value;
+/// # use serde_json::Value;
+/// # fn main() -> Result<(), Box<dyn std::error::Error>> {
+/// # let alloc = Global;
+/// let value: Value = serde_json::from_str("[{\"version\":0},{\"value\":7,\"version\":1}]")?;
 /// let list = slots_from_value(alloc, &value, |value: &Value| {
 ///     value.as_u64().ok_or(JsonError::Shape)
 /// })?;
 /// assert_eq!(list.len(), 2);
 /// assert_eq!(list[1].value, Some(7));
+/// # Ok(())
+/// # }
 /// ```
 ///
 /// # Proved
@@ -186,11 +217,19 @@ where
 ///
 /// It costs two look-ups among the members, and at most one call of `g`.
 ///
-/// ```ignore
-/// let value = Value::from_str(alloc, "{\"value\":7,\"version\":1}")?;
+/// ```
+/// # use slotmap_proved::{JsonError, Key};
+/// # use slotmap_proved::fallible::Global;
+/// # use slotmap_proved::json::slot_from_value;
+/// # use serde_json::Value;
+/// # fn main() -> Result<(), Box<dyn std::error::Error>> {
+/// # let alloc = Global;
+/// let value: Value = serde_json::from_str("{\"value\":7,\"version\":1}")?;
 /// let slot = slot_from_value(&value, &|value: &Value| value.as_u64().ok_or(JsonError::Shape))?;
 /// assert_eq!(slot.version, 1);
 /// assert_eq!(slot.value, Some(7));
+/// # Ok(())
+/// # }
 /// ```
 ///
 /// # Proved

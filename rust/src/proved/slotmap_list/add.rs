@@ -43,12 +43,19 @@ impl<K: Key, T: Sized> StableList<K, T> {
     /// If a slot is vacant or room was reserved, it can't fail, and the capacity stays. If the call
     /// fails, the error holds the value, and the list has the same elements.
     ///
-    /// ```ignore
+    /// ```
+    /// # use slotmap_proved::Key;
+    /// # use slotmap_proved::fallible::Global;
+    /// # use slotmap_proved::list::StableList;
+    /// # fn main() -> Result<(), Box<dyn std::error::Error>> {
+    /// # let alloc = Global;
     /// let mut list = StableList::new(alloc)?;
     /// let one = list.push_back(1)?;
     /// list.push_back(2)?;
     /// assert_eq!(list.first(), Some(one));
     /// assert_eq!(list.to_vec(alloc)?.as_slice(), [1, 2].as_slice());
+    /// # Ok(())
+    /// # }
     /// ```
     ///
     /// # Proved
@@ -79,12 +86,19 @@ impl<K: Key, T: Sized> StableList<K, T> {
     /// If a slot is vacant or room was reserved, it can't fail, and the capacity stays. If the call
     /// fails, the error holds the value, and the list has the same elements.
     ///
-    /// ```ignore
+    /// ```
+    /// # use slotmap_proved::Key;
+    /// # use slotmap_proved::fallible::Global;
+    /// # use slotmap_proved::list::StableList;
+    /// # fn main() -> Result<(), Box<dyn std::error::Error>> {
+    /// # let alloc = Global;
     /// let mut list = StableList::new(alloc)?;
     /// let one = list.push_back(1)?;
     /// list.push_front(2)?;
     /// assert_eq!(list.last(), Some(one));
     /// assert_eq!(list.to_vec(alloc)?.as_slice(), [2, 1].as_slice());
+    /// # Ok(())
+    /// # }
     /// ```
     ///
     /// # Proved
@@ -129,13 +143,20 @@ impl<K: Key, T: Sized> StableList<K, T> {
     /// slot is vacant or room was reserved, it fails for no other reason, and the capacity stays. If the
     /// call fails, the error holds the value, and the list has the same elements.
     ///
-    /// ```ignore
+    /// ```
+    /// # use slotmap_proved::Key;
+    /// # use slotmap_proved::fallible::Global;
+    /// # use slotmap_proved::list::{PlaceError, StableList};
+    /// # fn main() -> Result<(), Box<dyn std::error::Error>> {
+    /// # let alloc = Global;
     /// let mut list = StableList::new(alloc)?;
     /// let one = list.push_back(1)?;
     /// list.insert_after(one, 2)?;
     /// assert_eq!(list.to_vec(alloc)?.as_slice(), [1, 2].as_slice());
     /// list.remove(one);
     /// assert!(matches!(list.insert_after(one, 3), Err(PlaceError::Gone(3))));
+    /// # Ok(())
+    /// # }
     /// ```
     ///
     /// # Proved
@@ -169,13 +190,20 @@ impl<K: Key, T: Sized> StableList<K, T> {
     /// slot is vacant or room was reserved, it fails for no other reason, and the capacity stays. If the
     /// call fails, the error holds the value, and the list has the same elements.
     ///
-    /// ```ignore
+    /// ```
+    /// # use slotmap_proved::Key;
+    /// # use slotmap_proved::fallible::Global;
+    /// # use slotmap_proved::list::{PlaceError, StableList};
+    /// # fn main() -> Result<(), Box<dyn std::error::Error>> {
+    /// # let alloc = Global;
     /// let mut list = StableList::new(alloc)?;
     /// let one = list.push_back(1)?;
     /// list.insert_before(one, 2)?;
     /// assert_eq!(list.to_vec(alloc)?.as_slice(), [2, 1].as_slice());
     /// list.remove(one);
     /// assert!(matches!(list.insert_before(one, 3), Err(PlaceError::Gone(3))));
+    /// # Ok(())
+    /// # }
     /// ```
     ///
     /// # Proved

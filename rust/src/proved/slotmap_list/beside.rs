@@ -12,12 +12,19 @@ impl<K: Key, T: Sized> StableList<K, T> {
     ///
     /// It is [`StableList::next`] and [`StableList::get`] in one, with one look-up less. Constant time.
     ///
-    /// ```ignore
+    /// ```
+    /// # use slotmap_proved::Key;
+    /// # use slotmap_proved::fallible::Global;
+    /// # use slotmap_proved::list::StableList;
+    /// # fn main() -> Result<(), Box<dyn std::error::Error>> {
+    /// # let alloc = Global;
     /// let mut list = StableList::new(alloc)?;
     /// let one = list.push_back(1)?;
     /// let two = list.push_back(2)?;
     /// assert_eq!(list.next_element(one), Some((two, &2)));
     /// assert_eq!(list.next_element(two), None);
+    /// # Ok(())
+    /// # }
     /// ```
     ///
     /// # Proved
@@ -37,12 +44,19 @@ impl<K: Key, T: Sized> StableList<K, T> {
     ///
     /// It is [`StableList::prev`] and [`StableList::get`] in one, with one look-up less. Constant time.
     ///
-    /// ```ignore
+    /// ```
+    /// # use slotmap_proved::Key;
+    /// # use slotmap_proved::fallible::Global;
+    /// # use slotmap_proved::list::StableList;
+    /// # fn main() -> Result<(), Box<dyn std::error::Error>> {
+    /// # let alloc = Global;
     /// let mut list = StableList::new(alloc)?;
     /// let one = list.push_back(1)?;
     /// let two = list.push_back(2)?;
     /// assert_eq!(list.prev_element(two), Some((one, &1)));
     /// assert_eq!(list.prev_element(one), None);
+    /// # Ok(())
+    /// # }
     /// ```
     ///
     /// # Proved

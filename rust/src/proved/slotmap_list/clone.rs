@@ -14,12 +14,19 @@ impl<K: Key, T: Clone> StableList<K, T> {
     /// memory runs out, or the clone of a value fails, the call fails, and what was copied is dropped. It
     /// takes time linear in the capacity.
     ///
-    /// ```ignore
+    /// ```
+    /// # use slotmap_proved::Key;
+    /// # use slotmap_proved::fallible::Global;
+    /// # use slotmap_proved::list::StableList;
+    /// # fn main() -> Result<(), Box<dyn std::error::Error>> {
+    /// # let alloc = Global;
     /// let mut list = StableList::new(alloc)?;
     /// let one = list.push_back(1)?;
     /// let copy = list.clone()?;
     /// list.remove(one);
     /// assert_eq!(copy.get(one), Some(&1));
+    /// # Ok(())
+    /// # }
     /// ```
     ///
     /// # Proved

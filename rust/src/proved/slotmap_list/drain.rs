@@ -51,13 +51,20 @@ impl<K: Key, T: Sized> StableList<K, T> {
     /// Dropping the iterator early removes the remaining elements too. The list is empty then, has lost
     /// no room, and its capacity stays. The iterator is made in constant time.
     ///
-    /// ```ignore
+    /// ```
+    /// # use slotmap_proved::Key;
+    /// # use slotmap_proved::fallible::Global;
+    /// # use slotmap_proved::list::StableList;
+    /// # fn main() -> Result<(), Box<dyn std::error::Error>> {
+    /// # let alloc = Global;
     /// let mut list = StableList::new(alloc)?;
     /// let one = list.push_back(1)?;
     /// list.push_back(2)?;
     /// let first = list.drain().next(); // the drain is dropped here
     /// assert_eq!(first, Some((one, 1)));
     /// assert!(list.is_empty());
+    /// # Ok(())
+    /// # }
     /// ```
     ///
     /// # Proved
@@ -65,6 +72,7 @@ impl<K: Key, T: Sized> StableList<K, T> {
     /// ```text
     /// ensures list { (drain_loan result).now ≡ self.old }
     /// ensures same_reference { (drain_loan result).ghost_name ≡ self.entry.ghost_name }
+    ///
     /// // Laws of the steps, for callers that take more of them.
     /// ensures stays { KeepsLent K.data_of result }
     /// ensures in_order { YieldsInOrder K.data_of result }

@@ -24,7 +24,12 @@
 //! The values lie in a map. Their order lies apart from them, in 8 bytes a slot: links of 4 bytes
 //! by the index of the slot.
 //!
-//! ```ignore
+//! ```
+//! # use slotmap_proved::Key;
+//! # use slotmap_proved::fallible::Global;
+//! # use slotmap_proved::list::StableList;
+//! # fn main() -> Result<(), Box<dyn std::error::Error>> {
+//! # let alloc = Global;
 //! let mut list = StableList::new(alloc)?;
 //! let one = list.push_back(1)?;
 //! let three = list.push_back(3)?;
@@ -35,6 +40,8 @@
 //! list.remove(one);
 //! assert_eq!(list.to_vec(alloc)?.as_slice(), [3, 2].as_slice());
 //! assert_eq!(list.get(one), None);
+//! # Ok(())
+//! # }
 //! ```
 
 #[allow(unused_imports)]
@@ -124,9 +131,16 @@ impl<T: Sized> StableList<Cursor, T> {
     ///
     /// It fails only if memory runs out.
     ///
-    /// ```ignore
+    /// ```
+    /// # use slotmap_proved::Key;
+    /// # use slotmap_proved::fallible::Global;
+    /// # use slotmap_proved::list::{Cursor, StableList};
+    /// # fn main() -> Result<(), Box<dyn std::error::Error>> {
+    /// # let alloc = Global;
     /// let list: StableList<Cursor, u64> = StableList::new(alloc)?;
     /// assert!(list.is_empty());
+    /// # Ok(())
+    /// # }
     /// ```
     ///
     /// # Proved
@@ -147,10 +161,17 @@ impl<T: Sized> StableList<Cursor, T> {
     /// `TooGreat` if `capacity` is over 4294967294, and with `Memory` if memory runs out. It takes
     /// time linear in `capacity`.
     ///
-    /// ```ignore
+    /// ```
+    /// # use slotmap_proved::Key;
+    /// # use slotmap_proved::fallible::Global;
+    /// # use slotmap_proved::list::{Cursor, StableList};
+    /// # fn main() -> Result<(), Box<dyn std::error::Error>> {
+    /// # let alloc = Global;
     /// let mut list: StableList<Cursor, u64> = StableList::with_capacity(alloc, 2)?;
     /// assert!(list.is_empty());
     /// assert!(list.capacity() >= 2);
+    /// # Ok(())
+    /// # }
     /// ```
     ///
     /// # Proved
@@ -172,9 +193,16 @@ impl<K: Key, T: Sized> StableList<K, T> {
     ///
     /// It fails only if memory runs out.
     ///
-    /// ```ignore
+    /// ```
+    /// # use slotmap_proved::{Key, NodeKey};
+    /// # use slotmap_proved::fallible::Global;
+    /// # use slotmap_proved::list::StableList;
+    /// # fn main() -> Result<(), Box<dyn std::error::Error>> {
+    /// # let alloc = Global;
     /// let list: StableList<NodeKey, u64> = StableList::with_key(alloc)?;
     /// assert!(list.is_empty());
+    /// # Ok(())
+    /// # }
     /// ```
     ///
     /// # Proved
@@ -195,9 +223,16 @@ impl<K: Key, T: Sized> StableList<K, T> {
     /// `TooGreat` if `capacity` is over 4294967294, and with `Memory` if memory runs out. It takes
     /// time linear in `capacity`.
     ///
-    /// ```ignore
+    /// ```
+    /// # use slotmap_proved::{Key, NodeKey};
+    /// # use slotmap_proved::fallible::Global;
+    /// # use slotmap_proved::list::StableList;
+    /// # fn main() -> Result<(), Box<dyn std::error::Error>> {
+    /// # let alloc = Global;
     /// let list: StableList<NodeKey, u64> = StableList::with_capacity_and_key(alloc, 2)?;
     /// assert!(list.capacity() >= 2);
+    /// # Ok(())
+    /// # }
     /// ```
     ///
     /// # Proved
@@ -219,12 +254,19 @@ impl<K: Key, T: Sized> StableList<K, T> {
 
     /// Returns whether a cursor is in the list, in constant time.
     ///
-    /// ```ignore
+    /// ```
+    /// # use slotmap_proved::Key;
+    /// # use slotmap_proved::fallible::Global;
+    /// # use slotmap_proved::list::StableList;
+    /// # fn main() -> Result<(), Box<dyn std::error::Error>> {
+    /// # let alloc = Global;
     /// let mut list = StableList::new(alloc)?;
     /// let one = list.push_back(1)?;
     /// assert!(list.contains(one));
     /// list.remove(one);
     /// assert!(!list.contains(one));
+    /// # Ok(())
+    /// # }
     /// ```
     ///
     /// # Proved
@@ -240,12 +282,19 @@ impl<K: Key, T: Sized> StableList<K, T> {
 
     /// Returns the number of elements, in constant time. No cursor occurs twice.
     ///
-    /// ```ignore
+    /// ```
+    /// # use slotmap_proved::Key;
+    /// # use slotmap_proved::fallible::Global;
+    /// # use slotmap_proved::list::StableList;
+    /// # fn main() -> Result<(), Box<dyn std::error::Error>> {
+    /// # let alloc = Global;
     /// let mut list = StableList::new(alloc)?;
     /// let one = list.push_back(1)?;
     /// assert_eq!(list.len(), 1);
     /// list.remove(one);
     /// assert_eq!(list.len(), 0);
+    /// # Ok(())
+    /// # }
     /// ```
     ///
     /// # Proved
@@ -263,11 +312,18 @@ impl<K: Key, T: Sized> StableList<K, T> {
 
     /// Returns whether the list has no element, in constant time.
     ///
-    /// ```ignore
+    /// ```
+    /// # use slotmap_proved::Key;
+    /// # use slotmap_proved::fallible::Global;
+    /// # use slotmap_proved::list::StableList;
+    /// # fn main() -> Result<(), Box<dyn std::error::Error>> {
+    /// # let alloc = Global;
     /// let mut list = StableList::new(alloc)?;
     /// assert!(list.is_empty());
     /// list.push_back(1)?;
     /// assert!(!list.is_empty());
+    /// # Ok(())
+    /// # }
     /// ```
     ///
     /// # Proved
@@ -282,13 +338,20 @@ impl<K: Key, T: Sized> StableList<K, T> {
 
     /// Returns the cursor of the element at the front, or `None` if the list is empty.
     ///
-    /// ```ignore
+    /// ```
+    /// # use slotmap_proved::Key;
+    /// # use slotmap_proved::fallible::Global;
+    /// # use slotmap_proved::list::StableList;
+    /// # fn main() -> Result<(), Box<dyn std::error::Error>> {
+    /// # let alloc = Global;
     /// let mut list = StableList::new(alloc)?;
     /// let one = list.push_back(1)?;
     /// list.push_back(2)?;
     /// assert_eq!(list.first(), Some(one));
     /// list.clear();
     /// assert_eq!(list.first(), None);
+    /// # Ok(())
+    /// # }
     /// ```
     ///
     /// # Proved
@@ -303,13 +366,20 @@ impl<K: Key, T: Sized> StableList<K, T> {
 
     /// Returns the cursor of the element at the back, or `None` if the list is empty.
     ///
-    /// ```ignore
+    /// ```
+    /// # use slotmap_proved::Key;
+    /// # use slotmap_proved::fallible::Global;
+    /// # use slotmap_proved::list::StableList;
+    /// # fn main() -> Result<(), Box<dyn std::error::Error>> {
+    /// # let alloc = Global;
     /// let mut list = StableList::new(alloc)?;
     /// let one = list.push_back(1)?;
     /// let two = list.push_back(2)?;
     /// assert_eq!(list.last(), Some(two));
     /// list.remove(two);
     /// assert_eq!(list.last(), Some(one));
+    /// # Ok(())
+    /// # }
     /// ```
     ///
     /// # Proved
@@ -324,12 +394,19 @@ impl<K: Key, T: Sized> StableList<K, T> {
 
     /// Returns the value of a cursor, or `None` if it isn't in the list.
     ///
-    /// ```ignore
+    /// ```
+    /// # use slotmap_proved::Key;
+    /// # use slotmap_proved::fallible::Global;
+    /// # use slotmap_proved::list::StableList;
+    /// # fn main() -> Result<(), Box<dyn std::error::Error>> {
+    /// # let alloc = Global;
     /// let mut list = StableList::new(alloc)?;
     /// let one = list.push_back(1)?;
     /// assert_eq!(list.get(one), Some(&1));
     /// list.remove(one);
     /// assert_eq!(list.get(one), None);
+    /// # Ok(())
+    /// # }
     /// ```
     ///
     /// # Proved
@@ -346,12 +423,19 @@ impl<K: Key, T: Sized> StableList<K, T> {
     /// Returns the cursor after this one, or `None` at the back and for a cursor that isn't in the
     /// list.
     ///
-    /// ```ignore
+    /// ```
+    /// # use slotmap_proved::Key;
+    /// # use slotmap_proved::fallible::Global;
+    /// # use slotmap_proved::list::StableList;
+    /// # fn main() -> Result<(), Box<dyn std::error::Error>> {
+    /// # let alloc = Global;
     /// let mut list = StableList::new(alloc)?;
     /// let one = list.push_back(1)?;
     /// let two = list.push_back(2)?;
     /// assert_eq!(list.next(one), Some(two));
     /// assert_eq!(list.next(two), None);
+    /// # Ok(())
+    /// # }
     /// ```
     ///
     /// # Proved
@@ -367,12 +451,19 @@ impl<K: Key, T: Sized> StableList<K, T> {
     /// Returns the cursor before this one, or `None` at the front and for a cursor that isn't in the
     /// list.
     ///
-    /// ```ignore
+    /// ```
+    /// # use slotmap_proved::Key;
+    /// # use slotmap_proved::fallible::Global;
+    /// # use slotmap_proved::list::StableList;
+    /// # fn main() -> Result<(), Box<dyn std::error::Error>> {
+    /// # let alloc = Global;
     /// let mut list = StableList::new(alloc)?;
     /// let one = list.push_back(1)?;
     /// let two = list.push_back(2)?;
     /// assert_eq!(list.prev(two), Some(one));
     /// assert_eq!(list.prev(one), None);
+    /// # Ok(())
+    /// # }
     /// ```
     ///
     /// # Proved
@@ -402,7 +493,12 @@ impl<K: Key, T: Sized> StableList<K, T> {
     ///
     /// It is made in constant time, and each step takes constant time.
     ///
-    /// ```ignore
+    /// ```
+    /// # use slotmap_proved::Key;
+    /// # use slotmap_proved::fallible::Global;
+    /// # use slotmap_proved::list::StableList;
+    /// # fn main() -> Result<(), Box<dyn std::error::Error>> {
+    /// # let alloc = Global;
     /// let mut list = StableList::new(alloc)?;
     /// let one = list.push_back(1)?;
     /// let two = list.push_back(2)?;
@@ -410,6 +506,8 @@ impl<K: Key, T: Sized> StableList<K, T> {
     /// assert_eq!(elements.next_back(), Some((two, &2)));
     /// assert_eq!(elements.next(), Some((one, &1)));
     /// assert_eq!(elements.next(), None);
+    /// # Ok(())
+    /// # }
     /// ```
     ///
     /// # Proved
@@ -429,11 +527,18 @@ impl<K: Key, T: Sized> StableList<K, T> {
     /// Returns the values from front to back, in time linear in their number. It fails only if memory
     /// runs out.
     ///
-    /// ```ignore
+    /// ```
+    /// # use slotmap_proved::Key;
+    /// # use slotmap_proved::fallible::Global;
+    /// # use slotmap_proved::list::StableList;
+    /// # fn main() -> Result<(), Box<dyn std::error::Error>> {
+    /// # let alloc = Global;
     /// let mut list = StableList::new(alloc)?;
     /// list.push_back(1)?;
     /// list.push_front(2)?;
     /// assert_eq!(list.to_vec(alloc)?.as_slice(), [2, 1].as_slice());
+    /// # Ok(())
+    /// # }
     /// ```
     ///
     /// # Proved

@@ -21,13 +21,20 @@ impl<K: Key, T: Sized> StableList<K, T> {
     ///
     /// Constant time.
     ///
-    /// ```ignore
+    /// ```
+    /// # use slotmap_proved::Key;
+    /// # use slotmap_proved::fallible::Global;
+    /// # use slotmap_proved::list::StableList;
+    /// # fn main() -> Result<(), Box<dyn std::error::Error>> {
+    /// # let alloc = Global;
     /// let mut list = StableList::new(alloc)?;
     /// let one = list.push_back(1)?;
     /// if let Some(value) = list.get_mut(one) {
     ///     *value = 5;
     /// }
     /// assert_eq!(list.get(one), Some(&5));
+    /// # Ok(())
+    /// # }
     /// ```
     ///
     /// # Proved
@@ -48,7 +55,12 @@ impl<K: Key, T: Sized> StableList<K, T> {
     ///
     /// Constant time.
     ///
-    /// ```ignore
+    /// ```
+    /// # use slotmap_proved::Key;
+    /// # use slotmap_proved::fallible::Global;
+    /// # use slotmap_proved::list::StableList;
+    /// # fn main() -> Result<(), Box<dyn std::error::Error>> {
+    /// # let alloc = Global;
     /// let mut list = StableList::new(alloc)?;
     /// list.push_back(1)?;
     /// list.push_back(2)?;
@@ -56,6 +68,8 @@ impl<K: Key, T: Sized> StableList<K, T> {
     ///     *value = 5;
     /// }
     /// assert_eq!(list.to_vec(alloc)?.as_slice(), [5, 2].as_slice());
+    /// # Ok(())
+    /// # }
     /// ```
     ///
     /// # Proved
@@ -76,7 +90,12 @@ impl<K: Key, T: Sized> StableList<K, T> {
     ///
     /// Constant time.
     ///
-    /// ```ignore
+    /// ```
+    /// # use slotmap_proved::Key;
+    /// # use slotmap_proved::fallible::Global;
+    /// # use slotmap_proved::list::StableList;
+    /// # fn main() -> Result<(), Box<dyn std::error::Error>> {
+    /// # let alloc = Global;
     /// let mut list = StableList::new(alloc)?;
     /// list.push_back(1)?;
     /// list.push_back(2)?;
@@ -84,6 +103,8 @@ impl<K: Key, T: Sized> StableList<K, T> {
     ///     *value = 5;
     /// }
     /// assert_eq!(list.to_vec(alloc)?.as_slice(), [1, 5].as_slice());
+    /// # Ok(())
+    /// # }
     /// ```
     ///
     /// # Proved
@@ -107,12 +128,19 @@ impl<K: Key, T: Sized> StableList<K, T> {
     ///
     /// Constant time. The element keeps its cursor, and the capacity stays.
     ///
-    /// ```ignore
+    /// ```
+    /// # use slotmap_proved::Key;
+    /// # use slotmap_proved::fallible::Global;
+    /// # use slotmap_proved::list::StableList;
+    /// # fn main() -> Result<(), Box<dyn std::error::Error>> {
+    /// # let alloc = Global;
     /// let mut list = StableList::new(alloc)?;
     /// list.push_back(1)?;
     /// let two = list.push_back(2)?;
     /// assert!(list.move_to_front(two));
     /// assert_eq!(list.to_vec(alloc)?.as_slice(), [2, 1].as_slice());
+    /// # Ok(())
+    /// # }
     /// ```
     ///
     /// # Proved
@@ -133,12 +161,19 @@ impl<K: Key, T: Sized> StableList<K, T> {
     ///
     /// Constant time. The element keeps its cursor, and the capacity stays.
     ///
-    /// ```ignore
+    /// ```
+    /// # use slotmap_proved::Key;
+    /// # use slotmap_proved::fallible::Global;
+    /// # use slotmap_proved::list::StableList;
+    /// # fn main() -> Result<(), Box<dyn std::error::Error>> {
+    /// # let alloc = Global;
     /// let mut list = StableList::new(alloc)?;
     /// let one = list.push_back(1)?;
     /// list.push_back(2)?;
     /// assert!(list.move_to_back(one));
     /// assert_eq!(list.to_vec(alloc)?.as_slice(), [2, 1].as_slice());
+    /// # Ok(())
+    /// # }
     /// ```
     ///
     /// # Proved
@@ -159,20 +194,28 @@ impl<K: Key, T: Sized> StableList<K, T> {
     ///
     /// Constant time. The element keeps its cursor, and the capacity stays.
     ///
-    /// ```ignore
+    /// ```
+    /// # use slotmap_proved::Key;
+    /// # use slotmap_proved::fallible::Global;
+    /// # use slotmap_proved::list::StableList;
+    /// # fn main() -> Result<(), Box<dyn std::error::Error>> {
+    /// # let alloc = Global;
     /// let mut list = StableList::new(alloc)?;
     /// let one = list.push_back(1)?;
     /// let two = list.push_back(2)?;
     /// assert!(list.move_after(one, two));
     /// assert_eq!(list.to_vec(alloc)?.as_slice(), [2, 1].as_slice());
     /// assert!(!list.move_after(one, one));
+    /// # Ok(())
+    /// # }
     /// ```
     ///
     /// # Proved
     ///
     /// ```text
     /// ensures which { result ≡ are_two (K.data_of cursor) (K.data_of other) self.old.elements }
-    /// ensures moved { self.new ≡ record self.old { elements = if result then moved_after (K.data_of cursor) (K.data_of other) self.old.elements else self.old.elements } }
+    /// ensures moved { self.new ≡ record self.old
+    ///     { elements = if result then moved_after (K.data_of cursor) (K.data_of other) self.old.elements else self.old.elements } }
     /// ensures next { IsTrue result → key_after (K.data_of other) self.new.elements ≡ Some (K.data_of cursor) }
     /// ensures values { (q : KeyOf) → value_of q self.new.elements ≡ value_of q self.old.elements }
     /// ```
@@ -186,20 +229,28 @@ impl<K: Key, T: Sized> StableList<K, T> {
     ///
     /// Constant time. The element keeps its cursor, and the capacity stays.
     ///
-    /// ```ignore
+    /// ```
+    /// # use slotmap_proved::Key;
+    /// # use slotmap_proved::fallible::Global;
+    /// # use slotmap_proved::list::StableList;
+    /// # fn main() -> Result<(), Box<dyn std::error::Error>> {
+    /// # let alloc = Global;
     /// let mut list = StableList::new(alloc)?;
     /// let one = list.push_back(1)?;
     /// let two = list.push_back(2)?;
     /// assert!(list.move_before(two, one));
     /// assert_eq!(list.to_vec(alloc)?.as_slice(), [2, 1].as_slice());
     /// assert!(!list.move_before(two, two));
+    /// # Ok(())
+    /// # }
     /// ```
     ///
     /// # Proved
     ///
     /// ```text
     /// ensures which { result ≡ are_two (K.data_of cursor) (K.data_of other) self.old.elements }
-    /// ensures moved { self.new ≡ record self.old { elements = if result then moved_before (K.data_of cursor) (K.data_of other) self.old.elements else self.old.elements } }
+    /// ensures moved { self.new ≡ record self.old
+    ///     { elements = if result then moved_before (K.data_of cursor) (K.data_of other) self.old.elements else self.old.elements } }
     /// ensures prev { IsTrue result → key_before None (K.data_of other) self.new.elements ≡ Some (K.data_of cursor) }
     /// ensures values { (q : KeyOf) → value_of q self.new.elements ≡ value_of q self.old.elements }
     /// ```
@@ -215,7 +266,12 @@ impl<K: Key, T: Sized> StableList<K, T> {
     /// where the other one stood. In a slice, where an index names a place, `swap` leaves the index and
     /// moves the value. Constant time. The capacity stays.
     ///
-    /// ```ignore
+    /// ```
+    /// # use slotmap_proved::Key;
+    /// # use slotmap_proved::fallible::Global;
+    /// # use slotmap_proved::list::StableList;
+    /// # fn main() -> Result<(), Box<dyn std::error::Error>> {
+    /// # let alloc = Global;
     /// let mut list = StableList::new(alloc)?;
     /// let one = list.push_back(1)?;
     /// list.push_back(2)?;
@@ -224,6 +280,8 @@ impl<K: Key, T: Sized> StableList<K, T> {
     /// assert_eq!(list.to_vec(alloc)?.as_slice(), [3, 2, 1].as_slice());
     /// assert_eq!(list.get(one), Some(&1));
     /// assert!(!list.swap(one, one));
+    /// # Ok(())
+    /// # }
     /// ```
     ///
     /// # Proved

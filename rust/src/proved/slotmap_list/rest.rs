@@ -46,7 +46,12 @@ impl<K: Key, T: Sized> StableList<K, T> {
     ///
     /// It is made in constant time, and each step takes constant time.
     ///
-    /// ```ignore
+    /// ```
+    /// # use slotmap_proved::Key;
+    /// # use slotmap_proved::fallible::Global;
+    /// # use slotmap_proved::list::StableList;
+    /// # fn main() -> Result<(), Box<dyn std::error::Error>> {
+    /// # let alloc = Global;
     /// let mut list = StableList::new(alloc)?;
     /// list.push_back(1)?;
     /// let two = list.push_back(2)?;
@@ -55,6 +60,8 @@ impl<K: Key, T: Sized> StableList<K, T> {
     /// assert_eq!(elements.next(), Some((two, &2)));
     /// assert_eq!(elements.next(), Some((three, &3)));
     /// assert_eq!(elements.next(), None);
+    /// # Ok(())
+    /// # }
     /// ```
     ///
     /// # Proved

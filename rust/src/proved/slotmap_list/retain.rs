@@ -29,13 +29,20 @@ impl<K: Key, T: Sized> StableList<K, T> {
     /// cursor of a removed element is never used again. No room is lost, and the capacity stays. It
     /// takes time linear in the number of elements.
     ///
-    /// ```ignore
-    /// let mut list = StableList::from_iter(alloc, vec![1, 2, 3]?).unwrap();
+    /// ```
+    /// # use slotmap_proved::Key;
+    /// # use slotmap_proved::fallible::Global;
+    /// # use slotmap_proved::list::{Cursor, StableList};
+    /// # fn main() -> Result<(), Box<dyn std::error::Error>> {
+    /// # let alloc = Global;
+    /// let mut list = StableList::from_iter(alloc, vec![1, 2, 3]).unwrap();
     /// list.retain(|_: Cursor, value| {
     ///     *value *= 10;
     ///     *value != 20
     /// });
     /// assert_eq!(list.to_vec(alloc)?.as_slice(), [10, 30].as_slice());
+    /// # Ok(())
+    /// # }
     /// ```
     ///
     /// # Proved

@@ -33,13 +33,20 @@ impl<K: Key, T: Sized> StableList<K, T> {
     ///   retired.
     /// - `Memory`: memory runs out.
     ///
-    /// ```ignore
+    /// ```
+    /// # use slotmap_proved::Key;
+    /// # use slotmap_proved::fallible::Global;
+    /// # use slotmap_proved::list::StableList;
+    /// # fn main() -> Result<(), Box<dyn std::error::Error>> {
+    /// # let alloc = Global;
     /// let mut list = StableList::new(alloc)?;
     /// list.reserve(2)?;
     /// let capacity = list.capacity();
     /// list.push_back(1)?;
     /// list.push_back(2)?;
     /// assert_eq!(list.capacity(), capacity);
+    /// # Ok(())
+    /// # }
     /// ```
     ///
     /// # Proved
@@ -69,12 +76,19 @@ impl<K: Key, T: Sized> StableList<K, T> {
     /// Returns how many elements there can be before more room is made, in constant time. It counts
     /// the slots that are retired.
     ///
-    /// ```ignore
+    /// ```
+    /// # use slotmap_proved::Key;
+    /// # use slotmap_proved::fallible::Global;
+    /// # use slotmap_proved::list::StableList;
+    /// # fn main() -> Result<(), Box<dyn std::error::Error>> {
+    /// # let alloc = Global;
     /// let mut list = StableList::with_capacity(alloc, 2)?;
     /// let capacity = list.capacity();
     /// assert!(capacity >= 2);
     /// list.push_back(1)?;
     /// assert_eq!(list.capacity(), capacity);
+    /// # Ok(())
+    /// # }
     /// ```
     ///
     /// # Proved

@@ -11,11 +11,18 @@ impl<K: Key, T: Sized> StableList<K, T> {
     /// cursor isn't in the list, the call returns `None` and changes nothing. No room is lost, and the
     /// capacity stays.
     ///
-    /// ```ignore
+    /// ```
+    /// # use slotmap_proved::Key;
+    /// # use slotmap_proved::fallible::Global;
+    /// # use slotmap_proved::list::StableList;
+    /// # fn main() -> Result<(), Box<dyn std::error::Error>> {
+    /// # let alloc = Global;
     /// let mut list = StableList::new(alloc)?;
     /// let one = list.push_back(1)?;
     /// assert_eq!(list.remove(one), Some(1));
     /// assert_eq!(list.remove(one), None);
+    /// # Ok(())
+    /// # }
     /// ```
     ///
     /// # Proved
@@ -41,12 +48,19 @@ impl<K: Key, T: Sized> StableList<K, T> {
     /// Removes the element at the front, and returns its cursor and its value, or `None` if the list
     /// is empty. The cursor is never used again. No room is lost, and the capacity stays.
     ///
-    /// ```ignore
+    /// ```
+    /// # use slotmap_proved::Key;
+    /// # use slotmap_proved::fallible::Global;
+    /// # use slotmap_proved::list::StableList;
+    /// # fn main() -> Result<(), Box<dyn std::error::Error>> {
+    /// # let alloc = Global;
     /// let mut list = StableList::new(alloc)?;
     /// let one = list.push_back(1)?;
     /// list.push_back(2)?;
     /// assert_eq!(list.pop_front(), Some((one, 1)));
     /// assert_eq!(list.to_vec(alloc)?.as_slice(), [2].as_slice());
+    /// # Ok(())
+    /// # }
     /// ```
     ///
     /// # Proved
@@ -71,12 +85,19 @@ impl<K: Key, T: Sized> StableList<K, T> {
     /// Removes the element at the back, and returns its cursor and its value, or `None` if the list
     /// is empty. The cursor is never used again. No room is lost, and the capacity stays.
     ///
-    /// ```ignore
+    /// ```
+    /// # use slotmap_proved::Key;
+    /// # use slotmap_proved::fallible::Global;
+    /// # use slotmap_proved::list::StableList;
+    /// # fn main() -> Result<(), Box<dyn std::error::Error>> {
+    /// # let alloc = Global;
     /// let mut list = StableList::new(alloc)?;
     /// list.push_back(1)?;
     /// let two = list.push_back(2)?;
     /// assert_eq!(list.pop_back(), Some((two, 2)));
     /// assert_eq!(list.to_vec(alloc)?.as_slice(), [1].as_slice());
+    /// # Ok(())
+    /// # }
     /// ```
     ///
     /// # Proved
@@ -101,12 +122,19 @@ impl<K: Key, T: Sized> StableList<K, T> {
     /// Removes all elements. Their cursors are never used again. No room is lost, and the capacity
     /// stays.
     ///
-    /// ```ignore
+    /// ```
+    /// # use slotmap_proved::Key;
+    /// # use slotmap_proved::fallible::Global;
+    /// # use slotmap_proved::list::StableList;
+    /// # fn main() -> Result<(), Box<dyn std::error::Error>> {
+    /// # let alloc = Global;
     /// let mut list = StableList::new(alloc)?;
     /// let one = list.push_back(1)?;
     /// list.clear();
     /// assert!(list.is_empty());
     /// assert_eq!(list.get(one), None);
+    /// # Ok(())
+    /// # }
     /// ```
     ///
     /// # Proved

@@ -95,11 +95,18 @@ impl<K: Key, T: Sized> StableList<K, T> {
     ///
     /// Constant time.
     ///
-    /// ```ignore
+    /// ```
+    /// # use slotmap_proved::Key;
+    /// # use slotmap_proved::fallible::Global;
+    /// # use slotmap_proved::list::StableList;
+    /// # fn main() -> Result<(), Box<dyn std::error::Error>> {
+    /// # let alloc = Global;
     /// let mut list = StableList::new(alloc)?;
     /// list.push_back(1)?;
     /// list.push_back(2)?;
     /// assert_eq!(list.front(), Some(&1));
+    /// # Ok(())
+    /// # }
     /// ```
     ///
     /// # Proved
@@ -116,11 +123,18 @@ impl<K: Key, T: Sized> StableList<K, T> {
     ///
     /// Constant time.
     ///
-    /// ```ignore
+    /// ```
+    /// # use slotmap_proved::Key;
+    /// # use slotmap_proved::fallible::Global;
+    /// # use slotmap_proved::list::StableList;
+    /// # fn main() -> Result<(), Box<dyn std::error::Error>> {
+    /// # let alloc = Global;
     /// let mut list = StableList::new(alloc)?;
     /// list.push_back(1)?;
     /// list.push_back(2)?;
     /// assert_eq!(list.back(), Some(&2));
+    /// # Ok(())
+    /// # }
     /// ```
     ///
     /// # Proved
@@ -138,13 +152,20 @@ impl<K: Key, T: Sized> StableList<K, T> {
     ///
     /// It is made in constant time, and each step takes constant time.
     ///
-    /// ```ignore
+    /// ```
+    /// # use slotmap_proved::Key;
+    /// # use slotmap_proved::fallible::Global;
+    /// # use slotmap_proved::list::StableList;
+    /// # fn main() -> Result<(), Box<dyn std::error::Error>> {
+    /// # let alloc = Global;
     /// let mut list = StableList::new(alloc)?;
     /// let one = list.push_back(1)?;
     /// let two = list.push_back(2)?;
     /// let mut cursors = list.cursors();
     /// assert_eq!(cursors.next_back(), Some(two));
     /// assert_eq!(cursors.next(), Some(one));
+    /// # Ok(())
+    /// # }
     /// ```
     ///
     /// # Proved
@@ -164,13 +185,20 @@ impl<K: Key, T: Sized> StableList<K, T> {
     ///
     /// It is made in constant time, and each step takes constant time.
     ///
-    /// ```ignore
+    /// ```
+    /// # use slotmap_proved::Key;
+    /// # use slotmap_proved::fallible::Global;
+    /// # use slotmap_proved::list::StableList;
+    /// # fn main() -> Result<(), Box<dyn std::error::Error>> {
+    /// # let alloc = Global;
     /// let mut list = StableList::new(alloc)?;
     /// list.push_back(1)?;
     /// list.push_back(2)?;
     /// let mut values = list.values();
     /// assert_eq!(values.next_back(), Some(&2));
     /// assert_eq!(values.next(), Some(&1));
+    /// # Ok(())
+    /// # }
     /// ```
     ///
     /// # Proved

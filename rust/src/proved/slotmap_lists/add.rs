@@ -61,12 +61,19 @@ impl<K: Key, T: Sized> StableLists<K, T> {
     /// stays. If the call fails, the error holds the value, and the lists have the same elements.
     /// Constant time on average.
     ///
-    /// ```ignore
+    /// ```
+    /// # use slotmap_proved::Key;
+    /// # use slotmap_proved::fallible::Global;
+    /// # use slotmap_proved::lists::{AddError, StableLists};
+    /// # fn main() -> Result<(), Box<dyn std::error::Error>> {
+    /// # let alloc = Global;
     /// let mut lists = StableLists::new(alloc, 2)?;
     /// let one = lists.push_front(1, 1)?;
     /// let two = lists.push_front(1, 2)?;
     /// assert_eq!((lists.first(1), lists.last(1)), (Some(two), Some(one)));
     /// assert!(matches!(lists.push_front(2, 3), Err(AddError::NoList(3))));
+    /// # Ok(())
+    /// # }
     /// ```
     ///
     /// # Proved
@@ -106,12 +113,19 @@ impl<K: Key, T: Sized> StableLists<K, T> {
     /// stays. If the call fails, the error holds the value, and the lists have the same elements.
     /// Constant time on average.
     ///
-    /// ```ignore
+    /// ```
+    /// # use slotmap_proved::Key;
+    /// # use slotmap_proved::fallible::Global;
+    /// # use slotmap_proved::lists::{AddError, StableLists};
+    /// # fn main() -> Result<(), Box<dyn std::error::Error>> {
+    /// # let alloc = Global;
     /// let mut lists = StableLists::new(alloc, 2)?;
     /// let one = lists.push_back(1, 1)?;
     /// let two = lists.push_back(1, 2)?;
     /// assert_eq!((lists.first(1), lists.last(1)), (Some(one), Some(two)));
     /// assert!(matches!(lists.push_back(2, 3), Err(AddError::NoList(3))));
+    /// # Ok(())
+    /// # }
     /// ```
     ///
     /// # Proved

@@ -15,13 +15,20 @@ impl<K: Key, T: Sized> StableLists<K, T> {
     /// is vacant or room was reserved, it fails for no other reason, and the capacity stays. If the call
     /// fails, the error holds the value, and the lists have the same elements. Constant time on average.
     ///
-    /// ```ignore
+    /// ```
+    /// # use slotmap_proved::Key;
+    /// # use slotmap_proved::fallible::Global;
+    /// # use slotmap_proved::lists::{PlaceError, StableLists};
+    /// # fn main() -> Result<(), Box<dyn std::error::Error>> {
+    /// # let alloc = Global;
     /// let mut lists = StableLists::new(alloc, 2)?;
     /// let one = lists.push_back(1, 1)?;
     /// let two = lists.insert_before(one, 2)?;
     /// assert_eq!((lists.list_of(two), lists.prev(one)), (Some(1), Some(two)));
     /// lists.remove(one);
     /// assert!(matches!(lists.insert_before(one, 3), Err(PlaceError::Gone(3))));
+    /// # Ok(())
+    /// # }
     /// ```
     ///
     /// # Proved
@@ -68,13 +75,20 @@ impl<K: Key, T: Sized> StableLists<K, T> {
     /// is vacant or room was reserved, it fails for no other reason, and the capacity stays. If the call
     /// fails, the error holds the value, and the lists have the same elements. Constant time on average.
     ///
-    /// ```ignore
+    /// ```
+    /// # use slotmap_proved::Key;
+    /// # use slotmap_proved::fallible::Global;
+    /// # use slotmap_proved::lists::{PlaceError, StableLists};
+    /// # fn main() -> Result<(), Box<dyn std::error::Error>> {
+    /// # let alloc = Global;
     /// let mut lists = StableLists::new(alloc, 2)?;
     /// let one = lists.push_back(1, 1)?;
     /// let two = lists.insert_after(one, 2)?;
     /// assert_eq!((lists.list_of(two), lists.next(one)), (Some(1), Some(two)));
     /// lists.remove(one);
     /// assert!(matches!(lists.insert_after(one, 3), Err(PlaceError::Gone(3))));
+    /// # Ok(())
+    /// # }
     /// ```
     ///
     /// # Proved

@@ -14,12 +14,19 @@ impl<K: Key, T: Clone> StableLists<K, T> {
     /// runs out, or the clone of a value fails, the call fails, and what was copied is dropped. It takes
     /// time linear in the capacity and in the number of lists.
     ///
-    /// ```ignore
+    /// ```
+    /// # use slotmap_proved::Key;
+    /// # use slotmap_proved::fallible::Global;
+    /// # use slotmap_proved::lists::StableLists;
+    /// # fn main() -> Result<(), Box<dyn std::error::Error>> {
+    /// # let alloc = Global;
     /// let mut lists = StableLists::new(alloc, 2)?;
     /// let one = lists.push_back(1, 1)?;
     /// let copy = lists.clone()?;
     /// lists.remove(one);
     /// assert_eq!((copy.get(one), copy.list_of(one)), (Some(&1), Some(1)));
+    /// # Ok(())
+    /// # }
     /// ```
     ///
     /// # Proved

@@ -12,13 +12,20 @@ impl<K: Key, T: Sized> StableLists<K, T> {
     ///
     /// It takes time linear in the number of elements of the list.
     ///
-    /// ```ignore
+    /// ```
+    /// # use slotmap_proved::Key;
+    /// # use slotmap_proved::fallible::Global;
+    /// # use slotmap_proved::lists::StableLists;
+    /// # fn main() -> Result<(), Box<dyn std::error::Error>> {
+    /// # let alloc = Global;
     /// let mut lists = StableLists::new(alloc, 2)?;
     /// let one = lists.push_back(0, 1)?;
     /// lists.push_back(1, 2)?;
     /// lists.clear_list(0);
     /// assert_eq!((lists.list_len(0), lists.list_len(1)), (0, 1));
     /// assert_eq!(lists.get(one), None);
+    /// # Ok(())
+    /// # }
     /// ```
     ///
     /// # Proved
@@ -45,7 +52,12 @@ impl<K: Key, T: Sized> StableLists<K, T> {
     /// The elements keep their cursors and their values, and the capacity stays. It takes time linear in
     /// the number of elements of `other`, since each of them says which list it is in.
     ///
-    /// ```ignore
+    /// ```
+    /// # use slotmap_proved::Key;
+    /// # use slotmap_proved::fallible::Global;
+    /// # use slotmap_proved::lists::StableLists;
+    /// # fn main() -> Result<(), Box<dyn std::error::Error>> {
+    /// # let alloc = Global;
     /// let mut lists = StableLists::new(alloc, 2)?;
     /// let one = lists.push_back(0, 1)?;
     /// let two = lists.push_back(1, 2)?;
@@ -53,6 +65,8 @@ impl<K: Key, T: Sized> StableLists<K, T> {
     /// assert_eq!((lists.next(one), lists.list_of(two)), (Some(two), Some(0)));
     /// assert_eq!((lists.list_len(0), lists.list_len(1)), (2, 0));
     /// assert!(!lists.append(0, 0));
+    /// # Ok(())
+    /// # }
     /// ```
     ///
     /// # Proved

@@ -56,7 +56,12 @@ impl<K: Key, T: Sized> StableLists<K, T> {
     ///
     /// It is made in constant time, and each step takes constant time.
     ///
-    /// ```ignore
+    /// ```
+    /// # use slotmap_proved::Key;
+    /// # use slotmap_proved::fallible::Global;
+    /// # use slotmap_proved::lists::StableLists;
+    /// # fn main() -> Result<(), Box<dyn std::error::Error>> {
+    /// # let alloc = Global;
     /// let mut lists = StableLists::new(alloc, 2)?;
     /// let one = lists.push_back(1, 1)?;
     /// let two = lists.push_back(1, 2)?;
@@ -66,6 +71,8 @@ impl<K: Key, T: Sized> StableLists<K, T> {
     ///     assert_eq!(elements.next(), None);
     /// }
     /// assert!(lists.iter(2).is_none());
+    /// # Ok(())
+    /// # }
     /// ```
     ///
     /// # Proved

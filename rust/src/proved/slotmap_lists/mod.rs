@@ -31,7 +31,12 @@
 //! Here is a cache with two segments. What is new stands in the first, and what was used again in the
 //! second:
 //!
-//! ```ignore
+//! ```
+//! # use slotmap_proved::Key;
+//! # use slotmap_proved::fallible::Global;
+//! # use slotmap_proved::lists::StableLists;
+//! # fn main() -> Result<(), Box<dyn std::error::Error>> {
+//! # let alloc = Global;
 //! let mut cache = StableLists::new(alloc, 2)?;
 //! let one = cache.push_front(0, 1)?;
 //! cache.push_front(0, 2)?;
@@ -39,6 +44,8 @@
 //! assert_eq!(cache.list_of(one), Some(1));
 //! assert_eq!(cache.get(one), Some(&1));
 //! assert_eq!((cache.list_len(0), cache.list_len(1)), (1, 1));
+//! # Ok(())
+//! # }
 //! ```
 
 #[allow(unused_imports)]
@@ -124,9 +131,16 @@ impl<T: Sized> StableLists<Cursor, T> {
     /// It fails with `TooGreat` if `lists` is over 4294967294, and with `Memory` if memory runs out. It
     /// takes time linear in `lists`.
     ///
-    /// ```ignore
+    /// ```
+    /// # use slotmap_proved::Key;
+    /// # use slotmap_proved::fallible::Global;
+    /// # use slotmap_proved::lists::{Cursor, StableLists};
+    /// # fn main() -> Result<(), Box<dyn std::error::Error>> {
+    /// # let alloc = Global;
     /// let lists: StableLists<Cursor, u64> = StableLists::new(alloc, 2)?;
     /// assert_eq!((lists.lists(), lists.len()), (2, 0));
+    /// # Ok(())
+    /// # }
     /// ```
     ///
     /// # Proved
@@ -148,9 +162,16 @@ impl<T: Sized> StableLists<Cursor, T> {
     /// with `TooGreat` if `lists` or `capacity` is over 4294967294, and with `Memory` if memory runs out.
     /// It takes time linear in both.
     ///
-    /// ```ignore
+    /// ```
+    /// # use slotmap_proved::Key;
+    /// # use slotmap_proved::fallible::Global;
+    /// # use slotmap_proved::lists::{Cursor, StableLists};
+    /// # fn main() -> Result<(), Box<dyn std::error::Error>> {
+    /// # let alloc = Global;
     /// let lists: StableLists<Cursor, u64> = StableLists::with_capacity(alloc, 2, 8)?;
     /// assert_eq!(lists.lists(), 2);
+    /// # Ok(())
+    /// # }
     /// ```
     ///
     /// # Proved
@@ -173,9 +194,16 @@ impl<K: Key, T: Sized> StableLists<K, T> {
     /// It fails with `TooGreat` if `lists` is over 4294967294, and with `Memory` if memory runs out. It
     /// takes time linear in `lists`.
     ///
-    /// ```ignore
+    /// ```
+    /// # use slotmap_proved::{Key, NodeKey};
+    /// # use slotmap_proved::fallible::Global;
+    /// # use slotmap_proved::lists::StableLists;
+    /// # fn main() -> Result<(), Box<dyn std::error::Error>> {
+    /// # let alloc = Global;
     /// let lists: StableLists<NodeKey, u64> = StableLists::with_key(alloc, 2)?;
     /// assert!(lists.is_empty());
+    /// # Ok(())
+    /// # }
     /// ```
     ///
     /// # Proved
@@ -196,9 +224,16 @@ impl<K: Key, T: Sized> StableLists<K, T> {
     /// with `TooGreat` if `lists` or `capacity` is over 4294967294, and with `Memory` if memory runs out.
     /// It takes time linear in both.
     ///
-    /// ```ignore
+    /// ```
+    /// # use slotmap_proved::{Key, NodeKey};
+    /// # use slotmap_proved::fallible::Global;
+    /// # use slotmap_proved::lists::StableLists;
+    /// # fn main() -> Result<(), Box<dyn std::error::Error>> {
+    /// # let alloc = Global;
     /// let lists: StableLists<NodeKey, u64> = StableLists::with_capacity_and_key(alloc, 2, 8)?;
     /// assert_eq!((lists.list_len(0), lists.list_len(1)), (0, 0));
+    /// # Ok(())
+    /// # }
     /// ```
     ///
     /// # Proved
@@ -234,9 +269,16 @@ impl<K: Key, T: Sized> StableLists<K, T> {
 
     /// Returns the number of lists, in constant time. They have the numbers below it.
     ///
-    /// ```ignore
+    /// ```
+    /// # use slotmap_proved::Key;
+    /// # use slotmap_proved::fallible::Global;
+    /// # use slotmap_proved::lists::{Cursor, StableLists};
+    /// # fn main() -> Result<(), Box<dyn std::error::Error>> {
+    /// # let alloc = Global;
     /// let lists: StableLists<Cursor, u64> = StableLists::new(alloc, 3)?;
     /// assert_eq!(lists.lists(), 3);
+    /// # Ok(())
+    /// # }
     /// ```
     ///
     /// # Proved
@@ -253,11 +295,18 @@ impl<K: Key, T: Sized> StableLists<K, T> {
     /// Returns the number of elements in all lists, in constant time. Each is in one list, and there
     /// once.
     ///
-    /// ```ignore
+    /// ```
+    /// # use slotmap_proved::Key;
+    /// # use slotmap_proved::fallible::Global;
+    /// # use slotmap_proved::lists::StableLists;
+    /// # fn main() -> Result<(), Box<dyn std::error::Error>> {
+    /// # let alloc = Global;
     /// let mut lists = StableLists::new(alloc, 2)?;
     /// lists.push_back(0, 1)?;
     /// lists.push_back(1, 2)?;
     /// assert_eq!(lists.len(), 2);
+    /// # Ok(())
+    /// # }
     /// ```
     ///
     /// # Proved
@@ -275,11 +324,18 @@ impl<K: Key, T: Sized> StableLists<K, T> {
 
     /// Returns whether no list has an element, in constant time.
     ///
-    /// ```ignore
+    /// ```
+    /// # use slotmap_proved::Key;
+    /// # use slotmap_proved::fallible::Global;
+    /// # use slotmap_proved::lists::StableLists;
+    /// # fn main() -> Result<(), Box<dyn std::error::Error>> {
+    /// # let alloc = Global;
     /// let mut lists = StableLists::new(alloc, 2)?;
     /// assert!(lists.is_empty());
     /// lists.push_back(1, 2)?;
     /// assert!(!lists.is_empty());
+    /// # Ok(())
+    /// # }
     /// ```
     ///
     /// # Proved
@@ -294,10 +350,17 @@ impl<K: Key, T: Sized> StableLists<K, T> {
 
     /// Returns the number of elements of a list, in constant time; of one that isn't there, 0.
     ///
-    /// ```ignore
+    /// ```
+    /// # use slotmap_proved::Key;
+    /// # use slotmap_proved::fallible::Global;
+    /// # use slotmap_proved::lists::StableLists;
+    /// # fn main() -> Result<(), Box<dyn std::error::Error>> {
+    /// # let alloc = Global;
     /// let mut lists = StableLists::new(alloc, 2)?;
     /// lists.push_back(1, 2)?;
     /// assert_eq!((lists.list_len(0), lists.list_len(1), lists.list_len(2)), (0, 1, 0));
+    /// # Ok(())
+    /// # }
     /// ```
     ///
     /// # Proved
@@ -315,12 +378,19 @@ impl<K: Key, T: Sized> StableLists<K, T> {
 
     /// Returns whether a cursor is in a list, in constant time.
     ///
-    /// ```ignore
+    /// ```
+    /// # use slotmap_proved::Key;
+    /// # use slotmap_proved::fallible::Global;
+    /// # use slotmap_proved::lists::StableLists;
+    /// # fn main() -> Result<(), Box<dyn std::error::Error>> {
+    /// # let alloc = Global;
     /// let mut lists = StableLists::new(alloc, 1)?;
     /// let one = lists.push_back(0, 1)?;
     /// assert!(lists.contains(one));
     /// lists.remove(one);
     /// assert!(!lists.contains(one));
+    /// # Ok(())
+    /// # }
     /// ```
     ///
     /// # Proved
@@ -336,13 +406,20 @@ impl<K: Key, T: Sized> StableLists<K, T> {
 
     /// Returns the number of the list that a cursor is in, or `None` if it is in none. Constant time.
     ///
-    /// ```ignore
+    /// ```
+    /// # use slotmap_proved::Key;
+    /// # use slotmap_proved::fallible::Global;
+    /// # use slotmap_proved::lists::StableLists;
+    /// # fn main() -> Result<(), Box<dyn std::error::Error>> {
+    /// # let alloc = Global;
     /// let mut lists = StableLists::new(alloc, 2)?;
     /// let one = lists.push_back(0, 1)?;
     /// lists.move_to_back(one, 1);
     /// assert_eq!(lists.list_of(one), Some(1));
     /// lists.remove(one);
     /// assert_eq!(lists.list_of(one), None);
+    /// # Ok(())
+    /// # }
     /// ```
     ///
     /// # Proved
@@ -367,12 +444,19 @@ impl<K: Key, T: Sized> StableLists<K, T> {
 
     /// Returns the value of a cursor, or `None` if it is in no list. Constant time.
     ///
-    /// ```ignore
+    /// ```
+    /// # use slotmap_proved::Key;
+    /// # use slotmap_proved::fallible::Global;
+    /// # use slotmap_proved::lists::StableLists;
+    /// # fn main() -> Result<(), Box<dyn std::error::Error>> {
+    /// # let alloc = Global;
     /// let mut lists = StableLists::new(alloc, 1)?;
     /// let one = lists.push_back(0, 1)?;
     /// assert_eq!(lists.get(one), Some(&1));
     /// lists.remove(one);
     /// assert_eq!(lists.get(one), None);
+    /// # Ok(())
+    /// # }
     /// ```
     ///
     /// # Proved
@@ -389,11 +473,18 @@ impl<K: Key, T: Sized> StableLists<K, T> {
     /// Returns the cursor at the front of a list, or `None` if it is empty or isn't there. Constant
     /// time.
     ///
-    /// ```ignore
+    /// ```
+    /// # use slotmap_proved::Key;
+    /// # use slotmap_proved::fallible::Global;
+    /// # use slotmap_proved::lists::StableLists;
+    /// # fn main() -> Result<(), Box<dyn std::error::Error>> {
+    /// # let alloc = Global;
     /// let mut lists = StableLists::new(alloc, 2)?;
     /// let one = lists.push_back(1, 1)?;
     /// lists.push_back(1, 2)?;
     /// assert_eq!((lists.first(0), lists.first(1)), (None, Some(one)));
+    /// # Ok(())
+    /// # }
     /// ```
     ///
     /// # Proved
@@ -413,11 +504,18 @@ impl<K: Key, T: Sized> StableLists<K, T> {
 
     /// Returns the cursor at the back of a list, or `None` if it is empty or isn't there. Constant time.
     ///
-    /// ```ignore
+    /// ```
+    /// # use slotmap_proved::Key;
+    /// # use slotmap_proved::fallible::Global;
+    /// # use slotmap_proved::lists::StableLists;
+    /// # fn main() -> Result<(), Box<dyn std::error::Error>> {
+    /// # let alloc = Global;
     /// let mut lists = StableLists::new(alloc, 2)?;
     /// lists.push_back(1, 1)?;
     /// let two = lists.push_back(1, 2)?;
     /// assert_eq!((lists.last(0), lists.last(1)), (None, Some(two)));
+    /// # Ok(())
+    /// # }
     /// ```
     ///
     /// # Proved
@@ -438,11 +536,18 @@ impl<K: Key, T: Sized> StableLists<K, T> {
     /// Returns the cursor after this one in its list, or `None` at the back and for a cursor that is in
     /// no list. Constant time.
     ///
-    /// ```ignore
+    /// ```
+    /// # use slotmap_proved::Key;
+    /// # use slotmap_proved::fallible::Global;
+    /// # use slotmap_proved::lists::StableLists;
+    /// # fn main() -> Result<(), Box<dyn std::error::Error>> {
+    /// # let alloc = Global;
     /// let mut lists = StableLists::new(alloc, 2)?;
     /// let one = lists.push_back(1, 1)?;
     /// let two = lists.push_back(1, 2)?;
     /// assert_eq!((lists.next(one), lists.next(two)), (Some(two), None));
+    /// # Ok(())
+    /// # }
     /// ```
     ///
     /// # Proved
@@ -463,11 +568,18 @@ impl<K: Key, T: Sized> StableLists<K, T> {
     /// Returns the cursor before this one in its list, or `None` at the front and for a cursor that is
     /// in no list. Constant time.
     ///
-    /// ```ignore
+    /// ```
+    /// # use slotmap_proved::Key;
+    /// # use slotmap_proved::fallible::Global;
+    /// # use slotmap_proved::lists::StableLists;
+    /// # fn main() -> Result<(), Box<dyn std::error::Error>> {
+    /// # let alloc = Global;
     /// let mut lists = StableLists::new(alloc, 2)?;
     /// let one = lists.push_back(1, 1)?;
     /// let two = lists.push_back(1, 2)?;
     /// assert_eq!((lists.prev(one), lists.prev(two)), (None, Some(one)));
+    /// # Ok(())
+    /// # }
     /// ```
     ///
     /// # Proved

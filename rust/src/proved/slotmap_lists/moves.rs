@@ -11,13 +11,20 @@ impl<K: Key, T: Sized> StableLists<K, T> {
     /// Returns a mutable reference to the value of a cursor, or `None` if it is in no list. Constant
     /// time.
     ///
-    /// ```ignore
+    /// ```
+    /// # use slotmap_proved::Key;
+    /// # use slotmap_proved::fallible::Global;
+    /// # use slotmap_proved::lists::StableLists;
+    /// # fn main() -> Result<(), Box<dyn std::error::Error>> {
+    /// # let alloc = Global;
     /// let mut lists = StableLists::new(alloc, 1)?;
     /// let one = lists.push_back(0, 1)?;
     /// if let Some(value) = lists.get_mut(one) {
     ///     *value = 5;
     /// }
     /// assert_eq!(lists.get(one), Some(&5));
+    /// # Ok(())
+    /// # }
     /// ```
     ///
     /// # Proved
@@ -40,20 +47,28 @@ impl<K: Key, T: Sized> StableLists<K, T> {
     ///
     /// Constant time. The element keeps its cursor and its value, and the capacity stays.
     ///
-    /// ```ignore
+    /// ```
+    /// # use slotmap_proved::Key;
+    /// # use slotmap_proved::fallible::Global;
+    /// # use slotmap_proved::lists::StableLists;
+    /// # fn main() -> Result<(), Box<dyn std::error::Error>> {
+    /// # let alloc = Global;
     /// let mut lists = StableLists::new(alloc, 2)?;
     /// let one = lists.push_back(0, 1)?;
     /// let two = lists.push_back(1, 2)?;
     /// assert!(lists.move_to_front(one, 1));
     /// assert_eq!((lists.first(0), lists.first(1), lists.last(1)), (None, Some(one), Some(two)));
     /// assert!(!lists.move_to_front(one, 2));
+    /// # Ok(())
+    /// # }
     /// ```
     ///
     /// # Proved
     ///
     /// ```text
     /// ensures which { result ≡ can_move_to (K.data_of cursor) list self.old.lists }
-    /// ensures moved { self.new ≡ record self.old { lists = if result then moved_to_front_of (K.data_of cursor) list self.old.lists else self.old.lists } }
+    /// ensures moved { self.new ≡ record self.old
+    ///     { lists = if result then moved_to_front_of (K.data_of cursor) list self.old.lists else self.old.lists } }
     /// ensures in_list { IsTrue result → number_with (K.data_of cursor) self.new.lists ≡ Some list }
     /// ensures others { IsTrue result → (q : ℕ) → q ≢ list → elements_of q self.new.lists ≡ without (K.data_of cursor) (elements_of q self.old.lists) }
     /// ensures first { IsTrue result → first_or (elements_of list self.new.lists) None ≡ Some (K.data_of cursor) }
@@ -75,20 +90,28 @@ impl<K: Key, T: Sized> StableLists<K, T> {
     ///
     /// Constant time. The element keeps its cursor and its value, and the capacity stays.
     ///
-    /// ```ignore
+    /// ```
+    /// # use slotmap_proved::Key;
+    /// # use slotmap_proved::fallible::Global;
+    /// # use slotmap_proved::lists::StableLists;
+    /// # fn main() -> Result<(), Box<dyn std::error::Error>> {
+    /// # let alloc = Global;
     /// let mut lists = StableLists::new(alloc, 2)?;
     /// let one = lists.push_back(0, 1)?;
     /// let two = lists.push_back(1, 2)?;
     /// assert!(lists.move_to_back(one, 1));
     /// assert_eq!((lists.first(0), lists.first(1), lists.last(1)), (None, Some(two), Some(one)));
     /// assert!(!lists.move_to_back(one, 2));
+    /// # Ok(())
+    /// # }
     /// ```
     ///
     /// # Proved
     ///
     /// ```text
     /// ensures which { result ≡ can_move_to (K.data_of cursor) list self.old.lists }
-    /// ensures moved { self.new ≡ record self.old { lists = if result then moved_to_back_of (K.data_of cursor) list self.old.lists else self.old.lists } }
+    /// ensures moved { self.new ≡ record self.old
+    ///     { lists = if result then moved_to_back_of (K.data_of cursor) list self.old.lists else self.old.lists } }
     /// ensures in_list { IsTrue result → number_with (K.data_of cursor) self.new.lists ≡ Some list }
     /// ensures others { IsTrue result → (q : ℕ) → q ≢ list → elements_of q self.new.lists ≡ without (K.data_of cursor) (elements_of q self.old.lists) }
     /// ensures last { IsTrue result → last_or (elements_of list self.new.lists) None ≡ Some (K.data_of cursor) }
@@ -109,20 +132,28 @@ impl<K: Key, T: Sized> StableLists<K, T> {
     ///
     /// Constant time. The element keeps its cursor and its value, and the capacity stays.
     ///
-    /// ```ignore
+    /// ```
+    /// # use slotmap_proved::Key;
+    /// # use slotmap_proved::fallible::Global;
+    /// # use slotmap_proved::lists::StableLists;
+    /// # fn main() -> Result<(), Box<dyn std::error::Error>> {
+    /// # let alloc = Global;
     /// let mut lists = StableLists::new(alloc, 2)?;
     /// let one = lists.push_back(0, 1)?;
     /// let two = lists.push_back(1, 2)?;
     /// assert!(lists.move_before(one, two));
     /// assert_eq!((lists.first(0), lists.first(1), lists.last(1)), (None, Some(one), Some(two)));
     /// assert!(!lists.move_before(one, one));
+    /// # Ok(())
+    /// # }
     /// ```
     ///
     /// # Proved
     ///
     /// ```text
     /// ensures which { result ≡ are_two_in (K.data_of cursor) (K.data_of other) self.old.lists }
-    /// ensures moved { self.new ≡ record self.old { lists = if result then moved_ahead (K.data_of cursor) (K.data_of other) self.old.lists else self.old.lists } }
+    /// ensures moved { self.new ≡ record self.old
+    ///     { lists = if result then moved_ahead (K.data_of cursor) (K.data_of other) self.old.lists else self.old.lists } }
     /// ensures in_list { IsTrue result → number_with (K.data_of cursor) self.new.lists ≡ number_with (K.data_of other) self.old.lists }
     /// ensures prev { IsTrue result → key_before None (K.data_of other) (list_with (K.data_of other) self.new.lists) ≡ Some (K.data_of cursor) }
     /// ensures others { IsTrue result → (q : ℕ) → number_with (K.data_of other) self.old.lists ≢ Some q → elements_of q self.new.lists ≡ without (K.data_of cursor) (elements_of q self.old.lists) }
@@ -144,20 +175,28 @@ impl<K: Key, T: Sized> StableLists<K, T> {
     ///
     /// Constant time. The element keeps its cursor and its value, and the capacity stays.
     ///
-    /// ```ignore
+    /// ```
+    /// # use slotmap_proved::Key;
+    /// # use slotmap_proved::fallible::Global;
+    /// # use slotmap_proved::lists::StableLists;
+    /// # fn main() -> Result<(), Box<dyn std::error::Error>> {
+    /// # let alloc = Global;
     /// let mut lists = StableLists::new(alloc, 2)?;
     /// let one = lists.push_back(0, 1)?;
     /// let two = lists.push_back(1, 2)?;
     /// assert!(lists.move_after(one, two));
     /// assert_eq!((lists.first(0), lists.first(1), lists.last(1)), (None, Some(two), Some(one)));
     /// assert!(!lists.move_after(one, one));
+    /// # Ok(())
+    /// # }
     /// ```
     ///
     /// # Proved
     ///
     /// ```text
     /// ensures which { result ≡ are_two_in (K.data_of cursor) (K.data_of other) self.old.lists }
-    /// ensures moved { self.new ≡ record self.old { lists = if result then moved_behind (K.data_of cursor) (K.data_of other) self.old.lists else self.old.lists } }
+    /// ensures moved { self.new ≡ record self.old
+    ///     { lists = if result then moved_behind (K.data_of cursor) (K.data_of other) self.old.lists else self.old.lists } }
     /// ensures in_list { IsTrue result → number_with (K.data_of cursor) self.new.lists ≡ number_with (K.data_of other) self.old.lists }
     /// ensures next { IsTrue result → key_after (K.data_of other) (list_with (K.data_of other) self.new.lists) ≡ Some (K.data_of cursor) }
     /// ensures others { IsTrue result → (q : ℕ) → number_with (K.data_of other) self.old.lists ≢ Some q → elements_of q self.new.lists ≡ without (K.data_of cursor) (elements_of q self.old.lists) }

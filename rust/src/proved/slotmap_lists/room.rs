@@ -42,13 +42,20 @@ impl<K: Key, T: Sized> StableLists<K, T> {
     ///   retired.
     /// - `Memory`: memory runs out.
     ///
-    /// ```ignore
+    /// ```
+    /// # use slotmap_proved::Key;
+    /// # use slotmap_proved::fallible::Global;
+    /// # use slotmap_proved::lists::StableLists;
+    /// # fn main() -> Result<(), Box<dyn std::error::Error>> {
+    /// # let alloc = Global;
     /// let mut lists = StableLists::new(alloc, 2)?;
     /// lists.reserve(2)?;
     /// let capacity = lists.capacity();
     /// lists.push_back(0, 1)?;
     /// lists.push_back(1, 2)?;
     /// assert_eq!(lists.capacity(), capacity);
+    /// # Ok(())
+    /// # }
     /// ```
     ///
     /// # Proved
@@ -78,12 +85,19 @@ impl<K: Key, T: Sized> StableLists<K, T> {
     /// Returns how many elements there can be before more room is made, in constant time. It counts
     /// the slots that are retired.
     ///
-    /// ```ignore
+    /// ```
+    /// # use slotmap_proved::Key;
+    /// # use slotmap_proved::fallible::Global;
+    /// # use slotmap_proved::lists::StableLists;
+    /// # fn main() -> Result<(), Box<dyn std::error::Error>> {
+    /// # let alloc = Global;
     /// let mut lists = StableLists::with_capacity(alloc, 2, 8)?;
     /// let capacity = lists.capacity();
     /// assert!(capacity >= 8);
     /// lists.push_back(1, 1)?;
     /// assert_eq!(lists.capacity(), capacity);
+    /// # Ok(())
+    /// # }
     /// ```
     ///
     /// # Proved

@@ -12,11 +12,18 @@ impl<K: Key, T: Sized> StableLists<K, T> {
     /// never used again. If the cursor is in no list, the call returns `None` and changes nothing. No
     /// room is lost, and the capacity stays. Constant time.
     ///
-    /// ```ignore
+    /// ```
+    /// # use slotmap_proved::Key;
+    /// # use slotmap_proved::fallible::Global;
+    /// # use slotmap_proved::lists::StableLists;
+    /// # fn main() -> Result<(), Box<dyn std::error::Error>> {
+    /// # let alloc = Global;
     /// let mut lists = StableLists::new(alloc, 2)?;
     /// let one = lists.push_back(1, 1)?;
     /// assert_eq!(lists.remove(one), Some(1));
     /// assert_eq!(lists.remove(one), None);
+    /// # Ok(())
+    /// # }
     /// ```
     ///
     /// # Proved
@@ -48,12 +55,19 @@ impl<K: Key, T: Sized> StableLists<K, T> {
     /// the list is empty or isn't there. The cursor is never used again. No room is lost, and the
     /// capacity stays. Constant time.
     ///
-    /// ```ignore
+    /// ```
+    /// # use slotmap_proved::Key;
+    /// # use slotmap_proved::fallible::Global;
+    /// # use slotmap_proved::lists::StableLists;
+    /// # fn main() -> Result<(), Box<dyn std::error::Error>> {
+    /// # let alloc = Global;
     /// let mut lists = StableLists::new(alloc, 2)?;
     /// let one = lists.push_back(1, 1)?;
     /// lists.push_back(1, 2)?;
     /// assert_eq!(lists.pop_front(0), None);
     /// assert_eq!(lists.pop_front(1), Some((one, 1)));
+    /// # Ok(())
+    /// # }
     /// ```
     ///
     /// # Proved
@@ -85,12 +99,19 @@ impl<K: Key, T: Sized> StableLists<K, T> {
     /// the list is empty or isn't there. The cursor is never used again. No room is lost, and the
     /// capacity stays. Constant time.
     ///
-    /// ```ignore
+    /// ```
+    /// # use slotmap_proved::Key;
+    /// # use slotmap_proved::fallible::Global;
+    /// # use slotmap_proved::lists::StableLists;
+    /// # fn main() -> Result<(), Box<dyn std::error::Error>> {
+    /// # let alloc = Global;
     /// let mut lists = StableLists::new(alloc, 2)?;
     /// lists.push_back(1, 1)?;
     /// let two = lists.push_back(1, 2)?;
     /// assert_eq!(lists.pop_back(0), None);
     /// assert_eq!(lists.pop_back(1), Some((two, 2)));
+    /// # Ok(())
+    /// # }
     /// ```
     ///
     /// # Proved

@@ -156,7 +156,13 @@ fn visit_from<K: Key, N: Sized, E: Sized>(
 /// It takes time linear in the number of slots of nodes, and in the number of edges. It needs no stack:
 /// the open nodes are in a vector. It fails only if memory runs out.
 ///
-/// ```ignore
+/// ```
+/// # use slotmap_proved::{Key, NodeKey};
+/// # use slotmap_proved::fallible::Global;
+/// # use slotmap_proved::graph::Graph;
+/// # use slotmap_proved::paths::post_order;
+/// # fn main() -> Result<(), Box<dyn std::error::Error>> {
+/// # let alloc = Global;
 /// let mut graph: Graph<NodeKey, &str, u64> = Graph::new(alloc)?;
 /// let a = graph.add_node("a")?;
 /// let b = graph.add_node("b")?;
@@ -164,6 +170,8 @@ fn visit_from<K: Key, N: Sized, E: Sized>(
 /// graph.add_edge(a, b, 5)?;
 /// graph.add_edge(c, a, 6)?;
 /// assert_eq!(post_order(alloc, &graph)?.as_slice(), [b, a, c].as_slice());
+/// # Ok(())
+/// # }
 /// ```
 ///
 /// # Proved
@@ -191,7 +199,13 @@ pub fn post_order<K: Key, N: Sized, E: Sized>(
 /// number of these nodes and their outgoing edges, and in the largest index of one of them: the marks
 /// are in a `SecondaryMap`. It fails only if memory runs out.
 ///
-/// ```ignore
+/// ```
+/// # use slotmap_proved::{Key, NodeKey};
+/// # use slotmap_proved::fallible::Global;
+/// # use slotmap_proved::graph::Graph;
+/// # use slotmap_proved::paths::post_order_from;
+/// # fn main() -> Result<(), Box<dyn std::error::Error>> {
+/// # let alloc = Global;
 /// let mut graph: Graph<NodeKey, &str, u64> = Graph::new(alloc)?;
 /// let a = graph.add_node("a")?;
 /// let b = graph.add_node("b")?;
@@ -199,6 +213,8 @@ pub fn post_order<K: Key, N: Sized, E: Sized>(
 /// graph.add_edge(a, b, 5)?;
 /// graph.add_edge(c, a, 6)?;
 /// assert_eq!(post_order_from(alloc, &graph, a)?.as_slice(), [b, a].as_slice());
+/// # Ok(())
+/// # }
 /// ```
 ///
 /// # Proved
@@ -206,8 +222,10 @@ pub fn post_order<K: Key, N: Sized, E: Sized>(
 /// ```text
 /// ensures once { IfOk result (λ order. (x : KeyOf) → times x (list_map K.data_of order.items) ≤ 1) }
 /// ensures found_is_reachable { IfOk result (λ order. (x : KeyOf) → 0 < times x (list_map K.data_of order.items) → Leads graph.now.edges.live (K.data_of start) x) }
-/// ensures reachable_is_found { IfOk result (λ order. (x : KeyOf) → IsLive graph.now.nodes (K.data_of start) → Leads graph.now.edges.live (K.data_of start) x → 0 < times x (list_map K.data_of order.items)) }
-/// ensures live { IfOk result (λ order. (x : KeyOf) → 0 < times x (list_map K.data_of order.items) → IsLive graph.now.nodes (K.data_of start) × IsLive graph.now.nodes x) }
+/// ensures reachable_is_found { IfOk result (λ order. (x : KeyOf) → IsLive graph.now.nodes (K.data_of start)
+///     → Leads graph.now.edges.live (K.data_of start) x → 0 < times x (list_map K.data_of order.items)) }
+/// ensures live { IfOk result (λ order. (x : KeyOf) → 0 < times x (list_map K.data_of order.items)
+///     → IsLive graph.now.nodes (K.data_of start) × IsLive graph.now.nodes x) }
 /// ensures last { IfOk result (λ order. IsLive graph.now.nodes (K.data_of start) → last_or (list_map K.data_of order.items) None ≡ Some (K.data_of start)) }
 /// ensures in_order { IfOk result (λ order. IsPostOrder graph.now.edges.live (list_map K.data_of order.items)) }
 /// ```

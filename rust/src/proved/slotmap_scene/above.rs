@@ -79,13 +79,21 @@ impl<K: Key, T: Sized> Scene<K, T> {
     /// A root has none, and neither has a node that doesn't exist. Each key is that of a node that
     /// exists. It is made in constant time, and each step takes constant time.
     ///
-    /// ```ignore
+    /// ```
+    /// # use slotmap_proved::{DefaultKey, Key};
+    /// # use slotmap_proved::fallible::Global;
+    /// # use slotmap_proved::scene::Scene;
+    /// # use slotmap_proved::scene::world::{HasTransform, Transform};
+    /// # fn main() -> Result<(), Box<dyn std::error::Error>> {
+    /// # let alloc = Global;
     /// let mut scene: Scene<DefaultKey, &str> = Scene::new(alloc)?;
     /// let car = scene.add_root("car")?;
     /// let wheel = scene.add_child(car, "wheel")?;
     /// let mut above = scene.ancestors(wheel);
     /// assert_eq!(above.next(), Some(car));
     /// assert_eq!(above.next(), None);
+    /// # Ok(())
+    /// # }
     /// ```
     ///
     /// # Proved
@@ -107,13 +115,21 @@ impl<K: Key, T: Sized> Scene<K, T> {
     ///
     /// It is made in constant time. All its steps together read each slot once.
     ///
-    /// ```ignore
+    /// ```
+    /// # use slotmap_proved::{DefaultKey, Key};
+    /// # use slotmap_proved::fallible::Global;
+    /// # use slotmap_proved::scene::Scene;
+    /// # use slotmap_proved::scene::world::{HasTransform, Transform};
+    /// # fn main() -> Result<(), Box<dyn std::error::Error>> {
+    /// # let alloc = Global;
     /// let mut scene: Scene<DefaultKey, &str> = Scene::new(alloc)?;
     /// let car = scene.add_root("car")?;
     /// scene.add_child(car, "wheel")?;
     /// let mut roots = scene.roots();
     /// assert_eq!(roots.next(), Some(car));
     /// assert_eq!(roots.next(), None);
+    /// # Ok(())
+    /// # }
     /// ```
     ///
     /// # Proved

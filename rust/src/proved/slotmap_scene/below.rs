@@ -64,7 +64,13 @@ impl<K: Key, T: Sized> Scene<K, T> {
     /// It takes time linear in the depth of `key` at most. A walk through all nodes below a node takes time
     /// linear in their number.
     ///
-    /// ```ignore
+    /// ```
+    /// # use slotmap_proved::{DefaultKey, Key};
+    /// # use slotmap_proved::fallible::Global;
+    /// # use slotmap_proved::scene::Scene;
+    /// # use slotmap_proved::scene::world::{HasTransform, Transform};
+    /// # fn main() -> Result<(), Box<dyn std::error::Error>> {
+    /// # let alloc = Global;
     /// let mut scene: Scene<DefaultKey, u64> = Scene::new(alloc)?;
     /// let car = scene.add_root(1)?;
     /// let door = scene.add_child(car, 2)?;
@@ -80,16 +86,23 @@ impl<K: Key, T: Sized> Scene<K, T> {
     /// assert_eq!((scene[car], scene[door], scene[handle], scene[wheel]), (1, 0, 0, 0));
     /// assert_eq!(scene.next_below(door, door), Some(handle));
     /// assert_eq!(scene.next_below(door, handle), None);
+    /// # Ok(())
+    /// # }
     /// ```
     ///
     /// # Proved
     ///
     /// ```text
     /// ensures first { K.data_of key ≡ K.data_of node → option_map K.data_of result ≡ first_or (all_below self.now.nodes.live (K.data_of node)) None }
-    /// ensures along { 0 < times (K.data_of key) (all_below self.now.nodes.live (K.data_of node)) → option_map K.data_of result ≡ behind (K.data_of key) (all_below self.now.nodes.live (K.data_of node)) }
+    /// ensures along { 0 < times (K.data_of key) (all_below self.now.nodes.live (K.data_of node))
+    ///     → option_map K.data_of result ≡ behind (K.data_of key) (all_below self.now.nodes.live (K.data_of node)) }
+    ///
     /// // It stays below the node, or else in the tree that the key is in.
-    /// ensures within { IsWithin self.now.nodes.live (K.data_of key) (K.data_of node) → IfSome result (λ next. IsWithin self.now.nodes.live (K.data_of next) (K.data_of node) × (K.data_of next ≢ K.data_of node)) }
-    /// ensures elsewhere { (root : KeyOf) → (IsWithin self.now.nodes.live (K.data_of key) (K.data_of node) → ⊥) → IsWithin self.now.nodes.live (K.data_of key) root → parent_of self.now.nodes.live root ≡ None → option_map K.data_of result ≡ behind (K.data_of key) (root ∷ all_below self.now.nodes.live root) }
+    /// ensures within { IsWithin self.now.nodes.live (K.data_of key) (K.data_of node)
+    ///     → IfSome result (λ next. IsWithin self.now.nodes.live (K.data_of next) (K.data_of node) × (K.data_of next ≢ K.data_of node)) }
+    /// ensures elsewhere { (root : KeyOf) → (IsWithin self.now.nodes.live (K.data_of key) (K.data_of node) → ⊥)
+    ///     → IsWithin self.now.nodes.live (K.data_of key) root → parent_of self.now.nodes.live root ≡ None
+    ///     → option_map K.data_of result ≡ behind (K.data_of key) (root ∷ all_below self.now.nodes.live root) }
     /// ensures stale { lacks_node self.now.nodes.live (K.data_of key) → result ≡ None }
     /// ensures live { IfSome result (λ next. has_node self.now.nodes.live (K.data_of next)) }
     /// ```
@@ -116,7 +129,13 @@ impl<K: Key, T: Sized> Scene<K, T> {
     /// between the nodes. It is made in constant time. All its steps together take time linear in the
     /// number of keys, and one of them at most in the depth of the trees.
     ///
-    /// ```ignore
+    /// ```
+    /// # use slotmap_proved::{DefaultKey, Key};
+    /// # use slotmap_proved::fallible::Global;
+    /// # use slotmap_proved::scene::Scene;
+    /// # use slotmap_proved::scene::world::{HasTransform, Transform};
+    /// # fn main() -> Result<(), Box<dyn std::error::Error>> {
+    /// # let alloc = Global;
     /// let mut scene: Scene<DefaultKey, &str> = Scene::new(alloc)?;
     /// let car = scene.add_root("car")?;
     /// let door = scene.add_child(car, "door")?;
@@ -127,6 +146,8 @@ impl<K: Key, T: Sized> Scene<K, T> {
     /// assert_eq!(below.next(), Some(handle));
     /// assert_eq!(below.next(), Some(wheel));
     /// assert_eq!(below.next(), None);
+    /// # Ok(())
+    /// # }
     /// ```
     ///
     /// # Proved
@@ -134,6 +155,7 @@ impl<K: Key, T: Sized> Scene<K, T> {
     /// ```text
     /// ensures list { result ≡ all_below self.now.nodes.live (K.data_of node) }
     /// ensures order { GoesDown self.now.nodes.live (children_of self.now.nodes.live (K.data_of node)) result }
+    ///
     /// // Each node below it, and no other, is there once.
     /// ensures all { (k : KeyOf) → IsWithin self.now.nodes.live k (K.data_of node) → k ≢ K.data_of node → 0 < times k result }
     /// ensures only { (k : KeyOf) → 0 < times k result → has_node self.now.nodes.live k × IsWithin self.now.nodes.live k (K.data_of node) × (k ≢ K.data_of node) }
@@ -156,13 +178,21 @@ impl<K: Key, T: Sized> Scene<K, T> {
     /// [`Scene::keys_below`] yields. If memory runs out, the call fails; `keys_below` needs none. It takes
     /// time linear in the number of keys that it returns.
     ///
-    /// ```ignore
+    /// ```
+    /// # use slotmap_proved::{DefaultKey, Key};
+    /// # use slotmap_proved::fallible::Global;
+    /// # use slotmap_proved::scene::Scene;
+    /// # use slotmap_proved::scene::world::{HasTransform, Transform};
+    /// # fn main() -> Result<(), Box<dyn std::error::Error>> {
+    /// # let alloc = Global;
     /// let mut scene: Scene<DefaultKey, &str> = Scene::new(alloc)?;
     /// let car = scene.add_root("car")?;
     /// let door = scene.add_child(car, "door")?;
     /// let wheel = scene.add_child(car, "wheel")?;
     /// let handle = scene.add_child(door, "handle")?;
     /// assert_eq!(scene.descendants(car)?.as_slice(), [door, handle, wheel].as_slice());
+    /// # Ok(())
+    /// # }
     /// ```
     ///
     /// # Proved
@@ -171,9 +201,11 @@ impl<K: Key, T: Sized> Scene<K, T> {
     /// ensures list { IfOk result (λ keys. list_map K.data_of keys.items ≡ all_below self.now.nodes.live (K.data_of node)) }
     /// ensures count { IfOk result (λ keys. length keys.items ≡ length (all_below self.now.nodes.live (K.data_of node))) }
     /// ensures order { IfOk result (λ keys. GoesDown self.now.nodes.live (children_of self.now.nodes.live (K.data_of node)) (list_map K.data_of keys.items)) }
+    ///
     /// // Each node below it, and no other, is there once.
     /// ensures all { IfOk result (λ keys. (k : KeyOf) → IsWithin self.now.nodes.live k (K.data_of node) → k ≢ K.data_of node → 0 < times k (list_map K.data_of keys.items)) }
-    /// ensures only { IfOk result (λ keys. All (λ key. has_node self.now.nodes.live (K.data_of key) × IsWithin self.now.nodes.live (K.data_of key) (K.data_of node) × (K.data_of key ≢ K.data_of node)) keys.items) }
+    /// ensures only { IfOk result (λ keys. All (λ key. has_node self.now.nodes.live (K.data_of key)
+    ///     × IsWithin self.now.nodes.live (K.data_of key) (K.data_of node) × (K.data_of key ≢ K.data_of node)) keys.items) }
     /// ensures once { IfOk result (λ keys. (k : KeyOf) → times k (list_map K.data_of keys.items) ≤ 1) }
     /// ```
     pub fn descendants(&self, node: K) -> Result<Vec<K>, AllocError>

@@ -10,7 +10,13 @@ use crate::proved::slotmap_bounded::inner;
 impl<K: Key, T: Sized> Scene<K, T> {
     /// Returns how many nodes are above a node, or `None` if it doesn't exist.
     ///
-    /// ```ignore
+    /// ```
+    /// # use slotmap_proved::{DefaultKey, Key};
+    /// # use slotmap_proved::fallible::Global;
+    /// # use slotmap_proved::scene::Scene;
+    /// # use slotmap_proved::scene::world::{HasTransform, Transform};
+    /// # fn main() -> Result<(), Box<dyn std::error::Error>> {
+    /// # let alloc = Global;
     /// let mut scene: Scene<DefaultKey, &str> = Scene::new(alloc)?;
     /// let car = scene.add_root("car")?;
     /// let wheel = scene.add_child(car, "wheel")?;
@@ -18,6 +24,8 @@ impl<K: Key, T: Sized> Scene<K, T> {
     /// assert_eq!(scene.depth(wheel), Some(1));
     /// scene.remove(wheel);
     /// assert_eq!(scene.depth(wheel), None);
+    /// # Ok(())
+    /// # }
     /// ```
     ///
     /// # Proved
@@ -43,12 +51,20 @@ impl<K: Key, T: Sized> Scene<K, T> {
 
     /// Returns whether a node exists, and is the other node or below it.
     ///
-    /// ```ignore
+    /// ```
+    /// # use slotmap_proved::{DefaultKey, Key};
+    /// # use slotmap_proved::fallible::Global;
+    /// # use slotmap_proved::scene::Scene;
+    /// # use slotmap_proved::scene::world::{HasTransform, Transform};
+    /// # fn main() -> Result<(), Box<dyn std::error::Error>> {
+    /// # let alloc = Global;
     /// let mut scene: Scene<DefaultKey, &str> = Scene::new(alloc)?;
     /// let car = scene.add_root("car")?;
     /// let wheel = scene.add_child(car, "wheel")?;
     /// assert!(scene.is_within(wheel, car));
     /// assert!(!scene.is_within(car, wheel));
+    /// # Ok(())
+    /// # }
     /// ```
     ///
     /// # Proved

@@ -26,12 +26,20 @@ impl<K: Key, T: Clone> Scene<K, T> {
     /// memory runs out, or the clone of a value fails, the call fails, and what was copied is dropped. It
     /// takes time linear in the capacity.
     ///
-    /// ```ignore
+    /// ```
+    /// # use slotmap_proved::{DefaultKey, Key};
+    /// # use slotmap_proved::fallible::Global;
+    /// # use slotmap_proved::scene::Scene;
+    /// # use slotmap_proved::scene::world::{HasTransform, Transform};
+    /// # fn main() -> Result<(), Box<dyn std::error::Error>> {
+    /// # let alloc = Global;
     /// let mut scene: Scene<DefaultKey, u64> = Scene::new(alloc)?;
     /// let car = scene.add_root(1)?;
     /// let copy = scene.clone()?;
     /// scene.remove(car);
     /// assert_eq!(copy.get(car), Some(&1));
+    /// # Ok(())
+    /// # }
     /// ```
     ///
     /// # Proved

@@ -30,7 +30,13 @@ impl<K: Key, T: Sized> Scene<K, T> {
     /// or room was reserved, it fails for no other reason, and the capacity stays. If the call fails,
     /// the error holds the value, and the scene has the same trees.
     ///
-    /// ```ignore
+    /// ```
+    /// # use slotmap_proved::{DefaultKey, Key};
+    /// # use slotmap_proved::fallible::Global;
+    /// # use slotmap_proved::scene::Scene;
+    /// # use slotmap_proved::scene::world::{HasTransform, Transform};
+    /// # fn main() -> Result<(), Box<dyn std::error::Error>> {
+    /// # let alloc = Global;
     /// let mut scene: Scene<DefaultKey, &str> = Scene::new(alloc)?;
     /// let car = scene.add_root("car")?;
     /// let door = scene.add_child(car, "door")?;
@@ -38,18 +44,23 @@ impl<K: Key, T: Sized> Scene<K, T> {
     /// let mut children = scene.children(car);
     /// assert_eq!(children.next(), Some(wheel));
     /// assert_eq!(children.next(), Some(door));
+    /// # Ok(())
+    /// # }
     /// ```
     ///
     /// # Proved
     ///
     /// ```text
     /// // The parent of the sibling has one more child, under a new key.
-    /// ensures adds { IfOk result (λ key. Inserts (record self.old.nodes { live = with_sibling right_before self.old.nodes.live (K.data_of sibling) (K.data_of key) }) (K.data_of key) (child (parent_of self.old.nodes.live (K.data_of sibling)) value) self.new.nodes) }
-    /// ensures gains { IfOk result (λ key. (p : KeyOf) → parent_of self.old.nodes.live (K.data_of sibling) ≡ Some p → IsNewChild self.old.nodes.live self.new.nodes.live (K.data_of key) p value (placed right_before (K.data_of sibling) (K.data_of key) (children_of self.old.nodes.live p))) }
+    /// ensures adds { IfOk result (λ key. Inserts (record self.old.nodes { live = with_sibling right_before self.old.nodes.live (K.data_of sibling) (K.data_of key) })
+    ///     (K.data_of key) (child (parent_of self.old.nodes.live (K.data_of sibling)) value) self.new.nodes) }
+    /// ensures gains { IfOk result (λ key. (p : KeyOf) → parent_of self.old.nodes.live (K.data_of sibling) ≡ Some p
+    ///     → IsNewChild self.old.nodes.live self.new.nodes.live (K.data_of key) p value (placed right_before (K.data_of sibling) (K.data_of key) (children_of self.old.nodes.live p))) }
     /// ensures fresh { IfOk result (λ key. lacks_node self.old.nodes.live (K.data_of key)) }
     /// ensures unspent { IfOk result (λ key. IsSpent self.old.nodes (K.data_of key) → ⊥) }
     /// ensures stale { KeepsSpent self.old.nodes self.new.nodes }
     /// ensures parent { OnOk result (IsSome (parent_of self.old.nodes.live (K.data_of sibling))) }
+    ///
     /// // Why the call failed, and what that leaves.
     /// ensures err { IfErr result (RefusesSibling self.old.nodes (K.data_of sibling) value) }
     /// ensures reuses { IsSome (parent_of self.old.nodes.live (K.data_of sibling)) → HasVacant self.old.nodes → IsOk result }
@@ -70,7 +81,13 @@ impl<K: Key, T: Sized> Scene<K, T> {
     /// or room was reserved, it fails for no other reason, and the capacity stays. If the call fails,
     /// the error holds the value, and the scene has the same trees.
     ///
-    /// ```ignore
+    /// ```
+    /// # use slotmap_proved::{DefaultKey, Key};
+    /// # use slotmap_proved::fallible::Global;
+    /// # use slotmap_proved::scene::Scene;
+    /// # use slotmap_proved::scene::world::{HasTransform, Transform};
+    /// # fn main() -> Result<(), Box<dyn std::error::Error>> {
+    /// # let alloc = Global;
     /// let mut scene: Scene<DefaultKey, &str> = Scene::new(alloc)?;
     /// let car = scene.add_root("car")?;
     /// let wheel = scene.add_child(car, "wheel")?;
@@ -78,18 +95,23 @@ impl<K: Key, T: Sized> Scene<K, T> {
     /// let mut children = scene.children(car);
     /// assert_eq!(children.next(), Some(wheel));
     /// assert_eq!(children.next(), Some(door));
+    /// # Ok(())
+    /// # }
     /// ```
     ///
     /// # Proved
     ///
     /// ```text
     /// // The parent of the sibling has one more child, under a new key.
-    /// ensures adds { IfOk result (λ key. Inserts (record self.old.nodes { live = with_sibling right_behind self.old.nodes.live (K.data_of sibling) (K.data_of key) }) (K.data_of key) (child (parent_of self.old.nodes.live (K.data_of sibling)) value) self.new.nodes) }
-    /// ensures gains { IfOk result (λ key. (p : KeyOf) → parent_of self.old.nodes.live (K.data_of sibling) ≡ Some p → IsNewChild self.old.nodes.live self.new.nodes.live (K.data_of key) p value (placed right_behind (K.data_of sibling) (K.data_of key) (children_of self.old.nodes.live p))) }
+    /// ensures adds { IfOk result (λ key. Inserts (record self.old.nodes { live = with_sibling right_behind self.old.nodes.live (K.data_of sibling) (K.data_of key) })
+    ///     (K.data_of key) (child (parent_of self.old.nodes.live (K.data_of sibling)) value) self.new.nodes) }
+    /// ensures gains { IfOk result (λ key. (p : KeyOf) → parent_of self.old.nodes.live (K.data_of sibling) ≡ Some p
+    ///     → IsNewChild self.old.nodes.live self.new.nodes.live (K.data_of key) p value (placed right_behind (K.data_of sibling) (K.data_of key) (children_of self.old.nodes.live p))) }
     /// ensures fresh { IfOk result (λ key. lacks_node self.old.nodes.live (K.data_of key)) }
     /// ensures unspent { IfOk result (λ key. IsSpent self.old.nodes (K.data_of key) → ⊥) }
     /// ensures stale { KeepsSpent self.old.nodes self.new.nodes }
     /// ensures parent { OnOk result (IsSome (parent_of self.old.nodes.live (K.data_of sibling))) }
+    ///
     /// // Why the call failed, and what that leaves.
     /// ensures err { IfErr result (RefusesSibling self.old.nodes (K.data_of sibling) value) }
     /// ensures reuses { IsSome (parent_of self.old.nodes.live (K.data_of sibling)) → HasVacant self.old.nodes → IsOk result }

@@ -20,10 +20,18 @@ pub struct Iter<'a, K, T> {
 impl<'a, K, T> Iter<'a, K, T> {
     /// Returns how many nodes are left, in constant time.
     ///
-    /// ```ignore
+    /// ```
+    /// # use slotmap_proved::{DefaultKey, Key};
+    /// # use slotmap_proved::fallible::Global;
+    /// # use slotmap_proved::scene::Scene;
+    /// # use slotmap_proved::scene::world::{HasTransform, Transform};
+    /// # fn main() -> Result<(), Box<dyn std::error::Error>> {
+    /// # let alloc = Global;
     /// let mut scene: Scene<DefaultKey, &str> = Scene::new(alloc)?;
     /// scene.add_root("car")?;
     /// assert_eq!(scene.iter().len(), 1);
+    /// # Ok(())
+    /// # }
     /// ```
     ///
     /// # Proved
@@ -142,7 +150,13 @@ impl<K: Key, T: Sized> Scene<K, T> {
     ///
     /// It is made in constant time. All its steps together read each slot once.
     ///
-    /// ```ignore
+    /// ```
+    /// # use slotmap_proved::{DefaultKey, Key};
+    /// # use slotmap_proved::fallible::Global;
+    /// # use slotmap_proved::scene::Scene;
+    /// # use slotmap_proved::scene::world::{HasTransform, Transform};
+    /// # fn main() -> Result<(), Box<dyn std::error::Error>> {
+    /// # let alloc = Global;
     /// let mut scene: Scene<DefaultKey, &str> = Scene::new(alloc)?;
     /// let car = scene.add_root("car")?;
     /// let wheel = scene.add_child(car, "wheel")?;
@@ -150,6 +164,8 @@ impl<K: Key, T: Sized> Scene<K, T> {
     /// assert_eq!(nodes.next(), Some((car, &"car")));
     /// assert_eq!(nodes.next(), Some((wheel, &"wheel")));
     /// assert!(nodes.next().is_none());
+    /// # Ok(())
+    /// # }
     /// ```
     ///
     /// # Proved
@@ -169,13 +185,21 @@ impl<K: Key, T: Sized> Scene<K, T> {
     ///
     /// It is made in constant time. All its steps together read each slot once.
     ///
-    /// ```ignore
+    /// ```
+    /// # use slotmap_proved::{DefaultKey, Key};
+    /// # use slotmap_proved::fallible::Global;
+    /// # use slotmap_proved::scene::Scene;
+    /// # use slotmap_proved::scene::world::{HasTransform, Transform};
+    /// # fn main() -> Result<(), Box<dyn std::error::Error>> {
+    /// # let alloc = Global;
     /// let mut scene: Scene<DefaultKey, &str> = Scene::new(alloc)?;
     /// let car = scene.add_root("car")?;
     /// let wheel = scene.add_child(car, "wheel")?;
     /// let mut keys = scene.keys();
     /// assert_eq!(keys.next(), Some(car));
     /// assert_eq!(keys.next(), Some(wheel));
+    /// # Ok(())
+    /// # }
     /// ```
     ///
     /// # Proved
@@ -193,13 +217,21 @@ impl<K: Key, T: Sized> Scene<K, T> {
     ///
     /// It is made in constant time. All its steps together read each slot once.
     ///
-    /// ```ignore
+    /// ```
+    /// # use slotmap_proved::{DefaultKey, Key};
+    /// # use slotmap_proved::fallible::Global;
+    /// # use slotmap_proved::scene::Scene;
+    /// # use slotmap_proved::scene::world::{HasTransform, Transform};
+    /// # fn main() -> Result<(), Box<dyn std::error::Error>> {
+    /// # let alloc = Global;
     /// let mut scene: Scene<DefaultKey, &str> = Scene::new(alloc)?;
     /// let car = scene.add_root("car")?;
     /// scene.add_child(car, "wheel")?;
     /// let mut values = scene.values();
     /// assert_eq!(values.next(), Some(&"car"));
     /// assert_eq!(values.next(), Some(&"wheel"));
+    /// # Ok(())
+    /// # }
     /// ```
     ///
     /// # Proved

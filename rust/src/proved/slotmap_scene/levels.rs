@@ -43,20 +43,30 @@ impl<K: Key, T: HasTransform> Scene<K, T> {
     /// round in another way. If memory runs out, the call fails. It takes time linear in the number of
     /// slots.
     ///
-    /// ```ignore
+    /// ```
+    /// # use slotmap_proved::{DefaultKey, Key};
+    /// # use slotmap_proved::fallible::Global;
+    /// # use slotmap_proved::scene::Scene;
+    /// # use slotmap_proved::scene::world::{HasTransform, Offset, Transform};
+    /// # fn main() -> Result<(), Box<dyn std::error::Error>> {
+    /// # let alloc = Global;
     /// let mut arm: Scene<DefaultKey, Offset> = Scene::new(alloc)?;
     /// let elbow = arm.add_root(Offset { x: 5, y: 0 })?;
     /// let hand = arm.add_child(elbow, Offset { x: 3, y: -4 })?;
     /// let all = arm.world_transforms()?;
     /// assert_eq!(all[0], (elbow, Offset { x: 5, y: 0 }));
     /// assert_eq!(all[1], (hand, Offset { x: 8, y: -4 }));
+    /// # Ok(())
+    /// # }
     /// ```
     ///
     /// # Proved
     ///
     /// ```text
     /// ensures each { IfOk result (λ all. AreWorlds K.data_of T.Transform.under T.transform_of self.now.nodes.live all.items) }
-    /// ensures composed { Joins T.Transform.under → IfOk result (λ all. All (λ e. IsComposed T.Transform.under T.transform_of self.now.nodes.live (K.data_of e.0) e.1) all.items) }
+    /// ensures composed { Joins T.Transform.under
+    ///     → IfOk result (λ all. All (λ e. IsComposed T.Transform.under T.transform_of self.now.nodes.live (K.data_of e.0) e.1) all.items) }
+    ///
     /// // The order; and each node is there once, and no other key.
     /// ensures order { IfOk result (λ all. GoesByLevel self.now.nodes.live (keys_of_pairs K.data_of all.items)) }
     /// ensures all { IfOk result (λ all. (k : KeyOf) → has_node self.now.nodes.live k → 0 < times k (keys_of_pairs K.data_of all.items)) }

@@ -42,7 +42,13 @@
 //! - [`Scene::world_transforms`] takes time linear in the number of slots. So do all steps of
 //!   [`Scene::iter`], [`Scene::keys`], [`Scene::values`] or [`Scene::roots`] together.
 //!
-//! ```ignore
+//! ```
+//! # use slotmap_proved::{DefaultKey, Key};
+//! # use slotmap_proved::fallible::Global;
+//! # use slotmap_proved::scene::Scene;
+//! # use slotmap_proved::scene::world::{HasTransform, Transform};
+//! # fn main() -> Result<(), Box<dyn std::error::Error>> {
+//! # let alloc = Global;
 //! let mut scene: Scene<DefaultKey, &str> = Scene::new(alloc)?;
 //! let car = scene.add_root("car")?;
 //! let wheel = scene.add_child(car, "wheel")?;
@@ -54,6 +60,8 @@
 //! assert!(scene.reparent(car, wheel).is_err());
 //! assert_eq!(scene.remove(car), Some("car"));
 //! assert_eq!(scene.len(), 0);
+//! # Ok(())
+//! # }
 //! ```
 
 #[allow(unused_imports)]
@@ -150,9 +158,17 @@ impl<T: Sized> Scene<DefaultKey, T> {
     ///
     /// It fails only if memory runs out.
     ///
-    /// ```ignore
+    /// ```
+    /// # use slotmap_proved::{DefaultKey, Key};
+    /// # use slotmap_proved::fallible::Global;
+    /// # use slotmap_proved::scene::Scene;
+    /// # use slotmap_proved::scene::world::{HasTransform, Transform};
+    /// # fn main() -> Result<(), Box<dyn std::error::Error>> {
+    /// # let alloc = Global;
     /// let scene: Scene<DefaultKey, &str> = Scene::new(alloc)?;
     /// assert!(scene.is_empty());
+    /// # Ok(())
+    /// # }
     /// ```
     ///
     /// # Proved
@@ -171,9 +187,17 @@ impl<T: Sized> Scene<DefaultKey, T> {
     /// It fails with `TooGreat` if `capacity` is over 4294967294, and with `Memory` if memory runs out.
     /// It takes time linear in `capacity`.
     ///
-    /// ```ignore
+    /// ```
+    /// # use slotmap_proved::{DefaultKey, Key};
+    /// # use slotmap_proved::fallible::Global;
+    /// # use slotmap_proved::scene::Scene;
+    /// # use slotmap_proved::scene::world::{HasTransform, Transform};
+    /// # fn main() -> Result<(), Box<dyn std::error::Error>> {
+    /// # let alloc = Global;
     /// let scene: Scene<DefaultKey, &str> = Scene::with_capacity(alloc, 2)?;
     /// assert!(scene.capacity() >= 2);
+    /// # Ok(())
+    /// # }
     /// ```
     ///
     /// # Proved
@@ -194,9 +218,17 @@ impl<K: Key, T: Sized> Scene<K, T> {
     ///
     /// It fails only if memory runs out.
     ///
-    /// ```ignore
+    /// ```
+    /// # use slotmap_proved::{Key, NodeKey};
+    /// # use slotmap_proved::fallible::Global;
+    /// # use slotmap_proved::scene::Scene;
+    /// # use slotmap_proved::scene::world::{HasTransform, Transform};
+    /// # fn main() -> Result<(), Box<dyn std::error::Error>> {
+    /// # let alloc = Global;
     /// let scene: Scene<NodeKey, &str> = Scene::with_key(alloc)?;
     /// assert!(scene.is_empty());
+    /// # Ok(())
+    /// # }
     /// ```
     ///
     /// # Proved
@@ -215,9 +247,17 @@ impl<K: Key, T: Sized> Scene<K, T> {
     /// It fails with `TooGreat` if `capacity` is over 4294967294, and with `Memory` if memory runs out.
     /// It takes time linear in `capacity`.
     ///
-    /// ```ignore
+    /// ```
+    /// # use slotmap_proved::{Key, NodeKey};
+    /// # use slotmap_proved::fallible::Global;
+    /// # use slotmap_proved::scene::Scene;
+    /// # use slotmap_proved::scene::world::{HasTransform, Transform};
+    /// # fn main() -> Result<(), Box<dyn std::error::Error>> {
+    /// # let alloc = Global;
     /// let scene: Scene<NodeKey, &str> = Scene::with_capacity_and_key(alloc, 2)?;
     /// assert!(scene.capacity() >= 2);
+    /// # Ok(())
+    /// # }
     /// ```
     ///
     /// # Proved
@@ -244,10 +284,18 @@ impl<K: Key, T: Sized> Scene<K, T> {
     /// It fails with `TooGreat` if more than 4294967294 nodes would be there, counting those whose slots
     /// are retired, and with `Memory` if memory runs out. The scene has the same nodes then.
     ///
-    /// ```ignore
+    /// ```
+    /// # use slotmap_proved::{DefaultKey, Key};
+    /// # use slotmap_proved::fallible::Global;
+    /// # use slotmap_proved::scene::Scene;
+    /// # use slotmap_proved::scene::world::{HasTransform, Transform};
+    /// # fn main() -> Result<(), Box<dyn std::error::Error>> {
+    /// # let alloc = Global;
     /// let mut scene: Scene<DefaultKey, &str> = Scene::new(alloc)?;
     /// scene.reserve(2)?;
     /// assert!(scene.add_root("car").is_ok());
+    /// # Ok(())
+    /// # }
     /// ```
     ///
     /// # Proved
@@ -267,13 +315,21 @@ impl<K: Key, T: Sized> Scene<K, T> {
     ///
     /// They form trees, and each appears exactly once in its parent's list of children, and in no other.
     ///
-    /// ```ignore
+    /// ```
+    /// # use slotmap_proved::{DefaultKey, Key};
+    /// # use slotmap_proved::fallible::Global;
+    /// # use slotmap_proved::scene::Scene;
+    /// # use slotmap_proved::scene::world::{HasTransform, Transform};
+    /// # fn main() -> Result<(), Box<dyn std::error::Error>> {
+    /// # let alloc = Global;
     /// let mut scene: Scene<DefaultKey, &str> = Scene::new(alloc)?;
     /// let car = scene.add_root("car")?;
     /// scene.add_child(car, "wheel")?;
     /// assert_eq!(scene.len(), 2);
     /// scene.remove(car);
     /// assert_eq!(scene.len(), 0);
+    /// # Ok(())
+    /// # }
     /// ```
     ///
     /// # Proved
@@ -291,9 +347,17 @@ impl<K: Key, T: Sized> Scene<K, T> {
     ///
     /// It counts the slots that are retired.
     ///
-    /// ```ignore
+    /// ```
+    /// # use slotmap_proved::{DefaultKey, Key};
+    /// # use slotmap_proved::fallible::Global;
+    /// # use slotmap_proved::scene::Scene;
+    /// # use slotmap_proved::scene::world::{HasTransform, Transform};
+    /// # fn main() -> Result<(), Box<dyn std::error::Error>> {
+    /// # let alloc = Global;
     /// let mut scene: Scene<DefaultKey, &str> = Scene::with_capacity_and_key(alloc, 2)?;
     /// assert!(scene.capacity() >= 2);
+    /// # Ok(())
+    /// # }
     /// ```
     ///
     /// # Proved
@@ -310,11 +374,19 @@ impl<K: Key, T: Sized> Scene<K, T> {
 
     /// Returns whether there is no node, in constant time.
     ///
-    /// ```ignore
+    /// ```
+    /// # use slotmap_proved::{DefaultKey, Key};
+    /// # use slotmap_proved::fallible::Global;
+    /// # use slotmap_proved::scene::Scene;
+    /// # use slotmap_proved::scene::world::{HasTransform, Transform};
+    /// # fn main() -> Result<(), Box<dyn std::error::Error>> {
+    /// # let alloc = Global;
     /// let mut scene: Scene<DefaultKey, &str> = Scene::new(alloc)?;
     /// assert!(scene.is_empty());
     /// scene.add_root("car")?;
     /// assert!(!scene.is_empty());
+    /// # Ok(())
+    /// # }
     /// ```
     ///
     /// # Proved
@@ -329,13 +401,21 @@ impl<K: Key, T: Sized> Scene<K, T> {
 
     /// Returns whether a node exists, in constant time.
     ///
-    /// ```ignore
+    /// ```
+    /// # use slotmap_proved::{DefaultKey, Key};
+    /// # use slotmap_proved::fallible::Global;
+    /// # use slotmap_proved::scene::Scene;
+    /// # use slotmap_proved::scene::world::{HasTransform, Transform};
+    /// # fn main() -> Result<(), Box<dyn std::error::Error>> {
+    /// # let alloc = Global;
     /// let mut scene: Scene<DefaultKey, &str> = Scene::new(alloc)?;
     /// let car = scene.add_root("car")?;
     /// let wheel = scene.add_child(car, "wheel")?;
     /// assert!(scene.contains_key(wheel));
     /// scene.remove(car);
     /// assert!(!scene.contains_key(wheel));
+    /// # Ok(())
+    /// # }
     /// ```
     ///
     /// # Proved
@@ -350,12 +430,20 @@ impl<K: Key, T: Sized> Scene<K, T> {
 
     /// Returns the value of a node, or `None` if it doesn't exist, in constant time.
     ///
-    /// ```ignore
+    /// ```
+    /// # use slotmap_proved::{DefaultKey, Key};
+    /// # use slotmap_proved::fallible::Global;
+    /// # use slotmap_proved::scene::Scene;
+    /// # use slotmap_proved::scene::world::{HasTransform, Transform};
+    /// # fn main() -> Result<(), Box<dyn std::error::Error>> {
+    /// # let alloc = Global;
     /// let mut scene: Scene<DefaultKey, &str> = Scene::new(alloc)?;
     /// let car = scene.add_root("car")?;
     /// assert_eq!(scene.get(car), Some(&"car"));
     /// scene.remove(car);
     /// assert_eq!(scene.get(car), None);
+    /// # Ok(())
+    /// # }
     /// ```
     ///
     /// # Proved
@@ -371,13 +459,21 @@ impl<K: Key, T: Sized> Scene<K, T> {
     /// Returns a mutable reference to the value of a node, or `None` if it doesn't exist, in constant
     /// time.
     ///
-    /// ```ignore
+    /// ```
+    /// # use slotmap_proved::{DefaultKey, Key};
+    /// # use slotmap_proved::fallible::Global;
+    /// # use slotmap_proved::scene::Scene;
+    /// # use slotmap_proved::scene::world::{HasTransform, Transform};
+    /// # fn main() -> Result<(), Box<dyn std::error::Error>> {
+    /// # let alloc = Global;
     /// let mut scene: Scene<DefaultKey, u64> = Scene::new(alloc)?;
     /// let car = scene.add_root(1)?;
     /// if let Some(value) = scene.get_mut(car) {
     ///     *value = 2;
     /// }
     /// assert_eq!(scene.get(car), Some(&2));
+    /// # Ok(())
+    /// # }
     /// ```
     ///
     /// # Proved
@@ -396,7 +492,13 @@ impl<K: Key, T: Sized> Scene<K, T> {
     ///
     /// A node that doesn't exist has none. It is made in constant time, and each step takes constant time.
     ///
-    /// ```ignore
+    /// ```
+    /// # use slotmap_proved::{DefaultKey, Key};
+    /// # use slotmap_proved::fallible::Global;
+    /// # use slotmap_proved::scene::Scene;
+    /// # use slotmap_proved::scene::world::{HasTransform, Transform};
+    /// # fn main() -> Result<(), Box<dyn std::error::Error>> {
+    /// # let alloc = Global;
     /// let mut scene: Scene<DefaultKey, &str> = Scene::new(alloc)?;
     /// let car = scene.add_root("car")?;
     /// let wheel = scene.add_child(car, "wheel")?;
@@ -405,6 +507,8 @@ impl<K: Key, T: Sized> Scene<K, T> {
     /// assert_eq!(children.next(), Some(wheel));
     /// assert_eq!(children.next(), Some(door));
     /// assert_eq!(children.next(), None);
+    /// # Ok(())
+    /// # }
     /// ```
     ///
     /// # Proved
@@ -421,12 +525,20 @@ impl<K: Key, T: Sized> Scene<K, T> {
     /// Returns the key of the parent of a node, or `None` if the node is a root or doesn't
     /// exist. The parent exists.
     ///
-    /// ```ignore
+    /// ```
+    /// # use slotmap_proved::{DefaultKey, Key};
+    /// # use slotmap_proved::fallible::Global;
+    /// # use slotmap_proved::scene::Scene;
+    /// # use slotmap_proved::scene::world::{HasTransform, Transform};
+    /// # fn main() -> Result<(), Box<dyn std::error::Error>> {
+    /// # let alloc = Global;
     /// let mut scene: Scene<DefaultKey, &str> = Scene::new(alloc)?;
     /// let car = scene.add_root("car")?;
     /// let wheel = scene.add_child(car, "wheel")?;
     /// assert_eq!(scene.parent(wheel), Some(car));
     /// assert_eq!(scene.parent(car), None);
+    /// # Ok(())
+    /// # }
     /// ```
     ///
     /// # Proved

@@ -14,11 +14,19 @@ impl<K: Key, T: Sized> Scene<K, T> {
     /// If a slot is vacant or room was reserved, the call can't fail, and the capacity stays. If the
     /// call fails, the error holds the value, and the scene has the same trees.
     ///
-    /// ```ignore
+    /// ```
+    /// # use slotmap_proved::{DefaultKey, Key};
+    /// # use slotmap_proved::fallible::Global;
+    /// # use slotmap_proved::scene::Scene;
+    /// # use slotmap_proved::scene::world::{HasTransform, Transform};
+    /// # fn main() -> Result<(), Box<dyn std::error::Error>> {
+    /// # let alloc = Global;
     /// let mut scene: Scene<DefaultKey, &str> = Scene::new(alloc)?;
     /// let car = scene.add_root("car")?;
     /// assert_eq!(scene.parent(car), None);
     /// assert_eq!(scene.children(car).len(), 0);
+    /// # Ok(())
+    /// # }
     /// ```
     ///
     /// # Proved
@@ -47,25 +55,36 @@ impl<K: Key, T: Sized> Scene<K, T> {
     /// If a slot is vacant or room was reserved, it fails exactly if the parent doesn't exist, and the
     /// capacity stays. If the call fails, the error holds the value, and the scene has the same trees.
     ///
-    /// ```ignore
+    /// ```
+    /// # use slotmap_proved::{DefaultKey, Key};
+    /// # use slotmap_proved::fallible::Global;
+    /// # use slotmap_proved::scene::{AddError, Scene};
+    /// # use slotmap_proved::scene::world::{HasTransform, Transform};
+    /// # fn main() -> Result<(), Box<dyn std::error::Error>> {
+    /// # let alloc = Global;
     /// let mut scene: Scene<DefaultKey, &str> = Scene::new(alloc)?;
     /// let car = scene.add_root("car")?;
     /// let wheel = scene.add_child(car, "wheel")?;
     /// assert_eq!(scene.children(car).next(), Some(wheel));
     /// scene.remove(wheel);
     /// assert!(matches!(scene.add_child(wheel, "tyre"), Err(AddError::Gone("tyre"))));
+    /// # Ok(())
+    /// # }
     /// ```
     ///
     /// # Proved
     ///
     /// ```text
     /// // The parent has one more child, under a new key.
-    /// ensures adds { IfOk result (λ key. Inserts (record self.old.nodes { live = with_child self.old.nodes.live (K.data_of parent) (K.data_of key) }) (K.data_of key) (child (Some (K.data_of parent)) value) self.new.nodes) }
-    /// ensures gains { IfOk result (λ key. IsNewChild self.old.nodes.live self.new.nodes.live (K.data_of key) (K.data_of parent) value (children_of self.old.nodes.live (K.data_of parent) ++ K.data_of key ∷ [])) }
+    /// ensures adds { IfOk result (λ key. Inserts (record self.old.nodes { live = with_child self.old.nodes.live (K.data_of parent) (K.data_of key) })
+    ///     (K.data_of key) (child (Some (K.data_of parent)) value) self.new.nodes) }
+    /// ensures gains { IfOk result (λ key. IsNewChild self.old.nodes.live self.new.nodes.live (K.data_of key) (K.data_of parent) value
+    ///     (children_of self.old.nodes.live (K.data_of parent) ++ K.data_of key ∷ [])) }
     /// ensures fresh { IfOk result (λ key. lacks_node self.old.nodes.live (K.data_of key)) }
     /// ensures unspent { IfOk result (λ key. IsSpent self.old.nodes (K.data_of key) → ⊥) }
     /// ensures stale { KeepsSpent self.old.nodes self.new.nodes }
     /// ensures live { OnOk result (has_node self.old.nodes.live (K.data_of parent)) }
+    ///
     /// // Why the call failed, and what that leaves.
     /// ensures err { IfErr result (RefusesChild self.old.nodes (K.data_of parent) value) }
     /// ensures reuses { has_node self.old.nodes.live (K.data_of parent) → HasVacant self.old.nodes → IsOk result }
@@ -90,13 +109,21 @@ impl<K: Key, T: Sized> Scene<K, T> {
     /// It fails exactly if one of the two doesn't exist, or if the new parent is the node or below it. The
     /// scene is then unchanged. The capacity stays.
     ///
-    /// ```ignore
+    /// ```
+    /// # use slotmap_proved::{DefaultKey, Key};
+    /// # use slotmap_proved::fallible::Global;
+    /// # use slotmap_proved::scene::{ReparentError, Scene};
+    /// # use slotmap_proved::scene::world::{HasTransform, Transform};
+    /// # fn main() -> Result<(), Box<dyn std::error::Error>> {
+    /// # let alloc = Global;
     /// let mut scene: Scene<DefaultKey, &str> = Scene::new(alloc)?;
     /// let car = scene.add_root("car")?;
     /// let wheel = scene.add_root("wheel")?;
     /// assert!(scene.reparent(wheel, car).is_ok());
     /// assert_eq!(scene.parent(wheel), Some(car));
     /// assert_eq!(scene.reparent(car, wheel), Err(ReparentError::Cycle));
+    /// # Ok(())
+    /// # }
     /// ```
     ///
     /// # Proved
@@ -134,13 +161,21 @@ impl<K: Key, T: Sized> Scene<K, T> {
     ///
     /// It takes constant time. It can't fail, and the capacity stays.
     ///
-    /// ```ignore
+    /// ```
+    /// # use slotmap_proved::{DefaultKey, Key};
+    /// # use slotmap_proved::fallible::Global;
+    /// # use slotmap_proved::scene::Scene;
+    /// # use slotmap_proved::scene::world::{HasTransform, Transform};
+    /// # fn main() -> Result<(), Box<dyn std::error::Error>> {
+    /// # let alloc = Global;
     /// let mut scene: Scene<DefaultKey, &str> = Scene::new(alloc)?;
     /// let car = scene.add_root("car")?;
     /// let wheel = scene.add_child(car, "wheel")?;
     /// assert!(scene.make_root(wheel));
     /// assert_eq!(scene.parent(wheel), None);
     /// assert_eq!(scene.children(car).len(), 0);
+    /// # Ok(())
+    /// # }
     /// ```
     ///
     /// # Proved
@@ -168,13 +203,21 @@ impl<K: Key, T: Sized> Scene<K, T> {
     /// If the node doesn't exist, the call returns `None` and changes nothing. No room is lost, and the
     /// capacity stays.
     ///
-    /// ```ignore
+    /// ```
+    /// # use slotmap_proved::{DefaultKey, Key};
+    /// # use slotmap_proved::fallible::Global;
+    /// # use slotmap_proved::scene::Scene;
+    /// # use slotmap_proved::scene::world::{HasTransform, Transform};
+    /// # fn main() -> Result<(), Box<dyn std::error::Error>> {
+    /// # let alloc = Global;
     /// let mut scene: Scene<DefaultKey, &str> = Scene::new(alloc)?;
     /// let car = scene.add_root("car")?;
     /// let wheel = scene.add_child(car, "wheel")?;
     /// assert_eq!(scene.remove(car), Some("car"));
     /// assert!(!scene.contains_key(wheel));
     /// assert_eq!(scene.remove(car), None);
+    /// # Ok(())
+    /// # }
     /// ```
     ///
     /// # Proved
@@ -205,11 +248,19 @@ impl<K: Key, T: Sized> Scene<K, T> {
     /// It takes time linear in the number of slots that have had a node. It also resets the ends of the list
     /// of children of each node that there is room for, 12 bytes a node.
     ///
-    /// ```ignore
+    /// ```
+    /// # use slotmap_proved::{DefaultKey, Key};
+    /// # use slotmap_proved::fallible::Global;
+    /// # use slotmap_proved::scene::Scene;
+    /// # use slotmap_proved::scene::world::{HasTransform, Transform};
+    /// # fn main() -> Result<(), Box<dyn std::error::Error>> {
+    /// # let alloc = Global;
     /// let mut scene: Scene<DefaultKey, &str> = Scene::new(alloc)?;
     /// let car = scene.add_root("car")?;
     /// scene.clear();
     /// assert!(!scene.contains_key(car));
+    /// # Ok(())
+    /// # }
     /// ```
     ///
     /// # Proved

@@ -12,13 +12,21 @@ impl<K: Key, T: Sized> Scene<K, T> {
     /// Returns the key of the first child of a node, or `None` if it has none or doesn't exist, in
     /// constant time. The child exists, and the node is its parent.
     ///
-    /// ```ignore
+    /// ```
+    /// # use slotmap_proved::{DefaultKey, Key};
+    /// # use slotmap_proved::fallible::Global;
+    /// # use slotmap_proved::scene::Scene;
+    /// # use slotmap_proved::scene::world::{HasTransform, Transform};
+    /// # fn main() -> Result<(), Box<dyn std::error::Error>> {
+    /// # let alloc = Global;
     /// let mut scene: Scene<DefaultKey, &str> = Scene::new(alloc)?;
     /// let car = scene.add_root("car")?;
     /// let wheel = scene.add_child(car, "wheel")?;
     /// scene.add_child(car, "door")?;
     /// assert_eq!(scene.first_child(car), Some(wheel));
     /// assert_eq!(scene.first_child(wheel), None);
+    /// # Ok(())
+    /// # }
     /// ```
     ///
     /// # Proved
@@ -36,12 +44,20 @@ impl<K: Key, T: Sized> Scene<K, T> {
     /// Returns the key of the last child of a node, or `None` if it has none or doesn't exist, in
     /// constant time. The child exists, and the node is its parent.
     ///
-    /// ```ignore
+    /// ```
+    /// # use slotmap_proved::{DefaultKey, Key};
+    /// # use slotmap_proved::fallible::Global;
+    /// # use slotmap_proved::scene::Scene;
+    /// # use slotmap_proved::scene::world::{HasTransform, Transform};
+    /// # fn main() -> Result<(), Box<dyn std::error::Error>> {
+    /// # let alloc = Global;
     /// let mut scene: Scene<DefaultKey, &str> = Scene::new(alloc)?;
     /// let car = scene.add_root("car")?;
     /// scene.add_child(car, "wheel")?;
     /// let door = scene.add_child(car, "door")?;
     /// assert_eq!(scene.last_child(car), Some(door));
+    /// # Ok(())
+    /// # }
     /// ```
     ///
     /// # Proved
@@ -59,13 +75,21 @@ impl<K: Key, T: Sized> Scene<K, T> {
     /// Returns the key of the sibling behind a node, or `None` if the node is the last child, a root or
     /// doesn't exist, in constant time. The sibling exists, and has the same parent.
     ///
-    /// ```ignore
+    /// ```
+    /// # use slotmap_proved::{DefaultKey, Key};
+    /// # use slotmap_proved::fallible::Global;
+    /// # use slotmap_proved::scene::Scene;
+    /// # use slotmap_proved::scene::world::{HasTransform, Transform};
+    /// # fn main() -> Result<(), Box<dyn std::error::Error>> {
+    /// # let alloc = Global;
     /// let mut scene: Scene<DefaultKey, &str> = Scene::new(alloc)?;
     /// let car = scene.add_root("car")?;
     /// let wheel = scene.add_child(car, "wheel")?;
     /// let door = scene.add_child(car, "door")?;
     /// assert_eq!(scene.next_sibling(wheel), Some(door));
     /// assert_eq!(scene.next_sibling(door), None);
+    /// # Ok(())
+    /// # }
     /// ```
     ///
     /// # Proved
@@ -85,13 +109,21 @@ impl<K: Key, T: Sized> Scene<K, T> {
     /// Returns the key of the sibling in front of a node, or `None` if the node is the first child, a
     /// root or doesn't exist, in constant time. The sibling exists, and has the same parent.
     ///
-    /// ```ignore
+    /// ```
+    /// # use slotmap_proved::{DefaultKey, Key};
+    /// # use slotmap_proved::fallible::Global;
+    /// # use slotmap_proved::scene::Scene;
+    /// # use slotmap_proved::scene::world::{HasTransform, Transform};
+    /// # fn main() -> Result<(), Box<dyn std::error::Error>> {
+    /// # let alloc = Global;
     /// let mut scene: Scene<DefaultKey, &str> = Scene::new(alloc)?;
     /// let car = scene.add_root("car")?;
     /// let wheel = scene.add_child(car, "wheel")?;
     /// let door = scene.add_child(car, "door")?;
     /// assert_eq!(scene.prev_sibling(door), Some(wheel));
     /// assert_eq!(scene.prev_sibling(wheel), None);
+    /// # Ok(())
+    /// # }
     /// ```
     ///
     /// # Proved
@@ -151,7 +183,13 @@ impl<K: Key, T: Sized> Scene<K, T> {
     /// sibling is the node or below it. The scene is then unchanged. The capacity stays. It takes constant
     /// time if both have the same parent, else time linear in the number of nodes above the sibling.
     ///
-    /// ```ignore
+    /// ```
+    /// # use slotmap_proved::{DefaultKey, Key};
+    /// # use slotmap_proved::fallible::Global;
+    /// # use slotmap_proved::scene::{MoveError, Scene};
+    /// # use slotmap_proved::scene::world::{HasTransform, Transform};
+    /// # fn main() -> Result<(), Box<dyn std::error::Error>> {
+    /// # let alloc = Global;
     /// let mut scene: Scene<DefaultKey, &str> = Scene::new(alloc)?;
     /// let car = scene.add_root("car")?;
     /// let wheel = scene.add_child(car, "wheel")?;
@@ -159,13 +197,17 @@ impl<K: Key, T: Sized> Scene<K, T> {
     /// assert!(scene.move_before(door, wheel).is_ok());
     /// assert_eq!(scene.first_child(car), Some(door));
     /// assert_eq!(scene.move_before(car, wheel), Err(MoveError::Cycle));
+    /// # Ok(())
+    /// # }
     /// ```
     ///
     /// # Proved
     ///
     /// ```text
-    /// ensures moved { OnOk result ((p : KeyOf) → parent_of self.old.nodes.live (K.data_of sibling) ≡ Some p → self.new ≡ with_trees self.old (as_child self.old.nodes.live (K.data_of node) p (placed right_before (K.data_of sibling) (K.data_of node)))) }
-    /// ensures trees { OnOk result ((p : KeyOf) → parent_of self.old.nodes.live (K.data_of sibling) ≡ Some p → IsMoved self.old.nodes.live self.new.nodes.live (K.data_of node) (Some p) (placed right_before (K.data_of sibling) (K.data_of node))) }
+    /// ensures moved { OnOk result ((p : KeyOf) → parent_of self.old.nodes.live (K.data_of sibling) ≡ Some p
+    ///     → self.new ≡ with_trees self.old (as_child self.old.nodes.live (K.data_of node) p (placed right_before (K.data_of sibling) (K.data_of node)))) }
+    /// ensures trees { OnOk result ((p : KeyOf) → parent_of self.old.nodes.live (K.data_of sibling) ≡ Some p
+    ///     → IsMoved self.old.nodes.live self.new.nodes.live (K.data_of node) (Some p) (placed right_before (K.data_of sibling) (K.data_of node))) }
     /// ensures values { (k : KeyOf) → value_of self.new.nodes.live k ≡ value_of self.old.nodes.live k }
     /// ensures capacity { memory self.new ≡ memory self.old }
     /// ensures nodes { OnOk result (has_node self.old.nodes.live (K.data_of node) × IsSome (parent_of self.old.nodes.live (K.data_of sibling))) }
@@ -186,7 +228,13 @@ impl<K: Key, T: Sized> Scene<K, T> {
     /// sibling is the node or below it. The scene is then unchanged. The capacity stays. It takes constant
     /// time if both have the same parent, else time linear in the number of nodes above the sibling.
     ///
-    /// ```ignore
+    /// ```
+    /// # use slotmap_proved::{DefaultKey, Key};
+    /// # use slotmap_proved::fallible::Global;
+    /// # use slotmap_proved::scene::{MoveError, Scene};
+    /// # use slotmap_proved::scene::world::{HasTransform, Transform};
+    /// # fn main() -> Result<(), Box<dyn std::error::Error>> {
+    /// # let alloc = Global;
     /// let mut scene: Scene<DefaultKey, &str> = Scene::new(alloc)?;
     /// let car = scene.add_root("car")?;
     /// let wheel = scene.add_child(car, "wheel")?;
@@ -194,13 +242,17 @@ impl<K: Key, T: Sized> Scene<K, T> {
     /// assert!(scene.move_after(wheel, door).is_ok());
     /// assert_eq!(scene.last_child(car), Some(wheel));
     /// assert_eq!(scene.move_after(wheel, car), Err(MoveError::GoneSibling));
+    /// # Ok(())
+    /// # }
     /// ```
     ///
     /// # Proved
     ///
     /// ```text
-    /// ensures moved { OnOk result ((p : KeyOf) → parent_of self.old.nodes.live (K.data_of sibling) ≡ Some p → self.new ≡ with_trees self.old (as_child self.old.nodes.live (K.data_of node) p (placed right_behind (K.data_of sibling) (K.data_of node)))) }
-    /// ensures trees { OnOk result ((p : KeyOf) → parent_of self.old.nodes.live (K.data_of sibling) ≡ Some p → IsMoved self.old.nodes.live self.new.nodes.live (K.data_of node) (Some p) (placed right_behind (K.data_of sibling) (K.data_of node))) }
+    /// ensures moved { OnOk result ((p : KeyOf) → parent_of self.old.nodes.live (K.data_of sibling) ≡ Some p
+    ///     → self.new ≡ with_trees self.old (as_child self.old.nodes.live (K.data_of node) p (placed right_behind (K.data_of sibling) (K.data_of node)))) }
+    /// ensures trees { OnOk result ((p : KeyOf) → parent_of self.old.nodes.live (K.data_of sibling) ≡ Some p
+    ///     → IsMoved self.old.nodes.live self.new.nodes.live (K.data_of node) (Some p) (placed right_behind (K.data_of sibling) (K.data_of node))) }
     /// ensures values { (k : KeyOf) → value_of self.new.nodes.live k ≡ value_of self.old.nodes.live k }
     /// ensures capacity { memory self.new ≡ memory self.old }
     /// ensures nodes { OnOk result (has_node self.old.nodes.live (K.data_of node) × IsSome (parent_of self.old.nodes.live (K.data_of sibling))) }
@@ -218,7 +270,13 @@ impl<K: Key, T: Sized> Scene<K, T> {
     ///
     /// A root stays where it is. It takes constant time. It can't fail, and the capacity stays.
     ///
-    /// ```ignore
+    /// ```
+    /// # use slotmap_proved::{DefaultKey, Key};
+    /// # use slotmap_proved::fallible::Global;
+    /// # use slotmap_proved::scene::Scene;
+    /// # use slotmap_proved::scene::world::{HasTransform, Transform};
+    /// # fn main() -> Result<(), Box<dyn std::error::Error>> {
+    /// # let alloc = Global;
     /// let mut scene: Scene<DefaultKey, &str> = Scene::new(alloc)?;
     /// let car = scene.add_root("car")?;
     /// scene.add_child(car, "wheel")?;
@@ -226,14 +284,18 @@ impl<K: Key, T: Sized> Scene<K, T> {
     /// assert!(scene.move_to_front(door));
     /// assert_eq!(scene.first_child(car), Some(door));
     /// assert!(!scene.move_to_front(car));
+    /// # Ok(())
+    /// # }
     /// ```
     ///
     /// # Proved
     ///
     /// ```text
     /// ensures which { IsTrue result ↔ IsSome (parent_of self.old.nodes.live (K.data_of node)) }
-    /// ensures moved { (p : KeyOf) → parent_of self.old.nodes.live (K.data_of node) ≡ Some p → self.new ≡ with_trees self.old (as_child self.old.nodes.live (K.data_of node) p (λ ks. K.data_of node ∷ ks)) }
-    /// ensures trees { (p : KeyOf) → parent_of self.old.nodes.live (K.data_of node) ≡ Some p → IsMoved self.old.nodes.live self.new.nodes.live (K.data_of node) (Some p) (λ ks. K.data_of node ∷ ks) }
+    /// ensures moved { (p : KeyOf) → parent_of self.old.nodes.live (K.data_of node) ≡ Some p
+    ///     → self.new ≡ with_trees self.old (as_child self.old.nodes.live (K.data_of node) p (λ ks. K.data_of node ∷ ks)) }
+    /// ensures trees { (p : KeyOf) → parent_of self.old.nodes.live (K.data_of node) ≡ Some p
+    ///     → IsMoved self.old.nodes.live self.new.nodes.live (K.data_of node) (Some p) (λ ks. K.data_of node ∷ ks) }
     /// ensures values { (k : KeyOf) → value_of self.new.nodes.live k ≡ value_of self.old.nodes.live k }
     /// ensures capacity { memory self.new ≡ memory self.old }
     /// ensures stale { KeepsSpent self.old.nodes self.new.nodes }
@@ -253,21 +315,31 @@ impl<K: Key, T: Sized> Scene<K, T> {
     ///
     /// A root stays where it is. It takes constant time. It can't fail, and the capacity stays.
     ///
-    /// ```ignore
+    /// ```
+    /// # use slotmap_proved::{DefaultKey, Key};
+    /// # use slotmap_proved::fallible::Global;
+    /// # use slotmap_proved::scene::Scene;
+    /// # use slotmap_proved::scene::world::{HasTransform, Transform};
+    /// # fn main() -> Result<(), Box<dyn std::error::Error>> {
+    /// # let alloc = Global;
     /// let mut scene: Scene<DefaultKey, &str> = Scene::new(alloc)?;
     /// let car = scene.add_root("car")?;
     /// let wheel = scene.add_child(car, "wheel")?;
     /// scene.add_child(car, "door")?;
     /// assert!(scene.move_to_back(wheel));
     /// assert_eq!(scene.last_child(car), Some(wheel));
+    /// # Ok(())
+    /// # }
     /// ```
     ///
     /// # Proved
     ///
     /// ```text
     /// ensures which { IsTrue result ↔ IsSome (parent_of self.old.nodes.live (K.data_of node)) }
-    /// ensures moved { (p : KeyOf) → parent_of self.old.nodes.live (K.data_of node) ≡ Some p → self.new ≡ with_trees self.old (as_last_child self.old.nodes.live (K.data_of node) p) }
-    /// ensures trees { (p : KeyOf) → parent_of self.old.nodes.live (K.data_of node) ≡ Some p → IsMoved self.old.nodes.live self.new.nodes.live (K.data_of node) (Some p) (λ ks. ks ++ K.data_of node ∷ []) }
+    /// ensures moved { (p : KeyOf) → parent_of self.old.nodes.live (K.data_of node) ≡ Some p
+    ///     → self.new ≡ with_trees self.old (as_last_child self.old.nodes.live (K.data_of node) p) }
+    /// ensures trees { (p : KeyOf) → parent_of self.old.nodes.live (K.data_of node) ≡ Some p
+    ///     → IsMoved self.old.nodes.live self.new.nodes.live (K.data_of node) (Some p) (λ ks. ks ++ K.data_of node ∷ []) }
     /// ensures values { (k : KeyOf) → value_of self.new.nodes.live k ≡ value_of self.old.nodes.live k }
     /// ensures capacity { memory self.new ≡ memory self.old }
     /// ensures stale { KeepsSpent self.old.nodes self.new.nodes }

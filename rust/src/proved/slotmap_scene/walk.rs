@@ -79,7 +79,13 @@ impl<K: Key, T: Sized> Scene<K, T> {
     /// A node that doesn't exist has no visits. The iterator allocates nothing: it goes by the links between
     /// the nodes. It is made in constant time, and each step takes constant time.
     ///
-    /// ```ignore
+    /// ```
+    /// # use slotmap_proved::{DefaultKey, Key};
+    /// # use slotmap_proved::fallible::Global;
+    /// # use slotmap_proved::scene::{Scene, Visit};
+    /// # use slotmap_proved::scene::world::{HasTransform, Transform};
+    /// # fn main() -> Result<(), Box<dyn std::error::Error>> {
+    /// # let alloc = Global;
     /// let mut scene: Scene<DefaultKey, &str> = Scene::new(alloc)?;
     /// let car = scene.add_root("car")?;
     /// let door = scene.add_child(car, "door")?;
@@ -89,6 +95,8 @@ impl<K: Key, T: Sized> Scene<K, T> {
     /// assert_eq!(walk.next(), Some(Visit::Leave(door)));
     /// assert_eq!(walk.next(), Some(Visit::Leave(car)));
     /// assert_eq!(walk.next(), None);
+    /// # Ok(())
+    /// # }
     /// ```
     ///
     /// # Proved
@@ -96,8 +104,10 @@ impl<K: Key, T: Sized> Scene<K, T> {
     /// ```text
     /// ensures visits { has_node self.now.nodes.live (K.data_of node) → result ≡ visits_of self.now.nodes.live (K.data_of node) }
     /// ensures none { lacks_node self.now.nodes.live (K.data_of node) → result ≡ [] }
+    ///
     /// // Each node is entered, its children are visited in their order, and it is left.
-    /// ensures each { (k : KeyOf) → has_node self.now.nodes.live k → visits_of self.now.nodes.live k ≡ entering k ∷ of_each (visits_of self.now.nodes.live) (children_of self.now.nodes.live k) ++ leaving k ∷ [] }
+    /// ensures each { (k : KeyOf) → has_node self.now.nodes.live k
+    ///     → visits_of self.now.nodes.live k ≡ entering k ∷ of_each (visits_of self.now.nodes.live) (children_of self.now.nodes.live k) ++ leaving k ∷ [] }
     /// ```
     pub fn walk(&self, node: K) -> Walk<'_, K, T>
     {

@@ -15,12 +15,20 @@
 //! These three take time linear in the number of nodes above the given one, and none of them fails for
 //! memory.
 //!
-//! ```ignore
+//! ```
+//! # use slotmap_proved::{DefaultKey, Key};
+//! # use slotmap_proved::fallible::Global;
+//! # use slotmap_proved::scene::Scene;
+//! # use slotmap_proved::scene::world::{HasTransform, Offset, Transform};
+//! # fn main() -> Result<(), Box<dyn std::error::Error>> {
+//! # let alloc = Global;
 //! let mut arm: Scene<DefaultKey, Offset> = Scene::new(alloc)?;
 //! let shoulder = arm.add_root(Offset { x: 10, y: 20 })?;
 //! let elbow = arm.add_child(shoulder, Offset { x: 5, y: 0 })?;
 //! let hand = arm.add_child(elbow, Offset { x: 3, y: -4 })?;
 //! assert_eq!(arm.world(hand), Some(Offset { x: 18, y: 16 }));
+//! # Ok(())
+//! # }
 //! ```
 
 #[allow(unused_imports)]
@@ -39,10 +47,17 @@ pub trait Transform: Copy {
 
     /// Returns this value in the coordinates in which its parent is given.
     ///
-    /// ```ignore
+    /// ```
+    /// # use slotmap_proved::Key;
+    /// # use slotmap_proved::fallible::Global;
+    /// # use slotmap_proved::scene::world::{HasTransform, Offset, Transform};
+    /// # fn main() -> Result<(), Box<dyn std::error::Error>> {
+    /// # let alloc = Global;
     /// let hand = Offset { x: 3, y: -4 };
     /// let elbow = Offset { x: 5, y: 0 };
     /// assert_eq!(Transform::under(&hand, &elbow), Offset { x: 8, y: -4 });
+    /// # Ok(())
+    /// # }
     /// ```
     ///
     /// # Proved
@@ -62,9 +77,16 @@ pub trait HasTransform {
 
     /// Returns the transform of this value.
     ///
-    /// ```ignore
+    /// ```
+    /// # use slotmap_proved::Key;
+    /// # use slotmap_proved::fallible::Global;
+    /// # use slotmap_proved::scene::world::{HasTransform, Offset, Transform};
+    /// # fn main() -> Result<(), Box<dyn std::error::Error>> {
+    /// # let alloc = Global;
     /// let hand = Offset { x: 3, y: -4 };
     /// assert_eq!(HasTransform::transform(&hand), hand);
+    /// # Ok(())
+    /// # }
     /// ```
     ///
     /// # Proved
@@ -109,11 +131,19 @@ impl<K: Key, T: Sized> Scene<K, T> {
     /// before it and the value of the next node up. It returns `None` exactly if the node doesn't exist.
     /// Linear in the number of nodes above.
     ///
-    /// ```ignore
+    /// ```
+    /// # use slotmap_proved::{DefaultKey, Key};
+    /// # use slotmap_proved::fallible::Global;
+    /// # use slotmap_proved::scene::Scene;
+    /// # use slotmap_proved::scene::world::{HasTransform, Transform};
+    /// # fn main() -> Result<(), Box<dyn std::error::Error>> {
+    /// # let alloc = Global;
     /// let mut scene: Scene<DefaultKey, u64> = Scene::new(alloc)?;
     /// let car = scene.add_root(1)?;
     /// let wheel = scene.add_child(car, 2)?;
     /// assert_eq!(scene.fold_up(wheel, 0, |most: u64, value| most.max(*value)), Some(2));
+    /// # Ok(())
+    /// # }
     /// ```
     ///
     /// # Proved
@@ -150,11 +180,19 @@ impl<K: Key, T: Transform> Scene<K, T> {
     /// This is the node's own value composed with its ancestors', up to the root. It returns `None`
     /// exactly if the node doesn't exist. Linear in the number of nodes above.
     ///
-    /// ```ignore
+    /// ```
+    /// # use slotmap_proved::{DefaultKey, Key};
+    /// # use slotmap_proved::fallible::Global;
+    /// # use slotmap_proved::scene::Scene;
+    /// # use slotmap_proved::scene::world::{HasTransform, Offset, Transform};
+    /// # fn main() -> Result<(), Box<dyn std::error::Error>> {
+    /// # let alloc = Global;
     /// let mut arm: Scene<DefaultKey, Offset> = Scene::new(alloc)?;
     /// let elbow = arm.add_root(Offset { x: 5, y: 0 })?;
     /// let hand = arm.add_child(elbow, Offset { x: 3, y: -4 })?;
     /// assert_eq!(arm.world(hand), Some(Offset { x: 8, y: -4 }));
+    /// # Ok(())
+    /// # }
     /// ```
     ///
     /// # Proved
@@ -184,11 +222,19 @@ impl<K: Key, T: HasTransform> Scene<K, T> {
     /// This is the transform of the node's own value composed with its ancestors', up to the root. It
     /// returns `None` exactly if the node doesn't exist. Linear in the number of nodes above.
     ///
-    /// ```ignore
+    /// ```
+    /// # use slotmap_proved::{DefaultKey, Key};
+    /// # use slotmap_proved::fallible::Global;
+    /// # use slotmap_proved::scene::Scene;
+    /// # use slotmap_proved::scene::world::{HasTransform, Offset, Transform};
+    /// # fn main() -> Result<(), Box<dyn std::error::Error>> {
+    /// # let alloc = Global;
     /// let mut arm: Scene<DefaultKey, Offset> = Scene::new(alloc)?;
     /// let elbow = arm.add_root(Offset { x: 5, y: 0 })?;
     /// let hand = arm.add_child(elbow, Offset { x: 3, y: -4 })?;
     /// assert_eq!(arm.world_transform(hand), Some(Offset { x: 8, y: -4 }));
+    /// # Ok(())
+    /// # }
     /// ```
     ///
     /// # Proved

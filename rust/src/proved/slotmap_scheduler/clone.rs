@@ -26,12 +26,19 @@ impl<K: Key, T: Clone> Scheduler<K, T> {
     /// own. If memory runs out, or the clone of a job fails, the call fails, and what was copied is
     /// dropped. It takes time linear in the number of slots.
     ///
-    /// ```ignore
+    /// ```
+    /// # use slotmap_proved::{DefaultKey, Key};
+    /// # use slotmap_proved::fallible::Global;
+    /// # use slotmap_proved::scheduler::Scheduler;
+    /// # fn main() -> Result<(), Box<dyn std::error::Error>> {
+    /// # let alloc = Global;
     /// let mut scheduler: Scheduler<DefaultKey, u64> = Scheduler::new(alloc)?;
     /// let tea = scheduler.schedule(30, 5)?;
     /// let copy = scheduler.clone()?;
     /// scheduler.cancel(tea);
     /// assert_eq!(copy.get(tea), Some(&5));
+    /// # Ok(())
+    /// # }
     /// ```
     ///
     /// # Proved

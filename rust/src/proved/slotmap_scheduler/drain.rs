@@ -56,13 +56,20 @@ impl<K: Key, T: Sized> Scheduler<K, T> {
     /// the capacity stays. The iterator is made in constant time. Each step takes time logarithmic in the
     /// number of jobs, and the drop takes time linear in the number of slots.
     ///
-    /// ```ignore
+    /// ```
+    /// # use slotmap_proved::{DefaultKey, Key};
+    /// # use slotmap_proved::fallible::Global;
+    /// # use slotmap_proved::scheduler::Scheduler;
+    /// # fn main() -> Result<(), Box<dyn std::error::Error>> {
+    /// # let alloc = Global;
     /// let mut scheduler: Scheduler<DefaultKey, &str> = Scheduler::new(alloc)?;
     /// scheduler.schedule(30, "tea")?;
     /// let bell = scheduler.schedule(20, "bell")?;
     /// let first = scheduler.drain().next(); // the drain is dropped here
     /// assert_eq!(first, Some((bell, 20, "bell")));
     /// assert!(scheduler.is_empty());
+    /// # Ok(())
+    /// # }
     /// ```
     ///
     /// # Proved
@@ -72,6 +79,7 @@ impl<K: Key, T: Sized> Scheduler<K, T> {
     /// ensures same_reference { (drain_loan result).ghost_name ≡ self.entry.ghost_name }
     /// ensures sorted { IsByTime self.old.waiting }
     /// ensures once { IsOnce self.old.waiting }
+    ///
     /// // Laws of the steps, for callers that take more of them.
     /// ensures stays { KeepsLent K.data_of result }
     /// ensures in_order { YieldsInOrder K.data_of result }

@@ -121,12 +121,19 @@ impl<K: Key, T: Sized> Scheduler<K, T> {
     ///
     /// It is made in constant time. All its steps together read each slot once.
     ///
-    /// ```ignore
+    /// ```
+    /// # use slotmap_proved::{DefaultKey, Key};
+    /// # use slotmap_proved::fallible::Global;
+    /// # use slotmap_proved::scheduler::Scheduler;
+    /// # fn main() -> Result<(), Box<dyn std::error::Error>> {
+    /// # let alloc = Global;
     /// let mut scheduler: Scheduler<DefaultKey, &str> = Scheduler::new(alloc)?;
     /// let tea = scheduler.schedule(30, "tea")?;
     /// let mut jobs = scheduler.iter();
     /// assert_eq!(jobs.next(), Some((tea, 30, &"tea")));
     /// assert!(jobs.next().is_none());
+    /// # Ok(())
+    /// # }
     /// ```
     ///
     /// # Proved
@@ -148,10 +155,17 @@ impl<K: Key, T: Sized> Scheduler<K, T> {
     ///
     /// It is made in constant time. All its steps together read each slot once.
     ///
-    /// ```ignore
+    /// ```
+    /// # use slotmap_proved::{DefaultKey, Key};
+    /// # use slotmap_proved::fallible::Global;
+    /// # use slotmap_proved::scheduler::Scheduler;
+    /// # fn main() -> Result<(), Box<dyn std::error::Error>> {
+    /// # let alloc = Global;
     /// let mut scheduler: Scheduler<DefaultKey, &str> = Scheduler::new(alloc)?;
     /// let tea = scheduler.schedule(30, "tea")?;
     /// assert_eq!(scheduler.keys().next(), Some(tea));
+    /// # Ok(())
+    /// # }
     /// ```
     ///
     /// # Proved
@@ -169,16 +183,24 @@ impl<K: Key, T: Sized> Scheduler<K, T> {
     ///
     /// It is made in constant time. All its steps together read each slot once.
     ///
-    /// ```ignore
+    /// ```
+    /// # use slotmap_proved::{DefaultKey, Key};
+    /// # use slotmap_proved::fallible::Global;
+    /// # use slotmap_proved::scheduler::Scheduler;
+    /// # fn main() -> Result<(), Box<dyn std::error::Error>> {
+    /// # let alloc = Global;
     /// let mut scheduler: Scheduler<DefaultKey, &str> = Scheduler::new(alloc)?;
     /// scheduler.schedule(30, "tea")?;
     /// assert_eq!(scheduler.values().next(), Some(&"tea"));
+    /// # Ok(())
+    /// # }
     /// ```
     ///
     /// # Proved
     ///
     /// ```text
-    /// ensures jobs { (jobs : Waiting T) × ListsJobs self.now.waiting jobs × (list_map (λ e. e.0) jobs ≡ map.keys self.now.handles.live) × (result ≡ list_map (λ e. e.1.1) jobs) }
+    /// ensures jobs { (jobs : Waiting T) × ListsJobs self.now.waiting jobs × (list_map (λ e. e.0) jobs ≡ map.keys self.now.handles.live)
+    ///     × (result ≡ list_map (λ e. e.1.1) jobs) }
     /// ```
     pub fn values(&self) -> Values<'_, K, T>
     {

@@ -25,13 +25,20 @@
 //! out. `reserve` takes time linear in the number of slots if a vector grows, else constant time.
 //! `peek`, `get`, `due`, `len` and the like take constant time.
 //!
-//! ```ignore
+//! ```
+//! # use slotmap_proved::{DefaultKey, Key};
+//! # use slotmap_proved::fallible::Global;
+//! # use slotmap_proved::scheduler::Scheduler;
+//! # fn main() -> Result<(), Box<dyn std::error::Error>> {
+//! # let alloc = Global;
 //! let mut scheduler: Scheduler<DefaultKey, &str> = Scheduler::new(alloc)?;
 //! let tea = scheduler.schedule(30, "tea")?;
 //! let bell = scheduler.schedule(20, "bell")?;
 //! scheduler.cancel(bell);
 //! assert!(scheduler.pop_due(29).is_none());
 //! assert_eq!(scheduler.pop_due(30), Some((tea, "tea")));
+//! # Ok(())
+//! # }
 //! ```
 
 #[allow(unused_imports)]
@@ -101,9 +108,16 @@ impl<T: Sized> Scheduler<DefaultKey, T> {
     ///
     /// It fails only if memory runs out.
     ///
-    /// ```ignore
+    /// ```
+    /// # use slotmap_proved::{DefaultKey, Key};
+    /// # use slotmap_proved::fallible::Global;
+    /// # use slotmap_proved::scheduler::Scheduler;
+    /// # fn main() -> Result<(), Box<dyn std::error::Error>> {
+    /// # let alloc = Global;
     /// let scheduler: Scheduler<DefaultKey, &str> = Scheduler::new(alloc)?;
     /// assert!(scheduler.is_empty());
+    /// # Ok(())
+    /// # }
     /// ```
     ///
     /// # Proved
@@ -125,9 +139,16 @@ impl<T: Sized> Scheduler<DefaultKey, T> {
     /// The next `capacity` schedules don't fail for memory. It fails with `TooGreat` if `capacity`
     /// is over 4294967294, and with `Memory` if memory runs out.
     ///
-    /// ```ignore
+    /// ```
+    /// # use slotmap_proved::{DefaultKey, Key};
+    /// # use slotmap_proved::fallible::Global;
+    /// # use slotmap_proved::scheduler::Scheduler;
+    /// # fn main() -> Result<(), Box<dyn std::error::Error>> {
+    /// # let alloc = Global;
     /// let mut scheduler: Scheduler<DefaultKey, &str> = Scheduler::with_capacity(alloc, 1)?;
     /// assert!(scheduler.schedule(30, "tea").is_ok());
+    /// # Ok(())
+    /// # }
     /// ```
     ///
     /// # Proved
@@ -150,9 +171,16 @@ impl<K: Key, T: Sized> Scheduler<K, T> {
     ///
     /// It fails only if memory runs out.
     ///
-    /// ```ignore
+    /// ```
+    /// # use slotmap_proved::{Key, NodeKey};
+    /// # use slotmap_proved::fallible::Global;
+    /// # use slotmap_proved::scheduler::Scheduler;
+    /// # fn main() -> Result<(), Box<dyn std::error::Error>> {
+    /// # let alloc = Global;
     /// let scheduler: Scheduler<NodeKey, &str> = Scheduler::with_key(alloc)?;
     /// assert!(scheduler.is_empty());
+    /// # Ok(())
+    /// # }
     /// ```
     ///
     /// # Proved
@@ -173,9 +201,16 @@ impl<K: Key, T: Sized> Scheduler<K, T> {
     /// The next `capacity` schedules don't fail for memory. It fails with `TooGreat` if `capacity`
     /// is over 4294967294, and with `Memory` if memory runs out.
     ///
-    /// ```ignore
+    /// ```
+    /// # use slotmap_proved::{Key, NodeKey};
+    /// # use slotmap_proved::fallible::Global;
+    /// # use slotmap_proved::scheduler::Scheduler;
+    /// # fn main() -> Result<(), Box<dyn std::error::Error>> {
+    /// # let alloc = Global;
     /// let mut scheduler: Scheduler<NodeKey, &str> = Scheduler::with_capacity_and_key(alloc, 1)?;
     /// assert!(scheduler.schedule(30, "tea").is_ok());
+    /// # Ok(())
+    /// # }
     /// ```
     ///
     /// # Proved
@@ -201,12 +236,19 @@ impl<K: Key, T: Sized> Scheduler<K, T> {
 
     /// Returns how many jobs wait, in constant time.
     ///
-    /// ```ignore
+    /// ```
+    /// # use slotmap_proved::{DefaultKey, Key};
+    /// # use slotmap_proved::fallible::Global;
+    /// # use slotmap_proved::scheduler::Scheduler;
+    /// # fn main() -> Result<(), Box<dyn std::error::Error>> {
+    /// # let alloc = Global;
     /// let mut scheduler: Scheduler<DefaultKey, &str> = Scheduler::new(alloc)?;
     /// scheduler.schedule(30, "tea")?;
     /// assert_eq!(scheduler.len(), 1);
     /// scheduler.pop_due(30);
     /// assert_eq!(scheduler.len(), 0);
+    /// # Ok(())
+    /// # }
     /// ```
     ///
     /// # Proved
@@ -225,11 +267,18 @@ impl<K: Key, T: Sized> Scheduler<K, T> {
 
     /// Returns whether no job waits, in constant time.
     ///
-    /// ```ignore
+    /// ```
+    /// # use slotmap_proved::{DefaultKey, Key};
+    /// # use slotmap_proved::fallible::Global;
+    /// # use slotmap_proved::scheduler::Scheduler;
+    /// # fn main() -> Result<(), Box<dyn std::error::Error>> {
+    /// # let alloc = Global;
     /// let mut scheduler: Scheduler<DefaultKey, &str> = Scheduler::new(alloc)?;
     /// assert!(scheduler.is_empty());
     /// scheduler.schedule(30, "tea")?;
     /// assert!(!scheduler.is_empty());
+    /// # Ok(())
+    /// # }
     /// ```
     ///
     /// # Proved
@@ -245,12 +294,19 @@ impl<K: Key, T: Sized> Scheduler<K, T> {
     /// Returns for how many jobs there is memory, in constant time. These are at least those that wait and
     /// those for which there is room.
     ///
-    /// ```ignore
+    /// ```
+    /// # use slotmap_proved::{DefaultKey, Key};
+    /// # use slotmap_proved::fallible::Global;
+    /// # use slotmap_proved::scheduler::Scheduler;
+    /// # fn main() -> Result<(), Box<dyn std::error::Error>> {
+    /// # let alloc = Global;
     /// let mut scheduler: Scheduler<DefaultKey, &str> = Scheduler::with_capacity(alloc, 2)?;
     /// let capacity = scheduler.capacity();
     /// assert!(capacity >= 2);
     /// scheduler.schedule(30, "tea")?;
     /// assert_eq!(scheduler.capacity(), capacity);
+    /// # Ok(())
+    /// # }
     /// ```
     ///
     /// # Proved
@@ -267,12 +323,19 @@ impl<K: Key, T: Sized> Scheduler<K, T> {
 
     /// Returns whether a job waits under a handle, in constant time.
     ///
-    /// ```ignore
+    /// ```
+    /// # use slotmap_proved::{DefaultKey, Key};
+    /// # use slotmap_proved::fallible::Global;
+    /// # use slotmap_proved::scheduler::Scheduler;
+    /// # fn main() -> Result<(), Box<dyn std::error::Error>> {
+    /// # let alloc = Global;
     /// let mut scheduler: Scheduler<DefaultKey, &str> = Scheduler::new(alloc)?;
     /// let tea = scheduler.schedule(30, "tea")?;
     /// assert!(scheduler.contains(tea));
     /// scheduler.pop_due(30);
     /// assert!(!scheduler.contains(tea));
+    /// # Ok(())
+    /// # }
     /// ```
     ///
     /// # Proved
@@ -288,12 +351,19 @@ impl<K: Key, T: Sized> Scheduler<K, T> {
 
     /// Returns the job of a handle, or `None` if no job waits under it, in constant time.
     ///
-    /// ```ignore
+    /// ```
+    /// # use slotmap_proved::{DefaultKey, Key};
+    /// # use slotmap_proved::fallible::Global;
+    /// # use slotmap_proved::scheduler::Scheduler;
+    /// # fn main() -> Result<(), Box<dyn std::error::Error>> {
+    /// # let alloc = Global;
     /// let mut scheduler: Scheduler<DefaultKey, &str> = Scheduler::new(alloc)?;
     /// let tea = scheduler.schedule(30, "tea")?;
     /// assert_eq!(scheduler.get(tea), Some(&"tea"));
     /// scheduler.cancel(tea);
     /// assert_eq!(scheduler.get(tea), None);
+    /// # Ok(())
+    /// # }
     /// ```
     ///
     /// # Proved
@@ -308,12 +378,19 @@ impl<K: Key, T: Sized> Scheduler<K, T> {
 
     /// Returns when the job of a handle is due, or `None` if no job waits under it, in constant time.
     ///
-    /// ```ignore
+    /// ```
+    /// # use slotmap_proved::{DefaultKey, Key};
+    /// # use slotmap_proved::fallible::Global;
+    /// # use slotmap_proved::scheduler::Scheduler;
+    /// # fn main() -> Result<(), Box<dyn std::error::Error>> {
+    /// # let alloc = Global;
     /// let mut scheduler: Scheduler<DefaultKey, &str> = Scheduler::new(alloc)?;
     /// let tea = scheduler.schedule(30, "tea")?;
     /// assert_eq!(scheduler.due(tea), Some(30));
     /// scheduler.cancel(tea);
     /// assert_eq!(scheduler.due(tea), None);
+    /// # Ok(())
+    /// # }
     /// ```
     ///
     /// # Proved
@@ -329,13 +406,20 @@ impl<K: Key, T: Sized> Scheduler<K, T> {
     /// Returns a mutable reference to the job of a handle, or `None` if no job waits under it, in
     /// constant time. Its turn stays.
     ///
-    /// ```ignore
+    /// ```
+    /// # use slotmap_proved::{DefaultKey, Key};
+    /// # use slotmap_proved::fallible::Global;
+    /// # use slotmap_proved::scheduler::Scheduler;
+    /// # fn main() -> Result<(), Box<dyn std::error::Error>> {
+    /// # let alloc = Global;
     /// let mut scheduler: Scheduler<DefaultKey, u64> = Scheduler::new(alloc)?;
     /// let handle = scheduler.schedule(30, 5)?;
     /// if let Some(job) = scheduler.get_mut(handle) {
     ///     *job = 6;
     /// }
     /// assert_eq!(scheduler.get(handle), Some(&6));
+    /// # Ok(())
+    /// # }
     /// ```
     ///
     /// # Proved

@@ -13,9 +13,20 @@ impl<K: Key, V: Sized> SecondaryMap<K, V> {
     ///
     /// The null key never is, nor is a key at whose index the map holds another version.
     ///
-    /// ```ignore
+    /// ```
+    /// # use slotmap_proved::{DefaultKey, Global, Key};
+    /// # use slotmap_proved::fallible::{SecondaryMap, SlotMap};
+    /// # fn main() -> Result<(), Box<dyn std::error::Error>> {
+    /// # let alloc = Global;
+    /// # let mut primary: SlotMap<DefaultKey, u64> = SlotMap::new(alloc)?;
+    /// # let a = primary.insert(10)?;
+    /// # let b = primary.insert(20)?;
+    /// # let mut map: SecondaryMap<DefaultKey, u64> = SecondaryMap::new(alloc)?;
+    /// # map.insert(a, 1)?;
     /// assert!(map.contains_key(a));
     /// assert!(!map.contains_key(b));
+    /// # Ok(())
+    /// # }
     /// ```
     ///
     /// # Proved
@@ -38,9 +49,20 @@ impl<K: Key, V: Sized> SecondaryMap<K, V> {
     ///
     /// Takes constant time.
     ///
-    /// ```ignore
+    /// ```
+    /// # use slotmap_proved::{DefaultKey, Global, Key};
+    /// # use slotmap_proved::fallible::{SecondaryMap, SlotMap};
+    /// # fn main() -> Result<(), Box<dyn std::error::Error>> {
+    /// # let alloc = Global;
+    /// # let mut primary: SlotMap<DefaultKey, u64> = SlotMap::new(alloc)?;
+    /// # let a = primary.insert(10)?;
+    /// # let b = primary.insert(20)?;
+    /// # let mut map: SecondaryMap<DefaultKey, u64> = SecondaryMap::new(alloc)?;
+    /// # map.insert(a, 1)?;
     /// assert_eq!(map.get(a).copied(), Some(1));
     /// assert_eq!(map.get(b), None);
+    /// # Ok(())
+    /// # }
     /// ```
     ///
     /// # Proved
@@ -61,9 +83,20 @@ impl<K: Key, V: Sized> SecondaryMap<K, V> {
     /// The caller has to prove that the key is in the map. So the call is safe, where Rust's is
     /// `unsafe`. Takes constant time, and compares no versions.
     ///
-    /// ```ignore
+    /// ```
+    /// # use slotmap_proved::{DefaultKey, Global, Key};
+    /// # use slotmap_proved::fallible::{SecondaryMap, SlotMap};
+    /// # fn main() -> Result<(), Box<dyn std::error::Error>> {
+    /// # let alloc = Global;
+    /// # let mut primary: SlotMap<DefaultKey, u64> = SlotMap::new(alloc)?;
+    /// # let a = primary.insert(10)?;
+    /// # let b = primary.insert(20)?;
+    /// # let mut map: SecondaryMap<DefaultKey, u64> = SecondaryMap::new(alloc)?;
+    /// # map.insert(a, 1)?;
     /// map.insert(b, 2)?;
     /// assert_eq!(*map.get_unchecked(b), 2);
+    /// # Ok(())
+    /// # }
     /// ```
     ///
     /// # Proved
@@ -85,11 +118,22 @@ impl<K: Key, V: Sized> SecondaryMap<K, V> {
     /// Once the reference ends, the key has the last value written through it, and all else is as
     /// before. Takes constant time.
     ///
-    /// ```ignore
+    /// ```
+    /// # use slotmap_proved::{DefaultKey, Global, Key};
+    /// # use slotmap_proved::fallible::{SecondaryMap, SlotMap};
+    /// # fn main() -> Result<(), Box<dyn std::error::Error>> {
+    /// # let alloc = Global;
+    /// # let mut primary: SlotMap<DefaultKey, u64> = SlotMap::new(alloc)?;
+    /// # let a = primary.insert(10)?;
+    /// # let b = primary.insert(20)?;
+    /// # let mut map: SecondaryMap<DefaultKey, u64> = SecondaryMap::new(alloc)?;
+    /// # map.insert(a, 1)?;
     /// if let Some(value) = map.get_mut(a) {
     ///     *value = 8;
     /// }
     /// assert_eq!(map.get(a).copied(), Some(8));
+    /// # Ok(())
+    /// # }
     /// ```
     ///
     /// # Proved
@@ -114,9 +158,20 @@ impl<K: Key, V: Sized> SecondaryMap<K, V> {
     /// The caller has to prove that the key is in the map. So the call is safe, where Rust's is
     /// `unsafe`. Takes constant time, and compares no versions.
     ///
-    /// ```ignore
+    /// ```
+    /// # use slotmap_proved::{DefaultKey, Global, Key};
+    /// # use slotmap_proved::fallible::{SecondaryMap, SlotMap};
+    /// # fn main() -> Result<(), Box<dyn std::error::Error>> {
+    /// # let alloc = Global;
+    /// # let mut primary: SlotMap<DefaultKey, u64> = SlotMap::new(alloc)?;
+    /// # let a = primary.insert(10)?;
+    /// # let b = primary.insert(20)?;
+    /// # let mut map: SecondaryMap<DefaultKey, u64> = SecondaryMap::new(alloc)?;
+    /// # map.insert(a, 1)?;
     /// *map.get_unchecked_mut(a) = 8;
     /// assert_eq!(map.get(a).copied(), Some(8));
+    /// # Ok(())
+    /// # }
     /// ```
     ///
     /// # Proved
@@ -143,11 +198,22 @@ impl<K: Key, V: Sized> SecondaryMap<K, V> {
     /// It allocates nothing. It looks up each key, and compares each with each; so its time doesn't
     /// depend on the size of the map. Rust's `get_disjoint_mut` returns mutable references instead.
     ///
-    /// ```ignore
+    /// ```
+    /// # use slotmap_proved::{DefaultKey, Global, Key};
+    /// # use slotmap_proved::fallible::{SecondaryMap, SlotMap};
+    /// # fn main() -> Result<(), Box<dyn std::error::Error>> {
+    /// # let alloc = Global;
+    /// # let mut primary: SlotMap<DefaultKey, u64> = SlotMap::new(alloc)?;
+    /// # let a = primary.insert(10)?;
+    /// # let b = primary.insert(20)?;
+    /// # let mut map: SecondaryMap<DefaultKey, u64> = SecondaryMap::new(alloc)?;
+    /// # map.insert(a, 1)?;
     /// map.insert(b, 2)?;
     /// assert_eq!(map.replace_disjoint([a, b], [3, 4])?, [1, 2]);
     /// assert!(map.replace_disjoint([a, a], [5, 6]).is_err());
     /// assert_eq!((map[a], map[b]), (3, 4));
+    /// # Ok(())
+    /// # }
     /// ```
     ///
     /// # Proved
@@ -155,9 +221,13 @@ impl<K: Key, V: Sized> SecondaryMap<K, V> {
     /// ```text
     /// ensures which { IsOk result ↔ CanReplace get self.old.pairs (map_list K.data_of keys) }
     /// ensures value { IfOk result (AreValuesOf get self.old.pairs (map_list K.data_of keys)) }
-    /// ensures ok { OnOk result (self.new ≡ record self.old { pairs = with_values bind self.old.pairs (map_list K.data_of keys) values; }) }
+    /// ensures ok { OnOk result (self.new ≡ record self.old {
+    ///   pairs = with_values bind self.old.pairs (map_list K.data_of keys) values;
+    /// }) }
+    ///
     /// ensures err { IfErr result (λ back. back ≡ values) }
     /// ensures unchanged { OnErr result (self.new ≡ self.old) }
+    ///
     /// ensures valid { IsSideContent self.new }
     /// ```
     #[inline]
@@ -207,9 +277,20 @@ impl<K: Key, V: Sized> Index<K> for SecondaryMap<K, V> {
     /// The caller has to prove that the key is in the map; Rust panics if it isn't. Takes constant
     /// time.
     ///
-    /// ```ignore
+    /// ```
+    /// # use slotmap_proved::{DefaultKey, Global, Key};
+    /// # use slotmap_proved::fallible::{SecondaryMap, SlotMap};
+    /// # fn main() -> Result<(), Box<dyn std::error::Error>> {
+    /// # let alloc = Global;
+    /// # let mut primary: SlotMap<DefaultKey, u64> = SlotMap::new(alloc)?;
+    /// # let a = primary.insert(10)?;
+    /// # let b = primary.insert(20)?;
+    /// # let mut map: SecondaryMap<DefaultKey, u64> = SecondaryMap::new(alloc)?;
+    /// # map.insert(a, 1)?;
     /// map.insert(b, 2)?;
     /// assert_eq!((map[a], map[b]), (1, 2));
+    /// # Ok(())
+    /// # }
     /// ```
     #[inline]
     fn index(&self, key: K) -> &V {
@@ -223,9 +304,20 @@ impl<K: Key, V: Sized> IndexMut<K> for SecondaryMap<K, V> {
     /// The caller has to prove that the key is in the map; Rust panics if it isn't. Takes constant
     /// time, and compares no versions.
     ///
-    /// ```ignore
+    /// ```
+    /// # use slotmap_proved::{DefaultKey, Global, Key};
+    /// # use slotmap_proved::fallible::{SecondaryMap, SlotMap};
+    /// # fn main() -> Result<(), Box<dyn std::error::Error>> {
+    /// # let alloc = Global;
+    /// # let mut primary: SlotMap<DefaultKey, u64> = SlotMap::new(alloc)?;
+    /// # let a = primary.insert(10)?;
+    /// # let b = primary.insert(20)?;
+    /// # let mut map: SecondaryMap<DefaultKey, u64> = SecondaryMap::new(alloc)?;
+    /// # map.insert(a, 1)?;
     /// map[a] = 8;
     /// assert_eq!(map[a], 8);
+    /// # Ok(())
+    /// # }
     /// ```
     ///
     /// # Proved

@@ -46,12 +46,23 @@ impl<K: Key, V: Sized> SecondaryMap<K, V> {
     /// proof needs it, call `try_entry`. In Rust a vacant slot has no entry for versions from 2147483648 on; here it has
     /// a vacant one.
     ///
-    /// ```ignore
+    /// ```
+    /// # use slotmap_proved::{DefaultKey, Global, Key};
+    /// # use slotmap_proved::fallible::{SecondaryMap, SlotMap};
+    /// # fn main() -> Result<(), Box<dyn std::error::Error>> {
+    /// # let alloc = Global;
+    /// # let mut primary: SlotMap<DefaultKey, u64> = SlotMap::new(alloc)?;
+    /// # let a = primary.insert(10)?;
+    /// # let b = primary.insert(20)?;
+    /// # let mut map: SecondaryMap<DefaultKey, u64> = SecondaryMap::new(alloc)?;
+    /// # map.insert(a, 1)?;
     /// if let Some(entry) = map.entry(b)? {
     ///     entry.or_insert(5);
     /// }
     /// assert_eq!(map.get(b).copied(), Some(5));
     /// assert!(map.entry(DefaultKey::null())?.is_none());
+    /// # Ok(())
+    /// # }
     /// ```
     ///
     /// # Proved
@@ -59,9 +70,11 @@ impl<K: Key, V: Sized> SecondaryMap<K, V> {
     /// ```text
     /// ensures which { IfOk result (IsEntryOf K.data_of self.old.pairs (K.data_of key)) }
     /// ensures ok { IfEntry result (Enters K.data_of self.entry key) }
+    ///
     /// // Fails only if a slot has to be made; never at an index up to `capacity`.
     /// ensures err { OnErr result (entry self.old.pairs (K.data_of key) ≡ vacant) }
     /// ensures room { (K.data_of key).index ≤ self.old.capacity → IsOk result }
+    ///
     /// ensures valid { IsSideContent self.old }
     /// ```
     #[inline]
@@ -79,10 +92,21 @@ impl<K: Key, V: Sized> SecondaryMap<K, V> {
     /// `Memory` is its error if the allocation fails. After either error the map is unchanged.
     /// Apart from that it does the same as `entry`, at the same cost. Rust lacks this call.
     ///
-    /// ```ignore
+    /// ```
+    /// # use slotmap_proved::{DefaultKey, Global, Key, NoEntry};
+    /// # use slotmap_proved::fallible::{SecondaryMap, SlotMap};
+    /// # fn main() -> Result<(), Box<dyn std::error::Error>> {
+    /// # let alloc = Global;
+    /// # let mut primary: SlotMap<DefaultKey, u64> = SlotMap::new(alloc)?;
+    /// # let a = primary.insert(10)?;
+    /// # let b = primary.insert(20)?;
+    /// # let mut map: SecondaryMap<DefaultKey, u64> = SecondaryMap::new(alloc)?;
+    /// # map.insert(a, 1)?;
     /// *map.try_entry(a)?.or_insert(0) = 5;
     /// assert_eq!(map.get(a).copied(), Some(5));
     /// assert!(matches!(map.try_entry(DefaultKey::null()), Err(NoEntry::Older)));
+    /// # Ok(())
+    /// # }
     /// ```
     ///
     /// # Proved
@@ -90,9 +114,11 @@ impl<K: Key, V: Sized> SecondaryMap<K, V> {
     /// ```text
     /// ensures which { IfOk result (λ e. IsEntryOf K.data_of self.old.pairs (K.data_of key) (Some e)) }
     /// ensures ok { IfOk result (Enters K.data_of self.entry key) }
+    ///
     /// ensures err { IfErr result (RefusesEntry self.old.pairs (K.data_of key)) }
     /// ensures* unchanged { sem 𝓛 (rests_if_err K.row V.row self.entry result) }
     /// ensures room { result ≡ Err no_entry.Memory → self.old.capacity < (K.data_of key).index }
+    ///
     /// ensures valid { IsSideContent self.old }
     /// ```
     #[inline]
@@ -114,9 +140,20 @@ impl<K: Key, V: Sized> SecondaryMap<K, V> {
 impl<'a, K: Key, V: Sized> Entry<'a, K, V> {
     /// Returns the key, in constant time.
     ///
-    /// ```ignore
+    /// ```
+    /// # use slotmap_proved::{DefaultKey, Global, Key};
+    /// # use slotmap_proved::fallible::{SecondaryMap, SlotMap};
+    /// # fn main() -> Result<(), Box<dyn std::error::Error>> {
+    /// # let alloc = Global;
+    /// # let mut primary: SlotMap<DefaultKey, u64> = SlotMap::new(alloc)?;
+    /// # let a = primary.insert(10)?;
+    /// # let b = primary.insert(20)?;
+    /// # let mut map: SecondaryMap<DefaultKey, u64> = SecondaryMap::new(alloc)?;
+    /// # map.insert(a, 1)?;
     /// let entry = map.try_entry(b)?;
     /// assert_eq!(entry.key(), b);
+    /// # Ok(())
+    /// # }
     /// ```
     ///
     /// # Proved
@@ -138,9 +175,20 @@ impl<'a, K: Key, V: Sized> Entry<'a, K, V> {
     /// If the key has no value, `f` isn't called. The caller has to prove that `f` may be called on
     /// the value that the key has, and on no other. Takes constant time beside `f`.
     ///
-    /// ```ignore
+    /// ```
+    /// # use slotmap_proved::{DefaultKey, Global, Key};
+    /// # use slotmap_proved::fallible::{SecondaryMap, SlotMap};
+    /// # fn main() -> Result<(), Box<dyn std::error::Error>> {
+    /// # let alloc = Global;
+    /// # let mut primary: SlotMap<DefaultKey, u64> = SlotMap::new(alloc)?;
+    /// # let a = primary.insert(10)?;
+    /// # let b = primary.insert(20)?;
+    /// # let mut map: SecondaryMap<DefaultKey, u64> = SecondaryMap::new(alloc)?;
+    /// # map.insert(a, 1)?;
     /// let changed = map.try_entry(a)?.and_modify(|value| *value = 5);
     /// assert_eq!(*changed.or_insert(0), 5);
+    /// # Ok(())
+    /// # }
     /// ```
     ///
     /// # Proved
@@ -176,10 +224,21 @@ impl<'a, K: Key, V: Sized> Entry<'a, K, V> {
     /// The reference is valid for as long as the map is borrowed. Takes constant time and allocates
     /// nothing.
     ///
-    /// ```ignore
+    /// ```
+    /// # use slotmap_proved::{DefaultKey, Global, Key};
+    /// # use slotmap_proved::fallible::{SecondaryMap, SlotMap};
+    /// # fn main() -> Result<(), Box<dyn std::error::Error>> {
+    /// # let alloc = Global;
+    /// # let mut primary: SlotMap<DefaultKey, u64> = SlotMap::new(alloc)?;
+    /// # let a = primary.insert(10)?;
+    /// # let b = primary.insert(20)?;
+    /// # let mut map: SecondaryMap<DefaultKey, u64> = SecondaryMap::new(alloc)?;
+    /// # map.insert(a, 1)?;
     /// *map.try_entry(a)?.or_insert(7) = 5;
     /// assert_eq!(*map.try_entry(a)?.or_insert(7), 5);
     /// assert_eq!(*map.try_entry(b)?.or_insert(7), 7);
+    /// # Ok(())
+    /// # }
     /// ```
     ///
     /// # Proved
@@ -203,9 +262,20 @@ impl<'a, K: Key, V: Sized> Entry<'a, K, V> {
     /// `f` is called if and only if the key has no value. Apart from that it does the same as
     /// `or_insert`, at the same cost.
     ///
-    /// ```ignore
+    /// ```
+    /// # use slotmap_proved::{DefaultKey, Global, Key};
+    /// # use slotmap_proved::fallible::{SecondaryMap, SlotMap};
+    /// # fn main() -> Result<(), Box<dyn std::error::Error>> {
+    /// # let alloc = Global;
+    /// # let mut primary: SlotMap<DefaultKey, u64> = SlotMap::new(alloc)?;
+    /// # let a = primary.insert(10)?;
+    /// # let b = primary.insert(20)?;
+    /// # let mut map: SecondaryMap<DefaultKey, u64> = SecondaryMap::new(alloc)?;
+    /// # map.insert(a, 1)?;
     /// assert_eq!(*map.try_entry(a)?.or_insert_with(|| 7), 1);
     /// assert_eq!(*map.try_entry(b)?.or_insert_with(|| 7), 7);
+    /// # Ok(())
+    /// # }
     /// ```
     ///
     /// # Proved
@@ -231,9 +301,20 @@ impl<'a, K: Key, V: Sized> Entry<'a, K, V> {
     ///
     /// Apart from that it does the same as `or_insert`, at the same cost.
     ///
-    /// ```ignore
+    /// ```
+    /// # use slotmap_proved::{DefaultKey, Global, Key};
+    /// # use slotmap_proved::fallible::{SecondaryMap, SlotMap};
+    /// # fn main() -> Result<(), Box<dyn std::error::Error>> {
+    /// # let alloc = Global;
+    /// # let mut primary: SlotMap<DefaultKey, u64> = SlotMap::new(alloc)?;
+    /// # let a = primary.insert(10)?;
+    /// # let b = primary.insert(20)?;
+    /// # let mut map: SecondaryMap<DefaultKey, u64> = SecondaryMap::new(alloc)?;
+    /// # map.insert(a, 1)?;
     /// assert_eq!(*map.try_entry(a)?.or_default(), 1);
     /// assert_eq!(*map.try_entry(b)?.or_default(), 0);
+    /// # Ok(())
+    /// # }
     /// ```
     ///
     /// # Proved
@@ -258,10 +339,21 @@ impl<'a, K: Key, V: Sized> Entry<'a, K, V> {
 impl<'a, K: Key, V: Sized> VacantEntry<'a, K, V> {
     /// Returns the key, in constant time.
     ///
-    /// ```ignore
+    /// ```
+    /// # use slotmap_proved::{DefaultKey, Global, Key};
+    /// # use slotmap_proved::fallible::{SecondaryMap, SlotMap};
+    /// # fn main() -> Result<(), Box<dyn std::error::Error>> {
+    /// # let alloc = Global;
+    /// # let mut primary: SlotMap<DefaultKey, u64> = SlotMap::new(alloc)?;
+    /// # let a = primary.insert(10)?;
+    /// # let b = primary.insert(20)?;
+    /// # let mut map: SecondaryMap<DefaultKey, u64> = SecondaryMap::new(alloc)?;
+    /// # map.insert(a, 1)?;
     /// if let secondary::Entry::Vacant(entry) = map.try_entry(b)? {
     ///     assert_eq!(entry.key(), b);
     /// }
+    /// # Ok(())
+    /// # }
     /// ```
     ///
     /// # Proved
@@ -279,11 +371,22 @@ impl<'a, K: Key, V: Sized> VacantEntry<'a, K, V> {
     ///
     /// An older key at the same index is removed. Takes constant time and allocates nothing.
     ///
-    /// ```ignore
+    /// ```
+    /// # use slotmap_proved::{DefaultKey, Global, Key};
+    /// # use slotmap_proved::fallible::{SecondaryMap, SlotMap};
+    /// # fn main() -> Result<(), Box<dyn std::error::Error>> {
+    /// # let alloc = Global;
+    /// # let mut primary: SlotMap<DefaultKey, u64> = SlotMap::new(alloc)?;
+    /// # let a = primary.insert(10)?;
+    /// # let b = primary.insert(20)?;
+    /// # let mut map: SecondaryMap<DefaultKey, u64> = SecondaryMap::new(alloc)?;
+    /// # map.insert(a, 1)?;
     /// if let secondary::Entry::Vacant(entry) = map.try_entry(b)? {
     ///     *entry.insert(5) = 6;
     /// }
     /// assert_eq!(map.get(b).copied(), Some(6));
+    /// # Ok(())
+    /// # }
     /// ```
     ///
     /// # Proved
@@ -305,10 +408,21 @@ impl<'a, K: Key, V: Sized> VacantEntry<'a, K, V> {
 impl<'a, K: Key, V: Sized> OccupiedEntry<'a, K, V> {
     /// Returns the key, in constant time.
     ///
-    /// ```ignore
+    /// ```
+    /// # use slotmap_proved::{DefaultKey, Global, Key};
+    /// # use slotmap_proved::fallible::{SecondaryMap, SlotMap};
+    /// # fn main() -> Result<(), Box<dyn std::error::Error>> {
+    /// # let alloc = Global;
+    /// # let mut primary: SlotMap<DefaultKey, u64> = SlotMap::new(alloc)?;
+    /// # let a = primary.insert(10)?;
+    /// # let b = primary.insert(20)?;
+    /// # let mut map: SecondaryMap<DefaultKey, u64> = SecondaryMap::new(alloc)?;
+    /// # map.insert(a, 1)?;
     /// if let secondary::Entry::Occupied(entry) = map.try_entry(a)? {
     ///     assert_eq!(entry.key(), a);
     /// }
+    /// # Ok(())
+    /// # }
     /// ```
     ///
     /// # Proved
@@ -324,10 +438,21 @@ impl<'a, K: Key, V: Sized> OccupiedEntry<'a, K, V> {
 
     /// Returns a reference to the value, in constant time.
     ///
-    /// ```ignore
+    /// ```
+    /// # use slotmap_proved::{DefaultKey, Global, Key};
+    /// # use slotmap_proved::fallible::{SecondaryMap, SlotMap};
+    /// # fn main() -> Result<(), Box<dyn std::error::Error>> {
+    /// # let alloc = Global;
+    /// # let mut primary: SlotMap<DefaultKey, u64> = SlotMap::new(alloc)?;
+    /// # let a = primary.insert(10)?;
+    /// # let b = primary.insert(20)?;
+    /// # let mut map: SecondaryMap<DefaultKey, u64> = SecondaryMap::new(alloc)?;
+    /// # map.insert(a, 1)?;
     /// if let secondary::Entry::Occupied(entry) = map.try_entry(a)? {
     ///     assert_eq!(*entry.get(), 1);
     /// }
+    /// # Ok(())
+    /// # }
     /// ```
     ///
     /// # Proved
@@ -344,11 +469,22 @@ impl<'a, K: Key, V: Sized> OccupiedEntry<'a, K, V> {
 
     /// Returns a mutable reference to the value, in constant time.
     ///
-    /// ```ignore
+    /// ```
+    /// # use slotmap_proved::{DefaultKey, Global, Key};
+    /// # use slotmap_proved::fallible::{SecondaryMap, SlotMap};
+    /// # fn main() -> Result<(), Box<dyn std::error::Error>> {
+    /// # let alloc = Global;
+    /// # let mut primary: SlotMap<DefaultKey, u64> = SlotMap::new(alloc)?;
+    /// # let a = primary.insert(10)?;
+    /// # let b = primary.insert(20)?;
+    /// # let mut map: SecondaryMap<DefaultKey, u64> = SecondaryMap::new(alloc)?;
+    /// # map.insert(a, 1)?;
     /// if let secondary::Entry::Occupied(mut entry) = map.try_entry(a)? {
     ///     *entry.get_mut() = 5;
     ///     assert_eq!(*entry.get(), 5);
     /// }
+    /// # Ok(())
+    /// # }
     /// ```
     ///
     /// # Proved
@@ -370,11 +506,22 @@ impl<'a, K: Key, V: Sized> OccupiedEntry<'a, K, V> {
     ///
     /// Takes constant time.
     ///
-    /// ```ignore
+    /// ```
+    /// # use slotmap_proved::{DefaultKey, Global, Key};
+    /// # use slotmap_proved::fallible::{SecondaryMap, SlotMap};
+    /// # fn main() -> Result<(), Box<dyn std::error::Error>> {
+    /// # let alloc = Global;
+    /// # let mut primary: SlotMap<DefaultKey, u64> = SlotMap::new(alloc)?;
+    /// # let a = primary.insert(10)?;
+    /// # let b = primary.insert(20)?;
+    /// # let mut map: SecondaryMap<DefaultKey, u64> = SecondaryMap::new(alloc)?;
+    /// # map.insert(a, 1)?;
     /// if let secondary::Entry::Occupied(entry) = map.try_entry(a)? {
     ///     *entry.into_mut() = 5;
     /// }
     /// assert_eq!(map.get(a).copied(), Some(5));
+    /// # Ok(())
+    /// # }
     /// ```
     ///
     /// # Proved
@@ -393,11 +540,22 @@ impl<'a, K: Key, V: Sized> OccupiedEntry<'a, K, V> {
 
     /// Sets the value and returns the one before, in constant time.
     ///
-    /// ```ignore
+    /// ```
+    /// # use slotmap_proved::{DefaultKey, Global, Key};
+    /// # use slotmap_proved::fallible::{SecondaryMap, SlotMap};
+    /// # fn main() -> Result<(), Box<dyn std::error::Error>> {
+    /// # let alloc = Global;
+    /// # let mut primary: SlotMap<DefaultKey, u64> = SlotMap::new(alloc)?;
+    /// # let a = primary.insert(10)?;
+    /// # let b = primary.insert(20)?;
+    /// # let mut map: SecondaryMap<DefaultKey, u64> = SecondaryMap::new(alloc)?;
+    /// # map.insert(a, 1)?;
     /// if let secondary::Entry::Occupied(mut entry) = map.try_entry(a)? {
     ///     assert_eq!(entry.insert(5), 1);
     /// }
     /// assert_eq!(map.get(a).copied(), Some(5));
+    /// # Ok(())
+    /// # }
     /// ```
     ///
     /// # Proved
@@ -415,11 +573,22 @@ impl<'a, K: Key, V: Sized> OccupiedEntry<'a, K, V> {
 
     /// Removes the key and returns it with its value, in constant time.
     ///
-    /// ```ignore
+    /// ```
+    /// # use slotmap_proved::{DefaultKey, Global, Key};
+    /// # use slotmap_proved::fallible::{SecondaryMap, SlotMap};
+    /// # fn main() -> Result<(), Box<dyn std::error::Error>> {
+    /// # let alloc = Global;
+    /// # let mut primary: SlotMap<DefaultKey, u64> = SlotMap::new(alloc)?;
+    /// # let a = primary.insert(10)?;
+    /// # let b = primary.insert(20)?;
+    /// # let mut map: SecondaryMap<DefaultKey, u64> = SecondaryMap::new(alloc)?;
+    /// # map.insert(a, 1)?;
     /// if let secondary::Entry::Occupied(entry) = map.try_entry(a)? {
     ///     assert_eq!(entry.remove_entry(), (a, 1));
     /// }
     /// assert!(!map.contains_key(a));
+    /// # Ok(())
+    /// # }
     /// ```
     ///
     /// # Proved
@@ -439,11 +608,22 @@ impl<'a, K: Key, V: Sized> OccupiedEntry<'a, K, V> {
 
     /// Removes the key and returns its value, in constant time.
     ///
-    /// ```ignore
+    /// ```
+    /// # use slotmap_proved::{DefaultKey, Global, Key};
+    /// # use slotmap_proved::fallible::{SecondaryMap, SlotMap};
+    /// # fn main() -> Result<(), Box<dyn std::error::Error>> {
+    /// # let alloc = Global;
+    /// # let mut primary: SlotMap<DefaultKey, u64> = SlotMap::new(alloc)?;
+    /// # let a = primary.insert(10)?;
+    /// # let b = primary.insert(20)?;
+    /// # let mut map: SecondaryMap<DefaultKey, u64> = SecondaryMap::new(alloc)?;
+    /// # map.insert(a, 1)?;
     /// if let secondary::Entry::Occupied(entry) = map.try_entry(a)? {
     ///     assert_eq!(entry.remove(), 1);
     /// }
     /// assert!(!map.contains_key(a));
+    /// # Ok(())
+    /// # }
     /// ```
     ///
     /// # Proved

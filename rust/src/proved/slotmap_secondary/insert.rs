@@ -109,13 +109,24 @@ impl<K: Key, V: Sized> SecondaryMap<K, V> {
     /// then is tested. Takes constant time if the slot exists. Else all slots up to it are made, and if
     /// the vector grows, all slots move.
     ///
-    /// ```ignore
+    /// ```
+    /// # use slotmap_proved::{DefaultKey, Global, Key};
+    /// # use slotmap_proved::fallible::{SecondaryMap, SlotMap};
+    /// # fn main() -> Result<(), Box<dyn std::error::Error>> {
+    /// # let alloc = Global;
+    /// # let mut primary: SlotMap<DefaultKey, u64> = SlotMap::new(alloc)?;
+    /// # let a = primary.insert(10)?;
+    /// # let b = primary.insert(20)?;
+    /// # let mut map: SecondaryMap<DefaultKey, u64> = SecondaryMap::new(alloc)?;
+    /// # map.insert(a, 1)?;
     /// assert_eq!(map.insert(a, 5)?, Some(1));
     /// primary.remove(a);
     /// let newer = primary.insert(30)?; // reuses the slot of a
     /// assert_eq!(map.insert(newer, 6)?, None);
     /// assert_eq!(map.insert(a, 7)?, None); // older: without effect
     /// assert_eq!(map[newer], 6);
+    /// # Ok(())
+    /// # }
     /// ```
     ///
     /// # Proved
@@ -124,10 +135,12 @@ impl<K: Key, V: Sized> SecondaryMap<K, V> {
     /// ensures value { IfOk result (λ before. before ≡ get self.old.pairs (K.data_of key)) }
     /// ensures ok { OnOk result (self.new.pairs ≡ put self.old.pairs (K.data_of key) value) }
     /// ensures places { OnOk result (Reaches self.old (K.data_of key) self.new) }
+    ///
     /// // Fails only if a slot has to be made; never at an index up to `capacity`.
     /// ensures err { IfErr result (λ error. RefusesPut self.old.pairs (K.data_of key) value error.0) }
     /// ensures unchanged { OnErr result (self.new ≡ self.old) }
     /// ensures room { (K.data_of key).index ≤ self.old.capacity → IsOk result }
+    ///
     /// ensures valid { IsSideContent self.new }
     /// ```
     #[inline(always)]
@@ -158,10 +171,21 @@ impl<K: Key, V: Sized> SecondaryMap<K, V> {
     ///
     /// Only `Placed` changes what the map holds. It costs what `insert` does. Rust lacks this call.
     ///
-    /// ```ignore
+    /// ```
+    /// # use slotmap_proved::{DefaultKey, Global, Key, NoEntry, OrPut};
+    /// # use slotmap_proved::fallible::{SecondaryMap, SlotMap};
+    /// # fn main() -> Result<(), Box<dyn std::error::Error>> {
+    /// # let alloc = Global;
+    /// # let mut primary: SlotMap<DefaultKey, u64> = SlotMap::new(alloc)?;
+    /// # let a = primary.insert(10)?;
+    /// # let b = primary.insert(20)?;
+    /// # let mut map: SecondaryMap<DefaultKey, u64> = SecondaryMap::new(alloc)?;
+    /// # map.insert(a, 1)?;
     /// assert!(matches!(map.or_put(b, 5), OrPut::Placed));
     /// assert!(matches!(map.or_put(b, 6), OrPut::Kept(6)));
     /// assert!(matches!(map.or_put(DefaultKey::null(), 7), OrPut::NoEntry(7)));
+    /// # Ok(())
+    /// # }
     /// ```
     ///
     /// # Proved

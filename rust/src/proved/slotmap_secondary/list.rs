@@ -25,10 +25,21 @@ impl<K: Key, V: Sized> SecondaryMap<K, V> {
     /// has 4294967294 slots or more, writes a list that `from_slots` rejects. In Rust `Serialize`
     /// writes the same records.
     ///
-    /// ```ignore
+    /// ```
+    /// # use slotmap_proved::{DefaultKey, Global, Key};
+    /// # use slotmap_proved::fallible::{SecondaryMap, SlotMap};
+    /// # fn main() -> Result<(), Box<dyn std::error::Error>> {
+    /// # let alloc = Global;
+    /// # let mut primary: SlotMap<DefaultKey, u64> = SlotMap::new(alloc)?;
+    /// # let a = primary.insert(10)?;
+    /// # let b = primary.insert(20)?;
+    /// # let mut map: SecondaryMap<DefaultKey, u64> = SecondaryMap::new(alloc)?;
+    /// # map.insert(a, 1)?;
     /// let list = map.to_slots()?;
     /// let again: SecondaryMap<DefaultKey, u64> = SecondaryMap::from_slots(alloc, list)?;
     /// assert!(again == map);
+    /// # Ok(())
+    /// # }
     /// ```
     ///
     /// # Proved
@@ -36,10 +47,14 @@ impl<K: Key, V: Sized> SecondaryMap<K, V> {
     /// ```text
     /// // The list is that of a copy, and has a clone under each key.
     /// ensures writes { IfOk result (λ slots. WritesSideClones V.is_clone self.now slots.items) }
-    /// ensures contents { IfOk result (λ slots. (k : Key) → IsCloneOf V.is_clone (get self.now.pairs k) (map.get (start_live slots.items) k)) }
+    /// ensures contents { IfOk result (λ slots.
+    ///     (k : Key) → IsCloneOf V.is_clone (get self.now.pairs k) (map.get (start_live slots.items) k)) }
+    ///
     /// // Where clones equal their values, it is the map's own list.
     /// ensures writes_if_clones_equal { IfOk result (λ slots. ClonesEqual V.is_clone → WritesSide self.now slots.items) }
-    /// ensures contents_if_clones_equal { IfOk result (λ slots. ClonesEqual V.is_clone → start_live slots.items ≡ keyed self.now.pairs) }
+    /// ensures contents_if_clones_equal { IfOk result (λ slots.
+    ///     ClonesEqual V.is_clone → start_live slots.items ≡ keyed self.now.pairs) }
+    ///
     /// ensures valid { IsSideContent self.now }
     /// ```
     #[inline]
@@ -71,11 +86,22 @@ impl<K: Key, V: Sized> SecondaryMap<K, V> {
     /// Takes time linear in the length of the list, in two passes. In Rust `Deserialize` reads such
     /// a list.
     ///
-    /// ```ignore
+    /// ```
+    /// # use slotmap_proved::{DefaultKey, Global, Key, SlotRecord};
+    /// # use slotmap_proved::fallible::{SecondaryMap, SlotMap};
+    /// # fn main() -> Result<(), Box<dyn std::error::Error>> {
+    /// # let alloc = Global;
+    /// # let mut primary: SlotMap<DefaultKey, u64> = SlotMap::new(alloc)?;
+    /// # let a = primary.insert(10)?;
+    /// # let b = primary.insert(20)?;
+    /// # let mut map: SecondaryMap<DefaultKey, u64> = SecondaryMap::new(alloc)?;
+    /// # map.insert(a, 1)?;
     /// let list = vec![SlotRecord { value: None, version: 0 },
-    ///     SlotRecord { value: Some(5), version: 1 }]?;
+    ///     SlotRecord { value: Some(5), version: 1 }].into();
     /// let read: SecondaryMap<DefaultKey, u64> = SecondaryMap::from_slots(alloc, list)?;
     /// assert_eq!(read.get(a).copied(), Some(5));
+    /// # Ok(())
+    /// # }
     /// ```
     ///
     /// # Proved
@@ -84,6 +110,7 @@ impl<K: Key, V: Sized> SecondaryMap<K, V> {
     /// ensures contents { IfOk result (λ made. keyed made.pairs ≡ start_live list.items) }
     /// ensures places { IfOk result (λ made. made.places ≡ length list.items) }
     /// ensures valid { IfOk result IsSideContent }
+    ///
     /// // When it fails: the first error that applies.
     /// ensures accepted { IsOk result → Accepts list.items side_list_limit }
     /// ensures err { IfErr result (RefusesStart list.items side_list_limit) }

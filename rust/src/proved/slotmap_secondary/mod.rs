@@ -11,7 +11,7 @@
 //! Each example comes after these lines:
 //!
 //! ```text
-//! let alloc = rt.alloc();
+//! let alloc = Global;
 //! let mut primary: SlotMap<DefaultKey, u64> = SlotMap::new(alloc)?;
 //! let a = primary.insert(10)?;
 //! let b = primary.insert(20)?;
@@ -64,13 +64,24 @@ use crate::rt::std::marker::PhantomData;
 /// It has a slot for each index from 0 to the largest one that a key was inserted at, or that had a
 /// vacant entry. For few keys of a large map, a sparse map needs less memory.
 ///
-/// ```ignore
+/// ```
+/// # use slotmap_proved::{DefaultKey, Global, Key};
+/// # use slotmap_proved::fallible::{SecondaryMap, SlotMap};
+/// # fn main() -> Result<(), Box<dyn std::error::Error>> {
+/// # let alloc = Global;
+/// # let mut primary: SlotMap<DefaultKey, u64> = SlotMap::new(alloc)?;
+/// # let a = primary.insert(10)?;
+/// # let b = primary.insert(20)?;
+/// # let mut map: SecondaryMap<DefaultKey, u64> = SecondaryMap::new(alloc)?;
+/// # map.insert(a, 1)?;
 /// map.insert(b, 2)?;
 /// assert_eq!(primary[a], 10);
 /// assert_eq!(map[a], 1);
 /// primary.remove(b);
 /// let next = primary.insert(30)?;
 /// assert!(map.get(next).is_none());
+/// # Ok(())
+/// # }
 /// ```
 pub struct SecondaryMap<K, V> {
     // The slot of index i is at position i. There is always one for index 0.
@@ -98,9 +109,20 @@ impl<K: Key, V: Sized> SecondaryMap<K, V> {
     /// Allocates the slot of index 0, and fails with `Memory` if the allocation fails. Rust's `new`
     /// aborts then. Takes constant time beside the allocation.
     ///
-    /// ```ignore
+    /// ```
+    /// # use slotmap_proved::{DefaultKey, Global, Key};
+    /// # use slotmap_proved::fallible::{SecondaryMap, SlotMap};
+    /// # fn main() -> Result<(), Box<dyn std::error::Error>> {
+    /// # let alloc = Global;
+    /// # let mut primary: SlotMap<DefaultKey, u64> = SlotMap::new(alloc)?;
+    /// # let a = primary.insert(10)?;
+    /// # let b = primary.insert(20)?;
+    /// # let mut map: SecondaryMap<DefaultKey, u64> = SecondaryMap::new(alloc)?;
+    /// # map.insert(a, 1)?;
     /// let empty: SecondaryMap<DefaultKey, u64> = SecondaryMap::new(alloc)?;
     /// assert!(empty.is_empty());
+    /// # Ok(())
+    /// # }
     /// ```
     ///
     /// # Proved
@@ -122,9 +144,20 @@ impl<K: Key, V: Sized> SecondaryMap<K, V> {
     /// Fails with `TooGreat` if and only if `capacity` exceeds 4294967294, else with `Memory` if
     /// the allocation fails. Takes constant time beside the allocation.
     ///
-    /// ```ignore
+    /// ```
+    /// # use slotmap_proved::{DefaultKey, Global, Key};
+    /// # use slotmap_proved::fallible::{SecondaryMap, SlotMap};
+    /// # fn main() -> Result<(), Box<dyn std::error::Error>> {
+    /// # let alloc = Global;
+    /// # let mut primary: SlotMap<DefaultKey, u64> = SlotMap::new(alloc)?;
+    /// # let a = primary.insert(10)?;
+    /// # let b = primary.insert(20)?;
+    /// # let mut map: SecondaryMap<DefaultKey, u64> = SecondaryMap::new(alloc)?;
+    /// # map.insert(a, 1)?;
     /// let empty: SecondaryMap<DefaultKey, u64> = SecondaryMap::with_capacity(alloc, 100)?;
     /// assert!(empty.capacity() >= 100);
+    /// # Ok(())
+    /// # }
     /// ```
     ///
     /// # Proved
@@ -161,10 +194,21 @@ impl<K: Key, V: Sized> SecondaryMap<K, V> {
 
     /// Returns the number of keys, in constant time.
     ///
-    /// ```ignore
+    /// ```
+    /// # use slotmap_proved::{DefaultKey, Global, Key};
+    /// # use slotmap_proved::fallible::{SecondaryMap, SlotMap};
+    /// # fn main() -> Result<(), Box<dyn std::error::Error>> {
+    /// # let alloc = Global;
+    /// # let mut primary: SlotMap<DefaultKey, u64> = SlotMap::new(alloc)?;
+    /// # let a = primary.insert(10)?;
+    /// # let b = primary.insert(20)?;
+    /// # let mut map: SecondaryMap<DefaultKey, u64> = SecondaryMap::new(alloc)?;
+    /// # map.insert(a, 1)?;
     /// assert_eq!(map.len(), 1);
     /// map.remove(a);
     /// assert_eq!(map.len(), 0);
+    /// # Ok(())
+    /// # }
     /// ```
     ///
     /// # Proved
@@ -181,10 +225,21 @@ impl<K: Key, V: Sized> SecondaryMap<K, V> {
 
     /// Returns whether the map has no key, in constant time.
     ///
-    /// ```ignore
+    /// ```
+    /// # use slotmap_proved::{DefaultKey, Global, Key};
+    /// # use slotmap_proved::fallible::{SecondaryMap, SlotMap};
+    /// # fn main() -> Result<(), Box<dyn std::error::Error>> {
+    /// # let alloc = Global;
+    /// # let mut primary: SlotMap<DefaultKey, u64> = SlotMap::new(alloc)?;
+    /// # let a = primary.insert(10)?;
+    /// # let b = primary.insert(20)?;
+    /// # let mut map: SecondaryMap<DefaultKey, u64> = SecondaryMap::new(alloc)?;
+    /// # map.insert(a, 1)?;
     /// assert!(!map.is_empty());
     /// map.remove(a);
     /// assert!(map.is_empty());
+    /// # Ok(())
+    /// # }
     /// ```
     ///
     /// # Proved
@@ -204,9 +259,20 @@ impl<K: Key, V: Sized> SecondaryMap<K, V> {
     /// An insert or an entry at an index up to this one never fails. Rust returns how many slots
     /// fit, without the one of index 0: the same number.
     ///
-    /// ```ignore
+    /// ```
+    /// # use slotmap_proved::{DefaultKey, Global, Key};
+    /// # use slotmap_proved::fallible::{SecondaryMap, SlotMap};
+    /// # fn main() -> Result<(), Box<dyn std::error::Error>> {
+    /// # let alloc = Global;
+    /// # let mut primary: SlotMap<DefaultKey, u64> = SlotMap::new(alloc)?;
+    /// # let a = primary.insert(10)?;
+    /// # let b = primary.insert(20)?;
+    /// # let mut map: SecondaryMap<DefaultKey, u64> = SecondaryMap::new(alloc)?;
+    /// # map.insert(a, 1)?;
     /// map.set_capacity(100)?;
     /// assert!(map.capacity() >= 100);
+    /// # Ok(())
+    /// # }
     /// ```
     ///
     /// # Proved
@@ -229,10 +295,22 @@ impl<K: Key, V: Sized> SecondaryMap<K, V> {
     /// nothing; it never frees any. Takes time linear in the number of slots if they move, else
     /// constant time.
     ///
-    /// ```ignore
+    /// ```
+    /// # use slotmap_proved::{DefaultKey, Global, Key, KeyData};
+    /// # use slotmap_proved::fallible::{SecondaryMap, SlotMap};
+    /// # use slotmap_proved::runs::run;
+    /// # fn main() -> Result<(), Box<dyn std::error::Error>> {
+    /// # let alloc = Global;
+    /// # let mut primary: SlotMap<DefaultKey, u64> = SlotMap::new(alloc)?;
+    /// # let a = primary.insert(10)?;
+    /// # let b = primary.insert(20)?;
+    /// # let mut map: SecondaryMap<DefaultKey, u64> = SecondaryMap::new(alloc)?;
+    /// # map.insert(a, 1)?;
     /// map.set_capacity(100)?;
     /// let far = DefaultKey::from(KeyData::new(100, 1));
     /// assert!(map.insert(far, 7).is_ok()); // can't run out of memory
+    /// # Ok(())
+    /// # }
     /// ```
     ///
     /// # Proved
@@ -255,10 +333,21 @@ impl<K: Key, V: Sized> SecondaryMap<K, V> {
     /// Does the same as [`SecondaryMap::set_capacity`], which returns a `Result` here too. It costs
     /// the same.
     ///
-    /// ```ignore
+    /// ```
+    /// # use slotmap_proved::{DefaultKey, Global, Key, ReserveError};
+    /// # use slotmap_proved::fallible::{SecondaryMap, SlotMap};
+    /// # fn main() -> Result<(), Box<dyn std::error::Error>> {
+    /// # let alloc = Global;
+    /// # let mut primary: SlotMap<DefaultKey, u64> = SlotMap::new(alloc)?;
+    /// # let a = primary.insert(10)?;
+    /// # let b = primary.insert(20)?;
+    /// # let mut map: SecondaryMap<DefaultKey, u64> = SecondaryMap::new(alloc)?;
+    /// # map.insert(a, 1)?;
     /// assert!(map.try_set_capacity(100).is_ok());
     /// let failed = map.try_set_capacity(4294967295);
     /// assert!(matches!(failed, Err(ReserveError::TooGreat)));
+    /// # Ok(())
+    /// # }
     /// ```
     ///
     /// # Proved

@@ -13,9 +13,20 @@ impl<K: Key, V: Sized> SecondaryMap<K, V> {
     ///
     /// If it isn't, nothing changes. Takes constant time and allocates nothing. It frees nothing.
     ///
-    /// ```ignore
+    /// ```
+    /// # use slotmap_proved::{DefaultKey, Global, Key};
+    /// # use slotmap_proved::fallible::{SecondaryMap, SlotMap};
+    /// # fn main() -> Result<(), Box<dyn std::error::Error>> {
+    /// # let alloc = Global;
+    /// # let mut primary: SlotMap<DefaultKey, u64> = SlotMap::new(alloc)?;
+    /// # let a = primary.insert(10)?;
+    /// # let b = primary.insert(20)?;
+    /// # let mut map: SecondaryMap<DefaultKey, u64> = SecondaryMap::new(alloc)?;
+    /// # map.insert(a, 1)?;
     /// assert_eq!(map.remove(a), Some(1));
     /// assert_eq!(map.remove(a), None);
+    /// # Ok(())
+    /// # }
     /// ```
     ///
     /// # Proved

@@ -47,12 +47,23 @@ impl<K: Key, V: Sized, S: BuildHasher> SparseSecondaryMap<K, V, S> {
     /// If there is no entry, the map is unchanged. This is only tested. If a proof needs it, call
     /// `try_entry`.
     ///
-    /// ```ignore
+    /// ```
+    /// # use slotmap_proved::{DefaultKey, Global, Key};
+    /// # use slotmap_proved::fallible::{SlotMap, SparseSecondaryMap};
+    /// # fn main() -> Result<(), Box<dyn std::error::Error>> {
+    /// # let alloc = Global;
+    /// # let mut primary: SlotMap<DefaultKey, u64> = SlotMap::new(alloc)?;
+    /// # let a = primary.insert(10)?;
+    /// # let b = primary.insert(20)?;
+    /// # let mut map: SparseSecondaryMap<DefaultKey, u64> = SparseSecondaryMap::new(alloc)?;
+    /// # map.insert(a, 1)?;
     /// if let Some(entry) = map.entry(b)? {
     ///     entry.or_insert(5)?;
     /// }
     /// assert_eq!(map.get(b).copied(), Some(5));
     /// assert!(map.entry(DefaultKey::null())?.is_none());
+    /// # Ok(())
+    /// # }
     /// ```
     ///
     /// # Proved
@@ -77,10 +88,21 @@ impl<K: Key, V: Sized, S: BuildHasher> SparseSecondaryMap<K, V, S> {
     /// Then the map is unchanged. It never fails with `Memory`. Apart from that it does the same as
     /// `entry`, at the same cost. Rust lacks this call.
     ///
-    /// ```ignore
+    /// ```
+    /// # use slotmap_proved::{DefaultKey, Global, Key, NoEntry};
+    /// # use slotmap_proved::fallible::{SlotMap, SparseSecondaryMap};
+    /// # fn main() -> Result<(), Box<dyn std::error::Error>> {
+    /// # let alloc = Global;
+    /// # let mut primary: SlotMap<DefaultKey, u64> = SlotMap::new(alloc)?;
+    /// # let a = primary.insert(10)?;
+    /// # let b = primary.insert(20)?;
+    /// # let mut map: SparseSecondaryMap<DefaultKey, u64> = SparseSecondaryMap::new(alloc)?;
+    /// # map.insert(a, 1)?;
     /// *map.try_entry(a)?.or_insert(0)? = 5;
     /// assert_eq!(map.get(a).copied(), Some(5));
     /// assert!(matches!(map.try_entry(DefaultKey::null()), Err(NoEntry::Older)));
+    /// # Ok(())
+    /// # }
     /// ```
     ///
     /// # Proved
@@ -88,6 +110,7 @@ impl<K: Key, V: Sized, S: BuildHasher> SparseSecondaryMap<K, V, S> {
     /// ```text
     /// ensures which { IfOk result (λ e. IsEntryOf K.data_of self.old.pairs (K.data_of key) (Some e)) }
     /// ensures ok { IfOk result (Enters K.data_of self.entry key) }
+    ///
     /// ensures err { IfErr result (λ error. (error ≡ no_entry.Older) × (entry self.old.pairs (K.data_of key) ≡ no_entry)) }
     /// ensures* unchanged { sem 𝓛 (rests_if_err K.row V.row S.row S.Hasher.row S.BuildHasher S.Hasher.Hasher self.entry result) }
     /// ensures valid { IsSparseContent self.old }
@@ -109,9 +132,20 @@ impl<K: Key, V: Sized, S: BuildHasher> SparseSecondaryMap<K, V, S> {
 impl<'a, K: Key, V: Sized, S: BuildHasher> Entry<'a, K, V, S> {
     /// Returns the key, in constant time.
     ///
-    /// ```ignore
+    /// ```
+    /// # use slotmap_proved::{DefaultKey, Global, Key};
+    /// # use slotmap_proved::fallible::{SlotMap, SparseSecondaryMap};
+    /// # fn main() -> Result<(), Box<dyn std::error::Error>> {
+    /// # let alloc = Global;
+    /// # let mut primary: SlotMap<DefaultKey, u64> = SlotMap::new(alloc)?;
+    /// # let a = primary.insert(10)?;
+    /// # let b = primary.insert(20)?;
+    /// # let mut map: SparseSecondaryMap<DefaultKey, u64> = SparseSecondaryMap::new(alloc)?;
+    /// # map.insert(a, 1)?;
     /// let entry = map.try_entry(b)?;
     /// assert_eq!(entry.key(), b);
+    /// # Ok(())
+    /// # }
     /// ```
     ///
     /// # Proved
@@ -133,9 +167,20 @@ impl<'a, K: Key, V: Sized, S: BuildHasher> Entry<'a, K, V, S> {
     /// If the key has no value, `f` isn't called. The caller has to prove that `f` may be called on
     /// the value that the key has, and on no other. Takes constant time beside `f`.
     ///
-    /// ```ignore
+    /// ```
+    /// # use slotmap_proved::{DefaultKey, Global, Key};
+    /// # use slotmap_proved::fallible::{SlotMap, SparseSecondaryMap};
+    /// # fn main() -> Result<(), Box<dyn std::error::Error>> {
+    /// # let alloc = Global;
+    /// # let mut primary: SlotMap<DefaultKey, u64> = SlotMap::new(alloc)?;
+    /// # let a = primary.insert(10)?;
+    /// # let b = primary.insert(20)?;
+    /// # let mut map: SparseSecondaryMap<DefaultKey, u64> = SparseSecondaryMap::new(alloc)?;
+    /// # map.insert(a, 1)?;
     /// let changed = map.try_entry(a)?.and_modify(|value| *value = 5);
     /// assert_eq!(*changed.or_insert(0)?, 5);
+    /// # Ok(())
+    /// # }
     /// ```
     ///
     /// # Proved
@@ -173,10 +218,21 @@ impl<'a, K: Key, V: Sized, S: BuildHasher> Entry<'a, K, V, S> {
     /// it. Takes constant time, except if the table grows or is built anew. In Rust it returns the
     /// reference, not a `Result`.
     ///
-    /// ```ignore
+    /// ```
+    /// # use slotmap_proved::{DefaultKey, Global, Key};
+    /// # use slotmap_proved::fallible::{SlotMap, SparseSecondaryMap};
+    /// # fn main() -> Result<(), Box<dyn std::error::Error>> {
+    /// # let alloc = Global;
+    /// # let mut primary: SlotMap<DefaultKey, u64> = SlotMap::new(alloc)?;
+    /// # let a = primary.insert(10)?;
+    /// # let b = primary.insert(20)?;
+    /// # let mut map: SparseSecondaryMap<DefaultKey, u64> = SparseSecondaryMap::new(alloc)?;
+    /// # map.insert(a, 1)?;
     /// *map.try_entry(a)?.or_insert(7)? = 5;
     /// assert_eq!(*map.try_entry(a)?.or_insert(7)?, 5);
     /// assert_eq!(*map.try_entry(b)?.or_insert(7)?, 7);
+    /// # Ok(())
+    /// # }
     /// ```
     ///
     /// # Proved
@@ -203,9 +259,20 @@ impl<'a, K: Key, V: Sized, S: BuildHasher> Entry<'a, K, V, S> {
     /// allocation fails, `f` isn't called; once `f` was called, the call succeeds. Apart from that
     /// it does the same as `or_insert`, at the same cost.
     ///
-    /// ```ignore
+    /// ```
+    /// # use slotmap_proved::{DefaultKey, Global, Key};
+    /// # use slotmap_proved::fallible::{SlotMap, SparseSecondaryMap};
+    /// # fn main() -> Result<(), Box<dyn std::error::Error>> {
+    /// # let alloc = Global;
+    /// # let mut primary: SlotMap<DefaultKey, u64> = SlotMap::new(alloc)?;
+    /// # let a = primary.insert(10)?;
+    /// # let b = primary.insert(20)?;
+    /// # let mut map: SparseSecondaryMap<DefaultKey, u64> = SparseSecondaryMap::new(alloc)?;
+    /// # map.insert(a, 1)?;
     /// assert_eq!(*map.try_entry(a)?.or_insert_with(|| 7)?, 1);
     /// assert_eq!(*map.try_entry(b)?.or_insert_with(|| 7)?, 7);
+    /// # Ok(())
+    /// # }
     /// ```
     ///
     /// # Proved
@@ -233,9 +300,20 @@ impl<'a, K: Key, V: Sized, S: BuildHasher> Entry<'a, K, V, S> {
     ///
     /// Apart from that it does the same as `or_insert`, at the same cost.
     ///
-    /// ```ignore
+    /// ```
+    /// # use slotmap_proved::{DefaultKey, Global, Key};
+    /// # use slotmap_proved::fallible::{SlotMap, SparseSecondaryMap};
+    /// # fn main() -> Result<(), Box<dyn std::error::Error>> {
+    /// # let alloc = Global;
+    /// # let mut primary: SlotMap<DefaultKey, u64> = SlotMap::new(alloc)?;
+    /// # let a = primary.insert(10)?;
+    /// # let b = primary.insert(20)?;
+    /// # let mut map: SparseSecondaryMap<DefaultKey, u64> = SparseSecondaryMap::new(alloc)?;
+    /// # map.insert(a, 1)?;
     /// assert_eq!(*map.try_entry(a)?.or_default()?, 1);
     /// assert_eq!(*map.try_entry(b)?.or_default()?, 0);
+    /// # Ok(())
+    /// # }
     /// ```
     ///
     /// # Proved
@@ -262,10 +340,21 @@ impl<'a, K: Key, V: Sized, S: BuildHasher> Entry<'a, K, V, S> {
 impl<'a, K: Key, V: Sized, S: BuildHasher> VacantEntry<'a, K, V, S> {
     /// Returns the key, in constant time.
     ///
-    /// ```ignore
+    /// ```
+    /// # use slotmap_proved::{DefaultKey, Global, Key};
+    /// # use slotmap_proved::fallible::{SlotMap, SparseSecondaryMap};
+    /// # fn main() -> Result<(), Box<dyn std::error::Error>> {
+    /// # let alloc = Global;
+    /// # let mut primary: SlotMap<DefaultKey, u64> = SlotMap::new(alloc)?;
+    /// # let a = primary.insert(10)?;
+    /// # let b = primary.insert(20)?;
+    /// # let mut map: SparseSecondaryMap<DefaultKey, u64> = SparseSecondaryMap::new(alloc)?;
+    /// # map.insert(a, 1)?;
     /// if let sparse_secondary::Entry::Vacant(entry) = map.try_entry(b)? {
     ///     assert_eq!(entry.key(), b);
     /// }
+    /// # Ok(())
+    /// # }
     /// ```
     ///
     /// # Proved
@@ -285,11 +374,22 @@ impl<'a, K: Key, V: Sized, S: BuildHasher> VacantEntry<'a, K, V, S> {
     /// Takes constant time, except if the table grows or is built anew. In Rust it returns the
     /// reference, not a `Result`.
     ///
-    /// ```ignore
+    /// ```
+    /// # use slotmap_proved::{DefaultKey, Global, Key};
+    /// # use slotmap_proved::fallible::{SlotMap, SparseSecondaryMap};
+    /// # fn main() -> Result<(), Box<dyn std::error::Error>> {
+    /// # let alloc = Global;
+    /// # let mut primary: SlotMap<DefaultKey, u64> = SlotMap::new(alloc)?;
+    /// # let a = primary.insert(10)?;
+    /// # let b = primary.insert(20)?;
+    /// # let mut map: SparseSecondaryMap<DefaultKey, u64> = SparseSecondaryMap::new(alloc)?;
+    /// # map.insert(a, 1)?;
     /// if let sparse_secondary::Entry::Vacant(entry) = map.try_entry(b)? {
     ///     *entry.insert(5)? = 6;
     /// }
     /// assert_eq!(map.get(b).copied(), Some(6));
+    /// # Ok(())
+    /// # }
     /// ```
     ///
     /// # Proved
@@ -327,10 +427,21 @@ impl<'a, K: Key, V: Sized, S: BuildHasher> VacantEntry<'a, K, V, S> {
 impl<'a, K: Key, V: Sized, S: BuildHasher> OccupiedEntry<'a, K, V, S> {
     /// Returns the key, in constant time.
     ///
-    /// ```ignore
+    /// ```
+    /// # use slotmap_proved::{DefaultKey, Global, Key};
+    /// # use slotmap_proved::fallible::{SlotMap, SparseSecondaryMap};
+    /// # fn main() -> Result<(), Box<dyn std::error::Error>> {
+    /// # let alloc = Global;
+    /// # let mut primary: SlotMap<DefaultKey, u64> = SlotMap::new(alloc)?;
+    /// # let a = primary.insert(10)?;
+    /// # let b = primary.insert(20)?;
+    /// # let mut map: SparseSecondaryMap<DefaultKey, u64> = SparseSecondaryMap::new(alloc)?;
+    /// # map.insert(a, 1)?;
     /// if let sparse_secondary::Entry::Occupied(entry) = map.try_entry(a)? {
     ///     assert_eq!(entry.key(), a);
     /// }
+    /// # Ok(())
+    /// # }
     /// ```
     ///
     /// # Proved
@@ -346,10 +457,21 @@ impl<'a, K: Key, V: Sized, S: BuildHasher> OccupiedEntry<'a, K, V, S> {
 
     /// Returns a reference to the value, in constant time.
     ///
-    /// ```ignore
+    /// ```
+    /// # use slotmap_proved::{DefaultKey, Global, Key};
+    /// # use slotmap_proved::fallible::{SlotMap, SparseSecondaryMap};
+    /// # fn main() -> Result<(), Box<dyn std::error::Error>> {
+    /// # let alloc = Global;
+    /// # let mut primary: SlotMap<DefaultKey, u64> = SlotMap::new(alloc)?;
+    /// # let a = primary.insert(10)?;
+    /// # let b = primary.insert(20)?;
+    /// # let mut map: SparseSecondaryMap<DefaultKey, u64> = SparseSecondaryMap::new(alloc)?;
+    /// # map.insert(a, 1)?;
     /// if let sparse_secondary::Entry::Occupied(entry) = map.try_entry(a)? {
     ///     assert_eq!(*entry.get(), 1);
     /// }
+    /// # Ok(())
+    /// # }
     /// ```
     ///
     /// # Proved
@@ -366,11 +488,22 @@ impl<'a, K: Key, V: Sized, S: BuildHasher> OccupiedEntry<'a, K, V, S> {
 
     /// Returns a mutable reference to the value, in constant time.
     ///
-    /// ```ignore
+    /// ```
+    /// # use slotmap_proved::{DefaultKey, Global, Key};
+    /// # use slotmap_proved::fallible::{SlotMap, SparseSecondaryMap};
+    /// # fn main() -> Result<(), Box<dyn std::error::Error>> {
+    /// # let alloc = Global;
+    /// # let mut primary: SlotMap<DefaultKey, u64> = SlotMap::new(alloc)?;
+    /// # let a = primary.insert(10)?;
+    /// # let b = primary.insert(20)?;
+    /// # let mut map: SparseSecondaryMap<DefaultKey, u64> = SparseSecondaryMap::new(alloc)?;
+    /// # map.insert(a, 1)?;
     /// if let sparse_secondary::Entry::Occupied(mut entry) = map.try_entry(a)? {
     ///     *entry.get_mut() = 5;
     ///     assert_eq!(*entry.get(), 5);
     /// }
+    /// # Ok(())
+    /// # }
     /// ```
     ///
     /// # Proved
@@ -392,11 +525,22 @@ impl<'a, K: Key, V: Sized, S: BuildHasher> OccupiedEntry<'a, K, V, S> {
     ///
     /// Takes constant time.
     ///
-    /// ```ignore
+    /// ```
+    /// # use slotmap_proved::{DefaultKey, Global, Key};
+    /// # use slotmap_proved::fallible::{SlotMap, SparseSecondaryMap};
+    /// # fn main() -> Result<(), Box<dyn std::error::Error>> {
+    /// # let alloc = Global;
+    /// # let mut primary: SlotMap<DefaultKey, u64> = SlotMap::new(alloc)?;
+    /// # let a = primary.insert(10)?;
+    /// # let b = primary.insert(20)?;
+    /// # let mut map: SparseSecondaryMap<DefaultKey, u64> = SparseSecondaryMap::new(alloc)?;
+    /// # map.insert(a, 1)?;
     /// if let sparse_secondary::Entry::Occupied(entry) = map.try_entry(a)? {
     ///     *entry.into_mut() = 5;
     /// }
     /// assert_eq!(map.get(a).copied(), Some(5));
+    /// # Ok(())
+    /// # }
     /// ```
     ///
     /// # Proved
@@ -415,11 +559,22 @@ impl<'a, K: Key, V: Sized, S: BuildHasher> OccupiedEntry<'a, K, V, S> {
 
     /// Sets the value and returns the one before, in constant time.
     ///
-    /// ```ignore
+    /// ```
+    /// # use slotmap_proved::{DefaultKey, Global, Key};
+    /// # use slotmap_proved::fallible::{SlotMap, SparseSecondaryMap};
+    /// # fn main() -> Result<(), Box<dyn std::error::Error>> {
+    /// # let alloc = Global;
+    /// # let mut primary: SlotMap<DefaultKey, u64> = SlotMap::new(alloc)?;
+    /// # let a = primary.insert(10)?;
+    /// # let b = primary.insert(20)?;
+    /// # let mut map: SparseSecondaryMap<DefaultKey, u64> = SparseSecondaryMap::new(alloc)?;
+    /// # map.insert(a, 1)?;
     /// if let sparse_secondary::Entry::Occupied(mut entry) = map.try_entry(a)? {
     ///     assert_eq!(entry.insert(5), 1);
     /// }
     /// assert_eq!(map.get(a).copied(), Some(5));
+    /// # Ok(())
+    /// # }
     /// ```
     ///
     /// # Proved
@@ -437,11 +592,22 @@ impl<'a, K: Key, V: Sized, S: BuildHasher> OccupiedEntry<'a, K, V, S> {
 
     /// Removes the key and returns it with its value, in constant time.
     ///
-    /// ```ignore
+    /// ```
+    /// # use slotmap_proved::{DefaultKey, Global, Key};
+    /// # use slotmap_proved::fallible::{SlotMap, SparseSecondaryMap};
+    /// # fn main() -> Result<(), Box<dyn std::error::Error>> {
+    /// # let alloc = Global;
+    /// # let mut primary: SlotMap<DefaultKey, u64> = SlotMap::new(alloc)?;
+    /// # let a = primary.insert(10)?;
+    /// # let b = primary.insert(20)?;
+    /// # let mut map: SparseSecondaryMap<DefaultKey, u64> = SparseSecondaryMap::new(alloc)?;
+    /// # map.insert(a, 1)?;
     /// if let sparse_secondary::Entry::Occupied(entry) = map.try_entry(a)? {
     ///     assert_eq!(entry.remove_entry(), (a, 1));
     /// }
     /// assert!(!map.contains_key(a));
+    /// # Ok(())
+    /// # }
     /// ```
     ///
     /// # Proved
@@ -462,11 +628,22 @@ impl<'a, K: Key, V: Sized, S: BuildHasher> OccupiedEntry<'a, K, V, S> {
 
     /// Removes the key and returns its value, in constant time.
     ///
-    /// ```ignore
+    /// ```
+    /// # use slotmap_proved::{DefaultKey, Global, Key};
+    /// # use slotmap_proved::fallible::{SlotMap, SparseSecondaryMap};
+    /// # fn main() -> Result<(), Box<dyn std::error::Error>> {
+    /// # let alloc = Global;
+    /// # let mut primary: SlotMap<DefaultKey, u64> = SlotMap::new(alloc)?;
+    /// # let a = primary.insert(10)?;
+    /// # let b = primary.insert(20)?;
+    /// # let mut map: SparseSecondaryMap<DefaultKey, u64> = SparseSecondaryMap::new(alloc)?;
+    /// # map.insert(a, 1)?;
     /// if let sparse_secondary::Entry::Occupied(entry) = map.try_entry(a)? {
     ///     assert_eq!(entry.remove(), 1);
     /// }
     /// assert!(!map.contains_key(a));
+    /// # Ok(())
+    /// # }
     /// ```
     ///
     /// # Proved

@@ -13,11 +13,22 @@ impl<K: Key, V: PartialEq, S: BuildHasher> PartialEq for SparseSecondaryMap<K, V
     /// The order of the keys and the capacities don't matter. Takes time linear in the number of
     /// keys, and stops at the first difference.
     ///
-    /// ```ignore
+    /// ```
+    /// # use slotmap_proved::{DefaultKey, Global, Key};
+    /// # use slotmap_proved::fallible::{SlotMap, SparseSecondaryMap};
+    /// # fn main() -> Result<(), Box<dyn std::error::Error>> {
+    /// # let alloc = Global;
+    /// # let mut primary: SlotMap<DefaultKey, u64> = SlotMap::new(alloc)?;
+    /// # let a = primary.insert(10)?;
+    /// # let b = primary.insert(20)?;
+    /// # let mut map: SparseSecondaryMap<DefaultKey, u64> = SparseSecondaryMap::new(alloc)?;
+    /// # map.insert(a, 1)?;
     /// let copy = map.clone()?;
     /// assert!(copy == map);
     /// map.remove(a);
     /// assert!(copy != map);
+    /// # Ok(())
+    /// # }
     /// ```
     ///
     /// # Proved

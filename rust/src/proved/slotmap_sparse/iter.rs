@@ -25,11 +25,22 @@ pub struct Iter<'a, K, V> {
 impl<'a, K, V> Iter<'a, K, V> {
     /// Returns how many pairs are left, in constant time.
     ///
-    /// ```ignore
+    /// ```
+    /// # use slotmap_proved::{DefaultKey, Global, Key};
+    /// # use slotmap_proved::fallible::{SlotMap, SparseSecondaryMap};
+    /// # fn main() -> Result<(), Box<dyn std::error::Error>> {
+    /// # let alloc = Global;
+    /// # let mut primary: SlotMap<DefaultKey, u64> = SlotMap::new(alloc)?;
+    /// # let a = primary.insert(10)?;
+    /// # let b = primary.insert(20)?;
+    /// # let mut map: SparseSecondaryMap<DefaultKey, u64> = SparseSecondaryMap::new(alloc)?;
+    /// # map.insert(a, 1)?;
     /// let mut pairs = map.iter();
     /// assert_eq!(pairs.len(), 1);
     /// assert_eq!(pairs.next(), Some((a, &1)));
     /// assert_eq!(pairs.len(), 0);
+    /// # Ok(())
+    /// # }
     /// ```
     ///
     /// # Proved
@@ -100,11 +111,22 @@ pub struct Keys<'a, K, V> {
 impl<'a, K, V> Keys<'a, K, V> {
     /// Returns how many keys are left, in constant time.
     ///
-    /// ```ignore
+    /// ```
+    /// # use slotmap_proved::{DefaultKey, Global, Key};
+    /// # use slotmap_proved::fallible::{SlotMap, SparseSecondaryMap};
+    /// # fn main() -> Result<(), Box<dyn std::error::Error>> {
+    /// # let alloc = Global;
+    /// # let mut primary: SlotMap<DefaultKey, u64> = SlotMap::new(alloc)?;
+    /// # let a = primary.insert(10)?;
+    /// # let b = primary.insert(20)?;
+    /// # let mut map: SparseSecondaryMap<DefaultKey, u64> = SparseSecondaryMap::new(alloc)?;
+    /// # map.insert(a, 1)?;
     /// let mut keys = map.keys();
     /// assert_eq!(keys.len(), 1);
     /// assert_eq!(keys.next(), Some(a));
     /// assert_eq!(keys.len(), 0);
+    /// # Ok(())
+    /// # }
     /// ```
     ///
     /// # Proved
@@ -174,11 +196,22 @@ pub struct Values<'a, K, V> {
 impl<'a, K, V> Values<'a, K, V> {
     /// Returns how many values are left, in constant time.
     ///
-    /// ```ignore
+    /// ```
+    /// # use slotmap_proved::{DefaultKey, Global, Key};
+    /// # use slotmap_proved::fallible::{SlotMap, SparseSecondaryMap};
+    /// # fn main() -> Result<(), Box<dyn std::error::Error>> {
+    /// # let alloc = Global;
+    /// # let mut primary: SlotMap<DefaultKey, u64> = SlotMap::new(alloc)?;
+    /// # let a = primary.insert(10)?;
+    /// # let b = primary.insert(20)?;
+    /// # let mut map: SparseSecondaryMap<DefaultKey, u64> = SparseSecondaryMap::new(alloc)?;
+    /// # map.insert(a, 1)?;
     /// let mut values = map.values();
     /// assert_eq!(values.len(), 1);
     /// assert_eq!(values.next().copied(), Some(1));
     /// assert_eq!(values.len(), 0);
+    /// # Ok(())
+    /// # }
     /// ```
     ///
     /// # Proved
@@ -243,11 +276,22 @@ impl<K: Key, V, S: BuildHasher> SparseSecondaryMap<K, V, S> {
     /// The call takes constant time, and so does each step. Neither allocates. To change values
     /// call `retain` with a closure that writes and returns true.
     ///
-    /// ```ignore
+    /// ```
+    /// # use slotmap_proved::{DefaultKey, Global, Key};
+    /// # use slotmap_proved::fallible::{SlotMap, SparseSecondaryMap};
+    /// # fn main() -> Result<(), Box<dyn std::error::Error>> {
+    /// # let alloc = Global;
+    /// # let mut primary: SlotMap<DefaultKey, u64> = SlotMap::new(alloc)?;
+    /// # let a = primary.insert(10)?;
+    /// # let b = primary.insert(20)?;
+    /// # let mut map: SparseSecondaryMap<DefaultKey, u64> = SparseSecondaryMap::new(alloc)?;
+    /// # map.insert(a, 1)?;
     /// map.insert(b, 2)?;
     /// for (key, value) in map.iter() {
     ///     assert_eq!(*value, map[key]);
     /// }
+    /// # Ok(())
+    /// # }
     /// ```
     ///
     /// # Proved
@@ -269,10 +313,21 @@ impl<K: Key, V, S: BuildHasher> SparseSecondaryMap<K, V, S> {
     ///
     /// It costs the same as [`SparseSecondaryMap::iter`].
     ///
-    /// ```ignore
+    /// ```
+    /// # use slotmap_proved::{DefaultKey, Global, Key};
+    /// # use slotmap_proved::fallible::{SlotMap, SparseSecondaryMap};
+    /// # fn main() -> Result<(), Box<dyn std::error::Error>> {
+    /// # let alloc = Global;
+    /// # let mut primary: SlotMap<DefaultKey, u64> = SlotMap::new(alloc)?;
+    /// # let a = primary.insert(10)?;
+    /// # let b = primary.insert(20)?;
+    /// # let mut map: SparseSecondaryMap<DefaultKey, u64> = SparseSecondaryMap::new(alloc)?;
+    /// # map.insert(a, 1)?;
     /// for key in map.keys() {
     ///     assert_eq!(key, a);
     /// }
+    /// # Ok(())
+    /// # }
     /// ```
     ///
     /// # Proved
@@ -291,10 +346,21 @@ impl<K: Key, V, S: BuildHasher> SparseSecondaryMap<K, V, S> {
     ///
     /// It costs the same as [`SparseSecondaryMap::iter`].
     ///
-    /// ```ignore
+    /// ```
+    /// # use slotmap_proved::{DefaultKey, Global, Key};
+    /// # use slotmap_proved::fallible::{SlotMap, SparseSecondaryMap};
+    /// # fn main() -> Result<(), Box<dyn std::error::Error>> {
+    /// # let alloc = Global;
+    /// # let mut primary: SlotMap<DefaultKey, u64> = SlotMap::new(alloc)?;
+    /// # let a = primary.insert(10)?;
+    /// # let b = primary.insert(20)?;
+    /// # let mut map: SparseSecondaryMap<DefaultKey, u64> = SparseSecondaryMap::new(alloc)?;
+    /// # map.insert(a, 1)?;
     /// for value in map.values() {
     ///     assert_eq!(*value, 1);
     /// }
+    /// # Ok(())
+    /// # }
     /// ```
     ///
     /// # Proved

@@ -10,7 +10,7 @@
 //! Each example comes after these lines:
 //!
 //! ```text
-//! let alloc = rt.alloc();
+//! let alloc = Global;
 //! let mut primary: SlotMap<DefaultKey, u64> = SlotMap::new(alloc)?;
 //! let a = primary.insert(10)?;
 //! let b = primary.insert(20)?;
@@ -77,13 +77,24 @@ pub type DefaultHasher = BuildHasherDefault<FoldHasher>;
 ///
 /// The hash map below holds 2415919104 keys at most. Beyond that, calls fail as if memory ran out.
 ///
-/// ```ignore
+/// ```
+/// # use slotmap_proved::{DefaultKey, Global, Key};
+/// # use slotmap_proved::fallible::{SlotMap, SparseSecondaryMap};
+/// # fn main() -> Result<(), Box<dyn std::error::Error>> {
+/// # let alloc = Global;
+/// # let mut primary: SlotMap<DefaultKey, u64> = SlotMap::new(alloc)?;
+/// # let a = primary.insert(10)?;
+/// # let b = primary.insert(20)?;
+/// # let mut map: SparseSecondaryMap<DefaultKey, u64> = SparseSecondaryMap::new(alloc)?;
+/// # map.insert(a, 1)?;
 /// map.insert(b, 2)?;
 /// assert_eq!(primary[a], 10);
 /// assert_eq!(map[a], 1);
 /// primary.remove(b);
 /// let next = primary.insert(30)?;
 /// assert!(map.get(next).is_none());
+/// # Ok(())
+/// # }
 /// ```
 pub struct SparseSecondaryMap<K, V, S: BuildHasher = DefaultHasher> {
     // For each index the version of its key, and the value.
@@ -110,9 +121,20 @@ impl<K: Key, V: Sized> SparseSecondaryMap<K, V> {
     ///
     /// Allocates nothing and never fails. Takes constant time.
     ///
-    /// ```ignore
+    /// ```
+    /// # use slotmap_proved::{DefaultKey, Global, Key};
+    /// # use slotmap_proved::fallible::{SlotMap, SparseSecondaryMap};
+    /// # fn main() -> Result<(), Box<dyn std::error::Error>> {
+    /// # let alloc = Global;
+    /// # let mut primary: SlotMap<DefaultKey, u64> = SlotMap::new(alloc)?;
+    /// # let a = primary.insert(10)?;
+    /// # let b = primary.insert(20)?;
+    /// # let mut map: SparseSecondaryMap<DefaultKey, u64> = SparseSecondaryMap::new(alloc)?;
+    /// # map.insert(a, 1)?;
     /// let empty: SparseSecondaryMap<DefaultKey, u64> = SparseSecondaryMap::new(alloc)?;
     /// assert!(empty.is_empty());
+    /// # Ok(())
+    /// # }
     /// ```
     ///
     /// # Proved
@@ -133,10 +155,21 @@ impl<K: Key, V: Sized> SparseSecondaryMap<K, V> {
     /// Fails with `TooGreat` if and only if `capacity` exceeds 4294967295, else with `Memory` if
     /// the allocation fails. Takes time linear in `capacity`.
     ///
-    /// ```ignore
+    /// ```
+    /// # use slotmap_proved::{DefaultKey, Global, Key};
+    /// # use slotmap_proved::fallible::{SlotMap, SparseSecondaryMap};
+    /// # fn main() -> Result<(), Box<dyn std::error::Error>> {
+    /// # let alloc = Global;
+    /// # let mut primary: SlotMap<DefaultKey, u64> = SlotMap::new(alloc)?;
+    /// # let a = primary.insert(10)?;
+    /// # let b = primary.insert(20)?;
+    /// # let mut map: SparseSecondaryMap<DefaultKey, u64> = SparseSecondaryMap::new(alloc)?;
+    /// # map.insert(a, 1)?;
     /// let empty: SparseSecondaryMap<DefaultKey, u64> =
     ///     SparseSecondaryMap::with_capacity(alloc, 100)?;
     /// assert!(empty.capacity() >= 100);
+    /// # Ok(())
+    /// # }
     /// ```
     ///
     /// # Proved
@@ -160,11 +193,22 @@ impl<K: Key, V: Sized, S: BuildHasher> SparseSecondaryMap<K, V, S> {
     ///
     /// Allocates nothing and never fails. Takes constant time.
     ///
-    /// ```ignore
-    /// let hasher = std::hash::RandomState::new(&rt)?;
+    /// ```
+    /// # use slotmap_proved::{DefaultKey, Global, Key};
+    /// # use slotmap_proved::fallible::{SlotMap, SparseSecondaryMap};
+    /// # fn main() -> Result<(), Box<dyn std::error::Error>> {
+    /// # let alloc = Global;
+    /// # let mut primary: SlotMap<DefaultKey, u64> = SlotMap::new(alloc)?;
+    /// # let a = primary.insert(10)?;
+    /// # let b = primary.insert(20)?;
+    /// # let mut map: SparseSecondaryMap<DefaultKey, u64> = SparseSecondaryMap::new(alloc)?;
+    /// # map.insert(a, 1)?;
+    /// let hasher = std::collections::hash_map::RandomState::new();
     /// let mut safe = SparseSecondaryMap::with_hasher(alloc, hasher)?;
     /// safe.insert(a, 5)?;
     /// assert_eq!(safe[a], 5);
+    /// # Ok(())
+    /// # }
     /// ```
     ///
     /// # Proved
@@ -196,11 +240,22 @@ impl<K: Key, V: Sized, S: BuildHasher> SparseSecondaryMap<K, V, S> {
     /// Fails with `TooGreat` if and only if `capacity` exceeds 4294967295, else with `Memory` if
     /// the allocation fails. Takes time linear in `capacity`.
     ///
-    /// ```ignore
-    /// let hasher = std::hash::RandomState::new(&rt)?;
+    /// ```
+    /// # use slotmap_proved::{DefaultKey, Global, Key};
+    /// # use slotmap_proved::fallible::{SlotMap, SparseSecondaryMap};
+    /// # fn main() -> Result<(), Box<dyn std::error::Error>> {
+    /// # let alloc = Global;
+    /// # let mut primary: SlotMap<DefaultKey, u64> = SlotMap::new(alloc)?;
+    /// # let a = primary.insert(10)?;
+    /// # let b = primary.insert(20)?;
+    /// # let mut map: SparseSecondaryMap<DefaultKey, u64> = SparseSecondaryMap::new(alloc)?;
+    /// # map.insert(a, 1)?;
+    /// let hasher = std::collections::hash_map::RandomState::new();
     /// let mut safe = SparseSecondaryMap::with_capacity_and_hasher(alloc, 100, hasher)?;
     /// assert!(safe.capacity() >= 100);
     /// safe.insert(a, 5)?;
+    /// # Ok(())
+    /// # }
     /// ```
     ///
     /// # Proved
@@ -238,10 +293,21 @@ impl<K: Key, V: Sized, S: BuildHasher> SparseSecondaryMap<K, V, S> {
 
     /// Returns the number of keys, in constant time.
     ///
-    /// ```ignore
+    /// ```
+    /// # use slotmap_proved::{DefaultKey, Global, Key};
+    /// # use slotmap_proved::fallible::{SlotMap, SparseSecondaryMap};
+    /// # fn main() -> Result<(), Box<dyn std::error::Error>> {
+    /// # let alloc = Global;
+    /// # let mut primary: SlotMap<DefaultKey, u64> = SlotMap::new(alloc)?;
+    /// # let a = primary.insert(10)?;
+    /// # let b = primary.insert(20)?;
+    /// # let mut map: SparseSecondaryMap<DefaultKey, u64> = SparseSecondaryMap::new(alloc)?;
+    /// # map.insert(a, 1)?;
     /// assert_eq!(map.len(), 1);
     /// map.remove(a);
     /// assert_eq!(map.len(), 0);
+    /// # Ok(())
+    /// # }
     /// ```
     ///
     /// # Proved
@@ -258,10 +324,21 @@ impl<K: Key, V: Sized, S: BuildHasher> SparseSecondaryMap<K, V, S> {
 
     /// Returns whether the map has no key, in constant time.
     ///
-    /// ```ignore
+    /// ```
+    /// # use slotmap_proved::{DefaultKey, Global, Key};
+    /// # use slotmap_proved::fallible::{SlotMap, SparseSecondaryMap};
+    /// # fn main() -> Result<(), Box<dyn std::error::Error>> {
+    /// # let alloc = Global;
+    /// # let mut primary: SlotMap<DefaultKey, u64> = SlotMap::new(alloc)?;
+    /// # let a = primary.insert(10)?;
+    /// # let b = primary.insert(20)?;
+    /// # let mut map: SparseSecondaryMap<DefaultKey, u64> = SparseSecondaryMap::new(alloc)?;
+    /// # map.insert(a, 1)?;
     /// assert!(!map.is_empty());
     /// map.remove(a);
     /// assert!(map.is_empty());
+    /// # Ok(())
+    /// # }
     /// ```
     ///
     /// # Proved
@@ -280,9 +357,20 @@ impl<K: Key, V: Sized, S: BuildHasher> SparseSecondaryMap<K, V, S> {
     ///
     /// An insert never fails while the map holds fewer keys.
     ///
-    /// ```ignore
+    /// ```
+    /// # use slotmap_proved::{DefaultKey, Global, Key};
+    /// # use slotmap_proved::fallible::{SlotMap, SparseSecondaryMap};
+    /// # fn main() -> Result<(), Box<dyn std::error::Error>> {
+    /// # let alloc = Global;
+    /// # let mut primary: SlotMap<DefaultKey, u64> = SlotMap::new(alloc)?;
+    /// # let a = primary.insert(10)?;
+    /// # let b = primary.insert(20)?;
+    /// # let mut map: SparseSecondaryMap<DefaultKey, u64> = SparseSecondaryMap::new(alloc)?;
+    /// # map.insert(a, 1)?;
     /// map.reserve(100)?;
     /// assert!(map.capacity() >= 101);
+    /// # Ok(())
+    /// # }
     /// ```
     ///
     /// # Proved
@@ -305,10 +393,22 @@ impl<K: Key, V: Sized, S: BuildHasher> SparseSecondaryMap<K, V, S> {
     /// memory already, it never fails, and nothing changes. Takes constant time if there is memory
     /// already, else time linear in the new capacity.
     ///
-    /// ```ignore
+    /// ```
+    /// # use slotmap_proved::{DefaultKey, Global, Key};
+    /// # use slotmap_proved::fallible::{SlotMap, SparseSecondaryMap};
+    /// # use slotmap_proved::runs::run;
+    /// # fn main() -> Result<(), Box<dyn std::error::Error>> {
+    /// # let alloc = Global;
+    /// # let mut primary: SlotMap<DefaultKey, u64> = SlotMap::new(alloc)?;
+    /// # let a = primary.insert(10)?;
+    /// # let b = primary.insert(20)?;
+    /// # let mut map: SparseSecondaryMap<DefaultKey, u64> = SparseSecondaryMap::new(alloc)?;
+    /// # map.insert(a, 1)?;
     /// map.reserve(100)?;
     /// assert!(map.capacity() >= map.len() + 100);
     /// assert!(map.insert(b, 2).is_ok()); // can't run out of memory
+    /// # Ok(())
+    /// # }
     /// ```
     ///
     /// # Proved
@@ -333,10 +433,21 @@ impl<K: Key, V: Sized, S: BuildHasher> SparseSecondaryMap<K, V, S> {
     /// Does the same as [`SparseSecondaryMap::reserve`], which returns a `Result` here too. It
     /// costs the same.
     ///
-    /// ```ignore
+    /// ```
+    /// # use slotmap_proved::{DefaultKey, Global, Key, ReserveError};
+    /// # use slotmap_proved::fallible::{SlotMap, SparseSecondaryMap};
+    /// # fn main() -> Result<(), Box<dyn std::error::Error>> {
+    /// # let alloc = Global;
+    /// # let mut primary: SlotMap<DefaultKey, u64> = SlotMap::new(alloc)?;
+    /// # let a = primary.insert(10)?;
+    /// # let b = primary.insert(20)?;
+    /// # let mut map: SparseSecondaryMap<DefaultKey, u64> = SparseSecondaryMap::new(alloc)?;
+    /// # map.insert(a, 1)?;
     /// assert!(map.try_reserve(100).is_ok());
     /// let failed = map.try_reserve(4294967295);
     /// assert!(matches!(failed, Err(ReserveError::TooGreat)));
+    /// # Ok(())
+    /// # }
     /// ```
     ///
     /// # Proved

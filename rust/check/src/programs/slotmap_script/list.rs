@@ -85,7 +85,8 @@ pub enum LoadError {
 /// # Proved
 ///
 /// ```text
-/// ensures { OnOk result ((text : List ℕ) × PrintsSlots M.lists map.now text × Appends (W.contents output.old) (W.contents output.new) text) }
+/// ensures { OnOk result ((text : List ℕ) × PrintsSlots M.lists map.now text
+///     × Appends (W.contents output.old) (W.contents output.new) text) }
 /// ```
 pub fn write_slots<M: Listed, W: Write>(map: &M, output: &mut W) -> io::Result<()>
 {
@@ -124,7 +125,8 @@ fn write_slot<W: Write>(output: &mut W, slot: &SlotRecord<i32>) -> io::Result<()
 /// # Proved
 ///
 /// ```text
-/// ensures { OnOk result ((text : List ℕ) × Loads M.lists map.old text map.new × Appends (W.contents output.old) (W.contents output.new) text) }
+/// ensures { OnOk result ((text : List ℕ) × Loads M.lists map.old text map.new
+///     × Appends (W.contents output.old) (W.contents output.new) text) }
 /// ```
 pub fn load<M: Listed, W: Write>(
     alloc: Global,

@@ -38,7 +38,8 @@ enum Line<'a, C> {
 /// # Proved
 ///
 /// ```text
-/// ensures ok { IfOk result (λ stretches. (said : List (Said C)) × SaidBy C.command_of (lines_of script.now) said × (map stretch_of stretches.items ≡ stretches_from [] said)) }
+/// ensures ok { IfOk result (λ stretches. (said : List (Said C)) × SaidBy C.command_of (lines_of script.now) said
+///     × (map stretch_of stretches.items ≡ stretches_from [] said)) }
 /// ensures err { IfErr result (StopsParse C.command_of (lines_of script.now)) }
 /// ```
 pub fn parse<'a, M, C: Commands<M>>(
