@@ -27,9 +27,9 @@ def parts_of(item):
     return item.lines, []
 
 
-def bare(lines):
-    """Text without white space: by this the clauses of an erased function are found in the source."""
-    return re.sub(r"\s", "", "".join(lines))
+def bare(text):
+    """Clauses without comments and white space: by these the clauses of an erased function are found in the source."""
+    return re.sub(r"\s", "", re.sub(r"(?m)^\s*//.*", "", text))
 
 
 def text_of(lines):
@@ -52,7 +52,7 @@ def functions_of(crate, path):
     for item in waiting:
         waiting += item.members
         if item.kind == "fn" and parts_of(item)[1]:
-            found[item.name, bare(parts_of(item)[1])] = item
+            found[item.name, bare("\n".join(parts_of(item)[1]))] = item
     return found
 
 
@@ -65,7 +65,7 @@ def section(path, code, said=""):
 
 def section_of(crate, path, name, clauses):
     """The section of an erased function, from its source."""
-    item = functions_of(crate, path).get((name, bare(clauses)))
+    item = functions_of(crate, path).get((name, bare("\n".join(clauses))))
     return section(item.path, parts_of(item)[1]) if item else None
 
 

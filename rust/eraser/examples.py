@@ -45,19 +45,28 @@ def in_rust(code):
     code = re.sub(r"\b(assert\w*|println)!\(rt; ", r"\1!(", code)
     code = allocating(code)
     code = code.replace("value.to_string(alloc)?", "value.to_string()")
-    code = re.sub(r"let (\w+) = Value::from_str\(alloc, ", r"let \1: Value = serde_json::from_str(", code)
+    code = re.sub(r'Value::from_str\(alloc, "((?:\\.|[^"\\])*)"\)\?', lambda it: "serde_json::json!(" + it[1].replace('\\"', '"') + ")", code)
     return code.replace("std::hash::RandomState::new(&rt)?", "std::collections::hash_map::RandomState::new()")
+
+
+def unwrapped(code):
+    """Calls of the side maps whose error is what they hand back, which is no error of Rust's."""
+    at = 0
+    while found := re.compile(r"[.:](replace_disjoint|extend|extend_refs|from_iter|from_iter_with_hasher)(?=\()").search(code, at):
+        at = closing(code, found.end()) + 1
+        if code[at:at + 1] == "?": code = f"{code[:at]}.unwrap(){code[at + 1:]}"
+    return code
 
 
 def imports(crate, code):
     """The lines that import what an example names, by the paths that the crate exports. A trait's calls need it in scope."""
-    words = set(re.findall(r"\w+", code)) | {"Key"} | (traits_of(crate) if crate in MODULES else set())
+    words = set(re.findall(r"(?<![\w:])\w+", code)) | {"Key"} | (traits_of(crate) if crate in MODULES else set())
     paths = {}
     for name in sorted(words & set(exported()), key=str.lower):
         if re.search(rf"\btype {name}\b", code): continue
         choices = exported()[name]
         module = MODULES.get(crate, "")
-        path = module if module in choices else "fallible" if "fallible" in choices else choices[0]
+        path = module if module in choices else min(choices, key=len)
         paths.setdefault(path, []).append(name)
     lines = [f"use slotmap_proved{'::' if path else ''}{path}::{names[0] if len(names) == 1 else '{' + ', '.join(names) + '}'};" for path, names in sorted(paths.items())]
     return lines + (["use serde_json::Value;"] if "Value" in words else [])
@@ -68,6 +77,7 @@ def wrapped(crate, lines):
     code = in_rust("\n".join(lines))
     head = "let alloc = Global;"
     if crate in MAPS:
+        code = unwrapped(code) if "econdary" in MAPS[crate] else code
         head += "\n" + (SIDE if "econdary" in MAPS[crate] else PRIMARY).replace("MAP", MAPS[crate])
     before = imports(crate, head + "\n" + code) + ["fn main() -> Result<(), Box<dyn std::error::Error>> {"] + head.split("\n")
     hide = lambda them: [f"# {it}" for it in them]

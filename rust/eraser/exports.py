@@ -10,7 +10,7 @@ sys.path.insert(0, os.path.join(TOP, "tests"))
 from doc_examples import names_in  # tests/doc_examples.py
 from sources import items_of
 
-USE = re.compile(r"(?m)^pub mod (\w+) \{|^\}|^ *pub use (?:crate::)?(?:proved|rt)::([\w:]+?)(?:::(\{[^}]*\}|\*))?(?: as (\w+))?;")
+USE = re.compile(r"(?m)^pub mod (\w+) \{|^\}|^ *pub use (?:(?:crate::)?(?:proved|rt)::([\w:]+?)(?:::(\{[^}]*\}|\*))?(?: as (\w+))?|\w+::(\w+));")
 
 
 def source_of(path):
@@ -32,11 +32,15 @@ def exported():
         text = re.sub(r"//.*", "", file.read())
     found, module = {}, ""
     for part in USE.finditer(text):
-        opened, path, names, other = part.groups()
-        if opened or not path:
+        opened, path, names, other, again = part.groups()
+        if again:
+            if module: found.setdefault(again, []).append(module)
+        elif opened or not path:
             module = opened or ""
         elif names == "*" or source_of(path):
-            place = module if names else "::".join(filter(None, [module, other or path.split("::")[-1]]))
+            alias = other or path.split("::")[-1]
+            place = module if names else "::".join(filter(None, [module, alias]))
+            if not names: found.setdefault(alias, []).append(module)
             for name in names_below(path) if names in ("*", None) else re.findall(r"\w+", names):
                 *inner, last = name.split("::")
                 found.setdefault(last, []).append("::".join(filter(None, [place, *inner])))

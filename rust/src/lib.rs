@@ -39,13 +39,23 @@ pub use rt::std::alloc::Global;
 ///
 /// The structures use these: the tables of an entity store, the costs of a search.
 pub mod fallible {
-    pub use crate::proved::slotmap_basic::SlotMap;
-    pub use crate::proved::slotmap_dense::DenseSlotMap;
-    pub use crate::proved::slotmap_hop::HopSlotMap;
-    pub use crate::proved::slotmap_secondary::SecondaryMap;
-    pub use crate::proved::slotmap_sparse::SparseSecondaryMap;
+    pub use crate::proved::slotmap_basic as basic;
+    pub use crate::proved::slotmap_dense as dense;
+    pub use crate::proved::slotmap_hop as hop;
+    pub use crate::proved::slotmap_secondary as secondary;
+    pub use crate::proved::slotmap_sparse as sparse_secondary;
     pub use crate::rt::std::alloc::{AllocError, AllocFailed, Global};
     pub use crate::rt::vec::Vec;
+    #[doc(no_inline)]
+    pub use basic::SlotMap;
+    #[doc(no_inline)]
+    pub use dense::DenseSlotMap;
+    #[doc(no_inline)]
+    pub use hop::HopSlotMap;
+    #[doc(no_inline)]
+    pub use secondary::SecondaryMap;
+    #[doc(no_inline)]
+    pub use sparse_secondary::SparseSecondaryMap;
 }
 
 #[cfg(feature = "structures")]

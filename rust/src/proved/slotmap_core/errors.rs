@@ -166,10 +166,9 @@ pub enum SlotsError {
 /// ```
 /// # use slotmap_proved::{DefaultKey, Global, JsonError, Key};
 /// # use slotmap_proved::json::key_from_value;
-/// # use serde_json::Value;
 /// # fn main() -> Result<(), Box<dyn std::error::Error>> {
 /// # let alloc = Global;
-/// let value: Value = serde_json::from_str("[1, 2]")?;
+/// let value = serde_json::json!([1, 2]);
 /// let key: Result<DefaultKey, JsonError> = key_from_value(&value);
 /// assert!(matches!(key, Err(JsonError::Shape)));
 /// # Ok(())

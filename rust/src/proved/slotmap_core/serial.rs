@@ -23,7 +23,7 @@ use crate::proved::slotmap_core::errors::SlotsError;
 /// In the list of a secondary map, a slot that holds nothing has no value and version 0.
 ///
 /// ```
-/// # use slotmap_proved::{DefaultKey, Global, Key};
+/// # use slotmap_proved::{DefaultKey, Global, Key, list};
 /// # use slotmap_proved::fallible::SlotMap;
 /// # fn main() -> Result<(), Box<dyn std::error::Error>> {
 /// # let alloc = Global;
@@ -64,7 +64,7 @@ impl<V> SlotRecord<V> {
 /// It never fails with `Memory`. At most one pass over the list. Rust lacks this call.
 ///
 /// ```
-/// # use slotmap_proved::{check_slots, Global, Key, SlotRecord, SlotsError};
+/// # use slotmap_proved::{check_slots, Global, Key, list, SlotRecord, SlotsError};
 /// # fn main() -> Result<(), Box<dyn std::error::Error>> {
 /// # let alloc = Global;
 /// let list = [

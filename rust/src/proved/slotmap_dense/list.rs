@@ -38,7 +38,7 @@ impl<K: Key, V: Sized> DenseSlotMap<K, V> {
     /// `Serialize` writes the same records.
     ///
     /// ```
-    /// # use slotmap_proved::{DefaultKey, Global, Key};
+    /// # use slotmap_proved::{DefaultKey, Global, Key, list};
     /// # use slotmap_proved::fallible::DenseSlotMap;
     /// # fn main() -> Result<(), Box<dyn std::error::Error>> {
     /// # let alloc = Global;
@@ -105,7 +105,7 @@ impl<K: Key, V: Sized> DenseSlotMap<K, V> {
     /// slot wrap around.
     ///
     /// ```
-    /// # use slotmap_proved::{DefaultKey, Global, Key, KeyData, SlotRecord};
+    /// # use slotmap_proved::{DefaultKey, Global, Key, KeyData, list, SlotRecord};
     /// # use slotmap_proved::fallible::{DenseSlotMap, Vec};
     /// # fn main() -> Result<(), Box<dyn std::error::Error>> {
     /// # let alloc = Global;

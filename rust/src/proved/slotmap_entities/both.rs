@@ -24,9 +24,9 @@ impl<K: Key, E: Sized, T: Tables<K>> World<K, E, T> {
     /// exist. It takes constant time.
     ///
     /// ```
-    /// # use slotmap_proved::{DefaultKey, Key};
+    /// # use slotmap_proved::{DefaultKey, Global, Key};
     /// # use slotmap_proved::entities::{Apart, CloneKind, CloneTable, CloneTables, First, Kind, Second, Table, Tables, World};
-    /// # use slotmap_proved::fallible::{Global, SecondaryMap};
+    /// # use slotmap_proved::fallible::SecondaryMap;
     /// # fn main() -> Result<(), Box<dyn std::error::Error>> {
     /// # let alloc = Global;
     /// let mut world: World<DefaultKey, u8, (SecondaryMap<DefaultKey, u32>, (SecondaryMap<DefaultKey, bool>, ()))> =
@@ -67,9 +67,9 @@ impl<K: Key, E: Sized, T: Tables<K>> World<K, E, T> {
     /// kind twice the call doesn't compile (see [`Apart`]).
     ///
     /// ```
-    /// # use slotmap_proved::{DefaultKey, Key};
+    /// # use slotmap_proved::{DefaultKey, Global, Key};
     /// # use slotmap_proved::entities::{Apart, CloneKind, CloneTable, CloneTables, First, Kind, Second, Table, Tables, World};
-    /// # use slotmap_proved::fallible::{Global, SecondaryMap};
+    /// # use slotmap_proved::fallible::SecondaryMap;
     /// # fn main() -> Result<(), Box<dyn std::error::Error>> {
     /// # let alloc = Global;
     /// let mut world: World<DefaultKey, u8, (SecondaryMap<DefaultKey, u32>, (SecondaryMap<DefaultKey, bool>, ()))> =

@@ -15,9 +15,9 @@ pub trait CloneTable<K: Key>: Table<K> {
     /// if memory runs out, or if the clone of a component fails.
     ///
     /// ```
-    /// # use slotmap_proved::{DefaultKey, Key, KeyData};
+    /// # use slotmap_proved::{DefaultKey, Global, Key, KeyData};
     /// # use slotmap_proved::entities::{Apart, CloneKind, CloneTable, CloneTables, Kind, Table, Tables};
-    /// # use slotmap_proved::fallible::{Global, SparseSecondaryMap};
+    /// # use slotmap_proved::fallible::SparseSecondaryMap;
     /// # fn main() -> Result<(), Box<dyn std::error::Error>> {
     /// # let alloc = Global;
     /// let hero = DefaultKey::from(KeyData::new(1, 1));
@@ -59,9 +59,9 @@ pub trait CloneTables<K: Key>: Tables<K> {
     /// runs out, or if the clone of a component fails.
     ///
     /// ```
-    /// # use slotmap_proved::{DefaultKey, Key, KeyData};
+    /// # use slotmap_proved::{DefaultKey, Global, Key, KeyData};
     /// # use slotmap_proved::entities::{Apart, CloneKind, CloneTable, CloneTables, Kind, Table, Tables};
-    /// # use slotmap_proved::fallible::{Global, SecondaryMap};
+    /// # use slotmap_proved::fallible::SecondaryMap;
     /// # fn main() -> Result<(), Box<dyn std::error::Error>> {
     /// # let alloc = Global;
     /// let hero = DefaultKey::from(KeyData::new(1, 1));
@@ -101,9 +101,9 @@ impl<K: Key, A: CloneTable<K>, B: CloneTables<K>> CloneTables<K> for (A, B) {
 /// A kind of components that can be cloned: what a copy of the tables has of it.
 ///
 /// ```
-/// # use slotmap_proved::{DefaultKey, Key};
+/// # use slotmap_proved::{DefaultKey, Global, Key};
 /// # use slotmap_proved::entities::{Apart, CloneKind, CloneTable, CloneTables, First, Kind, Table, World};
-/// # use slotmap_proved::fallible::{Global, SecondaryMap};
+/// # use slotmap_proved::fallible::SecondaryMap;
 /// # fn main() -> Result<(), Box<dyn std::error::Error>> {
 /// # let alloc = Global;
 /// type Tables = (SecondaryMap<DefaultKey, u32>, ());
@@ -139,9 +139,9 @@ impl<K: Key, E: Clone, T: CloneTables<K>> World<K, E, T> {
     /// takes time linear in the number of slots and in the size of the tables.
     ///
     /// ```
-    /// # use slotmap_proved::{DefaultKey, Key};
+    /// # use slotmap_proved::{DefaultKey, Global, Key};
     /// # use slotmap_proved::entities::{Apart, CloneKind, CloneTable, CloneTables, First, Kind, Table, Tables, World};
-    /// # use slotmap_proved::fallible::{Global, SecondaryMap};
+    /// # use slotmap_proved::fallible::SecondaryMap;
     /// # fn main() -> Result<(), Box<dyn std::error::Error>> {
     /// # let alloc = Global;
     /// let mut world: World<DefaultKey, u8, (SecondaryMap<DefaultKey, u32>, ())> = World::new(alloc)?;

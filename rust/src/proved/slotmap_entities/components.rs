@@ -44,9 +44,9 @@ impl<K: Key, E: Sized, T: Tables<K>> World<K, E, T> {
     /// or replaces a component takes up no room. Constant time, unless the table grows or is built anew.
     ///
     /// ```
-    /// # use slotmap_proved::{DefaultKey, Key};
+    /// # use slotmap_proved::{DefaultKey, Global, Key};
     /// # use slotmap_proved::entities::{Apart, CloneKind, CloneTable, CloneTables, First, Kind, Table, Tables, World};
-    /// # use slotmap_proved::fallible::{Global, SecondaryMap};
+    /// # use slotmap_proved::fallible::SecondaryMap;
     /// # fn main() -> Result<(), Box<dyn std::error::Error>> {
     /// # let alloc = Global;
     /// let mut world: World<DefaultKey, u8, (SecondaryMap<DefaultKey, u32>, ())> = World::new(alloc)?;
@@ -103,9 +103,9 @@ impl<K: Key, E: Sized, T: Tables<K>> World<K, E, T> {
     /// is too great is refused. Where there isn't, it takes time linear in the size of the table.
     ///
     /// ```
-    /// # use slotmap_proved::{DefaultKey, Key};
+    /// # use slotmap_proved::{DefaultKey, Global, Key};
     /// # use slotmap_proved::entities::{Apart, CloneKind, CloneTable, CloneTables, First, Kind, Table, Tables, World};
-    /// # use slotmap_proved::fallible::{Global, SecondaryMap};
+    /// # use slotmap_proved::fallible::SecondaryMap;
     /// # fn main() -> Result<(), Box<dyn std::error::Error>> {
     /// # let alloc = Global;
     /// let mut world: World<DefaultKey, u8, (SecondaryMap<DefaultKey, u32>, ())> = World::new(alloc)?;
@@ -144,9 +144,9 @@ impl<K: Key, E: Sized, T: Tables<K>> World<K, E, T> {
     /// exist. No room is lost, and the capacity of a `SecondaryMap` stays.
     ///
     /// ```
-    /// # use slotmap_proved::{DefaultKey, Key};
+    /// # use slotmap_proved::{DefaultKey, Global, Key};
     /// # use slotmap_proved::entities::{Apart, CloneKind, CloneTable, CloneTables, First, Kind, Table, Tables, World};
-    /// # use slotmap_proved::fallible::{Global, SecondaryMap};
+    /// # use slotmap_proved::fallible::SecondaryMap;
     /// # fn main() -> Result<(), Box<dyn std::error::Error>> {
     /// # let alloc = Global;
     /// let mut world: World<DefaultKey, u8, (SecondaryMap<DefaultKey, u32>, ())> = World::new(alloc)?;
@@ -177,9 +177,9 @@ impl<K: Key, E: Sized, T: Tables<K>> World<K, E, T> {
     /// Returns whether an entity has a component of this kind. One that doesn't exist has none.
     ///
     /// ```
-    /// # use slotmap_proved::{DefaultKey, Key};
+    /// # use slotmap_proved::{DefaultKey, Global, Key};
     /// # use slotmap_proved::entities::{Apart, CloneKind, CloneTable, CloneTables, First, Kind, Table, Tables, World};
-    /// # use slotmap_proved::fallible::{Global, SecondaryMap};
+    /// # use slotmap_proved::fallible::SecondaryMap;
     /// # fn main() -> Result<(), Box<dyn std::error::Error>> {
     /// # let alloc = Global;
     /// let mut world: World<DefaultKey, u8, (SecondaryMap<DefaultKey, u32>, ())> = World::new(alloc)?;
@@ -203,9 +203,9 @@ impl<K: Key, E: Sized, T: Tables<K>> World<K, E, T> {
     /// Returns the component of this kind of an entity, or `None` if it has none or doesn't exist.
     ///
     /// ```
-    /// # use slotmap_proved::{DefaultKey, Key};
+    /// # use slotmap_proved::{DefaultKey, Global, Key};
     /// # use slotmap_proved::entities::{Apart, CloneKind, CloneTable, CloneTables, First, Kind, Table, Tables, World};
-    /// # use slotmap_proved::fallible::{Global, SecondaryMap};
+    /// # use slotmap_proved::fallible::SecondaryMap;
     /// # fn main() -> Result<(), Box<dyn std::error::Error>> {
     /// # let alloc = Global;
     /// let mut world: World<DefaultKey, u8, (SecondaryMap<DefaultKey, u32>, ())> = World::new(alloc)?;
@@ -236,9 +236,9 @@ impl<K: Key, E: Sized, T: Tables<K>> World<K, E, T> {
     /// before.
     ///
     /// ```
-    /// # use slotmap_proved::{DefaultKey, Key};
+    /// # use slotmap_proved::{DefaultKey, Global, Key};
     /// # use slotmap_proved::entities::{Apart, CloneKind, CloneTable, CloneTables, First, Kind, Table, Tables, World};
-    /// # use slotmap_proved::fallible::{Global, SecondaryMap};
+    /// # use slotmap_proved::fallible::SecondaryMap;
     /// # fn main() -> Result<(), Box<dyn std::error::Error>> {
     /// # let alloc = Global;
     /// let mut world: World<DefaultKey, u8, (SecondaryMap<DefaultKey, u32>, ())> = World::new(alloc)?;
@@ -281,9 +281,9 @@ impl<K: Key, E: Sized, T: Tables<K>> World<K, E, T> {
     /// time linear in the size of the table.
     ///
     /// ```
-    /// # use slotmap_proved::{DefaultKey, Key};
+    /// # use slotmap_proved::{DefaultKey, Global, Key};
     /// # use slotmap_proved::entities::{Apart, CloneKind, CloneTable, CloneTables, First, Kind, Table, Tables, World};
-    /// # use slotmap_proved::fallible::{Global, SecondaryMap};
+    /// # use slotmap_proved::fallible::SecondaryMap;
     /// # fn main() -> Result<(), Box<dyn std::error::Error>> {
     /// # let alloc = Global;
     /// let mut world: World<DefaultKey, u8, (SecondaryMap<DefaultKey, u32>, ())> = World::new(alloc)?;

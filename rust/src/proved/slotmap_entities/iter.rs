@@ -11,9 +11,8 @@ impl<K: Key, E: Sized, T: Tables<K>> World<K, E, T> {
     /// Returns an iterator over the entities with their values, in packed order.
     ///
     /// ```
-    /// # use slotmap_proved::{DefaultKey, Key};
+    /// # use slotmap_proved::{DefaultKey, entities, Global, Key};
     /// # use slotmap_proved::entities::{Apart, CloneKind, CloneTable, CloneTables, Kind, Table, Tables, World};
-    /// # use slotmap_proved::fallible::Global;
     /// # fn main() -> Result<(), Box<dyn std::error::Error>> {
     /// # let alloc = Global;
     /// let mut world: World<DefaultKey, u8, ()> = World::new(alloc)?;
@@ -43,9 +42,9 @@ impl<K: Key, E: Sized, T: Tables<K>> World<K, E, T> {
     /// as [`World::keys`] or a join, borrows the world as long as it is used.
     ///
     /// ```
-    /// # use slotmap_proved::{DefaultKey, Key};
+    /// # use slotmap_proved::{DefaultKey, Global, Key};
     /// # use slotmap_proved::entities::{Apart, CloneKind, CloneTable, CloneTables, First, Kind, Table, Tables, World};
-    /// # use slotmap_proved::fallible::{Global, SecondaryMap};
+    /// # use slotmap_proved::fallible::SecondaryMap;
     /// # fn main() -> Result<(), Box<dyn std::error::Error>> {
     /// # let alloc = Global;
     /// let mut world: World<DefaultKey, u8, (SecondaryMap<DefaultKey, u32>, ())> = World::new(alloc)?;
@@ -77,9 +76,8 @@ impl<K: Key, E: Sized, T: Tables<K>> World<K, E, T> {
     /// Returns an iterator over the keys of the entities, in packed order.
     ///
     /// ```
-    /// # use slotmap_proved::{DefaultKey, Key};
+    /// # use slotmap_proved::{DefaultKey, Global, Key};
     /// # use slotmap_proved::entities::{Apart, CloneKind, CloneTable, CloneTables, Kind, Table, Tables, World};
-    /// # use slotmap_proved::fallible::Global;
     /// # fn main() -> Result<(), Box<dyn std::error::Error>> {
     /// # let alloc = Global;
     /// let mut world: World<DefaultKey, u8, ()> = World::new(alloc)?;
@@ -104,9 +102,8 @@ impl<K: Key, E: Sized, T: Tables<K>> World<K, E, T> {
     /// Returns an iterator over the values of the entities, in packed order.
     ///
     /// ```
-    /// # use slotmap_proved::{DefaultKey, Key};
+    /// # use slotmap_proved::{DefaultKey, Global, Key};
     /// # use slotmap_proved::entities::{Apart, CloneKind, CloneTable, CloneTables, Kind, Table, Tables, World};
-    /// # use slotmap_proved::fallible::Global;
     /// # fn main() -> Result<(), Box<dyn std::error::Error>> {
     /// # let alloc = Global;
     /// let mut world: World<DefaultKey, u8, ()> = World::new(alloc)?;

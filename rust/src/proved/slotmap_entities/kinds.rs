@@ -18,9 +18,9 @@ pub trait Kind<K: Key, T: Tables<K>> {
     /// Returns its table.
     ///
     /// ```
-    /// # use slotmap_proved::{DefaultKey, Key, KeyData};
+    /// # use slotmap_proved::{DefaultKey, Global, Key, KeyData};
     /// # use slotmap_proved::entities::{Apart, CloneKind, CloneTable, CloneTables, First, Kind, Table, Tables};
-    /// # use slotmap_proved::fallible::{Global, SecondaryMap};
+    /// # use slotmap_proved::fallible::SecondaryMap;
     /// # fn main() -> Result<(), Box<dyn std::error::Error>> {
     /// # let alloc = Global;
     /// let hero = DefaultKey::from(KeyData::new(1, 1));
@@ -41,9 +41,9 @@ pub trait Kind<K: Key, T: Tables<K>> {
     /// Returns a mutable reference to its table.
     ///
     /// ```
-    /// # use slotmap_proved::{DefaultKey, Key, KeyData};
+    /// # use slotmap_proved::{DefaultKey, Global, Key, KeyData};
     /// # use slotmap_proved::entities::{Apart, CloneKind, CloneTable, CloneTables, First, Kind, Table, Tables};
-    /// # use slotmap_proved::fallible::{Global, SecondaryMap};
+    /// # use slotmap_proved::fallible::SecondaryMap;
     /// # fn main() -> Result<(), Box<dyn std::error::Error>> {
     /// # let alloc = Global;
     /// let hero = DefaultKey::from(KeyData::new(1, 1));
@@ -83,9 +83,9 @@ pub trait Kind<K: Key, T: Tables<K>> {
 /// in either order of the kinds.
 ///
 /// ```
-/// # use slotmap_proved::{DefaultKey, Key};
+/// # use slotmap_proved::{DefaultKey, Global, Key};
 /// # use slotmap_proved::entities::{Apart, CloneKind, CloneTable, CloneTables, First, Kind, Second, Table, World};
-/// # use slotmap_proved::fallible::{Global, SecondaryMap, SparseSecondaryMap};
+/// # use slotmap_proved::fallible::{SecondaryMap, SparseSecondaryMap};
 /// # fn main() -> Result<(), Box<dyn std::error::Error>> {
 /// # let alloc = Global;
 /// type Tables = (

@@ -23,9 +23,9 @@
 //! the size of one table.
 //!
 //! ```
-//! # use slotmap_proved::{DefaultKey, Key};
+//! # use slotmap_proved::{DefaultKey, Global, Key};
 //! # use slotmap_proved::entities::{Apart, CloneKind, CloneTable, CloneTables, First, Kind, Second, Table, World};
-//! # use slotmap_proved::fallible::{Global, SecondaryMap, SparseSecondaryMap};
+//! # use slotmap_proved::fallible::{SecondaryMap, SparseSecondaryMap};
 //! # fn main() -> Result<(), Box<dyn std::error::Error>> {
 //! # let alloc = Global;
 //! type Position = First;
@@ -94,9 +94,8 @@ impl<E: Sized, T: Tables<DefaultKey>> World<DefaultKey, E, T> {
     /// It fails only if memory runs out.
     ///
     /// ```
-    /// # use slotmap_proved::{DefaultKey, Key};
+    /// # use slotmap_proved::{DefaultKey, Global, Key};
     /// # use slotmap_proved::entities::{Apart, CloneKind, CloneTable, CloneTables, Kind, Table, Tables, World};
-    /// # use slotmap_proved::fallible::Global;
     /// # fn main() -> Result<(), Box<dyn std::error::Error>> {
     /// # let alloc = Global;
     /// let world: World<DefaultKey, u8, ()> = World::new(alloc)?;
@@ -124,9 +123,8 @@ impl<E: Sized, T: Tables<DefaultKey>> World<DefaultKey, E, T> {
     /// out.
     ///
     /// ```
-    /// # use slotmap_proved::{DefaultKey, Key};
+    /// # use slotmap_proved::{DefaultKey, Global, Key};
     /// # use slotmap_proved::entities::{Apart, CloneKind, CloneTable, CloneTables, Kind, Table, Tables, World};
-    /// # use slotmap_proved::fallible::Global;
     /// # fn main() -> Result<(), Box<dyn std::error::Error>> {
     /// # let alloc = Global;
     /// let mut world: World<DefaultKey, u8, ()> = World::with_capacity(alloc, 2)?;
@@ -156,9 +154,8 @@ impl<K: Key, E: Sized, T: Tables<K>> World<K, E, T> {
     /// It fails only if memory runs out.
     ///
     /// ```
-    /// # use slotmap_proved::{Key, NodeKey};
+    /// # use slotmap_proved::{Global, Key, NodeKey};
     /// # use slotmap_proved::entities::{Apart, CloneKind, CloneTable, CloneTables, Kind, Table, Tables, World};
-    /// # use slotmap_proved::fallible::Global;
     /// # fn main() -> Result<(), Box<dyn std::error::Error>> {
     /// # let alloc = Global;
     /// let world: World<NodeKey, u8, ()> = World::with_key(alloc)?;
@@ -185,9 +182,8 @@ impl<K: Key, E: Sized, T: Tables<K>> World<K, E, T> {
     /// out.
     ///
     /// ```
-    /// # use slotmap_proved::{Key, NodeKey};
+    /// # use slotmap_proved::{Global, Key, NodeKey};
     /// # use slotmap_proved::entities::{Apart, CloneKind, CloneTable, CloneTables, Kind, Table, Tables, World};
-    /// # use slotmap_proved::fallible::Global;
     /// # fn main() -> Result<(), Box<dyn std::error::Error>> {
     /// # let alloc = Global;
     /// let world: World<NodeKey, u8, ()> = World::with_capacity_and_key(alloc, 2)?;
@@ -219,9 +215,8 @@ impl<K: Key, E: Sized, T: Tables<K>> World<K, E, T> {
     /// slots are retired, and with `Memory` if memory runs out. The world has the same entities then.
     ///
     /// ```
-    /// # use slotmap_proved::{DefaultKey, Key};
+    /// # use slotmap_proved::{DefaultKey, Global, Key};
     /// # use slotmap_proved::entities::{Apart, CloneKind, CloneTable, CloneTables, Kind, Table, Tables, World};
-    /// # use slotmap_proved::fallible::Global;
     /// # fn main() -> Result<(), Box<dyn std::error::Error>> {
     /// # let alloc = Global;
     /// let mut world: World<DefaultKey, u8, ()> = World::new(alloc)?;
@@ -246,9 +241,8 @@ impl<K: Key, E: Sized, T: Tables<K>> World<K, E, T> {
     /// Returns for how many entities there is memory, in constant time.
     ///
     /// ```
-    /// # use slotmap_proved::{DefaultKey, Key};
+    /// # use slotmap_proved::{DefaultKey, Global, Key};
     /// # use slotmap_proved::entities::{Apart, CloneKind, CloneTable, CloneTables, Kind, Table, Tables, World};
-    /// # use slotmap_proved::fallible::Global;
     /// # fn main() -> Result<(), Box<dyn std::error::Error>> {
     /// # let alloc = Global;
     /// let mut world: World<DefaultKey, u8, ()> = World::with_capacity_and_key(alloc, 2)?;
@@ -273,9 +267,8 @@ impl<K: Key, E: Sized, T: Tables<K>> World<K, E, T> {
     /// Returns how many entities there are, in constant time.
     ///
     /// ```
-    /// # use slotmap_proved::{DefaultKey, Key};
+    /// # use slotmap_proved::{DefaultKey, Global, Key};
     /// # use slotmap_proved::entities::{Apart, CloneKind, CloneTable, CloneTables, Kind, Table, Tables, World};
-    /// # use slotmap_proved::fallible::Global;
     /// # fn main() -> Result<(), Box<dyn std::error::Error>> {
     /// # let alloc = Global;
     /// let mut world: World<DefaultKey, u8, ()> = World::new(alloc)?;
@@ -301,9 +294,8 @@ impl<K: Key, E: Sized, T: Tables<K>> World<K, E, T> {
     /// Returns whether there is no entity, in constant time.
     ///
     /// ```
-    /// # use slotmap_proved::{DefaultKey, Key};
+    /// # use slotmap_proved::{DefaultKey, Global, Key};
     /// # use slotmap_proved::entities::{Apart, CloneKind, CloneTable, CloneTables, Kind, Table, Tables, World};
-    /// # use slotmap_proved::fallible::Global;
     /// # fn main() -> Result<(), Box<dyn std::error::Error>> {
     /// # let alloc = Global;
     /// let mut world: World<DefaultKey, u8, ()> = World::new(alloc)?;
@@ -327,9 +319,8 @@ impl<K: Key, E: Sized, T: Tables<K>> World<K, E, T> {
     /// Returns whether an entity exists, in constant time.
     ///
     /// ```
-    /// # use slotmap_proved::{DefaultKey, Key};
+    /// # use slotmap_proved::{DefaultKey, Global, Key};
     /// # use slotmap_proved::entities::{Apart, CloneKind, CloneTable, CloneTables, Kind, Table, Tables, World};
-    /// # use slotmap_proved::fallible::Global;
     /// # fn main() -> Result<(), Box<dyn std::error::Error>> {
     /// # let alloc = Global;
     /// let mut world: World<DefaultKey, u8, ()> = World::new(alloc)?;
@@ -357,9 +348,8 @@ impl<K: Key, E: Sized, T: Tables<K>> World<K, E, T> {
     /// value, and the world has the same entities and components.
     ///
     /// ```
-    /// # use slotmap_proved::{DefaultKey, Key};
+    /// # use slotmap_proved::{DefaultKey, Global, Key};
     /// # use slotmap_proved::entities::{Apart, CloneKind, CloneTable, CloneTables, Kind, Table, Tables, World};
-    /// # use slotmap_proved::fallible::Global;
     /// # fn main() -> Result<(), Box<dyn std::error::Error>> {
     /// # let alloc = Global;
     /// let mut world: World<DefaultKey, u8, ()> = World::new(alloc)?;
@@ -408,9 +398,9 @@ impl<K: Key, E: Sized, T: Tables<K>> World<K, E, T> {
     /// call returns `None` and changes nothing.
     ///
     /// ```
-    /// # use slotmap_proved::{DefaultKey, Key};
+    /// # use slotmap_proved::{DefaultKey, Global, Key};
     /// # use slotmap_proved::entities::{Apart, CloneKind, CloneTable, CloneTables, First, Kind, Table, Tables, World};
-    /// # use slotmap_proved::fallible::{Global, SecondaryMap};
+    /// # use slotmap_proved::fallible::SecondaryMap;
     /// # fn main() -> Result<(), Box<dyn std::error::Error>> {
     /// # let alloc = Global;
     /// let mut world: World<DefaultKey, u8, (SecondaryMap<DefaultKey, u32>, ())> = World::new(alloc)?;
@@ -455,9 +445,8 @@ impl<K: Key, E: Sized, T: Tables<K>> World<K, E, T> {
     /// number of entities and in the sizes of the tables.
     ///
     /// ```
-    /// # use slotmap_proved::{DefaultKey, Key};
+    /// # use slotmap_proved::{DefaultKey, Global, Key};
     /// # use slotmap_proved::entities::{Apart, CloneKind, CloneTable, CloneTables, Kind, Table, Tables, World};
-    /// # use slotmap_proved::fallible::Global;
     /// # fn main() -> Result<(), Box<dyn std::error::Error>> {
     /// # let alloc = Global;
     /// let mut world: World<DefaultKey, u8, ()> = World::new(alloc)?;
@@ -490,9 +479,8 @@ impl<K: Key, E: Sized, T: Tables<K>> World<K, E, T> {
     /// Returns the value of an entity, or `None` if it doesn't exist.
     ///
     /// ```
-    /// # use slotmap_proved::{DefaultKey, Key};
+    /// # use slotmap_proved::{DefaultKey, Global, Key};
     /// # use slotmap_proved::entities::{Apart, CloneKind, CloneTable, CloneTables, Kind, Table, Tables, World};
-    /// # use slotmap_proved::fallible::Global;
     /// # fn main() -> Result<(), Box<dyn std::error::Error>> {
     /// # let alloc = Global;
     /// let mut world: World<DefaultKey, u8, ()> = World::new(alloc)?;
@@ -515,9 +503,8 @@ impl<K: Key, E: Sized, T: Tables<K>> World<K, E, T> {
     /// Returns a mutable reference to the value of an entity, or `None` if it doesn't exist.
     ///
     /// ```
-    /// # use slotmap_proved::{DefaultKey, Key};
+    /// # use slotmap_proved::{DefaultKey, Global, Key};
     /// # use slotmap_proved::entities::{Apart, CloneKind, CloneTable, CloneTables, Kind, Table, Tables, World};
-    /// # use slotmap_proved::fallible::Global;
     /// # fn main() -> Result<(), Box<dyn std::error::Error>> {
     /// # let alloc = Global;
     /// let mut world: World<DefaultKey, u8, ()> = World::new(alloc)?;
@@ -548,9 +535,9 @@ impl<K: Key, E: Sized, T: Tables<K>> World<K, E, T> {
     /// components.
     ///
     /// ```
-    /// # use slotmap_proved::{DefaultKey, Key};
+    /// # use slotmap_proved::{DefaultKey, Global, Key};
     /// # use slotmap_proved::entities::{Apart, CloneKind, CloneTable, CloneTables, First, Kind, Table, Tables, World};
-    /// # use slotmap_proved::fallible::{Global, SparseSecondaryMap};
+    /// # use slotmap_proved::fallible::SparseSecondaryMap;
     /// # fn main() -> Result<(), Box<dyn std::error::Error>> {
     /// # let alloc = Global;
     /// let mut world: World<DefaultKey, u8, (SparseSecondaryMap<DefaultKey, u32>, ())> = World::new(alloc)?;

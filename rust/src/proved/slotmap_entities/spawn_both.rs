@@ -51,9 +51,9 @@ impl<K: Key, E: Sized, T: Tables<K>> World<K, E, T> {
     /// (see [`Apart`]).
     ///
     /// ```
-    /// # use slotmap_proved::{DefaultKey, Key};
+    /// # use slotmap_proved::{DefaultKey, Global, Key};
     /// # use slotmap_proved::entities::{Apart, CloneKind, CloneTable, CloneTables, First, Kind, Second, Table, World};
-    /// # use slotmap_proved::fallible::{Global, SecondaryMap, SparseSecondaryMap};
+    /// # use slotmap_proved::fallible::{SecondaryMap, SparseSecondaryMap};
     /// # fn main() -> Result<(), Box<dyn std::error::Error>> {
     /// # let alloc = Global;
     /// type Tables = (

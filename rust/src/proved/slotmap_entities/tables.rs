@@ -29,9 +29,9 @@ pub trait Table<K: Key>: Sized {
     /// Makes an empty table. It fails only if memory runs out.
     ///
     /// ```
-    /// # use slotmap_proved::{DefaultKey, Key};
+    /// # use slotmap_proved::{DefaultKey, Global, Key};
     /// # use slotmap_proved::entities::{Apart, CloneKind, CloneTable, CloneTables, Kind, Table, Tables};
-    /// # use slotmap_proved::fallible::{Global, SparseSecondaryMap};
+    /// # use slotmap_proved::fallible::SparseSecondaryMap;
     /// # fn main() -> Result<(), Box<dyn std::error::Error>> {
     /// # let alloc = Global;
     /// let table: SparseSecondaryMap<DefaultKey, u32> = Table::new(alloc)?;
@@ -58,9 +58,9 @@ pub trait Table<K: Key>: Sized {
     /// that is too great is refused.
     ///
     /// ```
-    /// # use slotmap_proved::{DefaultKey, Key, KeyData};
+    /// # use slotmap_proved::{DefaultKey, Global, Key, KeyData};
     /// # use slotmap_proved::entities::{Apart, CloneKind, CloneTable, CloneTables, Kind, Table, Tables};
-    /// # use slotmap_proved::fallible::{Global, SparseSecondaryMap};
+    /// # use slotmap_proved::fallible::SparseSecondaryMap;
     /// # fn main() -> Result<(), Box<dyn std::error::Error>> {
     /// # let alloc = Global;
     /// let hero = DefaultKey::from(KeyData::new(1, 1));
@@ -86,9 +86,9 @@ pub trait Table<K: Key>: Sized {
     /// Returns whether an entity has a component here.
     ///
     /// ```
-    /// # use slotmap_proved::{DefaultKey, Key, KeyData};
+    /// # use slotmap_proved::{DefaultKey, Global, Key, KeyData};
     /// # use slotmap_proved::entities::{Apart, CloneKind, CloneTable, CloneTables, Kind, Table, Tables};
-    /// # use slotmap_proved::fallible::{Global, SparseSecondaryMap};
+    /// # use slotmap_proved::fallible::SparseSecondaryMap;
     /// # fn main() -> Result<(), Box<dyn std::error::Error>> {
     /// # let alloc = Global;
     /// let hero = DefaultKey::from(KeyData::new(1, 1));
@@ -110,9 +110,9 @@ pub trait Table<K: Key>: Sized {
     /// Returns the component of an entity, or `None` if it has none here.
     ///
     /// ```
-    /// # use slotmap_proved::{DefaultKey, Key, KeyData};
+    /// # use slotmap_proved::{DefaultKey, Global, Key, KeyData};
     /// # use slotmap_proved::entities::{Apart, CloneKind, CloneTable, CloneTables, Kind, Table, Tables};
-    /// # use slotmap_proved::fallible::{Global, SparseSecondaryMap};
+    /// # use slotmap_proved::fallible::SparseSecondaryMap;
     /// # fn main() -> Result<(), Box<dyn std::error::Error>> {
     /// # let alloc = Global;
     /// let hero = DefaultKey::from(KeyData::new(1, 1));
@@ -134,9 +134,9 @@ pub trait Table<K: Key>: Sized {
     /// Returns a mutable reference to the component of an entity, or `None` if it has none here.
     ///
     /// ```
-    /// # use slotmap_proved::{DefaultKey, Key, KeyData};
+    /// # use slotmap_proved::{DefaultKey, Global, Key, KeyData};
     /// # use slotmap_proved::entities::{Apart, CloneKind, CloneTable, CloneTables, Kind, Table, Tables};
-    /// # use slotmap_proved::fallible::{Global, SparseSecondaryMap};
+    /// # use slotmap_proved::fallible::SparseSecondaryMap;
     /// # fn main() -> Result<(), Box<dyn std::error::Error>> {
     /// # let alloc = Global;
     /// let hero = DefaultKey::from(KeyData::new(1, 1));
@@ -166,9 +166,9 @@ pub trait Table<K: Key>: Sized {
     /// the result is `Ok(None)`. A newer key replaces an older one at its index.
     ///
     /// ```
-    /// # use slotmap_proved::{DefaultKey, Key, KeyData};
+    /// # use slotmap_proved::{DefaultKey, Global, Key, KeyData};
     /// # use slotmap_proved::entities::{Apart, CloneKind, CloneTable, CloneTables, Kind, Table, Tables};
-    /// # use slotmap_proved::fallible::{Global, SparseSecondaryMap};
+    /// # use slotmap_proved::fallible::SparseSecondaryMap;
     /// # fn main() -> Result<(), Box<dyn std::error::Error>> {
     /// # let alloc = Global;
     /// let hero = DefaultKey::from(KeyData::new(1, 1));
@@ -200,9 +200,9 @@ pub trait Table<K: Key>: Sized {
     /// Removes the component of an entity, and returns it, or `None` if it has none here.
     ///
     /// ```
-    /// # use slotmap_proved::{DefaultKey, Key, KeyData};
+    /// # use slotmap_proved::{DefaultKey, Global, Key, KeyData};
     /// # use slotmap_proved::entities::{Apart, CloneKind, CloneTable, CloneTables, Kind, Table, Tables};
-    /// # use slotmap_proved::fallible::{Global, SparseSecondaryMap};
+    /// # use slotmap_proved::fallible::SparseSecondaryMap;
     /// # fn main() -> Result<(), Box<dyn std::error::Error>> {
     /// # let alloc = Global;
     /// let hero = DefaultKey::from(KeyData::new(1, 1));
@@ -228,9 +228,9 @@ pub trait Table<K: Key>: Sized {
     /// false.
     ///
     /// ```
-    /// # use slotmap_proved::{DefaultKey, Key, KeyData};
+    /// # use slotmap_proved::{DefaultKey, Global, Key, KeyData};
     /// # use slotmap_proved::entities::{Apart, CloneKind, CloneTable, CloneTables, Kind, Table, Tables};
-    /// # use slotmap_proved::fallible::{Global, SparseSecondaryMap};
+    /// # use slotmap_proved::fallible::SparseSecondaryMap;
     /// # fn main() -> Result<(), Box<dyn std::error::Error>> {
     /// # let alloc = Global;
     /// let hero = DefaultKey::from(KeyData::new(1, 1));
@@ -257,9 +257,9 @@ pub trait Table<K: Key>: Sized {
     /// Removes all components. There is room for as many in all as before.
     ///
     /// ```
-    /// # use slotmap_proved::{DefaultKey, Key, KeyData};
+    /// # use slotmap_proved::{DefaultKey, Global, Key, KeyData};
     /// # use slotmap_proved::entities::{Apart, CloneKind, CloneTable, CloneTables, Kind, Table, Tables};
-    /// # use slotmap_proved::fallible::{Global, SparseSecondaryMap};
+    /// # use slotmap_proved::fallible::SparseSecondaryMap;
     /// # fn main() -> Result<(), Box<dyn std::error::Error>> {
     /// # let alloc = Global;
     /// let hero = DefaultKey::from(KeyData::new(1, 1));

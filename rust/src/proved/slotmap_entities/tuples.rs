@@ -48,9 +48,9 @@ use crate::rt::std::alloc::Global;
 /// ```
 ///
 /// ```
-/// # use slotmap_proved::{DefaultKey, Key};
+/// # use slotmap_proved::{DefaultKey, Global, Key};
 /// # use slotmap_proved::entities::{Apart, CloneKind, CloneTable, CloneTables, Kind, Table, Tables};
-/// # use slotmap_proved::fallible::{Global, SecondaryMap, SparseSecondaryMap};
+/// # use slotmap_proved::fallible::{SecondaryMap, SparseSecondaryMap};
 /// # fn main() -> Result<(), Box<dyn std::error::Error>> {
 /// # let alloc = Global;
 /// let mut tables: (SecondaryMap<DefaultKey, u8>, (SparseSecondaryMap<DefaultKey, &str>, ())) =
@@ -75,9 +75,9 @@ pub trait Tables<K: Key>: Sized {
     /// Makes empty tables. It fails only if memory runs out.
     ///
     /// ```
-    /// # use slotmap_proved::{DefaultKey, Key};
+    /// # use slotmap_proved::{DefaultKey, Global, Key};
     /// # use slotmap_proved::entities::{Apart, CloneKind, CloneTable, CloneTables, Kind, Table, Tables};
-    /// # use slotmap_proved::fallible::{Global, SecondaryMap};
+    /// # use slotmap_proved::fallible::SecondaryMap;
     /// # fn main() -> Result<(), Box<dyn std::error::Error>> {
     /// # let alloc = Global;
     /// let tables: (SecondaryMap<DefaultKey, u32>, ()) = Tables::new(alloc)?;
@@ -97,9 +97,9 @@ pub trait Tables<K: Key>: Sized {
     /// Removes the components of an entity from all tables, and returns them.
     ///
     /// ```
-    /// # use slotmap_proved::{DefaultKey, Key, KeyData};
+    /// # use slotmap_proved::{DefaultKey, Global, Key, KeyData};
     /// # use slotmap_proved::entities::{Apart, CloneKind, CloneTable, CloneTables, Kind, Table, Tables};
-    /// # use slotmap_proved::fallible::{Global, SecondaryMap};
+    /// # use slotmap_proved::fallible::SecondaryMap;
     /// # fn main() -> Result<(), Box<dyn std::error::Error>> {
     /// # let alloc = Global;
     /// let hero = DefaultKey::from(KeyData::new(1, 1));
@@ -124,9 +124,9 @@ pub trait Tables<K: Key>: Sized {
     /// Removes all components of all entities. Each table has room for as many in all as before.
     ///
     /// ```
-    /// # use slotmap_proved::{DefaultKey, Key, KeyData};
+    /// # use slotmap_proved::{DefaultKey, Global, Key, KeyData};
     /// # use slotmap_proved::entities::{Apart, CloneKind, CloneTable, CloneTables, Kind, Table, Tables};
-    /// # use slotmap_proved::fallible::{Global, SecondaryMap};
+    /// # use slotmap_proved::fallible::SecondaryMap;
     /// # fn main() -> Result<(), Box<dyn std::error::Error>> {
     /// # let alloc = Global;
     /// let hero = DefaultKey::from(KeyData::new(1, 1));

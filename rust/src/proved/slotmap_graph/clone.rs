@@ -23,8 +23,7 @@ impl<K: Key, N: Clone, E: Clone> Graph<K, N, E> {
     /// capacities.
     ///
     /// ```
-    /// # use slotmap_proved::{Key, NodeKey};
-    /// # use slotmap_proved::fallible::Global;
+    /// # use slotmap_proved::{Global, graph, Key, NodeKey};
     /// # use slotmap_proved::graph::Graph;
     /// # fn main() -> Result<(), Box<dyn std::error::Error>> {
     /// # let alloc = Global;

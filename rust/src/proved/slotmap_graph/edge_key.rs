@@ -9,8 +9,7 @@ use crate::proved::slotmap::{Key, KeyData};
 /// too.
 ///
 /// ```
-/// # use slotmap_proved::{Key, NodeKey};
-/// # use slotmap_proved::fallible::Global;
+/// # use slotmap_proved::{Global, graph, Key, NodeKey};
 /// # use slotmap_proved::graph::{EdgeKey, Graph};
 /// # fn main() -> Result<(), Box<dyn std::error::Error>> {
 /// # let alloc = Global;

@@ -12,8 +12,7 @@ impl<K: Key, N: Sized, E: Sized> Graph<K, N, E> {
     /// Returns the value of a node, or `None` if the node doesn't exist, in constant time.
     ///
     /// ```
-    /// # use slotmap_proved::{Key, NodeKey};
-    /// # use slotmap_proved::fallible::Global;
+    /// # use slotmap_proved::{Global, graph, Key, NodeKey};
     /// # use slotmap_proved::graph::Graph;
     /// # fn main() -> Result<(), Box<dyn std::error::Error>> {
     /// # let alloc = Global;
@@ -40,8 +39,7 @@ impl<K: Key, N: Sized, E: Sized> Graph<K, N, E> {
     /// constant time.
     ///
     /// ```
-    /// # use slotmap_proved::{Key, NodeKey};
-    /// # use slotmap_proved::fallible::Global;
+    /// # use slotmap_proved::{Global, graph, Key, NodeKey};
     /// # use slotmap_proved::graph::Graph;
     /// # fn main() -> Result<(), Box<dyn std::error::Error>> {
     /// # let alloc = Global;
@@ -72,8 +70,7 @@ impl<K: Key, N: Sized, E: Sized> Graph<K, N, E> {
     /// Returns the value of an edge, or `None` if the edge doesn't exist, in constant time.
     ///
     /// ```
-    /// # use slotmap_proved::{Key, NodeKey};
-    /// # use slotmap_proved::fallible::Global;
+    /// # use slotmap_proved::{Global, graph, Key, NodeKey};
     /// # use slotmap_proved::graph::Graph;
     /// # fn main() -> Result<(), Box<dyn std::error::Error>> {
     /// # let alloc = Global;
@@ -101,8 +98,7 @@ impl<K: Key, N: Sized, E: Sized> Graph<K, N, E> {
     /// constant time.
     ///
     /// ```
-    /// # use slotmap_proved::{Key, NodeKey};
-    /// # use slotmap_proved::fallible::Global;
+    /// # use slotmap_proved::{Global, graph, Key, NodeKey};
     /// # use slotmap_proved::graph::Graph;
     /// # fn main() -> Result<(), Box<dyn std::error::Error>> {
     /// # let alloc = Global;
@@ -136,8 +132,7 @@ impl<K: Key, N: Sized, E: Sized> Graph<K, N, E> {
     /// right after it needs no test.
     ///
     /// ```
-    /// # use slotmap_proved::{Key, NodeKey};
-    /// # use slotmap_proved::fallible::Global;
+    /// # use slotmap_proved::{Global, graph, Key, NodeKey};
     /// # use slotmap_proved::graph::Graph;
     /// # fn main() -> Result<(), Box<dyn std::error::Error>> {
     /// # let alloc = Global;
@@ -172,8 +167,7 @@ impl<K: Key, N: Sized, E: Sized> Graph<K, N, E> {
     /// Constant time. A node that doesn't exist has none.
     ///
     /// ```
-    /// # use slotmap_proved::{Key, NodeKey};
-    /// # use slotmap_proved::fallible::Global;
+    /// # use slotmap_proved::{Global, graph, Key, NodeKey};
     /// # use slotmap_proved::graph::Graph;
     /// # fn main() -> Result<(), Box<dyn std::error::Error>> {
     /// # let alloc = Global;
@@ -206,8 +200,7 @@ impl<K: Key, N: Sized, E: Sized> Graph<K, N, E> {
     /// Constant time. A node that doesn't exist has none.
     ///
     /// ```
-    /// # use slotmap_proved::{Key, NodeKey};
-    /// # use slotmap_proved::fallible::Global;
+    /// # use slotmap_proved::{Global, graph, Key, NodeKey};
     /// # use slotmap_proved::graph::Graph;
     /// # fn main() -> Result<(), Box<dyn std::error::Error>> {
     /// # let alloc = Global;
@@ -235,8 +228,7 @@ impl<K: Key, N: Sized, E: Sized> Graph<K, N, E> {
     /// Returns how many edges go out of a node, in constant time: 0 if the node doesn't exist.
     ///
     /// ```
-    /// # use slotmap_proved::{Key, NodeKey};
-    /// # use slotmap_proved::fallible::Global;
+    /// # use slotmap_proved::{Global, graph, Key, NodeKey};
     /// # use slotmap_proved::graph::Graph;
     /// # fn main() -> Result<(), Box<dyn std::error::Error>> {
     /// # let alloc = Global;
@@ -263,8 +255,7 @@ impl<K: Key, N: Sized, E: Sized> Graph<K, N, E> {
     /// Returns how many edges come into a node, in constant time: 0 if the node doesn't exist.
     ///
     /// ```
-    /// # use slotmap_proved::{Key, NodeKey};
-    /// # use slotmap_proved::fallible::Global;
+    /// # use slotmap_proved::{Global, graph, Key, NodeKey};
     /// # use slotmap_proved::graph::Graph;
     /// # fn main() -> Result<(), Box<dyn std::error::Error>> {
     /// # let alloc = Global;

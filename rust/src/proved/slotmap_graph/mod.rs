@@ -36,8 +36,7 @@
 //! take an `alloc`. Those that add need none where there is room, and those that remove need none.
 //!
 //! ```
-//! # use slotmap_proved::{Key, NodeKey};
-//! # use slotmap_proved::fallible::Global;
+//! # use slotmap_proved::{Global, graph, Key, NodeKey};
 //! # use slotmap_proved::graph::Graph;
 //! # fn main() -> Result<(), Box<dyn std::error::Error>> {
 //! # let alloc = Global;
@@ -119,8 +118,7 @@ impl<N: Sized, E: Sized> Graph<NodeKey, N, E> {
     /// It fails only if memory runs out.
     ///
     /// ```
-    /// # use slotmap_proved::{Key, NodeKey};
-    /// # use slotmap_proved::fallible::Global;
+    /// # use slotmap_proved::{Global, graph, Key, NodeKey};
     /// # use slotmap_proved::graph::Graph;
     /// # fn main() -> Result<(), Box<dyn std::error::Error>> {
     /// # let alloc = Global;
@@ -149,8 +147,7 @@ impl<N: Sized, E: Sized> Graph<NodeKey, N, E> {
     /// runs out. It takes time linear in `nodes` and `edges`.
     ///
     /// ```
-    /// # use slotmap_proved::{Key, NodeKey};
-    /// # use slotmap_proved::fallible::Global;
+    /// # use slotmap_proved::{Global, graph, Key, NodeKey};
     /// # use slotmap_proved::graph::Graph;
     /// # fn main() -> Result<(), Box<dyn std::error::Error>> {
     /// # let alloc = Global;
@@ -181,8 +178,7 @@ impl<K: Key, N: Sized, E: Sized> Graph<K, N, E> {
     /// It fails only if memory runs out.
     ///
     /// ```
-    /// # use slotmap_proved::{DefaultKey, Key};
-    /// # use slotmap_proved::fallible::Global;
+    /// # use slotmap_proved::{DefaultKey, Global, graph, Key};
     /// # use slotmap_proved::graph::Graph;
     /// # fn main() -> Result<(), Box<dyn std::error::Error>> {
     /// # let alloc = Global;
@@ -211,8 +207,7 @@ impl<K: Key, N: Sized, E: Sized> Graph<K, N, E> {
     /// runs out. It takes time linear in `nodes` and `edges`.
     ///
     /// ```
-    /// # use slotmap_proved::{DefaultKey, Key};
-    /// # use slotmap_proved::fallible::Global;
+    /// # use slotmap_proved::{DefaultKey, Global, graph, Key};
     /// # use slotmap_proved::graph::Graph;
     /// # fn main() -> Result<(), Box<dyn std::error::Error>> {
     /// # let alloc = Global;
@@ -260,8 +255,7 @@ impl<K: Key, N: Sized, E: Sized> Graph<K, N, E> {
     /// are retired, and with `Memory` if memory runs out. The graph has the same nodes then.
     ///
     /// ```
-    /// # use slotmap_proved::{Key, NodeKey};
-    /// # use slotmap_proved::fallible::Global;
+    /// # use slotmap_proved::{Global, graph, Key, NodeKey};
     /// # use slotmap_proved::graph::Graph;
     /// # fn main() -> Result<(), Box<dyn std::error::Error>> {
     /// # let alloc = Global;
@@ -299,8 +293,7 @@ impl<K: Key, N: Sized, E: Sized> Graph<K, N, E> {
     /// are retired, and with `Memory` if memory runs out. The graph has the same edges then.
     ///
     /// ```
-    /// # use slotmap_proved::{Key, NodeKey};
-    /// # use slotmap_proved::fallible::Global;
+    /// # use slotmap_proved::{Global, graph, Key, NodeKey};
     /// # use slotmap_proved::graph::Graph;
     /// # fn main() -> Result<(), Box<dyn std::error::Error>> {
     /// # let alloc = Global;
@@ -335,8 +328,7 @@ impl<K: Key, N: Sized, E: Sized> Graph<K, N, E> {
     /// slots that are retired.
     ///
     /// ```
-    /// # use slotmap_proved::{Key, NodeKey};
-    /// # use slotmap_proved::fallible::Global;
+    /// # use slotmap_proved::{Global, graph, Key, NodeKey};
     /// # use slotmap_proved::graph::Graph;
     /// # fn main() -> Result<(), Box<dyn std::error::Error>> {
     /// # let alloc = Global;
@@ -362,8 +354,7 @@ impl<K: Key, N: Sized, E: Sized> Graph<K, N, E> {
     /// slots that are retired.
     ///
     /// ```
-    /// # use slotmap_proved::{Key, NodeKey};
-    /// # use slotmap_proved::fallible::Global;
+    /// # use slotmap_proved::{Global, graph, Key, NodeKey};
     /// # use slotmap_proved::graph::Graph;
     /// # fn main() -> Result<(), Box<dyn std::error::Error>> {
     /// # let alloc = Global;
@@ -388,8 +379,7 @@ impl<K: Key, N: Sized, E: Sized> Graph<K, N, E> {
     /// Returns the number of nodes, in constant time.
     ///
     /// ```
-    /// # use slotmap_proved::{Key, NodeKey};
-    /// # use slotmap_proved::fallible::Global;
+    /// # use slotmap_proved::{Global, graph, Key, NodeKey};
     /// # use slotmap_proved::graph::Graph;
     /// # fn main() -> Result<(), Box<dyn std::error::Error>> {
     /// # let alloc = Global;
@@ -416,8 +406,7 @@ impl<K: Key, N: Sized, E: Sized> Graph<K, N, E> {
     /// Returns whether there is no node, and so no edge, in constant time.
     ///
     /// ```
-    /// # use slotmap_proved::{Key, NodeKey};
-    /// # use slotmap_proved::fallible::Global;
+    /// # use slotmap_proved::{Global, graph, Key, NodeKey};
     /// # use slotmap_proved::graph::Graph;
     /// # fn main() -> Result<(), Box<dyn std::error::Error>> {
     /// # let alloc = Global;
@@ -441,8 +430,7 @@ impl<K: Key, N: Sized, E: Sized> Graph<K, N, E> {
     /// Returns the number of edges, in constant time.
     ///
     /// ```
-    /// # use slotmap_proved::{Key, NodeKey};
-    /// # use slotmap_proved::fallible::Global;
+    /// # use slotmap_proved::{Global, graph, Key, NodeKey};
     /// # use slotmap_proved::graph::Graph;
     /// # fn main() -> Result<(), Box<dyn std::error::Error>> {
     /// # let alloc = Global;
@@ -470,8 +458,7 @@ impl<K: Key, N: Sized, E: Sized> Graph<K, N, E> {
     /// Returns whether a node exists, in constant time.
     ///
     /// ```
-    /// # use slotmap_proved::{Key, NodeKey};
-    /// # use slotmap_proved::fallible::Global;
+    /// # use slotmap_proved::{Global, graph, Key, NodeKey};
     /// # use slotmap_proved::graph::Graph;
     /// # fn main() -> Result<(), Box<dyn std::error::Error>> {
     /// # let alloc = Global;
@@ -497,8 +484,7 @@ impl<K: Key, N: Sized, E: Sized> Graph<K, N, E> {
     /// Returns whether an edge exists, in constant time.
     ///
     /// ```
-    /// # use slotmap_proved::{Key, NodeKey};
-    /// # use slotmap_proved::fallible::Global;
+    /// # use slotmap_proved::{Global, graph, Key, NodeKey};
     /// # use slotmap_proved::graph::Graph;
     /// # fn main() -> Result<(), Box<dyn std::error::Error>> {
     /// # let alloc = Global;
@@ -527,8 +513,7 @@ impl<K: Key, N: Sized, E: Sized> Graph<K, N, E> {
     /// All its steps together read each slot once.
     ///
     /// ```
-    /// # use slotmap_proved::{Key, NodeKey};
-    /// # use slotmap_proved::fallible::Global;
+    /// # use slotmap_proved::{Global, graph, Key, NodeKey};
     /// # use slotmap_proved::graph::Graph;
     /// # fn main() -> Result<(), Box<dyn std::error::Error>> {
     /// # let alloc = Global;
@@ -558,8 +543,7 @@ impl<K: Key, N: Sized, E: Sized> Graph<K, N, E> {
     /// All its steps together read each slot once.
     ///
     /// ```
-    /// # use slotmap_proved::{Key, NodeKey};
-    /// # use slotmap_proved::fallible::Global;
+    /// # use slotmap_proved::{Global, graph, Key, NodeKey};
     /// # use slotmap_proved::graph::Graph;
     /// # fn main() -> Result<(), Box<dyn std::error::Error>> {
     /// # let alloc = Global;

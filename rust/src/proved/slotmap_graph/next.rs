@@ -28,8 +28,7 @@ impl<K: Key, N: Sized, E: Sized> Graph<K, N, E> {
     /// number of slots that it passes over.
     ///
     /// ```
-    /// # use slotmap_proved::{Key, NodeKey};
-    /// # use slotmap_proved::fallible::Global;
+    /// # use slotmap_proved::{Global, graph, Key, NodeKey};
     /// # use slotmap_proved::graph::Graph;
     /// # fn main() -> Result<(), Box<dyn std::error::Error>> {
     /// # let alloc = Global;
@@ -66,8 +65,7 @@ impl<K: Key, N: Sized, E: Sized> Graph<K, N, E> {
     /// of slots that it passes over.
     ///
     /// ```
-    /// # use slotmap_proved::{Key, NodeKey};
-    /// # use slotmap_proved::fallible::Global;
+    /// # use slotmap_proved::{Global, graph, Key, NodeKey};
     /// # use slotmap_proved::graph::Graph;
     /// # fn main() -> Result<(), Box<dyn std::error::Error>> {
     /// # let alloc = Global;
@@ -102,8 +100,7 @@ impl<K: Key, N: Sized, E: Sized> Graph<K, N, E> {
     /// hand, take the next one first. Constant time.
     ///
     /// ```
-    /// # use slotmap_proved::{Key, NodeKey};
-    /// # use slotmap_proved::fallible::Global;
+    /// # use slotmap_proved::{Global, graph, Key, NodeKey};
     /// # use slotmap_proved::graph::Graph;
     /// # fn main() -> Result<(), Box<dyn std::error::Error>> {
     /// # let alloc = Global;
@@ -136,8 +133,7 @@ impl<K: Key, N: Sized, E: Sized> Graph<K, N, E> {
     /// the next one first. Constant time.
     ///
     /// ```
-    /// # use slotmap_proved::{Key, NodeKey};
-    /// # use slotmap_proved::fallible::Global;
+    /// # use slotmap_proved::{Global, graph, Key, NodeKey};
     /// # use slotmap_proved::graph::Graph;
     /// # fn main() -> Result<(), Box<dyn std::error::Error>> {
     /// # let alloc = Global;
@@ -168,8 +164,7 @@ impl<K: Key, N: Sized, E: Sized> Graph<K, N, E> {
     /// Constant time.
     ///
     /// ```
-    /// # use slotmap_proved::{Key, NodeKey};
-    /// # use slotmap_proved::fallible::Global;
+    /// # use slotmap_proved::{Global, graph, Key, NodeKey};
     /// # use slotmap_proved::graph::Graph;
     /// # fn main() -> Result<(), Box<dyn std::error::Error>> {
     /// # let alloc = Global;
@@ -201,8 +196,7 @@ impl<K: Key, N: Sized, E: Sized> Graph<K, N, E> {
     /// Constant time.
     ///
     /// ```
-    /// # use slotmap_proved::{Key, NodeKey};
-    /// # use slotmap_proved::fallible::Global;
+    /// # use slotmap_proved::{Global, graph, Key, NodeKey};
     /// # use slotmap_proved::graph::Graph;
     /// # fn main() -> Result<(), Box<dyn std::error::Error>> {
     /// # let alloc = Global;

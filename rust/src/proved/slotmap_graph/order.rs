@@ -12,8 +12,7 @@ use crate::rt::std::alloc::{AllocError, Global};
 /// There is no order of the nodes in which each edge goes forward, or memory ran out.
 ///
 /// ```
-/// # use slotmap_proved::Key;
-/// # use slotmap_proved::fallible::Global;
+/// # use slotmap_proved::{Global, Key};
 /// # use slotmap_proved::graph::OrderError;
 /// # fn main() -> Result<(), Box<dyn std::error::Error>> {
 /// # let alloc = Global;
@@ -33,8 +32,7 @@ impl OrderError {
     /// Returns the edge that closes a cycle, or `None` if memory ran out.
     ///
     /// ```
-    /// # use slotmap_proved::{Key, NodeKey};
-    /// # use slotmap_proved::fallible::Global;
+    /// # use slotmap_proved::{Global, graph, Key, NodeKey};
     /// # use slotmap_proved::graph::Graph;
     /// # fn main() -> Result<(), Box<dyn std::error::Error>> {
     /// # let alloc = Global;
@@ -191,8 +189,7 @@ impl<K: Key, N: Sized, E: Sized> Graph<K, N, E> {
     /// whose end a path leads back to its start.
     ///
     /// ```
-    /// # use slotmap_proved::{Key, NodeKey};
-    /// # use slotmap_proved::fallible::Global;
+    /// # use slotmap_proved::{Global, graph, Key, NodeKey};
     /// # use slotmap_proved::graph::{Graph, OrderError};
     /// # fn main() -> Result<(), Box<dyn std::error::Error>> {
     /// # let alloc = Global;

@@ -53,7 +53,7 @@ impl<K: Key, V: Sized> HopSlotMap<K, V> {
     /// a map with 4294967294 slots, which is too long. In Rust `Serialize` writes the same records.
     ///
     /// ```
-    /// # use slotmap_proved::{DefaultKey, Global, Key};
+    /// # use slotmap_proved::{DefaultKey, Global, Key, list};
     /// # use slotmap_proved::fallible::HopSlotMap;
     /// # fn main() -> Result<(), Box<dyn std::error::Error>> {
     /// # let alloc = Global;
@@ -120,7 +120,7 @@ impl<K: Key, V: Sized> HopSlotMap<K, V> {
     /// a vacant slot, so the versions of a slot wrap around.
     ///
     /// ```
-    /// # use slotmap_proved::{DefaultKey, Global, Key, KeyData, SlotRecord};
+    /// # use slotmap_proved::{DefaultKey, Global, Key, KeyData, list, SlotRecord};
     /// # use slotmap_proved::fallible::{HopSlotMap, Vec};
     /// # fn main() -> Result<(), Box<dyn std::error::Error>> {
     /// # let alloc = Global;

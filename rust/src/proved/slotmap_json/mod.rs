@@ -18,8 +18,7 @@ use crate::rt::std::alloc::Global;
 /// It fails only if memory runs out. Constant time.
 ///
 /// ```
-/// # use slotmap_proved::{DefaultKey, Key, KeyData};
-/// # use slotmap_proved::fallible::Global;
+/// # use slotmap_proved::{DefaultKey, Global, Key, KeyData};
 /// # use slotmap_proved::json::key_to_value;
 /// # fn main() -> Result<(), Box<dyn std::error::Error>> {
 /// # let alloc = Global;
@@ -50,13 +49,11 @@ pub fn key_to_value<K: Key>(alloc: Global, key: K) -> Result<Value, OutOfMemory>
 /// call allocates nothing. It costs two look-ups among the members.
 ///
 /// ```
-/// # use slotmap_proved::{DefaultKey, Key, KeyData};
-/// # use slotmap_proved::fallible::Global;
+/// # use slotmap_proved::{DefaultKey, Global, Key, KeyData};
 /// # use slotmap_proved::json::key_from_value;
-/// # use serde_json::Value;
 /// # fn main() -> Result<(), Box<dyn std::error::Error>> {
 /// # let alloc = Global;
-/// let value: Value = serde_json::from_str("{\"version\":4,\"idx\":0,\"x\":true}")?;
+/// let value = serde_json::json!({"version":4,"idx":0,"x":true});
 /// let key: DefaultKey = key_from_value(&value)?;
 /// assert_eq!(key.data(), KeyData::new(0, 5));
 /// # Ok(())
@@ -98,8 +95,7 @@ fn u32_member(value: &Value, name: &str) -> Option<u32>
 /// called at most once for each value, in order.
 ///
 /// ```
-/// # use slotmap_proved::{Key, SlotRecord};
-/// # use slotmap_proved::fallible::Global;
+/// # use slotmap_proved::{Global, Key, list, SlotRecord};
 /// # use slotmap_proved::json::slots_to_value;
 /// # use serde_json::Value;
 /// # fn main() -> Result<(), Box<dyn std::error::Error>> {
@@ -166,13 +162,12 @@ fn slot_value(alloc: Global, value: Value, version: u32) -> Result<Value, OutOfM
 /// `g` is called at most once for each element.
 ///
 /// ```
-/// # use slotmap_proved::{JsonError, Key};
-/// # use slotmap_proved::fallible::Global;
+/// # use slotmap_proved::{Global, JsonError, Key, list};
 /// # use slotmap_proved::json::slots_from_value;
 /// # use serde_json::Value;
 /// # fn main() -> Result<(), Box<dyn std::error::Error>> {
 /// # let alloc = Global;
-/// let value: Value = serde_json::from_str("[{\"version\":0},{\"value\":7,\"version\":1}]")?;
+/// let value = serde_json::json!([{"version":0},{"value":7,"version":1}]);
 /// let list = slots_from_value(alloc, &value, |value: &Value| {
 ///     value.as_u64().ok_or(JsonError::Shape)
 /// })?;
@@ -218,13 +213,12 @@ where
 /// It costs two look-ups among the members, and at most one call of `g`.
 ///
 /// ```
-/// # use slotmap_proved::{JsonError, Key};
-/// # use slotmap_proved::fallible::Global;
+/// # use slotmap_proved::{Global, JsonError, Key};
 /// # use slotmap_proved::json::slot_from_value;
 /// # use serde_json::Value;
 /// # fn main() -> Result<(), Box<dyn std::error::Error>> {
 /// # let alloc = Global;
-/// let value: Value = serde_json::from_str("{\"value\":7,\"version\":1}")?;
+/// let value = serde_json::json!({"value":7,"version":1});
 /// let slot = slot_from_value(&value, &|value: &Value| value.as_u64().ok_or(JsonError::Shape))?;
 /// assert_eq!(slot.version, 1);
 /// assert_eq!(slot.value, Some(7));

@@ -44,8 +44,7 @@ impl<K: Key, T: Sized> StableList<K, T> {
     /// fails, the error holds the value, and the list has the same elements.
     ///
     /// ```
-    /// # use slotmap_proved::Key;
-    /// # use slotmap_proved::fallible::Global;
+    /// # use slotmap_proved::{Global, Key, list};
     /// # use slotmap_proved::list::StableList;
     /// # fn main() -> Result<(), Box<dyn std::error::Error>> {
     /// # let alloc = Global;
@@ -87,8 +86,7 @@ impl<K: Key, T: Sized> StableList<K, T> {
     /// fails, the error holds the value, and the list has the same elements.
     ///
     /// ```
-    /// # use slotmap_proved::Key;
-    /// # use slotmap_proved::fallible::Global;
+    /// # use slotmap_proved::{Global, Key, list};
     /// # use slotmap_proved::list::StableList;
     /// # fn main() -> Result<(), Box<dyn std::error::Error>> {
     /// # let alloc = Global;
@@ -144,8 +142,7 @@ impl<K: Key, T: Sized> StableList<K, T> {
     /// call fails, the error holds the value, and the list has the same elements.
     ///
     /// ```
-    /// # use slotmap_proved::Key;
-    /// # use slotmap_proved::fallible::Global;
+    /// # use slotmap_proved::{Global, Key, list};
     /// # use slotmap_proved::list::{PlaceError, StableList};
     /// # fn main() -> Result<(), Box<dyn std::error::Error>> {
     /// # let alloc = Global;
@@ -191,8 +188,7 @@ impl<K: Key, T: Sized> StableList<K, T> {
     /// call fails, the error holds the value, and the list has the same elements.
     ///
     /// ```
-    /// # use slotmap_proved::Key;
-    /// # use slotmap_proved::fallible::Global;
+    /// # use slotmap_proved::{Global, Key, list};
     /// # use slotmap_proved::list::{PlaceError, StableList};
     /// # fn main() -> Result<(), Box<dyn std::error::Error>> {
     /// # let alloc = Global;

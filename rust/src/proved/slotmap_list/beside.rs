@@ -13,8 +13,7 @@ impl<K: Key, T: Sized> StableList<K, T> {
     /// It is [`StableList::next`] and [`StableList::get`] in one, with one look-up less. Constant time.
     ///
     /// ```
-    /// # use slotmap_proved::Key;
-    /// # use slotmap_proved::fallible::Global;
+    /// # use slotmap_proved::{Global, Key, list};
     /// # use slotmap_proved::list::StableList;
     /// # fn main() -> Result<(), Box<dyn std::error::Error>> {
     /// # let alloc = Global;
@@ -45,8 +44,7 @@ impl<K: Key, T: Sized> StableList<K, T> {
     /// It is [`StableList::prev`] and [`StableList::get`] in one, with one look-up less. Constant time.
     ///
     /// ```
-    /// # use slotmap_proved::Key;
-    /// # use slotmap_proved::fallible::Global;
+    /// # use slotmap_proved::{Global, Key, list};
     /// # use slotmap_proved::list::StableList;
     /// # fn main() -> Result<(), Box<dyn std::error::Error>> {
     /// # let alloc = Global;

@@ -15,8 +15,7 @@ impl<K: Key, T: Clone> StableList<K, T> {
     /// takes time linear in the capacity.
     ///
     /// ```
-    /// # use slotmap_proved::Key;
-    /// # use slotmap_proved::fallible::Global;
+    /// # use slotmap_proved::{Global, Key, list};
     /// # use slotmap_proved::list::StableList;
     /// # fn main() -> Result<(), Box<dyn std::error::Error>> {
     /// # let alloc = Global;

@@ -52,8 +52,7 @@ impl<K: Key, T: Sized> StableList<K, T> {
     /// no room, and its capacity stays. The iterator is made in constant time.
     ///
     /// ```
-    /// # use slotmap_proved::Key;
-    /// # use slotmap_proved::fallible::Global;
+    /// # use slotmap_proved::{Global, Key, list};
     /// # use slotmap_proved::list::StableList;
     /// # fn main() -> Result<(), Box<dyn std::error::Error>> {
     /// # let alloc = Global;

@@ -17,8 +17,7 @@ impl<K: Key, T: Sized> StableList<K, T> {
     /// constant time a value, unless a vector grows. In Rust this is the trait `Extend`.
     ///
     /// ```
-    /// # use slotmap_proved::Key;
-    /// # use slotmap_proved::fallible::Global;
+    /// # use slotmap_proved::{Global, Key, list};
     /// # use slotmap_proved::list::StableList;
     /// # fn main() -> Result<(), Box<dyn std::error::Error>> {
     /// # let alloc = Global;
@@ -72,8 +71,7 @@ impl<K: Key, T: Sized> StableList<K, T> {
     /// this is `FromIterator`.
     ///
     /// ```
-    /// # use slotmap_proved::Key;
-    /// # use slotmap_proved::fallible::Global;
+    /// # use slotmap_proved::{Global, Key, list};
     /// # use slotmap_proved::list::{Cursor, StableList};
     /// # fn main() -> Result<(), Box<dyn std::error::Error>> {
     /// # let alloc = Global;
@@ -125,8 +123,7 @@ impl<K: Key, T: Sized> StableList<K, T> {
     /// linear in its capacity.
     ///
     /// ```
-    /// # use slotmap_proved::Key;
-    /// # use slotmap_proved::fallible::Global;
+    /// # use slotmap_proved::{Global, Key, list};
     /// # use slotmap_proved::list::StableList;
     /// # fn main() -> Result<(), Box<dyn std::error::Error>> {
     /// # let alloc = Global;

@@ -14,8 +14,7 @@ use crate::rt::std::iter::FusedIterator;
 /// values that are left.
 ///
 /// ```
-/// # use slotmap_proved::Key;
-/// # use slotmap_proved::fallible::Global;
+/// # use slotmap_proved::{Global, Key, list};
 /// # use slotmap_proved::list::StableList;
 /// # fn main() -> Result<(), Box<dyn std::error::Error>> {
 /// # let alloc = Global;

@@ -25,8 +25,7 @@
 //! by the index of the slot.
 //!
 //! ```
-//! # use slotmap_proved::Key;
-//! # use slotmap_proved::fallible::Global;
+//! # use slotmap_proved::{Global, Key, list};
 //! # use slotmap_proved::list::StableList;
 //! # fn main() -> Result<(), Box<dyn std::error::Error>> {
 //! # let alloc = Global;
@@ -132,8 +131,7 @@ impl<T: Sized> StableList<Cursor, T> {
     /// It fails only if memory runs out.
     ///
     /// ```
-    /// # use slotmap_proved::Key;
-    /// # use slotmap_proved::fallible::Global;
+    /// # use slotmap_proved::{Global, Key, list};
     /// # use slotmap_proved::list::{Cursor, StableList};
     /// # fn main() -> Result<(), Box<dyn std::error::Error>> {
     /// # let alloc = Global;
@@ -162,8 +160,7 @@ impl<T: Sized> StableList<Cursor, T> {
     /// time linear in `capacity`.
     ///
     /// ```
-    /// # use slotmap_proved::Key;
-    /// # use slotmap_proved::fallible::Global;
+    /// # use slotmap_proved::{Global, Key, list};
     /// # use slotmap_proved::list::{Cursor, StableList};
     /// # fn main() -> Result<(), Box<dyn std::error::Error>> {
     /// # let alloc = Global;
@@ -194,8 +191,7 @@ impl<K: Key, T: Sized> StableList<K, T> {
     /// It fails only if memory runs out.
     ///
     /// ```
-    /// # use slotmap_proved::{Key, NodeKey};
-    /// # use slotmap_proved::fallible::Global;
+    /// # use slotmap_proved::{Global, Key, list, NodeKey};
     /// # use slotmap_proved::list::StableList;
     /// # fn main() -> Result<(), Box<dyn std::error::Error>> {
     /// # let alloc = Global;
@@ -224,8 +220,7 @@ impl<K: Key, T: Sized> StableList<K, T> {
     /// time linear in `capacity`.
     ///
     /// ```
-    /// # use slotmap_proved::{Key, NodeKey};
-    /// # use slotmap_proved::fallible::Global;
+    /// # use slotmap_proved::{Global, Key, list, NodeKey};
     /// # use slotmap_proved::list::StableList;
     /// # fn main() -> Result<(), Box<dyn std::error::Error>> {
     /// # let alloc = Global;
@@ -255,8 +250,7 @@ impl<K: Key, T: Sized> StableList<K, T> {
     /// Returns whether a cursor is in the list, in constant time.
     ///
     /// ```
-    /// # use slotmap_proved::Key;
-    /// # use slotmap_proved::fallible::Global;
+    /// # use slotmap_proved::{Global, Key, list};
     /// # use slotmap_proved::list::StableList;
     /// # fn main() -> Result<(), Box<dyn std::error::Error>> {
     /// # let alloc = Global;
@@ -283,8 +277,7 @@ impl<K: Key, T: Sized> StableList<K, T> {
     /// Returns the number of elements, in constant time. No cursor occurs twice.
     ///
     /// ```
-    /// # use slotmap_proved::Key;
-    /// # use slotmap_proved::fallible::Global;
+    /// # use slotmap_proved::{Global, Key, list};
     /// # use slotmap_proved::list::StableList;
     /// # fn main() -> Result<(), Box<dyn std::error::Error>> {
     /// # let alloc = Global;
@@ -313,8 +306,7 @@ impl<K: Key, T: Sized> StableList<K, T> {
     /// Returns whether the list has no element, in constant time.
     ///
     /// ```
-    /// # use slotmap_proved::Key;
-    /// # use slotmap_proved::fallible::Global;
+    /// # use slotmap_proved::{Global, Key, list};
     /// # use slotmap_proved::list::StableList;
     /// # fn main() -> Result<(), Box<dyn std::error::Error>> {
     /// # let alloc = Global;
@@ -339,8 +331,7 @@ impl<K: Key, T: Sized> StableList<K, T> {
     /// Returns the cursor of the element at the front, or `None` if the list is empty.
     ///
     /// ```
-    /// # use slotmap_proved::Key;
-    /// # use slotmap_proved::fallible::Global;
+    /// # use slotmap_proved::{Global, Key, list};
     /// # use slotmap_proved::list::StableList;
     /// # fn main() -> Result<(), Box<dyn std::error::Error>> {
     /// # let alloc = Global;
@@ -367,8 +358,7 @@ impl<K: Key, T: Sized> StableList<K, T> {
     /// Returns the cursor of the element at the back, or `None` if the list is empty.
     ///
     /// ```
-    /// # use slotmap_proved::Key;
-    /// # use slotmap_proved::fallible::Global;
+    /// # use slotmap_proved::{Global, Key, list};
     /// # use slotmap_proved::list::StableList;
     /// # fn main() -> Result<(), Box<dyn std::error::Error>> {
     /// # let alloc = Global;
@@ -395,8 +385,7 @@ impl<K: Key, T: Sized> StableList<K, T> {
     /// Returns the value of a cursor, or `None` if it isn't in the list.
     ///
     /// ```
-    /// # use slotmap_proved::Key;
-    /// # use slotmap_proved::fallible::Global;
+    /// # use slotmap_proved::{Global, Key, list};
     /// # use slotmap_proved::list::StableList;
     /// # fn main() -> Result<(), Box<dyn std::error::Error>> {
     /// # let alloc = Global;
@@ -424,8 +413,7 @@ impl<K: Key, T: Sized> StableList<K, T> {
     /// list.
     ///
     /// ```
-    /// # use slotmap_proved::Key;
-    /// # use slotmap_proved::fallible::Global;
+    /// # use slotmap_proved::{Global, Key, list};
     /// # use slotmap_proved::list::StableList;
     /// # fn main() -> Result<(), Box<dyn std::error::Error>> {
     /// # let alloc = Global;
@@ -452,8 +440,7 @@ impl<K: Key, T: Sized> StableList<K, T> {
     /// list.
     ///
     /// ```
-    /// # use slotmap_proved::Key;
-    /// # use slotmap_proved::fallible::Global;
+    /// # use slotmap_proved::{Global, Key, list};
     /// # use slotmap_proved::list::StableList;
     /// # fn main() -> Result<(), Box<dyn std::error::Error>> {
     /// # let alloc = Global;
@@ -494,8 +481,7 @@ impl<K: Key, T: Sized> StableList<K, T> {
     /// It is made in constant time, and each step takes constant time.
     ///
     /// ```
-    /// # use slotmap_proved::Key;
-    /// # use slotmap_proved::fallible::Global;
+    /// # use slotmap_proved::{Global, Key, list};
     /// # use slotmap_proved::list::StableList;
     /// # fn main() -> Result<(), Box<dyn std::error::Error>> {
     /// # let alloc = Global;
@@ -528,8 +514,7 @@ impl<K: Key, T: Sized> StableList<K, T> {
     /// runs out.
     ///
     /// ```
-    /// # use slotmap_proved::Key;
-    /// # use slotmap_proved::fallible::Global;
+    /// # use slotmap_proved::{Global, Key, list};
     /// # use slotmap_proved::list::StableList;
     /// # fn main() -> Result<(), Box<dyn std::error::Error>> {
     /// # let alloc = Global;

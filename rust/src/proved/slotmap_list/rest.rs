@@ -47,8 +47,7 @@ impl<K: Key, T: Sized> StableList<K, T> {
     /// It is made in constant time, and each step takes constant time.
     ///
     /// ```
-    /// # use slotmap_proved::Key;
-    /// # use slotmap_proved::fallible::Global;
+    /// # use slotmap_proved::{Global, Key, list};
     /// # use slotmap_proved::list::StableList;
     /// # fn main() -> Result<(), Box<dyn std::error::Error>> {
     /// # let alloc = Global;

@@ -30,8 +30,7 @@ impl<K: Key, T: Sized> StableList<K, T> {
     /// takes time linear in the number of elements.
     ///
     /// ```
-    /// # use slotmap_proved::Key;
-    /// # use slotmap_proved::fallible::Global;
+    /// # use slotmap_proved::{Global, Key, list};
     /// # use slotmap_proved::list::{Cursor, StableList};
     /// # fn main() -> Result<(), Box<dyn std::error::Error>> {
     /// # let alloc = Global;

@@ -16,8 +16,7 @@ impl<K: Key, T: Sized> StableLists<K, T> {
     /// fails, the error holds the value, and the lists have the same elements. Constant time on average.
     ///
     /// ```
-    /// # use slotmap_proved::Key;
-    /// # use slotmap_proved::fallible::Global;
+    /// # use slotmap_proved::{Global, Key, lists};
     /// # use slotmap_proved::lists::{PlaceError, StableLists};
     /// # fn main() -> Result<(), Box<dyn std::error::Error>> {
     /// # let alloc = Global;
@@ -76,8 +75,7 @@ impl<K: Key, T: Sized> StableLists<K, T> {
     /// fails, the error holds the value, and the lists have the same elements. Constant time on average.
     ///
     /// ```
-    /// # use slotmap_proved::Key;
-    /// # use slotmap_proved::fallible::Global;
+    /// # use slotmap_proved::{Global, Key, lists};
     /// # use slotmap_proved::lists::{PlaceError, StableLists};
     /// # fn main() -> Result<(), Box<dyn std::error::Error>> {
     /// # let alloc = Global;

@@ -15,8 +15,7 @@ impl<K: Key, T: Clone> StableLists<K, T> {
     /// time linear in the capacity and in the number of lists.
     ///
     /// ```
-    /// # use slotmap_proved::Key;
-    /// # use slotmap_proved::fallible::Global;
+    /// # use slotmap_proved::{Global, Key, lists};
     /// # use slotmap_proved::lists::StableLists;
     /// # fn main() -> Result<(), Box<dyn std::error::Error>> {
     /// # let alloc = Global;

@@ -13,8 +13,7 @@ impl<K: Key, T: Sized> StableLists<K, T> {
     /// It takes time linear in the number of elements of the list.
     ///
     /// ```
-    /// # use slotmap_proved::Key;
-    /// # use slotmap_proved::fallible::Global;
+    /// # use slotmap_proved::{Global, Key, lists};
     /// # use slotmap_proved::lists::StableLists;
     /// # fn main() -> Result<(), Box<dyn std::error::Error>> {
     /// # let alloc = Global;
@@ -53,8 +52,7 @@ impl<K: Key, T: Sized> StableLists<K, T> {
     /// the number of elements of `other`, since each of them says which list it is in.
     ///
     /// ```
-    /// # use slotmap_proved::Key;
-    /// # use slotmap_proved::fallible::Global;
+    /// # use slotmap_proved::{Global, Key, lists};
     /// # use slotmap_proved::lists::StableLists;
     /// # fn main() -> Result<(), Box<dyn std::error::Error>> {
     /// # let alloc = Global;

@@ -57,8 +57,7 @@ impl<K: Key, T: Sized> StableLists<K, T> {
     /// It is made in constant time, and each step takes constant time.
     ///
     /// ```
-    /// # use slotmap_proved::Key;
-    /// # use slotmap_proved::fallible::Global;
+    /// # use slotmap_proved::{Global, Key, lists};
     /// # use slotmap_proved::lists::StableLists;
     /// # fn main() -> Result<(), Box<dyn std::error::Error>> {
     /// # let alloc = Global;

@@ -32,8 +32,7 @@
 //! second:
 //!
 //! ```
-//! # use slotmap_proved::Key;
-//! # use slotmap_proved::fallible::Global;
+//! # use slotmap_proved::{Global, Key};
 //! # use slotmap_proved::lists::StableLists;
 //! # fn main() -> Result<(), Box<dyn std::error::Error>> {
 //! # let alloc = Global;
@@ -132,8 +131,7 @@ impl<T: Sized> StableLists<Cursor, T> {
     /// takes time linear in `lists`.
     ///
     /// ```
-    /// # use slotmap_proved::Key;
-    /// # use slotmap_proved::fallible::Global;
+    /// # use slotmap_proved::{Global, Key, lists};
     /// # use slotmap_proved::lists::{Cursor, StableLists};
     /// # fn main() -> Result<(), Box<dyn std::error::Error>> {
     /// # let alloc = Global;
@@ -163,8 +161,7 @@ impl<T: Sized> StableLists<Cursor, T> {
     /// It takes time linear in both.
     ///
     /// ```
-    /// # use slotmap_proved::Key;
-    /// # use slotmap_proved::fallible::Global;
+    /// # use slotmap_proved::{Global, Key, lists};
     /// # use slotmap_proved::lists::{Cursor, StableLists};
     /// # fn main() -> Result<(), Box<dyn std::error::Error>> {
     /// # let alloc = Global;
@@ -195,8 +192,7 @@ impl<K: Key, T: Sized> StableLists<K, T> {
     /// takes time linear in `lists`.
     ///
     /// ```
-    /// # use slotmap_proved::{Key, NodeKey};
-    /// # use slotmap_proved::fallible::Global;
+    /// # use slotmap_proved::{Global, Key, lists, NodeKey};
     /// # use slotmap_proved::lists::StableLists;
     /// # fn main() -> Result<(), Box<dyn std::error::Error>> {
     /// # let alloc = Global;
@@ -225,8 +221,7 @@ impl<K: Key, T: Sized> StableLists<K, T> {
     /// It takes time linear in both.
     ///
     /// ```
-    /// # use slotmap_proved::{Key, NodeKey};
-    /// # use slotmap_proved::fallible::Global;
+    /// # use slotmap_proved::{Global, Key, lists, NodeKey};
     /// # use slotmap_proved::lists::StableLists;
     /// # fn main() -> Result<(), Box<dyn std::error::Error>> {
     /// # let alloc = Global;
@@ -270,8 +265,7 @@ impl<K: Key, T: Sized> StableLists<K, T> {
     /// Returns the number of lists, in constant time. They have the numbers below it.
     ///
     /// ```
-    /// # use slotmap_proved::Key;
-    /// # use slotmap_proved::fallible::Global;
+    /// # use slotmap_proved::{Global, Key, lists};
     /// # use slotmap_proved::lists::{Cursor, StableLists};
     /// # fn main() -> Result<(), Box<dyn std::error::Error>> {
     /// # let alloc = Global;
@@ -296,8 +290,7 @@ impl<K: Key, T: Sized> StableLists<K, T> {
     /// once.
     ///
     /// ```
-    /// # use slotmap_proved::Key;
-    /// # use slotmap_proved::fallible::Global;
+    /// # use slotmap_proved::{Global, Key, lists};
     /// # use slotmap_proved::lists::StableLists;
     /// # fn main() -> Result<(), Box<dyn std::error::Error>> {
     /// # let alloc = Global;
@@ -325,8 +318,7 @@ impl<K: Key, T: Sized> StableLists<K, T> {
     /// Returns whether no list has an element, in constant time.
     ///
     /// ```
-    /// # use slotmap_proved::Key;
-    /// # use slotmap_proved::fallible::Global;
+    /// # use slotmap_proved::{Global, Key, lists};
     /// # use slotmap_proved::lists::StableLists;
     /// # fn main() -> Result<(), Box<dyn std::error::Error>> {
     /// # let alloc = Global;
@@ -351,8 +343,7 @@ impl<K: Key, T: Sized> StableLists<K, T> {
     /// Returns the number of elements of a list, in constant time; of one that isn't there, 0.
     ///
     /// ```
-    /// # use slotmap_proved::Key;
-    /// # use slotmap_proved::fallible::Global;
+    /// # use slotmap_proved::{Global, Key, lists};
     /// # use slotmap_proved::lists::StableLists;
     /// # fn main() -> Result<(), Box<dyn std::error::Error>> {
     /// # let alloc = Global;
@@ -379,8 +370,7 @@ impl<K: Key, T: Sized> StableLists<K, T> {
     /// Returns whether a cursor is in a list, in constant time.
     ///
     /// ```
-    /// # use slotmap_proved::Key;
-    /// # use slotmap_proved::fallible::Global;
+    /// # use slotmap_proved::{Global, Key, lists};
     /// # use slotmap_proved::lists::StableLists;
     /// # fn main() -> Result<(), Box<dyn std::error::Error>> {
     /// # let alloc = Global;
@@ -407,8 +397,7 @@ impl<K: Key, T: Sized> StableLists<K, T> {
     /// Returns the number of the list that a cursor is in, or `None` if it is in none. Constant time.
     ///
     /// ```
-    /// # use slotmap_proved::Key;
-    /// # use slotmap_proved::fallible::Global;
+    /// # use slotmap_proved::{Global, Key, lists};
     /// # use slotmap_proved::lists::StableLists;
     /// # fn main() -> Result<(), Box<dyn std::error::Error>> {
     /// # let alloc = Global;
@@ -445,8 +434,7 @@ impl<K: Key, T: Sized> StableLists<K, T> {
     /// Returns the value of a cursor, or `None` if it is in no list. Constant time.
     ///
     /// ```
-    /// # use slotmap_proved::Key;
-    /// # use slotmap_proved::fallible::Global;
+    /// # use slotmap_proved::{Global, Key, lists};
     /// # use slotmap_proved::lists::StableLists;
     /// # fn main() -> Result<(), Box<dyn std::error::Error>> {
     /// # let alloc = Global;
@@ -474,8 +462,7 @@ impl<K: Key, T: Sized> StableLists<K, T> {
     /// time.
     ///
     /// ```
-    /// # use slotmap_proved::Key;
-    /// # use slotmap_proved::fallible::Global;
+    /// # use slotmap_proved::{Global, Key, lists};
     /// # use slotmap_proved::lists::StableLists;
     /// # fn main() -> Result<(), Box<dyn std::error::Error>> {
     /// # let alloc = Global;
@@ -505,8 +492,7 @@ impl<K: Key, T: Sized> StableLists<K, T> {
     /// Returns the cursor at the back of a list, or `None` if it is empty or isn't there. Constant time.
     ///
     /// ```
-    /// # use slotmap_proved::Key;
-    /// # use slotmap_proved::fallible::Global;
+    /// # use slotmap_proved::{Global, Key, lists};
     /// # use slotmap_proved::lists::StableLists;
     /// # fn main() -> Result<(), Box<dyn std::error::Error>> {
     /// # let alloc = Global;
@@ -537,8 +523,7 @@ impl<K: Key, T: Sized> StableLists<K, T> {
     /// no list. Constant time.
     ///
     /// ```
-    /// # use slotmap_proved::Key;
-    /// # use slotmap_proved::fallible::Global;
+    /// # use slotmap_proved::{Global, Key, lists};
     /// # use slotmap_proved::lists::StableLists;
     /// # fn main() -> Result<(), Box<dyn std::error::Error>> {
     /// # let alloc = Global;
@@ -569,8 +554,7 @@ impl<K: Key, T: Sized> StableLists<K, T> {
     /// in no list. Constant time.
     ///
     /// ```
-    /// # use slotmap_proved::Key;
-    /// # use slotmap_proved::fallible::Global;
+    /// # use slotmap_proved::{Global, Key, lists};
     /// # use slotmap_proved::lists::StableLists;
     /// # fn main() -> Result<(), Box<dyn std::error::Error>> {
     /// # let alloc = Global;

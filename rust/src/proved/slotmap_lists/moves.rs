@@ -12,8 +12,7 @@ impl<K: Key, T: Sized> StableLists<K, T> {
     /// time.
     ///
     /// ```
-    /// # use slotmap_proved::Key;
-    /// # use slotmap_proved::fallible::Global;
+    /// # use slotmap_proved::{Global, Key, lists};
     /// # use slotmap_proved::lists::StableLists;
     /// # fn main() -> Result<(), Box<dyn std::error::Error>> {
     /// # let alloc = Global;
@@ -48,8 +47,7 @@ impl<K: Key, T: Sized> StableLists<K, T> {
     /// Constant time. The element keeps its cursor and its value, and the capacity stays.
     ///
     /// ```
-    /// # use slotmap_proved::Key;
-    /// # use slotmap_proved::fallible::Global;
+    /// # use slotmap_proved::{Global, Key, lists};
     /// # use slotmap_proved::lists::StableLists;
     /// # fn main() -> Result<(), Box<dyn std::error::Error>> {
     /// # let alloc = Global;
@@ -91,8 +89,7 @@ impl<K: Key, T: Sized> StableLists<K, T> {
     /// Constant time. The element keeps its cursor and its value, and the capacity stays.
     ///
     /// ```
-    /// # use slotmap_proved::Key;
-    /// # use slotmap_proved::fallible::Global;
+    /// # use slotmap_proved::{Global, Key, lists};
     /// # use slotmap_proved::lists::StableLists;
     /// # fn main() -> Result<(), Box<dyn std::error::Error>> {
     /// # let alloc = Global;
@@ -133,8 +130,7 @@ impl<K: Key, T: Sized> StableLists<K, T> {
     /// Constant time. The element keeps its cursor and its value, and the capacity stays.
     ///
     /// ```
-    /// # use slotmap_proved::Key;
-    /// # use slotmap_proved::fallible::Global;
+    /// # use slotmap_proved::{Global, Key, lists};
     /// # use slotmap_proved::lists::StableLists;
     /// # fn main() -> Result<(), Box<dyn std::error::Error>> {
     /// # let alloc = Global;
@@ -176,8 +172,7 @@ impl<K: Key, T: Sized> StableLists<K, T> {
     /// Constant time. The element keeps its cursor and its value, and the capacity stays.
     ///
     /// ```
-    /// # use slotmap_proved::Key;
-    /// # use slotmap_proved::fallible::Global;
+    /// # use slotmap_proved::{Global, Key, lists};
     /// # use slotmap_proved::lists::StableLists;
     /// # fn main() -> Result<(), Box<dyn std::error::Error>> {
     /// # let alloc = Global;

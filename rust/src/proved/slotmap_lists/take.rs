@@ -13,8 +13,7 @@ impl<K: Key, T: Sized> StableLists<K, T> {
     /// room is lost, and the capacity stays. Constant time.
     ///
     /// ```
-    /// # use slotmap_proved::Key;
-    /// # use slotmap_proved::fallible::Global;
+    /// # use slotmap_proved::{Global, Key, lists};
     /// # use slotmap_proved::lists::StableLists;
     /// # fn main() -> Result<(), Box<dyn std::error::Error>> {
     /// # let alloc = Global;
@@ -56,8 +55,7 @@ impl<K: Key, T: Sized> StableLists<K, T> {
     /// capacity stays. Constant time.
     ///
     /// ```
-    /// # use slotmap_proved::Key;
-    /// # use slotmap_proved::fallible::Global;
+    /// # use slotmap_proved::{Global, Key, lists};
     /// # use slotmap_proved::lists::StableLists;
     /// # fn main() -> Result<(), Box<dyn std::error::Error>> {
     /// # let alloc = Global;
@@ -100,8 +98,7 @@ impl<K: Key, T: Sized> StableLists<K, T> {
     /// capacity stays. Constant time.
     ///
     /// ```
-    /// # use slotmap_proved::Key;
-    /// # use slotmap_proved::fallible::Global;
+    /// # use slotmap_proved::{Global, Key, lists};
     /// # use slotmap_proved::lists::StableLists;
     /// # fn main() -> Result<(), Box<dyn std::error::Error>> {
     /// # let alloc = Global;

@@ -157,8 +157,7 @@ fn visit_from<K: Key, N: Sized, E: Sized>(
 /// the open nodes are in a vector. It fails only if memory runs out.
 ///
 /// ```
-/// # use slotmap_proved::{Key, NodeKey};
-/// # use slotmap_proved::fallible::Global;
+/// # use slotmap_proved::{Global, graph, Key, NodeKey};
 /// # use slotmap_proved::graph::Graph;
 /// # use slotmap_proved::paths::post_order;
 /// # fn main() -> Result<(), Box<dyn std::error::Error>> {
@@ -200,8 +199,7 @@ pub fn post_order<K: Key, N: Sized, E: Sized>(
 /// are in a `SecondaryMap`. It fails only if memory runs out.
 ///
 /// ```
-/// # use slotmap_proved::{Key, NodeKey};
-/// # use slotmap_proved::fallible::Global;
+/// # use slotmap_proved::{Global, graph, Key, NodeKey};
 /// # use slotmap_proved::graph::Graph;
 /// # use slotmap_proved::paths::post_order_from;
 /// # fn main() -> Result<(), Box<dyn std::error::Error>> {

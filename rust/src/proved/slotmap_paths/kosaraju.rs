@@ -112,8 +112,7 @@ fn add_components<K: Key, N: Sized, E: Sized>(
 /// number of edges. It fails only if memory runs out.
 ///
 /// ```
-/// # use slotmap_proved::{Key, NodeKey};
-/// # use slotmap_proved::fallible::Global;
+/// # use slotmap_proved::{Global, graph, Key, NodeKey};
 /// # use slotmap_proved::graph::Graph;
 /// # use slotmap_proved::paths::kosaraju_scc;
 /// # fn main() -> Result<(), Box<dyn std::error::Error>> {

@@ -21,8 +21,8 @@
 //!   each of them to the other. No path leads from a component to one before it.
 //!
 //! ```
-//! # use slotmap_proved::{Key, NodeKey};
-//! # use slotmap_proved::fallible::{Global, SecondaryMap};
+//! # use slotmap_proved::{Global, graph, Key, NodeKey, paths};
+//! # use slotmap_proved::fallible::SecondaryMap;
 //! # use slotmap_proved::graph::Graph;
 //! # use slotmap_proved::paths::{path_to, Reached, shortest_paths};
 //! # fn main() -> Result<(), Box<dyn std::error::Error>> {
@@ -62,8 +62,7 @@ use crate::rt::std::alloc::Global;
 /// start itself has no edge.
 ///
 /// ```
-/// # use slotmap_proved::Key;
-/// # use slotmap_proved::fallible::Global;
+/// # use slotmap_proved::{Global, Key};
 /// # use slotmap_proved::paths::Reached;
 /// # fn main() -> Result<(), Box<dyn std::error::Error>> {
 /// # let alloc = Global;
@@ -108,8 +107,8 @@ pub enum PathError {
 /// is in a `SecondaryMap`.
 ///
 /// ```
-/// # use slotmap_proved::{Key, NodeKey};
-/// # use slotmap_proved::fallible::{Global, SecondaryMap};
+/// # use slotmap_proved::{Global, graph, Key, NodeKey, paths};
+/// # use slotmap_proved::fallible::SecondaryMap;
 /// # use slotmap_proved::graph::Graph;
 /// # use slotmap_proved::paths::{PathError, Reached, shortest_paths};
 /// # fn main() -> Result<(), Box<dyn std::error::Error>> {

@@ -35,8 +35,8 @@ fn step_back<K: Key, N: Sized, E: Sized>(
 /// It takes time linear in the number of these edges, and fails only if memory runs out.
 ///
 /// ```
-/// # use slotmap_proved::{Key, NodeKey};
-/// # use slotmap_proved::fallible::{Global, SecondaryMap};
+/// # use slotmap_proved::{Global, graph, Key, NodeKey, paths};
+/// # use slotmap_proved::fallible::SecondaryMap;
 /// # use slotmap_proved::graph::Graph;
 /// # use slotmap_proved::paths::{path_to, shortest_paths};
 /// # fn main() -> Result<(), Box<dyn std::error::Error>> {

@@ -96,8 +96,8 @@ where
 /// return.
 ///
 /// ```
-/// # use slotmap_proved::{DefaultKey, Key, OutOfMemory};
-/// # use slotmap_proved::fallible::{Global, SlotMap};
+/// # use slotmap_proved::{DefaultKey, Global, Key, OutOfMemory};
+/// # use slotmap_proved::fallible::SlotMap;
 /// # use slotmap_proved::runs::{Command, Reply, run};
 /// # fn main() -> Result<(), Box<dyn std::error::Error>> {
 /// # let alloc = Global;
@@ -193,8 +193,8 @@ where
 /// return.
 ///
 /// ```
-/// # use slotmap_proved::{DefaultKey, Key, KeyData, OutOfMemory};
-/// # use slotmap_proved::fallible::{Global, SlotMap};
+/// # use slotmap_proved::{DefaultKey, Global, Key, KeyData, OutOfMemory};
+/// # use slotmap_proved::fallible::SlotMap;
 /// # use slotmap_proved::runs::{Command, Reply, run_new};
 /// # fn main() -> Result<(), Box<dyn std::error::Error>> {
 /// # let alloc = Global;
@@ -298,8 +298,8 @@ where
 /// [`run`].
 ///
 /// ```
-/// # use slotmap_proved::{DefaultKey, Key, OutOfMemory};
-/// # use slotmap_proved::fallible::{Global, SlotMap};
+/// # use slotmap_proved::{DefaultKey, Global, Key, OutOfMemory};
+/// # use slotmap_proved::fallible::SlotMap;
 /// # use slotmap_proved::runs::{DetachCommand, Reply, run_detaching};
 /// # fn main() -> Result<(), Box<dyn std::error::Error>> {
 /// # let alloc = Global;
@@ -385,8 +385,8 @@ where
 /// The closures, the allocations, the failures and the cost are those of `run_new`.
 ///
 /// ```
-/// # use slotmap_proved::{DefaultKey, Key, KeyData, OutOfMemory};
-/// # use slotmap_proved::fallible::{Global, SlotMap};
+/// # use slotmap_proved::{DefaultKey, Global, Key, KeyData, OutOfMemory};
+/// # use slotmap_proved::fallible::SlotMap;
 /// # use slotmap_proved::runs::{Command, DetachCommand, Reply, run_detaching_new};
 /// # fn main() -> Result<(), Box<dyn std::error::Error>> {
 /// # let alloc = Global;

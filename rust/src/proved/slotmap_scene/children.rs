@@ -27,8 +27,7 @@ impl<'a, K, T> ChildKeys<'a, K, T> {
     /// Returns how many keys are left, in constant time.
     ///
     /// ```
-    /// # use slotmap_proved::{DefaultKey, Key};
-    /// # use slotmap_proved::fallible::Global;
+    /// # use slotmap_proved::{DefaultKey, Global, Key, scene};
     /// # use slotmap_proved::scene::Scene;
     /// # use slotmap_proved::scene::world::{HasTransform, Transform};
     /// # fn main() -> Result<(), Box<dyn std::error::Error>> {

@@ -11,8 +11,7 @@ impl<K: Key, T: Sized> Scene<K, T> {
     /// Returns how many nodes are above a node, or `None` if it doesn't exist.
     ///
     /// ```
-    /// # use slotmap_proved::{DefaultKey, Key};
-    /// # use slotmap_proved::fallible::Global;
+    /// # use slotmap_proved::{DefaultKey, Global, Key, scene};
     /// # use slotmap_proved::scene::Scene;
     /// # use slotmap_proved::scene::world::{HasTransform, Transform};
     /// # fn main() -> Result<(), Box<dyn std::error::Error>> {
@@ -52,8 +51,7 @@ impl<K: Key, T: Sized> Scene<K, T> {
     /// Returns whether a node exists, and is the other node or below it.
     ///
     /// ```
-    /// # use slotmap_proved::{DefaultKey, Key};
-    /// # use slotmap_proved::fallible::Global;
+    /// # use slotmap_proved::{DefaultKey, Global, Key, scene};
     /// # use slotmap_proved::scene::Scene;
     /// # use slotmap_proved::scene::world::{HasTransform, Transform};
     /// # fn main() -> Result<(), Box<dyn std::error::Error>> {

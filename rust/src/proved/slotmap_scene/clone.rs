@@ -27,8 +27,7 @@ impl<K: Key, T: Clone> Scene<K, T> {
     /// takes time linear in the capacity.
     ///
     /// ```
-    /// # use slotmap_proved::{DefaultKey, Key};
-    /// # use slotmap_proved::fallible::Global;
+    /// # use slotmap_proved::{DefaultKey, Global, Key, scene};
     /// # use slotmap_proved::scene::Scene;
     /// # use slotmap_proved::scene::world::{HasTransform, Transform};
     /// # fn main() -> Result<(), Box<dyn std::error::Error>> {

@@ -21,8 +21,7 @@ impl<'a, K, T> Iter<'a, K, T> {
     /// Returns how many nodes are left, in constant time.
     ///
     /// ```
-    /// # use slotmap_proved::{DefaultKey, Key};
-    /// # use slotmap_proved::fallible::Global;
+    /// # use slotmap_proved::{DefaultKey, Global, Key, scene};
     /// # use slotmap_proved::scene::Scene;
     /// # use slotmap_proved::scene::world::{HasTransform, Transform};
     /// # fn main() -> Result<(), Box<dyn std::error::Error>> {
@@ -151,8 +150,7 @@ impl<K: Key, T: Sized> Scene<K, T> {
     /// It is made in constant time. All its steps together read each slot once.
     ///
     /// ```
-    /// # use slotmap_proved::{DefaultKey, Key};
-    /// # use slotmap_proved::fallible::Global;
+    /// # use slotmap_proved::{DefaultKey, Global, Key, scene};
     /// # use slotmap_proved::scene::Scene;
     /// # use slotmap_proved::scene::world::{HasTransform, Transform};
     /// # fn main() -> Result<(), Box<dyn std::error::Error>> {
@@ -186,8 +184,7 @@ impl<K: Key, T: Sized> Scene<K, T> {
     /// It is made in constant time. All its steps together read each slot once.
     ///
     /// ```
-    /// # use slotmap_proved::{DefaultKey, Key};
-    /// # use slotmap_proved::fallible::Global;
+    /// # use slotmap_proved::{DefaultKey, Global, Key, scene};
     /// # use slotmap_proved::scene::Scene;
     /// # use slotmap_proved::scene::world::{HasTransform, Transform};
     /// # fn main() -> Result<(), Box<dyn std::error::Error>> {
@@ -218,8 +215,7 @@ impl<K: Key, T: Sized> Scene<K, T> {
     /// It is made in constant time. All its steps together read each slot once.
     ///
     /// ```
-    /// # use slotmap_proved::{DefaultKey, Key};
-    /// # use slotmap_proved::fallible::Global;
+    /// # use slotmap_proved::{DefaultKey, Global, Key, scene};
     /// # use slotmap_proved::scene::Scene;
     /// # use slotmap_proved::scene::world::{HasTransform, Transform};
     /// # fn main() -> Result<(), Box<dyn std::error::Error>> {

@@ -44,8 +44,7 @@ impl<K: Key, T: HasTransform> Scene<K, T> {
     /// slots.
     ///
     /// ```
-    /// # use slotmap_proved::{DefaultKey, Key};
-    /// # use slotmap_proved::fallible::Global;
+    /// # use slotmap_proved::{DefaultKey, Global, Key};
     /// # use slotmap_proved::scene::Scene;
     /// # use slotmap_proved::scene::world::{HasTransform, Offset, Transform};
     /// # fn main() -> Result<(), Box<dyn std::error::Error>> {

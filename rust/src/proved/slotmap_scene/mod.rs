@@ -43,8 +43,7 @@
 //!   [`Scene::iter`], [`Scene::keys`], [`Scene::values`] or [`Scene::roots`] together.
 //!
 //! ```
-//! # use slotmap_proved::{DefaultKey, Key};
-//! # use slotmap_proved::fallible::Global;
+//! # use slotmap_proved::{DefaultKey, Global, Key, scene};
 //! # use slotmap_proved::scene::Scene;
 //! # use slotmap_proved::scene::world::{HasTransform, Transform};
 //! # fn main() -> Result<(), Box<dyn std::error::Error>> {
@@ -159,8 +158,7 @@ impl<T: Sized> Scene<DefaultKey, T> {
     /// It fails only if memory runs out.
     ///
     /// ```
-    /// # use slotmap_proved::{DefaultKey, Key};
-    /// # use slotmap_proved::fallible::Global;
+    /// # use slotmap_proved::{DefaultKey, Global, Key, scene};
     /// # use slotmap_proved::scene::Scene;
     /// # use slotmap_proved::scene::world::{HasTransform, Transform};
     /// # fn main() -> Result<(), Box<dyn std::error::Error>> {
@@ -188,8 +186,7 @@ impl<T: Sized> Scene<DefaultKey, T> {
     /// It takes time linear in `capacity`.
     ///
     /// ```
-    /// # use slotmap_proved::{DefaultKey, Key};
-    /// # use slotmap_proved::fallible::Global;
+    /// # use slotmap_proved::{DefaultKey, Global, Key, scene};
     /// # use slotmap_proved::scene::Scene;
     /// # use slotmap_proved::scene::world::{HasTransform, Transform};
     /// # fn main() -> Result<(), Box<dyn std::error::Error>> {
@@ -219,8 +216,7 @@ impl<K: Key, T: Sized> Scene<K, T> {
     /// It fails only if memory runs out.
     ///
     /// ```
-    /// # use slotmap_proved::{Key, NodeKey};
-    /// # use slotmap_proved::fallible::Global;
+    /// # use slotmap_proved::{Global, Key, NodeKey, scene};
     /// # use slotmap_proved::scene::Scene;
     /// # use slotmap_proved::scene::world::{HasTransform, Transform};
     /// # fn main() -> Result<(), Box<dyn std::error::Error>> {
@@ -248,8 +244,7 @@ impl<K: Key, T: Sized> Scene<K, T> {
     /// It takes time linear in `capacity`.
     ///
     /// ```
-    /// # use slotmap_proved::{Key, NodeKey};
-    /// # use slotmap_proved::fallible::Global;
+    /// # use slotmap_proved::{Global, Key, NodeKey, scene};
     /// # use slotmap_proved::scene::Scene;
     /// # use slotmap_proved::scene::world::{HasTransform, Transform};
     /// # fn main() -> Result<(), Box<dyn std::error::Error>> {
@@ -285,8 +280,7 @@ impl<K: Key, T: Sized> Scene<K, T> {
     /// are retired, and with `Memory` if memory runs out. The scene has the same nodes then.
     ///
     /// ```
-    /// # use slotmap_proved::{DefaultKey, Key};
-    /// # use slotmap_proved::fallible::Global;
+    /// # use slotmap_proved::{DefaultKey, Global, Key, scene};
     /// # use slotmap_proved::scene::Scene;
     /// # use slotmap_proved::scene::world::{HasTransform, Transform};
     /// # fn main() -> Result<(), Box<dyn std::error::Error>> {
@@ -316,8 +310,7 @@ impl<K: Key, T: Sized> Scene<K, T> {
     /// They form trees, and each appears exactly once in its parent's list of children, and in no other.
     ///
     /// ```
-    /// # use slotmap_proved::{DefaultKey, Key};
-    /// # use slotmap_proved::fallible::Global;
+    /// # use slotmap_proved::{DefaultKey, Global, Key, scene};
     /// # use slotmap_proved::scene::Scene;
     /// # use slotmap_proved::scene::world::{HasTransform, Transform};
     /// # fn main() -> Result<(), Box<dyn std::error::Error>> {
@@ -348,8 +341,7 @@ impl<K: Key, T: Sized> Scene<K, T> {
     /// It counts the slots that are retired.
     ///
     /// ```
-    /// # use slotmap_proved::{DefaultKey, Key};
-    /// # use slotmap_proved::fallible::Global;
+    /// # use slotmap_proved::{DefaultKey, Global, Key, scene};
     /// # use slotmap_proved::scene::Scene;
     /// # use slotmap_proved::scene::world::{HasTransform, Transform};
     /// # fn main() -> Result<(), Box<dyn std::error::Error>> {
@@ -375,8 +367,7 @@ impl<K: Key, T: Sized> Scene<K, T> {
     /// Returns whether there is no node, in constant time.
     ///
     /// ```
-    /// # use slotmap_proved::{DefaultKey, Key};
-    /// # use slotmap_proved::fallible::Global;
+    /// # use slotmap_proved::{DefaultKey, Global, Key, scene};
     /// # use slotmap_proved::scene::Scene;
     /// # use slotmap_proved::scene::world::{HasTransform, Transform};
     /// # fn main() -> Result<(), Box<dyn std::error::Error>> {
@@ -402,8 +393,7 @@ impl<K: Key, T: Sized> Scene<K, T> {
     /// Returns whether a node exists, in constant time.
     ///
     /// ```
-    /// # use slotmap_proved::{DefaultKey, Key};
-    /// # use slotmap_proved::fallible::Global;
+    /// # use slotmap_proved::{DefaultKey, Global, Key, scene};
     /// # use slotmap_proved::scene::Scene;
     /// # use slotmap_proved::scene::world::{HasTransform, Transform};
     /// # fn main() -> Result<(), Box<dyn std::error::Error>> {
@@ -431,8 +421,7 @@ impl<K: Key, T: Sized> Scene<K, T> {
     /// Returns the value of a node, or `None` if it doesn't exist, in constant time.
     ///
     /// ```
-    /// # use slotmap_proved::{DefaultKey, Key};
-    /// # use slotmap_proved::fallible::Global;
+    /// # use slotmap_proved::{DefaultKey, Global, Key, scene};
     /// # use slotmap_proved::scene::Scene;
     /// # use slotmap_proved::scene::world::{HasTransform, Transform};
     /// # fn main() -> Result<(), Box<dyn std::error::Error>> {
@@ -460,8 +449,7 @@ impl<K: Key, T: Sized> Scene<K, T> {
     /// time.
     ///
     /// ```
-    /// # use slotmap_proved::{DefaultKey, Key};
-    /// # use slotmap_proved::fallible::Global;
+    /// # use slotmap_proved::{DefaultKey, Global, Key, scene};
     /// # use slotmap_proved::scene::Scene;
     /// # use slotmap_proved::scene::world::{HasTransform, Transform};
     /// # fn main() -> Result<(), Box<dyn std::error::Error>> {
@@ -493,8 +481,7 @@ impl<K: Key, T: Sized> Scene<K, T> {
     /// A node that doesn't exist has none. It is made in constant time, and each step takes constant time.
     ///
     /// ```
-    /// # use slotmap_proved::{DefaultKey, Key};
-    /// # use slotmap_proved::fallible::Global;
+    /// # use slotmap_proved::{DefaultKey, Global, Key, scene};
     /// # use slotmap_proved::scene::Scene;
     /// # use slotmap_proved::scene::world::{HasTransform, Transform};
     /// # fn main() -> Result<(), Box<dyn std::error::Error>> {
@@ -526,8 +513,7 @@ impl<K: Key, T: Sized> Scene<K, T> {
     /// exist. The parent exists.
     ///
     /// ```
-    /// # use slotmap_proved::{DefaultKey, Key};
-    /// # use slotmap_proved::fallible::Global;
+    /// # use slotmap_proved::{DefaultKey, Global, Key, scene};
     /// # use slotmap_proved::scene::Scene;
     /// # use slotmap_proved::scene::world::{HasTransform, Transform};
     /// # fn main() -> Result<(), Box<dyn std::error::Error>> {

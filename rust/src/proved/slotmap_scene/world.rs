@@ -16,8 +16,7 @@
 //! memory.
 //!
 //! ```
-//! # use slotmap_proved::{DefaultKey, Key};
-//! # use slotmap_proved::fallible::Global;
+//! # use slotmap_proved::{DefaultKey, Global, Key};
 //! # use slotmap_proved::scene::Scene;
 //! # use slotmap_proved::scene::world::{HasTransform, Offset, Transform};
 //! # fn main() -> Result<(), Box<dyn std::error::Error>> {
@@ -48,8 +47,7 @@ pub trait Transform: Copy {
     /// Returns this value in the coordinates in which its parent is given.
     ///
     /// ```
-    /// # use slotmap_proved::Key;
-    /// # use slotmap_proved::fallible::Global;
+    /// # use slotmap_proved::{Global, Key};
     /// # use slotmap_proved::scene::world::{HasTransform, Offset, Transform};
     /// # fn main() -> Result<(), Box<dyn std::error::Error>> {
     /// # let alloc = Global;
@@ -78,8 +76,7 @@ pub trait HasTransform {
     /// Returns the transform of this value.
     ///
     /// ```
-    /// # use slotmap_proved::Key;
-    /// # use slotmap_proved::fallible::Global;
+    /// # use slotmap_proved::{Global, Key};
     /// # use slotmap_proved::scene::world::{HasTransform, Offset, Transform};
     /// # fn main() -> Result<(), Box<dyn std::error::Error>> {
     /// # let alloc = Global;
@@ -132,8 +129,7 @@ impl<K: Key, T: Sized> Scene<K, T> {
     /// Linear in the number of nodes above.
     ///
     /// ```
-    /// # use slotmap_proved::{DefaultKey, Key};
-    /// # use slotmap_proved::fallible::Global;
+    /// # use slotmap_proved::{DefaultKey, Global, Key, scene};
     /// # use slotmap_proved::scene::Scene;
     /// # use slotmap_proved::scene::world::{HasTransform, Transform};
     /// # fn main() -> Result<(), Box<dyn std::error::Error>> {
@@ -181,8 +177,7 @@ impl<K: Key, T: Transform> Scene<K, T> {
     /// exactly if the node doesn't exist. Linear in the number of nodes above.
     ///
     /// ```
-    /// # use slotmap_proved::{DefaultKey, Key};
-    /// # use slotmap_proved::fallible::Global;
+    /// # use slotmap_proved::{DefaultKey, Global, Key};
     /// # use slotmap_proved::scene::Scene;
     /// # use slotmap_proved::scene::world::{HasTransform, Offset, Transform};
     /// # fn main() -> Result<(), Box<dyn std::error::Error>> {
@@ -223,8 +218,7 @@ impl<K: Key, T: HasTransform> Scene<K, T> {
     /// returns `None` exactly if the node doesn't exist. Linear in the number of nodes above.
     ///
     /// ```
-    /// # use slotmap_proved::{DefaultKey, Key};
-    /// # use slotmap_proved::fallible::Global;
+    /// # use slotmap_proved::{DefaultKey, Global, Key};
     /// # use slotmap_proved::scene::Scene;
     /// # use slotmap_proved::scene::world::{HasTransform, Offset, Transform};
     /// # fn main() -> Result<(), Box<dyn std::error::Error>> {

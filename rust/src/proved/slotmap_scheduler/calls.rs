@@ -19,8 +19,7 @@ impl<K: Key, T: Sized> Scheduler<K, T> {
     /// - `Memory`: memory runs out.
     ///
     /// ```
-    /// # use slotmap_proved::{DefaultKey, Key};
-    /// # use slotmap_proved::fallible::Global;
+    /// # use slotmap_proved::{DefaultKey, Global, Key, scheduler};
     /// # use slotmap_proved::scheduler::Scheduler;
     /// # fn main() -> Result<(), Box<dyn std::error::Error>> {
     /// # let alloc = Global;
@@ -71,8 +70,7 @@ impl<K: Key, T: Sized> Scheduler<K, T> {
     /// logarithmic in the number of jobs, unless a vector grows.
     ///
     /// ```
-    /// # use slotmap_proved::{DefaultKey, Key};
-    /// # use slotmap_proved::fallible::Global;
+    /// # use slotmap_proved::{DefaultKey, Global, Key, scheduler};
     /// # use slotmap_proved::scheduler::Scheduler;
     /// # fn main() -> Result<(), Box<dyn std::error::Error>> {
     /// # let alloc = Global;
@@ -132,8 +130,7 @@ impl<K: Key, T: Sized> Scheduler<K, T> {
     /// stays. It takes time logarithmic in the number of jobs.
     ///
     /// ```
-    /// # use slotmap_proved::{DefaultKey, Key};
-    /// # use slotmap_proved::fallible::Global;
+    /// # use slotmap_proved::{DefaultKey, Global, Key, scheduler};
     /// # use slotmap_proved::scheduler::Scheduler;
     /// # fn main() -> Result<(), Box<dyn std::error::Error>> {
     /// # let alloc = Global;
@@ -179,8 +176,7 @@ impl<K: Key, T: Sized> Scheduler<K, T> {
     /// time logarithmic in the number of jobs.
     ///
     /// ```
-    /// # use slotmap_proved::{DefaultKey, Key};
-    /// # use slotmap_proved::fallible::Global;
+    /// # use slotmap_proved::{DefaultKey, Global, Key, scheduler};
     /// # use slotmap_proved::scheduler::Scheduler;
     /// # fn main() -> Result<(), Box<dyn std::error::Error>> {
     /// # let alloc = Global;
@@ -230,8 +226,7 @@ impl<K: Key, T: Sized> Scheduler<K, T> {
     /// time.
     ///
     /// ```
-    /// # use slotmap_proved::{DefaultKey, Key};
-    /// # use slotmap_proved::fallible::Global;
+    /// # use slotmap_proved::{DefaultKey, Global, Key, scheduler};
     /// # use slotmap_proved::scheduler::Scheduler;
     /// # fn main() -> Result<(), Box<dyn std::error::Error>> {
     /// # let alloc = Global;
@@ -271,8 +266,7 @@ impl<K: Key, T: Sized> Scheduler<K, T> {
     /// It takes time logarithmic in the number of jobs.
     ///
     /// ```
-    /// # use slotmap_proved::{DefaultKey, Key};
-    /// # use slotmap_proved::fallible::Global;
+    /// # use slotmap_proved::{DefaultKey, Global, Key, scheduler};
     /// # use slotmap_proved::scheduler::Scheduler;
     /// # fn main() -> Result<(), Box<dyn std::error::Error>> {
     /// # let alloc = Global;
@@ -322,8 +316,7 @@ impl<K: Key, T: Sized> Scheduler<K, T> {
     /// the number of jobs.
     ///
     /// ```
-    /// # use slotmap_proved::{DefaultKey, Key};
-    /// # use slotmap_proved::fallible::Global;
+    /// # use slotmap_proved::{DefaultKey, Global, Key, scheduler};
     /// # use slotmap_proved::scheduler::Scheduler;
     /// # fn main() -> Result<(), Box<dyn std::error::Error>> {
     /// # let alloc = Global;
@@ -377,8 +370,7 @@ impl<K: Key, T: Sized> Scheduler<K, T> {
     /// job's time too.
     ///
     /// ```
-    /// # use slotmap_proved::{DefaultKey, Key};
-    /// # use slotmap_proved::fallible::Global;
+    /// # use slotmap_proved::{DefaultKey, Global, Key, scheduler};
     /// # use slotmap_proved::scheduler::Scheduler;
     /// # fn main() -> Result<(), Box<dyn std::error::Error>> {
     /// # let alloc = Global;
@@ -436,8 +428,8 @@ impl<K: Key, T: Sized> Scheduler<K, T> {
     /// takes constant time for each.
     ///
     /// ```
-    /// # use slotmap_proved::{DefaultKey, Key};
-    /// # use slotmap_proved::fallible::{Global, Vec};
+    /// # use slotmap_proved::{DefaultKey, Global, Key, scheduler};
+    /// # use slotmap_proved::fallible::Vec;
     /// # use slotmap_proved::scheduler::Scheduler;
     /// # fn main() -> Result<(), Box<dyn std::error::Error>> {
     /// # let alloc = Global;
@@ -497,8 +489,7 @@ impl<K: Key, T: Sized> Scheduler<K, T> {
     /// It takes time linear in the number of slots.
     ///
     /// ```
-    /// # use slotmap_proved::{DefaultKey, Key};
-    /// # use slotmap_proved::fallible::Global;
+    /// # use slotmap_proved::{DefaultKey, Global, Key, scheduler};
     /// # use slotmap_proved::scheduler::Scheduler;
     /// # fn main() -> Result<(), Box<dyn std::error::Error>> {
     /// # let alloc = Global;

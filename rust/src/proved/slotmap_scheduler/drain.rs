@@ -57,8 +57,7 @@ impl<K: Key, T: Sized> Scheduler<K, T> {
     /// number of jobs, and the drop takes time linear in the number of slots.
     ///
     /// ```
-    /// # use slotmap_proved::{DefaultKey, Key};
-    /// # use slotmap_proved::fallible::Global;
+    /// # use slotmap_proved::{DefaultKey, Global, Key, scheduler};
     /// # use slotmap_proved::scheduler::Scheduler;
     /// # fn main() -> Result<(), Box<dyn std::error::Error>> {
     /// # let alloc = Global;

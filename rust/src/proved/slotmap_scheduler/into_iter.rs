@@ -15,8 +15,7 @@ use crate::rt::std::iter::FusedIterator;
 /// jobs that are left.
 ///
 /// ```
-/// # use slotmap_proved::{DefaultKey, Key};
-/// # use slotmap_proved::fallible::Global;
+/// # use slotmap_proved::{DefaultKey, Global, Key, scheduler};
 /// # use slotmap_proved::scheduler::Scheduler;
 /// # fn main() -> Result<(), Box<dyn std::error::Error>> {
 /// # let alloc = Global;

@@ -122,8 +122,7 @@ impl<K: Key, T: Sized> Scheduler<K, T> {
     /// It is made in constant time. All its steps together read each slot once.
     ///
     /// ```
-    /// # use slotmap_proved::{DefaultKey, Key};
-    /// # use slotmap_proved::fallible::Global;
+    /// # use slotmap_proved::{DefaultKey, Global, Key, scheduler};
     /// # use slotmap_proved::scheduler::Scheduler;
     /// # fn main() -> Result<(), Box<dyn std::error::Error>> {
     /// # let alloc = Global;
@@ -156,8 +155,7 @@ impl<K: Key, T: Sized> Scheduler<K, T> {
     /// It is made in constant time. All its steps together read each slot once.
     ///
     /// ```
-    /// # use slotmap_proved::{DefaultKey, Key};
-    /// # use slotmap_proved::fallible::Global;
+    /// # use slotmap_proved::{DefaultKey, Global, Key, scheduler};
     /// # use slotmap_proved::scheduler::Scheduler;
     /// # fn main() -> Result<(), Box<dyn std::error::Error>> {
     /// # let alloc = Global;
@@ -184,8 +182,7 @@ impl<K: Key, T: Sized> Scheduler<K, T> {
     /// It is made in constant time. All its steps together read each slot once.
     ///
     /// ```
-    /// # use slotmap_proved::{DefaultKey, Key};
-    /// # use slotmap_proved::fallible::Global;
+    /// # use slotmap_proved::{DefaultKey, Global, Key, scheduler};
     /// # use slotmap_proved::scheduler::Scheduler;
     /// # fn main() -> Result<(), Box<dyn std::error::Error>> {
     /// # let alloc = Global;

@@ -26,8 +26,7 @@
 //! `peek`, `get`, `due`, `len` and the like take constant time.
 //!
 //! ```
-//! # use slotmap_proved::{DefaultKey, Key};
-//! # use slotmap_proved::fallible::Global;
+//! # use slotmap_proved::{DefaultKey, Global, Key, scheduler};
 //! # use slotmap_proved::scheduler::Scheduler;
 //! # fn main() -> Result<(), Box<dyn std::error::Error>> {
 //! # let alloc = Global;
@@ -109,8 +108,7 @@ impl<T: Sized> Scheduler<DefaultKey, T> {
     /// It fails only if memory runs out.
     ///
     /// ```
-    /// # use slotmap_proved::{DefaultKey, Key};
-    /// # use slotmap_proved::fallible::Global;
+    /// # use slotmap_proved::{DefaultKey, Global, Key, scheduler};
     /// # use slotmap_proved::scheduler::Scheduler;
     /// # fn main() -> Result<(), Box<dyn std::error::Error>> {
     /// # let alloc = Global;
@@ -140,8 +138,7 @@ impl<T: Sized> Scheduler<DefaultKey, T> {
     /// is over 4294967294, and with `Memory` if memory runs out.
     ///
     /// ```
-    /// # use slotmap_proved::{DefaultKey, Key};
-    /// # use slotmap_proved::fallible::Global;
+    /// # use slotmap_proved::{DefaultKey, Global, Key, scheduler};
     /// # use slotmap_proved::scheduler::Scheduler;
     /// # fn main() -> Result<(), Box<dyn std::error::Error>> {
     /// # let alloc = Global;
@@ -172,8 +169,7 @@ impl<K: Key, T: Sized> Scheduler<K, T> {
     /// It fails only if memory runs out.
     ///
     /// ```
-    /// # use slotmap_proved::{Key, NodeKey};
-    /// # use slotmap_proved::fallible::Global;
+    /// # use slotmap_proved::{Global, Key, NodeKey, scheduler};
     /// # use slotmap_proved::scheduler::Scheduler;
     /// # fn main() -> Result<(), Box<dyn std::error::Error>> {
     /// # let alloc = Global;
@@ -202,8 +198,7 @@ impl<K: Key, T: Sized> Scheduler<K, T> {
     /// is over 4294967294, and with `Memory` if memory runs out.
     ///
     /// ```
-    /// # use slotmap_proved::{Key, NodeKey};
-    /// # use slotmap_proved::fallible::Global;
+    /// # use slotmap_proved::{Global, Key, NodeKey, scheduler};
     /// # use slotmap_proved::scheduler::Scheduler;
     /// # fn main() -> Result<(), Box<dyn std::error::Error>> {
     /// # let alloc = Global;
@@ -237,8 +232,7 @@ impl<K: Key, T: Sized> Scheduler<K, T> {
     /// Returns how many jobs wait, in constant time.
     ///
     /// ```
-    /// # use slotmap_proved::{DefaultKey, Key};
-    /// # use slotmap_proved::fallible::Global;
+    /// # use slotmap_proved::{DefaultKey, Global, Key, scheduler};
     /// # use slotmap_proved::scheduler::Scheduler;
     /// # fn main() -> Result<(), Box<dyn std::error::Error>> {
     /// # let alloc = Global;
@@ -268,8 +262,7 @@ impl<K: Key, T: Sized> Scheduler<K, T> {
     /// Returns whether no job waits, in constant time.
     ///
     /// ```
-    /// # use slotmap_proved::{DefaultKey, Key};
-    /// # use slotmap_proved::fallible::Global;
+    /// # use slotmap_proved::{DefaultKey, Global, Key, scheduler};
     /// # use slotmap_proved::scheduler::Scheduler;
     /// # fn main() -> Result<(), Box<dyn std::error::Error>> {
     /// # let alloc = Global;
@@ -295,8 +288,7 @@ impl<K: Key, T: Sized> Scheduler<K, T> {
     /// those for which there is room.
     ///
     /// ```
-    /// # use slotmap_proved::{DefaultKey, Key};
-    /// # use slotmap_proved::fallible::Global;
+    /// # use slotmap_proved::{DefaultKey, Global, Key, scheduler};
     /// # use slotmap_proved::scheduler::Scheduler;
     /// # fn main() -> Result<(), Box<dyn std::error::Error>> {
     /// # let alloc = Global;
@@ -324,8 +316,7 @@ impl<K: Key, T: Sized> Scheduler<K, T> {
     /// Returns whether a job waits under a handle, in constant time.
     ///
     /// ```
-    /// # use slotmap_proved::{DefaultKey, Key};
-    /// # use slotmap_proved::fallible::Global;
+    /// # use slotmap_proved::{DefaultKey, Global, Key, scheduler};
     /// # use slotmap_proved::scheduler::Scheduler;
     /// # fn main() -> Result<(), Box<dyn std::error::Error>> {
     /// # let alloc = Global;
@@ -352,8 +343,7 @@ impl<K: Key, T: Sized> Scheduler<K, T> {
     /// Returns the job of a handle, or `None` if no job waits under it, in constant time.
     ///
     /// ```
-    /// # use slotmap_proved::{DefaultKey, Key};
-    /// # use slotmap_proved::fallible::Global;
+    /// # use slotmap_proved::{DefaultKey, Global, Key, scheduler};
     /// # use slotmap_proved::scheduler::Scheduler;
     /// # fn main() -> Result<(), Box<dyn std::error::Error>> {
     /// # let alloc = Global;
@@ -379,8 +369,7 @@ impl<K: Key, T: Sized> Scheduler<K, T> {
     /// Returns when the job of a handle is due, or `None` if no job waits under it, in constant time.
     ///
     /// ```
-    /// # use slotmap_proved::{DefaultKey, Key};
-    /// # use slotmap_proved::fallible::Global;
+    /// # use slotmap_proved::{DefaultKey, Global, Key, scheduler};
     /// # use slotmap_proved::scheduler::Scheduler;
     /// # fn main() -> Result<(), Box<dyn std::error::Error>> {
     /// # let alloc = Global;
@@ -407,8 +396,7 @@ impl<K: Key, T: Sized> Scheduler<K, T> {
     /// constant time. Its turn stays.
     ///
     /// ```
-    /// # use slotmap_proved::{DefaultKey, Key};
-    /// # use slotmap_proved::fallible::Global;
+    /// # use slotmap_proved::{DefaultKey, Global, Key, scheduler};
     /// # use slotmap_proved::scheduler::Scheduler;
     /// # fn main() -> Result<(), Box<dyn std::error::Error>> {
     /// # let alloc = Global;

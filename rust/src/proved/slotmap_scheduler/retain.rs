@@ -40,8 +40,7 @@ impl<K: Key, T: Sized> Scheduler<K, T> {
     /// the number of slots, and logarithmic in the number of jobs for each that it removes.
     ///
     /// ```
-    /// # use slotmap_proved::{DefaultKey, Key};
-    /// # use slotmap_proved::fallible::Global;
+    /// # use slotmap_proved::{DefaultKey, Global, Key, scheduler};
     /// # use slotmap_proved::scheduler::Scheduler;
     /// # fn main() -> Result<(), Box<dyn std::error::Error>> {
     /// # let alloc = Global;

@@ -209,7 +209,7 @@ impl<K: Key, V: Sized> SecondaryMap<K, V> {
     /// # let mut map: SecondaryMap<DefaultKey, u64> = SecondaryMap::new(alloc)?;
     /// # map.insert(a, 1)?;
     /// map.insert(b, 2)?;
-    /// assert_eq!(map.replace_disjoint([a, b], [3, 4])?, [1, 2]);
+    /// assert_eq!(map.replace_disjoint([a, b], [3, 4]).unwrap(), [1, 2]);
     /// assert!(map.replace_disjoint([a, a], [5, 6]).is_err());
     /// assert_eq!((map[a], map[b]), (3, 4));
     /// # Ok(())

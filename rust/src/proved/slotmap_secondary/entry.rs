@@ -341,7 +341,7 @@ impl<'a, K: Key, V: Sized> VacantEntry<'a, K, V> {
     ///
     /// ```
     /// # use slotmap_proved::{DefaultKey, Global, Key};
-    /// # use slotmap_proved::fallible::{SecondaryMap, SlotMap};
+    /// # use slotmap_proved::fallible::{secondary, SecondaryMap, SlotMap};
     /// # fn main() -> Result<(), Box<dyn std::error::Error>> {
     /// # let alloc = Global;
     /// # let mut primary: SlotMap<DefaultKey, u64> = SlotMap::new(alloc)?;
@@ -373,7 +373,7 @@ impl<'a, K: Key, V: Sized> VacantEntry<'a, K, V> {
     ///
     /// ```
     /// # use slotmap_proved::{DefaultKey, Global, Key};
-    /// # use slotmap_proved::fallible::{SecondaryMap, SlotMap};
+    /// # use slotmap_proved::fallible::{secondary, SecondaryMap, SlotMap};
     /// # fn main() -> Result<(), Box<dyn std::error::Error>> {
     /// # let alloc = Global;
     /// # let mut primary: SlotMap<DefaultKey, u64> = SlotMap::new(alloc)?;
@@ -410,7 +410,7 @@ impl<'a, K: Key, V: Sized> OccupiedEntry<'a, K, V> {
     ///
     /// ```
     /// # use slotmap_proved::{DefaultKey, Global, Key};
-    /// # use slotmap_proved::fallible::{SecondaryMap, SlotMap};
+    /// # use slotmap_proved::fallible::{secondary, SecondaryMap, SlotMap};
     /// # fn main() -> Result<(), Box<dyn std::error::Error>> {
     /// # let alloc = Global;
     /// # let mut primary: SlotMap<DefaultKey, u64> = SlotMap::new(alloc)?;
@@ -440,7 +440,7 @@ impl<'a, K: Key, V: Sized> OccupiedEntry<'a, K, V> {
     ///
     /// ```
     /// # use slotmap_proved::{DefaultKey, Global, Key};
-    /// # use slotmap_proved::fallible::{SecondaryMap, SlotMap};
+    /// # use slotmap_proved::fallible::{secondary, SecondaryMap, SlotMap};
     /// # fn main() -> Result<(), Box<dyn std::error::Error>> {
     /// # let alloc = Global;
     /// # let mut primary: SlotMap<DefaultKey, u64> = SlotMap::new(alloc)?;
@@ -471,7 +471,7 @@ impl<'a, K: Key, V: Sized> OccupiedEntry<'a, K, V> {
     ///
     /// ```
     /// # use slotmap_proved::{DefaultKey, Global, Key};
-    /// # use slotmap_proved::fallible::{SecondaryMap, SlotMap};
+    /// # use slotmap_proved::fallible::{secondary, SecondaryMap, SlotMap};
     /// # fn main() -> Result<(), Box<dyn std::error::Error>> {
     /// # let alloc = Global;
     /// # let mut primary: SlotMap<DefaultKey, u64> = SlotMap::new(alloc)?;
@@ -508,7 +508,7 @@ impl<'a, K: Key, V: Sized> OccupiedEntry<'a, K, V> {
     ///
     /// ```
     /// # use slotmap_proved::{DefaultKey, Global, Key};
-    /// # use slotmap_proved::fallible::{SecondaryMap, SlotMap};
+    /// # use slotmap_proved::fallible::{secondary, SecondaryMap, SlotMap};
     /// # fn main() -> Result<(), Box<dyn std::error::Error>> {
     /// # let alloc = Global;
     /// # let mut primary: SlotMap<DefaultKey, u64> = SlotMap::new(alloc)?;
@@ -542,7 +542,7 @@ impl<'a, K: Key, V: Sized> OccupiedEntry<'a, K, V> {
     ///
     /// ```
     /// # use slotmap_proved::{DefaultKey, Global, Key};
-    /// # use slotmap_proved::fallible::{SecondaryMap, SlotMap};
+    /// # use slotmap_proved::fallible::{secondary, SecondaryMap, SlotMap};
     /// # fn main() -> Result<(), Box<dyn std::error::Error>> {
     /// # let alloc = Global;
     /// # let mut primary: SlotMap<DefaultKey, u64> = SlotMap::new(alloc)?;
@@ -575,7 +575,7 @@ impl<'a, K: Key, V: Sized> OccupiedEntry<'a, K, V> {
     ///
     /// ```
     /// # use slotmap_proved::{DefaultKey, Global, Key};
-    /// # use slotmap_proved::fallible::{SecondaryMap, SlotMap};
+    /// # use slotmap_proved::fallible::{secondary, SecondaryMap, SlotMap};
     /// # fn main() -> Result<(), Box<dyn std::error::Error>> {
     /// # let alloc = Global;
     /// # let mut primary: SlotMap<DefaultKey, u64> = SlotMap::new(alloc)?;
@@ -610,7 +610,7 @@ impl<'a, K: Key, V: Sized> OccupiedEntry<'a, K, V> {
     ///
     /// ```
     /// # use slotmap_proved::{DefaultKey, Global, Key};
-    /// # use slotmap_proved::fallible::{SecondaryMap, SlotMap};
+    /// # use slotmap_proved::fallible::{secondary, SecondaryMap, SlotMap};
     /// # fn main() -> Result<(), Box<dyn std::error::Error>> {
     /// # let alloc = Global;
     /// # let mut primary: SlotMap<DefaultKey, u64> = SlotMap::new(alloc)?;

@@ -26,7 +26,7 @@ impl<K: Key, V: Sized> SecondaryMap<K, V> {
     /// # let b = primary.insert(20)?;
     /// # let mut map: SecondaryMap<DefaultKey, u64> = SecondaryMap::new(alloc)?;
     /// # map.insert(a, 1)?;
-    /// map.extend(primary)?;
+    /// map.extend(primary).unwrap();
     /// assert_eq!((map[a], map[b]), (10, 20));
     /// # Ok(())
     /// # }
@@ -73,7 +73,7 @@ impl<K: Key, V: Sized> SecondaryMap<K, V> {
     /// # let b = primary.insert(20)?;
     /// # let mut map: SecondaryMap<DefaultKey, u64> = SecondaryMap::new(alloc)?;
     /// # map.insert(a, 1)?;
-    /// map.extend_refs(primary.iter())?;
+    /// map.extend_refs(primary.iter()).unwrap();
     /// assert_eq!((map[a], map[b]), (10, 20));
     /// # Ok(())
     /// # }
@@ -126,7 +126,7 @@ impl<K: Key, V: Sized> SecondaryMap<K, V> {
     /// # let b = primary.insert(20)?;
     /// # let mut map: SecondaryMap<DefaultKey, u64> = SecondaryMap::new(alloc)?;
     /// # map.insert(a, 1)?;
-    /// let all: SecondaryMap<DefaultKey, u64> = SecondaryMap::from_iter(alloc, primary)?;
+    /// let all: SecondaryMap<DefaultKey, u64> = SecondaryMap::from_iter(alloc, primary).unwrap();
     /// assert_eq!((all[a], all[b]), (10, 20));
     /// # Ok(())
     /// # }

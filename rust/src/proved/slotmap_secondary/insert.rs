@@ -172,7 +172,7 @@ impl<K: Key, V: Sized> SecondaryMap<K, V> {
     /// Only `Placed` changes what the map holds. It costs what `insert` does. Rust lacks this call.
     ///
     /// ```
-    /// # use slotmap_proved::{DefaultKey, Global, Key, NoEntry, OrPut};
+    /// # use slotmap_proved::{DefaultKey, Global, Key, OrPut};
     /// # use slotmap_proved::fallible::{SecondaryMap, SlotMap};
     /// # fn main() -> Result<(), Box<dyn std::error::Error>> {
     /// # let alloc = Global;

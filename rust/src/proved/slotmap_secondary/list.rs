@@ -26,7 +26,7 @@ impl<K: Key, V: Sized> SecondaryMap<K, V> {
     /// writes the same records.
     ///
     /// ```
-    /// # use slotmap_proved::{DefaultKey, Global, Key};
+    /// # use slotmap_proved::{DefaultKey, Global, Key, list};
     /// # use slotmap_proved::fallible::{SecondaryMap, SlotMap};
     /// # fn main() -> Result<(), Box<dyn std::error::Error>> {
     /// # let alloc = Global;
@@ -87,7 +87,7 @@ impl<K: Key, V: Sized> SecondaryMap<K, V> {
     /// a list.
     ///
     /// ```
-    /// # use slotmap_proved::{DefaultKey, Global, Key, SlotRecord};
+    /// # use slotmap_proved::{DefaultKey, Global, Key, list, SlotRecord};
     /// # use slotmap_proved::fallible::{SecondaryMap, SlotMap};
     /// # fn main() -> Result<(), Box<dyn std::error::Error>> {
     /// # let alloc = Global;

@@ -342,7 +342,7 @@ impl<'a, K: Key, V: Sized, S: BuildHasher> VacantEntry<'a, K, V, S> {
     ///
     /// ```
     /// # use slotmap_proved::{DefaultKey, Global, Key};
-    /// # use slotmap_proved::fallible::{SlotMap, SparseSecondaryMap};
+    /// # use slotmap_proved::fallible::{SlotMap, sparse_secondary, SparseSecondaryMap};
     /// # fn main() -> Result<(), Box<dyn std::error::Error>> {
     /// # let alloc = Global;
     /// # let mut primary: SlotMap<DefaultKey, u64> = SlotMap::new(alloc)?;
@@ -376,7 +376,7 @@ impl<'a, K: Key, V: Sized, S: BuildHasher> VacantEntry<'a, K, V, S> {
     ///
     /// ```
     /// # use slotmap_proved::{DefaultKey, Global, Key};
-    /// # use slotmap_proved::fallible::{SlotMap, SparseSecondaryMap};
+    /// # use slotmap_proved::fallible::{SlotMap, sparse_secondary, SparseSecondaryMap};
     /// # fn main() -> Result<(), Box<dyn std::error::Error>> {
     /// # let alloc = Global;
     /// # let mut primary: SlotMap<DefaultKey, u64> = SlotMap::new(alloc)?;
@@ -429,7 +429,7 @@ impl<'a, K: Key, V: Sized, S: BuildHasher> OccupiedEntry<'a, K, V, S> {
     ///
     /// ```
     /// # use slotmap_proved::{DefaultKey, Global, Key};
-    /// # use slotmap_proved::fallible::{SlotMap, SparseSecondaryMap};
+    /// # use slotmap_proved::fallible::{SlotMap, sparse_secondary, SparseSecondaryMap};
     /// # fn main() -> Result<(), Box<dyn std::error::Error>> {
     /// # let alloc = Global;
     /// # let mut primary: SlotMap<DefaultKey, u64> = SlotMap::new(alloc)?;
@@ -459,7 +459,7 @@ impl<'a, K: Key, V: Sized, S: BuildHasher> OccupiedEntry<'a, K, V, S> {
     ///
     /// ```
     /// # use slotmap_proved::{DefaultKey, Global, Key};
-    /// # use slotmap_proved::fallible::{SlotMap, SparseSecondaryMap};
+    /// # use slotmap_proved::fallible::{SlotMap, sparse_secondary, SparseSecondaryMap};
     /// # fn main() -> Result<(), Box<dyn std::error::Error>> {
     /// # let alloc = Global;
     /// # let mut primary: SlotMap<DefaultKey, u64> = SlotMap::new(alloc)?;
@@ -490,7 +490,7 @@ impl<'a, K: Key, V: Sized, S: BuildHasher> OccupiedEntry<'a, K, V, S> {
     ///
     /// ```
     /// # use slotmap_proved::{DefaultKey, Global, Key};
-    /// # use slotmap_proved::fallible::{SlotMap, SparseSecondaryMap};
+    /// # use slotmap_proved::fallible::{SlotMap, sparse_secondary, SparseSecondaryMap};
     /// # fn main() -> Result<(), Box<dyn std::error::Error>> {
     /// # let alloc = Global;
     /// # let mut primary: SlotMap<DefaultKey, u64> = SlotMap::new(alloc)?;
@@ -527,7 +527,7 @@ impl<'a, K: Key, V: Sized, S: BuildHasher> OccupiedEntry<'a, K, V, S> {
     ///
     /// ```
     /// # use slotmap_proved::{DefaultKey, Global, Key};
-    /// # use slotmap_proved::fallible::{SlotMap, SparseSecondaryMap};
+    /// # use slotmap_proved::fallible::{SlotMap, sparse_secondary, SparseSecondaryMap};
     /// # fn main() -> Result<(), Box<dyn std::error::Error>> {
     /// # let alloc = Global;
     /// # let mut primary: SlotMap<DefaultKey, u64> = SlotMap::new(alloc)?;
@@ -561,7 +561,7 @@ impl<'a, K: Key, V: Sized, S: BuildHasher> OccupiedEntry<'a, K, V, S> {
     ///
     /// ```
     /// # use slotmap_proved::{DefaultKey, Global, Key};
-    /// # use slotmap_proved::fallible::{SlotMap, SparseSecondaryMap};
+    /// # use slotmap_proved::fallible::{SlotMap, sparse_secondary, SparseSecondaryMap};
     /// # fn main() -> Result<(), Box<dyn std::error::Error>> {
     /// # let alloc = Global;
     /// # let mut primary: SlotMap<DefaultKey, u64> = SlotMap::new(alloc)?;
@@ -594,7 +594,7 @@ impl<'a, K: Key, V: Sized, S: BuildHasher> OccupiedEntry<'a, K, V, S> {
     ///
     /// ```
     /// # use slotmap_proved::{DefaultKey, Global, Key};
-    /// # use slotmap_proved::fallible::{SlotMap, SparseSecondaryMap};
+    /// # use slotmap_proved::fallible::{SlotMap, sparse_secondary, SparseSecondaryMap};
     /// # fn main() -> Result<(), Box<dyn std::error::Error>> {
     /// # let alloc = Global;
     /// # let mut primary: SlotMap<DefaultKey, u64> = SlotMap::new(alloc)?;
@@ -630,7 +630,7 @@ impl<'a, K: Key, V: Sized, S: BuildHasher> OccupiedEntry<'a, K, V, S> {
     ///
     /// ```
     /// # use slotmap_proved::{DefaultKey, Global, Key};
-    /// # use slotmap_proved::fallible::{SlotMap, SparseSecondaryMap};
+    /// # use slotmap_proved::fallible::{SlotMap, sparse_secondary, SparseSecondaryMap};
     /// # fn main() -> Result<(), Box<dyn std::error::Error>> {
     /// # let alloc = Global;
     /// # let mut primary: SlotMap<DefaultKey, u64> = SlotMap::new(alloc)?;

@@ -27,7 +27,7 @@ impl<K: Key, V: Sized, S: BuildHasher> SparseSecondaryMap<K, V, S> {
     /// # let b = primary.insert(20)?;
     /// # let mut map: SparseSecondaryMap<DefaultKey, u64> = SparseSecondaryMap::new(alloc)?;
     /// # map.insert(a, 1)?;
-    /// map.extend(primary)?;
+    /// map.extend(primary).unwrap();
     /// assert_eq!((map[a], map[b]), (10, 20));
     /// # Ok(())
     /// # }
@@ -76,7 +76,7 @@ impl<K: Key, V: Sized, S: BuildHasher> SparseSecondaryMap<K, V, S> {
     /// # let b = primary.insert(20)?;
     /// # let mut map: SparseSecondaryMap<DefaultKey, u64> = SparseSecondaryMap::new(alloc)?;
     /// # map.insert(a, 1)?;
-    /// map.extend_refs(primary.iter())?;
+    /// map.extend_refs(primary.iter()).unwrap();
     /// assert_eq!((map[a], map[b]), (10, 20));
     /// # Ok(())
     /// # }
@@ -136,7 +136,7 @@ impl<K: Key, V: Sized, S: BuildHasher> SparseSecondaryMap<K, V, S> {
     /// # let mut map: SparseSecondaryMap<DefaultKey, u64> = SparseSecondaryMap::new(alloc)?;
     /// # map.insert(a, 1)?;
     /// let hasher = std::collections::hash_map::RandomState::new();
-    /// let all = SparseSecondaryMap::from_iter_with_hasher(alloc, primary, hasher)?;
+    /// let all = SparseSecondaryMap::from_iter_with_hasher(alloc, primary, hasher).unwrap();
     /// assert_eq!((all[a], all[b]), (10, 20));
     /// # Ok(())
     /// # }
@@ -192,7 +192,7 @@ impl<K: Key, V: Sized> SparseSecondaryMap<K, V> {
     /// # let mut map: SparseSecondaryMap<DefaultKey, u64> = SparseSecondaryMap::new(alloc)?;
     /// # map.insert(a, 1)?;
     /// let all: SparseSecondaryMap<DefaultKey, u64> =
-    ///     SparseSecondaryMap::from_iter(alloc, primary)?;
+    ///     SparseSecondaryMap::from_iter(alloc, primary).unwrap();
     /// assert_eq!((all[a], all[b]), (10, 20));
     /// # Ok(())
     /// # }

@@ -124,7 +124,7 @@ impl<K: Key, V: Sized, S: BuildHasher> SparseSecondaryMap<K, V, S> {
     /// Only `Placed` changes what the map holds. It costs what `insert` does. Rust lacks this call.
     ///
     /// ```
-    /// # use slotmap_proved::{DefaultKey, Global, Key, NoEntry, OrPut};
+    /// # use slotmap_proved::{DefaultKey, Global, Key, OrPut};
     /// # use slotmap_proved::fallible::{SlotMap, SparseSecondaryMap};
     /// # fn main() -> Result<(), Box<dyn std::error::Error>> {
     /// # let alloc = Global;

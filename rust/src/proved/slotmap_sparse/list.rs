@@ -25,7 +25,7 @@ impl<K: Key, V: Sized, S: BuildHasher> SparseSecondaryMap<K, V, S> {
     /// writes the same records.
     ///
     /// ```
-    /// # use slotmap_proved::{DefaultKey, Global, Key};
+    /// # use slotmap_proved::{DefaultKey, Global, Key, list};
     /// # use slotmap_proved::fallible::{SlotMap, SparseSecondaryMap};
     /// # fn main() -> Result<(), Box<dyn std::error::Error>> {
     /// # let alloc = Global;
@@ -120,7 +120,7 @@ impl<K: Key, V: Sized, S: BuildHasher> SparseSecondaryMap<K, V, S> {
     /// `RandomState`.
     ///
     /// ```
-    /// # use slotmap_proved::{DefaultKey, Global, Key};
+    /// # use slotmap_proved::{DefaultKey, Global, Key, list};
     /// # use slotmap_proved::fallible::{SlotMap, SparseSecondaryMap};
     /// # fn main() -> Result<(), Box<dyn std::error::Error>> {
     /// # let alloc = Global;
@@ -189,7 +189,7 @@ impl<K: Key, V: Sized> SparseSecondaryMap<K, V> {
     /// that one if a stranger wrote the list: the default hasher's seed is fixed and public.
     ///
     /// ```
-    /// # use slotmap_proved::{DefaultKey, Global, Key, SlotRecord};
+    /// # use slotmap_proved::{DefaultKey, Global, Key, list, SlotRecord};
     /// # use slotmap_proved::fallible::{SlotMap, SparseSecondaryMap};
     /// # fn main() -> Result<(), Box<dyn std::error::Error>> {
     /// # let alloc = Global;
